@@ -1,0 +1,28 @@
+# On a machine with the Rattle kit, two commands do everything:
+#   make run    proves and builds the program, and prints the first key of RFC 7914, section 12
+#   make test   is the whole gate: what must not compile, every proof from nothing, every edit that
+#               the prover must refuse, every test and every program
+# And besides the gate:
+#   make oracle compares the program with independent implementations on random input
+#   make bench  measures the program against other implementations on this machine
+
+.PHONY: run test oracle bench kit
+
+run: kit
+	cd crates/scrypt_tool && rt run -- key 4 1 1 64 ""
+
+test: kit
+	python3 ci/must_not_compile.py
+	rt ci
+
+oracle: kit
+	cd crates/scrypt_tool && rt run -- key 0 1 1 1 "" > /dev/null < /dev/null
+	python3 ci/oracle.py crates/scrypt_tool/out/scrypt_tool
+
+bench: kit
+	cd crates/scrypt_tool && rt run -- key 0 1 1 1 "" > /dev/null < /dev/null
+	python3 bench/bench.py crates/scrypt_tool/out/scrypt_tool
+
+kit:
+	@command -v rt > /dev/null || { \
+	  echo "The command rt of the Rattle kit isn't here: nothing was proved, built or run." >&2; exit 1; }

@@ -1,0 +1,75 @@
+#!/usr/bin/env python3
+"""Compares the program with independent implementations on random input.
+
+usage: oracle.py PROGRAM [SEED]
+
+Each part prints how many cases agreed; what isn't installed is named and counted as skipped. The
+last line is 'N passed, M failed, K skipped'.
+"""
+
+import hashlib
+import random
+import subprocess
+import sys
+
+import reference
+
+CASES = 200
+
+
+def run(program, words, password):
+    """What the program answers: status, output, fault line."""
+    ran = subprocess.run([program, *words], input=password, capture_output=True)
+    return ran.returncode, ran.stdout, ran.stderr
+
+
+def expected_key(password, salt, log_n, r, p, length):
+    """The key by OpenSSL, or by the reference where OpenSSL refuses the costs."""
+    if 1 <= log_n < 16 * r:
+        return hashlib.scrypt(
+            password, salt=salt, n=1 << log_n, r=r, p=p, dklen=length, maxmem=1 << 30
+        )
+    return reference.scrypt(password, salt, log_n, r, p, length)
+
+
+def some_bytes(rng, greatest):
+    """Bytes of any value, zeros and bytes that are no text among them."""
+    return bytes(rng.choice((0, 10, 255, rng.randrange(256))) for _ in range(rng.randrange(greatest)))
+
+
+def keys(program, rng):
+    """The command `key` on random passwords, salts, costs and lengths."""
+    passed = failed = 0
+    for _ in range(CASES):
+        password, salt = some_bytes(rng, 140), some_bytes(rng, 70)
+        log_n, r, p = rng.randrange(11), rng.choice((1, 2, 3, 5, 7, 8)), rng.randrange(1, 6)
+        if log_n == 0:
+            r = rng.choice((1, 3))
+        length = rng.choice((1, 2, 31, 32, 33, 63, 64, 65, 100))
+        words = ["key", str(log_n), str(r), str(p), str(length), salt.hex()]
+        wanted = (0, expected_key(password, salt, log_n, r, p, length).hex().encode() + b"\n", b"")
+        got = run(program, words, password)
+        if got == wanted:
+            passed += 1
+        else:
+            failed += 1
+            print(f"differs: {words} on {password.hex()}: {got}, wanted {wanted}")
+    print(f"key: {passed} of {CASES} agree with hashlib.scrypt, or where it refuses with plain Python")
+    return passed, failed, 0
+
+
+PARTS = [keys]
+
+
+def main():
+    program = sys.argv[1]
+    rng = random.Random(int(sys.argv[2]) if len(sys.argv) > 2 else 7914)
+    totals = [0, 0, 0]
+    for part in PARTS:
+        totals = [total + more for total, more in zip(totals, part(program, rng))]
+    print("{} passed, {} failed, {} skipped".format(*totals))
+    sys.exit(1 if totals[1] else 0)
+
+
+if __name__ == "__main__":
+    main()

@@ -1,0 +1,185 @@
+-- What follows from the definitions of crypt Base64.
+use Rattle.std.proofs.Common.{◌≡◌, ◌≢◌, ◌∙◌, sym, ap, subst, refl, arith, ℕ, zero, suc, ◌+◌, ◌-◌, ◌*◌, ◌/◌, ◌%◌, ◌^◌, ◌<◌, ◌≤◌, Option, Some, None, List, [], ◌∷◌, ◌++◌, length, take, drop, set, get_or, append_assoc, add-one, length-drop}
+use Rattle.std.proofs.Math.Nat.{pow-suc, pow-le-pow_right}
+use Rattle.std.specs.List.{All}
+use Rattle.std.proofs.lemmas.Nat.{div_below}
+use Rattle.std.proofs.Math.Seq.{take-length, drop-cons}
+use Rattle.std.proofs.lemmas.List.{append-nil}
+use Rattle.std.proofs.lemmas.List.Elements.{All-nil, All-cons, All-head, All-tail, All-append}
+use Rattle.password_hash.specs.Crypt64.{letter, letter_value, letters_of, with_digit, number_of, crypt64_of}
+use Rattle.password_hash.proofs.LetterFacts.{letter_value-letter, letter-of_value, letter-ascii}
+
+abbrev pub AreBytes : List ℕ → Type 0
+AreBytes bytes = All (λ byte. byte < 256) bytes
+
+-- numbers and their letters
+
+pub length-letters_of : (count number : ℕ) → length (letters_of count number) ≡ count
+unfolding letters_of
+length-letters_of zero number = refl
+length-letters_of (suc count) number = ap suc (length-letters_of count (number / 64))
+
+-- a number that fits is read back from its letters
+pub number_of-letters_of : (count number : ℕ) → number < 64 ^ count → number_of (letters_of count number) ≡ Some number
+unfolding letters_of number_of
+number_of-letters_of zero number below = ap Some (omega arith)
+number_of-letters_of (suc count) number below =
+    let digit : number % 64 < 64 = omega arith in
+    let above : number / 64 < 64 ^ count = div_below number 64 (64 ^ count) (omega arith) (rw (pow-suc 64 count) at below) in
+    let whole : number % 64 + 64 * (number / 64) ≡ number = omega arith in
+    rw (letter_value-letter (number % 64) digit, number_of-letters_of count (number / 64) above) (ap Some whole)
+
+-- the parts of a number that letters say
+pub with_digit-Some : (value above : Option ℕ) (number : ℕ) → with_digit value above ≡ Some number
+    → (low : ℕ) × (high : ℕ) × (value ≡ Some low) × (above ≡ Some high) × (number ≡ low + 64 * high)
+with_digit-Some None above number h = absurd (cc)
+with_digit-Some (Some low) None number h = absurd (cc)
+with_digit-Some (Some low) (Some high) number h = (low, high, refl, refl, cc)
+
+-- letters are those of their number, which fits
+pub letters_of-number_of : (letters : List ℕ) (number : ℕ) → number_of letters ≡ Some number
+    → (letters_of (length letters) number ≡ letters) × (number < 64 ^ length letters)
+unfolding letters_of number_of
+letters_of-number_of [] number h = (refl, omega (arith, zero_from_some number h))
+  where
+    zero_from_some : (n : ℕ) → Some 0 ≡ Some n → 0 ≡ n
+    zero_from_some n e = cc
+letters_of-number_of (first ∷ letters) number h =
+    let parts = with_digit-Some (letter_value first) (number_of letters) number h in
+    let low = parts.0 in
+    let high = parts.1 in
+    let digit = letter-of_value first low parts.2 in
+    let rest = letters_of-number_of letters high parts.3 in
+    let below : low < 64 = digit.0 in
+    let is : number ≡ low + 64 * high = parts.4 in
+    let remainder : number % 64 ≡ low = omega arith in
+    let quotient : number / 64 ≡ high = omega arith in
+    let fits : high < 64 ^ length letters = rest.1 in
+    (rw (remainder, quotient, digit.1, rest.0) refl, rw (pow-suc 64 (length letters)) (omega arith))
+
+-- the four cases, by the bytes' places
+
+pub crypt64_of-one : (bytes : List ℕ) (number : ℕ) → 1 ≤ length bytes → length bytes < 2 → number ≡ get_or bytes 0 0
+    → crypt64_of bytes ≡ letters_of 2 number ++ crypt64_of []
+unfolding crypt64_of
+crypt64_of-one [] number some most is = absurd (omega arith)
+crypt64_of-one (a ∷ []) number some most is = ap (letters_of 2) (sym is) ∙ sym (append-nil (letters_of 2 number))
+crypt64_of-one (a ∷ b ∷ bytes) number some most is = absurd (omega arith)
+
+pub crypt64_of-two : (bytes : List ℕ) (number : ℕ) → 2 ≤ length bytes → length bytes < 3
+    → number ≡ get_or bytes 0 0 + get_or bytes 1 0 * 256 + 0 + 0
+    → crypt64_of bytes ≡ letters_of 3 number ++ crypt64_of []
+unfolding crypt64_of
+crypt64_of-two [] number some most is = absurd (omega arith)
+crypt64_of-two (a ∷ []) number some most is = absurd (omega arith)
+crypt64_of-two (a ∷ b ∷ []) number some most is =
+    let same : a + 256 * b ≡ number = omega arith in
+    ap (letters_of 3) same ∙ sym (append-nil (letters_of 3 number))
+crypt64_of-two (a ∷ b ∷ c ∷ bytes) number some most is = absurd (omega arith)
+
+pub crypt64_of-three : (bytes : List ℕ) (number : ℕ) → 3 ≤ length bytes
+    → number ≡ get_or bytes 0 0 + get_or bytes 1 0 * 256 + get_or bytes 2 0 * 65536 + 0
+    → crypt64_of bytes ≡ letters_of 4 number ++ crypt64_of (take (length bytes - 3) (drop 3 bytes))
+unfolding crypt64_of
+crypt64_of-three [] number some is = absurd (omega arith)
+crypt64_of-three (a ∷ []) number some is = absurd (omega arith)
+crypt64_of-three (a ∷ b ∷ []) number some is = absurd (omega arith)
+crypt64_of-three (a ∷ b ∷ c ∷ bytes) number some is =
+    let same : a + 256 * b + 65536 * c ≡ number = omega arith in
+    let count : length (a ∷ b ∷ c ∷ bytes) - 3 ≡ length bytes = omega arith in
+    rw (same, count, take-length bytes) refl
+
+-- the first letter of a number, and those behind it
+pub letters_of-first : (count number : ℕ) (rest : List ℕ) → 0 < count
+    → letters_of count number ++ rest ≡ letter (number % 64) ∷ (letters_of (count - 1) (number / 64) ++ rest)
+unfolding letters_of
+letters_of-first zero number rest some = absurd (omega arith)
+letters_of-first (suc count) number rest some =
+    let less : suc count - 1 ≡ count = omega arith in
+    rw less refl
+
+-- reading letters one by one, from the last to the first
+
+pub number_of-more : (letters : List ℕ) (place value number : ℕ) → 0 < place → place ≤ length letters
+    → number_of (drop place letters) ≡ Some number → letter_value (get_or letters (place - 1) 0) ≡ Some value
+    → number_of (drop (place - 1) letters) ≡ Some (number * 64 + value)
+unfolding number_of
+number_of-more letters zero value number some most read is = absurd (omega arith)
+number_of-more letters (suc place) value number some most read is =
+    let here : suc place - 1 ≡ place = omega arith in
+    let inside : place < length letters = omega arith in
+    let digit : letter_value (get_or letters place 0) ≡ Some value = rw here at is in
+    let sum : value + 64 * number ≡ number * 64 + value = omega arith in
+    rw (here, drop-cons letters place 0, digit, read) (ap Some sum)
+
+pub number_of-None : (letters : List ℕ) (place : ℕ) → place < length letters → letter_value (get_or letters place 0) ≡ None
+    → number_of letters ≡ None
+unfolding number_of
+number_of-None [] place below none = absurd (omega arith)
+number_of-None (first ∷ letters) zero below none = rw none refl
+number_of-None (first ∷ letters) (suc place) below none =
+    rw (number_of-None letters place (omega arith) none) (no_number (letter_value first))
+  where
+    no_number : (value : Option ℕ) → with_digit value None ≡ None
+    no_number None = refl
+    no_number (Some value) = refl
+
+-- where at most five letters are read, the last four leave room for one more
+pub number_of-last : (letters : List ℕ) (place number : ℕ) → 0 < place → number_of (drop place letters) ≡ Some number
+    → length letters ≤ 5 → number < 64 ^ 4
+number_of-last letters place number some read most =
+    let fits = (letters_of-number_of (drop place letters) number read).1 in
+    let short : length (drop place letters) ≤ 4 = simp length-drop (omega arith) in
+    let grows : 64 ^ length (drop place letters) ≤ 64 ^ 4 = pow-le-pow_right (omega arith) short in
+    omega arith
+
+-- a letter is taken off the letters that are left
+pub next_letter : (pending number pending' number' x : ℕ) (bytes bytes' : List ℕ)
+    → letters_of pending number ++ crypt64_of bytes ≡ letters_of pending' number' ++ crypt64_of bytes'
+    → 0 < pending' → x ≡ letter (number' % 64)
+    → letters_of pending number ++ crypt64_of bytes ≡ x ∷ (letters_of (pending' - 1) (number' / 64) ++ crypt64_of bytes')
+next_letter pending number pending' number' x bytes bytes' same some is =
+    same ∙ letters_of-first pending' number' (crypt64_of bytes') some
+    ∙ ap (λ first. first ∷ (letters_of (pending' - 1) (number' / 64) ++ crypt64_of bytes')) (sym is)
+
+-- every letter is an ASCII byte and no dollar
+
+abbrev pub IsPlain : ℕ → Type 0
+IsPlain byte = (byte < 128) × (byte ≢ 36)
+
+letters_of-plain : (count number : ℕ) → All IsPlain (letters_of count number)
+unfolding letters_of
+letters_of-plain zero number = All-nil IsPlain
+letters_of-plain (suc count) number =
+    All-cons IsPlain (letter (number % 64)) (letters_of count (number / 64)) (letter-ascii (number % 64) (omega arith)) (letters_of-plain count (number / 64))
+
+pub crypt64_of-plain : (bytes : List ℕ) → All IsPlain (crypt64_of bytes)
+unfolding crypt64_of
+crypt64_of-plain [] = All-nil IsPlain
+crypt64_of-plain (a ∷ []) = letters_of-plain 2 a
+crypt64_of-plain (a ∷ b ∷ []) = letters_of-plain 3 (a + 256 * b)
+crypt64_of-plain (a ∷ b ∷ c ∷ rest) =
+    All-append IsPlain (letters_of 4 (a + 256 * b + 65536 * c)) (crypt64_of rest) (letters_of-plain 4 (a + 256 * b + 65536 * c)) (crypt64_of-plain rest)
+
+-- a loop over the letters: one goes from those that are left to those that are done
+
+pub all_middle : (P : ℕ → Type 0) (done left : List ℕ) (x : ℕ) → All P (done ++ (x ∷ left)) → P x
+all_middle P [] left x each = All-head P x left each
+all_middle P (y ∷ done) left x each = all_middle P done left x (All-tail P y (done ++ (x ∷ left)) each)
+
+pub letter_done : (done left left' all : List ℕ) (x : ℕ) → done ++ left ≡ all → left ≡ x ∷ left' → (done ++ (x ∷ [])) ++ left' ≡ all
+letter_done done left left' all x same next = append_assoc done (x ∷ []) left' ∙ ap (λ more. done ++ more) (sym next) ∙ same
+
+pub letter-is_plain : (done left left' bytes : List ℕ) (x : ℕ) → done ++ left ≡ crypt64_of bytes → left ≡ x ∷ left' → IsPlain x
+letter-is_plain done left left' bytes x same next =
+    all_middle IsPlain done left' x (subst (All IsPlain) (sym same ∙ ap (λ more. done ++ more) next) (crypt64_of-plain bytes))
+
+-- a write behind what is done
+pub set-behind : (done old : List ℕ) (len x : ℕ) → length done ≡ len → len < length old
+    → set (done ++ drop len old) len x ≡ (done ++ (x ∷ [])) ++ drop (len + 1) old
+set-behind done old len x count inside =
+    rw (add-one, drop-cons old len 0, ← count) (set_middle done (get_or old (length done) 0) x (drop (suc (length done)) old))
+  where
+    set_middle : (done : List ℕ) (y x : ℕ) (rest : List ℕ) → set (done ++ (y ∷ rest)) (length done) x ≡ (done ++ (x ∷ [])) ++ rest
+    set_middle [] y x rest = refl
+    set_middle (d ∷ done) y x rest = ap (λ more. d ∷ more) (set_middle done y x rest)

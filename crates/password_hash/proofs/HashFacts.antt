@@ -1,0 +1,117 @@
+-- A hash and the parts of its text.
+use Rattle.std.proofs.Common.{◌≡◌, ℕ, ◌==◌, false, List, [], ◌∷◌, ◌++◌, map, codes, refl, sym, ap, subst, ◌∙◌, arith}
+use Rattle.std.specs.Prelude.{All, Option, None, Some, IfSome, decimal}
+use Rattle.std.specs.List.{slice_split, join_with_byte, before_first}
+use Rattle.std.proofs.lemmas.Bool.{false≢true}
+use Rattle.std.proofs.lemmas.List.Elements.{All-nil, All-cons, All-head, All-tail, All-append, All-get_or}
+use Rattle.password_hash.specs.Letters.{is_identifier_letter, IsIdentifier}
+use Rattle.password_hash.specs.Pairs.{IsPair, pair_text, pairs_text, ArePairs}
+use Rattle.password_hash.specs.Parts.{IsVersion, LackVersion, LackEquals}
+use Rattle.password_hash.specs.Phc.{base64, version_part, params_part, key_part, salt_and_key_parts, hash_parts, parts_text, IsSalt, IsKey, IsSaltAndKey, IsHashText}
+use Rattle.password_hash.specs.declared.phc.hash.PasswordHash.{PasswordHash}
+use Rattle.password_hash.proofs.PairsFacts.{Lacks, letters_lack, texts_lack, before_first_at}
+use Rattle.password_hash.proofs.DecimalFacts.{decimal_lacks}
+use Rattle.password_hash.proofs.PartsFacts.{LacksVersion, base64_lacks, parts_from_parts_text, parts_text_from_parts, equals_of_pairs}
+
+-- a row of pieces that lack a byte lacks it, unless it stands between them
+join_lacks : (c separator : ℕ) → (separator == c) ≡ false → (pieces : List (List ℕ)) → All (Lacks c) pieces → Lacks c (join_with_byte separator pieces)
+join_lacks c separator other [] h = All-nil (λ b. (b == c) ≡ false)
+join_lacks c separator other (piece ∷ []) h = All-head (Lacks c) piece [] h
+join_lacks c separator other (piece ∷ next ∷ pieces) h =
+    All-append (λ b. (b == c) ≡ false) piece (separator ∷ join_with_byte separator (next ∷ pieces)) (All-head (Lacks c) piece (next ∷ pieces) h)
+    (All-cons (λ b. (b == c) ≡ false) separator (join_with_byte separator (next ∷ pieces)) other (join_lacks c separator other (next ∷ pieces) (All-tail (Lacks c) piece (next ∷ pieces) h)))
+
+one : (P : List ℕ → Type 0) (part : List ℕ) → P part → All P (part ∷ [])
+one P part h = All-cons P part [] h (All-nil P)
+
+version_lacks : (version : Option ℕ) → IsVersion version → All (Lacks 36) (version_part version)
+version_lacks None h = All-nil (Lacks 36)
+version_lacks (Some number) h =
+    one (Lacks 36) (codes "v=" ++ decimal number)
+    (All-cons (λ b. (b == 36) ≡ false) 118 (61 ∷ decimal number) refl (All-cons (λ b. (b == 36) ≡ false) 61 (decimal number) refl (decimal_lacks 36 refl number h)))
+
+params_lack : (params : List (List ℕ × List ℕ)) → ArePairs params → All (Lacks 36) (params_part params)
+params_lack [] h = All-nil (Lacks 36)
+params_lack (pair ∷ params) h =
+    one (Lacks 36) (pairs_text (pair ∷ params)) (join_lacks 36 44 refl (map pair_text (pair ∷ params)) (texts_lack 36 refl refl refl (pair ∷ params) h.each))
+
+key_lacks : (c : ℕ) → ((bytes : List ℕ) → IsKey bytes → Lacks c (base64 bytes)) → (key : Option (List ℕ)) → IfSome key IsKey → All (Lacks c) (key_part key)
+key_lacks c each None h = All-nil (Lacks c)
+key_lacks c each (Some key) h = one (Lacks c) (base64 key) (each key h)
+
+salt_and_key_lack : (c : ℕ) → ((bytes : List ℕ) → IsSalt bytes → Lacks c (base64 bytes)) → ((bytes : List ℕ) → IsKey bytes → Lacks c (base64 bytes)) → (salt key : Option (List ℕ)) → IfSome salt IsSalt → IfSome key IsKey → All (Lacks c) (salt_and_key_parts salt key)
+salt_and_key_lack c salts keys None key hs hk = All-nil (Lacks c)
+salt_and_key_lack c salts keys (Some salt) key hs hk =
+    All-cons (Lacks c) (base64 salt) (key_part key) (salts salt hs) (key_lacks c keys key hk)
+
+dollar_lacks : (salt key : Option (List ℕ)) → IfSome salt IsSalt → IfSome key IsKey → All (Lacks 36) (salt_and_key_parts salt key)
+dollar_lacks = salt_and_key_lack 36 (λ bytes h. base64_lacks 36 refl bytes h.bytes) (λ bytes h. base64_lacks 36 refl bytes h.bytes)
+
+-- neither a salt nor a key has a `=`
+equals_lack : (salt key : Option (List ℕ)) → IfSome salt IsSalt → IfSome key IsKey → LackEquals (salt_and_key_parts salt key)
+equals_lack = salt_and_key_lack 61 (λ bytes h. base64_lacks 61 refl bytes h.bytes) (λ bytes h. base64_lacks 61 refl bytes h.bytes)
+
+-- no part of a hash has a `$`
+pub parts_lack : (text : List ℕ) (hash : PasswordHash) → IsHashText text hash → All (Lacks 36) (hash_parts hash)
+parts_lack text hash h =
+    All-cons (Lacks 36) hash.algorithm (version_part hash.version ++ (params_part hash.params ++ salt_and_key_parts hash.salt hash.hash))
+    (letters_lack is_identifier_letter 36 refl hash.algorithm h.algorithm.letters)
+    (All-append (Lacks 36) (version_part hash.version) (params_part hash.params ++ salt_and_key_parts hash.salt hash.hash) (version_lacks hash.version h.version)
+    (All-append (Lacks 36) (params_part hash.params) (salt_and_key_parts hash.salt hash.hash) (params_lack hash.params h.params) (dollar_lacks hash.salt hash.hash h.salt h.key)))
+
+-- the text of parameters does not begin with `v=`, since no name is `v`
+pairs_no_version : (pair : List ℕ × List ℕ) (params : List (List ℕ × List ℕ)) → IsPair pair → LacksVersion (pairs_text (pair ∷ params))
+pairs_no_version pair params h rest e =
+    let equals = equals_of_pairs pair params in
+    let name : before_first (λ b. b == 61) (pair.0 ++ (61 ∷ equals.0)) ≡ pair.0 = before_first_at 61 pair.0 equals.0 (letters_lack is_identifier_letter 61 refl pair.0 h.name.letters) in
+    let v : before_first (λ b. b == 61) (codes "v" ++ (61 ∷ rest)) ≡ codes "v" = before_first_at 61 (codes "v") rest (All-cons (λ b. (b == 61) ≡ false) 118 [] refl (All-nil (λ b. (b == 61) ≡ false))) in
+    h.no_version (sym name ∙ ap (before_first (λ b. b == 61)) (sym equals.1 ∙ e) ∙ v)
+
+params_no_version : (params : List (List ℕ × List ℕ)) → ArePairs params → LackVersion (params_part params)
+params_no_version [] h = All-nil LacksVersion
+params_no_version (pair ∷ params) h =
+    one LacksVersion (pairs_text (pair ∷ params)) (pairs_no_version pair params (All-head IsPair pair params h.each))
+
+-- nor does what has no `=`
+lacking_no_version : (parts : List (List ℕ)) → LackEquals parts → LackVersion parts
+lacking_no_version parts h = λ k d below rest e.
+    let equals = subst (Lacks 61) e (h k d below) in
+    false≢true (sym (All-get_or (λ b. (b == 61) ≡ false) (codes "v=" ++ rest) 1 0 (omega arith) equals))
+
+-- the parts of a text that is read as a hash
+pub record HasParts (part : List ℕ) (behind : List (List ℕ)) (hash : PasswordHash) : Type 0 where
+  pub algorithm : part ≡ hash.algorithm
+  pub version_first : behind ≡ version_part hash.version ++ (params_part hash.params ++ salt_and_key_parts hash.salt hash.hash)
+  pub lack_version : LackVersion (params_part hash.params ++ salt_and_key_parts hash.salt hash.hash)
+  pub lack_equals : LackEquals (salt_and_key_parts hash.salt hash.hash)
+  pub salt_and_key : IsSaltAndKey (salt_and_key_parts hash.salt hash.hash) hash.salt hash.hash
+
+pub parts_of_hash : (text rest part : List ℕ) (behind : List (List ℕ)) (hash : PasswordHash) → IsHashText text hash → text ≡ 36 ∷ rest → slice_split (λ b. b == 36) rest ≡ part ∷ behind → HasParts part behind hash
+parts_of_hash text rest part behind hash h begins split =
+    let parts = parts_from_parts_text rest hash.algorithm (version_part hash.version ++ (params_part hash.params ++ salt_and_key_parts hash.salt hash.hash)) (parts_lack text hash h) (sym begins ∙ h.whole) in
+    let both = sym split ∙ parts in
+    let first : part ≡ hash.algorithm = cc in
+    let left : behind ≡ version_part hash.version ++ (params_part hash.params ++ salt_and_key_parts hash.salt hash.hash) = cc in
+    let no_equals = equals_lack hash.salt hash.hash h.salt h.key in
+    record {
+      algorithm = first;
+      version_first = left;
+      lack_version = All-append LacksVersion (params_part hash.params) (salt_and_key_parts hash.salt hash.hash) (params_no_version hash.params h.params) (lacking_no_version (salt_and_key_parts hash.salt hash.hash) no_equals);
+      lack_equals = no_equals;
+      salt_and_key = record { whole = refl; salt_bytes = h.salt; key_bytes = h.key; key_behind_salt = h.key_behind_salt };
+    }
+
+-- a text that has the parts of a hash is read as it
+pub hash_of_parts : (text rest : List ℕ) (hash : PasswordHash) (behind from_params from_salt : List (List ℕ)) → text ≡ 36 ∷ rest → slice_split (λ b. b == 36) rest ≡ hash.algorithm ∷ behind → IsIdentifier hash.algorithm → behind ≡ version_part hash.version ++ from_params → IsVersion hash.version → from_params ≡ params_part hash.params ++ from_salt → ArePairs hash.params → IsSaltAndKey from_salt hash.salt hash.hash → IsHashText text hash
+hash_of_parts text rest hash behind from_params from_salt begins split algorithm version_first version params_next params salt_and_key =
+    let parts : behind ≡ version_part hash.version ++ (params_part hash.params ++ salt_and_key_parts hash.salt hash.hash) =
+    version_first ∙ ap (λ left. version_part hash.version ++ left) (params_next ∙ ap (λ left. params_part hash.params ++ left) salt_and_key.whole) in
+    record {
+      whole = begins ∙ parts_text_from_parts rest hash.algorithm behind split ∙ ap (λ left. parts_text (hash.algorithm ∷ left)) parts;
+      algorithm = algorithm;
+      version = version;
+      params = params;
+      salt = salt_and_key.salt_bytes;
+      key = salt_and_key.key_bytes;
+      key_behind_salt = salt_and_key.key_behind_salt;
+    }

@@ -1,0 +1,63 @@
+-- The alphabet's table: each letter has its value, and no other byte has one.
+use Rattle.std.proofs.Common.{◌≡◌, ◌≢◌, ap, refl, arith, ℕ, ◌+◌, ◌-◌, ◌<◌, ◌≤◌, true, cond, ◌&&◌, not, nat_le, nat_lt, eqb, Option, Some, None, get_or}
+use Rattle.std.specs.Option.{option_eq}
+use Rattle.std.proofs.lemmas.Bool.{agree_below_at, eqb-true, ltb-true, eqb-false, not-true, and_parts, false≢true}
+use Rattle.std.proofs.lemmas.Bool.Decides.{nat_tests}
+use Rattle.std.proofs.lemmas.List.Quantifiers.{position-Some}
+use Rattle.password_hash.specs.Crypt64.{alphabet, letter, letter_value}
+
+-- the value of a byte by the three ranges of the alphabet
+abbrev pub value_by_range : ℕ → Option ℕ
+value_by_range byte =
+    cond (nat_le 46 byte && nat_le byte 57) (Some (byte - 46))
+    (cond (nat_le 65 byte && nat_le byte 90) (Some (byte - 65 + 12))
+    (cond (nat_le 97 byte && nat_le byte 122) (Some (byte - 97 + 38)) None))
+
+same_option : (o p : Option ℕ) → option_eq eqb o p ≡ true → o ≡ p
+same_option None None h = refl
+same_option None (Some y) h = absurd (false≢true h)
+same_option (Some x) None h = absurd (false≢true h)
+same_option (Some x) (Some y) h = ap Some (eqb-true x y h)
+
+-- the ranges give each byte its value
+pub letter_value-byte : (byte : ℕ) → byte < 256 → letter_value byte ≡ value_by_range byte
+unfolding letter_value
+letter_value-byte byte below =
+    same_option (letter_value byte) (value_by_range byte)
+    (agree_below_at (λ b. option_eq eqb (letter_value b) (value_by_range b)) (λ _. true) 256 byte refl below)
+
+-- the value of a value's letter
+pub letter_value-letter : (value : ℕ) → value < 64 → letter_value (letter value) ≡ Some value
+unfolding letter letter_value
+letter_value-letter value below =
+    same_option (letter_value (letter value)) (Some value)
+    (agree_below_at (λ v. option_eq eqb (letter_value (letter v)) (Some v)) (λ _. true) 64 value refl below)
+
+-- a letter has a value below 64, and is that value's letter
+pub letter-of_value : (byte value : ℕ) → letter_value byte ≡ Some value → (value < 64) × (letter value ≡ byte)
+unfolding letter letter_value
+letter-of_value byte value h =
+    let found = position-Some (λ other. eqb other byte) alphabet value 0 h in
+    (found.0, eqb-true (get_or alphabet value 0) byte found.1)
+
+-- a letter is an ASCII byte and no dollar
+pub letter-ascii : (value : ℕ) → value < 64 → (letter value < 128) × (letter value ≢ 36)
+unfolding letter
+letter-ascii value below =
+    let parts = and_parts (nat_lt (letter value) 128) (not (eqb (letter value) 36))
+    (agree_below_at (λ v. nat_lt (letter v) 128 && not (eqb (letter v) 36)) (λ _. true) 64 value refl below) in
+    (ltb-true (letter value) 128 parts.0, eqb-false (letter value) 36 (not-true (eqb (letter value) 36) parts.1))
+
+-- the three ranges, one by one
+pub low_value : (byte : ℕ) → byte < 256 → 46 ≤ byte → byte ≤ 57 → Some (byte - 46) ≡ letter_value byte
+low_value byte small from to = rw (letter_value-byte byte small) (grind (arith, nat_tests))
+
+pub upper_value : (byte : ℕ) → byte < 256 → 65 ≤ byte → byte ≤ 90 → Some (byte - 65 + 12) ≡ letter_value byte
+upper_value byte small from to = rw (letter_value-byte byte small) (grind (arith, nat_tests))
+
+pub lower_value : (byte : ℕ) → byte < 256 → 97 ≤ byte → byte ≤ 122 → Some (byte - 97 + 38) ≡ letter_value byte
+lower_value byte small from to = rw (letter_value-byte byte small) (grind (arith, nat_tests))
+
+-- a byte outside of them has no value
+pub no_value : (byte : ℕ) → byte < 256 → (46 ≤ byte → 57 < byte) → (65 ≤ byte → 90 < byte) → (97 ≤ byte → 122 < byte) → None ≡ letter_value byte
+no_value byte small low upper lower = rw (letter_value-byte byte small) (grind (arith, nat_tests))

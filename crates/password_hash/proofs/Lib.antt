@@ -1,0 +1,13 @@
+pub mod PaddedFacts
+pub mod LettersFacts
+pub mod PairsFacts
+pub mod ParamsFacts
+pub mod Base64Facts
+pub mod DecimalFacts
+pub mod PartsFacts
+pub mod HashFacts
+pub mod OneReading
+pub mod LetterFacts
+pub mod Crypt64Facts
+pub mod GroupFacts
+pub mod ModularFacts

@@ -1,0 +1,190 @@
+-- Pairs and their text.
+use Rattle.std.proofs.Common.{◌≡◌, ◌≢◌, ℕ, suc, ◌+◌, ◌<◌, ◌≤◌, ◌==◌, Bool, true, false, IsTrue, List, [], ◌∷◌, ◌++◌, length, map, refl, sym, ap, subst, ◌∙◌, arith}
+use Rattle.std.specs.Prelude.{All}
+use Rattle.std.specs.List.{list_all, join_with_byte, slice_split, before_first, after_first, position_or_len}
+use Rattle.std.proofs.lemmas.Bool.{ne_eqb, eq-eqb, false≢true}
+use Rattle.std.proofs.lemmas.List.{take_all, drop_all, take_at, drop_at, append_assoc, length-append, get_or_append_left, get_or_at, length_push}
+use Rattle.std.proofs.lemmas.List.Sums.{position_or_len_is}
+use Rattle.std.proofs.lemmas.List.Splits.{slice_split_none, slice_split_at}
+use Rattle.std.proofs.lemmas.List.Elements.{All-nil, All-cons, All-head, All-tail, All-append, All-get_or}
+use Rattle.std.specs.Bool.{Decides}
+use Rattle.std.specs.Prelude.{nat_eq}
+use Rattle.std.specs.Cmp.Lexicographic.{pointwise}
+use Rattle.std.proofs.lemmas.Slice.Eq.{bytes_eq-Decides, slice_eq-Decides}
+use Rattle.password_hash.specs.Letters.{IsIdentifier, is_identifier_letter, is_value_letter}
+use Rattle.password_hash.specs.Pairs.{IsPair, pair_text, pairs_text, ArePairs, pair_eq, pair_of, pairs_of, IsPairsText}
+use Rattle.password_hash.proofs.LettersFacts.{list_all_parts}
+
+-- no byte is c
+abbrev pub Lacks : ℕ → List ℕ → Type 0
+Lacks c xs = All (λ b. (b == c) ≡ false) xs
+
+other_letter : (p : ℕ → Bool) (c x : ℕ) → p c ≡ false → IsTrue (p x) → x ≢ c
+other_letter p c x is_none is_one e = false≢true (sym is_none ∙ (rw e at is_one))
+
+-- letters of a kind lack a byte that is none
+pub letters_lack : (p : ℕ → Bool) (c : ℕ) → p c ≡ false → (xs : List ℕ) → IsTrue (list_all p xs) → Lacks c xs
+letters_lack p c is_none [] h = All-nil (λ b. (b == c) ≡ false)
+letters_lack p c is_none (x ∷ xs) h =
+    let parts = list_all_parts p x xs h in
+    All-cons (λ b. (b == c) ≡ false) x xs (ne_eqb x c (other_letter p c x is_none parts.0)) (letters_lack p c is_none xs parts.1)
+
+-- the first c stands behind bytes that lack it
+pub position_at : (c : ℕ) (xs ys : List ℕ) → Lacks c xs → position_or_len (λ b. b == c) (xs ++ (c ∷ ys)) ≡ length xs
+position_at c xs ys none =
+    position_or_len_is (λ b. b == c) (xs ++ (c ∷ ys)) (length xs) 0
+    (omega (arith, length-append xs (c ∷ ys)))
+    (λ k below. rw (get_or_append_left xs (c ∷ ys) 0 k below) (All-get_or (λ b. (b == c) ≡ false) xs k 0 below none))
+    (λ _. rw (get_or_at xs c ys 0 (length xs) refl) (eq-eqb c c refl))
+
+pub before_first_at : (c : ℕ) (xs ys : List ℕ) → Lacks c xs → before_first (λ b. b == c) (xs ++ (c ∷ ys)) ≡ xs
+before_first_at c xs ys none = rw (position_at c xs ys none) (take_at xs (c ∷ ys) (length xs) refl)
+
+pub after_first_at : (c : ℕ) (xs ys : List ℕ) → Lacks c xs → after_first (λ b. b == c) (xs ++ (c ∷ ys)) ≡ ys
+after_first_at c xs ys none =
+    let regrouped : xs ++ (c ∷ ys) ≡ (xs ++ (c ∷ [])) ++ ys = sym (append_assoc xs (c ∷ []) ys) in
+    rw (position_at c xs ys none, regrouped) (drop_at (xs ++ (c ∷ [])) ys (length xs + 1) (length_push xs c))
+
+-- no c stands in bytes that lack it
+pub position_none : (c : ℕ) (xs : List ℕ) → Lacks c xs → position_or_len (λ b. b == c) xs ≡ length xs
+position_none c xs none =
+    position_or_len_is (λ b. b == c) xs (length xs) 0 (omega arith)
+    (λ k below. All-get_or (λ b. (b == c) ≡ false) xs k 0 below none)
+    (λ past. absurd (omega arith))
+
+-- a pair is told by its text
+pub pair_of-pair_text : (pair : List ℕ × List ℕ) → IsPair pair → pair_of (pair_text pair) ≡ pair
+pair_of-pair_text pair h =
+    let none : Lacks 61 pair.0 = letters_lack is_identifier_letter 61 refl pair.0 h.name.letters in
+    let before = before_first_at 61 pair.0 pair.1 none in
+    let after = after_first_at 61 pair.0 pair.1 none in
+    λ i. (before i, after i)
+
+-- the text of a pair has no `,`
+pub pair_text_lacks : (c : ℕ) → is_identifier_letter c ≡ false → is_value_letter c ≡ false → (61 == c) ≡ false → (pair : List ℕ × List ℕ) → IsPair pair → Lacks c (pair_text pair)
+pair_text_lacks c name value equals pair h =
+    All-append (λ b. (b == c) ≡ false) pair.0 (61 ∷ pair.1) (letters_lack is_identifier_letter c name pair.0 h.name.letters)
+    (All-cons (λ b. (b == c) ≡ false) 61 pair.1 equals (letters_lack is_value_letter c value pair.1 h.value.letters))
+
+-- pieces that lack c are told by their row
+pub slice_split-join : (c : ℕ) (piece : List ℕ) (pieces : List (List ℕ)) → All (Lacks c) (piece ∷ pieces) → slice_split (λ b. b == c) (join_with_byte c (piece ∷ pieces)) ≡ piece ∷ pieces
+slice_split-join c piece [] none = slice_split_none (λ b. b == c) piece (All-head (Lacks c) piece [] none)
+slice_split-join c piece (next ∷ pieces) none =
+    slice_split_at (λ b. b == c) piece c (join_with_byte c (next ∷ pieces)) (All-head (Lacks c) piece (next ∷ pieces) none) (eq-eqb c c refl)
+    ∙ ap (λ rest. piece ∷ rest) (slice_split-join c next pieces (All-tail (Lacks c) piece (next ∷ pieces) none))
+
+-- each text of a pair lacks a byte that no pair has
+pub texts_lack : (c : ℕ) → is_identifier_letter c ≡ false → is_value_letter c ≡ false → (61 == c) ≡ false → (pairs : List (List ℕ × List ℕ)) → All IsPair pairs → All (Lacks c) (map pair_text pairs)
+texts_lack c name value equals [] h = All-nil (Lacks c)
+texts_lack c name value equals (pair ∷ pairs) h =
+    All-cons (Lacks c) (pair_text pair) (map pair_text pairs) (pair_text_lacks c name value equals pair (All-head IsPair pair pairs h))
+    (texts_lack c name value equals pairs (All-tail IsPair pair pairs h))
+
+-- the pairs are told by their texts
+pub map-pair_of : (pairs : List (List ℕ × List ℕ)) → All IsPair pairs → map pair_of (map pair_text pairs) ≡ pairs
+map-pair_of [] h = refl
+map-pair_of (pair ∷ pairs) h =
+    rw (pair_of-pair_text pair (All-head IsPair pair pairs h), map-pair_of pairs (All-tail IsPair pair pairs h)) refl
+
+-- the pieces of a text of pairs
+pub pieces_of_pairs : (pair : List ℕ × List ℕ) (pairs : List (List ℕ × List ℕ)) → All IsPair (pair ∷ pairs) → slice_split (λ b. b == 44) (pairs_text (pair ∷ pairs)) ≡ map pair_text (pair ∷ pairs)
+pieces_of_pairs pair pairs h =
+    slice_split-join 44 (pair_text pair) (map pair_text pairs) (texts_lack 44 refl refl refl (pair ∷ pairs) h)
+
+pairs_of_some : (text : List ℕ) → 0 < length text → pairs_of text ≡ map pair_of (slice_split (λ b. b == 44) text)
+pairs_of_some [] some = absurd (omega arith)
+pairs_of_some (byte ∷ text) some = refl
+
+length_pair_text : (pair : List ℕ × List ℕ) → IsPair pair → 0 < length (pair_text pair)
+length_pair_text pair h = omega (arith, length-append pair.0 (61 ∷ pair.1))
+
+length_first : (piece : List ℕ) (pieces : List (List ℕ)) → length piece ≤ length (join_with_byte 44 (piece ∷ pieces))
+length_first piece [] = omega arith
+length_first piece (next ∷ pieces) = omega (arith, length-append piece (44 ∷ join_with_byte 44 (next ∷ pieces)))
+
+-- a text of pairs is not empty
+pub length_pairs_text : (pair : List ℕ × List ℕ) (pairs : List (List ℕ × List ℕ)) → IsPair pair → 0 < length (pairs_text (pair ∷ pairs))
+length_pairs_text pair pairs h = omega (arith, length_pair_text pair h, length_first (pair_text pair) (map pair_text pairs))
+
+-- pairs are told by their text
+pub pairs_of-pairs_text : (pairs : List (List ℕ × List ℕ)) → All IsPair pairs → pairs_of (pairs_text pairs) ≡ pairs
+pairs_of-pairs_text [] h = refl
+pairs_of-pairs_text (pair ∷ pairs) h =
+    pairs_of_some (pairs_text (pair ∷ pairs)) (length_pairs_text pair pairs (All-head IsPair pair pairs h))
+    ∙ ap (map pair_of) (pieces_of_pairs pair pairs h) ∙ map-pair_of (pair ∷ pairs) h
+
+-- the text of parameters is kept in place of them
+pub kept_as_text : (text : List ℕ) (pairs : List (List ℕ × List ℕ)) → text ≡ pairs_text pairs → ArePairs pairs → IsPairsText text × (pairs_of text ≡ pairs)
+kept_as_text text pairs e h =
+    let back : pairs_of text ≡ pairs = ap pairs_of e ∙ pairs_of-pairs_text pairs h.each in
+    (record { pairs = rw back h; whole = ap pairs_text back ∙ sym e }, back)
+
+-- a text that lacks c stands before the first c whole
+pub before_first_none : (c : ℕ) (xs : List ℕ) → Lacks c xs → before_first (λ b. b == c) xs ≡ xs
+before_first_none c xs none = rw (position_none c xs none) (take_all (length xs) xs (omega arith))
+
+-- and nothing stands behind
+pub after_first_none : (c : ℕ) (xs : List ℕ) → Lacks c xs → after_first (λ b. b == c) xs ≡ []
+after_first_none c xs none = rw (position_none c xs none) (drop_all (length xs + 1) xs (omega arith))
+
+shorter_tail : (pair : List ℕ × List ℕ) (pairs : List (List ℕ × List ℕ)) → length (pairs_text (pair ∷ pairs)) ≤ 127 → length (pairs_text pairs) ≤ 127
+shorter_tail pair [] short = omega arith
+shorter_tail pair (next ∷ pairs) short =
+    omega (arith, short, length-append (pair_text pair) (44 ∷ pairs_text (next ∷ pairs)))
+
+-- parameters without the first
+pub ArePairs-tail : (pair : List ℕ × List ℕ) (pairs : List (List ℕ × List ℕ)) → ArePairs (pair ∷ pairs) → ArePairs pairs
+ArePairs-tail pair pairs h = record {
+  each = All-tail IsPair pair pairs h.each;
+  once = λ i j d before below. h.once (suc i) (suc j) d (omega arith) (omega arith);
+  short = shorter_tail pair pairs h.short;
+}
+
+-- the first pair of a text, and the text of the others
+pub record IsFirstPair (text pair rest : List ℕ) : Type 0 where
+  pub head : pairs_of text ≡ pair_of pair ∷ pairs_of rest
+  pub name : IsIdentifier (pair_of pair).0
+  pub others : IsPairsText rest
+
+name_of : (pair : List ℕ × List ℕ) → IsPair pair → pair_of (pair_text pair) ≡ pair → IsIdentifier (pair_of (pair_text pair)).0
+name_of pair h same = subst (λ (p : List ℕ × List ℕ). IsIdentifier p.0) (sym same) h.name
+
+first_pair_of : (pairs : List (List ℕ × List ℕ)) (text : List ℕ) → ArePairs pairs → pairs_text pairs ≡ text → 0 < length text → IsFirstPair text (before_first (λ b. b == 44) text) (after_first (λ b. b == 44) text)
+first_pair_of [] text h e some = absurd (omega (arith, ap length e))
+first_pair_of (pair ∷ []) text h e some =
+    let is_pair : IsPair pair = All-head IsPair pair [] h.each in
+    let none : Lacks 44 (pair_text pair) = pair_text_lacks 44 refl refl refl pair is_pair in
+    let before : before_first (λ b. b == 44) (pair_text pair) ≡ pair_text pair = before_first_none 44 (pair_text pair) none in
+    let after : after_first (λ b. b == 44) (pair_text pair) ≡ [] = after_first_none 44 (pair_text pair) none in
+    let all = pairs_of-pairs_text (pair ∷ []) h.each in
+    let same : pair_of (pair_text pair) ≡ pair = pair_of-pair_text pair is_pair in
+    let others = kept_as_text [] [] refl (ArePairs-tail pair [] h) in
+    rw (← e, before, after) (record { head = all ∙ rw same refl; name = name_of pair is_pair same; others = others.0 })
+first_pair_of (pair ∷ next ∷ pairs) text h e some =
+    let is_pair : IsPair pair = All-head IsPair pair (next ∷ pairs) h.each in
+    let none : Lacks 44 (pair_text pair) = pair_text_lacks 44 refl refl refl pair is_pair in
+    let rest : List ℕ = pairs_text (next ∷ pairs) in
+    let before : before_first (λ b. b == 44) (pair_text pair ++ (44 ∷ rest)) ≡ pair_text pair = before_first_at 44 (pair_text pair) rest none in
+    let after : after_first (λ b. b == 44) (pair_text pair ++ (44 ∷ rest)) ≡ rest = after_first_at 44 (pair_text pair) rest none in
+    let all = pairs_of-pairs_text (pair ∷ next ∷ pairs) h.each in
+    let same : pair_of (pair_text pair) ≡ pair = pair_of-pair_text pair is_pair in
+    let others = kept_as_text rest (next ∷ pairs) refl (ArePairs-tail pair (next ∷ pairs) h) in
+    rw (← e, before, after) (record { head = all ∙ rw (same, others.1) refl; name = name_of pair is_pair same; others = others.0 })
+
+-- what stands before and behind the first `,` of a text of pairs
+pub first_pair : (text pair rest : List ℕ) → IsPairsText text → 0 < length text → pair ≡ before_first (λ b. b == 44) text → rest ≡ after_first (λ b. b == 44) text → IsFirstPair text pair rest
+first_pair text pair rest h some before after =
+    rw (before, after) (first_pair_of (pairs_of text) text h.pairs h.whole some)
+
+pair_eq-Decides : (first second : List ℕ × List ℕ) → Decides (pair_eq first second) (first ≡ second)
+pair_eq-Decides first second =
+    let names = bytes_eq-Decides first.0 second.0 in
+    let values = bytes_eq-Decides first.1 second.1 in
+    let both : pair_eq first second ≡ true → (pointwise nat_eq first.0 second.0 ≡ true) × (pointwise nat_eq first.1 second.1 ≡ true) = grind arith in (
+      λ e. λ i. (names.0 (both e).0 i, values.0 (both e).1 i),
+      λ e. rw (names.1 (ap (λ p. p.0) e), values.1 (ap (λ p. p.1) e)) refl,
+    )
+
+-- the test of lists of pairs decides
+pub pairs_eq-Decides : (xs ys : List (List ℕ × List ℕ)) → Decides (pointwise pair_eq xs ys) (xs ≡ ys)
+pairs_eq-Decides xs ys = slice_eq-Decides pair_eq-Decides xs ys (pointwise pair_eq xs ys) refl

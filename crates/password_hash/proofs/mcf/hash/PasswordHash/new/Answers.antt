@@ -1,0 +1,6 @@
+use Rattle.password_hash.proofs.ModularFacts.{Modular-read}
+use Rattle.password_hash.proofs.mcf.hash.PasswordHash.new.Goals as goal
+
+pub invariant_of-result : goal.invariant_of-result
+invariant_of-result c =
+    rw c.in_ok-text.ensures.ok (Modular-read _ (c.is_modular.ensures.0 c.if-not-is_modular.false))

@@ -1,0 +1,55 @@
+-- Crypt Base64: bytes as the letters of crypt(5).
+use Rattle.std.specs.Prelude.{◌≡◌, ◌==◌, ℕ, zero, suc, ◌+◌, ◌*◌, ◌/◌, ◌%◌, ◌<◌, List, [], ◌∷◌, ◌++◌, Option, Some, None, All, codes, position, slice_index}
+
+-- the alphabet: the letter of each value from 0 to 63
+abbrev pub alphabet : List ℕ
+alphabet = codes "./0123456789ABCDEFGHIJKLMNOPQRSTUVWXYZabcdefghijklmnopqrstuvwxyz"
+
+-- the letter of a value
+unfoldable pub letter : ℕ → ℕ
+letter value = slice_index alphabet value
+
+-- the value of a letter, its place in the alphabet
+unfoldable pub letter_value : ℕ → Option ℕ
+letter_value byte = position (λ other. other == byte) alphabet
+
+-- the letters of a number: its digits to base 64, the lowest first
+unfoldable pub letters_of : ℕ → ℕ → List ℕ
+letters_of zero number = []
+letters_of (suc count) number = letter (number % 64) ∷ letters_of count (number / 64)
+
+-- a lowest digit, and the number of the digits above it
+abbrev pub with_digit : Option ℕ → Option ℕ → Option ℕ
+with_digit (Some value) (Some above) = Some (value + 64 * above)
+with_digit value above = None
+
+-- the number that letters say: their values as digits to base 64, the lowest first
+unfoldable pub number_of : List ℕ → Option ℕ
+number_of [] = Some 0
+number_of (first ∷ letters) = with_digit (letter_value first) (number_of letters)
+
+-- the letters of bytes: two of one byte, three of two, four of three, and then the rest's
+unfoldable pub crypt64_of : List ℕ → List ℕ
+crypt64_of [] = []
+crypt64_of (a ∷ []) = letters_of 2 a
+crypt64_of (a ∷ b ∷ []) = letters_of 3 (a + 256 * b)
+crypt64_of (a ∷ b ∷ c ∷ rest) = letters_of 4 (a + 256 * b + 65536 * c) ++ crypt64_of rest
+
+-- these letters are the encoding of these bytes
+pub record Crypt64 (bytes letters : List ℕ) : Type 0 where
+  pub are_bytes : All (λ byte. byte < 256) bytes
+  pub encoding : letters ≡ crypt64_of bytes
+
+-- these letters are the encoding of some bytes
+abbrev pub IsCrypt64 : List ℕ → Type 0
+IsCrypt64 letters = (bytes : List ℕ) × Crypt64 bytes letters
+
+-- the number of letters of n bytes: four for three bytes, rounded up
+abbrev pub encoded_len : ℕ → ℕ
+encoded_len n = (4 * n + 2) / 3
+
+-- these letters begin with those of these bytes, and the rest says what comes behind
+pub record Begins (letters bytes rest : List ℕ) : Type 0 where
+  pub forth : (more : List ℕ) → Crypt64 more rest → Crypt64 (bytes ++ more) letters
+  pub back : (all : List ℕ) → Crypt64 all letters
+      → (more : List ℕ) × (all ≡ bytes ++ more) × Crypt64 more rest

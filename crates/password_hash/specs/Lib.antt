@@ -1,0 +1,11 @@
+pub mod Refusal
+pub mod Padded
+pub mod Letters
+pub mod Decimal
+pub mod Value
+pub mod Pairs
+pub mod Phc
+pub mod Parts
+pub mod Crypt64
+pub mod Mcf
+pub mod McfViews

@@ -1,0 +1,18 @@
+-- What contracts see of borrowed modular texts.
+use Rattle.std.specs.Prelude.{ℕ, List}
+use Rattle.password_hash.specs.declared.mcf.field.Field.{Field}
+use Rattle.password_hash.specs.declared.mcf.fields.Fields.{Fields}
+use Rattle.password_hash.specs.declared.mcf.hash_ref.PasswordHashRef.{PasswordHashRef}
+use Rattle.password_hash.specs.Mcf.{fields_behind}
+
+-- the text of a borrowed hash
+abbrev pub hash_text : PasswordHashRef → List ℕ
+hash_text hash = hash.text.now
+
+-- the text of a field
+abbrev pub field_text : Field → List ℕ
+field_text field = field.text.now
+
+-- the texts of the fields that are yet to come
+abbrev pub fields_left : Fields → List (List ℕ)
+fields_left fields = fields_behind fields.left

@@ -1,0 +1,74 @@
+-- A hash in the PHC string format.
+use Rattle.std.specs.Prelude.{◌≡◌, ℕ, ◌^◌, ◌<◌, ◌≤◌, List, [], ◌∷◌, ◌++◌, length, codes, decimal, flat_map, Option, None, Some, IfSome, OnSome, IsSome}
+use Rattle.base64.specs.Engines.{standard_no_pad}
+use Rattle.base64.specs.GeneralPurpose.{encode_of, IsBytes}
+use Rattle.password_hash.specs.Letters.{IsIdentifier}
+use Rattle.password_hash.specs.Pairs.{pairs_text, ArePairs}
+use Rattle.password_hash.specs.declared.phc.hash.PasswordHash.{PasswordHash}
+
+-- Base64 of RFC 4648, section 4, without padding
+abbrev pub base64 : List ℕ → List ℕ
+base64 bytes = encode_of standard_no_pad bytes
+
+-- `v=` and the version in decimal digits
+abbrev pub version_part : Option ℕ → List (List ℕ)
+version_part None = []
+version_part (Some version) = (codes "v=" ++ decimal version) ∷ []
+
+-- the parameters, where there are some
+abbrev pub params_part : List (List ℕ × List ℕ) → List (List ℕ)
+params_part [] = []
+params_part (pair ∷ pairs) = pairs_text (pair ∷ pairs) ∷ []
+
+-- the key in Base64
+abbrev pub key_part : Option (List ℕ) → List (List ℕ)
+key_part None = []
+key_part (Some key) = base64 key ∷ []
+
+-- the salt in Base64, and the key behind it: without a salt there is no key
+abbrev pub salt_and_key_parts : Option (List ℕ) → Option (List ℕ) → List (List ℕ)
+salt_and_key_parts None key = []
+salt_and_key_parts (Some salt) key = base64 salt ∷ key_part key
+
+-- the parts of a hash: the algorithm, the version, the parameters, the salt, the key
+abbrev pub hash_parts : PasswordHash → List (List ℕ)
+hash_parts hash =
+    hash.algorithm ∷ (version_part hash.version ++ (params_part hash.params
+    ++ salt_and_key_parts hash.salt hash.hash))
+
+-- the text of parts: each stands behind a `$`
+abbrev pub parts_text : List (List ℕ) → List ℕ
+parts_text parts = flat_map (λ part. codes "$" ++ part) parts
+
+-- the text of a hash
+abbrev pub hash_text : PasswordHash → List ℕ
+hash_text hash = parts_text (hash_parts hash)
+
+-- a salt: 1 to 64 bytes
+pub record IsSalt (salt : List ℕ) : Type 0 where
+  pub bytes : IsBytes salt
+  pub some : 1 ≤ length salt
+  pub short : length salt ≤ 64
+
+-- a key: 10 to 64 bytes
+pub record IsKey (key : List ℕ) : Type 0 where
+  pub bytes : IsBytes key
+  pub least : 10 ≤ length key
+  pub greatest : length key ≤ 64
+
+-- the parts are a salt and a key, a salt alone, or none
+pub record IsSaltAndKey (parts : List (List ℕ)) (salt key : Option (List ℕ)) : Type 0 where
+  pub whole : parts ≡ salt_and_key_parts salt key
+  pub salt_bytes : IfSome salt IsSalt
+  pub key_bytes : IfSome key IsKey
+  pub key_behind_salt : OnSome key (IsSome salt)
+
+-- the text is read as this hash
+pub record IsHashText (text : List ℕ) (hash : PasswordHash) : Type 0 where
+  pub whole : text ≡ hash_text hash
+  pub algorithm : IsIdentifier hash.algorithm
+  pub version : IfSome hash.version (λ version. version < 2 ^ 32)
+  pub params : ArePairs hash.params
+  pub salt : IfSome hash.salt IsSalt
+  pub key : IfSome hash.hash IsKey
+  pub key_behind_salt : OnSome hash.hash (IsSome hash.salt)

@@ -1,0 +1,38 @@
+//! The letters of crypt(5), each of which says six bits.
+ghost use Rattle.std.specs.Prelude.{◌≡◌, ◌<◌, ◌≤◌, length};
+ghost use Rattle.password_hash.specs.Crypt64.{letter, letter_value, number_of};
+
+/// The letter of each value from 0 to 63.
+const ALPHABET: [u8; 64] = *b"./0123456789ABCDEFGHIJKLMNOPQRSTUVWXYZabcdefghijklmnopqrstuvwxyz";
+
+/// The letter of a value below 64.
+pub(crate) fn letter(value: u32) -> u8
+    requires { value < 64 }
+    ensures { result ≡ letter value }
+{
+    ALPHABET[value as usize]
+}
+
+/// The value of a letter, or `None` where the byte is no letter.
+pub(crate) fn value(byte: u8) -> Option<u8>
+    ensures { result ≡ letter_value byte }
+{
+    match byte {
+        b'.'..=b'9' => Some(byte - b'.'),
+        b'A'..=b'Z' => Some(byte - b'A' + 12),
+        b'a'..=b'z' => Some(byte - b'a' + 38),
+        _ => None,
+    }
+}
+
+/// The number that at most five letters say, the lowest digit first.
+pub(crate) fn number(letters: &[u8]) -> Option<u32>
+    requires { length letters.now ≤ 5 }
+    ensures { result ≡ number_of letters.now }
+{
+    let mut number = 0;
+    for place in (0..letters.len()).rev() {
+        number = number * 64 + u32::from(value(letters[place])?);
+    }
+    Some(number)
+}

@@ -1,0 +1,161 @@
+//! An owned modular text.
+ghost use Rattle.std.specs.Prelude.{◌≡◌, ◌↔◌, ◌∷◌, ◌++◌, nat_eq, IsOk, IfOk, OnOk, IfErr, OnErr, IsErrOf, MatchResult, string_bytes};
+ghost use Rattle.std.specs.Cmp.{partial_equiv_from_equiv};
+ghost use Rattle.std.specs.Cmp.Lexicographic.{pointwise, nat_list_eq_equiv};
+ghost use Rattle.password_hash.specs.Crypt64.{crypt64_of};
+ghost use Rattle.password_hash.specs.Mcf.{dollar, IsId, IsField, Modular, IsModular, id_of, fields_of};
+
+use super::crypt64::Base64;
+use super::fields::{Fields, is_field};
+use super::hash_ref::{PasswordHashRef, is_id, is_modular};
+use super::{Error, Result};
+use std::alloc::Global;
+use std::marker::Model;
+
+/// A modular text: `$`, an id, and any number of fields, each behind a `$`.
+#[derive(Debug, Drop)]
+pub struct PasswordHash {
+    text: String,
+}
+
+impl Model for PasswordHash {
+    ghost use Rattle.std.specs.Prelude.{ℕ, List, string_bytes};
+    ghost use Rattle.password_hash.specs.Mcf.{Modular, id_of, fields_of};
+
+    ghost Value = { List ℕ };
+
+    ghost view = { λ a. string_bytes a.text };
+
+    ghost invariant = { λ a. let text = string_bytes a.text in Modular text (id_of text) (fields_of text) };
+}
+
+impl PasswordHash {
+    ghost use Rattle.password_hash.specs.McfViews.{hash_text, fields_left};
+
+    /// Keeps the text where it is a modular text, and else hands it back. It takes no memory.
+    pub fn from_string(text: String) -> std::result::Result<PasswordHash, String>
+        ensures exact { IsOk result ↔ IsModular (string_bytes text) }
+        ensures value { MatchResult result (λ hash. hash ≡ string_bytes text) (λ back. back ≡ text) }
+    {
+        if !is_modular(text.as_str()) {
+            return Err(text);
+        }
+        Ok(PasswordHash { text })
+    }
+
+    /// Copies a modular text.
+    ///
+    /// `EncodingInvalid` where it is none. Then no memory was asked for. `OutOfMemory` where memory
+    /// ran out.
+    pub fn new(alloc: Global, text: &str) -> Result<PasswordHash>
+        ensures ok { IfOk result (λ hash. hash ≡ text.now) }
+        ensures accepted { OnOk result (IsModular text.now) }
+        ensures invalid { IsErrOf result Error.EncodingInvalid ↔ (¬ IsModular text.now) }
+        ensures memory { IsErrOf result Error.OutOfMemory → IsModular text.now }
+    {
+        if !is_modular(text) {
+            return Err(Error::EncodingInvalid);
+        }
+        let text = String::from_str(alloc, text)?;
+        Ok(PasswordHash { text })
+    }
+
+    /// A text with this id and no field.
+    ///
+    /// `EncodingInvalid` unless the id is one or more of `a-z0-9-`. Then no memory was asked for.
+    /// `OutOfMemory` where memory ran out.
+    pub fn from_id(alloc: Global, id: &str) -> Result<PasswordHash>
+        ensures ok { IfOk result (λ hash. hash ≡ dollar ∷ id.now) }
+        ensures accepted { OnOk result (IsId id.now) }
+        ensures invalid { IsErrOf result Error.EncodingInvalid ↔ (¬ IsId id.now) }
+        ensures memory { IsErrOf result Error.OutOfMemory → IsId id.now }
+    {
+        if !is_id(id) {
+            return Err(Error::EncodingInvalid);
+        }
+        let mut text = String::with_capacity(alloc, id.len().saturating_add(1))?;
+        text.push('$')?;
+        text.push_str(id)?;
+        Ok(PasswordHash { text })
+    }
+
+    /// Appends `$` and a field. An error leaves the text as it was.
+    ///
+    /// `EncodingInvalid` where the field has a `$`. Then no memory was asked for. `OutOfMemory` where
+    /// memory ran out.
+    pub fn push_str(&mut self, field: &str) -> Result<()>
+        ensures ok { OnOk result (self.new ≡ self.old ++ dollar ∷ field.now) }
+        ensures accepted { OnOk result (IsField field.now) }
+        ensures invalid { IsErrOf result Error.EncodingInvalid ↔ (¬ IsField field.now) }
+        ensures memory { IsErrOf result Error.OutOfMemory → IsField field.now }
+        ensures unchanged { OnErr result (self.new ≡ self.old) }
+    {
+        if !is_field(field) {
+            return Err(Error::EncodingInvalid);
+        }
+        // Room for both is taken first, so that nothing is written where it is refused.
+        self.text.reserve(field.len().saturating_add(1))?;
+        self.text.push('$')?;
+        self.text.push_str(field)?;
+        Ok(())
+    }
+
+    /// Appends `$` and the letters of these bytes. An error leaves the text as it was.
+    ///
+    /// `OutOfMemory` where memory ran out.
+    pub fn push_base64(&mut self, bytes: &[u8], encoding: Base64) -> Result<()>
+        ensures ok { OnOk result (self.new ≡ self.old ++ dollar ∷ crypt64_of bytes.now) }
+        ensures err { IfErr result (λ e. e ≡ Error.OutOfMemory) }
+        ensures unchanged { OnErr result (self.new ≡ self.old) }
+    {
+        let alloc = *self.text.allocator();
+        let letters = encoding.encode_string(alloc, bytes)?;
+        self.push_str(letters.as_str())
+    }
+
+    /// The whole text.
+    pub fn as_str(&self) -> &str
+        ensures { result.now ≡ self.now }
+    {
+        self.text.as_str()
+    }
+
+    /// The id: one or more of `a-z0-9-`.
+    pub fn id(&self) -> &str
+        ensures value { result.now ≡ id_of self.now }
+        ensures reading { Modular self.now result.now (fields_of self.now) }
+    {
+        self.as_password_hash_ref().id()
+    }
+
+    /// The fields, in order.
+    pub fn fields(&self) -> Fields<'_>
+        ensures value { fields_left result ≡ fields_of self.now }
+        ensures reading { Modular self.now (id_of self.now) (fields_left result) }
+    {
+        self.as_password_hash_ref().fields()
+    }
+
+    /// The same text, borrowed.
+    pub fn as_password_hash_ref(&self) -> PasswordHashRef<'_>
+        ensures { hash_text result ≡ self.now }
+    {
+        PasswordHashRef {
+            text: self.text.as_str(),
+        }
+    }
+}
+
+impl PartialEq for PasswordHash {
+    ghost eq = { λ s t. pointwise nat_eq s t };
+
+    ghost laws = { partial_equiv_from_equiv nat_list_eq_equiv };
+
+    fn eq(&self, other: &PasswordHash) -> bool {
+        self.as_str() == other.as_str()
+    }
+}
+
+impl Eq for PasswordHash {
+    ghost laws = { nat_list_eq_equiv };
+}

@@ -1,0 +1,75 @@
+//! From bytes to letters.
+ghost use Rattle.std.specs.Prelude.{◌≡◌, ◌<◌, ◌++◌, [], MatchOption, IfSome};
+ghost use Rattle.std.specs.Iterator.{YieldsFirst, item_count};
+ghost use Rattle.password_hash.specs.Crypt64.{letters_of, crypt64_of};
+
+use super::alphabet::letter;
+
+/// The letters of bytes, in order.
+#[derive(Clone, Copy)]
+pub(super) struct Letters<'a> {
+    /// How many letters the group at hand has yet to give, and the number that they say.
+    pending: usize,
+    number: u32,
+    /// The bytes behind the group.
+    bytes: &'a [u8],
+}
+
+impl<'a> Letters<'a> {
+    /// The letters of these bytes.
+    #[tactic(auto, unfolding(crate::specs::Crypt64::letters_of))]
+    pub(super) fn new(bytes: &'a [u8]) -> Letters<'a>
+        ensures { letters_of result.pending result.number ++ crypt64_of result.bytes.now
+            ≡ crypt64_of bytes.now }
+    {
+        Letters {
+            pending: 0,
+            number: 0,
+            bytes,
+        }
+    }
+
+    /// The letters of the first three bytes, or of the last one or two, and then of the others.
+    fn of_first_group(bytes: &'a [u8]) -> Option<Letters<'a>>
+        ensures some { MatchOption result (bytes.now ≡ []) (λ letters. 0 < letters.pending) }
+        ensures same { IfSome result (λ letters. crypt64_of bytes.now
+            ≡ letters_of letters.pending letters.number ++ crypt64_of letters.bytes.now) }
+    {
+        match bytes {
+            [] => None,
+            [a] => Some(Letters {
+                pending: 2,
+                number: u32::from(*a),
+                bytes: &[],
+            }),
+            [a, b] => Some(Letters {
+                pending: 3,
+                number: u32::from_le_bytes([*a, *b, 0, 0]),
+                bytes: &[],
+            }),
+            [a, b, c, rest @ ..] => Some(Letters {
+                pending: 4,
+                number: u32::from_le_bytes([*a, *b, *c, 0]),
+                bytes: rest,
+            }),
+        }
+    }
+}
+
+impl<'a> Iterator for Letters<'a> {
+    type Item = u8;
+
+    ghost next_gives = { YieldsFirst (λ s. letters_of s.pending s.number ++ crypt64_of s.bytes.now) };
+
+    ghost remaining = { item_count (λ s. letters_of s.pending s.number ++ crypt64_of s.bytes.now) };
+
+    fn next(&mut self) -> Option<u8> {
+        if self.pending == 0 {
+            *self = Letters::of_first_group(self.bytes)?;
+        }
+        let first = letter(self.number % 64);
+        self.pending -= 1;
+        self.number /= 64;
+        Some(first)
+    }
+}

@@ -1,0 +1,21 @@
+//! Password hashes in the PHC string format.
+mod encoding;
+mod hash;
+mod ident;
+mod output;
+mod pairs;
+mod params;
+mod parts;
+mod salt;
+mod short_bytes;
+#[cfg(test)]
+mod tests;
+mod value;
+
+pub use hash::PasswordHash;
+pub use ident::Ident;
+pub use output::Output;
+pub use pairs::Pairs;
+pub use params::ParamsString;
+pub use salt::Salt;
+pub use value::Value;

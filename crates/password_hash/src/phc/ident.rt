@@ -1,0 +1,87 @@
+//! The name of an algorithm or of a parameter.
+ghost use Rattle.std.specs.Prelude.{◌≡◌, ◌↔◌, Some, IsOk, IfOk, IfErr, codes};
+ghost use Rattle.std.specs.List.{list_all};
+ghost use Rattle.password_hash.specs.Letters.{IsIdentifier, is_identifier_letter};
+ghost use Rattle.password_hash.specs.declared.error.Error.TheVariants.{EncodingInvalid};
+
+use crate::phc::short_bytes::ShortBytes;
+use crate::{Error, Result};
+use std::marker::Model;
+use std::{fmt, str};
+
+/// An identifier: 1 to 32 of the letters `a-z0-9-`.
+#[derive(Clone, Copy, Debug, PartialEq, Eq)]
+pub struct Ident {
+    bytes: ShortBytes<32>,
+}
+
+impl Model for Ident {
+    ghost use Rattle.std.specs.Prelude.{ℕ, List};
+    ghost use Rattle.password_hash.specs.Letters.{IsIdentifier, is_identifier_letter};
+
+    ghost Value = { List ℕ };
+
+    ghost view = { λ a. a.bytes };
+
+    ghost invariant = { λ a. IsIdentifier a.bytes };
+
+    ghost inverse = { λ xs. record { bytes = xs } };
+}
+
+impl Ident {
+    /// `scrypt`
+    pub const SCRYPT: Ident = Ident {
+        bytes: ShortBytes {
+            places: [
+                b's', b'c', b'r', b'y', b'p', b't', 0, 0, 0, 0, 0, 0, 0, 0, 0, 0, 0, 0, 0, 0, 0, 0,
+                0, 0, 0, 0, 0, 0, 0, 0, 0, 0,
+            ],
+            len: 6,
+        },
+    };
+
+    /// The identifier that is written so: `EncodingInvalid` unless 1 to 32 of `a-z0-9-`.
+    pub fn new(text: &str) -> Result<Ident>
+        ensures exact { IsOk result ↔ IsIdentifier text.now }
+        ensures value { IfOk result (λ ident. ident ≡ text.now) }
+        ensures err { IfErr result (λ e. e ≡ EncodingInvalid) }
+    {
+        let bytes = text.as_bytes();
+        if bytes.is_empty() || bytes.len() > 32 || !are_letters(bytes) {
+            return Err(Error::EncodingInvalid);
+        }
+        Ok(Ident {
+            bytes: ShortBytes::new(bytes),
+        })
+    }
+
+    /// The letters.
+    pub fn as_str(&self) -> &str
+        ensures value { result.now ≡ self.now }
+        ensures identifier { IsIdentifier result.now }
+    {
+        str::from_utf8(self.bytes.as_bytes()).unwrap()
+    }
+}
+
+impl fmt::Display for Ident {
+    ghost output = { λ ident. Some ident };
+
+    fn fmt<W: fmt::Write>(&self, f: &mut fmt::Formatter<W>) -> fmt::Result {
+        f.write_str(self.as_str())
+    }
+}
+
+/// Whether all are of `a-z0-9-`.
+fn are_letters(bytes: &[u8]) -> bool
+    ensures { result ≡ list_all is_identifier_letter bytes.now }
+{
+    bytes.iter().all(|b| is_letter(*b))
+}
+
+/// Whether this is one of `a-z0-9-`.
+fn is_letter(b: u8) -> bool
+    ensures { result ≡ is_identifier_letter b }
+{
+    matches!(b, b'a'..=b'z' | b'0'..=b'9' | b'-')
+}

@@ -1,0 +1,65 @@
+//! The key of a hash.
+ghost use Rattle.std.specs.Prelude.{◌≡◌, ◌↔◌, ◌≤◌, IsOk, IfOk, IfErr, length};
+ghost use Rattle.password_hash.specs.declared.error.Error.TheVariants.{OutputSize};
+
+use crate::phc::short_bytes::ShortBytes;
+use crate::{Error, Result};
+use std::marker::Model;
+
+/// A key of 10 to 64 bytes. Equality looks at every byte.
+#[derive(Clone, Copy, Debug, PartialEq, Eq)]
+pub struct Output {
+    bytes: ShortBytes<64>,
+}
+
+impl Model for Output {
+    ghost use Rattle.std.specs.Prelude.{ℕ, List, ◌≤◌, length};
+
+    ghost Value = { List ℕ };
+
+    ghost view = { λ a. a.bytes };
+
+    ghost invariant = { λ a. (10 ≤ length a.bytes) × (length a.bytes ≤ 64) };
+
+    ghost inverse = { λ xs. record { bytes = xs } };
+}
+
+impl Output {
+    /// The least number of bytes.
+    pub const MIN_LENGTH: usize = 10;
+
+    /// The greatest number of bytes.
+    pub const MAX_LENGTH: usize = 64;
+
+    /// A copy of this key, of 10 to 64 bytes. Any other length is `OutputSize`.
+    pub fn new(key: &[u8]) -> Result<Output>
+        ensures exact { IsOk result ↔ ((10 ≤ length key.now) × (length key.now ≤ 64)) }
+        ensures value { IfOk result (λ output. output ≡ key.now) }
+        ensures err { IfErr result (λ e. e ≡ OutputSize) }
+    {
+        if !(Output::MIN_LENGTH..=Output::MAX_LENGTH).contains(&key.len()) {
+            return Err(Error::OutputSize);
+        }
+        Ok(Output {
+            bytes: ShortBytes::new(key),
+        })
+    }
+
+    /// The number of bytes, 10 to 64.
+    pub fn len(&self) -> usize
+        ensures value { result ≡ length self.now }
+        ensures least { 10 ≤ result }
+        ensures greatest { result ≤ 64 }
+    {
+        self.bytes.len()
+    }
+
+    /// The bytes.
+    pub fn as_bytes(&self) -> &[u8]
+        ensures value { result.now ≡ self.now }
+        ensures least { 10 ≤ length result.now }
+        ensures greatest { length result.now ≤ 64 }
+    {
+        self.bytes.as_bytes()
+    }
+}

@@ -1,0 +1,59 @@
+//! The pairs of parameters, one after the other.
+ghost use Rattle.std.specs.Prelude.{◌≡◌, ◌<◌, ◌==◌};
+ghost use Rattle.std.specs.Iterator.{YieldsFirstBy, item_count};
+ghost use Rattle.std.specs.List.{before_first, after_first};
+ghost use Rattle.password_hash.specs.Value.{item_pair};
+
+use crate::phc::{Ident, Value};
+use std::marker::Model;
+
+/// The names and values of a `ParamsString`, in their order.
+#[derive(Drop)]
+pub struct Pairs<'a> {
+    pub(super) left: &'a str,
+}
+
+impl<'a> Model for Pairs<'a> {
+    ghost use Rattle.std.specs.Prelude.{ℕ, List};
+    ghost use Rattle.password_hash.specs.Pairs.{pairs_of, IsPairsText};
+
+    ghost Value = { List (List ℕ × List ℕ) };
+
+    ghost view = { λ a. pairs_of a.left.now };
+
+    ghost invariant = { λ a. IsPairsText a.left.now };
+}
+
+impl<'a> Iterator for Pairs<'a> {
+    type Item = (Ident, Value<'a>);
+
+    ghost next_gives = { YieldsFirstBy item_pair (λ left. left) };
+
+    ghost remaining = { item_count (λ left. left) };
+
+    fn next(&mut self) -> Option<(Ident, Value<'a>)> {
+        if self.left.is_empty() {
+            return None;
+        }
+        let (pair, left) = cut(self.left, ',');
+        let (name, text) = cut(pair, '=');
+        self.left = left;
+        // The names of parameters are identifiers.
+        let Ok(name) = Ident::new(name) else {
+            unreachable!();
+        };
+        Some((name, Value { text }))
+    }
+}
+
+/// What stands before the first separator, and what behind it.
+pub(super) fn cut(text: &str, separator: char) -> (&str, &str)
+    requires { separator < 128 }
+    ensures before { result.0.now ≡ before_first (λ b. b == separator) text.now }
+    ensures after { result.1.now ≡ after_first (λ b. b == separator) text.now }
+{
+    match text.split_once(separator) {
+        Some(parts) => parts,
+        None => (text, ""),
+    }
+}

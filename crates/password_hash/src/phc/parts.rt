@@ -1,0 +1,102 @@
+//! The parts of a PHC text, taken one by one from what is left of it.
+//!
+//! What is left is the text behind the last `$` that was passed, or nothing behind the last part.
+ghost use Rattle.std.specs.Prelude.{◌≡◌, ◌∷◌, ◌==◌, ℕ, List, Option, Some, IfSome};
+ghost use Rattle.std.specs.List.{slice_split};
+ghost use Rattle.password_hash.specs.Pairs.{ArePairs};
+ghost use Rattle.password_hash.specs.Parts.{IsVersion, LackEquals, LackVersion, Takes, TakesOnly, parts_left};
+ghost use Rattle.password_hash.specs.Phc.{IsKey, IsSalt, IsSaltAndKey, base64, params_part, version_part};
+
+use crate::Version;
+use crate::phc::encoding::decode;
+use crate::phc::value::decimal;
+use crate::phc::{Output, ParamsString, Salt};
+
+/// The first part of a text, and what is left behind it.
+pub(super) fn first_part(text: &str) -> (&str, Option<&str>)
+    ensures { slice_split (λ b. b == 36) text.now ≡ result.0.now ∷ parts_left result.1 }
+{
+    match text.split_once('$') {
+        Some((part, left)) => (part, Some(left)),
+        None => (text, None),
+    }
+}
+
+/// The version, where a part `v=` comes next, and what is left behind it.
+pub(super) fn take_version(left: Option<&str>) -> Option<(Option<Version>, Option<&str>)>
+    ensures found { IfSome result (Takes version_part IsVersion (parts_left left.entry)) }
+    ensures only { TakesOnly version_part IsVersion LackVersion (parts_left left.entry) result }
+{
+    let Some(text) = left else {
+        return Some((None, None));
+    };
+    let (part, behind) = first_part(text);
+    let Some(digits) = part.strip_prefix("v=") else {
+        return Some((None, left));
+    };
+    let Ok(version) = decimal(digits) else {
+        return None;
+    };
+    Some((Some(version), behind))
+}
+
+/// The parameters, where a part with a `=` comes next, and what is left behind them.
+pub(super) fn take_params(left: Option<&str>) -> Option<(ParamsString, Option<&str>)>
+    ensures found { IfSome result (Takes params_part ArePairs (parts_left left.entry)) }
+    ensures only { TakesOnly params_part ArePairs LackEquals (parts_left left.entry) result }
+{
+    let Some(text) = left else {
+        return Some((ParamsString::new(), None));
+    };
+    let (part, behind) = first_part(text);
+    if !part.contains('=') {
+        return Some((ParamsString::new(), left));
+    }
+    let Ok(params) = ParamsString::parse(part) else {
+        return None;
+    };
+    Some((params, behind))
+}
+
+/// The salt, and the key behind it, where there are such parts. Nothing may be left behind them.
+pub(super) fn take_salt_and_key(left: Option<&str>) -> Option<(Option<Salt>, Option<Output>)>
+    ensures found { IfSome result (λ read. IsSaltAndKey (parts_left left.entry) read.0 read.1) }
+    ensures only { (salt key : Option (List ℕ)) →
+        IsSaltAndKey (parts_left left.entry) salt key → result ≡ Some (salt, key) }
+{
+    let Some(text) = left else {
+        return Some((None, None));
+    };
+    let (part, behind) = first_part(text);
+    let salt = salt(part)?;
+    let Some(letters) = behind else {
+        return Some((Some(salt), None));
+    };
+    // A `$` is none of the letters of a key, so that nothing stands behind it.
+    let key = key(letters)?;
+    Some((Some(salt), Some(key)))
+}
+
+/// The salt of these letters.
+fn salt(letters: &str) -> Option<Salt>
+    ensures found { IfSome result (λ salt. (letters.now ≡ base64 salt) × IsSalt salt) }
+    ensures only { (salt : List ℕ) → IsSalt salt → letters.now ≡ base64 salt → result ≡ Some salt }
+{
+    let bytes = decode(letters)?;
+    let Ok(salt) = Salt::new(bytes.as_bytes()) else {
+        return None;
+    };
+    Some(salt)
+}
+
+/// The key of these letters.
+fn key(letters: &str) -> Option<Output>
+    ensures found { IfSome result (λ key. (letters.now ≡ base64 key) × IsKey key) }
+    ensures only { (key : List ℕ) → IsKey key → letters.now ≡ base64 key → result ≡ Some key }
+{
+    let bytes = decode(letters)?;
+    let Ok(key) = Output::new(bytes.as_bytes()) else {
+        return None;
+    };
+    Some(key)
+}

@@ -1,0 +1,34 @@
+-- Facts on the chunks of B, which are mixed one after another.
+use Rattle.std.proofs.Common.{◌≡◌, ◌≢◌, ℕ, ◌<◌, ◌≤◌, ◌+◌, ◌*◌, List, length, take, drop, ap, ◌∙◌, arith, below_more}
+use borrow.Rule.Slice.PartMut.{put_mid}
+use Rattle.scrypt.specs.Words.{bytes_of, part, words_of}
+use Rattle.scrypt.specs.RoMix.{ro_mix}
+use Rattle.scrypt.specs.Key.{mixed_chunk, mixed_chunks}
+use Rattle.scrypt.proofs.PartFacts.{part_of_slice, part_put_same, part_put_other, parts_all}
+
+-- the first i chunks of x are those of b after scryptROMix, and the others are those of b
+pub record AreMixed (b : List ℕ) (log_n r i : ℕ) (x : List ℕ) : Type 0 where
+  pub done : (k : ℕ) → k < i → part (128 * r) x k ≡ mixed_chunk b log_n r k
+  pub rest : (k : ℕ) → i ≤ k → part (128 * r) x k ≡ part (128 * r) b k
+
+-- one more chunk, mixed in place
+pub mixed_more : (b x ys : List ℕ) (log_n r i a n : ℕ) → a ≡ i * (128 * r) → n ≡ 128 * r
+    → length ys ≡ 128 * r → a + 128 * r ≤ length x
+    → ys ≡ bytes_of (ro_mix (words_of (take n (drop a x))) log_n)
+    → AreMixed b log_n r i x → AreMixed b log_n r (i + 1) (put_mid a n x ys)
+mixed_more b x ys log_n r i a n at size full room mixed before =
+    let s : ℕ = 128 * r in
+    let source = part_of_slice s i x a n at size ∙ before.rest i (omega arith) in
+    let made : ys ≡ mixed_chunk b log_n r i = mixed ∙ ap (λ z. bytes_of (ro_mix (words_of z) log_n)) source in
+    let others = λ (k : ℕ) (other : k ≢ i). part_put_other s i x ys a n at size full room k other in
+    record {
+      done = below_more _ _
+          (λ k h. let other : k ≢ i = omega arith in others k other ∙ before.done k h)
+          (part_put_same s i x ys a n at size full room ∙ made);
+      rest = λ k h. let other : k ≢ i = omega arith in others k other ∙ before.rest k (omega arith);
+    }
+
+-- all p chunks
+pub mixed_all : (b x : List ℕ) (log_n r p : ℕ) → length x ≡ p * (128 * r)
+    → AreMixed b log_n r p x → x ≡ mixed_chunks b log_n r p
+mixed_all b x log_n r p long mixed = parts_all (mixed_chunk b log_n r) (128 * r) p x long mixed.done

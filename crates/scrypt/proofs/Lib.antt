@@ -1,0 +1,13 @@
+pub mod AcceptedFacts
+pub mod WordFacts
+pub mod PartFacts
+pub mod SalsaFacts
+pub mod BlockMixFacts
+pub mod IntegerifyFacts
+pub mod Pbkdf2Facts
+pub mod RoMixFacts
+pub mod KeyFacts
+pub mod StandardFacts
+pub mod PhcCostsFacts
+pub mod ReadingFacts
+pub mod PhcHashFacts

@@ -1,0 +1,113 @@
+-- Facts on a list as rows of s words_of each.
+use Rattle.std.proofs.Common.{◌≡◌, ◌≢◌, ℕ, zero, suc, ◌<◌, ◌≤◌, ◌+◌, ◌*◌, List, [], ◌∷◌, ◌++◌, length, map, get_or, take, drop, refl, sym, ap, ◌∙◌, arith, inl, inr, add-zero, zero-add}
+use Rattle.std.proofs.Math.Nat.{mul-le-mul_right}
+use Rattle.std.proofs.lemmas.Bool.{cases_lt}
+use Rattle.std.proofs.lemmas.List.{take_at, drop_at, drop-take, drop-drop, take-append-drop, take-take, length-take-le, length-drop, nil_from_length}
+use Rattle.std.proofs.lemmas.Slice.{take-put_mid_below, drop-put_mid}
+use Rattle.std.proofs.lemmas.List.FromFn.{fill_by_all}
+use borrow.Rule.Slice.PartMut.{put_mid}
+use Rattle.std.specs.List.{flat_map, range_with_len}
+use Rattle.scrypt.specs.Words.{part}
+
+-- a later part begins where an earlier one has ended, or later
+pub parts_apart : (s j k : ℕ) → j < k → j * s + s ≤ k * s
+parts_apart s j k h =
+    let le : suc j ≤ k = omega arith in
+    omega (arith, mul-le-mul_right s le)
+
+-- a slice that is a part
+pub part_of_slice : (s k : ℕ) (x : List ℕ) (a n : ℕ) → a ≡ k * s → n ≡ s → take n (drop a x) ≡ part s x k
+part_of_slice s k x a n at size = rw (at, size) refl
+
+pub length-part : (s k : ℕ) (x : List ℕ) → k * s + s ≤ length x → length (part s x k) ≡ s
+length-part s k x room = length-take-le s (drop (k * s) x) (omega (arith, length-drop (k * s) x))
+
+-- a part lies in front of its end
+part_is : (s k : ℕ) (x : List ℕ) → part s x k ≡ drop (k * s) (take (k * s + s) x)
+part_is s k x = sym (drop-take (k * s) s x)
+
+-- a part of a beginning that holds it
+pub part-take : (s k a : ℕ) (x : List ℕ) → k * s + s ≤ a → part s (take a x) k ≡ part s x k
+part-take s k a x inside =
+    part_is s k (take a x) ∙ ap (drop (k * s)) (take-take (k * s + s) a x inside) ∙ sym (part_is s k x)
+
+module _ (s k : ℕ) (x ys : List ℕ) (a n : ℕ) (at : a ≡ k * s) (size : n ≡ s) (full : length ys ≡ s) (room : a + s ≤ length x) where
+  pub part_put_same : part s (put_mid a n x ys) k ≡ ys
+  part_put_same =
+      let front : length (take a x) ≡ a = length-take-le a x (omega arith) in
+      rw (← at) (ap (take s) (drop_at (take a x) _ a front) ∙ take_at ys _ s full)
+
+  pub part_put_other : (j : ℕ) → j ≢ k → part s (put_mid a n x ys) j ≡ part s x j
+  part_put_other j ne =
+      elim (cases_lt j k) [
+        | inl lt ↦
+            let apart = parts_apart s j k lt in
+            part_is s j (put_mid a n x ys)
+            ∙ ap (drop (j * s)) (take-put_mid_below a n x ys (j * s + s) (omega arith) (omega arith))
+            ∙ sym (part_is s j x)
+        | inr ge ↦
+            let gt : k < j = omega arith in
+            let apart = parts_apart s k j gt in
+            ap (take s) (drop-put_mid a n x ys (j * s) (omega arith) (omega arith) (omega arith))
+      ]
+
+-- a list that was split in front of part k, with ys written there
+pub split_put : (a s : ℕ) (x front back ys : List ℕ) → front ≡ take a x → back ≡ drop a x
+    → front ++ (ys ++ drop s back) ≡ put_mid a s x ys
+split_put a s x front back ys is_front is_back = rw (is_front, is_back) refl
+
+-- part k of what follows the first part
+part_next : (s k : ℕ) (x : List ℕ) → part s (drop s x) k ≡ part s x (suc k)
+part_next s k x =
+    let e : s + k * s ≡ suc k * s = omega arith in
+    ap (take s) (drop-drop (k * s) s x ∙ ap (λ i. drop i x) e)
+
+-- a list of n parts, each known
+pub parts_from : (f : ℕ → List ℕ) (s a n : ℕ) (x : List ℕ) → length x ≡ n * s
+    → ((k : ℕ) → k < n → part s x k ≡ f (a + k)) → x ≡ flat_map f (range_with_len a n)
+parts_from f s a zero x long each = nil_from_length x (omega arith)
+parts_from f s a (suc n) x long each =
+    let none : 0 * s ≡ 0 = omega arith in
+    let first : take s x ≡ f a = ap (λ i. take s (drop i x)) (sym none) ∙ each 0 (omega arith) ∙ ap f (add-zero a) in
+    let less : length (drop s x) ≡ n * s = omega (arith, length-drop s x) in
+    let rest = parts_from f s (a + 1) n (drop s x) less (λ k h.
+    let e : a + suc k ≡ a + 1 + k = omega arith in
+    part_next s k x ∙ each (suc k) (omega arith) ∙ ap f e) in
+    sym (take-append-drop s x) ∙ ap (λ z. z ++ drop s x) first ∙ ap (λ z. f a ++ z) rest
+
+pub parts_all : (f : ℕ → List ℕ) (s n : ℕ) (x : List ℕ) → length x ≡ n * s
+    → ((k : ℕ) → k < n → part s x k ≡ f k) → x ≡ flat_map f (range_with_len 0 n)
+parts_all f s n x long each = parts_from f s 0 n x long (λ k h. each k h ∙ ap f (sym (zero-add k)))
+
+-- a list of two halves of n parts each, each part known
+pub halves_all : (f g : ℕ → List ℕ) (s n : ℕ) (x : List ℕ) → length x ≡ 2 * n * s
+    → ((k : ℕ) → k < n → part s x k ≡ f k) → ((k : ℕ) → k < n → part s x (n + k) ≡ g k)
+    → x ≡ flat_map f (range_with_len 0 n) ++ flat_map g (range_with_len 0 n)
+halves_all f g s n x long front back =
+    let a = n * s in
+    let fits : a ≤ length x = omega arith in
+    let one : take a x ≡ flat_map f (range_with_len 0 n) = parts_all f s n (take a x) (length-take-le a x fits) (λ k h.
+    let apart = parts_apart s k n h in
+    part-take s k a x (omega arith) ∙ front k h) in
+    let two : drop a x ≡ flat_map g (range_with_len 0 n) = parts_all g s n (drop a x) (omega (arith, length-drop a x)) (λ k h.
+    let e : a + k * s ≡ (n + k) * s = omega arith in
+    ap (take s) (drop-drop (k * s) a x ∙ ap (λ i. drop i x) e) ∙ back k h) in
+    sym (take-append-drop a x) ∙ ap (λ z. z ++ drop a x) one ∙ ap (λ z. flat_map f (range_with_len 0 n) ++ z) two
+
+-- two lists with equal parts
+pub parts_same : (s n : ℕ) (x z : List ℕ) → length x ≡ n * s → length z ≡ n * s
+    → ((k : ℕ) → k < n → part s x k ≡ part s z k) → x ≡ z
+parts_same s n x z one two each =
+    parts_all (λ k. part s z k) s n x one each ∙ sym (parts_all (λ k. part s z k) s n z two (λ k h. refl))
+
+flat_map-map : (g : ℕ → List ℕ) (f : ℕ → ℕ) (ks : List ℕ) → flat_map g (map f ks) ≡ flat_map (λ k. g (f k)) ks
+flat_map-map g f [] = refl
+flat_map-map g f (k ∷ ks) = ap (λ z. g (f k) ++ z) (flat_map-map g f ks)
+
+-- a list of one part for each element of x
+pub parts_of_each : (g : ℕ → List ℕ) (s : ℕ) (x b : List ℕ) → length b ≡ length x * s
+    → ((k : ℕ) → k < length x → part s b k ≡ g (get_or x k 0)) → b ≡ flat_map g x
+parts_of_each g s x b long each =
+    let places = fill_by_all (λ k. get_or x k 0) x (length x) 0 refl (λ k h. refl) in
+    parts_all (λ k. g (get_or x k 0)) s (length x) b long each
+    ∙ sym (flat_map-map g (λ k. get_or x k 0) (range_with_len 0 (length x))) ∙ ap (flat_map g) (sym places)

@@ -1,0 +1,71 @@
+-- Facts on HMAC and PBKDF2.
+use Rattle.std.proofs.Common.{◌≡◌, ℕ, ◌<◌, ◌≤◌, ◌+◌, ◌-◌, ◌*◌, ◌/◌, ◌%◌, List, ◌++◌, length, take, drop, get_or, replicate, false, nat_lt, refl, sym, ◌∙◌, arith}
+use Rattle.std.proofs.lemmas.Bool.{le-ltb}
+use Rattle.std.proofs.lemmas.List.{drop-replicate, get_or_append_left, get_or-append_right, get_or-take, get_or-drop, length-take-le, ext_get_or}
+use Rattle.std.proofs.lemmas.List.FromFn.{get_or-map-range_with_len, length-map-range_with_len}
+use Rattle.std.specs.List.{flat_map, range_with_len}
+use Rattle.sha2.proofs.Facts256.{length-sha256}
+use borrow.Rule.Slice.PartMut.{put_mid}
+use Rattle.scrypt.specs.Hmac.{hmac_sha256, padded_key}
+use Rattle.scrypt.specs.Pbkdf2.{pbkdf2, pbkdf2_block, pbkdf2_byte}
+use Rattle.scrypt.specs.Words.{part}
+use Rattle.scrypt.proofs.PartFacts.{length-part, parts_all}
+
+-- a key that fits a block
+pub padded_short : (secret ys : List ℕ) → length secret ≤ 64 → ys ≡ secret
+    → ys ++ drop (length secret) (replicate 64 0) ≡ padded_key secret
+padded_short secret ys fits same =
+    let short : nat_lt 64 (length secret) ≡ false = le-ltb 64 (length secret) fits in
+    rw (same, drop-replicate {X = ℕ} (length secret) 64 0, short) refl
+
+-- the elements of a list below a part that was written
+pub put_below : (a n : ℕ) (xs ys : List ℕ) (k : ℕ) → k < a → a ≤ length xs
+    → get_or (put_mid a n xs ys) k 0 ≡ get_or xs k 0
+put_below a n xs ys k h room =
+    let front : length (take a xs) ≡ a = length-take-le a xs room in
+    get_or_append_left (take a xs) _ 0 k (omega arith) ∙ get_or-take a xs k 0 h
+
+-- the elements of the part
+pub put_inside : (a n : ℕ) (xs ys : List ℕ) (k : ℕ) → a ≤ k → k < a + length ys → a ≤ length xs
+    → get_or (put_mid a n xs ys) k 0 ≡ get_or ys (k - a) 0
+put_inside a n xs ys k low high room =
+    let front : length (take a xs) ≡ a = length-take-le a xs room in
+    get_or-append_right (take a xs) _ a k 0 front low ∙ get_or_append_left ys _ 0 (k - a) (omega arith)
+
+-- byte k stands in block k / 32
+pub byte_in_block : (password salt made cut : List ℕ) (i k size : ℕ)
+    → 32 * i ≤ k → k < 32 * (i + 1) → k - 32 * i < size
+    → made ≡ pbkdf2_block password salt (i + 1) → cut ≡ take size made
+    → get_or cut (k - 32 * i) 0 ≡ pbkdf2_byte password salt k
+unfolding pbkdf2_byte
+byte_in_block password salt made cut i k size low high inside is_made is_cut =
+    let number : k / 32 ≡ i = omega arith in
+    let place : k % 32 ≡ k - 32 * i = omega arith in
+    rw (number, place, is_cut, get_or-take, is_made) refl
+
+pub length-pbkdf2 : (password salt : List ℕ) (n : ℕ) → length (pbkdf2 password salt n) ≡ n
+length-pbkdf2 password salt n = length-map-range_with_len (pbkdf2_byte password salt) 0 n
+
+-- the bytes between 32 * i and 32 * (i + 1) are those of block i + 1
+part_of_pbkdf2 : (password salt : List ℕ) (n i : ℕ) → i < n
+    → part 32 (pbkdf2 password salt (n * 32)) i ≡ pbkdf2_block password salt (i + 1)
+unfolding pbkdf2_byte hmac_sha256
+part_of_pbkdf2 password salt n i inside =
+    let whole = pbkdf2 password salt (n * 32) in
+    let room : i * 32 + 32 ≤ length whole = omega (arith, length-pbkdf2 password salt (n * 32)) in
+    let one : length (part 32 whole i) ≡ 32 = length-part 32 i whole room in
+    let two : length (pbkdf2_block password salt (i + 1)) ≡ 32 = length-sha256 _ in
+    ext_get_or 0 _ _ (one ∙ sym two) (λ j h.
+    let below : j < 32 = omega arith in
+    let number : (i * 32 + j) / 32 ≡ i = omega arith in
+    let place : (i * 32 + j) % 32 ≡ j = omega arith in
+    get_or-take 32 (drop (i * 32) whole) j 0 below ∙ get_or-drop (i * 32) whole j 0
+    ∙ get_or-map-range_with_len (pbkdf2_byte password salt) 0 (n * 32) (i * 32 + j) (i * 32 + j) 0 (omega arith) (omega arith)
+    ∙ rw (number, place) refl)
+
+-- whole blocks of a derived key
+pub pbkdf2_by_blocks : (password salt : List ℕ) (n : ℕ)
+    → pbkdf2 password salt (n * 32) ≡ flat_map (λ i. pbkdf2_block password salt (i + 1)) (range_with_len 0 n)
+pbkdf2_by_blocks password salt n =
+    parts_all (λ i. pbkdf2_block password salt (i + 1)) 32 n (pbkdf2 password salt (n * 32))
+    (length-pbkdf2 password salt (n * 32)) (λ i h. part_of_pbkdf2 password salt n i h)

@@ -1,0 +1,12 @@
+use Rattle.std.proofs.Common.{arith, bit_xor}
+use Rattle.scrypt.proofs.WordFacts.{merged_more, zip2_all}
+use Rattle.scrypt.proofs.words.xor_words.Goals as goal
+
+pub loop-i-preserved : goal.loop-i-preserved
+loop-i-preserved c =
+    merged_more bit_xor c.args.x.now c.args.y.now c.loop-i.i c.loop-i.x (omega arith) c.loop-i.invariant
+
+pub returns : goal.returns
+returns c =
+    zip2_all bit_xor c.args.x.now c.args.y.now c.loop-i.x (omega arith) (omega arith)
+    (λ k h. c.loop-i.invariant.below k (omega arith))

@@ -1,0 +1,28 @@
+-- Which parameters and which output lengths are accepted, over whole numbers without a greatest
+-- value. The bound on p of RFC 7914, section 2, is that on r * p. Of its bounds on N, above 1 and
+-- below 2 ^ (128 * r / 8), neither is asked for; in their place 128 * r * N stays below 2 ^ 64.
+use Rattle.std.specs.Prelude.{ℕ, ◌<◌, ◌≤◌, ◌*◌, ◌^◌, Option, None}
+
+-- the parameters of a derivation, and perhaps the length of a key that is stored with them
+pub record Parameters : Type 0 where
+  pub log_n : ℕ
+  pub r : ℕ
+  pub p : ℕ
+  pub output_len : Option ℕ
+
+-- log_n, r and p are accepted
+abbrev pub AreAccepted : ℕ → ℕ → ℕ → Type 0
+AreAccepted log_n r p =
+    (0 < r) × (0 < p) × (128 * r * 2 ^ log_n < 2 ^ 64) × (r * p < 2 ^ 30)
+
+-- an output of this many bytes can be derived: dkLen is at least 1 and at most (2 ^ 32 - 1) * 32
+abbrev pub IsOutputLen : ℕ → Type 0
+IsOutputLen n = (1 ≤ n) × (n ≤ 137438953440)
+
+-- a key of this many bytes can stand in a PHC text
+abbrev pub IsStoredLen : ℕ → Type 0
+IsStoredLen n = (10 ≤ n) × (n ≤ 64)
+
+-- the parameters that are taken where none are given: N of 2 ^ 17, r of 8, p of 1, and no length
+abbrev pub recommended_parameters : Parameters
+recommended_parameters = record { log_n = 17; r = 8; p = 1; output_len = None }

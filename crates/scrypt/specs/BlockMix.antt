@@ -1,0 +1,20 @@
+-- scryptBlockMix (RFC 7914, section 4) on 2 * r blocks, B 0 to B (2 * r - 1).
+use Rattle.std.specs.Prelude.{ℕ, zero, suc, ◌+◌, ◌*◌, ◌/◌, List, ◌++◌, length}
+use Rattle.std.specs.List.{flat_map, range_with_len}
+use Rattle.scrypt.specs.Words.{block, last_block, xor_words}
+use Rattle.scrypt.specs.Salsa.{salsa20_8}
+
+-- X before step i: the last block at first, and then the core of X xor B i
+unfoldable pub chain : List ℕ → ℕ → List ℕ
+chain b zero = last_block b
+chain b (suc i) = salsa20_8 (xor_words (chain b i) (block b i))
+
+-- Y i, which step i makes
+abbrev pub y : List ℕ → ℕ → List ℕ
+y b i = chain b (i + 1)
+
+-- Y 0, Y 2, .., Y (2 * r - 2), and then Y 1, Y 3, .., Y (2 * r - 1)
+unfoldable pub block_mix : List ℕ → List ℕ
+block_mix b =
+    let r = length b / 32 in
+    flat_map (λ k. y b (2 * k)) (range_with_len 0 r) ++ flat_map (λ k. y b (2 * k + 1)) (range_with_len 0 r)

@@ -1,0 +1,17 @@
+-- HMAC (RFC 2104) with SHA-256, whose blocks have 64 bytes.
+use Rattle.std.specs.Prelude.{ℕ, ◌-◌, List, ◌++◌, map, length, replicate, bit_xor, nat_lt, if◌then◌else◌}
+use Rattle.sha2.specs.Sha256.{sha256}
+
+-- a key longer than a block is replaced by its digest (sections 2 and 3)
+abbrev pub short_key : List ℕ → List ℕ
+short_key secret = (if nat_lt 64 (length secret) then sha256 secret else secret)
+
+-- the key with zero bytes after it, up to a block (section 2, step 1)
+abbrev pub padded_key : List ℕ → List ℕ
+padded_key secret = short_key secret ++ replicate (64 - length (short_key secret)) 0
+
+-- H(K xor opad, H(K xor ipad, text)), with the padded key as K (section 2)
+unfoldable pub hmac_sha256 : List ℕ → List ℕ → List ℕ
+hmac_sha256 secret text =
+    let inner = sha256 (map (bit_xor 0x36) (padded_key secret) ++ text) in
+    sha256 (map (bit_xor 0x5c) (padded_key secret) ++ inner)

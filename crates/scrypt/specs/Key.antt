@@ -1,0 +1,20 @@
+-- scrypt (RFC 7914, section 6).
+use Rattle.std.specs.Prelude.{ℕ, ◌*◌, List}
+use Rattle.std.specs.List.{flat_map, range_with_len}
+use Rattle.scrypt.specs.Words.{bytes_of, part, words_of}
+use Rattle.scrypt.specs.Pbkdf2.{pbkdf2}
+use Rattle.scrypt.specs.RoMix.{ro_mix}
+
+-- chunk i of B, of 128 * r bytes, after scryptROMix (step 2)
+abbrev pub mixed_chunk : List ℕ → ℕ → ℕ → ℕ → List ℕ
+mixed_chunk b log_n r i = bytes_of (ro_mix (words_of (part (128 * r) b i)) log_n)
+
+-- the p chunks of B after scryptROMix
+abbrev pub mixed_chunks : List ℕ → ℕ → ℕ → ℕ → List ℕ
+mixed_chunks b log_n r p = flat_map (mixed_chunk b log_n r) (range_with_len 0 p)
+
+-- DK, of n bytes, n as in PBKDF2: B by PBKDF2 (step 1), its chunks mixed (step 2), and PBKDF2 with them as salt (step 3)
+unfoldable pub derived_key : List ℕ → List ℕ → ℕ → ℕ → ℕ → ℕ → List ℕ
+derived_key password salt log_n r p n =
+    let b = pbkdf2 password salt (p * (128 * r)) in
+    pbkdf2 password (mixed_chunks b log_n r p) n

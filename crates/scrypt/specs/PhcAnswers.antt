@@ -1,0 +1,33 @@
+-- What the conversions between parameters and PHC values answer.
+use Rattle.std.specs.Prelude.{◌≡◌, ℕ, List, length, ◌⊎◌, Option, None, Some, IsSome, Result, Ok, Err}
+use Rattle.password_hash.specs.Refusal.{Refusal, BadVersion, refusal}
+use Rattle.password_hash.specs.declared.error.Error.{Error}
+use Rattle.password_hash.specs.declared.phc.hash.PasswordHash.{PasswordHash}
+use Rattle.scrypt.specs.Accepted.{Parameters}
+use Rattle.scrypt.specs.PhcCosts.{ReadsCosts, written_pairs}
+
+-- the costs that are read, or what they are refused by
+abbrev pub AnswersCosts : List (List ℕ × List ℕ) → Result Parameters Error → Type 0
+AnswersCosts pairs (Ok c) = ReadsCosts pairs (Ok c)
+AnswersCosts pairs (Err e) = ReadsCosts pairs (Err (refusal e))
+
+-- the length of a hash's key, or 32 where it has none
+abbrev pub stored_len : Option (List ℕ) → ℕ
+stored_len None = 32
+stored_len (Some key) = length key
+
+-- the costs without a length
+abbrev pub bare : Parameters → Parameters
+bare c = record c { output_len = None }
+
+-- the costs of a hash with the length of its key, or the version, or what its costs are refused by
+abbrev pub AnswersHashCosts : PasswordHash → Result Parameters Error → Type 0
+AnswersHashCosts hash (Ok c) =
+    (hash.version ≡ None) × ReadsCosts hash.params (Ok (bare c)) × (c.output_len ≡ Some (stored_len hash.hash))
+AnswersHashCosts hash (Err e) =
+    (IsSome hash.version × (refusal e ≡ BadVersion)) ⊎ ((hash.version ≡ None) × ReadsCosts hash.params (Err (refusal e)))
+
+-- the parameters that the costs are written as
+abbrev pub Writes : Parameters → Result (List (List ℕ × List ℕ)) Error → Type 0
+Writes c (Ok pairs) = pairs ≡ written_pairs c
+Writes c (Err e) = ⊥

@@ -1,0 +1,44 @@
+// The Salsa20/8 cores, and the count of how many were run. Nothing outside this module and those
+// below it raises a count.
+
+ghost use Rattle.std.specs.Prelude.{◌≡◌, ℕ, ◌+◌};
+ghost use Rattle.std.specs.Borrow.{ftrue};
+ghost use Rattle.scrypt.specs.Salsa.{salsa20_8};
+
+pub mod salsa;
+
+use std::marker::Model;
+
+/// How many Salsa20/8 cores were run: all of them, and those of the lanes.
+///
+/// Contracts see two whole numbers without a greatest value. At run time a count has no bytes, and
+/// no running program reads it.
+#[derive(Drop)]
+pub struct CoreCount {
+    seal: (),
+    pub ghost all: { ℕ },
+    pub ghost lanes: { ℕ },
+}
+
+impl Model for CoreCount {
+    ghost also_owns = { λ _. ftrue };
+}
+
+impl CoreCount {
+    /// A count of no core.
+    pub fn new() -> CoreCount
+        ensures { (result.all ≡ 0) × (result.lanes ≡ 0) }
+    {
+        CoreCount { seal: () }
+    }
+
+    // The count after one more core, for which its input and its output are the evidence.
+    fn after_core(_before: &CoreCount, _from: &[u32; 16], _to: &[u32; 16]) -> CoreCount
+        requires { _to.now ≡ salsa20_8 _from.now }
+        ensures { (result.all ≡ _before.now.all + 1) × (result.lanes ≡ _before.now.lanes) }
+    {
+        CoreCount { seal: () }
+    }
+}
+
+const _: () = prove!(size_of::<CoreCount>() == 0);

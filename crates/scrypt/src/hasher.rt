@@ -1,0 +1,87 @@
+// The value that derives keys, hashes passwords and verifies them.
+
+ghost use Rattle.std.specs.Prelude.{◌≡◌, ℕ, List, length};
+ghost use Rattle.scrypt.specs.Accepted.{IsOutputLen, Parameters, recommended_parameters};
+ghost use Rattle.scrypt.specs.Derives.{KeyIsRefused, key_by};
+
+use crate::{DeriveError, Params, scrypt};
+use password_hash::kdf::{self, Kdf, Pbkdf};
+use std::alloc::Global;
+use std::marker::Model;
+
+/// scrypt as a password hashing function, with parameters of its own.
+///
+/// It derives keys and makes hashes with these parameters. A verifier never uses them: it takes
+/// those of the hash.
+#[derive(Clone, Copy, Debug, Default, PartialEq)]
+pub struct Scrypt {
+    params: Params,
+}
+
+impl Model for Scrypt {
+    ghost use Rattle.scrypt.specs.Accepted.{Parameters};
+
+    ghost Value = { Parameters };
+
+    ghost view = { λ a. a.params };
+
+    ghost inverse = { λ c. record { params = c } };
+}
+
+impl Scrypt {
+    /// scrypt with the recommended parameters.
+    pub fn new() -> Scrypt
+        ensures { result ≡ recommended_parameters }
+    {
+        Scrypt::new_with_params(Params::RECOMMENDED)
+    }
+
+    /// scrypt with these parameters.
+    pub fn new_with_params(params: Params) -> Scrypt
+        ensures { result ≡ params }
+    {
+        Scrypt { params }
+    }
+
+    /// The parameters that this value hashes with.
+    pub(crate) fn params(&self) -> Params
+        ensures { result ≡ self.now }
+    {
+        self.params
+    }
+}
+
+impl From<Params> for Scrypt {
+    ghost from_gives = { λ params scrypt. scrypt ≡ params };
+
+    fn from(params: Params) -> Scrypt {
+        Scrypt::new_with_params(params)
+    }
+}
+
+impl Kdf for Scrypt {
+    ghost derives = { λ scrypt password salt out. out ≡ key_by scrypt password salt (length out) };
+
+    ghost refuses = { λ scrypt password salt len e. KeyIsRefused len e };
+
+    /// Derives the scrypt key of `out.len()` bytes with this value's own parameters
+    /// (RFC 7914, section 6).
+    ///
+    /// Answers `Refused` exactly where `out` does not have 1 to 137438953440 bytes, and else
+    /// `OutOfMemory` where a buffer could not be had. A refusal leaves `out` as it was.
+    fn derive_key(
+        &self,
+        alloc: Global,
+        password: &[u8],
+        salt: &[u8],
+        out: &mut [u8],
+    ) -> kdf::Result<()> {
+        match scrypt(alloc, password, salt, &self.params, out) {
+            Ok(()) => Ok(()),
+            Err(DeriveError::InvalidOutputLen) => Err(kdf::Error::Refused),
+            Err(DeriveError::OutOfMemory) => Err(kdf::Error::OutOfMemory),
+        }
+    }
+}
+
+impl Pbkdf for Scrypt {}

@@ -1,0 +1,35 @@
+//! The scrypt key derivation function (RFC 7914), proved against its definition.
+//!
+//! ```rust
+//! use scrypt::{Params, scrypt};
+//!
+//! let params = Params::new(14, 8, 1)?;
+//! let mut key = [0u8; 32];
+//! scrypt(alloc, b"pleaseletmein", b"SodiumChloride", &params, &mut key)?;
+//! ```
+//!
+//! After `Ok` the output is exactly the standard's key. The definitions that the contracts cite
+//! stand in `specs/`, one file a section of a standard.
+#![tactic(auto)]
+
+pub mod block_mix;
+mod cores;
+mod derivation;
+mod errors;
+mod hasher;
+pub mod hmac;
+mod params;
+pub mod pbkdf2;
+pub mod phc;
+pub mod romix;
+pub mod salsa;
+mod words;
+
+pub use cores::CoreCount;
+pub use derivation::{BufferLens, output_len_ok, scrypt, scrypt_counted, scrypt_with_buffers};
+pub use errors::{DeriveError, InvalidOutputLen, InvalidParams};
+pub use hasher::Scrypt;
+pub use params::Params;
+pub use password_hash;
+pub use password_hash::kdf;
+pub use password_hash::kdf::{Kdf, Pbkdf};

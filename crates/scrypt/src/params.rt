@@ -1,0 +1,196 @@
+// Which numbers a derivation takes.
+
+ghost use Rattle.std.specs.Prelude.{◌≡◌, ◌↔◌, ◌+◌, ◌*◌, ◌^◌, ◌<◌, ◌≤◌, IsOk, IfOk, IfSome, IsTrue, None, Some};
+ghost use Rattle.scrypt.specs.Accepted.{AreAccepted, IsStoredLen, recommended_parameters};
+
+use crate::InvalidParams;
+use password_hash::phc::Output;
+use std::marker::Model;
+
+/// The parameters of a derivation: the work factor `N = 2^log_n`, the block size `r` and the
+/// parallelization `p` (RFC 7914, section 2), and perhaps the length of a key that is stored.
+///
+/// Equality compares the four of them, the optional length too.
+#[derive(Clone, Copy, Debug, PartialEq)]
+pub struct Params {
+    log_n: u8,
+    r: u32,
+    p: u32,
+    output_len: Option<usize>,
+}
+
+impl Model for Params {
+    ghost use Rattle.std.specs.Prelude.{◌<◌, ◌≤◌, ◌*◌, ◌^◌, IfSome};
+    ghost use Rattle.scrypt.specs.Accepted.{AreAccepted, Parameters, IsStoredLen};
+
+    ghost Value = { Parameters };
+
+    ghost view = { λ a. record { log_n = a.log_n; r = a.r; p = a.p; output_len = a.output_len } };
+
+    ghost invariant = { λ a. AreAccepted a.log_n a.r a.p × IfSome a.output_len IsStoredLen };
+
+    ghost inverse = { λ c. record { log_n = c.log_n; r = c.r; p = c.p; output_len = c.output_len } };
+}
+
+impl Params {
+    /// The recommended logarithm of the work factor.
+    pub const RECOMMENDED_LOG_N: u8 = 17;
+
+    /// The recommended block size.
+    pub const RECOMMENDED_R: u32 = 8;
+
+    /// The recommended parallelization.
+    pub const RECOMMENDED_P: u32 = 1;
+
+    /// The recommended length of a key in bytes.
+    pub const RECOMMENDED_LEN: usize = 32;
+
+    /// The recommended parameters, with no length.
+    pub const RECOMMENDED: Params = Params {
+        log_n: Params::RECOMMENDED_LOG_N,
+        r: Params::RECOMMENDED_R,
+        p: Params::RECOMMENDED_P,
+        output_len: None,
+    };
+
+    /// Accepts the numbers exactly where, over whole numbers without a greatest value,
+    /// `r > 0`, `p > 0`, `128 * r * 2^log_n < 2^64` and `r * p < 2^30`; else `InvalidParams`.
+    ///
+    /// So `log_n` is at most 56. As in the Rust crate and unlike RFC 7914, section 2, `log_n` may
+    /// be 0, and may be `16 * r` or more.
+    pub fn new(log_n: u8, r: u32, p: u32) -> Result<Params, InvalidParams>
+        ensures accepted { IsOk result ↔ AreAccepted log_n r p }
+        ensures value { IfOk result (λ made. made ≡ record { log_n = log_n; r = r; p = p; output_len = None }) }
+    {
+        if !are_accepted(log_n, r, p) {
+            return Err(InvalidParams);
+        }
+        Ok(Params {
+            log_n,
+            r,
+            p,
+            output_len: None,
+        })
+    }
+
+    /// Accepts the numbers as [`Params::new`] does, together with the length of a key that is
+    /// stored, exactly where it is 10 to 64 bytes; else `InvalidParams`.
+    pub fn new_with_output_len(
+        log_n: u8,
+        r: u32,
+        p: u32,
+        len: usize,
+    ) -> Result<Params, InvalidParams>
+        ensures accepted { IsOk result ↔ AreAccepted log_n r p × IsStoredLen len }
+        ensures value { IfOk result (λ made. made ≡ record { log_n = log_n; r = r; p = p; output_len = Some len }) }
+    {
+        if !(Output::MIN_LENGTH..=Output::MAX_LENGTH).contains(&len) || !are_accepted(log_n, r, p) {
+            return Err(InvalidParams);
+        }
+        Ok(Params {
+            log_n,
+            r,
+            p,
+            output_len: Some(len),
+        })
+    }
+
+    /// The recommended parameters.
+    #[deprecated]
+    pub fn recommended() -> Params
+        ensures { result ≡ recommended_parameters }
+    {
+        Params::RECOMMENDED
+    }
+
+    /// The same numbers, with this length of a key that is stored.
+    pub(crate) fn with_output_len(self, len: usize) -> Params
+        requires { IsStoredLen len }
+        ensures { result ≡ record self { output_len = Some len } }
+    {
+        Params {
+            log_n: self.log_n,
+            r: self.r,
+            p: self.p,
+            output_len: Some(len),
+        }
+    }
+
+    /// The length of a key that is stored, if one was given: 10 to 64 bytes.
+    pub(crate) fn output_len(&self) -> Option<usize>
+        ensures value { result ≡ self.now.output_len }
+        ensures stored { IfSome result IsStoredLen }
+    {
+        self.output_len
+    }
+
+    /// The logarithm of the work factor `N` to base 2, at most 56.
+    #[tactic(auto, using(crate::proofs::AcceptedFacts::small_log_n))]
+    pub fn log_n(&self) -> u8
+        ensures value { result ≡ self.now.log_n }
+        ensures small { result ≤ 56 }
+    {
+        self.log_n
+    }
+
+    /// The work factor `N = 2^log_n`.
+    #[tactic(auto, using(crate::proofs::AcceptedFacts::small_log_n))]
+    pub fn n(&self) -> u64
+        ensures { result ≡ 2 ^ self.now.log_n }
+    {
+        1 << self.log_n
+    }
+
+    /// The block size `r`, at least 1: a chunk and a row of the table have `128 * r` bytes.
+    pub fn r(&self) -> u32
+        ensures value { result ≡ self.now.r }
+        ensures some { 0 < result }
+        ensures table { 128 * result * 2 ^ self.now.log_n < 2 ^ 64 }
+    {
+        self.r
+    }
+
+    /// The parallelization `p`, at least 1: the number of chunks that are mixed.
+    pub fn p(&self) -> u32
+        ensures value { result ≡ self.now.p }
+        ensures some { 0 < result }
+        ensures product { self.now.r * result < 2 ^ 30 }
+    {
+        self.p
+    }
+}
+
+impl Default for Params {
+    ghost is_default = { λ params. params ≡ recommended_parameters };
+
+    fn default() -> Params {
+        Params::RECOMMENDED
+    }
+}
+
+#[tactic(auto, using(crate::proofs::AcceptedFacts::small_log_n, crate::proofs::AcceptedFacts::table_bytes))]
+fn are_accepted(log_n: u8, r: u32, p: u32) -> bool
+    ensures { IsTrue result ↔ AreAccepted log_n r p }
+{
+    if r == 0 {
+        return false;
+    }
+    if p == 0 {
+        return false;
+    }
+    if log_n > 56 {
+        return false;
+    }
+    is_table_small(log_n, r) && u64::from(r) * u64::from(p) < 1 << 30
+}
+
+// Whether a table has fewer than 2^64 bytes: 128 * r * 2^log_n, without its factor 2^7.
+fn is_table_small(log_n: u8, r: u32) -> bool
+    requires { log_n ≤ 56 }
+    ensures { IsTrue result ↔ (r * 2 ^ log_n < 2 ^ 57) }
+{
+    match u64::from(r).checked_mul(1 << log_n) {
+        Some(blocks) => blocks < 1 << 57,
+        None => false,
+    }
+}

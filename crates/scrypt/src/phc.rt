@@ -1,0 +1,11 @@
+//! Password hashes in the PHC string format.
+
+mod costs;
+mod hashing;
+mod key;
+mod verifying;
+
+pub use password_hash::phc::{Ident, Output, PasswordHash, Salt};
+
+/// The name of the algorithm in a PHC text.
+pub const ALG_ID: Ident = Ident::SCRYPT;

@@ -1,0 +1,141 @@
+// Parameters from PHC parameters and hashes, and back.
+
+ghost use Rattle.std.specs.Prelude.{◌≡◌, ◌<◌, ◌≤◌, ℕ, codes, IfOk, IfErr, unwrap_or};
+ghost use Rattle.password_hash.specs.Decimal.{IsDecimal};
+ghost use Rattle.password_hash.specs.Refusal.{BadParam, refusal};
+ghost use Rattle.password_hash.specs.Value.{value_text};
+ghost use Rattle.scrypt.specs.Accepted.{IsStoredLen};
+ghost use Rattle.scrypt.specs.PhcAnswers.{AnswersCosts, AnswersHashCosts, Writes, stored_len};
+ghost use Rattle.scrypt.specs.PhcCosts.{written_pairs};
+
+use crate::Params;
+use password_hash::phc::{ParamsString, PasswordHash, Value};
+use password_hash::{Error, Result};
+
+impl TryFrom<&ParamsString> for Params {
+    type Error = Error;
+
+    ghost try_from_gives = { λ text answer. AnswersCosts text.now answer };
+
+    /// Reads the costs. They begin as the recommended ones, and the first pair that is refused
+    /// decides: `ParamInvalid` of `ln` where it is no decimal of at most 255, of `r` or `p` where
+    /// it is no decimal, and `ParamsInvalid` for any other name. At the end numbers that are not
+    /// accepted are `ParamsInvalid`. The length of the key stays open.
+    fn try_from(text: &ParamsString) -> Result<Params> {
+        costs_of(text)
+    }
+}
+
+// The costs that these parameters of a hash are read as.
+fn costs_of(text: &ParamsString) -> Result<Params>
+    ensures { AnswersCosts text.now result }
+{
+    let mut log_n = Params::RECOMMENDED_LOG_N;
+    let mut r = Params::RECOMMENDED_R;
+    let mut p = Params::RECOMMENDED_P;
+    'pairs: for (name, value) in text.iter() {
+        match name.as_str() {
+            "ln" => log_n = log_n_of(value)?,
+            "r" => r = number_of(value, "r")?,
+            "p" => p = number_of(value, "p")?,
+            _ => return Err(Error::ParamsInvalid),
+        }
+    }
+    match Params::new(log_n, r, p) {
+        Ok(params) => Ok(params),
+        Err(_) => Err(Error::ParamsInvalid),
+    }
+}
+
+// The value of `ln`, a decimal of at most 255.
+fn log_n_of(value: Value<'_>) -> Result<u8>
+    ensures ok { IfOk result (IsDecimal (value_text value.entry)) }
+    ensures small { IfOk result (λ n. n ≤ 255) }
+    ensures refused { IfErr result (λ e. refusal e ≡ BadParam (codes "ln")) }
+    ensures large { IfErr result (λ e. (n : ℕ) → IsDecimal (value_text value.entry) n → 255 < n) }
+{
+    let refused = Err(Error::ParamInvalid { name: "ln" });
+    let Ok(number) = value.decimal() else {
+        return refused;
+    };
+    match u8::try_from(number) {
+        Ok(log_n) => Ok(log_n),
+        Err(_) => refused,
+    }
+}
+
+// The value of a parameter, a decimal.
+fn number_of(value: Value<'_>, name: &'static str) -> Result<u32>
+    ensures ok { IfOk result (IsDecimal (value_text value.entry)) }
+    ensures refused { IfErr result (λ e. refusal e ≡ BadParam name.now) }
+    ensures no_decimal { IfErr result (λ e. (n : ℕ) → ¬ IsDecimal (value_text value.entry) n) }
+{
+    match value.decimal() {
+        Ok(number) => Ok(number),
+        Err(_) => Err(Error::ParamInvalid { name }),
+    }
+}
+
+impl TryFrom<&PasswordHash> for Params {
+    type Error = Error;
+
+    ghost try_from_gives = { λ hash answer. AnswersHashCosts hash.now answer };
+
+    /// Reads the costs of a hash, with the length of its key, or 32 where it has none.
+    ///
+    /// Refuses `Version` where there is a version, and then what reading the parameters refuses.
+    /// The algorithm is not looked at.
+    fn try_from(hash: &PasswordHash) -> Result<Params> {
+        if hash.version.is_some() {
+            return Err(Error::Version);
+        }
+        match costs_of(&hash.params) {
+            Ok(costs) => Ok(costs.with_output_len(stored_len(hash))),
+            Err(refused) => Err(refused),
+        }
+    }
+}
+
+// The length of a hash's key, or 32 where it has none.
+fn stored_len(hash: &PasswordHash) -> usize
+    ensures value { result ≡ stored_len hash.now.hash }
+    ensures stored { IsStoredLen result }
+{
+    match &hash.hash {
+        Some(key) => key.len(),
+        None => Params::RECOMMENDED_LEN,
+    }
+}
+
+impl TryFrom<&Params> for ParamsString {
+    type Error = Error;
+
+    ghost try_from_gives = { λ params answer. Writes params.now answer };
+
+    /// Writes the costs as `ln=..,r=..,p=..` in decimals, which is always `Ok`.
+    fn try_from(params: &Params) -> Result<ParamsString> {
+        Ok(written(params))
+    }
+}
+
+impl TryFrom<Params> for ParamsString {
+    type Error = Error;
+
+    ghost try_from_gives = { λ params answer. Writes params answer };
+
+    /// Writes the costs as `ln=..,r=..,p=..` in decimals, which is always `Ok`.
+    fn try_from(params: Params) -> Result<ParamsString> {
+        Ok(written(&params))
+    }
+}
+
+// The costs as parameters of a hash.
+pub(super) fn written(params: &Params) -> ParamsString
+    ensures { result ≡ written_pairs params.now }
+{
+    let mut text = ParamsString::new();
+    text.add_decimal("ln", u32::from(params.log_n())).unwrap();
+    text.add_decimal("r", params.r()).unwrap();
+    text.add_decimal("p", params.p()).unwrap();
+    text
+}

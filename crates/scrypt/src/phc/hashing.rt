@@ -1,0 +1,93 @@
+// Making PHC hashes.
+
+ghost use Rattle.std.specs.Prelude.{◌≡◌, ◌↔◌, length, true, None, unwrap_or, IsTrue};
+ghost use Rattle.std.specs.Option.{option_map};
+ghost use Rattle.scrypt.specs.Accepted.{IsStoredLen};
+ghost use Rattle.scrypt.specs.PhcHash.{HashIsRefused, IsMadeHash, IsScryptOrNone, made_len};
+
+use crate::phc::ALG_ID;
+use crate::phc::costs::written;
+use crate::phc::key::key_of;
+use crate::{Params, Scrypt};
+use password_hash::phc::{PasswordHash, Salt};
+use password_hash::{CustomizedPasswordHasher, Error, PasswordHasher, Result, Version};
+use std::alloc::Global;
+
+impl PasswordHasher<PasswordHash> for Scrypt {
+    ghost hashes = { λ scrypt password salt hash. IsMadeHash scrypt password salt hash };
+
+    ghost refuses = { λ scrypt password salt why. HashIsRefused salt None None why };
+
+    /// Hashes the password with this value's own parameters.
+    fn hash_password_with_salt(
+        &self,
+        alloc: Global,
+        password: &[u8],
+        salt: &[u8],
+    ) -> Result<PasswordHash> {
+        self.hash_password_with_params(alloc, password, salt, self.params())
+    }
+}
+
+impl CustomizedPasswordHasher<PasswordHash> for Scrypt {
+    type Params = Params;
+
+    ghost customizes = { λ _ password salt id version params hash. IsMadeHash params password salt hash };
+
+    ghost refuses = { λ _ password salt id version params why. HashIsRefused salt id version why };
+
+    /// Hashes the password with these parameters; the key has their length, or 32 bytes.
+    ///
+    /// Refuses in this order: `Algorithm` where one is named that is not `scrypt`, `Version` where
+    /// one is named, `SaltInvalid` where the salt does not have 1 to 64 bytes, and `OutOfMemory`.
+    fn hash_password_customized(
+        &self,
+        alloc: Global,
+        password: &[u8],
+        salt: &[u8],
+        alg_id: Option<&str>,
+        version: Option<Version>,
+        params: Params,
+    ) -> Result<PasswordHash> {
+        if !is_scrypt_or_none(alg_id) {
+            return Err(Error::Algorithm);
+        }
+        if version.is_some() {
+            return Err(Error::Version);
+        }
+        let Ok(salt) = Salt::new(salt) else {
+            return Err(Error::SaltInvalid);
+        };
+        match key_of(alloc, password, salt.as_bytes(), &params, made_len(&params)) {
+            Ok(key) => Ok(PasswordHash {
+                algorithm: ALG_ID,
+                version: None,
+                params: written(&params),
+                salt: Some(salt),
+                hash: Some(key),
+            }),
+            Err(refused) => Err(refused),
+        }
+    }
+}
+
+// Whether no algorithm but scrypt is named.
+fn is_scrypt_or_none(alg_id: Option<&str>) -> bool
+    ensures { IsTrue result ↔ IsScryptOrNone (option_map (λ s. s.now) alg_id.entry) }
+{
+    match alg_id {
+        Some(id) => id == ALG_ID.as_str(),
+        None => true,
+    }
+}
+
+// The length of the key that hashing with these parameters makes.
+fn made_len(params: &Params) -> usize
+    ensures value { result ≡ made_len params.now }
+    ensures stored { IsStoredLen result }
+{
+    match params.output_len() {
+        Some(len) => len,
+        None => Params::RECOMMENDED_LEN,
+    }
+}

@@ -1,0 +1,79 @@
+// Lists of words and their bytes, and the parts that they are cut into.
+
+ghost use Rattle.std.specs.Prelude.{◌≡◌, ◌≢◌, ℕ, ◌+◌, ◌*◌, ◌≤◌, length};
+ghost use Rattle.scrypt.specs.Words.{add_words, xor_words, bytes_of, words_of, block, part};
+
+/// Reads the words of `bytes`, four bytes each in little-endian order.
+pub fn read_words(bytes: &[u8], words: &mut [u32])
+    requires { length bytes.now ≡ 4 * length words.old }
+    ensures { words.new ≡ words_of bytes.now }
+{
+    for i in 0..words.len() {
+        let at = 4 * i;
+        words[i] = u32::from_le_bytes([bytes[at], bytes[at + 1], bytes[at + 2], bytes[at + 3]]);
+    }
+}
+
+/// Writes the bytes of `words`, four each in little-endian order.
+pub fn write_words(words: &[u32], bytes: &mut [u8])
+    requires { length bytes.old ≡ 4 * length words.now }
+    ensures { bytes.new ≡ bytes_of words.now }
+{
+    for i in 0..words.len() {
+        bytes[4 * i..4 * i + 4].copy_from_slice(&words[i].to_le_bytes());
+    }
+}
+
+/// Adds `y` to `x`, word by word.
+#[inline(always)]
+pub fn add_words(x: &mut [u32], y: &[u32])
+    requires { length x.old ≡ length y.now }
+    ensures { x.new ≡ add_words x.old y.now }
+{
+    for i in 0..x.len() {
+        x[i] = x[i].wrapping_add(y[i]);
+    }
+}
+
+/// Takes `y` into `x` by exclusive or, word by word.
+#[inline(always)]
+pub fn xor_words(x: &mut [u32], y: &[u32])
+    requires { length x.old ≡ length y.now }
+    ensures { x.new ≡ xor_words x.old y.now }
+{
+    for i in 0..x.len() {
+        x[i] ^= y[i];
+    }
+}
+
+/// Part `k` of `x`, which is cut into parts of `s` words.
+#[inline(always)]
+pub fn part(x: &[u32], s: usize, k: usize) -> &[u32]
+    requires { k * s + s ≤ length x.now }
+    ensures value { result.now ≡ part s x.now k }
+    ensures len { length result.now ≡ s }
+{
+    &x[k * s..k * s + s]
+}
+
+/// Writes `from` as block `k` of `x`.
+#[inline(always)]
+pub fn put_block(x: &mut [u32], k: usize, from: &[u32; 16])
+    requires { 16 * k + 16 ≤ length x.old }
+    ensures written { block x.new k ≡ from.now }
+    ensures others { (j : ℕ) → j ≢ k → block x.new j ≡ block x.old j }
+{
+    x[16 * k..16 * k + 16].copy_from_slice(from);
+}
+
+/// Writes the exclusive or of `x` and `y`, word by word.
+#[inline(always)]
+pub fn put_xor(out: &mut [u32], x: &[u32], y: &[u32])
+    requires first { length out.old ≡ length x.now }
+    requires second { length x.now ≡ length y.now }
+    ensures { out.new ≡ xor_words x.now y.now }
+{
+    for i in 0..out.len() {
+        out[i] = x[i] ^ y[i];
+    }
+}

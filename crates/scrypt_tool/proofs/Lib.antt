@@ -1,0 +1,4 @@
+pub mod DecimalFacts
+pub mod AskedFacts
+pub mod SixFacts
+pub mod ToldFacts

@@ -1,0 +1,19 @@
+use Rattle.std.proofs.Common.{inr}
+use Rattle.scrypt_tool.proofs.ToldFacts.{answer_fault, answer_line, answer_status, end_fault, end_status}
+use Rattle.scrypt_tool.proofs.run.run.Goals as goal
+
+pub returns-in-Ok-clause-status : goal.returns-in-Ok-clause-status
+returns-in-Ok-clause-status g c = inr (inr (answer_status _ _ _ _ c.in-Ok.ensures.line))
+
+pub returns-in-Ok-clause-line : goal.returns-in-Ok-clause-line
+returns-in-Ok-clause-line g c = λ answered. answer_line _ _ _ _ c.in-Ok.ensures.line
+
+pub returns-in-Ok-clause-fault : goal.returns-in-Ok-clause-fault
+returns-in-Ok-clause-fault g c = λ low told. answer_fault _ _ _ _ _ c.in-Ok.ensures.line
+
+pub returns-in-Err-clause-status : goal.returns-in-Err-clause-status
+returns-in-Err-clause-status g c = end_status _ _ _ _ _ c.tell.ensures.status c.in-Err.ensures.err
+
+pub returns-in-Err-clause-fault : goal.returns-in-Err-clause-fault
+returns-in-Err-clause-fault g c =
+    λ low told. end_fault _ _ _ _ _ _ _ c.tell.ensures.status low (c.tell.ensures.told told) c.in-Err.ensures.err

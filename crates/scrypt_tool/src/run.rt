@@ -1,0 +1,150 @@
+// The program over any reader and any two writers.
+
+ghost use Rattle.std.specs.Prelude.{◌≡◌, ◌⊎◌, ◌↔◌, ◌≤◌, IsTrue, IfOk, IfErr, IfSome, IsErrAnd, OnOk, OnErr, if◌then◌else◌, false, map, string_bytes};
+ghost use Rattle.std.specs.Io.KnownBytes.{Appends, IsAtEnd, Keeps};
+ghost use Rattle.scrypt_tool.specs.Asked.{Refuses};
+ghost use Rattle.scrypt_tool.specs.Fault.{fault_line, status_of};
+ghost use Rattle.scrypt_tool.specs.Told.{AppendsAnswer, IsAnswer, IsTold};
+ghost use Rattle.scrypt_tool.specs.declared.fault.Fault.{Fault};
+ghost use Rattle.scrypt_tool.specs.declared.fault.Fault.TheVariants.{InputFailed, OutOfMemory, OutputFailed};
+
+use crate::command::Command;
+use crate::fault::Fault;
+use std::alloc::Global;
+use std::io::{Read, Write};
+
+/// How a run ended.
+#[derive(Clone, Copy, Debug, PartialEq, Eq)]
+pub struct Ended {
+    /// the exit status, 0 to 4
+    pub status: u8,
+    /// the fault is `input failed`
+    pub input_failed: bool,
+    /// no fault line was due, or one was written whole
+    pub fault_told: bool,
+}
+
+/// Runs the program on its words, the arguments after its name.
+///
+/// It reads the words, then the whole input, works out the line that answers them, and writes this
+/// line at once. The status is 0 after the line was written, and 2 where the words are refused: then
+/// the input is not read. It is 3 where memory was refused, and 4 where the input or the output
+/// failed. Only after `output failed` may a part of the line have been written. The fault line goes
+/// to `faults` by one `write_all`; where that fails, the status stays what it is.
+pub fn run<R: Read, W: Write, F: Write>(
+    alloc: Global,
+    words: &[String],
+    reader: &mut R,
+    writer: &mut W,
+    faults: &mut F,
+) -> Ended
+    ensures status { (result.status ≡ 3) ⊎ (result.status ≡ 4)
+        ⊎ IsTold (map string_bytes words.now) (R.remaining reader.old)
+        (λ told. result.status ≡ told.status) }
+    ensures line { IsAnswer result.status →
+        IsTold (map string_bytes words.now) (R.remaining reader.old)
+        (λ told. (result.status ≡ told.status)
+        × Appends (W.contents writer.old) (W.contents writer.new) told.line) }
+    ensures fault { result.status ≤ 2 → IsTrue result.fault_told →
+        IsTold (map string_bytes words.now) (R.remaining reader.old)
+        (λ told. (result.status ≡ told.status)
+        × Appends (F.contents faults.old) (F.contents faults.new) told.fault) }
+
+    // What stops a run.
+    ensures out_of_memory { result.status ≡ 3 → IsTrue result.fault_told →
+        Appends (F.contents faults.old) (F.contents faults.new) (fault_line OutOfMemory) }
+    ensures failed { result.status ≡ 4 → IsTrue result.fault_told →
+        Appends (F.contents faults.old) (F.contents faults.new)
+        (fault_line (if result.input_failed then InputFailed else OutputFailed)) }
+    ensures input_failed { IsTrue result.input_failed → result.status ≡ 4 }
+    ensures nothing { (result.status ≡ 2) ⊎ (result.status ≡ 3) ⊎ IsTrue result.input_failed →
+        Keeps (W.contents writer.old) (W.contents writer.new) }
+
+    // With every reader: words that are refused leave it unread, and a line needs all of it.
+    ensures refused { (fault : Fault) → Refuses (map string_bytes words.now) fault →
+        ((result.status ≡ 2) ⊎ (result.status ≡ 3))
+        × Keeps (R.remaining reader.old) (R.remaining reader.new) }
+    ensures read { IsAnswer result.status ⊎ ((result.status ≡ 4) × (result.input_failed ≡ false)) →
+        IsAtEnd (R.remaining reader.new) }
+    ensures done { IsAnswer result.status → IsTrue result.fault_told
+        × Keeps (F.contents faults.old) (F.contents faults.new) }
+{
+    match answer(alloc, words, reader, writer) {
+        Ok(()) => Ended {
+            status: 0,
+            input_failed: false,
+            fault_told: true,
+        },
+        Err(fault) => tell(fault, faults),
+    }
+}
+
+// Does the work in its order, up to the line that answers the words.
+fn answer<R: Read, W: Write>(
+    alloc: Global,
+    words: &[String],
+    reader: &mut R,
+    writer: &mut W,
+) -> Result<(), Fault>
+    ensures line { OnOk result (AppendsAnswer (map string_bytes words.now) (R.remaining reader.old)
+        (W.contents writer.old) (W.contents writer.new)) }
+    ensures read { OnOk result (IsAtEnd (R.remaining reader.new)) }
+    ensures err { IfErr result (λ fault. Refuses (map string_bytes words.now) fault
+        ⊎ (fault ≡ OutOfMemory) ⊎ (fault ≡ InputFailed)
+        ⊎ ((fault ≡ OutputFailed) × IsAtEnd (R.remaining reader.new))) }
+    ensures nothing { IfErr result (λ fault. (fault ≡ OutputFailed)
+        ⊎ Keeps (W.contents writer.old) (W.contents writer.new)) }
+    ensures refused { (refusal : Fault) → Refuses (map string_bytes words.now) refusal →
+        IsErrAnd result (λ fault. Refuses (map string_bytes words.now) fault ⊎ (fault ≡ OutOfMemory))
+        × Keeps (R.remaining reader.old) (R.remaining reader.new) }
+{
+    let command = Command::read(alloc, words)?;
+    let input = read_all(alloc, reader)?;
+    let line = command.line(alloc, &input)?;
+    write_line(writer, line.as_str())
+}
+
+// Every byte of the input.
+fn read_all<R: Read>(alloc: Global, reader: &mut R) -> Result<Vec<u8>, Fault>
+    ensures ok { IfOk result (λ bytes. IfSome (R.remaining reader.old) (λ input. bytes.items ≡ input)) }
+    ensures read { OnOk result (IsAtEnd (R.remaining reader.new)) }
+    ensures err { IfErr result (λ fault. (fault ≡ OutOfMemory) ⊎ (fault ≡ InputFailed)) }
+{
+    let mut input = Vec::new(alloc);
+    let mut buffer = [0u8; 1024];
+    'reads: for _ in 0..u64::MAX {
+        let Ok(n) = reader.read(&mut buffer) else {
+            return Err(Fault::InputFailed);
+        };
+        if n == 0 {
+            return Ok(input);
+        }
+        input.extend_from_slice(&buffer[..n])?;
+    }
+    Err(Fault::InputFailed)
+}
+
+// Writes the whole line at once, and flushes it.
+fn write_line<W: Write>(writer: &mut W, line: &str) -> Result<(), Fault>
+    ensures ok { OnOk result (Appends (W.contents writer.old) (W.contents writer.new) line.now) }
+    ensures err { IfErr result (λ fault. fault ≡ OutputFailed) }
+{
+    if writer.write_all(line.as_bytes()).is_err() || writer.flush().is_err() {
+        return Err(Fault::OutputFailed);
+    }
+    Ok(())
+}
+
+// Ends the run with this fault, and writes its line.
+fn tell<F: Write>(fault: Fault, faults: &mut F) -> Ended
+    ensures status { result.status ≡ status_of fault }
+    ensures failed { IsTrue result.input_failed ↔ (fault ≡ InputFailed) }
+    ensures told { IsTrue result.fault_told →
+        Appends (F.contents faults.old) (F.contents faults.new) (fault_line fault) }
+{
+    Ended {
+        status: fault.status(),
+        input_failed: fault == Fault::InputFailed,
+        fault_told: faults.write_all(fault.line().as_bytes()).is_ok(),
+    }
+}

@@ -1,0 +1,134 @@
+// Words that are refused, over a reader that fails: it is never read.
+
+use super::streams::{Input, Page};
+use super::{USAGE, tell};
+use crate::run::Ended;
+use std::alloc::Global;
+use std::io::ErrorKind;
+use std::process::Abort;
+use std::test::Fail;
+
+const SALT: &str = "salt is not hexadecimal\n";
+
+const PARAMS: &str = "invalid scrypt parameters\n";
+
+const LENGTH: &str = "invalid output buffer length\n";
+
+fn refused(rt: &impl Abort, alloc: Global, line: &str, fault: &str) -> Result<(), Fail> {
+    let mut input = Input::failing(b"", ErrorKind::Other);
+    let told = tell(alloc, line, &mut input, Page::new(), Page::new())?;
+    let ended = Ended {
+        status: 2,
+        input_failed: false,
+        fault_told: true,
+    };
+    assert_eq!(rt; told.ended, ended, "{line}");
+    assert_eq!(rt; told.output.text(), b"".as_slice(), "{line}");
+    assert_eq!(rt; told.faults.text(), fault.as_bytes(), "{line}");
+    Ok(())
+}
+
+// A line of words, and its fault line.
+const REFUSALS: [(&str, &str); 9] = [
+    ("key 04 1 1 64 ", USAGE),
+    ("key 4 1 1 64 0", SALT),
+    ("key 4 1 1 64 0g", SALT),
+    ("key 4 1 1 64 0x", SALT),
+    ("key 4 65536 65536 64 ", PARAMS),
+    ("key 4 0 1 64 ", PARAMS),
+    ("key 57 1 1 64 ", PARAMS),
+    ("key 4 1 1 0 ", LENGTH),
+    ("key 4 1 1 137438953441 ", LENGTH),
+];
+
+#[test]
+fn each_refusal(rt: HostRuntime) -> Result<(), Fail> {
+    for (line, fault) in REFUSALS {
+        refused(&rt, rt.alloc(), line, fault)?;
+    }
+    Ok(())
+}
+
+// The first thing that is wrong is told.
+const SEVERAL_WRONG: [(&str, &str); 4] = [
+    ("key 4 1 1 00 0", USAGE),
+    ("key 4 0 0 0 0", SALT),
+    ("key 4 0 1 0 ", PARAMS),
+    ("key 4 1 1 0 00", LENGTH),
+];
+
+#[test]
+fn first_of_several_refusals(rt: HostRuntime) -> Result<(), Fail> {
+    for (line, fault) in SEVERAL_WRONG {
+        refused(&rt, rt.alloc(), line, fault)?;
+    }
+    Ok(())
+}
+
+// A number below its bound is read, and then refused as a parameter or as a length.
+const NUMBERS: [(&str, &str); 17] = [
+    ("key 255 1 1 64 ", PARAMS),
+    ("key 256 1 1 64 ", USAGE),
+    ("key 4 4294967295 1 64 ", PARAMS),
+    ("key 4 4294967296 1 64 ", USAGE),
+    ("key 4 1 4294967295 64 ", PARAMS),
+    ("key 4 1 4294967296 64 ", USAGE),
+    ("key 4 1 1 18446744073709551615 ", LENGTH),
+    ("key 4 1 1 18446744073709551616 ", USAGE),
+    ("key +4 1 1 64 ", USAGE),
+    ("key -4 1 1 64 ", USAGE),
+    ("key 00 1 1 64 ", USAGE),
+    ("key 4 01 1 64 ", USAGE),
+    ("key 4 1 +1 64 ", USAGE),
+    ("key 4 1 1 064 ", USAGE),
+    ("key 4 1 1 0x40 ", USAGE),
+    ("key 4 1 1  64", USAGE),
+    ("key 4\t 1 1 64 ", USAGE),
+];
+
+#[test]
+fn numbers_at_their_bounds(rt: HostRuntime) -> Result<(), Fail> {
+    for (line, fault) in NUMBERS {
+        refused(&rt, rt.alloc(), line, fault)?;
+    }
+    Ok(())
+}
+
+// Wrong words, and commands of the usage line that are not there yet.
+const NO_COMMANDS: [&str; 10] = [
+    "",
+    "key",
+    "key 4 1 1 64",
+    "key 4 1 1 64 00 00",
+    "KEY 4 1 1 64 ",
+    "keys 4 1 1 64 ",
+    "hash phc 4 1 1 ",
+    "hash mcf 4 1 1 ",
+    "verify $7$2/..../....$",
+    "verify",
+];
+
+#[test]
+fn words_of_no_command(rt: HostRuntime) -> Result<(), Fail> {
+    for line in NO_COMMANDS {
+        refused(&rt, rt.alloc(), line, USAGE)?;
+    }
+    Ok(())
+}
+
+// The table of these parameters would have 2^63 bytes.
+#[test]
+fn memory_that_cannot_be_had(rt: HostRuntime) -> Result<(), Fail> {
+    let input = &mut b"".as_slice();
+    let told = tell(
+        rt.alloc(),
+        "key 56 1 1 32 ",
+        input,
+        Page::new(),
+        Page::new(),
+    )?;
+    assert_eq!(rt; (told.ended.status, told.ended.fault_told), (3, true));
+    assert_eq!(rt; told.output.text(), b"".as_slice());
+    assert_eq!(rt; told.faults.text(), b"out of memory\n".as_slice());
+    Ok(())
+}
