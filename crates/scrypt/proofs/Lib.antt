@@ -1,11 +1,13 @@
 pub mod AcceptedFacts
 pub mod WordFacts
 pub mod PartFacts
+pub mod OrderFacts
+pub mod LaneFacts
 pub mod SalsaFacts
 pub mod BlockMixFacts
 pub mod IntegerifyFacts
-pub mod Pbkdf2Facts
 pub mod RoMixFacts
+pub mod Pbkdf2Facts
 pub mod KeyFacts
 pub mod StandardFacts
 pub mod PhcCostsFacts

@@ -1,8 +1,8 @@
 -- Facts on a list as rows of s words_of each.
-use Rattle.std.proofs.Common.{◌≡◌, ◌≢◌, ℕ, zero, suc, ◌<◌, ◌≤◌, ◌+◌, ◌*◌, List, [], ◌∷◌, ◌++◌, length, map, get_or, take, drop, refl, sym, ap, ◌∙◌, arith, inl, inr, add-zero, zero-add}
+use Rattle.std.proofs.Common.{◌≡◌, ◌≢◌, ℕ, zero, suc, ◌<◌, ◌≤◌, ◌+◌, ◌*◌, List, [], ◌∷◌, ◌++◌, length, map, get_or, take, drop, refl, sym, ap, ◌∙◌, arith, inl, inr, add-zero, zero-add, append_assoc}
 use Rattle.std.proofs.Math.Nat.{mul-le-mul_right}
 use Rattle.std.proofs.lemmas.Bool.{cases_lt}
-use Rattle.std.proofs.lemmas.List.{take_at, drop_at, drop-take, drop-drop, take-append-drop, take-take, length-take-le, length-drop, nil_from_length}
+use Rattle.std.proofs.lemmas.List.{take_at, drop_at, drop-take, drop-drop, take-append-drop, take-take, length-take-le, length-append, length-drop, nil_from_length}
 use Rattle.std.proofs.lemmas.Slice.{take-put_mid_below, drop-put_mid}
 use Rattle.std.proofs.lemmas.List.FromFn.{fill_by_all}
 use borrow.Rule.Slice.PartMut.{put_mid}
@@ -55,6 +55,12 @@ module _ (s k : ℕ) (x ys : List ℕ) (a n : ℕ) (at : a ≡ k * s) (size : n 
 pub split_put : (a s : ℕ) (x front back ys : List ℕ) → front ≡ take a x → back ≡ drop a x
     → front ++ (ys ++ drop s back) ≡ put_mid a s x ys
 split_put a s x front back ys is_front is_back = rw (is_front, is_back) refl
+
+-- the first part of a list that begins with it
+pub first_part : (s : ℕ) (xs ys : List ℕ) → length xs ≡ s → part s (xs ++ ys) 0 ≡ xs
+first_part s xs ys full =
+    let none : 0 * s ≡ 0 = omega arith in
+    ap (λ i. take s (drop i (xs ++ ys))) none ∙ take_at xs ys s full
 
 -- part k of what follows the first part
 part_next : (s k : ℕ) (x : List ℕ) → part s (drop s x) k ≡ part s x (suc k)
@@ -111,3 +117,38 @@ parts_of_each g s x b long each =
     let places = fill_by_all (λ k. get_or x k 0) x (length x) 0 refl (λ k h. refl) in
     parts_all (λ k. g (get_or x k 0)) s (length x) b long each
     ∙ sym (flat_map-map g (λ k. get_or x k 0) (range_with_len 0 (length x))) ∙ ap (flat_map g) (sym places)
+
+next_place : (a i : ℕ) → a + 1 + i ≡ a + suc i
+next_place a i = omega arith
+
+-- the length of n parts of s elements each
+pub length-parts : (f : ℕ → List ℕ) (s a n : ℕ) → ((i : ℕ) → i < n → length (f (a + i)) ≡ s)
+    → length (flat_map f (range_with_len a n)) ≡ n * s
+length-parts f s a zero long = omega arith
+length-parts f s a (suc n) long =
+    let first : length (f a) ≡ s = ap (λ i. length (f i)) (sym (add-zero a)) ∙ long 0 (omega arith) in
+    let rest = length-parts f s (a + 1) n (λ i h. ap (λ j. length (f j)) (next_place a i) ∙ long (suc i) (omega arith)) in
+    omega (arith, length-append (f a) (flat_map f (range_with_len (a + 1) n)))
+
+-- part k of them, with more elements behind
+pub part_of_parts : (f : ℕ → List ℕ) (s a n k : ℕ) (ys : List ℕ) → ((i : ℕ) → i < n → length (f (a + i)) ≡ s) → k < n
+    → part s (flat_map f (range_with_len a n) ++ ys) k ≡ f (a + k)
+part_of_parts f s a zero k ys long inside = absurd (omega arith)
+part_of_parts f s a (suc n) zero ys long inside =
+    let first : length (f a) ≡ s = ap (λ i. length (f i)) (sym (add-zero a)) ∙ long 0 inside in
+    let rest = flat_map f (range_with_len (a + 1) n) in
+    ap (λ z. part s z 0) (append_assoc (f a) rest ys) ∙ first_part s (f a) (rest ++ ys) first ∙ ap f (sym (add-zero a))
+part_of_parts f s a (suc n) (suc k) ys long inside =
+    let first : length (f a) ≡ s = ap (λ i. length (f i)) (sym (add-zero a)) ∙ long 0 (omega arith) in
+    let rest = flat_map f (range_with_len (a + 1) n) in
+    ap (λ z. part s z (suc k)) (append_assoc (f a) rest ys) ∙ sym (part_next s k (f a ++ (rest ++ ys)))
+    ∙ ap (λ z. part s z k) (drop_at (f a) (rest ++ ys) s first)
+    ∙ part_of_parts f s (a + 1) n k ys (λ i h. ap (λ j. length (f j)) (next_place a i) ∙ long (suc i) (omega arith)) (omega arith)
+    ∙ ap f (next_place a k)
+
+-- part n + k of a list whose first n parts are known
+pub part_behind : (s n k : ℕ) (xs ys : List ℕ) → length xs ≡ n * s → part s (xs ++ ys) (n + k) ≡ part s ys k
+part_behind s n k xs ys long =
+    let place : (n + k) * s ≡ n * s + k * s = omega arith in
+    ap (λ i. take s (drop i (xs ++ ys))) place ∙ ap (take s) (sym (drop-drop (k * s) (n * s) (xs ++ ys)))
+    ∙ ap (λ z. take s (drop (k * s) z)) (drop_at xs ys (n * s) long)

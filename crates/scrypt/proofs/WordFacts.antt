@@ -1,8 +1,9 @@
 -- Facts on lists of words.
-use Rattle.std.proofs.Common.{◌≡◌, ◌≢◌, below_more, ℕ, ◌<◌, ◌≤◌, ◌+◌, List, length, get_or, set, sym, ap, ◌∙◌, arith}
+use Rattle.std.proofs.Common.{◌≡◌, ◌≢◌, below_more, ℕ, zero, suc, ◌<◌, ◌≤◌, ◌+◌, ◌*◌, List, [], ◌∷◌, length, take, drop, refl, get_or, set, sym, ap, ◌∙◌, arith}
 use Rattle.std.proofs.lemmas.List.{get_or-set_same, get_or-set_other, ext_get_or}
 use Rattle.std.specs.Simd.Lanes.{zip2}
 use Rattle.std.proofs.lemmas.Simd.{length-zip2, get_or-zip2}
+use Rattle.scrypt.specs.Words.{part}
 
 -- a list that holds f of two lists at each place
 pub zip2_all : (f : ℕ → ℕ → ℕ) (x y out : List ℕ) → length out ≡ length x → length x ≡ length y
@@ -31,3 +32,23 @@ merged_more f x0 y i x inside held =
           (rw get_or-set_same now);
       above = λ k h. let ne : k ≢ i = omega arith in rw get_or-set_other (held.above k (omega arith));
     }
+
+zip2-nil : (f : ℕ → ℕ → ℕ) (x : List ℕ) → zip2 f x [] ≡ []
+zip2-nil f [] = refl
+zip2-nil f (a ∷ x) = refl
+
+drop-zip2 : (f : ℕ → ℕ → ℕ) (n : ℕ) (x y : List ℕ) → drop n (zip2 f x y) ≡ zip2 f (drop n x) (drop n y)
+drop-zip2 f zero x y = refl
+drop-zip2 f (suc n) [] y = refl
+drop-zip2 f (suc n) (a ∷ x) [] = sym (zip2-nil f (drop n x))
+drop-zip2 f (suc n) (a ∷ x) (b ∷ y) = drop-zip2 f n x y
+
+take-zip2 : (f : ℕ → ℕ → ℕ) (n : ℕ) (x y : List ℕ) → take n (zip2 f x y) ≡ zip2 f (take n x) (take n y)
+take-zip2 f zero x y = refl
+take-zip2 f (suc n) [] y = refl
+take-zip2 f (suc n) (a ∷ x) [] = refl
+take-zip2 f (suc n) (a ∷ x) (b ∷ y) = ap (λ z. f a b ∷ z) (take-zip2 f n x y)
+
+-- part k of two lists that are joined place by place
+pub part-zip2 : (f : ℕ → ℕ → ℕ) (s k : ℕ) (x y : List ℕ) → part s (zip2 f x y) k ≡ zip2 f (part s x k) (part s y k)
+part-zip2 f s k x y = ap (take s) (drop-zip2 f (k * s) x y) ∙ take-zip2 f s (drop (k * s) x) (drop (k * s) y)

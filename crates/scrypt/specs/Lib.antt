@@ -18,6 +18,8 @@ pub mod Key
 pub mod Accepted
 -- what a derivation costs in cores and in memory
 pub mod Cost
+-- the order in which the lanes hold the words of a block
+pub mod Diagonal
 -- the texts of errors
 pub mod ErrorText
 -- the derived key as a `Kdf` gives it

@@ -4,7 +4,9 @@
 ghost use Rattle.std.specs.Prelude.{◌≡◌, ℕ, ◌+◌};
 ghost use Rattle.std.specs.Borrow.{ftrue};
 ghost use Rattle.scrypt.specs.Salsa.{salsa20_8};
+ghost use Rattle.scrypt.specs.Diagonal.{diagonal_order, standard_order};
 
+pub mod lanes;
 pub mod salsa;
 
 use std::marker::Model;
@@ -36,6 +38,14 @@ impl CoreCount {
     fn after_core(_before: &CoreCount, _from: &[u32; 16], _to: &[u32; 16]) -> CoreCount
         requires { _to.now ≡ salsa20_8 _from.now }
         ensures { (result.all ≡ _before.now.all + 1) × (result.lanes ≡ _before.now.lanes) }
+    {
+        CoreCount { seal: () }
+    }
+
+    // The count after one more core of the lanes, whose input and output stand in diagonal order.
+    fn after_lanes_core(_before: &CoreCount, _from: &[u32; 16], _to: &[u32; 16]) -> CoreCount
+        requires { _to.now ≡ diagonal_order (salsa20_8 (standard_order _from.now)) }
+        ensures { (result.all ≡ _before.now.all + 1) × (result.lanes ≡ _before.now.lanes + 1) }
     {
         CoreCount { seal: () }
     }

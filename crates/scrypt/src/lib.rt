@@ -18,6 +18,8 @@ mod derivation;
 mod errors;
 mod hasher;
 pub mod hmac;
+pub mod laws;
+mod order;
 mod params;
 pub mod pbkdf2;
 pub mod phc;

@@ -1,7 +1,9 @@
 // Lists of words and their bytes, and the parts that they are cut into.
 
-ghost use Rattle.std.specs.Prelude.{◌≡◌, ◌≢◌, ℕ, ◌+◌, ◌*◌, ◌≤◌, length};
+ghost use Rattle.std.specs.Prelude.{◌≡◌, ◌≢◌, ℕ, ◌+◌, ◌*◌, ◌%◌, ◌≤◌, length};
 ghost use Rattle.scrypt.specs.Words.{add_words, xor_words, bytes_of, words_of, block, part};
+
+use std::simd::u32x4;
 
 /// Reads the words of `bytes`, four bytes each in little-endian order.
 pub fn read_words(bytes: &[u8], words: &mut [u32])
@@ -35,17 +37,6 @@ pub fn add_words(x: &mut [u32], y: &[u32])
     }
 }
 
-/// Takes `y` into `x` by exclusive or, word by word.
-#[inline(always)]
-pub fn xor_words(x: &mut [u32], y: &[u32])
-    requires { length x.old ≡ length y.now }
-    ensures { x.new ≡ xor_words x.old y.now }
-{
-    for i in 0..x.len() {
-        x[i] ^= y[i];
-    }
-}
-
 /// Part `k` of `x`, which is cut into parts of `s` words.
 #[inline(always)]
 pub fn part(x: &[u32], s: usize, k: usize) -> &[u32]
@@ -66,14 +57,34 @@ pub fn put_block(x: &mut [u32], k: usize, from: &[u32; 16])
     x[16 * k..16 * k + 16].copy_from_slice(from);
 }
 
-/// Writes the exclusive or of `x` and `y`, word by word.
+/// Part `k` of `x`, which is cut into parts of four words, as the lanes of a vector.
+#[inline(always)]
+pub fn lanes(x: &[u32], k: usize) -> u32x4
+    requires { 4 * k + 4 ≤ length x.now }
+    ensures { result ≡ part 4 x.now k }
+{
+    u32x4::from_slice(part(x, 4, k))
+}
+
+/// Writes four lanes as part `k` of `x`, which is cut into parts of four words.
+#[inline(always)]
+pub fn put_lanes(x: &mut [u32], k: usize, from: u32x4)
+    requires { 4 * k + 4 ≤ length x.old }
+    ensures written { part 4 x.new k ≡ from }
+    ensures others { (j : ℕ) → j ≢ k → part 4 x.new j ≡ part 4 x.old j }
+{
+    from.copy_to_slice(&mut x[4 * k..4 * k + 4]);
+}
+
+/// Writes the exclusive or of `x` and `y`, which have a multiple of four words.
 #[inline(always)]
 pub fn put_xor(out: &mut [u32], x: &[u32], y: &[u32])
     requires first { length out.old ≡ length x.now }
     requires second { length x.now ≡ length y.now }
+    requires fours { length x.now % 4 ≡ 0 }
     ensures { out.new ≡ xor_words x.now y.now }
 {
-    for i in 0..out.len() {
-        out[i] = x[i] ^ y[i];
+    for k in 0..out.len() / 4 {
+        put_lanes(out, k, lanes(x, k) ^ lanes(y, k));
     }
 }

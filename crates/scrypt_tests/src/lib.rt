@@ -7,6 +7,8 @@ mod buffers;
 #[cfg(test)]
 mod derived_keys;
 #[cfg(test)]
+mod lanes;
+#[cfg(test)]
 mod mixing;
 #[cfg(test)]
 mod parameters;

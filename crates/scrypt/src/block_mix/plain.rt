@@ -1,13 +1,11 @@
 //! scryptBlockMix (RFC 7914, section 4) on words in standard order.
 
 ghost use Rattle.std.specs.Prelude.{◌≡◌, ◌+◌, ◌*◌, ◌/◌, ◌%◌, ◌<◌, ◌≤◌, length};
-ghost use Rattle.scrypt.specs.Words.{block, xor_words};
-ghost use Rattle.scrypt.specs.Salsa.{salsa20_8};
 ghost use Rattle.scrypt.specs.BlockMix.{block_mix};
 
 use crate::CoreCount;
-use crate::salsa::core;
-use crate::words::{part, put_block, xor_words};
+use crate::block_mix::mix;
+use crate::order::Standard;
 
 /// Writes the block mix of `input` to `output`, and counts its `2 * r` cores (RFC 7914, section 4).
 ///
@@ -21,27 +19,5 @@ pub fn scrypt_block_mix(input: &[u32], output: &mut [u32], cores: &mut CoreCount
     ensures all { cores.new.all ≡ cores.old.all + 2 * (length input.now / 32) }
     ensures lanes { cores.new.lanes ≡ cores.old.lanes }
 {
-    let r = input.len() / 32;
-    // Step 1: X is the last block.
-    let mut x = [0u32; 16];
-    x.copy_from_slice(part(input, 16, 2 * r - 1));
-    // Steps 2 and 3: Y[2 * i] stands in the first half of the output, Y[2 * i + 1] in the second.
-    'steps: for i in 0..r {
-        step(&mut x, input, 2 * i, cores);
-        put_block(output, i, &x);
-        step(&mut x, input, 2 * i + 1, cores);
-        put_block(output, r + i, &x);
-    }
-}
-
-// X becomes the core of X xor block `i` of the input.
-#[inline(always)]
-fn step(x: &mut [u32; 16], input: &[u32], i: usize, cores: &mut CoreCount)
-    requires { 16 * i + 16 ≤ length input.now }
-    ensures value { x.new ≡ salsa20_8 (xor_words x.old (block input.now i)) }
-    ensures all { cores.new.all ≡ cores.old.all + 1 }
-    ensures lanes { cores.new.lanes ≡ cores.old.lanes }
-{
-    xor_words(x, part(input, 16, i));
-    core(x, cores);
+    mix::<Standard>(input, output, cores);
 }

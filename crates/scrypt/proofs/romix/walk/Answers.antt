@@ -1,35 +1,40 @@
 use Rattle.std.proofs.lemmas.Grind.{common_steps}
-use Rattle.std.proofs.Common.{◌≡◌, ◌^◌, ◌%◌, length, refl, ap, ◌∙◌, arith, add-one}
+use Rattle.std.proofs.Common.{◌≡◌, ◌+◌, ◌*◌, ◌/◌, ◌^◌, length, refl, ap, ◌∙◌, arith}
 use Rattle.std.proofs.lemmas.Nat.{one_shl}
-use Rattle.scrypt.specs.Words.{part, xor_words}
+use Rattle.scrypt.specs.Words.{part}
 use Rattle.scrypt.specs.BlockMix.{block_mix}
-use Rattle.scrypt.specs.RoMix.{row, integerify, walk, ro_mix}
+use Rattle.scrypt.specs.Diagonal.{permuted}
+use Rattle.scrypt.specs.RoMix.{walk, ro_mix}
+use Rattle.scrypt.proofs.RoMixFacts.{more_cores, next_step_in}
 use Rattle.scrypt.proofs.romix.walk.Goals as goal
 
 pub steps-init : goal.steps-init
 unfolding walk
-steps-init c = record { all = omega arith; lanes = refl; value = λ b table start. start }
+steps-init g c = record { all = omega arith; lanes = omega arith; value = λ b table start. start }
 
 pub steps-preserved : goal.steps-preserved
-unfolding walk
-steps-preserved c = record {
-  all = grind (arith, common_steps);
-  lanes = c.scrypt_block_mix.ensures.lanes ∙ c.steps.invariant.lanes;
-  value = λ b table start.
-      let x = c.steps.x in
-      let j = c.integerify_plain-j.result in
-      let same : length x ≡ length c.args.x.now = c.steps.auto.x in
-      let held = c.steps.invariant.value b table start in
-      let taken : c.part.result.now ≡ row b (integerify x % 2 ^ c.args.log_n) =
-      c.part.ensures.value ∙ ap (λ s. part s c.args.v.now j) same
-      ∙ table j c.integerify_plain-j.ensures.inside ∙ ap (row b) c.integerify_plain-j.ensures.value in
-      c.scrypt_block_mix.ensures.value ∙ ap block_mix (c.put_xor.ensures ∙ ap (xor_words x) taken)
-      ∙ ap (λ z. block_mix (xor_words z (row b (integerify z % 2 ^ c.args.log_n)))) held ∙ rw add-one refl;
-}
+steps-preserved g c =
+    let s = length c.args.x.now in
+    let k = c.steps._k in
+    let same : length c.steps.x ≡ s = c.steps.auto.x in
+    let long : length c.put_xor.new.out ≡ s = omega arith in
+    record {
+      all = grind (arith, common_steps);
+      lanes = c.mix.ensures.lanes ∙ ap (λ n. c.steps.cores.lanes + g.O.Order.lanes_of_core * (2 * (n / 32))) long
+          ∙ ap (λ n. n + g.O.Order.lanes_of_core * (2 * (s / 32))) c.steps.invariant.lanes
+          ∙ more_cores _ g.O.Order.lanes_of_core (2 * (s / 32)) k (k + 1) refl;
+      value = λ b table start.
+          let j = c.integerify-j.result in
+          c.mix.ensures.value
+          ∙ ap (λ z. permuted g.O.Order.pivot (block_mix (permuted g.O.Order.inverse_pivot z))) c.put_xor.ensures
+          ∙ next_step_in g.O.Order.pivot g.O.Order.inverse_pivot g.met.O.Order.inverse b c.args.log_n k c.steps.x c.part.result.now j
+          (omega arith) c.part.ensures.len (c.steps.invariant.value b table start) c.integerify-j.ensures.value
+          (c.part.ensures.value ∙ ap (λ n. part n c.args.v.now j) same ∙ table j c.integerify-j.ensures.inside);
+    }
 
 pub returns-clause-value : goal.returns-clause-value
 unfolding ro_mix
-returns-clause-value c b table start =
+returns-clause-value g c b table start =
     let shifted = one_shl c.args.log_n 64 (omega arith) in
     let done : c.steps._k ≡ 2 ^ c.args.log_n = omega (arith, shifted) in
-    c.steps.invariant.value b table start ∙ ap (walk b c.args.log_n) done
+    c.steps.invariant.value b table start ∙ ap (λ k. permuted g.O.Order.pivot (walk b c.args.log_n k)) done

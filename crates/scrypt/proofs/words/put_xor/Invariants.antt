@@ -1,5 +1,7 @@
-use Rattle.std.proofs.Common.{◌≡◌, ℕ, ◌<◌, bit_xor, get_or}
+use Rattle.std.proofs.Common.{◌≡◌, ℕ, ◌<◌, bit_xor}
+use Rattle.std.specs.Simd.Lanes.{zip2}
+use Rattle.scrypt.specs.Words.{part}
 use Rattle.scrypt.proofs.words.put_xor.Given as goal
 
-abbrev pub invariant-loop-i : goal.invariant-loop-i
-invariant-loop-i l = (k : ℕ) → k < l.i → get_or l.out k 0 ≡ bit_xor (get_or l.x k 0) (get_or l.y k 0)
+abbrev pub invariant-loop-k : goal.invariant-loop-k
+invariant-loop-k l = (j : ℕ) → j < l.k → part 4 l.out j ≡ zip2 bit_xor (part 4 l.x j) (part 4 l.y j)

@@ -1,0 +1,7 @@
+use Rattle.scrypt.specs.Diagonal.{inverse_pivot, pivot}
+use Rattle.scrypt.proofs.BlockMixFacts.{block_mix_by}
+use Rattle.scrypt.proofs.OrderFacts.{diagonal_inverse}
+use Rattle.scrypt.proofs.laws.block_mix_in_diagonal_order.Goals as goal
+
+pub returns : goal.returns
+returns c = block_mix_by pivot inverse_pivot diagonal_inverse
