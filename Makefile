@@ -21,7 +21,7 @@ oracle: kit
 
 bench: kit
 	cd crates/scrypt_tool && rt run -- key 0 1 1 1 "" > /dev/null < /dev/null
-	python3 bench/bench.py crates/scrypt_tool/out/scrypt_tool
+	python3 bench/bench.py crates/scrypt_tool/out/scrypt_tool 15 docs/growth.svg
 
 kit:
 	@command -v rt > /dev/null || { \

@@ -1,12 +1,13 @@
 #!/usr/bin/env python3
 """Measures the program against other implementations of scrypt on this machine.
 
-usage: bench.py PROGRAM [RUNS]
+usage: bench.py PROGRAM [RUNS [PICTURE]]
 
 For each cost the implementations take turns, and the least time of RUNS turns (15 if not given)
 counts. The start of the program's process, measured in the same way, is taken off its time. Printed
 are nanoseconds for a Salsa20/8 core, of which there are 4 * N * r * p, and in brackets the time in
-parts of hashlib's, which is OpenSSL's.
+parts of hashlib's, which is OpenSSL's. Then the time of a core over log_n from 10 to 20, which shows
+that time grows with N; with PICTURE, it is drawn there as SVG.
 """
 
 import ctypes
@@ -30,7 +31,7 @@ def program_call(path):
 
 def hashlib_call(log_n, r, p):
     return hashlib.scrypt(
-        PASSWORD, salt=SALT, n=1 << log_n, r=r, p=p, dklen=LENGTH, maxmem=1 << 31
+        PASSWORD, salt=SALT, n=1 << log_n, r=r, p=p, dklen=LENGTH, maxmem=(1 << 31) - 1
     )
 
 
@@ -71,6 +72,42 @@ def least_times(calls, costs, runs):
     return least
 
 
+def growth(calls, start, runs):
+    """Nanoseconds for a core of each implementation, by log_n from 10 to 20, at r = 8 and p = 1."""
+    rows = {}
+    for log_n in range(10, 21):
+        least = least_times(calls, (log_n, 8, 1), max(3, min(runs, 1 << (19 - min(log_n, 19)))))
+        least["this program"] -= start
+        rows[log_n] = {name: s / (32 << log_n) * 1e9 for name, s in least.items()}
+    return rows
+
+
+def picture(rows):
+    """The rows as an SVG: log_n to the right, nanoseconds for a core upwards."""
+    width, height, left, top = 640, 360, 60, 24
+    greatest = max(max(row.values()) for row in rows.values()) * 1.1
+    x = lambda log_n: left + (log_n - 10) * (width - left - 20) / 10
+    y = lambda ns: height - 40 - ns / greatest * (height - 40 - top)
+    parts = [
+        f'<svg xmlns="http://www.w3.org/2000/svg" width="{width}" height="{height}" '
+        'font-family="sans-serif" font-size="12">',
+        f'<rect width="{width}" height="{height}" fill="white"/>',
+        f'<text x="{left}" y="16">nanoseconds for a Salsa20/8 core, r = 8, p = 1</text>',
+    ]
+    for ns in range(0, int(greatest) + 1, 20):
+        parts.append(f'<line x1="{left}" x2="{width - 20}" y1="{y(ns):.1f}" y2="{y(ns):.1f}" stroke="#ddd"/>')
+        parts.append(f'<text x="{left - 8}" y="{y(ns) + 4:.1f}" text-anchor="end">{ns}</text>')
+    for log_n in rows:
+        parts.append(f'<text x="{x(log_n):.1f}" y="{height - 20}" text-anchor="middle">{log_n}</text>')
+    parts.append(f'<text x="{width - 20}" y="{height - 6}" text-anchor="end">log_n</text>')
+    for i, name in enumerate(next(iter(rows.values()))):
+        colour = ["#c00", "#06c", "#080", "#a60"][i % 4]
+        points = " ".join(f"{x(log_n):.1f},{y(row[name]):.1f}" for log_n, row in rows.items())
+        parts.append(f'<polyline points="{points}" fill="none" stroke="{colour}" stroke-width="2"/>')
+        parts.append(f'<text x="{left + 12 + 140 * i}" y="{height - 46}" fill="{colour}">{name}</text>')
+    return "\n".join(parts + ["</svg>"]) + "\n"
+
+
 def main():
     runs = int(sys.argv[2]) if len(sys.argv) > 2 else 15
     ours = program_call(sys.argv[1])
@@ -95,6 +132,15 @@ def main():
         cores = 4 * (1 << log_n) * r * p
         cells = [f"{s / cores * 1e9:.1f} ({s / least['hashlib']:.2f})" for s in least.values()]
         print(f"| {costs} | " + " | ".join(cells) + " |", flush=True)
+    rows = growth(calls, start, runs)
+    print("\nnanoseconds for a core, at r = 8 and p = 1")
+    print("| log_n | " + " | ".join(calls) + " |")
+    print("|---" * (len(calls) + 1) + "|")
+    for log_n, row in rows.items():
+        print(f"| {log_n} | " + " | ".join(f"{ns:.1f}" for ns in row.values()) + " |")
+    if len(sys.argv) > 3:
+        with open(sys.argv[3], "w", encoding="utf-8") as file:
+            file.write(picture(rows))
 
 
 if __name__ == "__main__":
