@@ -1,5 +1,10 @@
 -- Bounds on accepted parameters.
-use Rattle.std.proofs.Common.{◌≡◌, ℕ, ◌*◌, ◌^◌, ◌<◌, ◌≤◌, arith}
+use Rattle.scrypt.specs.Accepted.{Parameters, parameters_eq}
+use Rattle.std.specs.Prelude.{Option, Some, None, nat_eq}
+use Rattle.std.specs.Bool.{Decides}
+use Rattle.std.specs.Option.{option_eq}
+use Rattle.std.proofs.lemmas.Bool.Decides.{Decides-and, Decides-eqb}
+use Rattle.std.proofs.Common.{refl, ap, ◌∙◌, ◌≡◌, ℕ, ◌*◌, ◌^◌, ◌<◌, ◌≤◌, arith}
 use Rattle.std.proofs.Math.Nat.{lt_of_not-le, mul_assoc}
 use Rattle.std.proofs.Math.Pow.{pow_mono}
 use Rattle.std.proofs.lemmas.Nat.{mul-le}
@@ -23,3 +28,21 @@ small_chunks r p few = omega arith
 -- the words of the table, as the code computes them
 pub small_table : (log_n r : ℕ) → 128 * r * 2 ^ log_n < 2 ^ 64 → 2 ^ log_n * (32 * r) < 2 ^ 62
 small_table log_n r fits = omega arith
+
+option_decided : (first second : Option ℕ) → Decides (option_eq nat_eq first second) (first ≡ second)
+option_decided None None = (λ _. refl, λ _. refl)
+option_decided None (Some n) = (λ e. cc, λ e. cc)
+option_decided (Some m) None = (λ e. cc, λ e. cc)
+option_decided (Some m) (Some n) = let same = Decides-eqb m n in (λ e. ap Some (same.0 e), λ e. same.1 cc)
+
+-- the test of parameters tells whether they are equal
+pub parameters_decided : (a b : Parameters) → Decides (parameters_eq a b) (a ≡ b)
+parameters_decided a b =
+    let each = Decides-and _ _ (Decides-and _ _ (option_decided a.output_len b.output_len) (Decides-eqb a.log_n b.log_n))
+    (Decides-and _ _ (Decides-eqb a.r b.r) (Decides-eqb a.p b.p)) in
+    let made = λ (n : Option ℕ) (log_n r p : ℕ). let c : Parameters = record { log_n = log_n; r = r; p = p; output_len = n } in c in (
+      λ e. let same = each.0 e in
+          ap (λ z. made z a.log_n a.r a.p) same.0.0 ∙ ap (λ z. made b.output_len z a.r a.p) same.0.1
+          ∙ ap (λ z. made b.output_len b.log_n z a.p) same.1.0 ∙ ap (λ z. made b.output_len b.log_n b.r z) same.1.1,
+      λ e. each.1 ((ap (λ c. c.output_len) e, ap (λ c. c.log_n) e), (ap (λ c. c.r) e, ap (λ c. c.p) e)),
+    )

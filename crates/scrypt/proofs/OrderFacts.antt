@@ -1,5 +1,5 @@
 -- Facts on words whose blocks are permuted.
-use Rattle.std.proofs.Common.{◌≡◌, ℕ, zero, suc, ◌<◌, ◌≤◌, ◌+◌, ◌*◌, ◌/◌, ◌%◌, List, [], ◌∷◌, length, map, drop, get_or, refl, sym, ap, ap₂, ◌∙◌, bit_xor, arith, lit<, inl, inr, zero-add}
+use Rattle.std.proofs.Common.{◌≡◌, ℕ, ◌<◌, ◌≤◌, ◌+◌, ◌*◌, ◌/◌, ◌%◌, List, length, map, drop, get_or, refl, sym, ap, ap₂, ◌∙◌, arith, lit<, inl, inr, zero-add}
 use Rattle.std.proofs.lemmas.List.{ext_get_or, get_or-take, get_or-drop, get_or-map, length-map}
 use Rattle.std.proofs.lemmas.List.Sums.{AllPass-from_list_all}
 use Rattle.std.proofs.lemmas.Bool.{cases_lt, ltb-true}
@@ -9,7 +9,7 @@ use Rattle.std.specs.List.{list_all, range_with_len}
 use Rattle.std.specs.Prelude.{IsTrue, nat_lt}
 use Rattle.std.specs.Simd.Lanes.{zip2}
 use Rattle.std.proofs.lemmas.Simd.{length-zip2, get_or-zip2}
-use Rattle.scrypt.specs.Words.{block, xor_words}
+use Rattle.scrypt.specs.Words.{block}
 use Rattle.scrypt.specs.Diagonal.{AreInverse, inverse_pivot, permuted, pivot}
 use Rattle.scrypt.proofs.PartFacts.{length-part}
 

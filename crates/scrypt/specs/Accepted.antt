@@ -1,7 +1,11 @@
 -- Which parameters and which output lengths are accepted, over whole numbers without a greatest
 -- value. The bound on p of RFC 7914, section 2, is that on r * p. Of its bounds on N, above 1 and
 -- below 2 ^ (128 * r / 8), neither is asked for; in their place 128 * r * N stays below 2 ^ 64.
-use Rattle.std.specs.Prelude.{ℕ, ◌<◌, ◌≤◌, ◌*◌, ◌^◌, Option, None}
+use Rattle.std.specs.Prelude.{ℕ, ◌<◌, ◌≤◌, ◌*◌, ◌^◌, ◌&&◌, Bool, nat_eq, Option, None}
+use Rattle.std.specs.Option.{option_eq}
+use Rattle.std.specs.Cmp.{IsEquivalence, and_equiv, on_equiv}
+use Rattle.std.specs.Cmp.Lexicographic.{options_equiv}
+use Rattle.std.proofs.lemmas.Cmp.{nat_eq_equiv}
 
 -- the parameters of a derivation, and perhaps the length of a key that is stored with them
 pub record Parameters : Type 0 where
@@ -26,3 +30,15 @@ IsStoredLen n = (10 ≤ n) × (n ≤ 64)
 -- the parameters that are taken where none are given: N of 2 ^ 17, r of 8, p of 1, and no length
 abbrev pub recommended_parameters : Parameters
 recommended_parameters = record { log_n = 17; r = 8; p = 1; output_len = None }
+
+-- the test of parameters: the optional length, log_n, r and p
+abbrev pub parameters_eq : Parameters → Parameters → Bool
+parameters_eq a b =
+    (option_eq nat_eq a.output_len b.output_len && nat_eq a.log_n b.log_n)
+    && (nat_eq a.r b.r && nat_eq a.p b.p)
+
+-- the test of parameters is an equivalence
+pub parameters_eq_equiv : IsEquivalence parameters_eq
+parameters_eq_equiv =
+    and_equiv (and_equiv (on_equiv (λ (c : Parameters). c.output_len) (options_equiv nat_eq_equiv)) (on_equiv (λ (c : Parameters). c.log_n) nat_eq_equiv))
+    (and_equiv (on_equiv (λ (c : Parameters). c.r) nat_eq_equiv) (on_equiv (λ (c : Parameters). c.p) nat_eq_equiv))

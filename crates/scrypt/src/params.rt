@@ -1,7 +1,8 @@
 // Which numbers a derivation takes.
 
 ghost use Rattle.std.specs.Prelude.{◌≡◌, ◌↔◌, ◌+◌, ◌*◌, ◌^◌, ◌<◌, ◌≤◌, IsOk, IfOk, IfSome, IsTrue, None, Some};
-ghost use Rattle.scrypt.specs.Accepted.{AreAccepted, IsStoredLen, recommended_parameters};
+ghost use Rattle.scrypt.specs.Accepted.{AreAccepted, IsStoredLen, parameters_eq, parameters_eq_equiv, recommended_parameters};
+ghost use Rattle.std.specs.Cmp.{partial_equiv_from_equiv};
 
 use crate::InvalidParams;
 use password_hash::phc::Output;
@@ -11,7 +12,7 @@ use std::marker::Model;
 /// parallelization `p` (RFC 7914, section 2), and perhaps the length of a key that is stored.
 ///
 /// Equality compares the four of them, the optional length too.
-#[derive(Clone, Copy, Debug, PartialEq)]
+#[derive(Clone, Copy, Debug)]
 pub struct Params {
     log_n: u8,
     r: u32,
@@ -157,6 +158,24 @@ impl Params {
         ensures product { self.now.r * result < 2 ^ 30 }
     {
         self.p
+    }
+}
+
+impl PartialEq for Params {
+    ghost eq = { parameters_eq };
+
+    ghost laws = { partial_equiv_from_equiv parameters_eq_equiv };
+
+    /// Whether the four are equal: the optional length, `log_n`, `r` and `p`.
+    #[tactic(auto, using(crate::proofs::AcceptedFacts::parameters_decided))]
+    fn eq(&self, other: &Params) -> bool
+        ensures told { result ≡ parameters_eq self.now other.now }
+        ensures exact { IsTrue result ↔ (self.now ≡ other.now) }
+    {
+        self.output_len == other.output_len
+            && self.log_n == other.log_n
+            && self.r == other.r
+            && self.p == other.p
     }
 }
 

@@ -2,7 +2,7 @@
 
 use password_hash::phc::ParamsString;
 use password_hash::{CustomizedPasswordHasher, Error, PasswordHasher, PasswordVerifier};
-use scrypt::phc::{ALG_ID, Ident, PasswordHash};
+use scrypt::phc::{ALG_ID, PasswordHash};
 use scrypt::{InvalidParams, Params, Scrypt};
 use std::alloc::{AllocError, Global};
 use std::test::Fail;
@@ -26,65 +26,68 @@ fn hash_from_passlib(rt: HostRuntime) {
     );
 }
 
+// Texts near that hash, and what verifying `password` against each comes to.
+const CHANGES: [(&str, Result<(), Error>); 14] = [
+    // Missing costs are the recommended ones, so `ln=16` alone is the same hash.
+    (
+        "$scrypt$ln=16$aM15713r3Xsvxbi31lqr1Q$nFNh2CVHVjNldFVKDHDlm4CbdRSCdEBsjjJxD+iCs5E",
+        Ok(()),
+    ),
+    (
+        "$scrypt$p=1,r=8,ln=16$aM15713r3Xsvxbi31lqr1Q$nFNh2CVHVjNldFVKDHDlm4CbdRSCdEBsjjJxD+iCs5E",
+        Ok(()),
+    ),
+    (
+        "$scrypt$ln=16,r=8,p=1$aM15713r3Xsvxbi31lqr1Q$nFNh2CVHVjNldFVKDHDlm4CbdRSCdEBsjjJxD+iCs5F",
+        Err(Error::EncodingInvalid),
+    ),
+    (
+        "$scrypt$v=1$ln=16,r=8,p=1$aM15713r3Xsvxbi31lqr1Q$nFNh2CVHVjNldFVKDHDlm4CbdRSCdEBsjjJxD+iCs5E",
+        Err(Error::Version),
+    ),
+    (
+        "$scrypt$ln=256,r=8,p=1$aM15713r3Xsvxbi31lqr1Q$nFNh2CVHVjNldFVKDHDlm4CbdRSCdEBsjjJxD+iCs5E",
+        Err(Error::ParamInvalid { name: "ln" }),
+    ),
+    (
+        "$scrypt$ln=016,r=8,p=1$aM15713r3Xsvxbi31lqr1Q$nFNh2CVHVjNldFVKDHDlm4CbdRSCdEBsjjJxD+iCs5E",
+        Err(Error::ParamInvalid { name: "ln" }),
+    ),
+    (
+        "$scrypt$ln=16,r=4294967296,p=1$aM15713r3Xsvxbi31lqr1Q$nFNh2CVHVjNldFVKDHDlm4CbdRSCdEBsjjJxD+iCs5E",
+        Err(Error::ParamInvalid { name: "r" }),
+    ),
+    (
+        "$scrypt$ln=16,r=8,p=1,x=1$aM15713r3Xsvxbi31lqr1Q$nFNh2CVHVjNldFVKDHDlm4CbdRSCdEBsjjJxD+iCs5E",
+        Err(Error::ParamsInvalid),
+    ),
+    (
+        "$scrypt$ln=57,r=8,p=1$aM15713r3Xsvxbi31lqr1Q$nFNh2CVHVjNldFVKDHDlm4CbdRSCdEBsjjJxD+iCs5E",
+        Err(Error::ParamsInvalid),
+    ),
+    (
+        "$scrypt$ln=16,r=0,p=1$aM15713r3Xsvxbi31lqr1Q$nFNh2CVHVjNldFVKDHDlm4CbdRSCdEBsjjJxD+iCs5E",
+        Err(Error::ParamsInvalid),
+    ),
+    (
+        "$argon2id$ln=16,r=8,p=1$aM15713r3Xsvxbi31lqr1Q$nFNh2CVHVjNldFVKDHDlm4CbdRSCdEBsjjJxD+iCs5E",
+        Err(Error::Algorithm),
+    ),
+    (
+        "$scrypt$ln=16,r=8,p=1$aM15713r3Xsvxbi31lqr1Q",
+        Err(Error::PasswordInvalid),
+    ),
+    ("$scrypt$ln=16,r=8,p=1", Err(Error::PasswordInvalid)),
+    // Its table would have 2^63 bytes.
+    (
+        "$scrypt$ln=56,r=1,p=1$aA$AAAAAAAAAAAAAA",
+        Err(Error::OutOfMemory),
+    ),
+];
+
 #[test]
 fn changes_of_a_hash(rt: HostRuntime) {
-    for (text, answer) in [
-        // Missing costs are the recommended ones, so `ln=16` alone is the same hash.
-        (
-            "$scrypt$ln=16$aM15713r3Xsvxbi31lqr1Q$nFNh2CVHVjNldFVKDHDlm4CbdRSCdEBsjjJxD+iCs5E",
-            Ok(()),
-        ),
-        (
-            "$scrypt$p=1,r=8,ln=16$aM15713r3Xsvxbi31lqr1Q$nFNh2CVHVjNldFVKDHDlm4CbdRSCdEBsjjJxD+iCs5E",
-            Ok(()),
-        ),
-        (
-            "$scrypt$ln=16,r=8,p=1$aM15713r3Xsvxbi31lqr1Q$nFNh2CVHVjNldFVKDHDlm4CbdRSCdEBsjjJxD+iCs5F",
-            Err(Error::EncodingInvalid),
-        ),
-        (
-            "$scrypt$v=1$ln=16,r=8,p=1$aM15713r3Xsvxbi31lqr1Q$nFNh2CVHVjNldFVKDHDlm4CbdRSCdEBsjjJxD+iCs5E",
-            Err(Error::Version),
-        ),
-        (
-            "$scrypt$ln=256,r=8,p=1$aM15713r3Xsvxbi31lqr1Q$nFNh2CVHVjNldFVKDHDlm4CbdRSCdEBsjjJxD+iCs5E",
-            Err(Error::ParamInvalid { name: "ln" }),
-        ),
-        (
-            "$scrypt$ln=016,r=8,p=1$aM15713r3Xsvxbi31lqr1Q$nFNh2CVHVjNldFVKDHDlm4CbdRSCdEBsjjJxD+iCs5E",
-            Err(Error::ParamInvalid { name: "ln" }),
-        ),
-        (
-            "$scrypt$ln=16,r=4294967296,p=1$aM15713r3Xsvxbi31lqr1Q$nFNh2CVHVjNldFVKDHDlm4CbdRSCdEBsjjJxD+iCs5E",
-            Err(Error::ParamInvalid { name: "r" }),
-        ),
-        (
-            "$scrypt$ln=16,r=8,p=1,x=1$aM15713r3Xsvxbi31lqr1Q$nFNh2CVHVjNldFVKDHDlm4CbdRSCdEBsjjJxD+iCs5E",
-            Err(Error::ParamsInvalid),
-        ),
-        (
-            "$scrypt$ln=57,r=8,p=1$aM15713r3Xsvxbi31lqr1Q$nFNh2CVHVjNldFVKDHDlm4CbdRSCdEBsjjJxD+iCs5E",
-            Err(Error::ParamsInvalid),
-        ),
-        (
-            "$scrypt$ln=16,r=0,p=1$aM15713r3Xsvxbi31lqr1Q$nFNh2CVHVjNldFVKDHDlm4CbdRSCdEBsjjJxD+iCs5E",
-            Err(Error::ParamsInvalid),
-        ),
-        (
-            "$argon2id$ln=16,r=8,p=1$aM15713r3Xsvxbi31lqr1Q$nFNh2CVHVjNldFVKDHDlm4CbdRSCdEBsjjJxD+iCs5E",
-            Err(Error::Algorithm),
-        ),
-        (
-            "$scrypt$ln=16,r=8,p=1$aM15713r3Xsvxbi31lqr1Q",
-            Err(Error::PasswordInvalid),
-        ),
-        ("$scrypt$ln=16,r=8,p=1", Err(Error::PasswordInvalid)),
-        // Its table would have 2^63 bytes.
-        (
-            "$scrypt$ln=56,r=1,p=1$aA$AAAAAAAAAAAAAA",
-            Err(Error::OutOfMemory),
-        ),
-    ] {
+    for (text, answer) in CHANGES {
         assert_eq!(rt; verdict(rt.alloc(), text, b"password"), answer, "{text}");
     }
 }
@@ -143,17 +146,35 @@ fn refusals_of_hashing_in_order(rt: HostRuntime) -> Result<(), Fail> {
     Ok(())
 }
 
+// The costs of a hash, where it has some.
+fn costs_of(hash: &PasswordHash) -> Option<Params> {
+    match Params::try_from(hash) {
+        Ok(params) => Some(params),
+        Err(_) => None,
+    }
+}
+
+// The costs that parameters of a hash are read as.
+fn read_costs(params: &ParamsString) -> Option<Params> {
+    match Params::try_from(params) {
+        Ok(params) => Some(params),
+        Err(_) => None,
+    }
+}
+
 #[test]
 fn costs_of_hashes(rt: HostRuntime) -> Result<(), Fail> {
     let hash = PasswordHash::new(PASSLIB_HASH)?;
-    let params = Params::try_from(&hash)?;
-    assert_eq!(rt; params, Params::new_with_output_len(16, 8, 1, 32)?);
-    assert_ne!(rt; params, Params::new(16, 8, 1)?);
-    assert_eq!(rt; Params::try_from(&hash.params)?, Params::new(16, 8, 1)?);
-    let written = ParamsString::try_from(params)?;
+    let sized = Params::new_with_output_len(16, 8, 1, 32)?;
+    assert_eq!(rt; costs_of(&hash), Some(sized));
+    assert_ne!(rt; sized, Params::new(16, 8, 1)?);
+    assert_eq!(rt; costs_of(&PasswordHash::new("$scrypt$v=1$ln=16")?), None);
+    assert_eq!(rt; read_costs(&hash.params), Some(Params::new(16, 8, 1)?));
+    assert_eq!(rt; read_costs(&ParamsString::new()), Some(Params::RECOMMENDED));
+    let written = ParamsString::try_from(sized)?;
     assert_eq!(rt; written.as_str(), "ln=16,r=8,p=1");
-    assert_eq!(rt; ParamsString::try_from(&params)?, written);
-    assert_eq!(rt; ALG_ID, Ident::new("scrypt")?);
+    assert_eq!(rt; ParamsString::try_from(&sized)?, hash.params);
+    assert_eq!(rt; hash.algorithm, ALG_ID);
     Ok(())
 }
 
