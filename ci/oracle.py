@@ -12,9 +12,13 @@ import random
 import subprocess
 import sys
 
+import phc
 import reference
 
 CASES = 200
+
+# where the verdicts of this repository on mutations of PHC texts are pinned
+MUTATIONS = "crates/scrypt_tests/src/phc_mutations.rt"
 
 
 def run(program, words, password):
@@ -58,7 +62,29 @@ def keys(program, rng):
     return passed, failed, 0
 
 
-PARTS = [keys]
+def phc_mutations(_program, _rng):
+    """The verdicts on texts one character away from PHC texts, which a test of the gate pins."""
+    digest, read, texts = phc.verdicts()
+    with open(MUTATIONS, encoding="utf-8") as test:
+        agree = f'"{digest}"' in test.read()
+    print(f"phc: {texts} texts, of which {read} are read, {'agree' if agree else 'DIFFER'}")
+    return (texts, 0, 0) if agree else (0, texts, 0)
+
+
+def phc_passlib(_program, _rng):
+    """That the hash in the tests is passlib's own: passlib accepts it, and no other password."""
+    try:
+        from passlib.hash import scrypt
+    except ImportError:
+        print("passlib isn't installed: skipped")
+        return 0, 0, 1
+    text = phc.TEXTS[0]
+    good = scrypt.verify("password", text) and not scrypt.verify("invalid", text)
+    print(f"passlib: the hash of the tests {'agrees' if good else 'DIFFERS'}")
+    return (1, 0, 0) if good else (0, 1, 0)
+
+
+PARTS = [keys, phc_mutations, phc_passlib]
 
 
 def main():

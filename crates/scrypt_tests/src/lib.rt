@@ -17,4 +17,6 @@ mod parts;
 #[cfg(test)]
 mod phc_hashes;
 #[cfg(test)]
+mod phc_mutations;
+#[cfg(test)]
 mod values;
