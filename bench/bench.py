@@ -115,7 +115,7 @@ def main():
     calls = {"this program": ours, "hashlib": hashlib_call}
     for name, function in [
         ("sodium", "crypto_pwhash_scryptsalsa208sha256_ll"),
-        ("scrypt-kdf", "scrypt_kdf"),
+        ("scrypt-kdf", "crypto_scrypt"),
     ]:
         call = library_call(name, function)
         if call:
