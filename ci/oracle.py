@@ -7,6 +7,7 @@ Each part prints how many cases agreed; what isn't installed is named and counte
 last line is 'N passed, M failed, K skipped'.
 """
 
+import base64
 import hashlib
 import random
 import subprocess
@@ -62,6 +63,36 @@ def keys(program, rng):
     return passed, failed, 0
 
 
+def phc_text(salt, key, log_n, r, p):
+    """The text of a PHC hash, by Python's Base64."""
+    letters = [base64.b64encode(it).decode().rstrip("=") for it in (salt, key)]
+    return f"$scrypt$ln={log_n},r={r},p={p}${letters[0]}${letters[1]}"
+
+
+def hashes(program, rng):
+    """The commands `hash phc` and `verify` on random passwords, salts, costs and key lengths."""
+    passed = failed = 0
+    for _ in range(CASES):
+        password, salt = some_bytes(rng, 140), some_bytes(rng, 64) + b"!"
+        costs = rng.randrange(8), rng.choice((1, 2, 3, 8)), rng.randrange(1, 4)
+        words = ["hash", "phc", *map(str, costs), salt.hex()]
+        key = expected_key(password, salt, *costs, 64)
+        short = phc_text(salt, key[: rng.randrange(10, 65)], *costs)
+        runs = [
+            (run(program, words, password), (0, phc_text(salt, key[:32], *costs).encode() + b"\n", b"")),
+            (run(program, ["verify", short], password), (0, b"ok\n", b"")),
+            (run(program, ["verify", short], password + b"x"), (1, b"no\n", b"")),
+        ]
+        for got, wanted in runs:
+            if got == wanted:
+                passed += 1
+            else:
+                failed += 1
+                print(f"differs: {words} on {password.hex()}: {got}, wanted {wanted}")
+    print(f"hash phc, verify: {passed} of {3 * CASES} agree with hashlib.scrypt and Python's Base64")
+    return passed, failed, 0
+
+
 def phc_mutations(_program, _rng):
     """The verdicts on texts one character away from PHC texts, which a test of the gate pins."""
     digest, read, texts = phc.verdicts()
@@ -71,20 +102,29 @@ def phc_mutations(_program, _rng):
     return (texts, 0, 0) if agree else (0, texts, 0)
 
 
-def phc_passlib(_program, _rng):
-    """That the hash in the tests is passlib's own: passlib accepts it, and no other password."""
+def phc_passlib(program, rng):
+    """passlib's hashes are verified here and ours there, and the hash in the tests is passlib's."""
     try:
         from passlib.hash import scrypt
     except ImportError:
         print("passlib isn't installed: skipped")
         return 0, 0, 1
     text = phc.TEXTS[0]
-    good = scrypt.verify("password", text) and not scrypt.verify("invalid", text)
-    print(f"passlib: the hash of the tests {'agrees' if good else 'DIFFERS'}")
-    return (1, 0, 0) if good else (0, 1, 0)
+    agree = [scrypt.verify("password", text) and not scrypt.verify("invalid", text)]
+    for _ in range(20):
+        password, salt = some_bytes(rng, 40), some_bytes(rng, 40) + b"!"
+        log_n, r, p = rng.randrange(1, 11), rng.choice((1, 2, 8)), rng.randrange(1, 4)
+        theirs = scrypt.using(salt=salt, rounds=log_n, block_size=r, parallelism=p).hash(password)
+        words = ["hash", "phc", str(log_n), str(r), str(p), salt.hex()]
+        ours = run(program, words, password)[1].decode().strip()
+        agree.append(run(program, ["verify", theirs], password) == (0, b"ok\n", b""))
+        agree.append(run(program, ["verify", theirs], password + b"x") == (1, b"no\n", b""))
+        agree.append(scrypt.verify(password, ours) and not scrypt.verify(password + b"x", ours))
+    print(f"passlib: {sum(agree)} of {len(agree)} hashes agree")
+    return sum(agree), len(agree) - sum(agree), 0
 
 
-PARTS = [keys, phc_mutations, phc_passlib]
+PARTS = [keys, hashes, phc_mutations, phc_passlib]
 
 
 def main():

@@ -1,13 +1,17 @@
 -- What the words ask for, from what each of them is.
-use Rattle.std.proofs.Common.{◌≡◌, ◌⊎◌, ◌^◌, ◌∙◌, ℕ, List, Option, Some, None, Result, Ok, Err, IsErr, IsOk, ap, inl, inr, ok_or, refl, sym}
+use Rattle.std.proofs.Common.{◌≡◌, ◌⊎◌, ◌^◌, ◌∙◌, ℕ, Bool, List, [], ◌∷◌, not, Option, Some, None, Result, Ok, Err, IsErr, IsOk, ap, bytes_eq, codes, false, true, inl, inr, ok_or, refl, sym}
+use Rattle.std.specs.Prelude.{IfErr, IfOk}
 use Rattle.std.specs.Result.{result_ok}
 use Rattle.hex.specs.Hex.{decode_of}
-use Rattle.scrypt.specs.Accepted.{AreAccepted, IsOutputLen}
-use Rattle.scrypt_tool.specs.Asked.{KeyWords, RefusesKey, key_words_of, numbers_of}
+use Rattle.scrypt.specs.Accepted.{AreAccepted, IsOutputLen, Parameters}
+use Rattle.scrypt_tool.specs.Asked.{AreRefused, AreSaltAndParams, AskFor, Asks, AsksBy, HashPhcWords, KeyWords, Refuses, RefusesBy, RefusesSaltOrParams, VerifyPhcWords, Words, hash_words, is_modular_word, key_words, no_params, no_salt, numbers_of, verify_words, words_of}
 use Rattle.scrypt_tool.proofs.DecimalFacts.{UnsignedGives, decimal_gives}
 use Rattle.scrypt_tool.specs.Decimal.{DecimalGives, decimal_below}
+use Rattle.scrypt_tool.specs.Fault.{status_of}
+use Rattle.scrypt_tool.specs.declared.command.Command.{Command}
+use Rattle.scrypt_tool.specs.declared.command.Command.TheVariants.{Key, HashPhc, VerifyPhc}
 use Rattle.scrypt_tool.specs.declared.fault.Fault.{Fault}
-use Rattle.scrypt_tool.specs.declared.fault.Fault.TheVariants.{Usage, SaltNotHex, InvalidParams, InvalidOutputLen, OutOfMemory}
+use Rattle.scrypt_tool.specs.declared.fault.Fault.TheVariants.{Usage, SaltNotHex, InvalidOutputLen, OutOfMemory}
 use Rattle.scrypt_tool.specs.declared.words.Numbers.{Numbers}
 
 pub numbers_found : (log_n_word r_word p_word : List ℕ) (log_n r p : ℕ)
@@ -34,50 +38,69 @@ pub no_p : (log_n_word r_word p_word : List ℕ) (log_n r : ℕ)
 unfolding numbers_of
 no_p log_n_word r_word p_word log_n r h i j = rw h (rw i (rw j refl))
 
-pub no_numbers : (log_n r p len salt_hex : List ℕ)
-    → numbers_of log_n r p ≡ None → key_words_of log_n r p len salt_hex ≡ None
-unfolding key_words_of
-no_numbers log_n r p len salt_hex h = rw h refl
+-- the words of `key` without numbers
+pub no_key_numbers : (log_n r p len salt_hex : List ℕ)
+    → numbers_of log_n r p ≡ None → key_words (log_n ∷ r ∷ p ∷ len ∷ salt_hex ∷ []) ≡ None
+unfolding key_words
+no_key_numbers log_n r p len salt_hex h = rw h refl
 
+-- the words of `key` without a length
 pub no_len : (log_n r p len salt_hex : List ℕ) (numbers : Numbers)
     → numbers_of log_n r p ≡ Some numbers → decimal_below (2 ^ 64) len ≡ None
-    → key_words_of log_n r p len salt_hex ≡ None
-unfolding key_words_of
+    → key_words (log_n ∷ r ∷ p ∷ len ∷ salt_hex ∷ []) ≡ None
+unfolding key_words
 no_len log_n r p len salt_hex numbers h i = rw h (rw i refl)
 
+-- the words of `key`
 pub key_words_found : (log_n r p len_word salt_hex : List ℕ) (numbers : Numbers) (len : ℕ)
     → numbers_of log_n r p ≡ Some numbers → decimal_below (2 ^ 64) len_word ≡ Some len
-    → key_words_of log_n r p len_word salt_hex
-    ≡ Some record { numbers = numbers; len = len; salt_hex = salt_hex }
-unfolding key_words_of
+    → key_words (log_n ∷ r ∷ p ∷ len_word ∷ salt_hex ∷ []) ≡ Some (KeyWords numbers salt_hex len)
+unfolding key_words
 key_words_found log_n r p len_word salt_hex numbers len h i = rw h (rw i refl)
 
+-- a test that fails, and one that is met
+fails : (met : Bool) → true ≡ not met → met ≡ false
+fails true h = absurd cc
+fails false h = refl
+
+is_met : (met : Bool) → false ≡ not met → met ≡ true
+is_met true h = refl
+is_met false h = absurd cc
+
+-- the words of `hash` with another format
+pub no_format : (format log_n r p salt_hex : List ℕ)
+    → true ≡ not (bytes_eq format (codes "phc")) → hash_words (format ∷ log_n ∷ r ∷ p ∷ salt_hex ∷ []) ≡ None
+unfolding hash_words
+no_format format log_n r p salt_hex h = rw (fails _ h) refl
+
+-- the format that is read
+pub is_format : (format : List ℕ) → false ≡ not (bytes_eq format (codes "phc")) → bytes_eq format (codes "phc") ≡ true
+is_format format h = is_met _ h
+
+-- the words of `hash phc` without numbers
+pub no_hash_numbers : (format log_n r p salt_hex : List ℕ)
+    → bytes_eq format (codes "phc") ≡ true → numbers_of log_n r p ≡ None
+    → hash_words (format ∷ log_n ∷ r ∷ p ∷ salt_hex ∷ []) ≡ None
+unfolding hash_words
+no_hash_numbers format log_n r p salt_hex h i = rw h (rw i refl)
+
+-- the words of `hash phc`
+pub hash_words_found : (format log_n r p salt_hex : List ℕ) (numbers : Numbers)
+    → bytes_eq format (codes "phc") ≡ true → numbers_of log_n r p ≡ Some numbers
+    → hash_words (format ∷ log_n ∷ r ∷ p ∷ salt_hex ∷ []) ≡ Some (HashPhcWords numbers salt_hex)
+unfolding hash_words
+hash_words_found format log_n r p salt_hex numbers h i = rw h (rw i refl)
+
+-- words that are those of no command
+pub unread : (words : Option Words) → words ≡ None → RefusesBy words Usage
+unread words h = rw h refl
+
 -- words or numbers that can't be read
-pub usage_refused : {A : Type 0} (read : Option A) (words : Option KeyWords) (fault : Fault)
+pub usage_refused : {A : Type 0} (read : Option A) (words : Option Words) (fault : Fault)
     → ok_or read Usage ≡ Err fault → (read ≡ None → words ≡ None)
-    → (fault ≡ OutOfMemory) ⊎ RefusesKey words fault
+    → (fault ≡ OutOfMemory) ⊎ RefusesBy words fault
 usage_refused (Some x) words fault h unread = absurd cc
-usage_refused None words fault h unread = let is : fault ≡ Usage = cc in rw is (inr (unread refl))
-
--- a salt that can't be read
-pub salt_refused : (words : Option KeyWords) (key : KeyWords) (fault : Fault)
-    → words ≡ Some key → (fault ≡ OutOfMemory) ⊎ ((fault ≡ SaltNotHex) × IsErr (decode_of key.salt_hex))
-    → (fault ≡ OutOfMemory) ⊎ RefusesKey words fault
-salt_refused words key fault found (inl h) = inl h
-salt_refused words key fault found (inr (is, h)) = rw (is, found) (inr h)
-
--- numbers that are no accepted parameters
-pub params_refused : (words : Option KeyWords) (key : KeyWords)
-    → words ≡ Some key → IsOk (decode_of key.salt_hex)
-    → ¬ AreAccepted key.numbers.log_n key.numbers.r key.numbers.p → RefusesKey words InvalidParams
-params_refused words key found salt h = rw found (salt, h)
-
--- a length that no key has
-pub len_refused : (words : Option KeyWords) (key : KeyWords)
-    → words ≡ Some key → IsOk (decode_of key.salt_hex)
-    → AreAccepted key.numbers.log_n key.numbers.r key.numbers.p → ¬ IsOutputLen key.len
-    → RefusesKey words InvalidOutputLen
-len_refused words key found salt accepted h = rw found (salt, accepted, h)
+usage_refused None words fault h unread = let is : fault ≡ Usage = cc in rw (unread refl) (inr is)
 
 -- what could be read is the value
 pub ok_or_found : {A : Type 0} (read : Option A) (answer : Result A Fault) (value : A)
@@ -92,12 +115,108 @@ pub key_words_read : (log_n r p len_word salt_hex : List ℕ) (numbers : Numbers
     → numbers_or_usage ≡ Ok numbers
     → DecimalGives (UnsignedGives 64) len_word read_len → read_len ≡ result_ok len_or_usage
     → len_or_usage ≡ Ok len
-    → key_words_of log_n r p len_word salt_hex
-    ≡ Some record { numbers = numbers; len = len; salt_hex = salt_hex }
+    → key_words (log_n ∷ r ∷ p ∷ len_word ∷ salt_hex ∷ []) ≡ Some (KeyWords numbers salt_hex len)
 key_words_read log_n r p len_word salt_hex numbers len h i j k l m =
     key_words_found log_n r p len_word salt_hex numbers len (sym h ∙ i ∙ ap result_ok j)
     (sym (decimal_gives 64 len_word _ k) ∙ l ∙ ap result_ok m)
 
+-- a salt or parameters that are refused refuse the words of `key`
+pub key_refused : (words : Option Words) (numbers : Numbers) (salt_hex : List ℕ) (len : ℕ) (fault : Fault)
+    → words ≡ Some (KeyWords numbers salt_hex len)
+    → (fault ≡ OutOfMemory) ⊎ RefusesSaltOrParams numbers salt_hex fault
+    → (fault ≡ OutOfMemory) ⊎ RefusesBy words fault
+key_refused words numbers salt_hex len fault found (inl h) = inl h
+key_refused words numbers salt_hex len fault found (inr h) = rw found (inr (inl h))
+
+-- and those of `hash`
+pub hash_refused : (words : Option Words) (numbers : Numbers) (salt_hex : List ℕ) (fault : Fault)
+    → words ≡ Some (HashPhcWords numbers salt_hex)
+    → (fault ≡ OutOfMemory) ⊎ RefusesSaltOrParams numbers salt_hex fault
+    → (fault ≡ OutOfMemory) ⊎ RefusesBy words fault
+hash_refused words numbers salt_hex fault found (inl h) = inl h
+hash_refused words numbers salt_hex fault found (inr h) = rw found (inr h)
+
+-- a length that no key has
+pub len_refused : (words : Option Words) (numbers : Numbers) (salt_hex : List ℕ) (len : ℕ)
+    → words ≡ Some (KeyWords numbers salt_hex len) → IsOk (decode_of salt_hex)
+    → AreAccepted numbers.log_n numbers.r numbers.p → ¬ IsOutputLen len
+    → RefusesBy words InvalidOutputLen
+len_refused words numbers salt_hex len found salt accepted h = rw found (inr (refl, salt, accepted, h))
+
 -- a salt that was read
 pub salt_found : (salt_hex salt : List ℕ) → decode_of salt_hex ≡ Ok salt → IsOk (decode_of salt_hex)
 salt_found salt_hex salt h = rw h refl
+
+-- a salt that can't be read
+pub salt_refused : (numbers : Numbers) (salt_hex : List ℕ) (fault : Fault)
+    → (fault ≡ OutOfMemory) ⊎ ((fault ≡ SaltNotHex) × IsErr (decode_of salt_hex))
+    → (fault ≡ OutOfMemory) ⊎ RefusesSaltOrParams numbers salt_hex fault
+salt_refused numbers salt_hex fault (inl h) = inl h
+salt_refused numbers salt_hex fault (inr (is, h)) = rw is (inr (no_salt h))
+
+-- a salt and parameters that were read are not refused
+not_both_read : {numbers : Numbers} {salt_hex salt : List ℕ} {params : Parameters} {fault : Fault}
+    → AreSaltAndParams numbers salt_hex salt params → RefusesSaltOrParams numbers salt_hex fault → ⊥
+not_both_read read (no_salt h) = let there = rw read.salt_read at h in absurd cc
+not_both_read read (no_params salt h) = h read.accepted
+
+-- words that ask for a command are not refused
+not_both : (words : Words) (command : Command) (fault : Fault) → AskFor words command → AreRefused words fault → ⊥
+not_both (KeyWords numbers salt_hex n) (Key params len salt) fault (read, is, allowed) (inl h) = not_both_read read h
+not_both (KeyWords numbers salt_hex n) (Key params len salt) fault (read, is, allowed) (inr h) = h.3 allowed
+not_both (KeyWords numbers salt_hex n) (HashPhc params salt) fault asks h = asks
+not_both (KeyWords numbers salt_hex n) (VerifyPhc hash) fault asks h = asks
+not_both (HashPhcWords numbers salt_hex) (Key params len salt) fault asks h = asks
+not_both (HashPhcWords numbers salt_hex) (HashPhc params salt) fault read h = not_both_read read h
+not_both (HashPhcWords numbers salt_hex) (VerifyPhc hash) fault asks h = asks
+not_both (VerifyPhcWords text) (Key params len salt) fault asks h = asks
+not_both (VerifyPhcWords text) (HashPhc params salt) fault asks h = asks
+not_both (VerifyPhcWords text) (VerifyPhc hash) fault asks h = h.1 hash asks
+
+-- words that ask for a command are not refused
+pub asked_not_refused : (words : Option Words) (command : Command) (fault : Fault)
+    → AsksBy words command → RefusesBy words fault → ⊥
+asked_not_refused None command fault asks h = asks
+asked_not_refused (Some words) command fault asks h = not_both words command fault asks h
+
+-- the word of `verify` that is no PHC text
+pub modular_word : (text : List ℕ) → is_modular_word text ≡ true → verify_words (text ∷ []) ≡ None
+unfolding verify_words
+modular_word text h = rw h refl
+
+-- the word of `verify`
+pub verify_words_found : (text : List ℕ) → is_modular_word text ≡ false → verify_words (text ∷ []) ≡ Some (VerifyPhcWords text)
+unfolding verify_words
+verify_words_found text h = rw h refl
+
+-- what was read asks for the command, so the words do
+pub asks_as : (words : List (List ℕ)) (read : Option Words) (result : Result Command Fault)
+    → words_of words ≡ read → IfOk result (AsksBy read) → IfOk result (Asks words)
+asks_as words read (Ok command) is h = rw is h
+asks_as words read (Err fault) is h = tt
+
+-- what was read is refused, so the words are
+pub refuses_as : (words : List (List ℕ)) (read : Option Words) (result : Result Command Fault)
+    → words_of words ≡ read → IfErr result (λ fault. (fault ≡ OutOfMemory) ⊎ RefusesBy read fault)
+    → IfErr result (λ fault. (fault ≡ OutOfMemory) ⊎ Refuses words fault)
+refuses_as words read (Ok command) is h = tt
+refuses_as words read (Err fault) is h = rw is h
+
+-- the status of refused words is 2
+salt_status : {numbers : Numbers} {salt_hex : List ℕ} {fault : Fault} → RefusesSaltOrParams numbers salt_hex fault
+    → status_of fault ≡ 2
+salt_status (no_salt h) = refl
+salt_status (no_params h i) = refl
+
+pub refused_status : (words : Option Words) (fault : Fault) → RefusesBy words fault → status_of fault ≡ 2
+refused_status None fault h = rw h refl
+refused_status (Some (KeyWords numbers salt_hex n)) fault (inl h) = salt_status h
+refused_status (Some (KeyWords numbers salt_hex n)) fault (inr h) = rw h.0 refl
+refused_status (Some (HashPhcWords numbers salt_hex)) fault h = salt_status h
+refused_status (Some (VerifyPhcWords text)) fault h = rw h.0 refl
+
+-- what is refused without asking for memory
+pub not_memory : (read : Option Words) (result : Result Command Fault) → IfErr result (RefusesBy read)
+    → IfErr result (λ fault. (fault ≡ OutOfMemory) ⊎ RefusesBy read fault)
+not_memory read (Ok command) h = tt
+not_memory read (Err fault) h = inr h

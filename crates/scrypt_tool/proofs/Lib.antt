@@ -1,4 +1,5 @@
 pub mod DecimalFacts
+pub mod WordsFacts
 pub mod AskedFacts
-pub mod SixFacts
+pub mod FaultFacts
 pub mod ToldFacts

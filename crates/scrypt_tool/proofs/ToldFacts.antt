@@ -1,10 +1,11 @@
 -- What the program tells.
-use Rattle.std.proofs.Common.{◌≡◌, ◌≤◌, ◌⊎◌, ℕ, List, [], Option, Some, None, inl, inr, refl, sym, arith, append-nil}
+use Rattle.std.proofs.Common.{◌≡◌, ◌≤◌, ◌⊎◌, ◌∙◌, ℕ, List, [], Option, Some, None, inl, inr, refl, sym, arith, append-nil}
 use Rattle.std.specs.Io.KnownBytes.{Appends}
+use Rattle.scrypt_tool.proofs.AskedFacts.{refused_status}
 use Rattle.scrypt_tool.specs.Asked.{Refuses}
 use Rattle.scrypt_tool.specs.Fault.{fault_line, status_of}
-use Rattle.scrypt_tool.specs.Told.{AppendsAnswer, IsTold, Told, answer_of, refusal_of}
-use Rattle.scrypt_tool.specs.Told.Tells.{answers, refuses}
+use Rattle.scrypt_tool.specs.Told.{AppendsAnswer, IsDenied, IsTold, Told, answer_of, refusal_of}
+use Rattle.scrypt_tool.specs.Told.Tells.{answers, denies, refuses}
 use Rattle.scrypt_tool.specs.declared.fault.Fault.{Fault}
 use Rattle.scrypt_tool.specs.declared.fault.Fault.TheVariants.{InputFailed, OutOfMemory, OutputFailed}
 
@@ -14,57 +15,74 @@ appends_nothing None = tt
 appends_nothing (Some xs) = sym (append-nil xs)
 
 -- the status of an answer
-pub answer_status : (words : List (List ℕ)) (known old new : Option (List ℕ))
-    → AppendsAnswer words known old new → IsTold words known (λ told. 0 ≡ told.status)
-answer_status words known old new (input, is, (command, asks, appends)) =
-    (input, is, (answer_of command input, answers command asks, refl))
+pub answer_status : (words : List (List ℕ)) (known old new : Option (List ℕ)) (status : ℕ)
+    → AppendsAnswer words known old new status → IsTold words known (λ told. status ≡ told.status)
+answer_status words known old new status (input, is, (command, line, asks, gives, appends)) =
+    (input, is, (answer_of status line, answers command status line asks gives, refl))
 
 -- the line of an answer
-pub answer_line : (words : List (List ℕ)) (known old new : Option (List ℕ))
-    → AppendsAnswer words known old new → IsTold words known (λ told. (0 ≡ told.status) × Appends old new told.line)
-answer_line words known old new (input, is, (command, asks, appends)) =
-    (input, is, (answer_of command input, answers command asks, (refl, appends)))
+pub answer_line : (words : List (List ℕ)) (known old new : Option (List ℕ)) (status : ℕ)
+    → AppendsAnswer words known old new status
+    → IsTold words known (λ told. (status ≡ told.status) × Appends old new told.line)
+answer_line words known old new status (input, is, (command, line, asks, gives, appends)) =
+    (input, is, (answer_of status line, answers command status line asks gives, (refl, appends)))
 
 -- the fault line of an answer
-pub answer_fault : (words : List (List ℕ)) (known old new contents : Option (List ℕ))
-    → AppendsAnswer words known old new
-    → IsTold words known (λ told. (0 ≡ told.status) × Appends contents contents told.fault)
-answer_fault words known old new contents (input, is, (command, asks, appends)) =
-    (input, is, (answer_of command input, answers command asks, (refl, appends_nothing contents)))
+pub answer_fault : (words : List (List ℕ)) (known old new contents : Option (List ℕ)) (status : ℕ)
+    → AppendsAnswer words known old new status
+    → IsTold words known (λ told. (status ≡ told.status) × Appends contents contents told.fault)
+answer_fault words known old new contents status (input, is, (command, line, asks, gives, appends)) =
+    (input, is, (answer_of status line, answers command status line asks gives, (refl, appends_nothing contents)))
 
--- what is told of a refusal, on any input
+-- what is told of words that are refused, on any input
 refusal_told : (words : List (List ℕ)) (known : Option (List ℕ)) (fault : Fault) (P : Told → Type 0)
     → Refuses words fault → P (refusal_of fault) → IsTold words known P
 refusal_told words None fault P h holds = ([], tt, (refusal_of fault, refuses fault h, holds))
 refusal_told words (Some input) fault P h holds =
     (input, refl, (refusal_of fault, refuses fault h, holds))
 
+-- what is told of a command that is refused
+denial_told : (words : List (List ℕ)) (known : Option (List ℕ)) (fault : Fault) (P : Told → Type 0)
+    → IsDenied words known fault → P (refusal_of fault) → IsTold words known P
+denial_told words known fault P (input, is, (command, asks, h)) holds =
+    (input, is, (refusal_of fault, denies command fault asks h, holds))
+
 -- what ends a run without a line: a refusal, or what stops it
-abbrev pub Ends : List (List ℕ) → Type 0 → Fault → Type 0
-Ends words Read fault =
-    Refuses words fault ⊎ (fault ≡ OutOfMemory) ⊎ (fault ≡ InputFailed)
+abbrev pub Ends : List (List ℕ) → Option (List ℕ) → Type 0 → Fault → Type 0
+Ends words known Read fault =
+    Refuses words fault ⊎ IsDenied words known fault ⊎ (fault ≡ OutOfMemory) ⊎ (fault ≡ InputFailed)
     ⊎ ((fault ≡ OutputFailed) × Read)
 
 -- the status of an end without a line
 pub end_status : (words : List (List ℕ)) (known : Option (List ℕ)) (fault : Fault) (Read : Type 0) (status : ℕ)
-    → status ≡ status_of fault → Ends words Read fault
+    → status ≡ status_of fault → Ends words known Read fault
     → (status ≡ 3) ⊎ (status ≡ 4) ⊎ IsTold words known (λ told. status ≡ told.status)
 end_status words known fault Read status is (inl h) =
     inr (inr (refusal_told words known fault (λ told. status ≡ told.status) h is))
-end_status words known fault Read status is (inr (inl h)) = inl (rw h at is)
-end_status words known fault Read status is (inr (inr (inl h))) = inr (inl (rw h at is))
-end_status words known fault Read status is (inr (inr (inr h))) = inr (inl (rw h.0 at is))
+end_status words known fault Read status is (inr (inl h)) =
+    inr (inr (denial_told words known fault (λ told. status ≡ told.status) h is))
+end_status words known fault Read status is (inr (inr (inl h))) = inl (rw h at is)
+end_status words known fault Read status is (inr (inr (inr (inl h)))) = inr (inl (rw h at is))
+end_status words known fault Read status is (inr (inr (inr (inr h)))) = inr (inl (rw h.0 at is))
 
 -- the fault line of an end with status 2
 pub end_fault : (words : List (List ℕ)) (known : Option (List ℕ)) (fault : Fault) (Read : Type 0) (status : ℕ)
     (old new : Option (List ℕ))
-    → status ≡ status_of fault → status ≤ 2 → Appends old new (fault_line fault) → Ends words Read fault
+    → status ≡ status_of fault → status ≤ 2 → Appends old new (fault_line fault) → Ends words known Read fault
     → IsTold words known (λ told. (status ≡ told.status) × Appends old new told.fault)
 end_fault words known fault Read status old new is low appends (inl h) =
     refusal_told words known fault (λ told. (status ≡ told.status) × Appends old new told.fault) h (is, appends)
 end_fault words known fault Read status old new is low appends (inr (inl h)) =
-    let wrong = rw h at is in absurd (omega arith)
+    denial_told words known fault (λ told. (status ≡ told.status) × Appends old new told.fault) h (is, appends)
 end_fault words known fault Read status old new is low appends (inr (inr (inl h))) =
     let wrong = rw h at is in absurd (omega arith)
-end_fault words known fault Read status old new is low appends (inr (inr (inr h))) =
+end_fault words known fault Read status old new is low appends (inr (inr (inr (inl h)))) =
+    let wrong = rw h at is in absurd (omega arith)
+end_fault words known fault Read status old new is low appends (inr (inr (inr (inr h)))) =
     let wrong = rw h.0 at is in absurd (omega arith)
+
+-- the status of an end by refused words
+pub refused_end : (words : List (List ℕ)) (fault : Fault) (status : ℕ) → status ≡ status_of fault
+    → Refuses words fault ⊎ (fault ≡ OutOfMemory) → (status ≡ 2) ⊎ (status ≡ 3)
+refused_end words fault status is (inl h) = inl (is ∙ refused_status _ _ h)
+refused_end words fault status is (inr h) = inr (rw h at is)

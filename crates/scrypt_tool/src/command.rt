@@ -1,16 +1,13 @@
-// What the words ask for, and the line that answers it.
+// What the words ask for.
 
-ghost use Rattle.std.specs.Prelude.{◌≡◌, ◌⊎◌, ◌++◌, IfOk, IfErr, codes, length, map, string_bytes};
-ghost use Rattle.hex.specs.Hex.{encode_lower};
-ghost use Rattle.scrypt.specs.Accepted.{IsOutputLen};
-ghost use Rattle.scrypt.specs.Key.{derived_key};
-ghost use Rattle.scrypt_tool.specs.Asked.{Asks, AsksKey, Refuses, RefusesKey, key_words_of};
-ghost use Rattle.scrypt_tool.specs.Told.{CanAnswer, line_of};
+ghost use Rattle.std.specs.Prelude.{◌≡◌, ◌⊎◌, IfOk, IfErr, map, string_bytes};
+ghost use Rattle.scrypt_tool.specs.Asked.{Asks, AsksBy, AreSaltAndParams, Refuses, RefusesBy, RefusesSaltOrParams, hash_words, key_words, verify_words};
 ghost use Rattle.scrypt_tool.specs.declared.fault.Fault.TheVariants.{OutOfMemory};
 
-use crate::fault::Fault;
-use crate::words::{read_decimal, read_numbers, read_salt};
-use scrypt::{Params, output_len_ok, scrypt};
+use crate::fault::{Fault, HashFault};
+use crate::words::{Numbers, is_modular_word, read_decimal, read_numbers, read_salt};
+use password_hash::phc::PasswordHash;
+use scrypt::{Params, output_len_ok};
 use std::alloc::Global;
 
 /// What the words ask for.
@@ -22,83 +19,104 @@ pub enum Command {
         len: usize,
         salt: Vec<u8>,
     },
+    /// `hash phc LOG_N R P SALT_HEX`: the text of a PHC hash.
+    HashPhc {
+        params: Params,
+        salt: Vec<u8>,
+    },
+    /// `verify HASH` of a PHC text: whether the password is that of the hash.
+    VerifyPhc {
+        hash: PasswordHash,
+    },
 }
 
 impl Command {
     /// Reads the words after the program's name.
     ///
     /// Refuses them for the first of these that is wrong: `Usage`, `SaltNotHex`, `InvalidParams`,
-    /// `InvalidOutputLen`. Answers `OutOfMemory` where the salt could not be had.
+    /// `InvalidOutputLen`, and `HashRefused` by `EncodingInvalid`. Answers `OutOfMemory` where the
+    /// salt could not be had.
     pub fn read(alloc: Global, words: &[String]) -> Result<Command, Fault>
-        ensures ok { IfOk result (λ command. Asks (map string_bytes words.now) command) }
+        ensures ok { IfOk result (Asks (map string_bytes words.now)) }
         ensures err { IfErr result (λ fault.
             (fault ≡ OutOfMemory) ⊎ Refuses (map string_bytes words.now) fault) }
     {
-        match words {
-            [name, log_n, r, p, len, salt_hex] if name.as_str() == "key" => read_key(
-                alloc,
-                log_n.as_str(),
-                r.as_str(),
-                p.as_str(),
-                len.as_str(),
-                salt_hex.as_str(),
-            ),
+        let Some((name, words)) = words.split_first() else {
+            return Err(Fault::Usage);
+        };
+        match name.as_str() {
+            "key" => read_key(alloc, words),
+            "hash" => read_hash(alloc, words),
+            "verify" => read_verify(words),
             _ => Err(Fault::Usage),
-        }
-    }
-
-    /// The line that answers the command on this input, whole and with its newline.
-    pub fn line(&self, alloc: Global, input: &[u8]) -> Result<String, Fault>
-        requires { CanAnswer self.now }
-        ensures ok { IfOk result (λ line. string_bytes line ≡ line_of self.now input.now) }
-        ensures err { IfErr result (λ fault. fault ≡ OutOfMemory) }
-    {
-        match self {
-            Command::Key { params, len, salt } => key_line(alloc, input, salt, params, *len),
         }
     }
 }
 
-// Reads the words of `key`: the numbers first, then the salt, the parameters and the length.
-fn read_key(
-    alloc: Global,
-    log_n: &str,
-    r: &str,
-    p: &str,
-    len: &str,
-    salt_hex: &str,
-) -> Result<Command, Fault>
-    ensures ok { IfOk result (AsksKey
-        (key_words_of log_n.now r.now p.now len.now salt_hex.now)) }
-    ensures err { IfErr result (λ fault. (fault ≡ OutOfMemory) ⊎ RefusesKey
-        (key_words_of log_n.now r.now p.now len.now salt_hex.now) fault) }
+// Reads what stands behind `key`: the numbers first, then the salt, the parameters and the length.
+fn read_key(alloc: Global, words: &[String]) -> Result<Command, Fault>
+    ensures ok { IfOk result (AsksBy (key_words (map string_bytes words.now))) }
+    ensures err { IfErr result (λ fault.
+        (fault ≡ OutOfMemory) ⊎ RefusesBy (key_words (map string_bytes words.now)) fault) }
 {
-    let numbers = read_numbers(log_n, r, p).ok_or(Fault::Usage)?;
-    let len: usize = read_decimal(len).ok_or(Fault::Usage)?;
-    let salt = read_salt(alloc, salt_hex)?;
-    let params = Params::new(numbers.log_n, numbers.r, numbers.p)?;
+    let [log_n, r, p, len, salt_hex] = words else {
+        return Err(Fault::Usage);
+    };
+    let numbers = read_numbers(log_n.as_str(), r.as_str(), p.as_str()).ok_or(Fault::Usage)?;
+    let len: usize = read_decimal(len.as_str()).ok_or(Fault::Usage)?;
+    let (salt, params) = read_salt_and_params(alloc, numbers, salt_hex.as_str())?;
     if !output_len_ok(len) {
         return Err(Fault::InvalidOutputLen);
     }
     Ok(Command::Key { params, len, salt })
 }
 
-// The derived key of `len` bytes in lower-case hexadecimal, and a newline.
-fn key_line(
-    alloc: Global,
-    password: &[u8],
-    salt: &[u8],
-    params: &Params,
-    len: usize,
-) -> Result<String, Fault>
-    requires { IsOutputLen len }
-    ensures ok { IfOk result (λ line. string_bytes line ≡ encode_lower (derived_key password.now
-        salt.now params.now.log_n params.now.r params.now.p len) ++ codes "\n") }
-    ensures err { IfErr result (λ fault. fault ≡ OutOfMemory) }
+// Reads what stands behind `hash`: the format and the numbers first, then the salt and the parameters.
+fn read_hash(alloc: Global, words: &[String]) -> Result<Command, Fault>
+    ensures ok { IfOk result (AsksBy (hash_words (map string_bytes words.now))) }
+    ensures err { IfErr result (λ fault.
+        (fault ≡ OutOfMemory) ⊎ RefusesBy (hash_words (map string_bytes words.now)) fault) }
 {
-    let mut key = vec![in alloc; 0u8; len]?;
-    scrypt(alloc, password, salt, params, &mut key)?;
-    let mut line = hex::encode(alloc, key.as_slice())?;
-    line.push('\n')?;
-    Ok(line)
+    let [format, log_n, r, p, salt_hex] = words else {
+        return Err(Fault::Usage);
+    };
+    if format.as_str() != "phc" {
+        return Err(Fault::Usage);
+    }
+    let numbers = read_numbers(log_n.as_str(), r.as_str(), p.as_str()).ok_or(Fault::Usage)?;
+    let (salt, params) = read_salt_and_params(alloc, numbers, salt_hex.as_str())?;
+    Ok(Command::HashPhc { params, salt })
+}
+
+// Reads what stands behind `verify`, the text of a hash.
+fn read_verify(words: &[String]) -> Result<Command, Fault>
+    ensures ok { IfOk result (AsksBy (verify_words (map string_bytes words.now))) }
+    ensures err { IfErr result (RefusesBy (verify_words (map string_bytes words.now))) }
+{
+    let [text] = words else {
+        return Err(Fault::Usage);
+    };
+    let text = text.as_str();
+    if is_modular_word(text.as_bytes()) {
+        return Err(Fault::Usage);
+    }
+    match PasswordHash::new(text) {
+        Ok(hash) => Ok(Command::VerifyPhc { hash }),
+        Err(_) => Err(Fault::HashRefused(HashFault::EncodingInvalid)),
+    }
+}
+
+// The salt of these digits, and then the parameters of these numbers.
+fn read_salt_and_params(
+    alloc: Global,
+    numbers: Numbers,
+    salt_hex: &str,
+) -> Result<(Vec<u8>, Params), Fault>
+    ensures ok { IfOk result (λ read. AreSaltAndParams numbers salt_hex.now read.0.items read.1) }
+    ensures err { IfErr result (λ fault.
+        (fault ≡ OutOfMemory) ⊎ RefusesSaltOrParams numbers salt_hex.now fault) }
+{
+    let salt = read_salt(alloc, salt_hex)?;
+    let params = Params::new(numbers.log_n, numbers.r, numbers.p)?;
+    Ok((salt, params))
 }

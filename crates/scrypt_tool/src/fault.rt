@@ -1,9 +1,11 @@
 // Why a run ends before its line is written.
 
-ghost use Rattle.std.specs.Prelude.{◌≡◌};
-ghost use Rattle.scrypt_tool.specs.Fault.{fault_line, fault_of, status_of};
+ghost use Rattle.std.specs.Prelude.{◌≡◌, MatchOption};
+ghost use Rattle.password_hash.specs.Refusal.{WrongPassword, refusal};
+ghost use Rattle.scrypt_tool.specs.Fault.{IsTellable, Says, fault_line, fault_of, hash_fault_line, status_of};
 ghost use Rattle.scrypt_tool.specs.declared.fault.Fault.TheVariants.{InvalidOutputLen as BadLength, InvalidParams as BadParams, OutOfMemory};
 
+use password_hash::Error;
 use scrypt::{DeriveError, InvalidParams};
 use std::alloc::AllocError;
 
@@ -18,6 +20,8 @@ pub enum Fault {
     InvalidParams,
     /// LEN is 0, or above 137438953440.
     InvalidOutputLen,
+    /// A hash is not made, read or verified.
+    HashRefused(HashFault),
     /// A growth was refused.
     OutOfMemory,
     /// The input could not be read to its end.
@@ -26,13 +30,60 @@ pub enum Fault {
     OutputFailed,
 }
 
+/// Why a hash is not made, read or verified, where neither memory nor the password is the cause.
+#[derive(Clone, Copy, Debug, PartialEq, Eq)]
+pub enum HashFault {
+    /// The algorithm is not the one of its format.
+    Algorithm,
+    /// The text is not one of a hash.
+    EncodingInvalid,
+    /// The length of the key is not an allowed one.
+    OutputSize,
+    /// The parameter `ln` is no decimal of at most 255.
+    LnInvalid,
+    /// The parameter `r` is no decimal.
+    RInvalid,
+    /// The parameter `p` is no decimal.
+    PInvalid,
+    /// Another parameter stands there, or the numbers are not accepted parameters.
+    ParamsInvalid,
+    /// The length of the salt is not an allowed one.
+    SaltInvalid,
+    /// There is a version.
+    Version,
+}
+
 impl Fault {
+    /// The fault that an error of hashing or verifying is told as, or none for a wrong password.
+    pub fn of(error: Error) -> Option<Fault>
+        requires { IsTellable (refusal error) }
+        ensures { MatchOption result (refusal error ≡ WrongPassword) (λ fault. Says fault (refusal error)) }
+    {
+        Some(Fault::HashRefused(match error {
+            Error::Algorithm => HashFault::Algorithm,
+            Error::EncodingInvalid => HashFault::EncodingInvalid,
+            Error::OutputSize => HashFault::OutputSize,
+            Error::ParamInvalid { name: "ln" } => HashFault::LnInvalid,
+            Error::ParamInvalid { name: "r" } => HashFault::RInvalid,
+            Error::ParamInvalid { .. } => HashFault::PInvalid,
+            Error::ParamsInvalid => HashFault::ParamsInvalid,
+            Error::SaltInvalid => HashFault::SaltInvalid,
+            Error::Version => HashFault::Version,
+            Error::OutOfMemory => return Some(Fault::OutOfMemory),
+            Error::PasswordInvalid => return None,
+        }))
+    }
+
     /// The exit status.
     pub fn status(self) -> u8
         ensures { result ≡ status_of self }
     {
         match self {
-            Fault::Usage | Fault::SaltNotHex | Fault::InvalidParams | Fault::InvalidOutputLen => 2,
+            Fault::Usage
+            | Fault::SaltNotHex
+            | Fault::InvalidParams
+            | Fault::InvalidOutputLen
+            | Fault::HashRefused(_) => 2,
             Fault::OutOfMemory => 3,
             Fault::InputFailed | Fault::OutputFailed => 4,
         }
@@ -49,9 +100,29 @@ impl Fault {
             Fault::SaltNotHex => "salt is not hexadecimal\n",
             Fault::InvalidParams => "invalid scrypt parameters\n",
             Fault::InvalidOutputLen => "invalid output buffer length\n",
+            Fault::HashRefused(why) => why.line(),
             Fault::OutOfMemory => "out of memory\n",
             Fault::InputFailed => "input failed\n",
             Fault::OutputFailed => "output failed\n",
+        }
+    }
+}
+
+impl HashFault {
+    // The fault line, with its newline: the error's name, and that of its parameter.
+    fn line(self) -> &'static str
+        ensures { result.now ≡ hash_fault_line self }
+    {
+        match self {
+            HashFault::Algorithm => "hash refused: Algorithm\n",
+            HashFault::EncodingInvalid => "hash refused: EncodingInvalid\n",
+            HashFault::OutputSize => "hash refused: OutputSize\n",
+            HashFault::LnInvalid => "hash refused: ParamInvalid ln\n",
+            HashFault::RInvalid => "hash refused: ParamInvalid r\n",
+            HashFault::PInvalid => "hash refused: ParamInvalid p\n",
+            HashFault::ParamsInvalid => "hash refused: ParamsInvalid\n",
+            HashFault::SaltInvalid => "hash refused: SaltInvalid\n",
+            HashFault::Version => "hash refused: Version\n",
         }
     }
 }

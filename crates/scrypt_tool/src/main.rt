@@ -1,13 +1,16 @@
-//! The program: derives scrypt keys from the command line.
+//! The program: derives scrypt keys, makes password hashes and verifies them, from the command line.
 //!
 //! ```text
 //! scrypt_tool key LOG_N R P LEN SALT_HEX < password
+//! scrypt_tool hash phc LOG_N R P SALT_HEX < password
+//! scrypt_tool verify HASH < password
 //! ```
 //!
 //! The password is every byte of the standard input; no newline is cut off. The key is written in
-//! lower-case hexadecimal, with a newline.
+//! lower-case hexadecimal, the hash as its text, and the verdict as `ok` or `no` with status 0 or 1.
 #![tactic(auto)]
 
+mod answer;
 mod command;
 mod fault;
 mod run;

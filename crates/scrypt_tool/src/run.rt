@@ -4,7 +4,7 @@ ghost use Rattle.std.specs.Prelude.{◌≡◌, ◌⊎◌, ◌↔◌, ◌≤◌, 
 ghost use Rattle.std.specs.Io.KnownBytes.{Appends, IsAtEnd, Keeps};
 ghost use Rattle.scrypt_tool.specs.Asked.{Refuses};
 ghost use Rattle.scrypt_tool.specs.Fault.{fault_line, status_of};
-ghost use Rattle.scrypt_tool.specs.Told.{AppendsAnswer, IsAnswer, IsTold};
+ghost use Rattle.scrypt_tool.specs.Told.{AppendsAnswer, IsAnswer, IsDenied, IsTold};
 ghost use Rattle.scrypt_tool.specs.declared.fault.Fault.{Fault};
 ghost use Rattle.scrypt_tool.specs.declared.fault.Fault.TheVariants.{InputFailed, OutOfMemory, OutputFailed};
 
@@ -27,10 +27,11 @@ pub struct Ended {
 /// Runs the program on its words, the arguments after its name.
 ///
 /// It reads the words, then the whole input, works out the line that answers them, and writes this
-/// line at once. The status is 0 after the line was written, and 2 where the words are refused: then
-/// the input is not read. It is 3 where memory was refused, and 4 where the input or the output
-/// failed. Only after `output failed` may a part of the line have been written. The fault line goes
-/// to `faults` by one `write_all`; where that fails, the status stays what it is.
+/// line at once. The status is 0 after the line was written, or 1 where the line is `no`. It is 2
+/// where the words are refused, and then the input is not read, or where hashing or verifying
+/// refuses. It is 3 where memory was refused, and 4 where the input or the output failed. Only after
+/// `output failed` may a part of the line have been written. The fault line goes to `faults` by one
+/// `write_all`; where that fails, the status stays what it is.
 pub fn run<R: Read, W: Write, F: Write>(
     alloc: Global,
     words: &[String],
@@ -38,18 +39,14 @@ pub fn run<R: Read, W: Write, F: Write>(
     writer: &mut W,
     faults: &mut F,
 ) -> Ended
-    ensures status { (result.status ≡ 3) ⊎ (result.status ≡ 4)
-        ⊎ IsTold (map string_bytes words.now) (R.remaining reader.old)
-        (λ told. result.status ≡ told.status) }
+    ensures status { (result.status ≡ 3) ⊎ (result.status ≡ 4) ⊎ IsTold
+        (map string_bytes words.now) (R.remaining reader.old) (λ told. result.status ≡ told.status) }
     ensures line { IsAnswer result.status →
-        IsTold (map string_bytes words.now) (R.remaining reader.old)
-        (λ told. (result.status ≡ told.status)
+        IsTold (map string_bytes words.now) (R.remaining reader.old) (λ told. (result.status ≡ told.status)
         × Appends (W.contents writer.old) (W.contents writer.new) told.line) }
     ensures fault { result.status ≤ 2 → IsTrue result.fault_told →
-        IsTold (map string_bytes words.now) (R.remaining reader.old)
-        (λ told. (result.status ≡ told.status)
+        IsTold (map string_bytes words.now) (R.remaining reader.old) (λ told. (result.status ≡ told.status)
         × Appends (F.contents faults.old) (F.contents faults.new) told.fault) }
-
     // What stops a run.
     ensures out_of_memory { result.status ≡ 3 → IsTrue result.fault_told →
         Appends (F.contents faults.old) (F.contents faults.new) (fault_line OutOfMemory) }
@@ -59,19 +56,17 @@ pub fn run<R: Read, W: Write, F: Write>(
     ensures input_failed { IsTrue result.input_failed → result.status ≡ 4 }
     ensures nothing { (result.status ≡ 2) ⊎ (result.status ≡ 3) ⊎ IsTrue result.input_failed →
         Keeps (W.contents writer.old) (W.contents writer.new) }
-
     // With every reader: words that are refused leave it unread, and a line needs all of it.
     ensures refused { (fault : Fault) → Refuses (map string_bytes words.now) fault →
-        ((result.status ≡ 2) ⊎ (result.status ≡ 3))
-        × Keeps (R.remaining reader.old) (R.remaining reader.new) }
+        ((result.status ≡ 2) ⊎ (result.status ≡ 3)) × Keeps (R.remaining reader.old) (R.remaining reader.new) }
     ensures read { IsAnswer result.status ⊎ ((result.status ≡ 4) × (result.input_failed ≡ false)) →
         IsAtEnd (R.remaining reader.new) }
     ensures done { IsAnswer result.status → IsTrue result.fault_told
         × Keeps (F.contents faults.old) (F.contents faults.new) }
 {
     match answer(alloc, words, reader, writer) {
-        Ok(()) => Ended {
-            status: 0,
+        Ok(status) => Ended {
+            status,
             input_failed: false,
             fault_told: true,
         },
@@ -79,17 +74,19 @@ pub fn run<R: Read, W: Write, F: Write>(
     }
 }
 
-// Does the work in its order, up to the line that answers the words.
+// Does the work in its order, up to the line that answers the words, and gives the status.
 fn answer<R: Read, W: Write>(
     alloc: Global,
     words: &[String],
     reader: &mut R,
     writer: &mut W,
-) -> Result<(), Fault>
-    ensures line { OnOk result (AppendsAnswer (map string_bytes words.now) (R.remaining reader.old)
+) -> Result<u8, Fault>
+    ensures line { IfOk result (AppendsAnswer (map string_bytes words.now) (R.remaining reader.old)
         (W.contents writer.old) (W.contents writer.new)) }
+    ensures ok { IfOk result IsAnswer }
     ensures read { OnOk result (IsAtEnd (R.remaining reader.new)) }
     ensures err { IfErr result (λ fault. Refuses (map string_bytes words.now) fault
+        ⊎ IsDenied (map string_bytes words.now) (R.remaining reader.old) fault
         ⊎ (fault ≡ OutOfMemory) ⊎ (fault ≡ InputFailed)
         ⊎ ((fault ≡ OutputFailed) × IsAtEnd (R.remaining reader.new))) }
     ensures nothing { IfErr result (λ fault. (fault ≡ OutputFailed)
@@ -100,8 +97,9 @@ fn answer<R: Read, W: Write>(
 {
     let command = Command::read(alloc, words)?;
     let input = read_all(alloc, reader)?;
-    let line = command.line(alloc, &input)?;
-    write_line(writer, line.as_str())
+    let answer = command.answer(alloc, &input)?;
+    write_line(writer, answer.line.as_str())?;
+    Ok(answer.status)
 }
 
 // Every byte of the input.

@@ -1,6 +1,7 @@
 // The whole program over readers and writers of its own.
 
 mod failures;
+mod hashes;
 mod keys;
 mod refusals;
 mod streams;

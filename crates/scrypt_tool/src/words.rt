@@ -2,7 +2,7 @@
 
 ghost use Rattle.std.specs.Prelude.{◌≡◌, ◌⊎◌, IfOk, IfErr, IsErr, Ok};
 ghost use Rattle.hex.specs.Hex.{decode_of};
-ghost use Rattle.scrypt_tool.specs.Asked.{numbers_of};
+ghost use Rattle.scrypt_tool.specs.Asked.{is_modular_word, numbers_of};
 ghost use Rattle.scrypt_tool.specs.Decimal.{DecimalGives, has_plus_or_zero};
 ghost use Rattle.scrypt_tool.specs.declared.fault.Fault.TheVariants.{OutOfMemory, SaltNotHex};
 
@@ -37,6 +37,14 @@ fn has_plus_or_zero(text: &[u8]) -> bool
     ensures { result ≡ has_plus_or_zero text.now }
 {
     matches!(text, [b'+', ..] | [b'0', _, ..])
+}
+
+/// Whether this is the word `$7` or begins with `$7$`: it is no PHC text.
+#[tactic(auto, unfolding(crate::specs::Asked::is_modular_word))]
+pub fn is_modular_word(text: &[u8]) -> bool
+    ensures { result ≡ is_modular_word text.now }
+{
+    matches!(text, [b'$', b'7'] | [b'$', b'7', b'$', ..])
 }
 
 /// Reads LOG_N, R and P.

@@ -14,6 +14,8 @@ const PARAMS: &str = "invalid scrypt parameters\n";
 
 const LENGTH: &str = "invalid output buffer length\n";
 
+const ENCODING: &str = "hash refused: EncodingInvalid\n";
+
 fn refused(rt: &impl Abort, alloc: Global, line: &str, fault: &str) -> Result<(), Fail> {
     let mut input = Input::failing(b"", ErrorKind::Other);
     let told = tell(alloc, line, &mut input, Page::new(), Page::new())?;
@@ -29,7 +31,7 @@ fn refused(rt: &impl Abort, alloc: Global, line: &str, fault: &str) -> Result<()
 }
 
 // A line of words, and its fault line.
-const REFUSALS: [(&str, &str); 9] = [
+const REFUSALS: [(&str, &str); 17] = [
     ("key 04 1 1 64 ", USAGE),
     ("key 4 1 1 64 0", SALT),
     ("key 4 1 1 64 0g", SALT),
@@ -39,6 +41,14 @@ const REFUSALS: [(&str, &str); 9] = [
     ("key 57 1 1 64 ", PARAMS),
     ("key 4 1 1 0 ", LENGTH),
     ("key 4 1 1 137438953441 ", LENGTH),
+    ("hash phc 04 1 1 00", USAGE),
+    ("hash phc 4 1 1 0", SALT),
+    ("hash phc 4 0 1 00", PARAMS),
+    ("hash phc 57 1 1 00", PARAMS),
+    ("verify ", ENCODING),
+    ("verify $scrypt$", ENCODING),
+    ("verify $8$a", ENCODING),
+    ("verify $scrypt$ln=4,ln=4", ENCODING),
 ];
 
 #[test]
@@ -50,11 +60,13 @@ fn each_refusal(rt: HostRuntime) -> Result<(), Fail> {
 }
 
 // The first thing that is wrong is told.
-const SEVERAL_WRONG: [(&str, &str); 4] = [
+const SEVERAL_WRONG: [(&str, &str); 6] = [
     ("key 4 1 1 00 0", USAGE),
     ("key 4 0 0 0 0", SALT),
     ("key 4 0 1 0 ", PARAMS),
     ("key 4 1 1 0 00", LENGTH),
+    ("hash phc 4 0 00 0", USAGE),
+    ("hash phc 4 0 1 0", SALT),
 ];
 
 #[test]
@@ -95,17 +107,22 @@ fn numbers_at_their_bounds(rt: HostRuntime) -> Result<(), Fail> {
 }
 
 // Wrong words, and commands of the usage line that are not there yet.
-const NO_COMMANDS: [&str; 10] = [
+const NO_COMMANDS: [&str; 15] = [
     "",
     "key",
     "key 4 1 1 64",
     "key 4 1 1 64 00 00",
     "KEY 4 1 1 64 ",
     "keys 4 1 1 64 ",
-    "hash phc 4 1 1 ",
+    "hash",
+    "hash phc 4 1 1",
+    "hash phc 4 1 1 00 00",
+    "hash PHC 4 1 1 00",
     "hash mcf 4 1 1 ",
-    "verify $7$2/..../....$",
     "verify",
+    "verify $7",
+    "verify $7$2/..../....$",
+    "verify $scrypt $scrypt",
 ];
 
 #[test]
@@ -116,19 +133,25 @@ fn words_of_no_command(rt: HostRuntime) -> Result<(), Fail> {
     Ok(())
 }
 
-// The table of these parameters would have 2^63 bytes.
+// The tables of these parameters would have 2^63 bytes.
+const LARGE: [&str; 3] = [
+    "key 56 1 1 32 ",
+    "hash phc 56 1 1 00",
+    "verify $scrypt$ln=56,r=1,p=1$aA$AAAAAAAAAAAAAA",
+];
+
 #[test]
 fn memory_that_cannot_be_had(rt: HostRuntime) -> Result<(), Fail> {
-    let input = &mut b"".as_slice();
-    let told = tell(
-        rt.alloc(),
-        "key 56 1 1 32 ",
-        input,
-        Page::new(),
-        Page::new(),
-    )?;
-    assert_eq!(rt; (told.ended.status, told.ended.fault_told), (3, true));
-    assert_eq!(rt; told.output.text(), b"".as_slice());
-    assert_eq!(rt; told.faults.text(), b"out of memory\n".as_slice());
+    for line in LARGE {
+        let input = &mut b"".as_slice();
+        let told = tell(rt.alloc(), line, input, Page::new(), Page::new())?;
+        assert_eq!(rt;
+            (told.ended.status, told.ended.fault_told),
+            (3, true),
+            "{line}"
+        );
+        assert_eq!(rt; told.output.text(), b"".as_slice(), "{line}");
+        assert_eq!(rt; told.faults.text(), b"out of memory\n".as_slice(), "{line}");
+    }
     Ok(())
 }

@@ -1,16 +1,18 @@
-use Rattle.std.proofs.Common.{◌∙◌, ap}
-use Rattle.std.proofs.lemmas.Result.{on_ok_weaker}
-use Rattle.scrypt_tool.specs.Told.{line_of}
+use Rattle.scrypt_tool.proofs.AskedFacts.{asked_not_refused}
 use Rattle.scrypt_tool.proofs.run.answer.Goals as goal
 
-pub returns-clause-line : goal.returns-clause-line
-returns-clause-line g c =
-    let line = c.as_str.ensures.value ∙ c.in_ok-line.ensures.ok
-    ∙ ap (line_of c.in_ok-command.command) c.deref.ensures.value in
-    on_ok_weaker c.write_line.result
-    (λ wrote. (
-      c.in_ok-input.input.items,
-      c.in_ok-input.ensures.ok,
-      (c.in_ok-command.command, c.in_ok-command.ensures.ok, rw line at wrote),
-    ))
-    c.write_line.ensures.ok
+pub returns-in_err-input-clause-refused : goal.returns-in_err-input-clause-refused
+returns-in_err-input-clause-refused g c =
+    λ refusal h. absurd (asked_not_refused _ _ _ c.in_ok-command.ensures.ok h)
+
+pub returns-in_err-answer-clause-refused : goal.returns-in_err-answer-clause-refused
+returns-in_err-answer-clause-refused g c =
+    λ refusal h. absurd (asked_not_refused _ _ _ c.in_ok-command.ensures.ok h)
+
+pub returns-in_err-write_line-clause-refused : goal.returns-in_err-write_line-clause-refused
+returns-in_err-write_line-clause-refused g c =
+    λ refusal h. absurd (asked_not_refused _ _ _ c.in_ok-command.ensures.ok h)
+
+pub returns-clause-refused : goal.returns-clause-refused
+returns-clause-refused g c =
+    λ refusal h. absurd (asked_not_refused _ _ _ c.in_ok-command.ensures.ok h)

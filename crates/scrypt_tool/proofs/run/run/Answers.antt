@@ -1,15 +1,15 @@
 use Rattle.std.proofs.Common.{inr}
-use Rattle.scrypt_tool.proofs.ToldFacts.{answer_fault, answer_line, answer_status, end_fault, end_status}
+use Rattle.scrypt_tool.proofs.ToldFacts.{answer_fault, answer_line, answer_status, end_fault, end_status, refused_end}
 use Rattle.scrypt_tool.proofs.run.run.Goals as goal
 
 pub returns-in-Ok-clause-status : goal.returns-in-Ok-clause-status
-returns-in-Ok-clause-status g c = inr (inr (answer_status _ _ _ _ c.in-Ok.ensures.line))
+returns-in-Ok-clause-status g c = inr (inr (answer_status _ _ _ _ _ c.in-Ok.ensures.line))
 
 pub returns-in-Ok-clause-line : goal.returns-in-Ok-clause-line
-returns-in-Ok-clause-line g c = λ answered. answer_line _ _ _ _ c.in-Ok.ensures.line
+returns-in-Ok-clause-line g c = λ answered. answer_line _ _ _ _ _ c.in-Ok.ensures.line
 
 pub returns-in-Ok-clause-fault : goal.returns-in-Ok-clause-fault
-returns-in-Ok-clause-fault g c = λ low told. answer_fault _ _ _ _ _ c.in-Ok.ensures.line
+returns-in-Ok-clause-fault g c = λ low told. answer_fault _ _ _ _ _ _ c.in-Ok.ensures.line
 
 pub returns-in-Err-clause-status : goal.returns-in-Err-clause-status
 returns-in-Err-clause-status g c = end_status _ _ _ _ _ c.tell.ensures.status c.in-Err.ensures.err
@@ -17,3 +17,8 @@ returns-in-Err-clause-status g c = end_status _ _ _ _ _ c.tell.ensures.status c.
 pub returns-in-Err-clause-fault : goal.returns-in-Err-clause-fault
 returns-in-Err-clause-fault g c =
     λ low told. end_fault _ _ _ _ _ _ _ c.tell.ensures.status low (c.tell.ensures.told told) c.in-Err.ensures.err
+
+pub returns-in-Err-clause-refused : goal.returns-in-Err-clause-refused
+returns-in-Err-clause-refused g c =
+    λ fault h. let refused = c.in-Err.ensures.refused fault h in
+    (refused_end _ _ _ c.tell.ensures.status refused.0, refused.1)

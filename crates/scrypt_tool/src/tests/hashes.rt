@@ -1,0 +1,146 @@
+// Hashes that are made and verified.
+
+use super::streams::{Input, Page};
+use super::{INPUT_FAILED, tell};
+use crate::run::Ended;
+use std::io::ErrorKind;
+use std::test::Fail;
+
+// A command line, its input, the status, and the line that is written: to the output with status 0
+// or 1, and else to the faults.
+type Case = (&'static str, &'static str, u8, &'static str);
+
+// The first hash is passlib's, and the second one's key is that of RFC 7914, section 12.
+const ANSWERS: [Case; 8] = [
+    (
+        "hash phc 16 8 1 68cd79ef5debdd7b2fc5b8b7d65aabd5",
+        "password",
+        0,
+        "$scrypt$ln=16,r=8,p=1$aM15713r3Xsvxbi31lqr1Q$nFNh2CVHVjNldFVKDHDlm4CbdRSCdEBsjjJxD+iCs5E\n",
+    ),
+    (
+        "hash phc 14 8 1 536f6469756d43686c6f72696465",
+        "pleaseletmein",
+        0,
+        "$scrypt$ln=14,r=8,p=1$U29kaXVtQ2hsb3JpZGU$cCO9yzr9c0hGHAbNgf046/2o+7qQT44+qbVD9lRdofI\n",
+    ),
+    (
+        "verify $scrypt$ln=16,r=8,p=1$aM15713r3Xsvxbi31lqr1Q$nFNh2CVHVjNldFVKDHDlm4CbdRSCdEBsjjJxD+iCs5E",
+        "password",
+        0,
+        "ok\n",
+    ),
+    (
+        "verify $scrypt$ln=16,r=8,p=1$aM15713r3Xsvxbi31lqr1Q$nFNh2CVHVjNldFVKDHDlm4CbdRSCdEBsjjJxD+iCs5E",
+        "invalid",
+        1,
+        "no\n",
+    ),
+    (
+        "verify $scrypt$ln=14,r=8,p=1$U29kaXVtQ2hsb3JpZGU$cCO9yzr9c0hGHA",
+        "pleaseletmein",
+        0,
+        "ok\n",
+    ),
+    // A newline belongs to the password, and without a salt or a key none is right.
+    (
+        "verify $scrypt$ln=14,r=8,p=1$U29kaXVtQ2hsb3JpZGU$cCO9yzr9c0hGHA",
+        "pleaseletmein\n",
+        1,
+        "no\n",
+    ),
+    ("verify $scrypt$ln=4$aA", "password", 1, "no\n"),
+    ("verify $scrypt", "password", 1, "no\n"),
+];
+
+// What hashing and verifying refuse, after the input was read.
+const REFUSALS: [Case; 9] = [
+    (
+        "hash phc 4 1 1 ",
+        "password",
+        2,
+        "hash refused: SaltInvalid\n",
+    ),
+    (
+        "verify $argon2id$ln=4$aA",
+        "password",
+        2,
+        "hash refused: Algorithm\n",
+    ),
+    (
+        "verify $scrypt$v=1$ln=4$aA",
+        "password",
+        2,
+        "hash refused: Version\n",
+    ),
+    (
+        "verify $scrypt$ln=256",
+        "password",
+        2,
+        "hash refused: ParamInvalid ln\n",
+    ),
+    (
+        "verify $scrypt$ln=016",
+        "password",
+        2,
+        "hash refused: ParamInvalid ln\n",
+    ),
+    (
+        "verify $scrypt$r=4294967296",
+        "password",
+        2,
+        "hash refused: ParamInvalid r\n",
+    ),
+    (
+        "verify $scrypt$p=-1",
+        "password",
+        2,
+        "hash refused: ParamInvalid p\n",
+    ),
+    (
+        "verify $scrypt$ln=4,x=1",
+        "password",
+        2,
+        "hash refused: ParamsInvalid\n",
+    ),
+    (
+        "verify $scrypt$ln=57",
+        "password",
+        2,
+        "hash refused: ParamsInvalid\n",
+    ),
+];
+
+#[test]
+fn answers_and_refusals(rt: HostRuntime) -> Result<(), Fail> {
+    for (line, password, status, written) in ANSWERS.into_iter().chain(REFUSALS) {
+        let mut input = Input::new(password.as_bytes(), usize::MAX);
+        let told = tell(rt.alloc(), line, &mut input, Page::new(), Page::new())?;
+        let ended = Ended {
+            status,
+            input_failed: false,
+            fault_told: true,
+        };
+        assert_eq!(rt; told.ended, ended, "{line}");
+        let (output, fault) = if status < 2 {
+            (written, "")
+        } else {
+            ("", written)
+        };
+        assert_eq!(rt; told.output.text(), output.as_bytes(), "{line}");
+        assert_eq!(rt; told.faults.text(), fault.as_bytes(), "{line}");
+    }
+    Ok(())
+}
+
+// The text of a hash is read before the input, and what verifying refuses comes after it.
+#[test]
+fn input_that_fails(rt: HostRuntime) -> Result<(), Fail> {
+    for line in ["hash phc 4 1 1 ", "verify $argon2id", "verify $scrypt"] {
+        let mut input = Input::failing(b"password", ErrorKind::Other);
+        let told = tell(rt.alloc(), line, &mut input, Page::new(), Page::new())?;
+        assert_eq!(rt; told.ended, INPUT_FAILED, "{line}");
+        assert_eq!(rt; told.output.text(), b"".as_slice(), "{line}");
+    }
+    Ok(())
+}
