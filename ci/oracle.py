@@ -20,6 +20,12 @@ CASES = 200
 # where the verdicts of this repository on mutations of PHC texts are pinned
 MUTATIONS = "crates/scrypt_tests/src/phc_mutations.rt"
 
+# a password, and the hash that the test `made_hashes` makes of it
+MADE = (
+    "pleaseletmein",
+    "$scrypt$ln=14,r=8,p=1$U29kaXVtQ2hsb3JpZGU$cCO9yzr9c0hGHAbNgf046/2o+7qQT44+qbVD9lRdofI",
+)
+
 
 def run(program, words, password):
     """What the program answers: status, output, fault line."""
@@ -72,16 +78,18 @@ def phc_mutations(_program, _rng):
 
 
 def phc_passlib(_program, _rng):
-    """That the hash in the tests is passlib's own: passlib accepts it, and no other password."""
+    """That passlib accepts its own hash of the tests, and the one made here, each by its password alone."""
     try:
         from passlib.hash import scrypt
     except ImportError:
-        print("passlib isn't installed: skipped")
-        return 0, 0, 1
-    text = phc.TEXTS[0]
-    good = scrypt.verify("password", text) and not scrypt.verify("invalid", text)
-    print(f"passlib: the hash of the tests {'agrees' if good else 'DIFFERS'}")
-    return (1, 0, 0) if good else (0, 1, 0)
+        print(f"passlib isn't installed for {sys.executable}: skipped")
+        return 0, 0, 2
+    passed = failed = 0
+    for whose, password, text in (("its own", "password", phc.TEXTS[0]), ("this project's", *MADE)):
+        good = scrypt.verify(password, text) and not scrypt.verify("invalid", text)
+        passed, failed = passed + good, failed + (not good)
+        print(f"passlib: {whose} hash of the tests {'agrees' if good else 'DIFFERS'}")
+    return passed, failed, 0
 
 
 PARTS = [keys, phc_mutations, phc_passlib]
