@@ -1,5 +1,5 @@
 -- Facts on costs as they are read from PHC parameters: they have no length, and one reading alone.
-use Rattle.std.proofs.Common.{◌≡◌, ◌≢◌, ℕ, ◌<◌, ◌≤◌, List, [], ◌∷◌, codes, refl, sym, ap, ◌∙◌, arith, Ok, Err}
+use Rattle.std.proofs.Common.{◌≡◌, ◌≢◌, ℕ, ◌<◌, ◌≤◌, List, [], ◌∷◌, codes, refl, sym, ap, ◌∙◌, arith, Err}
 use Rattle.std.specs.Prelude.{Result, IfOk, None}
 use Rattle.password_hash.specs.Decimal.{IsDecimal}
 use Rattle.password_hash.specs.Refusal.{Refusal, BadParam, BadParams}
