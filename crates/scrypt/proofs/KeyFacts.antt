@@ -1,9 +1,10 @@
 -- Facts on the chunks of B, which are mixed one after another.
-use Rattle.std.proofs.Common.{◌≡◌, ◌≢◌, ℕ, ◌<◌, ◌≤◌, ◌+◌, ◌*◌, List, length, take, drop, ap, ◌∙◌, arith, below_more}
+use Rattle.std.proofs.Common.{◌≡◌, ◌≢◌, ℕ, ◌<◌, ◌≤◌, ◌+◌, ◌*◌, List, length, take, drop, sym, ap, ◌∙◌, arith, below_more}
+use Rattle.std.proofs.lemmas.List.FromFn.{take-map-range_with_len}
 use borrow.Rule.Slice.PartMut.{put_mid}
 use Rattle.scrypt.specs.Words.{bytes_of, part, words_of}
 use Rattle.scrypt.specs.RoMix.{ro_mix}
-use Rattle.scrypt.specs.Key.{mixed_chunk, mixed_chunks}
+use Rattle.scrypt.specs.Key.{derived_key, mixed_chunk, mixed_chunks}
 use Rattle.scrypt.proofs.PartFacts.{part_of_slice, part_put_same, part_put_other, parts_all}
 
 -- the first i chunks of x are those of b after scryptROMix, and the others are those of b
@@ -32,3 +33,9 @@ mixed_more b x ys log_n r i a n at size full room mixed before =
 pub mixed_all : (b x : List ℕ) (log_n r p : ℕ) → length x ≡ p * (128 * r)
     → AreMixed b log_n r p x → x ≡ mixed_chunks b log_n r p
 mixed_all b x log_n r p long mixed = parts_all (mixed_chunk b log_n r) (128 * r) p x long mixed.done
+
+-- a shorter key is the beginning of a longer one
+pub key_prefix : (password salt : List ℕ) (log_n r p m n : ℕ) → m ≤ n
+    → derived_key password salt log_n r p m ≡ take m (derived_key password salt log_n r p n)
+unfolding derived_key
+key_prefix password salt log_n r p m n shorter = sym (take-map-range_with_len _ 0 n m shorter)

@@ -1,8 +1,16 @@
 //! Laws of the definitions. Each function does nothing when it runs: its contract is the law.
 
-ghost use Rattle.std.specs.Prelude.{◌≡◌, ℕ, ◌%◌, ◌<◌, List, length};
+ghost use Rattle.std.specs.Prelude.{◌≡◌, ℕ, ◌%◌, ◌<◌, ◌≤◌, List, length, take};
 ghost use Rattle.scrypt.specs.BlockMix.{block_mix};
 ghost use Rattle.scrypt.specs.Diagonal.{AreInverse, IsBlockMixBy, diagonal_core, diagonal_order, inverse_pivot, pivot, standard_order};
+ghost use Rattle.scrypt.specs.Key.{derived_key};
+
+/// A shorter key is the beginning of a longer one, at every two lengths: key files rely on it, which
+/// cut keys of several uses from one.
+pub fn shorter_key_is_prefix()
+    ensures { (password salt : List ℕ) (log_n r p m n : ℕ) → m ≤ n
+        → derived_key password salt log_n r p m ≡ take m (derived_key password salt log_n r p n) }
+{}
 
 /// The diagonal order and the standard order undo each other on all whole blocks, and the two
 /// tables of places are inverse.
