@@ -1,6 +1,7 @@
 //! Laws of the definitions. Each function does nothing when it runs: its contract is the law.
 
-ghost use Rattle.std.specs.Prelude.{◌≡◌, ℕ, ◌%◌, ◌<◌, ◌≤◌, List, length, take};
+ghost use Rattle.std.specs.Prelude.{◌≡◌, ℕ, ◌%◌, ◌<◌, ◌≤◌, List, [], ◌∷◌, ◌++◌, length, take};
+ghost use Rattle.sha2.specs.Sha256.{sha256};
 ghost use Rattle.scrypt.specs.BlockMix.{block_mix};
 ghost use Rattle.scrypt.specs.Diagonal.{AreInverse, IsBlockMixBy, diagonal_core, diagonal_order, inverse_pivot, pivot, standard_order};
 ghost use Rattle.scrypt.specs.Key.{derived_key};
@@ -10,6 +11,16 @@ ghost use Rattle.scrypt.specs.Key.{derived_key};
 pub fn shorter_key_is_prefix()
     ensures { (password salt : List ℕ) (log_n r p m n : ℕ) → m ≤ n
         → derived_key password salt log_n r p m ≡ take m (derived_key password salt log_n r p n) }
+{}
+
+/// A password shorter than 64 bytes and the same with a zero byte after it have equal keys, and so
+/// have a password longer than 64 bytes and its SHA-256 digest: credential stores rely on it to know
+/// which other passwords they accept.
+pub fn zero_byte_and_digest_passwords_collide()
+    ensures zero_byte { (password salt : List ℕ) (log_n r p n : ℕ) → length password < 64
+        → derived_key (password ++ 0 ∷ []) salt log_n r p n ≡ derived_key password salt log_n r p n }
+    ensures digest { (password salt : List ℕ) (log_n r p n : ℕ) → 64 < length password
+        → derived_key (sha256 password) salt log_n r p n ≡ derived_key password salt log_n r p n }
 {}
 
 /// The diagonal order and the standard order undo each other on all whole blocks, and the two
