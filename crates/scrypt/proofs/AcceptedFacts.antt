@@ -25,6 +25,10 @@ table_bytes log_n r = mul_assoc 128 r (2 ^ log_n)
 pub small_chunks : (r p : ℕ) → r * p < 2 ^ 30 → p * (128 * r) ≤ 137438953440
 small_chunks r p few = omega arith
 
+-- the factors of an accepted product
+pub small_factor : (r p : ℕ) → 0 < p → r * p < 2 ^ 30 → r < 2 ^ 30
+small_factor r p some few = let least = mul-le r 1 r p (omega arith) some in omega arith
+
 -- the words of the table, as the code computes them
 pub small_table : (log_n r : ℕ) → 128 * r * 2 ^ log_n < 2 ^ 64 → 2 ^ log_n * (32 * r) < 2 ^ 62
 small_table log_n r fits = omega arith

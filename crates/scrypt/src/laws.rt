@@ -1,10 +1,14 @@
 //! Laws of the definitions. Each function does nothing when it runs: its contract is the law.
 
-ghost use Rattle.std.specs.Prelude.{◌≡◌, ℕ, ◌%◌, ◌<◌, ◌≤◌, List, [], ◌∷◌, ◌++◌, length, take};
+ghost use Rattle.std.specs.Prelude.{◌≡◌, ℕ, ◌%◌, ◌<◌, ◌≤◌, List, [], ◌∷◌, ◌++◌, length, take, Result, Ok};
 ghost use Rattle.sha2.specs.Sha256.{sha256};
+ghost use Rattle.password_hash.specs.Refusal.{Refusal};
+ghost use Rattle.scrypt.specs.Accepted.{AreAccepted, Parameters};
 ghost use Rattle.scrypt.specs.BlockMix.{block_mix};
 ghost use Rattle.scrypt.specs.Diagonal.{AreInverse, IsBlockMixBy, diagonal_core, diagonal_order, inverse_pivot, pivot, standard_order};
 ghost use Rattle.scrypt.specs.Key.{derived_key};
+ghost use Rattle.scrypt.specs.PhcAnswers.{bare};
+ghost use Rattle.scrypt.specs.PhcCosts.{ReadsCosts, written_pairs};
 
 /// A shorter key is the beginning of a longer one, at every two lengths: key files rely on it, which
 /// cut keys of several uses from one.
@@ -21,6 +25,14 @@ pub fn zero_byte_and_digest_passwords_collide()
         → derived_key (password ++ 0 ∷ []) salt log_n r p n ≡ derived_key password salt log_n r p n }
     ensures digest { (password salt : List ℕ) (log_n r p n : ℕ) → 64 < length password
         → derived_key (sha256 password) salt log_n r p n ≡ derived_key password salt log_n r p n }
+{}
+
+/// Costs that are written as PHC parameters are read back as the same `log_n`, `r` and `p`, and in no
+/// other way: migration tools rely on it, which write hashes with costs of their own.
+pub fn written_costs_read_back()
+    ensures read { (c : Parameters) → AreAccepted c.log_n c.r c.p → ReadsCosts (written_pairs c) (Ok (bare c)) }
+    ensures only { (c : Parameters) (out : Result Parameters Refusal) → AreAccepted c.log_n c.r c.p
+        → ReadsCosts (written_pairs c) out → out ≡ Ok (bare c) }
 {}
 
 /// The diagonal order and the standard order undo each other on all whole blocks, and the two
