@@ -9,6 +9,7 @@ pub mod IntegerifyFacts
 pub mod RoMixFacts
 pub mod Pbkdf2Facts
 pub mod KeyFacts
+pub mod ChunkFacts
 pub mod StandardFacts
 pub mod PhcCostsFacts
 pub mod ReadingFacts

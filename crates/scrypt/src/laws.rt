@@ -1,12 +1,13 @@
 //! Laws of the definitions. Each function does nothing when it runs: its contract is the law.
 
-ghost use Rattle.std.specs.Prelude.{◌≡◌, ℕ, ◌%◌, ◌<◌, ◌≤◌, List, [], ◌∷◌, ◌++◌, length, take, Result, Ok};
+ghost use Rattle.std.specs.Prelude.{◌≡◌, ℕ, ◌*◌, ◌%◌, ◌<◌, ◌≤◌, List, [], ◌∷◌, ◌++◌, length, take, Result, Ok};
 ghost use Rattle.sha2.specs.Sha256.{sha256};
 ghost use Rattle.password_hash.specs.Refusal.{Refusal};
 ghost use Rattle.scrypt.specs.Accepted.{AreAccepted, Parameters};
 ghost use Rattle.scrypt.specs.BlockMix.{block_mix};
+ghost use Rattle.scrypt.specs.ChunkOrder.{NamesEachOnce, mixed_in_order};
 ghost use Rattle.scrypt.specs.Diagonal.{AreInverse, IsBlockMixBy, diagonal_core, diagonal_order, inverse_pivot, pivot, standard_order};
-ghost use Rattle.scrypt.specs.Key.{derived_key};
+ghost use Rattle.scrypt.specs.Key.{derived_key, mixed_chunks};
 ghost use Rattle.scrypt.specs.PhcAnswers.{bare};
 ghost use Rattle.scrypt.specs.PhcCosts.{ReadsCosts, written_pairs};
 
@@ -25,6 +26,13 @@ pub fn zero_byte_and_digest_passwords_collide()
         → derived_key (password ++ 0 ∷ []) salt log_n r p n ≡ derived_key password salt log_n r p n }
     ensures digest { (password salt : List ℕ) (log_n r p n : ℕ) → 64 < length password
         → derived_key (sha256 password) salt log_n r p n ≡ derived_key password salt log_n r p n }
+{}
+
+/// The chunks may be mixed one after another in any order that names each once: migration tools rely
+/// on it, whose keys come from programs that take the chunks in another order.
+pub fn chunks_in_any_order()
+    ensures { (b order : List ℕ) (log_n r p : ℕ) → 0 < r → length b ≡ p * (128 * r) → NamesEachOnce p order
+        → mixed_in_order log_n r b order ≡ mixed_chunks b log_n r p }
 {}
 
 /// Costs that are written as PHC parameters are read back as the same `log_n`, `r` and `p`, and in no
