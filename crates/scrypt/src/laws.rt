@@ -2,7 +2,11 @@
 
 ghost use Rattle.std.specs.Prelude.{◌≡◌, ℕ, ◌*◌, ◌%◌, ◌<◌, ◌≤◌, List, [], ◌∷◌, ◌++◌, length, take, Result, Ok};
 ghost use Rattle.sha2.specs.Sha256.{sha256};
+ghost use Rattle.password_hash.specs.Crypt64.{Crypt64};
+ghost use Rattle.password_hash.specs.Mcf.{Modular};
+ghost use Rattle.password_hash.specs.Phc.{IsHashText};
 ghost use Rattle.password_hash.specs.Refusal.{Refusal};
+ghost use Rattle.password_hash.specs.declared.phc.hash.PasswordHash.{PasswordHash};
 ghost use Rattle.scrypt.specs.Accepted.{AreAccepted, Parameters};
 ghost use Rattle.scrypt.specs.BlockMix.{block_mix};
 ghost use Rattle.scrypt.specs.ChunkOrder.{NamesEachOnce, mixed_in_order};
@@ -41,6 +45,22 @@ pub fn written_costs_read_back()
     ensures read { (c : Parameters) → AreAccepted c.log_n c.r c.p → ReadsCosts (written_pairs c) (Ok (bare c)) }
     ensures only { (c : Parameters) (out : Result Parameters Refusal) → AreAccepted c.log_n c.r c.p
         → ReadsCosts (written_pairs c) out → out ≡ Ok (bare c) }
+{}
+
+/// A PHC text, a modular text and a text of crypt Base64 each have at most one reading, and each
+/// reading has at most one text: migration tools rely on it, which compare hashes by their texts.
+pub fn texts_have_one_reading()
+    ensures phc_reading { (text : List ℕ) (one other : PasswordHash) → IsHashText text one → IsHashText text other
+        → one ≡ other }
+    ensures phc_text { (hash : PasswordHash) (one other : List ℕ) → IsHashText one hash → IsHashText other hash
+        → one ≡ other }
+    ensures modular_reading { (text one other : List ℕ) (fields more : List (List ℕ)) → Modular text one fields
+        → Modular text other more → (one ≡ other) × (fields ≡ more) }
+    ensures modular_text { (id one other : List ℕ) (fields : List (List ℕ)) → Modular one id fields
+        → Modular other id fields → one ≡ other }
+    ensures crypt64_reading { (letters one other : List ℕ) → Crypt64 one letters → Crypt64 other letters
+        → one ≡ other }
+    ensures crypt64_text { (bytes one other : List ℕ) → Crypt64 bytes one → Crypt64 bytes other → one ≡ other }
 {}
 
 /// The diagonal order and the standard order undo each other on all whole blocks, and the two
