@@ -1,19 +1,20 @@
 //! Laws of the definitions. Each function does nothing when it runs: its contract is the law.
 
-ghost use Rattle.std.specs.Prelude.{◌≡◌, ℕ, ◌*◌, ◌%◌, ◌<◌, ◌≤◌, List, [], ◌∷◌, ◌++◌, length, take, Result, Ok};
+ghost use Rattle.std.specs.Prelude.{◌≡◌, ℕ, ◌*◌, ◌%◌, ◌<◌, ◌≤◌, List, [], ◌∷◌, ◌++◌, length, take, Result, Ok, IfSome};
 ghost use Rattle.sha2.specs.Sha256.{sha256};
 ghost use Rattle.password_hash.specs.Crypt64.{Crypt64};
 ghost use Rattle.password_hash.specs.Mcf.{Modular};
-ghost use Rattle.password_hash.specs.Phc.{IsHashText};
+ghost use Rattle.password_hash.specs.Phc.{IsHashText, IsSalt, hash_text};
 ghost use Rattle.password_hash.specs.Refusal.{Refusal};
 ghost use Rattle.password_hash.specs.declared.phc.hash.PasswordHash.{PasswordHash};
-ghost use Rattle.scrypt.specs.Accepted.{AreAccepted, Parameters};
+ghost use Rattle.scrypt.specs.Accepted.{AreAccepted, IsStoredLen, Parameters};
 ghost use Rattle.scrypt.specs.BlockMix.{block_mix};
 ghost use Rattle.scrypt.specs.ChunkOrder.{NamesEachOnce, mixed_in_order};
 ghost use Rattle.scrypt.specs.Diagonal.{AreInverse, IsBlockMixBy, diagonal_core, diagonal_order, inverse_pivot, pivot, standard_order};
 ghost use Rattle.scrypt.specs.Key.{derived_key, mixed_chunks};
 ghost use Rattle.scrypt.specs.PhcAnswers.{bare};
 ghost use Rattle.scrypt.specs.PhcCosts.{ReadsCosts, written_pairs};
+ghost use Rattle.scrypt.specs.PhcHash.{Accepts, IsMadeHash};
 
 /// A shorter key is the beginning of a longer one, at every two lengths: key files rely on it, which
 /// cut keys of several uses from one.
@@ -61,6 +62,20 @@ pub fn texts_have_one_reading()
     ensures crypt64_reading { (letters one other : List ℕ) → Crypt64 one letters → Crypt64 other letters
         → one ≡ other }
     ensures crypt64_text { (bytes one other : List ℕ) → Crypt64 bytes one → Crypt64 bytes other → one ≡ other }
+{}
+
+/// The hash that hashing makes of accepted parameters, a password and a salt accepts that password,
+/// is printed as a PHC text, and accepts it too as it is read back from that text: credential stores
+/// rely on it, which keep the text.
+pub fn made_hashes_are_accepted()
+    ensures phc { (c : Parameters) (password salt : List ℕ) (hash : PasswordHash) → AreAccepted c.log_n c.r c.p
+        → IsMadeHash c password salt hash → Accepts password hash }
+    ensures phc_printed { (c : Parameters) (password salt : List ℕ) (hash : PasswordHash) → AreAccepted c.log_n c.r c.p
+        → IfSome c.output_len IsStoredLen → IsSalt salt → IsMadeHash c password salt hash
+        → IsHashText (hash_text hash) hash }
+    ensures phc_read_back { (c : Parameters) (password salt : List ℕ) (hash again : PasswordHash) → AreAccepted c.log_n c.r c.p
+        → IfSome c.output_len IsStoredLen → IsSalt salt → IsMadeHash c password salt hash
+        → IsHashText (hash_text hash) again → Accepts password again }
 {}
 
 /// The diagonal order and the standard order undo each other on all whole blocks, and the two
