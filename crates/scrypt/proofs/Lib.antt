@@ -13,3 +13,4 @@ pub mod StandardFacts
 pub mod PhcCostsFacts
 pub mod ReadingFacts
 pub mod PhcHashFacts
+pub mod McfCostsFacts
