@@ -12,6 +12,7 @@ import random
 import subprocess
 import sys
 
+import crypt64
 import phc
 import reference
 
@@ -25,6 +26,9 @@ MADE = (
     "pleaseletmein",
     "$scrypt$ln=14,r=8,p=1$U29kaXVtQ2hsb3JpZGU$cCO9yzr9c0hGHAbNgf046/2o+7qQT44+qbVD9lRdofI",
 )
+
+# where the letters that this repository writes are pinned
+LETTERS = "crates/scrypt_tests/src/crypt_letters.rt"
 
 
 def run(program, words, password):
@@ -92,7 +96,28 @@ def phc_passlib(_program, _rng):
     return passed, failed, 0
 
 
-PARTS = [keys, phc_mutations, phc_passlib]
+def crypt_letters(_program, _rng):
+    """The letters of byte strings in crypt Base64, which a test of the gate pins."""
+    digest, strings = crypt64.all_letters()
+    with open(LETTERS, encoding="utf-8") as test:
+        agree = f'"{digest}"' in test.read()
+    print(f"crypt Base64: the letters of {strings} byte strings {'agree' if agree else 'DIFFER'}")
+    return (strings, 0, 0) if agree else (0, strings, 0)
+
+
+def crypt_letters_passlib(_program, _rng):
+    """The same letters by passlib."""
+    try:
+        from passlib.utils.binary import h64
+    except ImportError:
+        print(f"passlib isn't installed for {sys.executable}: skipped")
+        return 0, 0, 1
+    told = [h64.encode_bytes(data).decode() == crypt64.letters(data) for data in crypt64.strings()]
+    print(f"passlib: the letters of {sum(told)} of {len(told)} byte strings agree")
+    return sum(told), len(told) - sum(told), 0
+
+
+PARTS = [keys, phc_mutations, phc_passlib, crypt_letters, crypt_letters_passlib]
 
 
 def main():

@@ -15,3 +15,4 @@ pub mod PhcCostsFacts
 pub mod ReadingFacts
 pub mod PhcHashFacts
 pub mod MadeFacts
+pub mod McfCostsFacts

@@ -32,3 +32,5 @@ pub mod PhcCosts
 pub mod PhcHash
 -- what the conversions between parameters and PHC values answer
 pub mod PhcAnswers
+-- five-letter numbers, and the costs of a `$7$` text
+pub mod McfCosts

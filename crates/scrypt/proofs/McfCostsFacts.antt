@@ -1,0 +1,43 @@
+-- Facts on five-letter numbers and on the costs with which a field begins.
+use Rattle.std.proofs.Common.{◌≡◌, ℕ, ◌-◌, ◌/◌, ◌%◌, ◌^◌, ◌≤◌, List, [], ◌∷◌, ◌++◌, length, take, drop, Some, None, refl, ap, ◌∙◌, arith, length-append, length-drop}
+use Rattle.std.specs.List.{slice_get}
+use Rattle.std.proofs.Math.Seq.{take-append_seam}
+use Rattle.std.proofs.lemmas.Bool.{le-ltb}
+use Rattle.std.proofs.lemmas.List.{take_all}
+use Rattle.password_hash.specs.Crypt64.{letters_of, number_of}
+use Rattle.password_hash.proofs.Crypt64Facts.{length-letters_of, number_of-letters_of}
+use Rattle.scrypt.specs.McfCosts.{five_letter_number, SaysCosts}
+
+-- where there are five letters, they say the number
+pub five_letter_number-some : (text : List ℕ) → 5 ≤ length text → five_letter_number text ≡ number_of (take 5 text)
+five_letter_number-some text some = rw (le-ltb (length text) 5 some) refl
+
+-- the five letters of a number are those of what is left of it modulo 2^30
+letters_of-modulo : (number : ℕ) → letters_of 5 number ≡ letters_of 5 (number % 2 ^ 30)
+unfolding letters_of
+letters_of-modulo number =
+    let first : number % 2 ^ 30 % 64 ≡ number % 64 = omega arith in
+    let second : number % 2 ^ 30 / 64 % 64 ≡ number / 64 % 64 = omega arith in
+    let third : number % 2 ^ 30 / 64 / 64 % 64 ≡ number / 64 / 64 % 64 = omega arith in
+    let fourth : number % 2 ^ 30 / 64 / 64 / 64 % 64 ≡ number / 64 / 64 / 64 % 64 = omega arith in
+    let fifth : number % 2 ^ 30 / 64 / 64 / 64 / 64 % 64 ≡ number / 64 / 64 / 64 / 64 % 64 = omega arith in
+    rw (first, second, third, fourth, fifth) refl
+
+-- the number modulo 2^30 is read back from a text that begins with its five letters
+pub five_letter_number-letters_of : (number : ℕ) (rest : List ℕ) → five_letter_number (letters_of 5 number ++ rest) ≡ Some (number % 2 ^ 30)
+five_letter_number-letters_of number rest =
+    let count : length (letters_of 5 number) ≡ 5 = length-letters_of 5 number in
+    let some : 5 ≤ length (letters_of 5 number ++ rest) = omega (arith, length-append (letters_of 5 number) rest, count) in
+    let front : take 5 (letters_of 5 number ++ rest) ≡ letters_of 5 number = rw count at (take-append_seam (letters_of 5 number) rest) in
+    five_letter_number-some (letters_of 5 number ++ rest) some ∙ ap number_of (front ∙ letters_of-modulo number)
+    ∙ number_of-letters_of 5 (number % 2 ^ 30) (omega arith)
+
+-- a text from one place to its end
+pub to_the_end : (bytes text : List ℕ) (place : ℕ) → bytes ≡ text → take (length bytes - place) (drop place bytes) ≡ drop place text
+to_the_end bytes text place same =
+    take_all (length bytes - place) (drop place bytes) (omega (arith, length-drop place bytes)) ∙ ap (drop place) same
+
+-- a field without bytes says no costs
+pub empty_says_none : (field : List ℕ) {log_n r p : ℕ} → slice_get field 0 ≡ None → SaysCosts field log_n r p → ⊥
+empty_says_none [] none says = let r_is = says.r_is in cc
+empty_says_none (first ∷ field) none says = absurd (cc)
