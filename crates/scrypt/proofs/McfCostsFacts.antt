@@ -1,11 +1,13 @@
 -- Facts on five-letter numbers and on the costs with which a field begins.
-use Rattle.std.proofs.Common.{◌≡◌, ℕ, ◌-◌, ◌/◌, ◌%◌, ◌^◌, ◌≤◌, List, [], ◌∷◌, ◌++◌, length, take, drop, Some, None, refl, ap, ◌∙◌, arith, length-append, length-drop}
+use Rattle.std.proofs.Common.{◌≡◌, ℕ, ◌-◌, ◌/◌, ◌%◌, ◌^◌, ◌<◌, ◌≤◌, List, [], ◌∷◌, ◌++◌, length, take, drop, Some, None, refl, sym, ap, ◌∙◌, arith, length-append, length-drop}
 use Rattle.std.specs.List.{slice_get}
 use Rattle.std.proofs.Math.Seq.{take-append_seam}
 use Rattle.std.proofs.lemmas.Bool.{le-ltb}
-use Rattle.std.proofs.lemmas.List.{take_all}
-use Rattle.password_hash.specs.Crypt64.{letters_of, number_of}
-use Rattle.password_hash.proofs.Crypt64Facts.{length-letters_of, number_of-letters_of}
+use Rattle.std.specs.Prelude.{All, IsSome, Option}
+use Rattle.std.proofs.lemmas.List.{append-nil, take_all}
+use Rattle.std.proofs.lemmas.List.Elements.{All-head, All-tail}
+use Rattle.password_hash.specs.Crypt64.{letter_value, letters_of, number_of, with_digit}
+use Rattle.password_hash.proofs.Crypt64Facts.{length-letters_of, letters_of-number_of, number_of-letters_of}
 use Rattle.scrypt.specs.McfCosts.{five_letter_number, SaysCosts}
 
 -- where there are five letters, they say the number
@@ -41,3 +43,39 @@ to_the_end bytes text place same =
 pub empty_says_none : (field : List ℕ) {log_n r p : ℕ} → slice_get field 0 ≡ None → SaysCosts field log_n r p → ⊥
 empty_says_none [] none says = let r_is = says.r_is in cc
 empty_says_none (first ∷ field) none says = absurd (cc)
+
+-- numbers below 2^30 are read back from their five letters alone
+pub five_letters-read_back : (number : ℕ) → number < 2 ^ 30 → five_letter_number (letters_of 5 number) ≡ Some number
+five_letters-read_back number below =
+    let whole : number % 2 ^ 30 ≡ number = omega arith in
+    ap five_letter_number (sym (append-nil (letters_of 5 number))) ∙ five_letter_number-letters_of number [] ∙ ap Some whole
+
+-- five letters are those of the number that they say
+pub five_letters-written_back : (letters : List ℕ) (number : ℕ) → length letters ≡ 5 → five_letter_number letters ≡ Some number
+    → (letters_of 5 number ≡ letters) × (number < 2 ^ 30)
+five_letters-written_back letters number five says =
+    let read : number_of letters ≡ Some number =
+    ap number_of (sym (take_all 5 letters (omega arith))) ∙ sym (five_letter_number-some letters (omega arith)) ∙ says in
+    let both = letters_of-number_of letters number read in
+    rw five at both
+
+-- letters say a number
+number_said : (letters : List ℕ) → All (λ byte. IsSome (letter_value byte)) letters → IsSome (number_of letters)
+unfolding number_of
+number_said [] each = refl
+number_said (first ∷ letters) each =
+    both (letter_value first) (number_of letters)
+    (All-head (λ byte. IsSome (letter_value byte)) first letters each)
+    (number_said letters (All-tail (λ byte. IsSome (letter_value byte)) first letters each))
+  where
+    both : (value above : Option ℕ) → IsSome value → IsSome above → IsSome (with_digit value above)
+    both None above h k = h
+    both (Some value) None h k = k
+    both (Some value) (Some above) h k = refl
+
+pub five_letters-said : (letters : List ℕ) → length letters ≡ 5 → All (λ byte. IsSome (letter_value byte)) letters
+    → IsSome (five_letter_number letters)
+five_letters-said letters five each =
+    let is : five_letter_number letters ≡ number_of letters =
+    five_letter_number-some letters (omega arith) ∙ ap number_of (take_all 5 letters (omega arith)) in
+    rw is (number_said letters each)

@@ -1,8 +1,8 @@
 //! Laws of the definitions. Each function does nothing when it runs: its contract is the law.
 
-ghost use Rattle.std.specs.Prelude.{◌≡◌, ℕ, ◌*◌, ◌%◌, ◌<◌, ◌≤◌, List, [], ◌∷◌, ◌++◌, length, take, Result, Ok, IfSome};
+ghost use Rattle.std.specs.Prelude.{◌≡◌, ℕ, ◌*◌, ◌%◌, ◌^◌, ◌<◌, ◌≤◌, List, [], ◌∷◌, ◌++◌, length, take, Result, Ok, IfSome, IsSome, Some, All};
 ghost use Rattle.sha2.specs.Sha256.{sha256};
-ghost use Rattle.password_hash.specs.Crypt64.{Crypt64};
+ghost use Rattle.password_hash.specs.Crypt64.{Crypt64, letter_value, letters_of};
 ghost use Rattle.password_hash.specs.Mcf.{Modular};
 ghost use Rattle.password_hash.specs.Phc.{IsHashText, IsSalt, hash_text};
 ghost use Rattle.password_hash.specs.Refusal.{Refusal};
@@ -12,6 +12,7 @@ ghost use Rattle.scrypt.specs.BlockMix.{block_mix};
 ghost use Rattle.scrypt.specs.ChunkOrder.{NamesEachOnce, mixed_in_order};
 ghost use Rattle.scrypt.specs.Diagonal.{AreInverse, IsBlockMixBy, diagonal_core, diagonal_order, inverse_pivot, pivot, standard_order};
 ghost use Rattle.scrypt.specs.Key.{derived_key, mixed_chunks};
+ghost use Rattle.scrypt.specs.McfCosts.{five_letter_number};
 ghost use Rattle.scrypt.specs.PhcAnswers.{bare};
 ghost use Rattle.scrypt.specs.PhcCosts.{ReadsCosts, written_pairs};
 ghost use Rattle.scrypt.specs.PhcHash.{Accepts, IsMadeHash};
@@ -78,8 +79,20 @@ pub fn made_hashes_are_accepted()
         → IsHashText (hash_text hash) again → Accepts password again }
 {}
 
+/// Numbers below 2^30 and their five letters undo each other, every five letters say a number, and
+/// accepted `r` and `p` are below 2^30: migration tools rely on it, which write costs into `$7$` texts.
+pub fn five_letters_are_inverse()
+    ensures read_back { (number : ℕ) → number < 2 ^ 30 → five_letter_number (letters_of 5 number) ≡ Some number }
+    ensures written_back { (letters : List ℕ) (number : ℕ) → length letters ≡ 5 → five_letter_number letters ≡ Some number
+        → (letters_of 5 number ≡ letters) × (number < 2 ^ 30) }
+    ensures said { (letters : List ℕ) → length letters ≡ 5 → All (λ byte. IsSome (letter_value byte)) letters
+        → IsSome (five_letter_number letters) }
+    ensures accepted { (log_n r p : ℕ) → AreAccepted log_n r p → (r < 2 ^ 30) × (p < 2 ^ 30) }
+{}
+
 /// The diagonal order and the standard order undo each other on all whole blocks, and the two
-/// tables of places are inverse.
+/// tables of places are inverse: the lanes rely on it, since what is proved of words in diagonal order
+/// then covers every input.
 pub fn diagonal_order_undone()
     ensures undone { (x : List ℕ) → length x % 16 ≡ 0 → standard_order (diagonal_order x) ≡ x }
     ensures redone { (x : List ℕ) → length x % 16 ≡ 0 → diagonal_order (standard_order x) ≡ x }
@@ -87,7 +100,7 @@ pub fn diagonal_order_undone()
 {}
 
 /// The block mix of words in diagonal order, with the core in diagonal order in place of the core,
-/// is the block mix in diagonal order.
+/// is the block mix in diagonal order: the lanes rely on it.
 pub fn block_mix_in_diagonal_order()
     ensures { (b : List ℕ) → 0 < length b → length b % 32 ≡ 0
         → IsBlockMixBy diagonal_core (diagonal_order b) (diagonal_order (block_mix b)) }
