@@ -1,5 +1,5 @@
 -- Facts on PHC hashes that are made.
-use Rattle.std.proofs.Common.{◌≡◌, ℕ, zero, suc, ◌<◌, ◌≤◌, ◌/◌, ◌%◌, ◌^◌, List, [], ◌∷◌, length, refl, sym, ap, arith, lit≤, subst, inl, inr, None, Some, Ok}
+use Rattle.std.proofs.Common.{◌≡◌, ℕ, zero, suc, ◌<◌, ◌/◌, ◌%◌, List, [], ◌∷◌, length, refl, sym, ap, arith, lit≤, subst, inl, inr, None, Some, Ok}
 use Rattle.std.specs.Prelude.{IfSome, Option, slice_index, unwrap_or}
 use Rattle.std.specs.List.{All}
 use Rattle.std.specs.Int.{to_be_bytes, w32}
@@ -19,7 +19,7 @@ use Rattle.scrypt.specs.Derives.{key_by}
 use Rattle.scrypt.specs.PhcAnswers.{bare}
 use Rattle.scrypt.specs.PhcCosts.{ReadsCosts}
 use Rattle.scrypt.specs.PhcHash.{Accepts, IsMadeHash, made_len}
-use Rattle.scrypt.proofs.AcceptedFacts.{small_factor, small_log_n}
+use Rattle.scrypt.proofs.AcceptedFacts.{small_costs}
 use Rattle.scrypt.proofs.Pbkdf2Facts.{length-pbkdf2}
 use Rattle.scrypt.proofs.PhcCostsFacts.{three_pairs}
 use Rattle.scrypt.proofs.ReadingFacts.{written_read}
@@ -89,16 +89,14 @@ stored_made (Some len) fits = fits
 pub made_is_text : (c : Parameters) (password salt : List ℕ) (hash : PasswordHash) → AreAccepted c.log_n c.r c.p
     → IfSome c.output_len IsStoredLen → IsSalt salt → IsMadeHash c password salt hash → IsHashText (hash_text hash) hash
 made_is_text c password salt hash fits len salted made =
-    let small : c.log_n ≤ 56 = small_log_n c.log_n c.r fits.0 fits.2 in
-    let small_r : c.r < 2 ^ 30 = small_factor c.r c.p fits.1 fits.3 in
-    let small_p : c.p < 2 ^ 30 = small_factor c.p c.r fits.0 (omega (arith, fits.3)) in
+    let small = small_costs c.log_n c.r c.p fits in
     let stored = stored_made c.output_len len in
     let long = length-derived_key password salt c.log_n c.r c.p (made_len c) in
     record {
       whole = refl;
       algorithm = rw made.algorithm (record { some = lit≤ tt; short = lit≤ tt; letters = refl });
       version = rw made.version tt;
-      params = rw made.params (three_pairs c.log_n c.r c.p (omega arith) (omega arith) (omega arith));
+      params = rw made.params (three_pairs c.log_n c.r c.p (omega (arith, small.0)) (omega (arith, small.1)) (omega (arith, small.2)));
       salt = rw made.salt_is salted;
       key = rw made.key_is (record {
         bytes = derived_key-are_bytes password salt c.log_n c.r c.p (made_len c);

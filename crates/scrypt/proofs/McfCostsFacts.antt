@@ -6,9 +6,13 @@ use Rattle.std.proofs.lemmas.Bool.{le-ltb}
 use Rattle.std.specs.Prelude.{All, IsSome, Option}
 use Rattle.std.proofs.lemmas.List.{append-nil, take_all}
 use Rattle.std.proofs.lemmas.List.Elements.{All-head, All-tail}
-use Rattle.password_hash.specs.Crypt64.{letter_value, letters_of, number_of, with_digit}
+use Rattle.password_hash.specs.Crypt64.{letter, letter_value, letters_of, number_of, with_digit}
 use Rattle.password_hash.proofs.Crypt64Facts.{length-letters_of, letters_of-number_of, number_of-letters_of}
-use Rattle.scrypt.specs.McfCosts.{five_letter_number, SaysCosts}
+use Rattle.password_hash.proofs.GroupFacts.{append_parts}
+use Rattle.password_hash.proofs.LetterFacts.{letter_value-letter}
+use Rattle.scrypt.specs.Accepted.{AreAccepted}
+use Rattle.scrypt.specs.McfCosts.{costs_letters, five_letter_number, SaysCosts}
+use Rattle.scrypt.proofs.AcceptedFacts.{small_costs}
 
 -- where there are five letters, they say the number
 pub five_letter_number-some : (text : List ℕ) → 5 ≤ length text → five_letter_number text ≡ number_of (take 5 text)
@@ -79,3 +83,30 @@ five_letters-said letters five each =
     let is : five_letter_number letters ≡ number_of letters =
     five_letter_number-some letters (omega arith) ∙ ap number_of (take_all 5 letters (omega arith)) in
     rw is (number_said letters each)
+
+-- letters and five letters are those of one number
+letter-once : (value other : ℕ) → value < 64 → other < 64 → letter value ≡ letter other → value ≡ other
+letter-once value other below other_below same =
+    let values : Some value ≡ Some other = sym (letter_value-letter value below) ∙ ap letter_value same ∙ letter_value-letter other other_below in
+    cc
+
+five_letters-once : (number other : ℕ) → number < 2 ^ 30 → other < 2 ^ 30 → letters_of 5 number ≡ letters_of 5 other → number ≡ other
+five_letters-once number other below other_below same =
+    let numbers : Some number ≡ Some other =
+    sym (five_letters-read_back number below) ∙ ap five_letter_number same ∙ five_letters-read_back other other_below in
+    cc
+
+-- the letters of accepted costs are those of one log_n, one r and one p
+pub costs_letters-once : (log_n r p other_log_n other_r other_p : ℕ) → AreAccepted log_n r p → AreAccepted other_log_n other_r other_p
+    → costs_letters log_n r p ≡ costs_letters other_log_n other_r other_p → (log_n ≡ other_log_n) × (r ≡ other_r) × (p ≡ other_p)
+costs_letters-once log_n r p other_log_n other_r other_p fits other_fits same =
+    let small = small_costs log_n r p fits in
+    let other_small = small_costs other_log_n other_r other_p other_fits in
+    let first : letter log_n ≡ letter other_log_n = cc in
+    let behind : letters_of 5 r ++ letters_of 5 p ≡ letters_of 5 other_r ++ letters_of 5 other_p = cc in
+    let parts = append_parts (letters_of 5 r) (letters_of 5 p) (letters_of 5 other_r) (letters_of 5 other_p)
+    (length-letters_of 5 r ∙ sym (length-letters_of 5 other_r)) behind in (
+      letter-once log_n other_log_n (omega (arith, small.0)) (omega (arith, other_small.0)) first,
+      five_letters-once r other_r small.1 other_small.1 parts.0,
+      five_letters-once p other_p small.2 other_small.2 parts.1,
+    )

@@ -1,11 +1,11 @@
 -- Facts on costs as they are read from PHC parameters: they have no length, and one reading alone.
-use Rattle.std.proofs.Common.{◌≡◌, ◌≢◌, ℕ, ◌<◌, ◌≤◌, List, [], ◌∷◌, codes, refl, sym, ap, ◌∙◌, ◌^◌, arith, Ok, Err}
+use Rattle.std.proofs.Common.{◌≡◌, ◌≢◌, ℕ, ◌<◌, ◌≤◌, List, [], ◌∷◌, codes, refl, sym, ap, ◌∙◌, arith, Ok, Err}
 use Rattle.std.specs.Prelude.{Result, IfOk, None}
 use Rattle.password_hash.specs.Decimal.{IsDecimal}
 use Rattle.password_hash.specs.Refusal.{Refusal, BadParam, BadParams}
 use Rattle.password_hash.proofs.DecimalFacts.{IsDecimal-decimal}
 use Rattle.scrypt.specs.Accepted.{AreAccepted, Parameters}
-use Rattle.scrypt.proofs.AcceptedFacts.{small_factor, small_log_n}
+use Rattle.scrypt.proofs.AcceptedFacts.{small_costs}
 use Rattle.scrypt.proofs.PhcCostsFacts.{first_letters}
 use Rattle.scrypt.specs.PhcAnswers.{bare}
 use Rattle.scrypt.specs.PhcCosts.{Reads, ReadsCosts, written_pairs, accepted, not_accepted, ln, ln_refused, r, r_refused, p, p_refused, unknown}
@@ -130,8 +130,6 @@ reads_once (unknown no_ln no_r no_p) second = unknown_decides no_ln no_r no_p se
 -- costs that were written are read
 pub written_read : (c : Parameters) → AreAccepted c.log_n c.r c.p → ReadsCosts (written_pairs c) (Ok (bare c))
 written_read c fits =
-    let small : c.log_n ≤ 56 = small_log_n c.log_n c.r fits.0 fits.2 in
-    let small_r : c.r < 2 ^ 30 = small_factor c.r c.p fits.1 fits.3 in
-    let small_p : c.p < 2 ^ 30 = small_factor c.p c.r fits.0 (omega (arith, fits.3)) in
-    ln c.log_n refl (IsDecimal-decimal c.log_n (omega arith)) (omega arith)
-    (r c.r refl (IsDecimal-decimal c.r (omega arith)) (p c.p refl (IsDecimal-decimal c.p (omega arith)) (accepted fits)))
+    let small = small_costs c.log_n c.r c.p fits in
+    ln c.log_n refl (IsDecimal-decimal c.log_n (omega (arith, small.0))) (omega (arith, small.0))
+    (r c.r refl (IsDecimal-decimal c.r (omega (arith, small.1))) (p c.p refl (IsDecimal-decimal c.p (omega (arith, small.2))) (accepted fits)))

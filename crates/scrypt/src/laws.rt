@@ -1,6 +1,6 @@
 //! Laws of the definitions. Each function does nothing when it runs: its contract is the law.
 
-ghost use Rattle.std.specs.Prelude.{◌≡◌, ℕ, ◌*◌, ◌%◌, ◌^◌, ◌<◌, ◌≤◌, List, [], ◌∷◌, ◌++◌, length, take, Result, Ok, IfSome, IsSome, Some, All};
+ghost use Rattle.std.specs.Prelude.{◌≡◌, ◌↔◌, ℕ, ◌*◌, ◌%◌, ◌^◌, ◌<◌, ◌≤◌, List, [], ◌∷◌, ◌++◌, length, take, Result, Ok, IfSome, IsSome, Some, All};
 ghost use Rattle.sha2.specs.Sha256.{sha256};
 ghost use Rattle.password_hash.specs.Crypt64.{Crypt64, letter_value, letters_of};
 ghost use Rattle.password_hash.specs.Mcf.{Modular};
@@ -12,7 +12,7 @@ ghost use Rattle.scrypt.specs.BlockMix.{block_mix};
 ghost use Rattle.scrypt.specs.ChunkOrder.{NamesEachOnce, mixed_in_order};
 ghost use Rattle.scrypt.specs.Diagonal.{AreInverse, IsBlockMixBy, diagonal_core, diagonal_order, inverse_pivot, pivot, standard_order};
 ghost use Rattle.scrypt.specs.Key.{derived_key, mixed_chunks};
-ghost use Rattle.scrypt.specs.McfCosts.{five_letter_number};
+ghost use Rattle.scrypt.specs.McfCosts.{costs_letters, five_letter_number};
 ghost use Rattle.scrypt.specs.PhcAnswers.{bare};
 ghost use Rattle.scrypt.specs.PhcCosts.{ReadsCosts, written_pairs};
 ghost use Rattle.scrypt.specs.PhcHash.{Accepts, IsMadeHash};
@@ -88,6 +88,14 @@ pub fn five_letters_are_inverse()
     ensures said { (letters : List ℕ) → length letters ≡ 5 → All (λ byte. IsSome (letter_value byte)) letters
         → IsSome (five_letter_number letters) }
     ensures accepted { (log_n r p : ℕ) → AreAccepted log_n r p → (r < 2 ^ 30) × (p < 2 ^ 30) }
+{}
+
+/// The eleven letters with which `$7$` texts write accepted costs are equal exactly where `log_n`, `r`
+/// and `p` are: migration tools rely on it, which tell costs by the beginning of a text.
+pub fn costs_prefix_is_injective()
+    ensures { (log_n r p other_log_n other_r other_p : ℕ) → AreAccepted log_n r p → AreAccepted other_log_n other_r other_p
+        → (costs_letters log_n r p ≡ costs_letters other_log_n other_r other_p)
+        ↔ ((log_n ≡ other_log_n) × (r ≡ other_r) × (p ≡ other_p)) }
 {}
 
 /// The diagonal order and the standard order undo each other on all whole blocks, and the two

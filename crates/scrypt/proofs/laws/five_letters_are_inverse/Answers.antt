@@ -1,5 +1,4 @@
-use Rattle.std.proofs.Common.{arith}
-use Rattle.scrypt.proofs.AcceptedFacts.{small_factor}
+use Rattle.scrypt.proofs.AcceptedFacts.{small_costs}
 use Rattle.scrypt.proofs.McfCostsFacts.{five_letters-read_back, five_letters-said, five_letters-written_back}
 use Rattle.scrypt.proofs.laws.five_letters_are_inverse.Goals as goal
 
@@ -13,5 +12,4 @@ pub returns-clause-said : goal.returns-clause-said
 returns-clause-said c = five_letters-said
 
 pub returns-clause-accepted : goal.returns-clause-accepted
-returns-clause-accepted c log_n r p fits =
-    (small_factor r p fits.1 fits.3, small_factor p r fits.0 (omega (arith, fits.3)))
+returns-clause-accepted c log_n r p fits = let small = small_costs log_n r p fits in (small.1, small.2)
