@@ -13,6 +13,7 @@ import random
 import subprocess
 import sys
 
+import crypt64
 import phc
 import reference
 
@@ -20,6 +21,9 @@ CASES = 200
 
 # where the verdicts of this repository on mutations of PHC texts are pinned
 MUTATIONS = "crates/scrypt_tests/src/phc_mutations.rt"
+
+# where the letters that this repository writes are pinned
+LETTERS = "crates/scrypt_tests/src/crypt_letters.rt"
 
 
 def run(program, words, password):
@@ -107,7 +111,7 @@ def phc_passlib(program, rng):
     try:
         from passlib.hash import scrypt
     except ImportError:
-        print("passlib isn't installed: skipped")
+        print(f"passlib isn't installed for {sys.executable}: skipped")
         return 0, 0, 1
     text = phc.TEXTS[0]
     agree = [scrypt.verify("password", text) and not scrypt.verify("invalid", text)]
@@ -124,7 +128,28 @@ def phc_passlib(program, rng):
     return sum(agree), len(agree) - sum(agree), 0
 
 
-PARTS = [keys, hashes, phc_mutations, phc_passlib]
+def crypt_letters(_program, _rng):
+    """The letters of byte strings in crypt Base64, which a test of the gate pins."""
+    digest, strings = crypt64.all_letters()
+    with open(LETTERS, encoding="utf-8") as test:
+        agree = f'"{digest}"' in test.read()
+    print(f"crypt Base64: the letters of {strings} byte strings {'agree' if agree else 'DIFFER'}")
+    return (strings, 0, 0) if agree else (0, strings, 0)
+
+
+def crypt_letters_passlib(_program, _rng):
+    """The same letters by passlib."""
+    try:
+        from passlib.utils.binary import h64
+    except ImportError:
+        print(f"passlib isn't installed for {sys.executable}: skipped")
+        return 0, 0, 1
+    told = [h64.encode_bytes(data).decode() == crypt64.letters(data) for data in crypt64.strings()]
+    print(f"passlib: the letters of {sum(told)} of {len(told)} byte strings agree")
+    return sum(told), len(told) - sum(told), 0
+
+
+PARTS = [keys, hashes, phc_mutations, phc_passlib, crypt_letters, crypt_letters_passlib]
 
 
 def main():

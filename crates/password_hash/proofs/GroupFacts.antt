@@ -1,10 +1,11 @@
--- Bytes and letters by groups: how many there are, and that each text is the encoding of one list of bytes.
-use Rattle.std.proofs.Common.{◌≡◌, ◌≢◌, ◌⊎◌, inl, inr, ◌∙◌, sym, ap, subst, refl, arith, ℕ, zero, suc, ◌+◌, ◌-◌, ◌*◌, ◌/◌, ◌%◌, ◌^◌, ◌<◌, ◌≤◌, Some, None, List, [], ◌∷◌, ◌++◌, length, take, append_assoc, length-append}
+-- Bytes and letters by groups: how many there are, and what a group says.
+use Rattle.std.proofs.Common.{◌≡◌, ◌≢◌, ◌⊎◌, inl, inr, ◌∙◌, sym, ap, subst, refl, arith, ℕ, zero, suc, ◌+◌, ◌-◌, ◌*◌, ◌/◌, ◌%◌, ◌^◌, ◌<◌, ◌≤◌, Some, None, List, [], ◌∷◌, ◌++◌, length, take, drop, append_assoc, length-append}
 use Rattle.std.proofs.Math.Nat.{pow-suc}
 use Rattle.std.specs.Int.{to_le_bytes, w32}
 use Rattle.std.proofs.lemmas.Bool.{cases_lt}
-use Rattle.std.proofs.lemmas.List.{nil_from_length, append-nil}
-use Rattle.std.proofs.lemmas.List.Elements.{All-nil, All-cons, All-head, All-tail, All-append}
+use Rattle.std.proofs.Math.Seq.{take-append_seam, drop-append_seam}
+use Rattle.std.proofs.lemmas.List.{nil_from_length, append-nil, take_at, drop_at}
+use Rattle.std.proofs.lemmas.List.Elements.{All-nil, All-cons, All-head, All-tail, All-append, All-take, All-drop}
 use Rattle.password_hash.specs.Crypt64.{letters_of, number_of, crypt64_of, Crypt64, IsCrypt64, encoded_len, Begins}
 use Rattle.password_hash.proofs.Crypt64Facts.{AreBytes, length-letters_of, number_of-letters_of, letters_of-number_of}
 
@@ -24,16 +25,11 @@ no_letters bytes none =
     nil_from_length bytes (omega arith)
 
 -- two texts cut at the same place are equal where both parts are
-append_parts : (xs ys us vs : List ℕ) → length xs ≡ length us → xs ++ ys ≡ us ++ vs → (xs ≡ us) × (ys ≡ vs)
-append_parts [] ys [] vs same is = (refl, is)
-append_parts [] ys (u ∷ us) vs same is = absurd (omega arith)
-append_parts (x ∷ xs) ys [] vs same is = absurd (omega arith)
-append_parts (x ∷ xs) ys (u ∷ us) vs same is =
-    let heads : x ≡ u = cc in
-    let tails : xs ++ ys ≡ us ++ vs = cc in
-    let rest = append_parts xs ys us vs (omega arith) tails in
-    let front : xs ≡ us = rest.0 in
-    (cc, rest.1)
+pub append_parts : (xs ys us vs : List ℕ) → length xs ≡ length us → xs ++ ys ≡ us ++ vs → (xs ≡ us) × (ys ≡ vs)
+append_parts xs ys us vs same is = (
+  sym (take-append_seam xs ys) ∙ ap (take (length xs)) is ∙ take_at us vs (length xs) (sym same),
+  sym (drop-append_seam xs ys) ∙ ap (drop (length xs)) is ∙ drop_at us vs (length xs) (sym same),
+)
 
 -- what up to three bytes say as one number, the first the lowest
 abbrev pub le_number : List ℕ → ℕ
@@ -144,16 +140,6 @@ shifted_in (suc (suc zero)) number most below = omega arith
 shifted_in (suc (suc (suc zero))) number most below = omega arith
 shifted_in (suc (suc (suc (suc len)))) number most below = absurd (omega arith)
 
--- what holds of all bytes holds of both parts
-are_bytes_left : (xs ys : List ℕ) → AreBytes (xs ++ ys) → AreBytes xs
-are_bytes_left [] ys h = none_wrong
-are_bytes_left (x ∷ xs) ys h =
-    are_bytes-cons x xs (All-head (λ b. b < 256) x (xs ++ ys) h) (are_bytes_left xs ys (All-tail (λ b. b < 256) x (xs ++ ys) h))
-
-are_bytes_right : (xs ys : List ℕ) → AreBytes (xs ++ ys) → AreBytes ys
-are_bytes_right [] ys h = h
-are_bytes_right (x ∷ xs) ys h = are_bytes_right xs ys (All-tail (λ b. b < 256) x (xs ++ ys) h)
-
 no_crypt64 : crypt64_of [] ≡ []
 unfolding crypt64_of
 no_crypt64 = refl
@@ -207,8 +193,10 @@ says_first (byte ∷ bytes) letters group rest cut is =
     let encoded : group ++ rest ≡ letters_of (suc (length front)) (le_number front) ++ crypt64_of tail =
     sym cut.whole ∙ is.encoding ∙ ap crypt64_of joined ∙ crypt64_of-first front tail first in
     let both : AreBytes (front ++ tail) = subst AreBytes joined is.are_bytes in
-    let front_bytes : AreBytes front = are_bytes_left front tail both in
-    let tail_bytes : AreBytes tail = are_bytes_right front tail both in
+    let front_bytes : AreBytes front =
+    subst AreBytes (take-append_seam front tail) (All-take (λ b. b < 256) (length front) (front ++ tail) both) in
+    let tail_bytes : AreBytes tail =
+    subst AreBytes (drop-append_seam front tail) (All-drop (λ b. b < 256) (length front) (front ++ tail) both) in
     let lengths : length group + length rest ≡ suc (length front) + length (crypt64_of tail) =
     sym (length-append group rest) ∙ ap length encoded
     ∙ length-append (letters_of (suc (length front)) (le_number front)) (crypt64_of tail)
@@ -307,12 +295,6 @@ begins_with_group letters group rest number len cut read is_len some none =
 
 -- letters that are read group by group
 
-pub begins-start : (letters : List ℕ) → Begins letters [] letters
-begins-start letters = record {
-  forth = λ more is. is;
-  back = λ all is. (all, refl, is);
-}
-
 pub begins-more : (letters bytes rest front behind : List ℕ) → Begins letters bytes rest → Begins rest front behind
     → Begins letters (bytes ++ front) behind
 begins-more letters bytes rest front behind first second = record {
@@ -334,70 +316,6 @@ pub begins-stuck : (letters bytes rest : List ℕ) → Begins letters bytes rest
 begins-stuck letters bytes rest begins stuck some is =
     let more = begins.back is.0 is.1 in
     some (no_bytes more.0 rest more.2 (stuck more.0 more.2))
-
--- an encoding leaves nothing where no group is left
-pub begins-finished : (letters bytes rest : List ℕ) → Begins letters bytes rest → ((more : List ℕ) → Crypt64 more rest → more ≡ [])
-    → IsCrypt64 letters → rest ≡ []
-begins-finished letters bytes rest begins stuck is =
-    let more = begins.back is.0 is.1 in
-    no_bytes more.0 rest more.2 (stuck more.0 more.2)
-
--- one text is the encoding of one list of bytes
-crypt64_of-injective : (xs ys : List ℕ) → AreBytes xs → AreBytes ys → length xs ≡ length ys → crypt64_of xs ≡ crypt64_of ys → xs ≡ ys
-unfolding crypt64_of
-crypt64_of-injective [] [] x-bytes y-bytes len same = refl
-crypt64_of-injective [] (y ∷ ys) x-bytes y-bytes len same = absurd (omega arith)
-crypt64_of-injective (x ∷ xs) [] x-bytes y-bytes len same = absurd (omega arith)
-crypt64_of-injective (a ∷ []) (d ∷ []) x-bytes y-bytes len same =
-    let fits : a < 256 = x-bytes 0 0 (omega arith) in
-    let fits' : d < 256 = y-bytes 0 0 (omega arith) in
-    let numbers : Some a ≡ Some d =
-    sym (number_of-letters_of 2 a (omega arith)) ∙ ap number_of same ∙ number_of-letters_of 2 d (omega arith) in
-    let equal : a ≡ d = cc in
-    rw equal refl
-crypt64_of-injective (a ∷ []) (d ∷ e ∷ ys) x-bytes y-bytes len same = absurd (omega arith)
-crypt64_of-injective (a ∷ b ∷ []) (d ∷ []) x-bytes y-bytes len same = absurd (omega arith)
-crypt64_of-injective (a ∷ b ∷ []) (d ∷ e ∷ []) x-bytes y-bytes len same =
-    let a-fits : a < 256 = x-bytes 0 0 (omega arith) in
-    let b-fits : b < 256 = x-bytes 1 0 (omega arith) in
-    let d-fits : d < 256 = y-bytes 0 0 (omega arith) in
-    let e-fits : e < 256 = y-bytes 1 0 (omega arith) in
-    let numbers : Some (a + 256 * b) ≡ Some (d + 256 * e) =
-    sym (number_of-letters_of 3 (a + 256 * b) (omega arith)) ∙ ap number_of same ∙ number_of-letters_of 3 (d + 256 * e) (omega arith) in
-    let equal : a + 256 * b ≡ d + 256 * e = cc in
-    let first : a ≡ d = omega arith in
-    let second : b ≡ e = omega arith in
-    rw (first, second) refl
-crypt64_of-injective (a ∷ b ∷ []) (d ∷ e ∷ f ∷ ys) x-bytes y-bytes len same = absurd (omega arith)
-crypt64_of-injective (a ∷ b ∷ c ∷ xs) (d ∷ []) x-bytes y-bytes len same = absurd (omega arith)
-crypt64_of-injective (a ∷ b ∷ c ∷ xs) (d ∷ e ∷ []) x-bytes y-bytes len same = absurd (omega arith)
-crypt64_of-injective (a ∷ b ∷ c ∷ xs) (d ∷ e ∷ f ∷ ys) x-bytes y-bytes len same =
-    let a-fits : a < 256 = x-bytes 0 0 (omega arith) in
-    let b-fits : b < 256 = x-bytes 1 0 (omega arith) in
-    let c-fits : c < 256 = x-bytes 2 0 (omega arith) in
-    let d-fits : d < 256 = y-bytes 0 0 (omega arith) in
-    let e-fits : e < 256 = y-bytes 1 0 (omega arith) in
-    let f-fits : f < 256 = y-bytes 2 0 (omega arith) in
-    let left = a + 256 * b + 65536 * c in
-    let right = d + 256 * e + 65536 * f in
-    let parts = append_parts (letters_of 4 left) (crypt64_of xs) (letters_of 4 right) (crypt64_of ys)
-    (length-letters_of 4 left ∙ sym (length-letters_of 4 right)) same in
-    let numbers : Some left ≡ Some right =
-    sym (number_of-letters_of 4 left (omega arith)) ∙ ap number_of parts.0 ∙ number_of-letters_of 4 right (omega arith) in
-    let equal : a + 256 * b + 65536 * c ≡ d + 256 * e + 65536 * f = cc in
-    let first : a ≡ d = omega arith in
-    let second : b ≡ e = omega arith in
-    let third : c ≡ f = omega arith in
-    let rest : xs ≡ ys = crypt64_of-injective xs ys (are_bytes_right (a ∷ b ∷ c ∷ []) xs x-bytes)
-    (are_bytes_right (d ∷ e ∷ f ∷ []) ys y-bytes) (omega arith) parts.1 in
-    rw (first, second, third, rest) refl
-
-pub Crypt64-one : (letters xs ys : List ℕ) → Crypt64 xs letters → Crypt64 ys letters → xs ≡ ys
-Crypt64-one letters xs ys is is' =
-    let same : crypt64_of xs ≡ crypt64_of ys = sym is.encoding ∙ is'.encoding in
-    let counts : encoded_len (length xs) ≡ encoded_len (length ys) =
-    sym (length-crypt64_of xs) ∙ ap length same ∙ length-crypt64_of ys in
-    crypt64_of-injective xs ys is.are_bytes is'.are_bytes (omega arith) same
 
 -- what is done is fewer letters than there are
 pub letters-inside : (done left bytes : List ℕ) (x : ℕ) → (done ++ (x ∷ [])) ++ left ≡ crypt64_of bytes → length done < encoded_len (length bytes)

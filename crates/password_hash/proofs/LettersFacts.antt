@@ -6,7 +6,7 @@ use Rattle.std.proofs.lemmas.Str.{IsUtf8-from_ascii}
 use Rattle.std.specs.Str.{IsAscii}
 use Rattle.std.proofs.lemmas.Bool.Decides.{nat_tests}
 use Rattle.std.proofs.lemmas.Str.Ascii.{IsAscii-nil, IsAscii-cons}
-use Rattle.password_hash.specs.Letters.{is_identifier_letter, is_value_letter}
+use Rattle.password_hash.specs.Letters.{is_identifier_letter}
 
 -- a test that holds of the head and of the rest
 pub list_all_parts : (p : ℕ → Bool) (x : ℕ) (xs : List ℕ) → IsTrue (list_all p (x ∷ xs)) → IsTrue (p x) × IsTrue (list_all p xs)
@@ -22,16 +22,9 @@ ascii_from_letters p small (x ∷ xs) h =
 identifier_letter_small : (b : ℕ) → IsTrue (is_identifier_letter b) → b < 128
 identifier_letter_small b h = grind (arith, nat_tests)
 
-value_letter_small : (b : ℕ) → IsTrue (is_value_letter b) → b < 128
-value_letter_small b h = grind (arith, nat_tests)
-
 -- an identifier is ASCII
 pub identifier_ascii : (xs : List ℕ) → IsTrue (list_all is_identifier_letter xs) → IsAscii xs
 identifier_ascii = ascii_from_letters is_identifier_letter identifier_letter_small
-
--- and so is a value
-pub value_ascii : (xs : List ℕ) → IsTrue (list_all is_value_letter xs) → IsAscii xs
-value_ascii = ascii_from_letters is_value_letter value_letter_small
 
 -- what `from_utf8` answers of ASCII bytes
 pub ascii_is_text : {T E : Type 0} (P : T → Type 0) (Q : E → Type 0) (bs : List ℕ) (r : Result T E) → MatchResult r P (λ e. ¬ IsUtf8 bs × Q e) → IsAscii bs → IsOk r

@@ -6,8 +6,8 @@ pub mod Base64Facts
 pub mod DecimalFacts
 pub mod PartsFacts
 pub mod HashFacts
-pub mod OneReading
 pub mod LetterFacts
 pub mod Crypt64Facts
 pub mod GroupFacts
 pub mod ModularFacts
+pub mod OneReading

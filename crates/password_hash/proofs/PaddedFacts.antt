@@ -1,10 +1,10 @@
 -- Lists in a fixed number of places.
-use Rattle.std.proofs.Common.{◌≡◌, ℕ, ◌-◌, ◌<◌, ◌≤◌, Bool, true, nat_eq, List, ◌++◌, length, take, drop, replicate, slice_index, arith, rules, length-append}
+use Rattle.std.proofs.Common.{◌≡◌, ℕ, ◌-◌, ◌<◌, ◌≤◌, Bool, true, nat_eq, List, ◌++◌, length, drop, replicate, slice_index, arith, rules, length-append}
 use Rattle.std.specs.Cmp.Lexicographic.{pointwise}
 use Rattle.std.proofs.lemmas.Grind.{same_number_lists}
 use Rattle.std.proofs.lemmas.List.{length-replicate, drop-replicate}
 use Rattle.std.proofs.lemmas.Slice.Eq.{bytes_eq-Decides}
-use Rattle.std.proofs.Math.Seq.{take-append_seam, drop-append_seam}
+use Rattle.std.proofs.Math.Seq.{drop-append_seam}
 use Rattle.password_hash.specs.Padded.{IsPadded}
 
 -- a list of so many, and zeros after it
@@ -16,10 +16,6 @@ padded_is size new xs e fits =
       whole = grind (arith, length-append, length-replicate);
       zeros = drop-append_seam xs (replicate (size - length xs) 0);
     })
-
--- its front is the list
-pub take_padded : (zeros new xs : List ℕ) → new ≡ xs → take (length xs) (new ++ zeros) ≡ xs
-take_padded zeros new xs e = rw e (take-append_seam xs zeros)
 
 -- lists with the same bytes at each place
 pub same_bytes : (xs ys : List ℕ) → length xs ≡ length ys → ((k : ℕ) → k < length xs → slice_index xs k ≡ slice_index ys k) → xs ≡ ys

@@ -2,7 +2,7 @@
 ghost use Rattle.std.specs.Prelude.{◌≡◌};
 ghost use Rattle.password_hash.specs.declared.mcf.Error.TheVariants.{OutOfMemory};
 
-mod alphabet;
+pub mod alphabet;
 mod crypt64;
 mod field;
 mod fields;

@@ -1,5 +1,5 @@
 -- Bounds on accepted parameters.
-use Rattle.scrypt.specs.Accepted.{Parameters, parameters_eq}
+use Rattle.scrypt.specs.Accepted.{AreAccepted, Parameters, parameters_eq}
 use Rattle.std.specs.Prelude.{Option, Some, None, nat_eq}
 use Rattle.std.specs.Bool.{Decides}
 use Rattle.std.specs.Option.{option_eq}
@@ -24,6 +24,15 @@ table_bytes log_n r = mul_assoc 128 r (2 ^ log_n)
 -- the bytes of the chunks
 pub small_chunks : (r p : ℕ) → r * p < 2 ^ 30 → p * (128 * r) ≤ 137438953440
 small_chunks r p few = omega arith
+
+-- the factors of an accepted product
+small_factor : (r p : ℕ) → 0 < p → r * p < 2 ^ 30 → r < 2 ^ 30
+small_factor r p some few = let least = mul-le r 1 r p (omega arith) some in omega arith
+
+-- accepted numbers are small
+pub small_costs : (log_n r p : ℕ) → AreAccepted log_n r p → (log_n ≤ 56) × (r < 2 ^ 30) × (p < 2 ^ 30)
+small_costs log_n r p fits =
+    (small_log_n log_n r fits.0 fits.2, small_factor r p fits.1 fits.3, small_factor p r fits.0 (omega (arith, fits.3)))
 
 -- the words of the table, as the code computes them
 pub small_table : (log_n r : ℕ) → 128 * r * 2 ^ log_n < 2 ^ 64 → 2 ^ log_n * (32 * r) < 2 ^ 62

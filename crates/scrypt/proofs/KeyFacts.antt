@@ -1,10 +1,14 @@
 -- Facts on the chunks of B, which are mixed one after another.
-use Rattle.std.proofs.Common.{◌≡◌, ◌≢◌, ℕ, ◌<◌, ◌≤◌, ◌+◌, ◌*◌, List, length, take, drop, ap, ◌∙◌, arith, below_more}
+use Rattle.std.proofs.Common.{◌≡◌, ◌≢◌, ℕ, ◌<◌, ◌≤◌, ◌+◌, ◌*◌, List, length, take, drop, sym, ap, ◌∙◌, arith, below_more}
+use Rattle.std.proofs.lemmas.List.FromFn.{take-map-range_with_len}
 use borrow.Rule.Slice.PartMut.{put_mid}
 use Rattle.scrypt.specs.Words.{bytes_of, part, words_of}
 use Rattle.scrypt.specs.RoMix.{ro_mix}
-use Rattle.scrypt.specs.Key.{mixed_chunk, mixed_chunks}
+use Rattle.scrypt.specs.Hmac.{padded_key}
+use Rattle.scrypt.specs.Pbkdf2.{pbkdf2}
+use Rattle.scrypt.specs.Key.{derived_key, mixed_chunk, mixed_chunks}
 use Rattle.scrypt.proofs.PartFacts.{part_of_slice, part_put_same, part_put_other, parts_all}
+use Rattle.scrypt.proofs.Pbkdf2Facts.{same_pbkdf2}
 
 -- the first i chunks of x are those of b after scryptROMix, and the others are those of b
 pub record AreMixed (b : List ℕ) (log_n r i : ℕ) (x : List ℕ) : Type 0 where
@@ -32,3 +36,17 @@ mixed_more b x ys log_n r i a n at size full room mixed before =
 pub mixed_all : (b x : List ℕ) (log_n r p : ℕ) → length x ≡ p * (128 * r)
     → AreMixed b log_n r p x → x ≡ mixed_chunks b log_n r p
 mixed_all b x log_n r p long mixed = parts_all (mixed_chunk b log_n r) (128 * r) p x long mixed.done
+
+-- a shorter key is the beginning of a longer one
+pub key_prefix : (password salt : List ℕ) (log_n r p m n : ℕ) → m ≤ n
+    → derived_key password salt log_n r p m ≡ take m (derived_key password salt log_n r p n)
+unfolding derived_key
+key_prefix password salt log_n r p m n shorter = sym (take-map-range_with_len _ 0 n m shorter)
+
+-- passwords that are padded alike have the same keys
+pub same_key : (one other salt : List ℕ) (log_n r p n : ℕ) → padded_key one ≡ padded_key other
+    → derived_key one salt log_n r p n ≡ derived_key other salt log_n r p n
+unfolding derived_key
+same_key one other salt log_n r p n padded =
+    same_pbkdf2 one other _ n padded
+    ∙ ap (λ b. pbkdf2 other (mixed_chunks b log_n r p) n) (same_pbkdf2 one other salt (p * (128 * r)) padded)

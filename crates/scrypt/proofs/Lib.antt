@@ -9,7 +9,10 @@ pub mod IntegerifyFacts
 pub mod RoMixFacts
 pub mod Pbkdf2Facts
 pub mod KeyFacts
+pub mod ChunkFacts
 pub mod StandardFacts
 pub mod PhcCostsFacts
 pub mod ReadingFacts
 pub mod PhcHashFacts
+pub mod MadeFacts
+pub mod McfCostsFacts

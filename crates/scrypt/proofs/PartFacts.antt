@@ -1,10 +1,11 @@
--- Facts on a list as rows of s words_of each.
-use Rattle.std.proofs.Common.{◌≡◌, ◌≢◌, ℕ, zero, suc, ◌<◌, ◌≤◌, ◌+◌, ◌*◌, List, [], ◌∷◌, ◌++◌, length, map, get_or, take, drop, refl, sym, ap, ◌∙◌, arith, inl, inr, add-zero, zero-add, append_assoc}
+-- Facts on a list that is cut into parts of s elements each.
+use Rattle.std.proofs.Common.{◌≡◌, ◌≢◌, ℕ, zero, suc, ◌<◌, ◌≤◌, ◌+◌, ◌*◌, List, ◌++◌, length, get_or, take, drop, refl, sym, ap, ◌∙◌, arith, inl, inr, add-zero, zero-add, append_assoc}
 use Rattle.std.proofs.Math.Nat.{mul-le-mul_right}
 use Rattle.std.proofs.lemmas.Bool.{cases_lt}
 use Rattle.std.proofs.lemmas.List.{take_at, drop_at, drop-take, drop-drop, take-append-drop, take-take, length-take-le, length-append, length-drop, nil_from_length}
 use Rattle.std.proofs.lemmas.Slice.{take-put_mid_below, drop-put_mid}
 use Rattle.std.proofs.lemmas.List.FromFn.{fill_by_all}
+use Rattle.std.proofs.lemmas.List.Folds.{flat_map-map}
 use borrow.Rule.Slice.PartMut.{put_mid}
 use Rattle.std.specs.List.{flat_map, range_with_len}
 use Rattle.scrypt.specs.Words.{part}
@@ -105,10 +106,6 @@ pub parts_same : (s n : ℕ) (x z : List ℕ) → length x ≡ n * s → length 
     → ((k : ℕ) → k < n → part s x k ≡ part s z k) → x ≡ z
 parts_same s n x z one two each =
     parts_all (λ k. part s z k) s n x one each ∙ sym (parts_all (λ k. part s z k) s n z two (λ k h. refl))
-
-flat_map-map : (g : ℕ → List ℕ) (f : ℕ → ℕ) (ks : List ℕ) → flat_map g (map f ks) ≡ flat_map (λ k. g (f k)) ks
-flat_map-map g f [] = refl
-flat_map-map g f (k ∷ ks) = ap (λ z. g (f k) ++ z) (flat_map-map g f ks)
 
 -- a list of one part for each element of x
 pub parts_of_each : (g : ℕ → List ℕ) (s : ℕ) (x b : List ℕ) → length b ≡ length x * s

@@ -1,10 +1,11 @@
 -- Facts on HMAC and PBKDF2.
-use Rattle.std.proofs.Common.{◌≡◌, ℕ, ◌<◌, ◌≤◌, ◌+◌, ◌-◌, ◌*◌, ◌/◌, ◌%◌, List, ◌++◌, length, take, drop, get_or, replicate, false, nat_lt, refl, sym, ◌∙◌, arith}
-use Rattle.std.proofs.lemmas.Bool.{le-ltb}
+use Rattle.std.proofs.Common.{◌≡◌, ℕ, ◌<◌, ◌≤◌, ◌+◌, ◌-◌, ◌*◌, ◌/◌, ◌%◌, suc, List, [], ◌∷◌, ◌++◌, length, map, take, drop, get_or, slice_index, replicate, bit_xor, false, true, nat_lt, refl, sym, ap, ◌∙◌, arith, append_assoc, length-append}
+use Rattle.std.proofs.lemmas.Bool.{le-ltb, lt-ltb}
 use Rattle.std.proofs.lemmas.List.{drop-replicate, get_or_append_left, get_or-append_right, get_or-take, get_or-drop, length-take-le, ext_get_or}
 use Rattle.std.proofs.lemmas.List.FromFn.{get_or-map-range_with_len, length-map-range_with_len}
 use Rattle.std.specs.List.{flat_map, range_with_len}
 use Rattle.sha2.proofs.Facts256.{length-sha256}
+use Rattle.sha2.specs.Sha256.{sha256}
 use borrow.Rule.Slice.PartMut.{put_mid}
 use Rattle.scrypt.specs.Hmac.{hmac_sha256, padded_key}
 use Rattle.scrypt.specs.Pbkdf2.{pbkdf2, pbkdf2_block, pbkdf2_byte}
@@ -69,3 +70,32 @@ pub pbkdf2_by_blocks : (password salt : List ℕ) (n : ℕ)
 pbkdf2_by_blocks password salt n =
     parts_all (λ i. pbkdf2_block password salt (i + 1)) 32 n (pbkdf2 password salt (n * 32))
     (length-pbkdf2 password salt (n * 32)) (λ i h. part_of_pbkdf2 password salt n i h)
+
+-- a key that is padded to the same block gives the same bytes
+same_hmac : (one other text : List ℕ) → padded_key one ≡ padded_key other → hmac_sha256 one text ≡ hmac_sha256 other text
+unfolding hmac_sha256
+same_hmac one other text padded =
+    ap (λ k. sha256 (map (bit_xor 0x5c) k ++ sha256 (map (bit_xor 0x36) k ++ text))) padded
+
+same_byte : (one other salt : List ℕ) → padded_key one ≡ padded_key other → (k : ℕ) → pbkdf2_byte one salt k ≡ pbkdf2_byte other salt k
+unfolding pbkdf2_byte
+same_byte one other salt padded k = ap (λ t. slice_index t (k % 32)) (same_hmac one other _ padded)
+
+pub same_pbkdf2 : (one other salt : List ℕ) (n : ℕ) → padded_key one ≡ padded_key other → pbkdf2 one salt n ≡ pbkdf2 other salt n
+same_pbkdf2 one other salt n padded = λ i. map (λ k. same_byte one other salt padded k i) (range_with_len 0 n)
+
+-- a zero byte after a key that leaves room in its block
+pub padded_zero_byte : (secret : List ℕ) → length secret < 64 → padded_key (secret ++ 0 ∷ []) ≡ padded_key secret
+padded_zero_byte secret fits =
+    let longer : length (secret ++ 0 ∷ []) ≡ suc (length secret) = length-append secret (0 ∷ []) ∙ omega arith in
+    let one : nat_lt 64 (length (secret ++ 0 ∷ [])) ≡ false = le-ltb 64 _ (omega arith) in
+    let other : nat_lt 64 (length secret) ≡ false = le-ltb 64 (length secret) (omega arith) in
+    let room : 64 - length secret ≡ suc (64 - length (secret ++ 0 ∷ [])) = omega arith in
+    rw (one, other, room) (append_assoc secret (0 ∷ []) (replicate (64 - length (secret ++ 0 ∷ [])) 0))
+
+-- the digest of a key that is longer than a block
+pub padded_digest : (secret : List ℕ) → 64 < length secret → padded_key (sha256 secret) ≡ padded_key secret
+padded_digest secret above =
+    let digest : nat_lt 64 (length (sha256 secret)) ≡ false = le-ltb 64 _ (omega (arith, length-sha256 secret)) in
+    let long : nat_lt 64 (length secret) ≡ true = lt-ltb 64 (length secret) above in
+    rw (long, digest) refl

@@ -1,11 +1,11 @@
 -- Facts on costs as PHC parameters.
-use Rattle.std.proofs.Common.{◌≡◌, ◌≢◌, ℕ, ◌^◌, ◌<◌, ◌≤◌, ◌+◌, List, [], ◌∷◌, ◌++◌, length, codes, get_or, refl, ap, arith, lit<, lit≤, length-append}
-use Rattle.std.specs.Prelude.{All, AllPairs, decimal}
+use Rattle.std.proofs.Common.{◌≢◌, ℕ, ◌^◌, ◌<◌, ◌≤◌, List, [], ◌∷◌, length, codes, get_or, refl, ap, arith, lit<, lit≤, length-append}
+use Rattle.std.specs.Prelude.{AllPairs, decimal}
 use Rattle.std.proofs.lemmas.Fmt.{length-decimal-le}
 use Rattle.std.proofs.lemmas.List.Elements.{All-cons, All-nil}
 use Rattle.std.proofs.lemmas.List.Kept.{AllPairs-cons}
 use Rattle.password_hash.specs.Letters.{IsIdentifier}
-use Rattle.password_hash.specs.Pairs.{ArePairs, IsPair, pairs_text}
+use Rattle.password_hash.specs.Pairs.{ArePairs, IsPair}
 use Rattle.password_hash.proofs.DecimalFacts.{IsValue-decimal}
 
 -- a pair of this name and a number

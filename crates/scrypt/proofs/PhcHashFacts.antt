@@ -1,5 +1,5 @@
 -- Facts on PHC hashes of scrypt.
-use Rattle.std.proofs.Common.{◌≡◌, ℕ, List, length, sym, ap, ap₂, ◌∙◌, None, Some, Ok, Err}
+use Rattle.std.proofs.Common.{◌≡◌, ℕ, List, length, sym, ap, ap₂, ◌∙◌, Ok, Err}
 use Rattle.std.specs.Prelude.{IsSome}
 use Rattle.password_hash.specs.Refusal.{Refusal}
 use Rattle.password_hash.specs.declared.phc.hash.PasswordHash.{PasswordHash}
@@ -17,13 +17,6 @@ not_read refused read = let same = reads_once refused read in cc
 -- a hash with a version accepts no password
 pub no_version : {password : List ℕ} {hash : PasswordHash} → IsSome hash.version → Accepts password hash → ⊥
 no_version some h = let none = h.whole.of_costs.version in let there = rw none at some in cc
-
--- a hash without a salt, or without a key, accepts no password
-pub no_salt : {password : List ℕ} {hash : PasswordHash} → hash.salt ≡ None → Accepts password hash → ⊥
-no_salt none h = let there = h.whole.salt_is in cc
-
-pub no_key : {password : List ℕ} {hash : PasswordHash} → hash.hash ≡ None → Accepts password hash → ⊥
-no_key none h = let there = h.whole.key_is in cc
 
 -- a whole hash that accepts a password holds its key
 pub accepted_key : {password : List ℕ} {hash : PasswordHash} {c : Parameters} {salt key : List ℕ}

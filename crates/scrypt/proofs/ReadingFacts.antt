@@ -3,10 +3,12 @@ use Rattle.std.proofs.Common.{◌≡◌, ◌≢◌, ℕ, ◌<◌, ◌≤◌, Lis
 use Rattle.std.specs.Prelude.{Result, IfOk, None}
 use Rattle.password_hash.specs.Decimal.{IsDecimal}
 use Rattle.password_hash.specs.Refusal.{Refusal, BadParam, BadParams}
-use Rattle.scrypt.specs.Accepted.{Parameters}
+use Rattle.password_hash.proofs.DecimalFacts.{IsDecimal-decimal}
+use Rattle.scrypt.specs.Accepted.{AreAccepted, Parameters}
+use Rattle.scrypt.proofs.AcceptedFacts.{small_costs}
 use Rattle.scrypt.proofs.PhcCostsFacts.{first_letters}
 use Rattle.scrypt.specs.PhcAnswers.{bare}
-use Rattle.scrypt.specs.PhcCosts.{Reads, accepted, not_accepted, ln, ln_refused, r, r_refused, p, p_refused, unknown}
+use Rattle.scrypt.specs.PhcCosts.{Reads, ReadsCosts, written_pairs, accepted, not_accepted, ln, ln_refused, r, r_refused, p, p_refused, unknown}
 
 -- costs that were read have no length
 pub read_bare : {log_n r p : ℕ} {pairs : List (List ℕ × List ℕ)} {out : Result Parameters Refusal}
@@ -124,3 +126,10 @@ reads_once (r_refused name none) second = refused_r name none second
 reads_once (p n name decimal rest) second = reads_once rest (after_p n name decimal second)
 reads_once (p_refused name none) second = refused_p name none second
 reads_once (unknown no_ln no_r no_p) second = unknown_decides no_ln no_r no_p second
+
+-- costs that were written are read
+pub written_read : (c : Parameters) → AreAccepted c.log_n c.r c.p → ReadsCosts (written_pairs c) (Ok (bare c))
+written_read c fits =
+    let small = small_costs c.log_n c.r c.p fits in
+    ln c.log_n refl (IsDecimal-decimal c.log_n (omega (arith, small.0))) (omega (arith, small.0))
+    (r c.r refl (IsDecimal-decimal c.r (omega (arith, small.1))) (p c.p refl (IsDecimal-decimal c.p (omega (arith, small.2))) (accepted fits)))

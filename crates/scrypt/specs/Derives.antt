@@ -1,5 +1,5 @@
 -- What a `Kdf` that is scrypt gives, and which lengths it refuses.
-use Rattle.std.specs.Prelude.{◌≡◌, ℕ, List, length}
+use Rattle.std.specs.Prelude.{ℕ, List}
 use Rattle.password_hash.specs.declared.kdf.Error.{Error}
 use Rattle.password_hash.specs.declared.kdf.Error.TheVariants.{OutOfMemory, Refused}
 use Rattle.scrypt.specs.Accepted.{IsOutputLen, Parameters}

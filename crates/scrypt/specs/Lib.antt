@@ -14,6 +14,8 @@ pub mod BlockMix
 pub mod RoMix
 -- RFC 7914, section 6: the derived key
 pub mod Key
+-- the chunks mixed in another order
+pub mod ChunkOrder
 -- RFC 7914, section 6: which parameters and output lengths are accepted
 pub mod Accepted
 -- what a derivation costs in cores and in memory
@@ -30,3 +32,5 @@ pub mod PhcCosts
 pub mod PhcHash
 -- what the conversions between parameters and PHC values answer
 pub mod PhcAnswers
+-- five-letter numbers, and the costs of a `$7$` text
+pub mod McfCosts

@@ -1,6 +1,6 @@
 -- What the conversions between parameters and PHC values answer.
 use Rattle.std.specs.Prelude.{◌≡◌, ℕ, List, length, ◌⊎◌, Option, None, Some, IsSome, Result, Ok, Err}
-use Rattle.password_hash.specs.Refusal.{Refusal, BadVersion, refusal}
+use Rattle.password_hash.specs.Refusal.{BadVersion, refusal}
 use Rattle.password_hash.specs.declared.error.Error.{Error}
 use Rattle.password_hash.specs.declared.phc.hash.PasswordHash.{PasswordHash}
 use Rattle.scrypt.specs.Accepted.{Parameters}

@@ -150,13 +150,8 @@ pub fn scrypt_with_buffers(
     // Step 2: each chunk is mixed, over the same table.
     'chunks: for i in 0..p {
         let at = i * chunk_len;
-        scrypt_ro_mix(
-            &mut chunks[at..at + chunk_len],
-            table,
-            scratch,
-            params.log_n(),
-            cores,
-        );
+        let chunk = &mut chunks[at..at + chunk_len];
+        scrypt_ro_mix(chunk, table, scratch, params.log_n(), cores);
     }
     // Step 3: the key, with B as salt.
     pbkdf2_one(password, chunks, output);

@@ -1,11 +1,106 @@
 //! Laws of the definitions. Each function does nothing when it runs: its contract is the law.
 
-ghost use Rattle.std.specs.Prelude.{◌≡◌, ℕ, ◌%◌, ◌<◌, List, length};
+ghost use Rattle.std.specs.Prelude.{◌≡◌, ◌↔◌, ℕ, ◌*◌, ◌%◌, ◌^◌, ◌<◌, ◌≤◌, List, [], ◌∷◌, ◌++◌, length, take, Result, Ok, IfSome, IsSome, Some, All};
+ghost use Rattle.sha2.specs.Sha256.{sha256};
+ghost use Rattle.password_hash.specs.Crypt64.{Crypt64, letter_value, letters_of};
+ghost use Rattle.password_hash.specs.Mcf.{Modular};
+ghost use Rattle.password_hash.specs.Phc.{IsHashText, IsSalt, hash_text};
+ghost use Rattle.password_hash.specs.Refusal.{Refusal};
+ghost use Rattle.password_hash.specs.declared.phc.hash.PasswordHash.{PasswordHash};
+ghost use Rattle.scrypt.specs.Accepted.{AreAccepted, IsStoredLen, Parameters};
 ghost use Rattle.scrypt.specs.BlockMix.{block_mix};
+ghost use Rattle.scrypt.specs.ChunkOrder.{NamesEachOnce, mixed_in_order};
 ghost use Rattle.scrypt.specs.Diagonal.{AreInverse, IsBlockMixBy, diagonal_core, diagonal_order, inverse_pivot, pivot, standard_order};
+ghost use Rattle.scrypt.specs.Key.{derived_key, mixed_chunks};
+ghost use Rattle.scrypt.specs.McfCosts.{costs_letters, five_letter_number};
+ghost use Rattle.scrypt.specs.PhcAnswers.{bare};
+ghost use Rattle.scrypt.specs.PhcCosts.{ReadsCosts, written_pairs};
+ghost use Rattle.scrypt.specs.PhcHash.{Accepts, IsMadeHash};
+
+/// A shorter key is the beginning of a longer one, at every two lengths: key files rely on it, which
+/// cut keys of several uses from one.
+pub fn shorter_key_is_prefix()
+    ensures { (password salt : List ℕ) (log_n r p m n : ℕ) → m ≤ n
+        → derived_key password salt log_n r p m ≡ take m (derived_key password salt log_n r p n) }
+{}
+
+/// A password shorter than 64 bytes and the same with a zero byte after it have equal keys, and so
+/// have a password longer than 64 bytes and its SHA-256 digest: credential stores rely on it to know
+/// which other passwords they accept.
+pub fn zero_byte_and_digest_passwords_collide()
+    ensures zero_byte { (password salt : List ℕ) (log_n r p n : ℕ) → length password < 64
+        → derived_key (password ++ 0 ∷ []) salt log_n r p n ≡ derived_key password salt log_n r p n }
+    ensures digest { (password salt : List ℕ) (log_n r p n : ℕ) → 64 < length password
+        → derived_key (sha256 password) salt log_n r p n ≡ derived_key password salt log_n r p n }
+{}
+
+/// The chunks may be mixed one after another in any order that names each once: migration tools rely
+/// on it, whose keys come from programs that take the chunks in another order.
+pub fn chunks_in_any_order()
+    ensures { (b order : List ℕ) (log_n r p : ℕ) → 0 < r → length b ≡ p * (128 * r) → NamesEachOnce p order
+        → mixed_in_order log_n r b order ≡ mixed_chunks b log_n r p }
+{}
+
+/// Costs that are written as PHC parameters are read back as the same `log_n`, `r` and `p`, and in no
+/// other way: migration tools rely on it, which write hashes with costs of their own.
+pub fn written_costs_read_back()
+    ensures read { (c : Parameters) → AreAccepted c.log_n c.r c.p → ReadsCosts (written_pairs c) (Ok (bare c)) }
+    ensures only { (c : Parameters) (out : Result Parameters Refusal) → AreAccepted c.log_n c.r c.p
+        → ReadsCosts (written_pairs c) out → out ≡ Ok (bare c) }
+{}
+
+/// A PHC text, a modular text and a text of crypt Base64 each have at most one reading, and each
+/// reading has at most one text: migration tools rely on it, which compare hashes by their texts.
+pub fn texts_have_one_reading()
+    ensures phc_reading { (text : List ℕ) (one other : PasswordHash) → IsHashText text one → IsHashText text other
+        → one ≡ other }
+    ensures phc_text { (hash : PasswordHash) (one other : List ℕ) → IsHashText one hash → IsHashText other hash
+        → one ≡ other }
+    ensures modular_reading { (text one other : List ℕ) (fields more : List (List ℕ)) → Modular text one fields
+        → Modular text other more → (one ≡ other) × (fields ≡ more) }
+    ensures modular_text { (id one other : List ℕ) (fields : List (List ℕ)) → Modular one id fields
+        → Modular other id fields → one ≡ other }
+    ensures crypt64_reading { (letters one other : List ℕ) → Crypt64 one letters → Crypt64 other letters
+        → one ≡ other }
+    ensures crypt64_text { (bytes one other : List ℕ) → Crypt64 bytes one → Crypt64 bytes other → one ≡ other }
+{}
+
+/// The hash that hashing makes of accepted parameters, a password and a salt accepts that password,
+/// is printed as a PHC text, and accepts it too as it is read back from that text: credential stores
+/// rely on it, which keep the text.
+pub fn made_hashes_are_accepted()
+    ensures phc { (c : Parameters) (password salt : List ℕ) (hash : PasswordHash) → AreAccepted c.log_n c.r c.p
+        → IsMadeHash c password salt hash → Accepts password hash }
+    ensures phc_printed { (c : Parameters) (password salt : List ℕ) (hash : PasswordHash) → AreAccepted c.log_n c.r c.p
+        → IfSome c.output_len IsStoredLen → IsSalt salt → IsMadeHash c password salt hash
+        → IsHashText (hash_text hash) hash }
+    ensures phc_read_back { (c : Parameters) (password salt : List ℕ) (hash again : PasswordHash) → AreAccepted c.log_n c.r c.p
+        → IfSome c.output_len IsStoredLen → IsSalt salt → IsMadeHash c password salt hash
+        → IsHashText (hash_text hash) again → Accepts password again }
+{}
+
+/// Numbers below 2^30 and their five letters undo each other, every five letters say a number, and
+/// accepted `r` and `p` are below 2^30: migration tools rely on it, which write costs into `$7$` texts.
+pub fn five_letters_are_inverse()
+    ensures read_back { (number : ℕ) → number < 2 ^ 30 → five_letter_number (letters_of 5 number) ≡ Some number }
+    ensures written_back { (letters : List ℕ) (number : ℕ) → length letters ≡ 5 → five_letter_number letters ≡ Some number
+        → (letters_of 5 number ≡ letters) × (number < 2 ^ 30) }
+    ensures said { (letters : List ℕ) → length letters ≡ 5 → All (λ byte. IsSome (letter_value byte)) letters
+        → IsSome (five_letter_number letters) }
+    ensures accepted { (log_n r p : ℕ) → AreAccepted log_n r p → (r < 2 ^ 30) × (p < 2 ^ 30) }
+{}
+
+/// The eleven letters with which `$7$` texts write accepted costs are equal exactly where `log_n`, `r`
+/// and `p` are: migration tools rely on it, which tell costs by the beginning of a text.
+pub fn costs_prefix_is_injective()
+    ensures { (log_n r p other_log_n other_r other_p : ℕ) → AreAccepted log_n r p → AreAccepted other_log_n other_r other_p
+        → (costs_letters log_n r p ≡ costs_letters other_log_n other_r other_p)
+        ↔ ((log_n ≡ other_log_n) × (r ≡ other_r) × (p ≡ other_p)) }
+{}
 
 /// The diagonal order and the standard order undo each other on all whole blocks, and the two
-/// tables of places are inverse.
+/// tables of places are inverse: the lanes rely on it, since what is proved of words in diagonal order
+/// then covers every input.
 pub fn diagonal_order_undone()
     ensures undone { (x : List ℕ) → length x % 16 ≡ 0 → standard_order (diagonal_order x) ≡ x }
     ensures redone { (x : List ℕ) → length x % 16 ≡ 0 → diagonal_order (standard_order x) ≡ x }
@@ -13,7 +108,7 @@ pub fn diagonal_order_undone()
 {}
 
 /// The block mix of words in diagonal order, with the core in diagonal order in place of the core,
-/// is the block mix in diagonal order.
+/// is the block mix in diagonal order: the lanes rely on it.
 pub fn block_mix_in_diagonal_order()
     ensures { (b : List ℕ) → 0 < length b → length b % 32 ≡ 0
         → IsBlockMixBy diagonal_core (diagonal_order b) (diagonal_order (block_mix b)) }

@@ -19,6 +19,7 @@ mod errors;
 mod hasher;
 pub mod hmac;
 pub mod laws;
+pub mod mcf;
 mod order;
 mod params;
 pub mod pbkdf2;

@@ -191,13 +191,7 @@ impl Default for Params {
 fn are_accepted(log_n: u8, r: u32, p: u32) -> bool
     ensures { IsTrue result ↔ AreAccepted log_n r p }
 {
-    if r == 0 {
-        return false;
-    }
-    if p == 0 {
-        return false;
-    }
-    if log_n > 56 {
+    if r == 0 || p == 0 || log_n > 56 {
         return false;
     }
     is_table_small(log_n, r) && u64::from(r) * u64::from(p) < 1 << 30

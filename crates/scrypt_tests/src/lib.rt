@@ -5,6 +5,10 @@
 #[cfg(test)]
 mod buffers;
 #[cfg(test)]
+mod crypt_costs;
+#[cfg(test)]
+mod crypt_letters;
+#[cfg(test)]
 mod derived_keys;
 #[cfg(test)]
 mod lanes;

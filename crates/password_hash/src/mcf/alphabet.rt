@@ -5,8 +5,8 @@ ghost use Rattle.password_hash.specs.Crypt64.{letter, letter_value, number_of};
 /// The letter of each value from 0 to 63.
 const ALPHABET: [u8; 64] = *b"./0123456789ABCDEFGHIJKLMNOPQRSTUVWXYZabcdefghijklmnopqrstuvwxyz";
 
-/// The letter of a value below 64.
-pub(crate) fn letter(value: u32) -> u8
+/// The letter of a value, which has to be below 64.
+pub fn letter(value: u32) -> u8
     requires { value < 64 }
     ensures { result ≡ letter value }
 {
@@ -14,7 +14,7 @@ pub(crate) fn letter(value: u32) -> u8
 }
 
 /// The value of a letter, or `None` where the byte is no letter.
-pub(crate) fn value(byte: u8) -> Option<u8>
+pub fn value(byte: u8) -> Option<u8>
     ensures { result ≡ letter_value byte }
 {
     match byte {
@@ -25,8 +25,9 @@ pub(crate) fn value(byte: u8) -> Option<u8>
     }
 }
 
-/// The number that at most five letters say, the lowest digit first.
-pub(crate) fn number(letters: &[u8]) -> Option<u32>
+/// The number that at most five letters say, their values as digits to base 64 with the lowest first,
+/// or `None` where a byte is no letter.
+pub fn number(letters: &[u8]) -> Option<u32>
     requires { length letters.now ≤ 5 }
     ensures { result ≡ number_of letters.now }
 {

@@ -18,20 +18,60 @@ const TOO_LONG_PARAMS: &str =
 /// The first ten bytes of the third key of RFC 7914, section 12.
 const SHORT_KEY: [u8; 10] = [0x70, 0x23, 0xbd, 0xcb, 0x3a, 0xfd, 0x73, 0x48, 0x46, 0x1c];
 
+/// Texts of hashes, each of which is read and printed as it stands.
+const TEXTS: [&str; 9] = [
+    "$scrypt",
+    "$scrypt$v=0",
+    "$scrypt$v=1$ln=1$aA$AAAAAAAAAAAAAA",
+    "$scrypt$x=00000000000000000000000000000000000000000000000000000000000000000000000000000000000000000000000000000000000000000000000000000",
+    "$aaaaaaaaaaaaaaaaaaaaaaaaaaaaaaaa",
+    "$argon2id$v=19$m=65536,t=2,p=1$gZiV/M1gPc22ElAH/Jh1Hw$CWOrkoo7oJBQ/iyh7uJ0LO2aLEfrHwTWllSAxT0zRno",
+    "$a$b=1,a=2",
+    "$a$v=4294967295$aA",
+    PASSLIB_HASH,
+];
+
+/// Texts of no hash.
+const OTHER_TEXTS: [&str; 26] = [
+    // no algorithm
+    "",
+    "$",
+    "scrypt",
+    "$Scrypt",
+    "$aaaaaaaaaaaaaaaaaaaaaaaaaaaaaaaaa",
+    // an empty part
+    "$scrypt$",
+    "$scrypt$$aA",
+    // no version
+    "$scrypt$v=",
+    "$scrypt$v=01",
+    "$scrypt$v=4294967296",
+    "$scrypt$v=1$v=1",
+    // no parameters
+    "$scrypt$ln=",
+    "$scrypt$=1",
+    "$scrypt$ln=1,",
+    "$scrypt$ln=1,ln=2",
+    "$scrypt$ln=1,v=2",
+    "$scrypt$x=000000000000000000000000000000000000000000000000000000000000000000000000000000000000000000000000000000000000000000000000000000",
+    // no salt: left bits, padding, 65 bytes
+    "$scrypt$aM",
+    "$scrypt$aA==",
+    "$scrypt$AAAAAAAAAAAAAAAAAAAAAAAAAAAAAAAAAAAAAAAAAAAAAAAAAAAAAAAAAAAAAAAAAAAAAAAAAAAAAAAAAAAAAAA",
+    // no key: nine bytes, 65 bytes
+    "$scrypt$aA$AAAAAAAAAAAA",
+    "$scrypt$aA$AAAAAAAAAAAAAAAAAAAAAAAAAAAAAAAAAAAAAAAAAAAAAAAAAAAAAAAAAAAAAAAAAAAAAAAAAAAAAAAAAAAAAAA",
+    // parts in another order, and one too many
+    "$scrypt$ln=1$v=1",
+    "$scrypt$aA$ln=1",
+    "$scrypt$aA$AAAAAAAAAAAAAA$",
+    "$scrypt$aA$AAAAAAAAAAAAAA$aA",
+];
+
 #[test]
 fn texts_are_printed_as_they_were_read(rt: HostRuntime) -> Result<(), Fail> {
     let alloc = rt.alloc();
-    for text in [
-        "$scrypt",
-        "$scrypt$v=0",
-        "$scrypt$v=1$ln=1$aA$AAAAAAAAAAAAAA",
-        "$scrypt$x=00000000000000000000000000000000000000000000000000000000000000000000000000000000000000000000000000000000000000000000000000000",
-        "$aaaaaaaaaaaaaaaaaaaaaaaaaaaaaaaa",
-        "$argon2id$v=19$m=65536,t=2,p=1$gZiV/M1gPc22ElAH/Jh1Hw$CWOrkoo7oJBQ/iyh7uJ0LO2aLEfrHwTWllSAxT0zRno",
-        "$a$b=1,a=2",
-        "$a$v=4294967295$aA",
-        PASSLIB_HASH,
-    ] {
+    for text in TEXTS {
         let hash = PasswordHash::new(text)?;
         assert_eq!(rt; hash.to_string(alloc)?.as_str(), text);
     }
@@ -40,41 +80,7 @@ fn texts_are_printed_as_they_were_read(rt: HostRuntime) -> Result<(), Fail> {
 
 #[test]
 fn other_texts_are_refused(rt: HostRuntime) {
-    for text in [
-        // no algorithm
-        "",
-        "$",
-        "scrypt",
-        "$Scrypt",
-        "$aaaaaaaaaaaaaaaaaaaaaaaaaaaaaaaaa",
-        // an empty part
-        "$scrypt$",
-        "$scrypt$$aA",
-        // no version
-        "$scrypt$v=",
-        "$scrypt$v=01",
-        "$scrypt$v=4294967296",
-        "$scrypt$v=1$v=1",
-        // no parameters
-        "$scrypt$ln=",
-        "$scrypt$=1",
-        "$scrypt$ln=1,",
-        "$scrypt$ln=1,ln=2",
-        "$scrypt$ln=1,v=2",
-        "$scrypt$x=000000000000000000000000000000000000000000000000000000000000000000000000000000000000000000000000000000000000000000000000000000",
-        // no salt: left bits, padding, 65 bytes
-        "$scrypt$aM",
-        "$scrypt$aA==",
-        "$scrypt$AAAAAAAAAAAAAAAAAAAAAAAAAAAAAAAAAAAAAAAAAAAAAAAAAAAAAAAAAAAAAAAAAAAAAAAAAAAAAAAAAAAAAAA",
-        // no key: nine bytes, 65 bytes
-        "$scrypt$aA$AAAAAAAAAAAA",
-        "$scrypt$aA$AAAAAAAAAAAAAAAAAAAAAAAAAAAAAAAAAAAAAAAAAAAAAAAAAAAAAAAAAAAAAAAAAAAAAAAAAAAAAAAAAAAAAAA",
-        // parts in another order, and one too many
-        "$scrypt$ln=1$v=1",
-        "$scrypt$aA$ln=1",
-        "$scrypt$aA$AAAAAAAAAAAAAA$",
-        "$scrypt$aA$AAAAAAAAAAAAAA$aA",
-    ] {
+    for text in OTHER_TEXTS {
         assert_eq!(rt;
             PasswordHash::new(text),
             Err(Error::EncodingInvalid),
@@ -94,54 +100,57 @@ fn parts_of_a_text(rt: HostRuntime) -> Result<(), Fail> {
     Ok(())
 }
 
+/// A salt, a key, and the text of a hash that has them.
+const SALTS_AND_KEYS: [(&[u8], &[u8], &str); 3] = [
+    (
+        &[
+            0x68, 0xcd, 0x79, 0xef, 0x5d, 0xeb, 0xdd, 0x7b, 0x2f, 0xc5, 0xb8, 0xb7, 0xd6, 0x5a,
+            0xab, 0xd5,
+        ],
+        &[
+            0x9c, 0x53, 0x61, 0xd8, 0x25, 0x47, 0x56, 0x33, 0x65, 0x74, 0x55, 0x4a, 0x0c, 0x70,
+            0xe5, 0x9b, 0x80, 0x9b, 0x75, 0x14, 0x82, 0x74, 0x40, 0x6c, 0x8e, 0x32, 0x71, 0x0f,
+            0xe8, 0x82, 0xb3, 0x91,
+        ],
+        "$a$aM15713r3Xsvxbi31lqr1Q$nFNh2CVHVjNldFVKDHDlm4CbdRSCdEBsjjJxD+iCs5E",
+    ),
+    (
+        b"SodiumChloride",
+        &[
+            0x70, 0x23, 0xbd, 0xcb, 0x3a, 0xfd, 0x73, 0x48, 0x46, 0x1c, 0x06, 0xcd, 0x81, 0xfd,
+            0x38, 0xeb, 0xfd, 0xa8, 0xfb, 0xba, 0x90, 0x4f, 0x8e, 0x3e, 0xa9, 0xb5, 0x43, 0xf6,
+            0x54, 0x5d, 0xa1, 0xf2,
+        ],
+        "$a$U29kaXVtQ2hsb3JpZGU$cCO9yzr9c0hGHAbNgf046/2o+7qQT44+qbVD9lRdofI",
+    ),
+    (
+        b"SodiumChloride",
+        &SHORT_KEY,
+        "$a$U29kaXVtQ2hsb3JpZGU$cCO9yzr9c0hGHA",
+    ),
+];
+
 #[test]
 fn base64_of_salts_and_keys(rt: HostRuntime) -> Result<(), Fail> {
-    let alloc = rt.alloc();
-    let salt = salt_of(&[
-        0x68, 0xcd, 0x79, 0xef, 0x5d, 0xeb, 0xdd, 0x7b, 0x2f, 0xc5, 0xb8, 0xb7, 0xd6, 0x5a, 0xab,
-        0xd5,
-    ])?;
-    let key = key_of(&[
-        0x9c, 0x53, 0x61, 0xd8, 0x25, 0x47, 0x56, 0x33, 0x65, 0x74, 0x55, 0x4a, 0x0c, 0x70, 0xe5,
-        0x9b, 0x80, 0x9b, 0x75, 0x14, 0x82, 0x74, 0x40, 0x6c, 0x8e, 0x32, 0x71, 0x0f, 0xe8, 0x82,
-        0xb3, 0x91,
-    ])?;
-    let rfc_key = key_of(&[
-        0x70, 0x23, 0xbd, 0xcb, 0x3a, 0xfd, 0x73, 0x48, 0x46, 0x1c, 0x06, 0xcd, 0x81, 0xfd, 0x38,
-        0xeb, 0xfd, 0xa8, 0xfb, 0xba, 0x90, 0x4f, 0x8e, 0x3e, 0xa9, 0xb5, 0x43, 0xf6, 0x54, 0x5d,
-        0xa1, 0xf2,
-    ])?;
-    let vectors = [
-        (
-            salt,
-            key,
-            "$a$aM15713r3Xsvxbi31lqr1Q$nFNh2CVHVjNldFVKDHDlm4CbdRSCdEBsjjJxD+iCs5E",
-        ),
-        (
-            salt_of(b"SodiumChloride")?,
-            rfc_key,
-            "$a$U29kaXVtQ2hsb3JpZGU$cCO9yzr9c0hGHAbNgf046/2o+7qQT44+qbVD9lRdofI",
-        ),
-        (
-            salt_of(b"SodiumChloride")?,
-            key_of(&SHORT_KEY)?,
-            "$a$U29kaXVtQ2hsb3JpZGU$cCO9yzr9c0hGHA",
-        ),
-    ];
-    for (salt, key, text) in vectors {
+    for (salt, key, text) in SALTS_AND_KEYS {
         let read = PasswordHash::new(text)?;
-        assert_eq!(rt; read.salt, Some(salt));
-        assert_eq!(rt; read.hash, Some(key));
+        assert_eq!(rt; read.salt, Some(salt_of(salt)?));
+        assert_eq!(rt; read.hash, Some(key_of(key)?));
         let made = PasswordHash {
             algorithm: ident_of("a")?,
             version: None,
             params: ParamsString::new(),
-            salt: Some(salt),
-            hash: Some(key),
+            salt: read.salt,
+            hash: read.hash,
         };
-        assert_eq!(rt; made.to_string(alloc)?.as_str(), text);
+        assert_eq!(rt; made.to_string(rt.alloc())?.as_str(), text);
         assert_eq!(rt; made, read);
     }
+    Ok(())
+}
+
+#[test]
+fn padding_is_refused(rt: HostRuntime) {
     for padded in [
         "$a$aM15713r3Xsvxbi31lqr1Q==",
         "$a$U29kaXVtQ2hsb3JpZGU=",
@@ -149,7 +158,6 @@ fn base64_of_salts_and_keys(rt: HostRuntime) -> Result<(), Fail> {
     ] {
         assert_eq!(rt; PasswordHash::new(padded), Err(Error::EncodingInvalid));
     }
-    Ok(())
 }
 
 #[test]

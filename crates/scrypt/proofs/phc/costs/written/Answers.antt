@@ -1,5 +1,4 @@
-use Rattle.std.proofs.Common.{◌≡◌, ◌<◌, ◌^◌, ◌∷◌, ◌++◌, [], List, ℕ, codes, ap, ◌∙◌, arith}
-use Rattle.std.specs.Prelude.{decimal}
+use Rattle.std.proofs.Common.{◌<◌, ◌^◌, arith}
 use Rattle.scrypt.proofs.PhcCostsFacts.{one_pair, two_pairs, three_pairs}
 use Rattle.scrypt.proofs.phc.costs.written.Goals as goal
 

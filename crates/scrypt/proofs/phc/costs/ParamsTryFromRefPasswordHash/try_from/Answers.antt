@@ -1,4 +1,4 @@
-use Rattle.std.proofs.Common.{◌≡◌, ap, refl, ◌∙◌, sym, rules, None, Some, Ok}
+use Rattle.std.proofs.Common.{◌≡◌, ap, ◌∙◌, rules, None, Some, Ok}
 use Rattle.scrypt.specs.PhcAnswers.{bare}
 use Rattle.scrypt.specs.PhcCosts.{ReadsCosts}
 use Rattle.scrypt.proofs.ReadingFacts.{bare_is, read_bare}

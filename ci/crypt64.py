@@ -1,0 +1,54 @@
+"""Crypt Base64 in plain Python, written from the table in docs/FORMATS.md."""
+
+import hashlib
+
+ALPHABET = "./0123456789ABCDEFGHIJKLMNOPQRSTUVWXYZabcdefghijklmnopqrstuvwxyz"
+
+# how many strings the generator makes, and the numbers that it steps by
+STRINGS = 1000
+FACTOR, SUMMAND = 6364136223846793005, 1442695040888963407
+
+
+def letters(data):
+    """The letters of bytes."""
+    written = ""
+    for at in range(0, len(data), 3):
+        group = data[at : at + 3]
+        number = sum(byte * 256**place for place, byte in enumerate(group))
+        for place in range(len(group) + 1):
+            written += ALPHABET[number // 64**place % 64]
+    return written
+
+
+def generated():
+    """Strings of up to 96 bytes: a length and then its bytes, each the highest of eight bytes."""
+    state = 0
+
+    def step():
+        nonlocal state
+        state = (state * FACTOR + SUMMAND) % (1 << 64)
+        return state >> 56
+
+    for _ in range(STRINGS):
+        length = step() % 97
+        yield bytes(step() for _ in range(length))
+
+
+def strings():
+    """Every byte string of up to two bytes, and then those of the generator."""
+    yield b""
+    for first in range(256):
+        yield bytes([first])
+    for first in range(256):
+        for second in range(256):
+            yield bytes([first, second])
+    yield from generated()
+
+
+def all_letters():
+    """The digest of the letters of all strings, a newline behind each, and how many there are."""
+    digest, count = hashlib.sha256(), 0
+    for data in strings():
+        digest.update(letters(data).encode() + b"\n")
+        count += 1
+    return digest.hexdigest(), count

@@ -1,0 +1,134 @@
+-- Facts on the chunks of B, mixed one after another in any order.
+use Rattle.std.proofs.Common.{◌≡◌, ◌≢◌, ℕ, zero, suc, ◌<◌, ◌≤◌, ◌+◌, ◌-◌, ◌*◌, ◌%◌, List, [], ◌∷◌, ◌++◌, length, take, drop, nat_eq, cond, bit_xor, refl, sym, ap, ◌∙◌, arith, inl, inr, zero-add, length-append}
+use Rattle.std.specs.List.{All, count_by}
+use Rattle.std.specs.Int.{w32, to_le_bytes}
+use Rattle.std.proofs.lemmas.Bool.{cases_Bool, eqb-true, eqb-false}
+use Rattle.std.proofs.lemmas.List.{drop-drop, length-drop, length-take-le}
+use Rattle.std.proofs.lemmas.List.Elements.{All-head, All-tail}
+use Rattle.std.proofs.lemmas.List.FromFn.{length-map-range_with_len}
+use Rattle.std.proofs.lemmas.List.Sums.{sum_by-cons}
+use Rattle.std.proofs.lemmas.Simd.{length-zip2}
+use borrow.Rule.Slice.PartMut.{put_mid}
+use Rattle.scrypt.specs.Words.{bytes_of, part, words_of, xor_words}
+use Rattle.scrypt.specs.RoMix.{ro_mix, row, walk}
+use Rattle.scrypt.specs.Key.{mixed_chunk, mixed_chunks}
+use Rattle.scrypt.specs.ChunkOrder.{NamesEachOnce, mixed_in_order, with_chunk_mixed}
+use Rattle.scrypt.proofs.BlockMixFacts.{length-block_mix}
+use Rattle.scrypt.proofs.PartFacts.{length-part, part_put_same, part_put_other, parts_all, parts_apart}
+
+-- scryptROMix keeps the length of its input
+module _ (b : List ℕ) (some : 0 < length b) (whole : length b % 32 ≡ 0) where
+  length-row : (i : ℕ) → length (row b i) ≡ length b
+  unfolding row
+  length-row zero = refl
+  length-row (suc i) = let before = length-row i in length-block_mix (row b i) (omega arith) (omega arith) ∙ before
+
+  length-walk : (log_n k : ℕ) → length (walk b log_n k) ≡ length b
+  unfolding walk
+  length-walk log_n zero = length-row _
+  length-walk log_n (suc k) =
+      let x = walk b log_n k in
+      let before : length x ≡ length b = length-walk log_n k in
+      let taken : List ℕ = row b _ in
+      let joined : length (xor_words x taken) ≡ length b = length-zip2 bit_xor x taken (before ∙ sym (length-row _)) ∙ before in
+      length-block_mix (xor_words x taken) (omega arith) (omega arith) ∙ joined
+
+  pub length-ro_mix : (log_n : ℕ) → length (ro_mix b log_n) ≡ length b
+  unfolding ro_mix
+  length-ro_mix log_n = length-walk log_n _
+
+-- a word has four bytes
+length-bytes_of : (x : List ℕ) → length (bytes_of x) ≡ length x * 4
+length-bytes_of [] = refl
+length-bytes_of (a ∷ x) =
+    let four : length (to_le_bytes w32 a) ≡ 4 = refl in
+    omega (arith, length-append (to_le_bytes w32 a) (bytes_of x), length-bytes_of x)
+
+-- a chunk keeps its length
+length-mixed_chunk : (b : List ℕ) (log_n r i : ℕ) → 0 < r → i * (128 * r) + 128 * r ≤ length b → length (mixed_chunk b log_n r i) ≡ 128 * r
+length-mixed_chunk b log_n r i some room =
+    let long : length (part (128 * r) b i) ≡ 128 * r = length-part (128 * r) i b room in
+    let x : List ℕ = words_of (part (128 * r) b i) in
+    let words : length x ≡ 32 * r = length-map-range_with_len _ 0 _ ∙ omega arith in
+    length-bytes_of (ro_mix x log_n) ∙ omega (arith, length-ro_mix x (omega arith) (omega arith) log_n)
+
+-- B with one chunk replaced, part by part
+module _ (b : List ℕ) (log_n r p i : ℕ) (some : 0 < r) (long : length b ≡ p * (128 * r)) (inside : i < p) where
+  room : i * (128 * r) + 128 * r ≤ length b
+  room = omega (arith, parts_apart (128 * r) i p inside)
+
+  full : length (mixed_chunk b log_n r i) ≡ 128 * r
+  full = length-mixed_chunk b log_n r i some room
+
+  put : with_chunk_mixed log_n r b i ≡ put_mid (i * (128 * r)) (128 * r) b (mixed_chunk b log_n r i)
+  put =
+      let a : ℕ = i * (128 * r) in
+      let e : a + 128 * r ≡ (i + 1) * (128 * r) = omega arith in
+      ap (λ z. take a b ++ (mixed_chunk b log_n r i ++ z)) (sym (drop-drop (128 * r) a b ∙ ap (λ n. drop n b) e))
+
+  pub length-mixed : length (with_chunk_mixed log_n r b i) ≡ p * (128 * r)
+  length-mixed =
+      let a : ℕ = i * (128 * r) in
+      let front : length (take a b) ≡ a = length-take-le a b (omega (arith, room)) in
+      let back : length (drop ((i + 1) * (128 * r)) b) ≡ length b - (i + 1) * (128 * r) = length-drop _ b in
+      let middle = length-append (mixed_chunk b log_n r i) (drop ((i + 1) * (128 * r)) b) in
+      length-append (take a b) _ ∙ omega (arith, front, back, middle, full, room)
+
+  pub part_mixed : part (128 * r) (with_chunk_mixed log_n r b i) i ≡ mixed_chunk b log_n r i
+  part_mixed =
+      ap (λ x. part (128 * r) x i) put
+      ∙ part_put_same (128 * r) i b (mixed_chunk b log_n r i) (i * (128 * r)) (128 * r) refl refl full room
+
+  pub part_kept : (k : ℕ) → k ≢ i → part (128 * r) (with_chunk_mixed log_n r b i) k ≡ part (128 * r) b k
+  part_kept k other =
+      ap (λ x. part (128 * r) x k) put
+      ∙ part_put_other (128 * r) i b (mixed_chunk b log_n r i) (i * (128 * r)) (128 * r) refl refl full room k other
+
+-- how often a chunk is named by a list that is not empty
+counted : (k i : ℕ) (order : List ℕ) → count_by (nat_eq k) (i ∷ order) ≡ cond (nat_eq k i) 1 0 + count_by (nat_eq k) order
+counted k i order = sum_by-cons (λ j. cond (nat_eq k j) 1 0) i order
+
+length-in_order : (log_n r p : ℕ) → 0 < r → (order b : List ℕ) → length b ≡ p * (128 * r) → All (λ i. i < p) order
+    → length (mixed_in_order log_n r b order) ≡ p * (128 * r)
+length-in_order log_n r p some [] b long below = long
+length-in_order log_n r p some (i ∷ order) b long below =
+    let inside = All-head (λ i. i < p) i order below in
+    length-in_order log_n r p some order _ (length-mixed b log_n r p i some long inside) (All-tail (λ i. i < p) i order below)
+
+-- a chunk that is not named stays, and one that is named once is mixed
+record IsDone (log_n r k : ℕ) (b order : List ℕ) : Type 0 where
+  none : count_by (nat_eq k) order ≡ 0 → part (128 * r) (mixed_in_order log_n r b order) k ≡ part (128 * r) b k
+  once : count_by (nat_eq k) order ≡ 1 → part (128 * r) (mixed_in_order log_n r b order) k ≡ mixed_chunk b log_n r k
+
+done_in_order : (log_n r p k : ℕ) → 0 < r → (order b : List ℕ) → length b ≡ p * (128 * r) → All (λ i. i < p) order
+    → IsDone log_n r k b order
+done_in_order log_n r p k some [] b long below = record { none = λ _. refl; once = λ one. absurd (omega (arith, one)) }
+done_in_order log_n r p k some (i ∷ order) b long below =
+    let inside : i < p = All-head (λ i. i < p) i order below in
+    let rest = done_in_order log_n r p k some order (with_chunk_mixed log_n r b i) (length-mixed b log_n r p i some long inside)
+    (All-tail (λ i. i < p) i order below) in
+    let more = counted k i order in
+    elim (cases_Bool (nat_eq k i)) [
+      | inl hit ↦
+          let same : k ≡ i = eqb-true k i hit in
+          let named : count_by (nat_eq k) (i ∷ order) ≡ 1 + count_by (nat_eq k) order = more ∙ rw hit refl in
+          record {
+            none = λ zero. absurd (omega (arith, named, zero));
+            once = λ one. rest.none (omega (arith, named, one)) ∙ rw same (part_mixed b log_n r p i some long inside);
+          }
+      | inr miss ↦
+          let kept = part_kept b log_n r p i some long inside k (eqb-false k i miss) in
+          let passed : count_by (nat_eq k) (i ∷ order) ≡ count_by (nat_eq k) order = more ∙ rw miss (zero-add _) in
+          record {
+            none = λ zero. rest.none (omega (arith, passed, zero)) ∙ kept;
+            once = λ one. rest.once (omega (arith, passed, one)) ∙ ap (λ z. bytes_of (ro_mix (words_of z) log_n)) kept;
+          }
+    ]
+
+-- so all chunks are mixed
+pub any_order : (b order : List ℕ) (log_n r p : ℕ) → 0 < r → length b ≡ p * (128 * r) → NamesEachOnce p order
+    → mixed_in_order log_n r b order ≡ mixed_chunks b log_n r p
+any_order b order log_n r p some long names =
+    parts_all (mixed_chunk b log_n r) (128 * r) p (mixed_in_order log_n r b order)
+    (length-in_order log_n r p some order b long names.below)
+    (λ k inside. (done_in_order log_n r p k some order b long names.below).once (names.once k inside))

@@ -1,0 +1,112 @@
+-- Facts on five-letter numbers and on the costs with which a field begins.
+use Rattle.std.proofs.Common.{◌≡◌, ℕ, ◌-◌, ◌/◌, ◌%◌, ◌^◌, ◌<◌, ◌≤◌, List, [], ◌∷◌, ◌++◌, length, take, drop, Some, None, refl, sym, ap, ◌∙◌, arith, length-append, length-drop}
+use Rattle.std.specs.List.{slice_get}
+use Rattle.std.proofs.Math.Seq.{take-append_seam}
+use Rattle.std.proofs.lemmas.Bool.{le-ltb}
+use Rattle.std.specs.Prelude.{All, IsSome, Option}
+use Rattle.std.proofs.lemmas.List.{append-nil, take_all}
+use Rattle.std.proofs.lemmas.List.Elements.{All-head, All-tail}
+use Rattle.password_hash.specs.Crypt64.{letter, letter_value, letters_of, number_of, with_digit}
+use Rattle.password_hash.proofs.Crypt64Facts.{length-letters_of, letters_of-number_of, number_of-letters_of}
+use Rattle.password_hash.proofs.GroupFacts.{append_parts}
+use Rattle.password_hash.proofs.LetterFacts.{letter_value-letter}
+use Rattle.scrypt.specs.Accepted.{AreAccepted}
+use Rattle.scrypt.specs.McfCosts.{costs_letters, five_letter_number, SaysCosts}
+use Rattle.scrypt.proofs.AcceptedFacts.{small_costs}
+
+-- where there are five letters, they say the number
+pub five_letter_number-some : (text : List ℕ) → 5 ≤ length text → five_letter_number text ≡ number_of (take 5 text)
+five_letter_number-some text some = rw (le-ltb (length text) 5 some) refl
+
+-- the five letters of a number are those of what is left of it modulo 2^30
+letters_of-modulo : (number : ℕ) → letters_of 5 number ≡ letters_of 5 (number % 2 ^ 30)
+unfolding letters_of
+letters_of-modulo number =
+    let first : number % 2 ^ 30 % 64 ≡ number % 64 = omega arith in
+    let second : number % 2 ^ 30 / 64 % 64 ≡ number / 64 % 64 = omega arith in
+    let third : number % 2 ^ 30 / 64 / 64 % 64 ≡ number / 64 / 64 % 64 = omega arith in
+    let fourth : number % 2 ^ 30 / 64 / 64 / 64 % 64 ≡ number / 64 / 64 / 64 % 64 = omega arith in
+    let fifth : number % 2 ^ 30 / 64 / 64 / 64 / 64 % 64 ≡ number / 64 / 64 / 64 / 64 % 64 = omega arith in
+    rw (first, second, third, fourth, fifth) refl
+
+-- the number modulo 2^30 is read back from a text that begins with its five letters
+pub five_letter_number-letters_of : (number : ℕ) (rest : List ℕ) → five_letter_number (letters_of 5 number ++ rest) ≡ Some (number % 2 ^ 30)
+five_letter_number-letters_of number rest =
+    let count : length (letters_of 5 number) ≡ 5 = length-letters_of 5 number in
+    let some : 5 ≤ length (letters_of 5 number ++ rest) = omega (arith, length-append (letters_of 5 number) rest, count) in
+    let front : take 5 (letters_of 5 number ++ rest) ≡ letters_of 5 number = rw count at (take-append_seam (letters_of 5 number) rest) in
+    five_letter_number-some (letters_of 5 number ++ rest) some ∙ ap number_of (front ∙ letters_of-modulo number)
+    ∙ number_of-letters_of 5 (number % 2 ^ 30) (omega arith)
+
+-- a text from one place to its end
+pub to_the_end : (bytes text : List ℕ) (place : ℕ) → bytes ≡ text → take (length bytes - place) (drop place bytes) ≡ drop place text
+to_the_end bytes text place same =
+    take_all (length bytes - place) (drop place bytes) (omega (arith, length-drop place bytes)) ∙ ap (drop place) same
+
+-- a field without bytes says no costs
+pub empty_says_none : (field : List ℕ) {log_n r p : ℕ} → slice_get field 0 ≡ None → SaysCosts field log_n r p → ⊥
+empty_says_none [] none says = let r_is = says.r_is in cc
+empty_says_none (first ∷ field) none says = absurd (cc)
+
+-- numbers below 2^30 are read back from their five letters alone
+pub five_letters-read_back : (number : ℕ) → number < 2 ^ 30 → five_letter_number (letters_of 5 number) ≡ Some number
+five_letters-read_back number below =
+    let whole : number % 2 ^ 30 ≡ number = omega arith in
+    ap five_letter_number (sym (append-nil (letters_of 5 number))) ∙ five_letter_number-letters_of number [] ∙ ap Some whole
+
+-- five letters are those of the number that they say
+pub five_letters-written_back : (letters : List ℕ) (number : ℕ) → length letters ≡ 5 → five_letter_number letters ≡ Some number
+    → (letters_of 5 number ≡ letters) × (number < 2 ^ 30)
+five_letters-written_back letters number five says =
+    let read : number_of letters ≡ Some number =
+    ap number_of (sym (take_all 5 letters (omega arith))) ∙ sym (five_letter_number-some letters (omega arith)) ∙ says in
+    let both = letters_of-number_of letters number read in
+    rw five at both
+
+-- letters say a number
+number_said : (letters : List ℕ) → All (λ byte. IsSome (letter_value byte)) letters → IsSome (number_of letters)
+unfolding number_of
+number_said [] each = refl
+number_said (first ∷ letters) each =
+    both (letter_value first) (number_of letters)
+    (All-head (λ byte. IsSome (letter_value byte)) first letters each)
+    (number_said letters (All-tail (λ byte. IsSome (letter_value byte)) first letters each))
+  where
+    both : (value above : Option ℕ) → IsSome value → IsSome above → IsSome (with_digit value above)
+    both None above h k = h
+    both (Some value) None h k = k
+    both (Some value) (Some above) h k = refl
+
+pub five_letters-said : (letters : List ℕ) → length letters ≡ 5 → All (λ byte. IsSome (letter_value byte)) letters
+    → IsSome (five_letter_number letters)
+five_letters-said letters five each =
+    let is : five_letter_number letters ≡ number_of letters =
+    five_letter_number-some letters (omega arith) ∙ ap number_of (take_all 5 letters (omega arith)) in
+    rw is (number_said letters each)
+
+-- letters and five letters are those of one number
+letter-once : (value other : ℕ) → value < 64 → other < 64 → letter value ≡ letter other → value ≡ other
+letter-once value other below other_below same =
+    let values : Some value ≡ Some other = sym (letter_value-letter value below) ∙ ap letter_value same ∙ letter_value-letter other other_below in
+    cc
+
+five_letters-once : (number other : ℕ) → number < 2 ^ 30 → other < 2 ^ 30 → letters_of 5 number ≡ letters_of 5 other → number ≡ other
+five_letters-once number other below other_below same =
+    let numbers : Some number ≡ Some other =
+    sym (five_letters-read_back number below) ∙ ap five_letter_number same ∙ five_letters-read_back other other_below in
+    cc
+
+-- the letters of accepted costs are those of one log_n, one r and one p
+pub costs_letters-once : (log_n r p other_log_n other_r other_p : ℕ) → AreAccepted log_n r p → AreAccepted other_log_n other_r other_p
+    → costs_letters log_n r p ≡ costs_letters other_log_n other_r other_p → (log_n ≡ other_log_n) × (r ≡ other_r) × (p ≡ other_p)
+costs_letters-once log_n r p other_log_n other_r other_p fits other_fits same =
+    let small = small_costs log_n r p fits in
+    let other_small = small_costs other_log_n other_r other_p other_fits in
+    let first : letter log_n ≡ letter other_log_n = cc in
+    let behind : letters_of 5 r ++ letters_of 5 p ≡ letters_of 5 other_r ++ letters_of 5 other_p = cc in
+    let parts = append_parts (letters_of 5 r) (letters_of 5 p) (letters_of 5 other_r) (letters_of 5 other_p)
+    (length-letters_of 5 r ∙ sym (length-letters_of 5 other_r)) behind in (
+      letter-once log_n other_log_n (omega (arith, small.0)) (omega (arith, other_small.0)) first,
+      five_letters-once r other_r small.1 other_small.1 parts.0,
+      five_letters-once p other_p small.2 other_small.2 parts.1,
+    )

@@ -1,0 +1,25 @@
+use Rattle.std.proofs.Common.{sym, ◌∙◌}
+use Rattle.password_hash.proofs.ModularFacts.{Modular-one}
+use Rattle.password_hash.proofs.OneReading.{Crypt64-one, one_reading}
+use Rattle.scrypt.proofs.laws.texts_have_one_reading.Goals as goal
+
+pub returns-clause-phc_reading : goal.returns-clause-phc_reading
+returns-clause-phc_reading c = one_reading
+
+pub returns-clause-phc_text : goal.returns-clause-phc_text
+returns-clause-phc_text c hash one other is again = is.whole ∙ sym again.whole
+
+pub returns-clause-modular_reading : goal.returns-clause-modular_reading
+returns-clause-modular_reading c text one other fields more is again =
+    let first = Modular-one text one fields is in
+    let second = Modular-one text other more again in
+    (sym first.0 ∙ second.0, sym first.1 ∙ second.1)
+
+pub returns-clause-modular_text : goal.returns-clause-modular_text
+returns-clause-modular_text c id one other fields is again = is.written ∙ sym again.written
+
+pub returns-clause-crypt64_reading : goal.returns-clause-crypt64_reading
+returns-clause-crypt64_reading c = Crypt64-one
+
+pub returns-clause-crypt64_text : goal.returns-clause-crypt64_text
+returns-clause-crypt64_text c bytes one other is again = is.encoding ∙ sym again.encoding

@@ -1,0 +1,7 @@
+use Rattle.std.proofs.Common.{refl}
+use Rattle.password_hash.specs.Crypt64.{letters_of}
+use Rattle.scrypt.proofs.mcf.five_letters.five_letters.Goals as goal
+
+pub returns : goal.returns
+unfolding letters_of
+returns c = rw (c.letter.ensures, c.letter-2.ensures, c.letter-3.ensures, c.letter-4.ensures, c.letter-5.ensures) refl

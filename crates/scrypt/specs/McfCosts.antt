@@ -1,0 +1,31 @@
+-- Five-letter numbers, and the costs with which the first field of a `$7$` text begins.
+use Rattle.std.specs.Prelude.{◌≡◌, ℕ, ◌<◌, nat_lt, if◌then◌else◌, List, ◌∷◌, ◌++◌, length, take, drop, Option, None, Some, unwrap_or, Result, Ok, Err, slice_index}
+use Rattle.password_hash.specs.Crypt64.{letter, letter_value, letters_of, number_of}
+use Rattle.password_hash.specs.Refusal.{Refusal, BadEncoding, BadParams}
+use Rattle.scrypt.specs.Accepted.{AreAccepted, Parameters}
+
+-- the five-letter number at the front of a text, the lowest letter first: none where there are fewer
+-- letters, or one of the five is no letter
+abbrev pub five_letter_number : List ℕ → Option ℕ
+five_letter_number text = if nat_lt (length text) 5 then None else number_of (take 5 text)
+
+-- What the first eleven bytes of a field say: log_n by one letter, and r and p by five letters each. A
+-- first byte below 128 that is no letter says 255.
+pub record SaysCosts (field : List ℕ) (log_n r p : ℕ) : Type 0 where
+  pub first_byte : slice_index field 0 < 128
+  pub log_n_is : unwrap_or (letter_value (slice_index field 0)) 255 ≡ log_n
+  pub r_is : five_letter_number (drop 1 field) ≡ Some r
+  pub p_is : five_letter_number (drop 6 field) ≡ Some p
+
+-- the eleven letters of these numbers
+abbrev pub costs_letters : ℕ → ℕ → ℕ → List ℕ
+costs_letters log_n r p = letter log_n ∷ (letters_of 5 r ++ letters_of 5 p)
+
+-- The costs that a field says, and the salt, which is the rest of it, or what the field is refused by:
+-- first that it says no numbers, and then that the numbers are not accepted.
+pub data ReadsField (field : List ℕ) : Result (Parameters × List ℕ) Refusal → Type 0 where
+  malformed : ((log_n r p : ℕ) → ¬ SaysCosts field log_n r p) → ReadsField field (Err BadEncoding)
+  not_accepted : {log_n r p : ℕ} → SaysCosts field log_n r p → ¬ AreAccepted log_n r p
+      → ReadsField field (Err BadParams)
+  accepted : {log_n r p : ℕ} → SaysCosts field log_n r p → AreAccepted log_n r p
+      → ReadsField field (Ok (record { log_n = log_n; r = r; p = p; output_len = None }, drop 11 field))

@@ -1,0 +1,8 @@
+//! Password hashes in the `$7$` form of crypt(5).
+
+mod costs;
+mod five_letters;
+
+pub use costs::decode_params_and_salt;
+pub use five_letters::{decode64_uint32, encode64_uint32};
+pub use password_hash::mcf::{PasswordHash, PasswordHashRef};

@@ -1,0 +1,57 @@
+// Numbers below 2^30 as five letters of crypt(5), the lowest digit to base 64 first.
+
+ghost use Rattle.std.specs.Prelude.{◌≡◌, ◌↔◌, ◌≤◌, ◌%◌, ◌^◌, ◌++◌, None, Some, length, drop, IsOk, IfOk, IfErr, OnErr, OnOk};
+ghost use Rattle.password_hash.specs.Crypt64.{letters_of};
+ghost use Rattle.password_hash.specs.declared.error.Error.TheVariants.{EncodingInvalid};
+ghost use Rattle.scrypt.specs.McfCosts.{five_letter_number};
+
+use password_hash::mcf::alphabet::{letter, number};
+use password_hash::{Error, Result};
+
+/// The number that the first five bytes of `letters` say. Bytes behind them are not looked at.
+///
+/// `EncodingInvalid` exactly where there are fewer than five, or one of the five is no letter.
+pub fn decode64_uint32(letters: &[u8]) -> Result<u32>
+    ensures ok { IfOk result (λ n. five_letter_number letters.now ≡ Some n) }
+    ensures none { OnErr result (five_letter_number letters.now ≡ None) }
+    ensures err { IfErr result (λ e. e ≡ EncodingInvalid) }
+{
+    let Some(five) = letters.get(..5) else {
+        return Err(Error::EncodingInvalid);
+    };
+    match number(five) {
+        Some(number) => Ok(number),
+        None => Err(Error::EncodingInvalid),
+    }
+}
+
+/// Writes the five letters of `number` modulo 2^30 into the first five places of `out`. The places
+/// behind them stay as they were.
+///
+/// `EncodingInvalid` exactly where there are fewer than five places. Then nothing is written.
+pub fn encode64_uint32(out: &mut [u8], number: u32) -> Result<()>
+    ensures exact { IsOk result ↔ (5 ≤ length out.old) }
+    ensures written { OnOk result (out.new ≡ letters_of 5 number ++ drop 5 out.old) }
+    ensures read_back { OnOk result (five_letter_number out.new ≡ Some (number % 2 ^ 30)) }
+    ensures err { IfErr result (λ e. e ≡ EncodingInvalid) }
+    ensures unchanged { OnErr result (out.new ≡ out.old) }
+{
+    if out.len() < 5 {
+        return Err(Error::EncodingInvalid);
+    }
+    out[..5].copy_from_slice(&five_letters(number));
+    Ok(())
+}
+
+// The five letters of a number modulo 2^30.
+fn five_letters(number: u32) -> [u8; 5]
+    ensures { result ≡ letters_of 5 number }
+{
+    [
+        letter(number % 64),
+        letter(number / 64 % 64),
+        letter(number / 64 / 64 % 64),
+        letter(number / 64 / 64 / 64 % 64),
+        letter(number / 64 / 64 / 64 / 64 % 64),
+    ]
+}
