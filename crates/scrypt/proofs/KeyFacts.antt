@@ -1,5 +1,5 @@
 -- Facts on the chunks of B, which are mixed one after another.
-use Rattle.std.proofs.Common.{◌≡◌, ◌≢◌, ℕ, ◌<◌, ◌≤◌, ◌+◌, ◌*◌, List, length, take, drop, sym, ap, ◌∙◌, arith, below_more}
+use Rattle.std.proofs.Common.{◌≡◌, ◌≢◌, ℕ, ◌<◌, ◌≤◌, ◌+◌, ◌*◌, List, length, take, drop, slice_index, sym, ap, ◌∙◌, arith, below_more}
 use Rattle.std.proofs.lemmas.List.FromFn.{take-map-range_with_len}
 use borrow.Rule.Slice.PartMut.{put_mid}
 use Rattle.scrypt.specs.Words.{bytes_of, part, words_of}
@@ -8,7 +8,7 @@ use Rattle.scrypt.specs.Hmac.{padded_key}
 use Rattle.scrypt.specs.Pbkdf2.{pbkdf2}
 use Rattle.scrypt.specs.Key.{derived_key, mixed_chunk, mixed_chunks}
 use Rattle.scrypt.proofs.PartFacts.{part_of_slice, part_put_same, part_put_other, parts_all}
-use Rattle.scrypt.proofs.Pbkdf2Facts.{same_pbkdf2}
+use Rattle.scrypt.proofs.Pbkdf2Facts.{length-pbkdf2, pbkdf2-are_bytes, same_pbkdf2}
 
 -- the first i chunks of x are those of b after scryptROMix, and the others are those of b
 pub record AreMixed (b : List ℕ) (log_n r i : ℕ) (x : List ℕ) : Type 0 where
@@ -50,3 +50,13 @@ unfolding derived_key
 same_key one other salt log_n r p n padded =
     same_pbkdf2 one other _ n padded
     ∙ ap (λ b. pbkdf2 other (mixed_chunks b log_n r p) n) (same_pbkdf2 one other salt (p * (128 * r)) padded)
+
+-- a derived key has as many bytes as were asked for
+pub length-derived_key : (password salt : List ℕ) (log_n r p n : ℕ) → length (derived_key password salt log_n r p n) ≡ n
+unfolding derived_key
+length-derived_key password salt log_n r p n = length-pbkdf2 password _ n
+
+-- each of them a byte
+pub derived_key-are_bytes : (password salt : List ℕ) (log_n r p n i : ℕ) → slice_index (derived_key password salt log_n r p n) i < 256
+unfolding derived_key
+derived_key-are_bytes password salt log_n r p n i = pbkdf2-are_bytes password _ n i

@@ -2,7 +2,7 @@ use Rattle.std.proofs.Common.{subst}
 use Rattle.password_hash.proofs.OneReading.{one_reading}
 use Rattle.password_hash.specs.Phc.{hash_text}
 use Rattle.scrypt.specs.PhcHash.{Accepts}
-use Rattle.scrypt.proofs.MadeFacts.{made_accepts, made_is_text}
+use Rattle.scrypt.proofs.PhcHashFacts.{made_accepts, made_is_text}
 use Rattle.scrypt.proofs.laws.made_hashes_are_accepted.Goals as goal
 
 pub returns-clause-phc : goal.returns-clause-phc
