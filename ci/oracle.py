@@ -11,6 +11,7 @@ import hashlib
 import random
 import subprocess
 import sys
+import warnings
 
 import crypt64
 import phc
@@ -29,6 +30,9 @@ MADE = (
 
 # where the letters that this repository writes are pinned
 LETTERS = "crates/scrypt_tests/src/crypt_letters.rt"
+
+# where the `$7$` hashes of the tests stand
+HASHES = "crates/scrypt_tests/src/crypt_hashes.rt"
 
 
 def run(program, words, password):
@@ -117,7 +121,23 @@ def crypt_letters_passlib(_program, _rng):
     return sum(told), len(told) - sum(told), 0
 
 
-PARTS = [keys, phc_mutations, phc_passlib, crypt_letters, crypt_letters_passlib]
+def crypt_hashes(_program, _rng):
+    """That libxcrypt makes the `$7$` hashes in the tests of their passwords."""
+    try:
+        with warnings.catch_warnings():
+            warnings.simplefilter("ignore")
+            import crypt
+    except ImportError:
+        print("Python's crypt isn't installed: skipped")
+        return 0, 0, 1
+    with open(HASHES, encoding="utf-8") as tests:
+        stored = tests.read()
+    told = [text in stored and crypt.crypt(word, text) == text for word, text in crypt64.HASHES]
+    print(f"libxcrypt: {sum(told)} of the {len(told)} hashes of the tests agree")
+    return sum(told), len(told) - sum(told), 0
+
+
+PARTS = [keys, phc_mutations, phc_passlib, crypt_letters, crypt_letters_passlib, crypt_hashes]
 
 
 def main():

@@ -15,3 +15,5 @@ pub mod PhcCostsFacts
 pub mod ReadingFacts
 pub mod PhcHashFacts
 pub mod McfCostsFacts
+pub mod McfHashFacts
+pub mod McfTextFacts
