@@ -6,6 +6,8 @@ use Rattle.scrypt.specs.Words.{bytes_of, part, words_of}
 use Rattle.scrypt.specs.RoMix.{ro_mix}
 use Rattle.scrypt.specs.Hmac.{padded_key}
 use Rattle.scrypt.specs.Pbkdf2.{pbkdf2}
+use Rattle.scrypt.specs.Accepted.{Parameters}
+use Rattle.scrypt.specs.Derives.{key_by}
 use Rattle.scrypt.specs.Key.{derived_key, mixed_chunk, mixed_chunks}
 use Rattle.scrypt.proofs.PartFacts.{part_of_slice, part_put_same, part_put_other, parts_all}
 use Rattle.scrypt.proofs.Pbkdf2Facts.{length-pbkdf2, pbkdf2-are_bytes, same_pbkdf2}
@@ -52,11 +54,11 @@ same_key one other salt log_n r p n padded =
     ∙ ap (λ b. pbkdf2 other (mixed_chunks b log_n r p) n) (same_pbkdf2 one other salt (p * (128 * r)) padded)
 
 -- a derived key has as many bytes as were asked for
-pub length-derived_key : (password salt : List ℕ) (log_n r p n : ℕ) → length (derived_key password salt log_n r p n) ≡ n
+pub length-key_by : (c : Parameters) (password salt : List ℕ) (n : ℕ) → length (key_by c password salt n) ≡ n
 unfolding derived_key
-length-derived_key password salt log_n r p n = length-pbkdf2 password _ n
+length-key_by c password salt n = length-pbkdf2 password _ n
 
 -- each of them a byte
-pub derived_key-are_bytes : (password salt : List ℕ) (log_n r p n i : ℕ) → slice_index (derived_key password salt log_n r p n) i < 256
+pub key_by-are_bytes : (c : Parameters) (password salt : List ℕ) (n i : ℕ) → slice_index (key_by c password salt n) i < 256
 unfolding derived_key
-derived_key-are_bytes password salt log_n r p n i = pbkdf2-are_bytes password _ n i
+key_by-are_bytes c password salt n i = pbkdf2-are_bytes password _ n i

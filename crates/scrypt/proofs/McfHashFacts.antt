@@ -1,15 +1,18 @@
 -- Facts on `$7$` hashes: a text says one hash or is refused, and says it as it was written.
-use Rattle.std.proofs.Common.{◌≡◌, ℕ, List, length, Ok, Err, refl, sym, ap, ap₂, subst, ◌∙◌}
-use Rattle.std.specs.Prelude.{Result}
-use Rattle.password_hash.specs.Crypt64.{Crypt64}
-use Rattle.password_hash.specs.Mcf.{Modular}
+use Rattle.std.proofs.Common.{◌≡◌, ℕ, List, [], ◌∷◌, length, Ok, Err, refl, sym, ap, ap₂, subst, ◌∙◌, ◌++◌}
+use Rattle.std.specs.Prelude.{IfOk, Result}
+use Rattle.password_hash.specs.Crypt64.{Crypt64, crypt64_of}
+use Rattle.password_hash.specs.Mcf.{Modular, behind_dollars}
 use Rattle.password_hash.specs.Refusal.{Refusal}
 use Rattle.password_hash.proofs.ModularFacts.{Modular-one}
 use Rattle.password_hash.proofs.OneReading.{Crypt64-one}
 use Rattle.scrypt.specs.Accepted.{Parameters}
 use Rattle.scrypt.specs.Derives.{key_by}
-use Rattle.scrypt.specs.McfCosts.{SaysCosts, ReadsField, malformed, not_accepted, accepted}
-use Rattle.scrypt.specs.McfHash.{HasCosts, IsHashText, TextIsRefused, other_id, no_field, bad_costs, no_key, bad_key, third_field, bad_key_len, Accepts}
+use Rattle.scrypt.specs.PhcAnswers.{bare}
+use Rattle.scrypt.proofs.KeyFacts.{length-key_by}
+use Rattle.scrypt.proofs.McfCostsFacts.{field_is}
+use Rattle.scrypt.specs.McfCosts.{SaysCosts, costs_letters, ReadsField, malformed, not_accepted, accepted}
+use Rattle.scrypt.specs.McfHash.{HasCosts, IsHashText, TextIsRefused, other_id, no_field, bad_costs, no_key, bad_key, third_field, bad_key_len, Accepts, seven, IsMadeHash, made_len}
 
 -- a text has one id and one list of fields
 fields_once : {text id other : List ℕ} {fields others : List (List ℕ)} → Modular text id fields → Modular text other others → (id ≡ other) × (fields ≡ others)
@@ -95,3 +98,27 @@ accepted_key {password} {text} {c} {salt} {key} whole h =
 -- a text that is refused accepts no password
 pub refused_accepts_none : {password text : List ℕ} {why : Refusal} → TextIsRefused text why → Accepts password text → ⊥
 refused_accepts_none refused h = not_both refused h.whole
+
+-- a field that is read begins with the letters of its costs
+field_written : {field : List ℕ} {out : Result (Parameters × List ℕ) Refusal} → ReadsField field out
+    → IfOk out (λ read. field ≡ costs_letters read.0.log_n read.0.r read.0.p ++ read.1)
+field_written (malformed none) = tt
+field_written (not_accepted says refused) = tt
+field_written {field} (accepted {log_n} {r} {p} says good) = field_is field log_n r p says good
+
+-- a hash has one text
+pub text_of : {text : List ℕ} {c : Parameters} {salt key : List ℕ} → IsHashText text c salt key
+    → text ≡ behind_dollars (seven ∷ (costs_letters c.log_n c.r c.p ++ salt) ∷ crypt64_of key ∷ [])
+text_of h =
+    h.has_costs.parts.written
+    ∙ ap₂ (λ field letters. behind_dollars (seven ∷ field ∷ letters ∷ [])) (field_written h.has_costs.costs) h.key_is.encoding
+
+-- a made hash accepts its password
+pub made_accepted : (c : Parameters) (password salt text : List ℕ) → IsMadeHash c password salt text → Accepts password text
+made_accepted c password salt text made = record {
+  costs = bare c;
+  salt = crypt64_of salt;
+  stored = key_by c password (crypt64_of salt) (made_len c);
+  whole = made;
+  right = ap (key_by c password (crypt64_of salt)) (sym (length-key_by c password (crypt64_of salt) (made_len c)));
+}

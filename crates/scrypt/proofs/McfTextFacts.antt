@@ -1,9 +1,7 @@
 -- The text that hashing writes is that of the hash.
-use Rattle.std.proofs.Common.{◌≡◌, ◌≢◌, ◌∙◌, ℕ, zero, suc, ◌+◌, ◌-◌, ◌*◌, ◌^◌, ◌%◌, ◌<◌, ◌≤◌, List, [], ◌∷◌, ◌++◌, length, take, drop, set, Some, Ok, refl, sym, ap, subst, arith, lit<, append_assoc, length-append, length-drop}
+use Rattle.std.proofs.Common.{◌≡◌, ◌≢◌, ◌∙◌, ℕ, zero, suc, ◌+◌, ◌-◌, ◌^◌, ◌%◌, ◌<◌, ◌≤◌, List, [], ◌∷◌, ◌++◌, length, take, drop, set, Some, Ok, refl, sym, ap, subst, arith, lit<, append_assoc, length-append, length-drop}
 use Rattle.std.specs.Prelude.{All, IsTrue, codes, unwrap_or}
 use Rattle.std.specs.Str.{IsAscii}
-use Rattle.std.proofs.Math.Nat.{mul_comm}
-use Rattle.std.proofs.lemmas.Nat.{mul-le}
 use Rattle.std.proofs.lemmas.List.{append-nil, drop_all, drop_at, take_at, drop-drop}
 use Rattle.std.proofs.lemmas.List.Elements.{All-nil, All-cons, All-append, All-head, All-tail, All-weaker}
 use borrow.Rule.Slice.PartMut.{put_mid}
@@ -13,13 +11,10 @@ use Rattle.password_hash.proofs.LetterFacts.{letter-ascii, letter_value-letter}
 use Rattle.password_hash.proofs.Crypt64Facts.{IsPlain, crypt64_of-plain, length-letters_of, letters_of-plain}
 use Rattle.password_hash.proofs.ModularFacts.{IsField-crypt64_of}
 use Rattle.scrypt.specs.Accepted.{AreAccepted, IsOutputLen, Parameters}
-use Rattle.scrypt.specs.Derives.{key_by}
-use Rattle.scrypt.specs.Key.{derived_key}
 use Rattle.scrypt.specs.PhcAnswers.{bare}
 use Rattle.scrypt.specs.McfCosts.{five_letter_number, costs_letters, costs_text, SaysCosts, ReadsField, accepted}
 use Rattle.scrypt.specs.McfHash.{IsHashText}
-use Rattle.scrypt.proofs.AcceptedFacts.{small_log_n}
-use Rattle.scrypt.proofs.Pbkdf2Facts.{length-pbkdf2}
+use Rattle.scrypt.proofs.AcceptedFacts.{small_costs, small_log_n}
 use Rattle.scrypt.proofs.McfCostsFacts.{five_letter_number-letters_of, to_the_end}
 
 -- what is left by a write from one place to the end
@@ -73,10 +68,6 @@ count_letters log_n r p = omega (arith, length-append (letters_of 5 r) (letters_
 pub count_text : (c : Parameters) → length (costs_text c) ≡ 14
 count_text c = omega (arith, count_letters c.log_n c.r c.p)
 
--- a factor of a small product is small
-smaller : (m n : ℕ) → 0 < n → m * n < 2 ^ 30 → m < 2 ^ 30
-smaller m n some small = let least = mul-le m 1 m n (omega arith) (omega arith) in omega (arith, least, small)
-
 -- they say the numbers
 letters_say : (log_n r p : ℕ) (salt : List ℕ) → log_n < 64 → r < 2 ^ 30 → p < 2 ^ 30
     → SaysCosts (costs_letters log_n r p ++ salt) log_n r p
@@ -98,10 +89,8 @@ letters_say log_n r p salt small small_r small_p =
 -- so the field is read as the costs and the salt
 pub field_read : (c : Parameters) (salt : List ℕ) → AreAccepted c.log_n c.r c.p → ReadsField (costs_letters c.log_n c.r c.p ++ salt) (Ok (bare c, salt))
 field_read c salt good =
-    let small : c.log_n ≤ 56 = small_log_n c.log_n c.r good.0 good.2 in
-    let small_r : c.r < 2 ^ 30 = smaller c.r c.p good.1 good.3 in
-    let small_p : c.p < 2 ^ 30 = smaller c.p c.r good.0 (rw (mul_comm c.p c.r) good.3) in
-    let says = letters_say c.log_n c.r c.p salt (omega arith) small_r small_p in
+    let small = small_costs c.log_n c.r c.p good in
+    let says = letters_say c.log_n c.r c.p salt (omega (arith, small.0)) small.1 small.2 in
     let rest : drop 11 (costs_letters c.log_n c.r c.p ++ salt) ≡ salt = drop_at (costs_letters c.log_n c.r c.p) salt 11 (count_letters c.log_n c.r c.p) in
     subst (λ s. ReadsField (costs_letters c.log_n c.r c.p ++ salt) (Ok (bare c, s))) rest (accepted says good)
 
@@ -155,8 +144,3 @@ between_cuts front salt rest at count is =
 pub before_cut : (front salt rest : List ℕ) (at : ℕ) → length front ≡ 14 → at ≡ 14 + length salt → take at (front ++ (salt ++ rest)) ≡ front ++ salt
 before_cut front salt rest at count is =
     ap (take at) (sym (append_assoc front salt rest)) ∙ take_at (front ++ salt) rest at (omega (arith, length-append front salt))
-
--- the length of a key
-pub length-key_by : (c : Parameters) (password salt : List ℕ) (n : ℕ) → length (key_by c password salt n) ≡ n
-unfolding derived_key
-length-key_by c password salt n = length-pbkdf2 password _ n

@@ -10,7 +10,7 @@ use Rattle.scrypt.specs.PhcAnswers.{bare}
 use Rattle.scrypt.specs.PhcCosts.{ReadsCosts}
 use Rattle.scrypt.specs.PhcHash.{Accepts, IsMadeHash, IsWhole, made_len}
 use Rattle.scrypt.proofs.AcceptedFacts.{small_costs}
-use Rattle.scrypt.proofs.KeyFacts.{derived_key-are_bytes, length-derived_key}
+use Rattle.scrypt.proofs.KeyFacts.{key_by-are_bytes, length-key_by}
 use Rattle.scrypt.proofs.PhcCostsFacts.{three_pairs}
 use Rattle.scrypt.proofs.ReadingFacts.{reads_once, written_read}
 
@@ -50,7 +50,7 @@ made_accepts c password salt hash fits made = record {
     salt_is = made.salt_is;
     key_is = made.key_is;
   };
-  right = ap (key_by c password salt) (sym (length-derived_key password salt c.log_n c.r c.p (made_len c)));
+  right = ap (key_by c password salt) (sym (length-key_by c password salt (made_len c)));
 }
 
 stored_made : (len : Option ℕ) → IfSome len IsStoredLen → IsStoredLen (unwrap_or len 32)
@@ -63,7 +63,7 @@ pub made_is_text : (c : Parameters) (password salt : List ℕ) (hash : PasswordH
 made_is_text c password salt hash fits len salted made =
     let small = small_costs c.log_n c.r c.p fits in
     let stored = stored_made c.output_len len in
-    let long = length-derived_key password salt c.log_n c.r c.p (made_len c) in
+    let long = length-key_by c password salt (made_len c) in
     record {
       whole = refl;
       algorithm = rw made.algorithm (record { some = lit≤ tt; short = lit≤ tt; letters = refl });
@@ -71,7 +71,7 @@ made_is_text c password salt hash fits len salted made =
       params = rw made.params (three_pairs c.log_n c.r c.p (omega (arith, small.0)) (omega (arith, small.1)) (omega (arith, small.2)));
       salt = rw made.salt_is salted;
       key = rw made.key_is (record {
-        bytes = derived_key-are_bytes password salt c.log_n c.r c.p (made_len c);
+        bytes = key_by-are_bytes c password salt (made_len c);
         least = omega (arith, long, stored.0);
         greatest = omega (arith, long, stored.1);
       });

@@ -13,6 +13,7 @@ ghost use Rattle.scrypt.specs.ChunkOrder.{NamesEachOnce, mixed_in_order};
 ghost use Rattle.scrypt.specs.Diagonal.{AreInverse, IsBlockMixBy, diagonal_core, diagonal_order, inverse_pivot, pivot, standard_order};
 ghost use Rattle.scrypt.specs.Key.{derived_key, mixed_chunks};
 ghost use Rattle.scrypt.specs.McfCosts.{costs_letters, five_letter_number};
+ghost use Rattle.scrypt.specs.McfHash.{Accepts as SevenAccepts, IsHashText as IsSevenText, IsMadeHash as IsMadeSeven};
 ghost use Rattle.scrypt.specs.PhcAnswers.{bare};
 ghost use Rattle.scrypt.specs.PhcCosts.{ReadsCosts, written_pairs};
 ghost use Rattle.scrypt.specs.PhcHash.{Accepts, IsMadeHash};
@@ -49,8 +50,9 @@ pub fn written_costs_read_back()
         → ReadsCosts (written_pairs c) out → out ≡ Ok (bare c) }
 {}
 
-/// A PHC text, a modular text and a text of crypt Base64 each have at most one reading, and each
-/// reading has at most one text: migration tools rely on it, which compare hashes by their texts.
+/// A PHC text, a modular text, a `$7$` text and a text of crypt Base64 each have at most one reading,
+/// and each reading has at most one text: migration tools rely on it, which compare hashes by their
+/// texts.
 pub fn texts_have_one_reading()
     ensures phc_reading { (text : List ℕ) (one other : PasswordHash) → IsHashText text one → IsHashText text other
         → one ≡ other }
@@ -60,14 +62,19 @@ pub fn texts_have_one_reading()
         → Modular text other more → (one ≡ other) × (fields ≡ more) }
     ensures modular_text { (id one other : List ℕ) (fields : List (List ℕ)) → Modular one id fields
         → Modular other id fields → one ≡ other }
+    ensures seven_reading { (text salt more_salt stored more_stored : List ℕ) (one other : Parameters)
+        → IsSevenText text one salt stored → IsSevenText text other more_salt more_stored
+        → (one ≡ other) × (salt ≡ more_salt) × (stored ≡ more_stored) }
+    ensures seven_text { (one other salt stored : List ℕ) (c : Parameters) → IsSevenText one c salt stored
+        → IsSevenText other c salt stored → one ≡ other }
     ensures crypt64_reading { (letters one other : List ℕ) → Crypt64 one letters → Crypt64 other letters
         → one ≡ other }
     ensures crypt64_text { (bytes one other : List ℕ) → Crypt64 bytes one → Crypt64 bytes other → one ≡ other }
 {}
 
-/// The hash that hashing makes of accepted parameters, a password and a salt accepts that password,
-/// is printed as a PHC text, and accepts it too as it is read back from that text: credential stores
-/// rely on it, which keep the text.
+/// The hash that hashing makes of accepted parameters, a password and a salt accepts that password: a
+/// PHC hash, which also has a text and accepts it too as it is read back from there, and a `$7$` text.
+/// Credential stores rely on it, which keep the text.
 pub fn made_hashes_are_accepted()
     ensures phc { (c : Parameters) (password salt : List ℕ) (hash : PasswordHash) → AreAccepted c.log_n c.r c.p
         → IsMadeHash c password salt hash → Accepts password hash }
@@ -77,6 +84,8 @@ pub fn made_hashes_are_accepted()
     ensures phc_read_back { (c : Parameters) (password salt : List ℕ) (hash again : PasswordHash) → AreAccepted c.log_n c.r c.p
         → IfSome c.output_len IsStoredLen → IsSalt salt → IsMadeHash c password salt hash
         → IsHashText (hash_text hash) again → Accepts password again }
+    ensures seven { (c : Parameters) (password salt text : List ℕ) → IsMadeSeven c password salt text
+        → SevenAccepts password text }
 {}
 
 /// Numbers below 2^30 and their five letters undo each other, every five letters say a number, and

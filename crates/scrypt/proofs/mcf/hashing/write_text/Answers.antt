@@ -10,7 +10,8 @@ use Rattle.scrypt.specs.PhcAnswers.{bare}
 use Rattle.scrypt.specs.McfCosts.{costs_text}
 use Rattle.scrypt.specs.McfHash.{IsHashText, made_len}
 use Rattle.scrypt.proofs.McfCostsFacts.{to_the_end}
-use Rattle.scrypt.proofs.McfTextFacts.{before_cut, between_cuts, count_text, length-key_by, put_to_the_end, text_ascii, text_is}
+use Rattle.scrypt.proofs.KeyFacts.{length-key_by}
+use Rattle.scrypt.proofs.McfTextFacts.{before_cut, between_cuts, count_text, put_to_the_end, text_ascii, text_is}
 use Rattle.scrypt.proofs.mcf.hashing.write_text.Goals as goal
 use Rattle.scrypt.proofs.mcf.hashing.write_text.Goals.{After-as_bytes, After-write_key}
 
