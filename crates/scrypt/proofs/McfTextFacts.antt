@@ -3,7 +3,7 @@ use Rattle.std.proofs.Common.{◌≡◌, ◌≢◌, ◌∙◌, ℕ, zero, suc, �
 use Rattle.std.specs.Prelude.{All, IsTrue, codes, unwrap_or}
 use Rattle.std.specs.Str.{IsAscii}
 use Rattle.std.proofs.lemmas.List.{append-nil, drop_all, drop_at, take_at, drop-drop}
-use Rattle.std.proofs.lemmas.List.Elements.{All-nil, All-cons, All-append, All-head, All-tail, All-weaker}
+use Rattle.std.proofs.lemmas.List.Elements.{All-nil, All-cons, All-append, All-head, All-tail, All-weaker, All-from_get_or}
 use borrow.Rule.Slice.PartMut.{put_mid}
 use Rattle.password_hash.specs.Crypt64.{letter, letters_of, crypt64_of}
 use Rattle.password_hash.specs.Mcf.{dollar, is_id_byte, IsField}
@@ -11,9 +11,11 @@ use Rattle.password_hash.proofs.LetterFacts.{letter-ascii, letter_value-letter}
 use Rattle.password_hash.proofs.Crypt64Facts.{IsPlain, crypt64_of-plain, length-letters_of, letters_of-plain}
 use Rattle.password_hash.proofs.ModularFacts.{IsField-crypt64_of}
 use Rattle.scrypt.specs.Accepted.{AreAccepted, IsOutputLen, Parameters}
+use Rattle.scrypt.specs.Derives.{key_by}
+use Rattle.scrypt.proofs.KeyFacts.{key_by-are_bytes, length-key_by}
 use Rattle.scrypt.specs.PhcAnswers.{bare}
 use Rattle.scrypt.specs.McfCosts.{five_letter_number, costs_letters, costs_text, SaysCosts, ReadsField, accepted}
-use Rattle.scrypt.specs.McfHash.{IsHashText}
+use Rattle.scrypt.specs.McfHash.{IsHashText, IsMadeHash}
 use Rattle.scrypt.proofs.AcceptedFacts.{small_costs, small_log_n}
 use Rattle.scrypt.proofs.McfCostsFacts.{five_letter_number-letters_of, to_the_end}
 
@@ -144,3 +146,13 @@ between_cuts front salt rest at count is =
 pub before_cut : (front salt rest : List ℕ) (at : ℕ) → length front ≡ 14 → at ≡ 14 + length salt → take at (front ++ (salt ++ rest)) ≡ front ++ salt
 before_cut front salt rest at count is =
     ap (take at) (sym (append_assoc front salt rest)) ∙ take_at (front ++ salt) rest at (omega (arith, length-append front salt))
+
+-- the text that hashing makes
+pub made_text : (c : Parameters) (password salt : List ℕ) → AreAccepted c.log_n c.r c.p
+    → IsMadeHash c password salt (costs_text c ++ (crypt64_of salt ++ dollar ∷ crypt64_of (key_by c password (crypt64_of salt) 32)))
+made_text c password salt good =
+    let key = key_by c password (crypt64_of salt) 32 in
+    let count : length key ≡ 32 = length-key_by c password (crypt64_of salt) 32 in
+    text_is c (crypt64_of salt) key good (IsField-crypt64_of salt)
+    (All-from_get_or (λ byte. byte < 256) key 0 (λ i _. key_by-are_bytes c password (crypt64_of salt) 32 i))
+    (omega (arith, count), omega (arith, count))

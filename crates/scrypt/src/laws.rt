@@ -2,17 +2,18 @@
 
 ghost use Rattle.std.specs.Prelude.{◌≡◌, ◌↔◌, ℕ, ◌*◌, ◌%◌, ◌^◌, ◌<◌, ◌≤◌, List, [], ◌∷◌, ◌++◌, length, take, Result, Ok, IfSome, IsSome, Some, All};
 ghost use Rattle.sha2.specs.Sha256.{sha256};
-ghost use Rattle.password_hash.specs.Crypt64.{Crypt64, letter_value, letters_of};
-ghost use Rattle.password_hash.specs.Mcf.{Modular};
+ghost use Rattle.password_hash.specs.Crypt64.{Crypt64, crypt64_of, letter_value, letters_of};
+ghost use Rattle.password_hash.specs.Mcf.{Modular, dollar};
 ghost use Rattle.password_hash.specs.Phc.{IsHashText, IsSalt, hash_text};
 ghost use Rattle.password_hash.specs.Refusal.{Refusal};
 ghost use Rattle.password_hash.specs.declared.phc.hash.PasswordHash.{PasswordHash};
 ghost use Rattle.scrypt.specs.Accepted.{AreAccepted, IsStoredLen, Parameters};
 ghost use Rattle.scrypt.specs.BlockMix.{block_mix};
 ghost use Rattle.scrypt.specs.ChunkOrder.{NamesEachOnce, mixed_in_order};
+ghost use Rattle.scrypt.specs.Derives.{key_by};
 ghost use Rattle.scrypt.specs.Diagonal.{AreInverse, IsBlockMixBy, diagonal_core, diagonal_order, inverse_pivot, pivot, standard_order};
 ghost use Rattle.scrypt.specs.Key.{derived_key, mixed_chunks};
-ghost use Rattle.scrypt.specs.McfCosts.{costs_letters, five_letter_number};
+ghost use Rattle.scrypt.specs.McfCosts.{costs_letters, costs_text, five_letter_number};
 ghost use Rattle.scrypt.specs.McfHash.{Accepts as SevenAccepts, IsHashText as IsSevenText, IsMadeHash as IsMadeSeven};
 ghost use Rattle.scrypt.specs.PhcAnswers.{bare};
 ghost use Rattle.scrypt.specs.PhcCosts.{ReadsCosts, written_pairs};
@@ -73,8 +74,9 @@ pub fn texts_have_one_reading()
 {}
 
 /// The hash that hashing makes of accepted parameters, a password and a salt accepts that password: a
-/// PHC hash, which also has a text and accepts it too as it is read back from there, and a `$7$` text.
-/// Credential stores rely on it, which keep the text.
+/// PHC hash, which also has a text and accepts it too as it is read back from there, and a `$7$` text,
+/// which is the letters of the costs, of the salt and of the key. Credential stores rely on it, which
+/// keep the text.
 pub fn made_hashes_are_accepted()
     ensures phc { (c : Parameters) (password salt : List ℕ) (hash : PasswordHash) → AreAccepted c.log_n c.r c.p
         → IsMadeHash c password salt hash → Accepts password hash }
@@ -84,6 +86,8 @@ pub fn made_hashes_are_accepted()
     ensures phc_read_back { (c : Parameters) (password salt : List ℕ) (hash again : PasswordHash) → AreAccepted c.log_n c.r c.p
         → IfSome c.output_len IsStoredLen → IsSalt salt → IsMadeHash c password salt hash
         → IsHashText (hash_text hash) again → Accepts password again }
+    ensures seven_written { (c : Parameters) (password salt : List ℕ) → AreAccepted c.log_n c.r c.p
+        → IsMadeSeven c password salt (costs_text c ++ (crypt64_of salt ++ (dollar ∷ crypt64_of (key_by c password (crypt64_of salt) 32)))) }
     ensures seven { (c : Parameters) (password salt text : List ℕ) → IsMadeSeven c password salt text
         → SevenAccepts password text }
 {}
