@@ -15,4 +15,5 @@ pub mod ReadingFacts
 pub mod PhcHashFacts
 pub mod McfCostsFacts
 pub mod McfHashFacts
+pub mod McfVerdictFacts
 pub mod McfTextFacts

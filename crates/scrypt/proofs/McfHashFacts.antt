@@ -1,4 +1,4 @@
--- Facts on `$7$` hashes: a text says one hash or is refused, and says it as it was written.
+-- Facts on `$7$` hashes: a text says one hash, and then is not refused.
 use Rattle.std.proofs.Common.{◌≡◌, ℕ, List, length, Ok, Err, refl, sym, ap, ap₂, subst, ◌∙◌}
 use Rattle.std.specs.Prelude.{Result}
 use Rattle.password_hash.specs.Crypt64.{Crypt64}
@@ -12,7 +12,7 @@ use Rattle.scrypt.specs.McfCosts.{SaysCosts, ReadsField, malformed, not_accepted
 use Rattle.scrypt.specs.McfHash.{HasCosts, IsHashText, TextIsRefused, other_id, no_field, bad_costs, no_key, bad_key, third_field, bad_key_len, Accepts}
 
 -- a text has one id and one list of fields
-fields_once : {text id other : List ℕ} {fields others : List (List ℕ)} → Modular text id fields → Modular text other others → (id ≡ other) × (fields ≡ others)
+pub fields_once : {text id other : List ℕ} {fields others : List (List ℕ)} → Modular text id fields → Modular text other others → (id ≡ other) × (fields ≡ others)
 fields_once {text} {id} {other} {fields} {others} first second =
     let a = Modular-one text id fields first in
     let b = Modular-one text other others second in
