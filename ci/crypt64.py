@@ -1,8 +1,15 @@
-"""Crypt Base64 in plain Python, written from the table in docs/FORMATS.md."""
+"""Crypt Base64 in plain Python, written from the table in docs/FORMATS.md, and hashes of crypt(5)."""
 
 import hashlib
 
 ALPHABET = "./0123456789ABCDEFGHIJKLMNOPQRSTUVWXYZabcdefghijklmnopqrstuvwxyz"
+
+# the `$7$` hashes in the tests, each behind its password
+HASHES = [
+    ("pleaseletmein", "$7$CU..../....Mq4YHD2syxYT.MsH1Ek0n1$JyHIxez0DOwm0r6.kAIohc8UFBOLU4xX8a1wGBpLrw7"),
+    ("pleaseletmein", "$7$C6..../....SodiumChloride$kBGj9fHznVYFQMEn/qDCfrDevf9YDtcDdKvEqHJLV8D"),
+    ("", "$7$2/..../....$rNxJWVHNv/mCNcgE/f6/L4zO6Fos5c2uTzhyzoisI62"),
+]
 
 # how many strings the generator makes, and the numbers that it steps by
 STRINGS = 1000
@@ -18,6 +25,12 @@ def letters(data):
         for place in range(len(group) + 1):
             written += ALPHABET[number // 64**place % 64]
     return written
+
+
+def costs(log_n, r, p):
+    """What stands before the salt in a `$7$` text."""
+    five = [ALPHABET[number // 64**place % 64] for number in (r, p) for place in range(5)]
+    return "$7$" + ALPHABET[log_n] + "".join(five)
 
 
 def generated():

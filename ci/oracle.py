@@ -8,8 +8,10 @@ last line is 'N passed, M failed, K skipped'.
 """
 
 import base64
+import ctypes
 import hashlib
 import random
+import shutil
 import subprocess
 import sys
 
@@ -24,6 +26,9 @@ MUTATIONS = "crates/scrypt_tests/src/phc_mutations.rt"
 
 # where the letters that this repository writes are pinned
 LETTERS = "crates/scrypt_tests/src/crypt_letters.rt"
+
+# where the `$7$` hashes of the tests stand
+HASHES = "crates/scrypt_tests/src/crypt_hashes.rt"
 
 
 def run(program, words, password):
@@ -149,7 +154,77 @@ def crypt_letters_passlib(_program, _rng):
     return sum(told), len(told) - sum(told), 0
 
 
-PARTS = [keys, hashes, phc_mutations, phc_passlib, crypt_letters, crypt_letters_passlib]
+def crypt_hashes(program, rng):
+    """crypt(3) makes the hashes of the tests, its hashes are verified here and ours there, and so are
+    those of mkpasswd."""
+    try:
+        library = ctypes.CDLL("libcrypt.so.1")
+    except OSError:
+        print("crypt(3) isn't installed: skipped")
+        return 0, 0, 1
+    library.crypt.restype = ctypes.c_char_p
+    with open(HASHES, encoding="utf-8") as tests:
+        stored = tests.read()
+    agree = [
+        text in stored and library.crypt(password.encode(), text.encode()) == text.encode()
+        for password, text in crypt64.HASHES
+    ]
+    for _ in range(20):
+        password = bytes(rng.randrange(1, 256) for _ in range(rng.randrange(40)))
+        log_n, r, p = rng.randrange(2, 11), rng.choice((1, 2, 8)), rng.randrange(1, 4)
+        salt = some_bytes(rng, 20)
+        words = ["hash", "mcf", str(log_n), str(r), str(p), salt.hex()]
+        ours = run(program, words, password)[1].strip()
+        plain = crypt64.costs(log_n, r, p) + "SodiumChloride"[: rng.randrange(15)]
+        theirs = library.crypt(password, plain.encode() + b"$")
+        agree.append(ours.startswith((crypt64.costs(log_n, r, p) + crypt64.letters(salt) + "$").encode()))
+        agree.append(library.crypt(password, ours) == ours)
+        agree.append(run(program, ["verify", theirs], password) == (0, b"ok\n", b""))
+        agree.append(run(program, ["verify", theirs], password + b"x") == (1, b"no\n", b""))
+    if shutil.which("mkpasswd"):
+        made = subprocess.run(["mkpasswd", "--method=scrypt", "password"], capture_output=True)
+        agree.append(run(program, ["verify", made.stdout.strip()], b"password") == (0, b"ok\n", b""))
+        agree.append(run(program, ["verify", made.stdout.strip()], b"invalid") == (1, b"no\n", b""))
+    else:
+        print("mkpasswd isn't installed: skipped")
+    print(f"crypt(3), mkpasswd: {sum(agree)} of {len(agree)} hashes agree")
+    return sum(agree), len(agree) - sum(agree), 0 if shutil.which("mkpasswd") else 1
+
+
+def sodium_hashes(program, rng):
+    """libsodium's `$7$` hashes are verified here, and ours with a salt of 32 bytes there."""
+    try:
+        library = ctypes.CDLL("libsodium.so.23")
+    except OSError:
+        print("libsodium isn't installed: skipped")
+        return 0, 0, 1
+    make = library.crypto_pwhash_scryptsalsa208sha256_str
+    verify = library.crypto_pwhash_scryptsalsa208sha256_str_verify
+    agree = []
+    for _ in range(10):
+        password = some_bytes(rng, 40)
+        length = ctypes.c_ulonglong(len(password))
+        theirs = ctypes.create_string_buffer(102)
+        agree.append(make(theirs, password, length, ctypes.c_ulonglong(1 << 15), 1 << 24) == 0)
+        agree.append(run(program, ["verify", theirs.value], password) == (0, b"ok\n", b""))
+        agree.append(run(program, ["verify", theirs.value], password + b"x") == (1, b"no\n", b""))
+        words = ["hash", "mcf", str(rng.randrange(1, 11)), "8", "1", rng.randbytes(32).hex()]
+        ours = ctypes.create_string_buffer(run(program, words, password)[1].strip(), 102)
+        agree.append(verify(ours, password, length) == 0)
+    print(f"libsodium: {sum(agree)} of {len(agree)} hashes agree")
+    return sum(agree), len(agree) - sum(agree), 0
+
+
+PARTS = [
+    keys,
+    hashes,
+    phc_mutations,
+    phc_passlib,
+    crypt_letters,
+    crypt_letters_passlib,
+    crypt_hashes,
+    sodium_hashes,
+]
 
 
 def main():

@@ -147,7 +147,7 @@ next_letter pending number pending' number' x bytes bytes' same some is =
 abbrev pub IsPlain : ℕ → Type 0
 IsPlain byte = (byte < 128) × (byte ≢ 36)
 
-letters_of-plain : (count number : ℕ) → All IsPlain (letters_of count number)
+pub letters_of-plain : (count number : ℕ) → All IsPlain (letters_of count number)
 unfolding letters_of
 letters_of-plain zero number = All-nil IsPlain
 letters_of-plain (suc count) number =

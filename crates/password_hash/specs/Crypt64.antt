@@ -5,7 +5,7 @@ use Rattle.std.specs.Prelude.{◌≡◌, ◌==◌, ℕ, zero, suc, ◌+◌, ◌*
 abbrev pub alphabet : List ℕ
 alphabet = codes "./0123456789ABCDEFGHIJKLMNOPQRSTUVWXYZabcdefghijklmnopqrstuvwxyz"
 
--- the letter of a value
+-- the letter of a value below 64
 unfoldable pub letter : ℕ → ℕ
 letter value = slice_index alphabet value
 
@@ -13,7 +13,7 @@ letter value = slice_index alphabet value
 unfoldable pub letter_value : ℕ → Option ℕ
 letter_value byte = position (λ other. other == byte) alphabet
 
--- the letters of a number: its digits to base 64, the lowest first
+-- so many letters of a number: its lowest digits to base 64, the lowest first; higher ones are cut off
 unfoldable pub letters_of : ℕ → ℕ → List ℕ
 letters_of zero number = []
 letters_of (suc count) number = letter (number % 64) ∷ letters_of count (number / 64)
@@ -48,7 +48,7 @@ IsCrypt64 letters = (bytes : List ℕ) × Crypt64 bytes letters
 abbrev pub encoded_len : ℕ → ℕ
 encoded_len n = (4 * n + 2) / 3
 
--- these letters begin with those of these bytes, and the rest says what comes behind
+-- these letters encode just these bytes followed by what the rest encodes
 pub record Begins (letters bytes rest : List ℕ) : Type 0 where
   pub forth : (more : List ℕ) → Crypt64 more rest → Crypt64 (bytes ++ more) letters
   pub back : (all : List ℕ) → Crypt64 all letters

@@ -1,4 +1,5 @@
--- Modular texts of crypt(5): `$`, an id, and any number of fields, each behind a `$`.
+-- Modular texts, in this project's profile of crypt(5): `$`, an id, and any number of fields, each behind
+-- a `$`.
 use Rattle.std.specs.Prelude.{◌≡◌, ◌≢◌, ◌==◌, ℕ, ◌<◌, nat_le, Bool, ◌&&◌, ◌||◌, IsTrue, List, [], ◌∷◌, Option, Some, None, All, length, drop, slice_index_or}
 use Rattle.std.specs.List.{flat_map, slice_split}
 use Rattle.std.specs.Borrow.{Bor}

@@ -1,48 +1,19 @@
 -- Facts on the chunks of B, mixed one after another in any order.
-use Rattle.std.proofs.Common.{◌≡◌, ◌≢◌, ℕ, zero, suc, ◌<◌, ◌≤◌, ◌+◌, ◌-◌, ◌*◌, ◌%◌, List, [], ◌∷◌, ◌++◌, length, take, drop, nat_eq, cond, bit_xor, refl, sym, ap, ◌∙◌, arith, inl, inr, zero-add, length-append}
+use Rattle.std.proofs.Common.{◌≡◌, ◌≢◌, ℕ, ◌<◌, ◌≤◌, ◌+◌, ◌-◌, ◌*◌, List, [], ◌∷◌, ◌++◌, length, take, drop, nat_eq, cond, refl, sym, ap, ◌∙◌, arith, inl, inr, zero-add, length-append}
 use Rattle.std.specs.List.{All, count_by}
-use Rattle.std.specs.Int.{w32, to_le_bytes}
 use Rattle.std.proofs.lemmas.Bool.{cases_Bool, eqb-true, eqb-false}
 use Rattle.std.proofs.lemmas.List.{drop-drop, length-drop, length-take-le}
 use Rattle.std.proofs.lemmas.List.Elements.{All-head, All-tail}
 use Rattle.std.proofs.lemmas.List.FromFn.{length-map-range_with_len}
 use Rattle.std.proofs.lemmas.List.Sums.{sum_by-cons}
-use Rattle.std.proofs.lemmas.Simd.{length-zip2}
 use borrow.Rule.Slice.PartMut.{put_mid}
-use Rattle.scrypt.specs.Words.{bytes_of, part, words_of, xor_words}
-use Rattle.scrypt.specs.RoMix.{ro_mix, row, walk}
+use Rattle.scrypt.specs.Words.{bytes_of, part, words_of}
+use Rattle.scrypt.specs.RoMix.{ro_mix}
 use Rattle.scrypt.specs.Key.{mixed_chunk, mixed_chunks}
 use Rattle.scrypt.specs.ChunkOrder.{NamesEachOnce, mixed_in_order, with_chunk_mixed}
-use Rattle.scrypt.proofs.BlockMixFacts.{length-block_mix}
+use Rattle.scrypt.proofs.RoMixFacts.{length-ro_mix}
+use Rattle.scrypt.proofs.WordFacts.{length-bytes_of}
 use Rattle.scrypt.proofs.PartFacts.{length-part, part_put_same, part_put_other, parts_all, parts_apart}
-
--- scryptROMix keeps the length of its input
-module _ (b : List ℕ) (some : 0 < length b) (whole : length b % 32 ≡ 0) where
-  length-row : (i : ℕ) → length (row b i) ≡ length b
-  unfolding row
-  length-row zero = refl
-  length-row (suc i) = let before = length-row i in length-block_mix (row b i) (omega arith) (omega arith) ∙ before
-
-  length-walk : (log_n k : ℕ) → length (walk b log_n k) ≡ length b
-  unfolding walk
-  length-walk log_n zero = length-row _
-  length-walk log_n (suc k) =
-      let x = walk b log_n k in
-      let before : length x ≡ length b = length-walk log_n k in
-      let taken : List ℕ = row b _ in
-      let joined : length (xor_words x taken) ≡ length b = length-zip2 bit_xor x taken (before ∙ sym (length-row _)) ∙ before in
-      length-block_mix (xor_words x taken) (omega arith) (omega arith) ∙ joined
-
-  pub length-ro_mix : (log_n : ℕ) → length (ro_mix b log_n) ≡ length b
-  unfolding ro_mix
-  length-ro_mix log_n = length-walk log_n _
-
--- a word has four bytes
-length-bytes_of : (x : List ℕ) → length (bytes_of x) ≡ length x * 4
-length-bytes_of [] = refl
-length-bytes_of (a ∷ x) =
-    let four : length (to_le_bytes w32 a) ≡ 4 = refl in
-    omega (arith, length-append (to_le_bytes w32 a) (bytes_of x), length-bytes_of x)
 
 -- a chunk keeps its length
 length-mixed_chunk : (b : List ℕ) (log_n r i : ℕ) → 0 < r → i * (128 * r) + 128 * r ≤ length b → length (mixed_chunk b log_n r i) ≡ 128 * r

@@ -1,14 +1,16 @@
 -- Facts on the chunks of B, which are mixed one after another.
-use Rattle.std.proofs.Common.{◌≡◌, ◌≢◌, ℕ, ◌<◌, ◌≤◌, ◌+◌, ◌*◌, List, length, take, drop, sym, ap, ◌∙◌, arith, below_more}
+use Rattle.std.proofs.Common.{◌≡◌, ◌≢◌, ℕ, ◌<◌, ◌≤◌, ◌+◌, ◌*◌, List, length, take, drop, slice_index, sym, ap, ◌∙◌, arith, below_more}
 use Rattle.std.proofs.lemmas.List.FromFn.{take-map-range_with_len}
 use borrow.Rule.Slice.PartMut.{put_mid}
 use Rattle.scrypt.specs.Words.{bytes_of, part, words_of}
 use Rattle.scrypt.specs.RoMix.{ro_mix}
 use Rattle.scrypt.specs.Hmac.{padded_key}
 use Rattle.scrypt.specs.Pbkdf2.{pbkdf2}
+use Rattle.scrypt.specs.Accepted.{Parameters}
+use Rattle.scrypt.specs.Derives.{key_by}
 use Rattle.scrypt.specs.Key.{derived_key, mixed_chunk, mixed_chunks}
 use Rattle.scrypt.proofs.PartFacts.{part_of_slice, part_put_same, part_put_other, parts_all}
-use Rattle.scrypt.proofs.Pbkdf2Facts.{same_pbkdf2}
+use Rattle.scrypt.proofs.Pbkdf2Facts.{length-pbkdf2, pbkdf2-are_bytes, same_pbkdf2}
 
 -- the first i chunks of x are those of b after scryptROMix, and the others are those of b
 pub record AreMixed (b : List ℕ) (log_n r i : ℕ) (x : List ℕ) : Type 0 where
@@ -50,3 +52,13 @@ unfolding derived_key
 same_key one other salt log_n r p n padded =
     same_pbkdf2 one other _ n padded
     ∙ ap (λ b. pbkdf2 other (mixed_chunks b log_n r p) n) (same_pbkdf2 one other salt (p * (128 * r)) padded)
+
+-- a derived key has as many bytes as were asked for
+pub length-key_by : (c : Parameters) (password salt : List ℕ) (n : ℕ) → length (key_by c password salt n) ≡ n
+unfolding derived_key
+length-key_by c password salt n = length-pbkdf2 password _ n
+
+-- each of them a byte
+pub key_by-are_bytes : (c : Parameters) (password salt : List ℕ) (n i : ℕ) → slice_index (key_by c password salt n) i < 256
+unfolding derived_key
+key_by-are_bytes c password salt n i = pbkdf2-are_bytes password _ n i

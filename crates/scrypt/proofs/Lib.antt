@@ -14,5 +14,6 @@ pub mod StandardFacts
 pub mod PhcCostsFacts
 pub mod ReadingFacts
 pub mod PhcHashFacts
-pub mod MadeFacts
 pub mod McfCostsFacts
+pub mod McfHashFacts
+pub mod McfTextFacts

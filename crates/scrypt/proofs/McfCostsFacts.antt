@@ -1,15 +1,15 @@
 -- Facts on five-letter numbers and on the costs with which a field begins.
-use Rattle.std.proofs.Common.{◌≡◌, ℕ, ◌-◌, ◌/◌, ◌%◌, ◌^◌, ◌<◌, ◌≤◌, List, [], ◌∷◌, ◌++◌, length, take, drop, Some, None, refl, sym, ap, ◌∙◌, arith, length-append, length-drop}
+use Rattle.std.proofs.Common.{◌≡◌, ℕ, ◌-◌, ◌/◌, ◌%◌, ◌^◌, ◌<◌, ◌≤◌, List, [], ◌∷◌, ◌++◌, length, take, drop, Some, None, refl, sym, ap, ◌∙◌, arith, length-append, length-drop, unwrap_or, inl, inr, append_assoc}
 use Rattle.std.specs.List.{slice_get}
 use Rattle.std.proofs.Math.Seq.{take-append_seam}
-use Rattle.std.proofs.lemmas.Bool.{le-ltb}
+use Rattle.std.proofs.lemmas.Bool.{le-ltb, cases_lt, lt-ltb}
 use Rattle.std.specs.Prelude.{All, IsSome, Option}
-use Rattle.std.proofs.lemmas.List.{append-nil, take_all}
+use Rattle.std.proofs.lemmas.List.{append-nil, take_all, take-append-drop, length-take-le, drop-drop}
 use Rattle.std.proofs.lemmas.List.Elements.{All-head, All-tail}
 use Rattle.password_hash.specs.Crypt64.{letter, letter_value, letters_of, number_of, with_digit}
 use Rattle.password_hash.proofs.Crypt64Facts.{length-letters_of, letters_of-number_of, number_of-letters_of}
 use Rattle.password_hash.proofs.GroupFacts.{append_parts}
-use Rattle.password_hash.proofs.LetterFacts.{letter_value-letter}
+use Rattle.password_hash.proofs.LetterFacts.{letter_value-letter, letter-of_value}
 use Rattle.scrypt.specs.Accepted.{AreAccepted}
 use Rattle.scrypt.specs.McfCosts.{costs_letters, five_letter_number, SaysCosts}
 use Rattle.scrypt.proofs.AcceptedFacts.{small_costs}
@@ -110,3 +110,33 @@ costs_letters-once log_n r p other_log_n other_r other_p fits other_fits same =
       five_letters-once r other_r small.1 other_small.1 parts.0,
       five_letters-once p other_p small.2 other_small.2 parts.1,
     )
+
+-- a text that says a number begins with its five letters
+five_in_front : (text : List ℕ) (number : ℕ) → five_letter_number text ≡ Some number → text ≡ letters_of 5 number ++ drop 5 text
+five_in_front text number says = elim (cases_lt (length text) 5) [
+  | inl short ↦ let none : None ≡ Some number = rw (lt-ltb (length text) 5 short) at says in cc
+  | inr some ↦
+      let read : number_of (take 5 text) ≡ Some number = sym (five_letter_number-some text some) ∙ says in
+      let five : length (take 5 text) ≡ 5 = length-take-le 5 text some in
+      let front : letters_of 5 number ≡ take 5 text = rw five at (letters_of-number_of (take 5 text) number read).0 in
+      sym (take-append-drop 5 text) ∙ ap (λ z. z ++ drop 5 text) (sym front)
+]
+
+-- what says a number that is not 255 is a letter
+letter_said : (value : Option ℕ) (number : ℕ) → unwrap_or value 255 ≡ number → number ≤ 56 → value ≡ Some number
+letter_said None number says small = absurd (omega arith)
+letter_said (Some value) number says small = ap Some says
+
+-- a field that says accepted costs begins with their letters
+pub field_is : (field : List ℕ) (log_n r p : ℕ) → SaysCosts field log_n r p → AreAccepted log_n r p
+    → field ≡ costs_letters log_n r p ++ drop 11 field
+field_is [] log_n r p says fits = absurd (empty_says_none [] refl says)
+field_is (first ∷ rest) log_n r p says fits =
+    let small = small_costs log_n r p fits in
+    let is_letter = letter-of_value first log_n (letter_said (letter_value first) log_n says.log_n_is small.0) in
+    let of_r : rest ≡ letters_of 5 r ++ drop 5 rest = five_in_front rest r says.r_is in
+    let of_p : drop 5 rest ≡ letters_of 5 p ++ drop 5 (drop 5 rest) = five_in_front (drop 5 rest) p says.p_is in
+    ap (λ byte. byte ∷ rest) (sym is_letter.1)
+    ∙ ap (λ z. letter log_n ∷ z)
+    (of_r ∙ ap (λ z. letters_of 5 r ++ z) (of_p ∙ ap (λ z. letters_of 5 p ++ z) (drop-drop 5 5 rest))
+    ∙ sym (append_assoc (letters_of 5 r) (letters_of 5 p) (drop 10 rest)))

@@ -1,11 +1,15 @@
 -- Facts on HMAC and PBKDF2.
-use Rattle.std.proofs.Common.{◌≡◌, ℕ, ◌<◌, ◌≤◌, ◌+◌, ◌-◌, ◌*◌, ◌/◌, ◌%◌, suc, List, [], ◌∷◌, ◌++◌, length, map, take, drop, get_or, slice_index, replicate, bit_xor, false, true, nat_lt, refl, sym, ap, ◌∙◌, arith, append_assoc, length-append}
-use Rattle.std.proofs.lemmas.Bool.{le-ltb, lt-ltb}
+use Rattle.std.proofs.Common.{◌≡◌, ℕ, zero, inl, inr, ◌<◌, ◌≤◌, ◌+◌, ◌-◌, ◌*◌, ◌/◌, ◌%◌, suc, List, [], ◌∷◌, ◌++◌, length, map, take, drop, get_or, slice_index, replicate, bit_xor, false, true, nat_lt, refl, sym, ap, ◌∙◌, arith, append_assoc, length-append}
+use Rattle.std.proofs.lemmas.Bool.{cases_lt, le-ltb, lt-ltb}
 use Rattle.std.proofs.lemmas.List.{drop-replicate, get_or_append_left, get_or-append_right, get_or-take, get_or-drop, length-take-le, ext_get_or}
 use Rattle.std.proofs.lemmas.List.FromFn.{get_or-map-range_with_len, length-map-range_with_len}
 use Rattle.std.specs.List.{flat_map, range_with_len}
 use Rattle.sha2.proofs.Facts256.{length-sha256}
-use Rattle.sha2.specs.Sha256.{sha256}
+use Rattle.sha2.specs.Sha256.{digest_bytes, sha256}
+use Rattle.std.specs.List.{All}
+use Rattle.std.specs.Int.{to_be_bytes, w32}
+use Rattle.std.proofs.lemmas.List.Elements.{All-append, All-cons, All-get_or, All-nil}
+use Rattle.std.proofs.lemmas.List.{get_or_past}
 use borrow.Rule.Slice.PartMut.{put_mid}
 use Rattle.scrypt.specs.Hmac.{hmac_sha256, padded_key}
 use Rattle.scrypt.specs.Pbkdf2.{pbkdf2, pbkdf2_block, pbkdf2_byte}
@@ -99,3 +103,32 @@ padded_digest secret above =
     let digest : nat_lt 64 (length (sha256 secret)) ≡ false = le-ltb 64 _ (omega (arith, length-sha256 secret)) in
     let long : nat_lt 64 (length secret) ≡ true = lt-ltb 64 (length secret) above in
     rw (long, digest) refl
+
+-- a digest is of bytes
+digest_bytes-are_bytes : (h : List ℕ) (n : ℕ) → All (λ b. b < 256) (digest_bytes h n)
+unfolding digest_bytes
+digest_bytes-are_bytes h zero = All-nil (λ b. b < 256)
+digest_bytes-are_bytes h (suc n) =
+    let w : ℕ = slice_index h n in
+    All-append (λ b. b < 256) (digest_bytes h n) (to_be_bytes w32 w) (digest_bytes-are_bytes h n)
+    (All-cons (λ b. b < 256) (w / 16777216 % 256) (w / 65536 % 256 ∷ w / 256 % 256 ∷ w % 256 ∷ []) (omega arith)
+    (All-cons (λ b. b < 256) (w / 65536 % 256) (w / 256 % 256 ∷ w % 256 ∷ []) (omega arith)
+    (All-cons (λ b. b < 256) (w / 256 % 256) (w % 256 ∷ []) (omega arith)
+    (All-cons (λ b. b < 256) (w % 256) [] (omega arith) (All-nil (λ b. b < 256))))))
+
+digest-fits : (m : List ℕ) (k : ℕ) → k < 32 → slice_index (sha256 m) k < 256
+unfolding sha256
+digest-fits m k inside =
+    All-get_or (λ b. b < 256) (digest_bytes _ 8) k 0 (omega (arith, length-sha256 m)) (digest_bytes-are_bytes _ 8)
+
+-- and so is what PBKDF2 derives
+pbkdf2_byte-fits : (password salt : List ℕ) (k : ℕ) → pbkdf2_byte password salt k < 256
+unfolding pbkdf2_byte hmac_sha256
+pbkdf2_byte-fits password salt k = digest-fits _ (k % 32) (omega arith)
+
+pub pbkdf2-are_bytes : (password salt : List ℕ) (n i : ℕ) → slice_index (pbkdf2 password salt n) i < 256
+pbkdf2-are_bytes password salt n i = elim (cases_lt i n) [
+  | inl inside ↦
+      rw (get_or-map-range_with_len (pbkdf2_byte password salt) 0 n i i 0 inside (omega arith)) (pbkdf2_byte-fits password salt i)
+  | inr outside ↦ rw (get_or_past (pbkdf2 password salt n) i 0 (omega (arith, length-pbkdf2 password salt n))) (omega arith)
+]

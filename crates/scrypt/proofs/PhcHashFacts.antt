@@ -1,13 +1,18 @@
 -- Facts on PHC hashes of scrypt.
-use Rattle.std.proofs.Common.{◌≡◌, ℕ, List, length, sym, ap, ap₂, ◌∙◌, Ok, Err}
-use Rattle.std.specs.Prelude.{IsSome}
+use Rattle.std.proofs.Common.{◌≡◌, ℕ, List, length, refl, sym, ap, ap₂, subst, ◌∙◌, arith, lit≤, None, Some, Ok, Err}
+use Rattle.std.specs.Prelude.{IfSome, IsSome, Option, unwrap_or}
+use Rattle.password_hash.specs.Phc.{IsHashText, IsSalt, hash_text}
 use Rattle.password_hash.specs.Refusal.{Refusal}
 use Rattle.password_hash.specs.declared.phc.hash.PasswordHash.{PasswordHash}
-use Rattle.scrypt.specs.Accepted.{Parameters}
+use Rattle.scrypt.specs.Accepted.{AreAccepted, IsStoredLen, Parameters}
 use Rattle.scrypt.specs.Derives.{key_by}
+use Rattle.scrypt.specs.PhcAnswers.{bare}
 use Rattle.scrypt.specs.PhcCosts.{ReadsCosts}
-use Rattle.scrypt.specs.PhcHash.{Accepts, IsWhole}
-use Rattle.scrypt.proofs.ReadingFacts.{reads_once}
+use Rattle.scrypt.specs.PhcHash.{Accepts, IsMadeHash, IsWhole, made_len}
+use Rattle.scrypt.proofs.AcceptedFacts.{small_costs}
+use Rattle.scrypt.proofs.KeyFacts.{key_by-are_bytes, length-key_by}
+use Rattle.scrypt.proofs.PhcCostsFacts.{three_pairs}
+use Rattle.scrypt.proofs.ReadingFacts.{reads_once, written_read}
 
 -- parameters that are refused are not accepted too
 pub not_read : {pairs : List (List ℕ × List ℕ)} {why : Refusal} {c : Parameters}
@@ -28,3 +33,47 @@ accepted_key {password} {hash} {c} {salt} {key} whole h =
     let same_key : key ≡ h.stored = let a = whole.key_is in let b = h.whole.key_is in cc in
     same_key ∙ h.right
     ∙ sym (ap₂ (λ z k. key_by z password salt (length k)) same_costs same_key ∙ ap (λ s. key_by h.costs password s (length h.stored)) same_salt)
+
+-- a made hash accepts its password
+pub made_accepts : (c : Parameters) (password salt : List ℕ) (hash : PasswordHash) → AreAccepted c.log_n c.r c.p
+    → IsMadeHash c password salt hash → Accepts password hash
+made_accepts c password salt hash fits made = record {
+  costs = bare c;
+  salt = salt;
+  stored = key_by c password salt (made_len c);
+  whole = record {
+    of_costs = record {
+      algorithm = made.algorithm;
+      version = made.version;
+      costs = subst (λ pairs. ReadsCosts pairs (Ok (bare c))) (sym made.params) (written_read c fits);
+    };
+    salt_is = made.salt_is;
+    key_is = made.key_is;
+  };
+  right = ap (key_by c password salt) (sym (length-key_by c password salt (made_len c)));
+}
+
+stored_made : (len : Option ℕ) → IfSome len IsStoredLen → IsStoredLen (unwrap_or len 32)
+stored_made None fits = (lit≤ tt, lit≤ tt)
+stored_made (Some len) fits = fits
+
+-- and has a text
+pub made_is_text : (c : Parameters) (password salt : List ℕ) (hash : PasswordHash) → AreAccepted c.log_n c.r c.p
+    → IfSome c.output_len IsStoredLen → IsSalt salt → IsMadeHash c password salt hash → IsHashText (hash_text hash) hash
+made_is_text c password salt hash fits len salted made =
+    let small = small_costs c.log_n c.r c.p fits in
+    let stored = stored_made c.output_len len in
+    let long = length-key_by c password salt (made_len c) in
+    record {
+      whole = refl;
+      algorithm = rw made.algorithm (record { some = lit≤ tt; short = lit≤ tt; letters = refl });
+      version = rw made.version tt;
+      params = rw made.params (three_pairs c.log_n c.r c.p (omega (arith, small.0)) (omega (arith, small.1)) (omega (arith, small.2)));
+      salt = rw made.salt_is salted;
+      key = rw made.key_is (record {
+        bytes = key_by-are_bytes c password salt (made_len c);
+        least = omega (arith, long, stored.0);
+        greatest = omega (arith, long, stored.1);
+      });
+      key_behind_salt = rw (made.key_is, made.salt_is) refl;
+    }

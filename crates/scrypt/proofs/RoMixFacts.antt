@@ -1,10 +1,11 @@
 -- Facts on scryptROMix.
-use Rattle.std.proofs.Common.{◌≡◌, ℕ, ◌+◌, ◌*◌, ◌%◌, ◌^◌, List, length, bit_xor, refl, sym, ap, ap₂, ◌∙◌, arith, add-one}
+use Rattle.std.proofs.Common.{◌≡◌, ℕ, zero, suc, ◌<◌, ◌+◌, ◌*◌, ◌%◌, ◌^◌, List, length, bit_xor, refl, sym, ap, ap₂, ◌∙◌, arith, add-one}
 use Rattle.std.proofs.lemmas.Simd.{length-zip2}
 use Rattle.scrypt.specs.Words.{xor_words}
 use Rattle.scrypt.specs.BlockMix.{block_mix}
-use Rattle.scrypt.specs.RoMix.{integerify, row, walk}
+use Rattle.scrypt.specs.RoMix.{integerify, ro_mix, row, walk}
 use Rattle.scrypt.specs.Diagonal.{AreInverse, permuted}
+use Rattle.scrypt.proofs.BlockMixFacts.{length-block_mix}
 use Rattle.scrypt.proofs.OrderFacts.{in_then_out, length-permuted, zip_in}
 
 -- the next row
@@ -41,3 +42,24 @@ module _ (p q : List ℕ) (inverse : AreInverse p q) where
       ap (permuted q) (ap₂ xor_words is taken ∙ zip_in p q inverse bit_xor w (row b j) (long ∙ sym long_row) (omega arith))
       ∙ in_then_out p q inverse (xor_words w (row b j)) (omega arith) in
       ap (λ z. permuted p (block_mix z)) (joined ∙ ap (λ n. xor_words w (row b n)) number) ∙ rw add-one refl
+
+-- scryptROMix keeps the length of its input
+module _ (b : List ℕ) (some : 0 < length b) (whole : length b % 32 ≡ 0) where
+  length-row : (i : ℕ) → length (row b i) ≡ length b
+  unfolding row
+  length-row zero = refl
+  length-row (suc i) = let before = length-row i in length-block_mix (row b i) (omega arith) (omega arith) ∙ before
+
+  length-walk : (log_n k : ℕ) → length (walk b log_n k) ≡ length b
+  unfolding walk
+  length-walk log_n zero = length-row _
+  length-walk log_n (suc k) =
+      let x = walk b log_n k in
+      let before : length x ≡ length b = length-walk log_n k in
+      let taken : List ℕ = row b _ in
+      let joined : length (xor_words x taken) ≡ length b = length-zip2 bit_xor x taken (before ∙ sym (length-row _)) ∙ before in
+      length-block_mix (xor_words x taken) (omega arith) (omega arith) ∙ joined
+
+  pub length-ro_mix : (log_n : ℕ) → length (ro_mix b log_n) ≡ length b
+  unfolding ro_mix
+  length-ro_mix log_n = length-walk log_n _

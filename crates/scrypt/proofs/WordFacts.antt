@@ -1,9 +1,10 @@
 -- Facts on lists of words.
-use Rattle.std.proofs.Common.{◌≡◌, ◌≢◌, below_more, ℕ, zero, suc, ◌<◌, ◌≤◌, ◌+◌, ◌*◌, List, [], ◌∷◌, length, take, drop, refl, get_or, set, sym, ap, ◌∙◌, arith}
+use Rattle.std.proofs.Common.{◌≡◌, ◌≢◌, below_more, ℕ, zero, suc, ◌<◌, ◌≤◌, ◌+◌, ◌*◌, List, [], ◌∷◌, length, take, drop, refl, get_or, set, sym, ap, ◌∙◌, arith, length-append}
 use Rattle.std.proofs.lemmas.List.{get_or-set_same, get_or-set_other, ext_get_or}
+use Rattle.std.specs.Int.{w32, to_le_bytes}
 use Rattle.std.specs.Simd.Lanes.{zip2}
 use Rattle.std.proofs.lemmas.Simd.{length-zip2, get_or-zip2}
-use Rattle.scrypt.specs.Words.{part}
+use Rattle.scrypt.specs.Words.{bytes_of, part}
 
 -- a list that holds f of two lists at each place
 pub zip2_all : (f : ℕ → ℕ → ℕ) (x y out : List ℕ) → length out ≡ length x → length x ≡ length y
@@ -52,3 +53,10 @@ take-zip2 f (suc n) (a ∷ x) (b ∷ y) = ap (λ z. f a b ∷ z) (take-zip2 f n 
 -- part k of two lists that are joined place by place
 pub part-zip2 : (f : ℕ → ℕ → ℕ) (s k : ℕ) (x y : List ℕ) → part s (zip2 f x y) k ≡ zip2 f (part s x k) (part s y k)
 part-zip2 f s k x y = ap (take s) (drop-zip2 f (k * s) x y) ∙ take-zip2 f s (drop (k * s) x) (drop (k * s) y)
+
+-- a word has four bytes
+pub length-bytes_of : (x : List ℕ) → length (bytes_of x) ≡ length x * 4
+length-bytes_of [] = refl
+length-bytes_of (a ∷ x) =
+    let four : length (to_le_bytes w32 a) ≡ 4 = refl in
+    omega (arith, length-append (to_le_bytes w32 a) (bytes_of x), length-bytes_of x)

@@ -34,3 +34,5 @@ pub mod PhcHash
 pub mod PhcAnswers
 -- five-letter numbers, and the costs of a `$7$` text
 pub mod McfCosts
+-- `$7$` hashes that are made, and passwords that they accept
+pub mod McfHash

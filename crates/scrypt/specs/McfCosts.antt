@@ -1,5 +1,5 @@
 -- Five-letter numbers, and the costs with which the first field of a `$7$` text begins.
-use Rattle.std.specs.Prelude.{◌≡◌, ℕ, ◌<◌, nat_lt, if◌then◌else◌, List, ◌∷◌, ◌++◌, length, take, drop, Option, None, Some, unwrap_or, Result, Ok, Err, slice_index}
+use Rattle.std.specs.Prelude.{◌≡◌, ℕ, ◌<◌, nat_lt, if◌then◌else◌, List, ◌∷◌, ◌++◌, length, take, drop, Option, None, Some, unwrap_or, Result, Ok, Err, codes, slice_index}
 use Rattle.password_hash.specs.Crypt64.{letter, letter_value, letters_of, number_of}
 use Rattle.password_hash.specs.Refusal.{Refusal, BadEncoding, BadParams}
 use Rattle.scrypt.specs.Accepted.{AreAccepted, Parameters}
@@ -17,9 +17,13 @@ pub record SaysCosts (field : List ℕ) (log_n r p : ℕ) : Type 0 where
   pub r_is : five_letter_number (drop 1 field) ≡ Some r
   pub p_is : five_letter_number (drop 6 field) ≡ Some p
 
--- the eleven letters of these numbers
+-- the eleven letters of accepted numbers
 abbrev pub costs_letters : ℕ → ℕ → ℕ → List ℕ
 costs_letters log_n r p = letter log_n ∷ (letters_of 5 r ++ letters_of 5 p)
+
+-- what stands before the salt in the text of these costs
+abbrev pub costs_text : Parameters → List ℕ
+costs_text c = codes "$7$" ++ costs_letters c.log_n c.r c.p
 
 -- The costs that a field says, and the salt, which is the rest of it, or what the field is refused by:
 -- first that it says no numbers, and then that the numbers are not accepted.

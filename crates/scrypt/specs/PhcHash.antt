@@ -14,21 +14,22 @@ scrypt_id = codes "scrypt"
 abbrev pub made_len : Parameters → ℕ
 made_len c = unwrap_or c.output_len 32
 
+-- a salt of a PHC hash: 1 to 64 bytes
+abbrev pub IsSaltLen : ℕ → Type 0
+IsSaltLen n = (1 ≤ n) × (n ≤ 64)
+
 -- the hash that these parameters make of a password and a salt
 pub record IsMadeHash (c : Parameters) (password salt : List ℕ) (hash : PasswordHash) : Type 0 where
   pub algorithm : hash.algorithm ≡ scrypt_id
   pub version : hash.version ≡ None
   pub params : hash.params ≡ written_pairs c
+  pub salt_len : IsSaltLen (length salt)
   pub salt_is : hash.salt ≡ Some salt
   pub key_is : hash.hash ≡ Some (key_by c password salt (made_len c))
 
 -- the caller named no algorithm but scrypt
 abbrev pub IsScryptOrNone : Option (List ℕ) → Type 0
 IsScryptOrNone alg_id = IfSome alg_id (λ id. id ≡ scrypt_id)
-
--- a salt of a PHC hash: 1 to 64 bytes
-abbrev pub IsSaltLen : ℕ → Type 0
-IsSaltLen n = (1 ≤ n) × (n ≤ 64)
 
 -- What hashing is refused by: the algorithm, then the version, then the salt, and at last memory.
 pub data HashIsRefused (salt : List ℕ) (alg_id : Option (List ℕ)) (version : Option ℕ) : Refusal → Type 0 where

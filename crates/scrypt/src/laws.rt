@@ -2,23 +2,25 @@
 
 ghost use Rattle.std.specs.Prelude.{◌≡◌, ◌↔◌, ℕ, ◌*◌, ◌%◌, ◌^◌, ◌<◌, ◌≤◌, List, [], ◌∷◌, ◌++◌, length, take, Result, Ok, IfSome, IsSome, Some, All};
 ghost use Rattle.sha2.specs.Sha256.{sha256};
-ghost use Rattle.password_hash.specs.Crypt64.{Crypt64, letter_value, letters_of};
-ghost use Rattle.password_hash.specs.Mcf.{Modular};
+ghost use Rattle.password_hash.specs.Crypt64.{Crypt64, crypt64_of, letter_value, letters_of};
+ghost use Rattle.password_hash.specs.Mcf.{Modular, dollar};
 ghost use Rattle.password_hash.specs.Phc.{IsHashText, IsSalt, hash_text};
 ghost use Rattle.password_hash.specs.Refusal.{Refusal};
 ghost use Rattle.password_hash.specs.declared.phc.hash.PasswordHash.{PasswordHash};
 ghost use Rattle.scrypt.specs.Accepted.{AreAccepted, IsStoredLen, Parameters};
 ghost use Rattle.scrypt.specs.BlockMix.{block_mix};
 ghost use Rattle.scrypt.specs.ChunkOrder.{NamesEachOnce, mixed_in_order};
+ghost use Rattle.scrypt.specs.Derives.{key_by};
 ghost use Rattle.scrypt.specs.Diagonal.{AreInverse, IsBlockMixBy, diagonal_core, diagonal_order, inverse_pivot, pivot, standard_order};
 ghost use Rattle.scrypt.specs.Key.{derived_key, mixed_chunks};
-ghost use Rattle.scrypt.specs.McfCosts.{costs_letters, five_letter_number};
+ghost use Rattle.scrypt.specs.McfCosts.{costs_letters, costs_text, five_letter_number};
+ghost use Rattle.scrypt.specs.McfHash.{Accepts as SevenAccepts, IsHashText as IsSevenText, IsMadeHash as IsMadeSeven, made_len};
 ghost use Rattle.scrypt.specs.PhcAnswers.{bare};
 ghost use Rattle.scrypt.specs.PhcCosts.{ReadsCosts, written_pairs};
 ghost use Rattle.scrypt.specs.PhcHash.{Accepts, IsMadeHash};
 
-/// A shorter key is the beginning of a longer one, at every two lengths: key files rely on it, which
-/// cut keys of several uses from one.
+/// A shorter key is the beginning of a longer one, of any two lengths. Key files rely on it, which ask
+/// for more bytes later and find the first ones as they were.
 pub fn shorter_key_is_prefix()
     ensures { (password salt : List ℕ) (log_n r p m n : ℕ) → m ≤ n
         → derived_key password salt log_n r p m ≡ take m (derived_key password salt log_n r p n) }
@@ -49,8 +51,9 @@ pub fn written_costs_read_back()
         → ReadsCosts (written_pairs c) out → out ≡ Ok (bare c) }
 {}
 
-/// A PHC text, a modular text and a text of crypt Base64 each have at most one reading, and each
-/// reading has at most one text: migration tools rely on it, which compare hashes by their texts.
+/// A PHC text, a modular text, a `$7$` text and a text of crypt Base64 each have at most one reading,
+/// and each reading has at most one text: migration tools rely on it, which compare hashes by their
+/// texts.
 pub fn texts_have_one_reading()
     ensures phc_reading { (text : List ℕ) (one other : PasswordHash) → IsHashText text one → IsHashText text other
         → one ≡ other }
@@ -60,14 +63,20 @@ pub fn texts_have_one_reading()
         → Modular text other more → (one ≡ other) × (fields ≡ more) }
     ensures modular_text { (id one other : List ℕ) (fields : List (List ℕ)) → Modular one id fields
         → Modular other id fields → one ≡ other }
+    ensures seven_reading { (text salt more_salt stored more_stored : List ℕ) (one other : Parameters)
+        → IsSevenText text one salt stored → IsSevenText text other more_salt more_stored
+        → (one ≡ other) × (salt ≡ more_salt) × (stored ≡ more_stored) }
+    ensures seven_text { (one other salt stored : List ℕ) (c : Parameters) → IsSevenText one c salt stored
+        → IsSevenText other c salt stored → one ≡ other }
     ensures crypt64_reading { (letters one other : List ℕ) → Crypt64 one letters → Crypt64 other letters
         → one ≡ other }
     ensures crypt64_text { (bytes one other : List ℕ) → Crypt64 bytes one → Crypt64 bytes other → one ≡ other }
 {}
 
-/// The hash that hashing makes of accepted parameters, a password and a salt accepts that password,
-/// is printed as a PHC text, and accepts it too as it is read back from that text: credential stores
-/// rely on it, which keep the text.
+/// The hash that hashing makes of accepted parameters, a password and a salt accepts that password: a
+/// PHC hash, which also has a text and accepts it too as it is read back from there, and a `$7$` text,
+/// which is the letters of the costs, of the salt and of the key. Credential stores rely on it, which
+/// keep the text.
 pub fn made_hashes_are_accepted()
     ensures phc { (c : Parameters) (password salt : List ℕ) (hash : PasswordHash) → AreAccepted c.log_n c.r c.p
         → IsMadeHash c password salt hash → Accepts password hash }
@@ -77,6 +86,11 @@ pub fn made_hashes_are_accepted()
     ensures phc_read_back { (c : Parameters) (password salt : List ℕ) (hash again : PasswordHash) → AreAccepted c.log_n c.r c.p
         → IfSome c.output_len IsStoredLen → IsSalt salt → IsMadeHash c password salt hash
         → IsHashText (hash_text hash) again → Accepts password again }
+    ensures seven { (c : Parameters) (password salt text : List ℕ) → IsMadeSeven c password salt text
+        → SevenAccepts password text }
+    ensures seven_written { (c : Parameters) (password salt : List ℕ) → AreAccepted c.log_n c.r c.p
+        → IsMadeSeven c password salt (costs_text c ++ (crypt64_of salt
+        ++ dollar ∷ crypt64_of (key_by c password (crypt64_of salt) (made_len c)))) }
 {}
 
 /// Numbers below 2^30 and their five letters undo each other, every five letters say a number, and

@@ -2,6 +2,9 @@
 
 mod costs;
 mod five_letters;
+mod hashing;
+mod reading;
+mod verifying;
 
 pub use costs::decode_params_and_salt;
 pub use five_letters::{decode64_uint32, encode64_uint32};

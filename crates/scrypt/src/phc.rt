@@ -2,7 +2,7 @@
 
 mod costs;
 mod hashing;
-mod key;
+pub(crate) mod key;
 mod verifying;
 
 pub use password_hash::phc::{Ident, Output, PasswordHash, Salt};

@@ -53,7 +53,7 @@ fn rfc_7914_keys(rt: HostRuntime) -> Result<(), Fail> {
 fn shorter_keys_are_prefixes(rt: HostRuntime) -> Result<(), Fail> {
     let params = Params::new(4, 1, 1)?;
     let whole = <[u8; 64]>::from_hex(RFC_KEY_1)?;
-    for len in [1, 32, 33] {
+    for len in [1, 32, 33, 64] {
         let mut output = [0u8; 64];
         if let Some(key) = output.get_mut(..len) {
             scrypt(rt.alloc(), b"", b"", &params, key)?;

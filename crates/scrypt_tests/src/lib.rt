@@ -7,6 +7,8 @@ mod buffers;
 #[cfg(test)]
 mod crypt_costs;
 #[cfg(test)]
+mod crypt_hashes;
+#[cfg(test)]
 mod crypt_letters;
 #[cfg(test)]
 mod derived_keys;

@@ -96,7 +96,7 @@ fn changes_of_a_hash(rt: HostRuntime) {
 fn made_hashes(rt: HostRuntime) -> Result<(), Fail> {
     let alloc = rt.alloc();
     let hasher = Scrypt::new();
-    let made = hasher.hash_password_with_params(
+    let made: PasswordHash = hasher.hash_password_with_params(
         alloc,
         b"pleaseletmein",
         b"SodiumChloride",
@@ -107,7 +107,7 @@ fn made_hashes(rt: HostRuntime) -> Result<(), Fail> {
         text.as_str(),
         "$scrypt$ln=14,r=8,p=1$U29kaXVtQ2hsb3JpZGU$cCO9yzr9c0hGHAbNgf046/2o+7qQT44+qbVD9lRdofI"
     );
-    let short = hasher.hash_password_with_params(
+    let short: PasswordHash = hasher.hash_password_with_params(
         alloc,
         b"pleaseletmein",
         b"SodiumChloride",

@@ -1,17 +1,21 @@
 -- What the words ask for, from what each of them is.
-use Rattle.std.proofs.Common.{◌≡◌, ◌⊎◌, ◌^◌, ◌∙◌, ℕ, Bool, List, [], ◌∷◌, not, Option, Some, None, Result, Ok, Err, IsErr, IsOk, ap, bytes_eq, codes, false, true, inl, inr, ok_or, refl, sym}
+use Rattle.std.proofs.Common.{◌≡◌, ◌⊎◌, ◌^◌, ◌∙◌, ℕ, List, [], ◌∷◌, Option, Some, None, Result, Ok, Err, IsErr, IsOk, ap, false, true, inl, inr, ok_or, refl, sym}
 use Rattle.std.specs.Prelude.{IfErr, IfOk}
 use Rattle.std.specs.Result.{result_ok}
 use Rattle.hex.specs.Hex.{decode_of}
 use Rattle.scrypt.specs.Accepted.{AreAccepted, IsOutputLen, Parameters}
-use Rattle.scrypt_tool.specs.Asked.{AreRefused, AreSaltAndParams, AskFor, Asks, AsksBy, HashPhcWords, KeyWords, Refuses, RefusesBy, RefusesSaltOrParams, VerifyPhcWords, Words, hash_words, is_modular_word, key_words, no_params, no_salt, numbers_of, verify_words, words_of}
+use Rattle.scrypt_tool.specs.Asked.{AreRefused, AreSaltAndParams, AskFor, Asks, AsksBy, HashWords, KeyWords, Refuses, RefusesBy, RefusesSaltOrParams, VerifyMcfWords, VerifyPhcWords, Words, format_of, hash_words, is_seven_word, key_words, no_params, no_salt, numbers_of, verify_words, words_of}
 use Rattle.scrypt_tool.proofs.DecimalFacts.{UnsignedGives, decimal_gives}
 use Rattle.scrypt_tool.specs.Decimal.{DecimalGives, decimal_below}
-use Rattle.scrypt_tool.specs.Fault.{status_of}
+use Rattle.password_hash.specs.Mcf.{IsModular}
+use Rattle.password_hash.specs.declared.mcf.Error.{Error as McfError}
+use Rattle.password_hash.specs.declared.mcf.Error.TheVariants.{EncodingInvalid, OutOfMemory as McfOutOfMemory}
+use Rattle.scrypt_tool.specs.Fault.{mcf_fault_of, status_of}
 use Rattle.scrypt_tool.specs.declared.command.Command.{Command}
-use Rattle.scrypt_tool.specs.declared.command.Command.TheVariants.{Key, HashPhc, VerifyPhc}
+use Rattle.scrypt_tool.specs.declared.command.Command.TheVariants.{Key, Hash, VerifyPhc, VerifyMcf}
 use Rattle.scrypt_tool.specs.declared.fault.Fault.{Fault}
 use Rattle.scrypt_tool.specs.declared.fault.Fault.TheVariants.{Usage, SaltNotHex, InvalidOutputLen, OutOfMemory}
+use Rattle.scrypt_tool.specs.declared.words.Format.{Format}
 use Rattle.scrypt_tool.specs.declared.words.Numbers.{Numbers}
 
 pub numbers_found : (log_n_word r_word p_word : List ℕ) (log_n r p : ℕ)
@@ -58,38 +62,25 @@ pub key_words_found : (log_n r p len_word salt_hex : List ℕ) (numbers : Number
 unfolding key_words
 key_words_found log_n r p len_word salt_hex numbers len h i = rw h (rw i refl)
 
--- a test that fails, and one that is met
-fails : (met : Bool) → true ≡ not met → met ≡ false
-fails true h = absurd cc
-fails false h = refl
-
-is_met : (met : Bool) → false ≡ not met → met ≡ true
-is_met true h = refl
-is_met false h = absurd cc
-
 -- the words of `hash` with another format
 pub no_format : (format log_n r p salt_hex : List ℕ)
-    → true ≡ not (bytes_eq format (codes "phc")) → hash_words (format ∷ log_n ∷ r ∷ p ∷ salt_hex ∷ []) ≡ None
+    → format_of format ≡ None → hash_words (format ∷ log_n ∷ r ∷ p ∷ salt_hex ∷ []) ≡ None
 unfolding hash_words
-no_format format log_n r p salt_hex h = rw (fails _ h) refl
+no_format format log_n r p salt_hex h = rw h refl
 
--- the format that is read
-pub is_format : (format : List ℕ) → false ≡ not (bytes_eq format (codes "phc")) → bytes_eq format (codes "phc") ≡ true
-is_format format h = is_met _ h
-
--- the words of `hash phc` without numbers
-pub no_hash_numbers : (format log_n r p salt_hex : List ℕ)
-    → bytes_eq format (codes "phc") ≡ true → numbers_of log_n r p ≡ None
+-- the words of `hash` without numbers
+pub no_hash_numbers : (format log_n r p salt_hex : List ℕ) (named : Format)
+    → format_of format ≡ Some named → numbers_of log_n r p ≡ None
     → hash_words (format ∷ log_n ∷ r ∷ p ∷ salt_hex ∷ []) ≡ None
 unfolding hash_words
-no_hash_numbers format log_n r p salt_hex h i = rw h (rw i refl)
+no_hash_numbers format log_n r p salt_hex named h i = rw h (rw i refl)
 
--- the words of `hash phc`
-pub hash_words_found : (format log_n r p salt_hex : List ℕ) (numbers : Numbers)
-    → bytes_eq format (codes "phc") ≡ true → numbers_of log_n r p ≡ Some numbers
-    → hash_words (format ∷ log_n ∷ r ∷ p ∷ salt_hex ∷ []) ≡ Some (HashPhcWords numbers salt_hex)
+-- the words of `hash`
+pub hash_words_found : (format log_n r p salt_hex : List ℕ) (named : Format) (numbers : Numbers)
+    → format_of format ≡ Some named → numbers_of log_n r p ≡ Some numbers
+    → hash_words (format ∷ log_n ∷ r ∷ p ∷ salt_hex ∷ []) ≡ Some (HashWords named numbers salt_hex)
 unfolding hash_words
-hash_words_found format log_n r p salt_hex numbers h i = rw h (rw i refl)
+hash_words_found format log_n r p salt_hex named numbers h i = rw h (rw i refl)
 
 -- words that are those of no command
 pub unread : (words : Option Words) → words ≡ None → RefusesBy words Usage
@@ -129,12 +120,12 @@ key_refused words numbers salt_hex len fault found (inl h) = inl h
 key_refused words numbers salt_hex len fault found (inr h) = rw found (inr (inl h))
 
 -- and those of `hash`
-pub hash_refused : (words : Option Words) (numbers : Numbers) (salt_hex : List ℕ) (fault : Fault)
-    → words ≡ Some (HashPhcWords numbers salt_hex)
+pub hash_refused : (words : Option Words) (named : Format) (numbers : Numbers) (salt_hex : List ℕ) (fault : Fault)
+    → words ≡ Some (HashWords named numbers salt_hex)
     → (fault ≡ OutOfMemory) ⊎ RefusesSaltOrParams numbers salt_hex fault
     → (fault ≡ OutOfMemory) ⊎ RefusesBy words fault
-hash_refused words numbers salt_hex fault found (inl h) = inl h
-hash_refused words numbers salt_hex fault found (inr h) = rw found (inr h)
+hash_refused words named numbers salt_hex fault found (inl h) = inl h
+hash_refused words named numbers salt_hex fault found (inr h) = rw found (inr h)
 
 -- a length that no key has
 pub len_refused : (words : Option Words) (numbers : Numbers) (salt_hex : List ℕ) (len : ℕ)
@@ -164,14 +155,21 @@ not_both_read read (no_params salt h) = h read.accepted
 not_both : (words : Words) (command : Command) (fault : Fault) → AskFor words command → AreRefused words fault → ⊥
 not_both (KeyWords numbers salt_hex n) (Key params len salt) fault (read, is, allowed) (inl h) = not_both_read read h
 not_both (KeyWords numbers salt_hex n) (Key params len salt) fault (read, is, allowed) (inr h) = h.3 allowed
-not_both (KeyWords numbers salt_hex n) (HashPhc params salt) fault asks h = asks
+not_both (KeyWords numbers salt_hex n) (Hash format params salt) fault asks h = asks
 not_both (KeyWords numbers salt_hex n) (VerifyPhc hash) fault asks h = asks
-not_both (HashPhcWords numbers salt_hex) (Key params len salt) fault asks h = asks
-not_both (HashPhcWords numbers salt_hex) (HashPhc params salt) fault read h = not_both_read read h
-not_both (HashPhcWords numbers salt_hex) (VerifyPhc hash) fault asks h = asks
+not_both (KeyWords numbers salt_hex n) (VerifyMcf hash) fault asks h = asks
+not_both (HashWords named numbers salt_hex) (Key params len salt) fault asks h = asks
+not_both (HashWords named numbers salt_hex) (Hash format params salt) fault asks h = not_both_read asks.0 h
+not_both (HashWords named numbers salt_hex) (VerifyPhc hash) fault asks h = asks
+not_both (HashWords named numbers salt_hex) (VerifyMcf hash) fault asks h = asks
 not_both (VerifyPhcWords text) (Key params len salt) fault asks h = asks
-not_both (VerifyPhcWords text) (HashPhc params salt) fault asks h = asks
+not_both (VerifyPhcWords text) (Hash format params salt) fault asks h = asks
 not_both (VerifyPhcWords text) (VerifyPhc hash) fault asks h = h.1 hash asks
+not_both (VerifyPhcWords text) (VerifyMcf hash) fault asks h = asks
+not_both (VerifyMcfWords text) (Key params len salt) fault asks h = asks
+not_both (VerifyMcfWords text) (Hash format params salt) fault asks h = asks
+not_both (VerifyMcfWords text) (VerifyPhc hash) fault asks h = asks
+not_both (VerifyMcfWords text) (VerifyMcf hash) fault asks h = h.1 asks.1
 
 -- words that ask for a command are not refused
 pub asked_not_refused : (words : Option Words) (command : Command) (fault : Fault)
@@ -179,15 +177,21 @@ pub asked_not_refused : (words : Option Words) (command : Command) (fault : Faul
 asked_not_refused None command fault asks h = asks
 asked_not_refused (Some words) command fault asks h = not_both words command fault asks h
 
--- the word of `verify` that is no PHC text
-pub modular_word : (text : List ℕ) → is_modular_word text ≡ true → verify_words (text ∷ []) ≡ None
-unfolding verify_words
-modular_word text h = rw h refl
-
 -- the word of `verify`
-pub verify_words_found : (text : List ℕ) → is_modular_word text ≡ false → verify_words (text ∷ []) ≡ Some (VerifyPhcWords text)
+pub seven_word : (text : List ℕ) → is_seven_word text ≡ true → verify_words (text ∷ []) ≡ Some (VerifyMcfWords text)
 unfolding verify_words
-verify_words_found text h = rw h refl
+seven_word text h = rw h refl
+
+pub phc_word : (text : List ℕ) → is_seven_word text ≡ false → verify_words (text ∷ []) ≡ Some (VerifyPhcWords text)
+unfolding verify_words
+phc_word text h = rw h refl
+
+-- a modular text that is not read
+pub modular_refused : (words : Option Words) (text : List ℕ) (error : McfError) → words ≡ Some (VerifyMcfWords text)
+    → (error ≡ EncodingInvalid → ¬ IsModular text)
+    → (mcf_fault_of error ≡ OutOfMemory) ⊎ RefusesBy words (mcf_fault_of error)
+modular_refused words text EncodingInvalid found none = rw found (inr (refl, none refl))
+modular_refused words text McfOutOfMemory found none = inl refl
 
 -- what was read asks for the command, so the words do
 pub asks_as : (words : List (List ℕ)) (read : Option Words) (result : Result Command Fault)
@@ -212,11 +216,6 @@ pub refused_status : (words : Option Words) (fault : Fault) → RefusesBy words 
 refused_status None fault h = rw h refl
 refused_status (Some (KeyWords numbers salt_hex n)) fault (inl h) = salt_status h
 refused_status (Some (KeyWords numbers salt_hex n)) fault (inr h) = rw h.0 refl
-refused_status (Some (HashPhcWords numbers salt_hex)) fault h = salt_status h
+refused_status (Some (HashWords named numbers salt_hex)) fault h = salt_status h
 refused_status (Some (VerifyPhcWords text)) fault h = rw h.0 refl
-
--- what is refused without asking for memory
-pub not_memory : (read : Option Words) (result : Result Command Fault) → IfErr result (RefusesBy read)
-    → IfErr result (λ fault. (fault ≡ OutOfMemory) ⊎ RefusesBy read fault)
-not_memory read (Ok command) h = tt
-not_memory read (Err fault) h = inr h
+refused_status (Some (VerifyMcfWords text)) fault h = rw h.0 refl

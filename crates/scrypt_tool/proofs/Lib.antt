@@ -2,4 +2,5 @@ pub mod DecimalFacts
 pub mod WordsFacts
 pub mod AskedFacts
 pub mod FaultFacts
+pub mod McfFaultFacts
 pub mod ToldFacts

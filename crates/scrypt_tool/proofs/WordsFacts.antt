@@ -1,7 +1,7 @@
 -- The words behind a command's name: five of `key` and of `hash`, and one of `verify`.
-use Rattle.std.proofs.Common.{◌≡◌, ◌≢◌, ℕ, Bool, List, [], ◌∷◌, None, length, get_or, arith, map, refl, bytes_eq, codes, sym, false, true}
+use Rattle.std.proofs.Common.{◌≡◌, ◌≢◌, ℕ, Bool, List, [], ◌∷◌, None, length, get_or, arith, map, refl, bytes_eq, codes, false, true}
 use Rattle.std.proofs.lemmas.Slice.Eq.{bytes_eq-Decides}
-use Rattle.scrypt_tool.specs.Asked.{hash_words, key_words, verify_words, words_of}
+use Rattle.scrypt_tool.specs.Asked.{format_of, hash_words, key_words, verify_words, words_of}
 
 -- a test that is not met
 not_true : (met : Bool) → (met ≡ true → ⊥) → met ≡ false
@@ -93,6 +93,11 @@ pub no_name : (name : List ℕ) (words : List (List ℕ)) → name ≢ codes "ke
     → words_of (name ∷ words) ≡ None
 unfolding words_of
 no_name name words h i j = rw (other name (codes "key") h, other name (codes "hash") i, other name (codes "verify") j) refl
+
+-- no format has another name
+pub no_format_named : (word : List ℕ) → word ≢ codes "phc" → word ≢ codes "mcf" → format_of word ≡ None
+unfolding format_of
+no_format_named word h i = rw (other word (codes "phc") h, other word (codes "mcf") i) refl
 
 -- no words are no command
 pub no_words : {A : Type 0} (text : A → List ℕ) (words : List A) → length words ≡ 0 → words_of (map text words) ≡ None

@@ -3,22 +3,26 @@
 -- of a hash.
 use Rattle.std.specs.Prelude.{◌≡◌, ◌⊎◌, ℕ, ◌^◌, ◌==◌, ◌&&◌, ◌||◌, Bool, bytes_eq, if◌then◌else◌, List, [], ◌∷◌, codes, length, slice_index, Option, Some, None, option_and_then, Ok, IsErr, IsOk, IsSomeAnd, MatchOption}
 use Rattle.hex.specs.Hex.{decode_of}
+use Rattle.password_hash.specs.Mcf.{IsModular}
 use Rattle.password_hash.specs.Phc.{IsHashText}
 use Rattle.password_hash.specs.declared.phc.hash.PasswordHash.{PasswordHash}
 use Rattle.scrypt.specs.Accepted.{AreAccepted, IsOutputLen, Parameters}
 use Rattle.scrypt_tool.specs.Decimal.{decimal_below}
 use Rattle.scrypt_tool.specs.declared.command.Command.{Command}
-use Rattle.scrypt_tool.specs.declared.command.Command.TheVariants.{Key, HashPhc, VerifyPhc}
+use Rattle.scrypt_tool.specs.declared.command.Command.TheVariants.{Key, Hash, VerifyPhc, VerifyMcf}
 use Rattle.scrypt_tool.specs.declared.fault.Fault.{Fault}
 use Rattle.scrypt_tool.specs.declared.fault.Fault.TheVariants.{Usage, SaltNotHex, InvalidParams, InvalidOutputLen, HashRefused}
 use Rattle.scrypt_tool.specs.declared.fault.HashFault.TheVariants.{EncodingInvalid}
+use Rattle.scrypt_tool.specs.declared.words.Format.{Format}
+use Rattle.scrypt_tool.specs.declared.words.Format.TheVariants.{Phc, Mcf}
 use Rattle.scrypt_tool.specs.declared.words.Numbers.{Numbers}
 
 -- the words of a command, with the numbers read
 pub data Words : Type 0 where
   KeyWords : (numbers : Numbers) (salt_hex : List ℕ) (len : ℕ) → Words
-  HashPhcWords : (numbers : Numbers) (salt_hex : List ℕ) → Words
+  HashWords : (format : Format) (numbers : Numbers) (salt_hex : List ℕ) → Words
   VerifyPhcWords : (text : List ℕ) → Words
+  VerifyMcfWords : (text : List ℕ) → Words
 
 -- the second step, if the first gave a value
 infixl 10 ◌>>=◌
@@ -41,23 +45,30 @@ key_words (log_n ∷ r ∷ p ∷ len ∷ salt_hex ∷ []) = do
   Some (KeyWords numbers salt_hex len)
 key_words words = None
 
--- behind `hash`: phc LOG_N R P SALT_HEX
-unfoldable pub hash_words : List (List ℕ) → Option Words
-hash_words (format ∷ log_n ∷ r ∷ p ∷ salt_hex ∷ []) =
-    if bytes_eq format (codes "phc") then (do
-      numbers ← numbers_of log_n r p
-      Some (HashPhcWords numbers salt_hex))
+-- phc|mcf
+unfoldable pub format_of : List ℕ → Option Format
+format_of word =
+    if bytes_eq word (codes "phc") then Some Phc
+    else if bytes_eq word (codes "mcf") then Some Mcf
     else None
+
+-- behind `hash`: phc|mcf LOG_N R P SALT_HEX
+unfoldable pub hash_words : List (List ℕ) → Option Words
+hash_words (format ∷ log_n ∷ r ∷ p ∷ salt_hex ∷ []) = do
+  format ← format_of format
+  numbers ← numbers_of log_n r p
+  Some (HashWords format numbers salt_hex)
 hash_words words = None
 
--- the word is `$7` or begins with `$7$`: it is no PHC text
-unfoldable pub is_modular_word : List ℕ → Bool
-is_modular_word text = slice_index text 0 == 36 && slice_index text 1 == 55
+-- the word is `$7` or begins with `$7$`: it is read as a `$7$` text, and any other as a PHC text
+unfoldable pub is_seven_word : List ℕ → Bool
+is_seven_word text = slice_index text 0 == 36 && slice_index text 1 == 55
     && (length text == 2 || slice_index text 2 == 36)
 
 -- behind `verify`: HASH
 unfoldable pub verify_words : List (List ℕ) → Option Words
-verify_words (text ∷ []) = if is_modular_word text then None else Some (VerifyPhcWords text)
+verify_words (text ∷ []) =
+    if is_seven_word text then Some (VerifyMcfWords text) else Some (VerifyPhcWords text)
 verify_words words = None
 
 -- the words of a command
@@ -79,8 +90,10 @@ pub record AreSaltAndParams (numbers : Numbers) (salt_hex salt : List ℕ) (para
 abbrev pub AskFor : Words → Command → Type 0
 AskFor (KeyWords numbers salt_hex n) (Key params len salt) =
     AreSaltAndParams numbers salt_hex salt.items params × (len ≡ n) × IsOutputLen n
-AskFor (HashPhcWords numbers salt_hex) (HashPhc params salt) = AreSaltAndParams numbers salt_hex salt.items params
+AskFor (HashWords named numbers salt_hex) (Hash format params salt) =
+    AreSaltAndParams numbers salt_hex salt.items params × (format ≡ named)
 AskFor (VerifyPhcWords text) (VerifyPhc hash) = IsHashText text hash
+AskFor (VerifyMcfWords text) (VerifyMcf hash) = (hash ≡ text) × IsModular text
 AskFor words command = ⊥
 
 -- the digits of the salt are refused, or after them the numbers
@@ -94,9 +107,10 @@ abbrev pub AreRefused : Words → Fault → Type 0
 AreRefused (KeyWords numbers salt_hex n) fault = RefusesSaltOrParams numbers salt_hex fault
     ⊎ ((fault ≡ InvalidOutputLen) × IsOk (decode_of salt_hex)
     × AreAccepted numbers.log_n numbers.r numbers.p × ¬ IsOutputLen n)
-AreRefused (HashPhcWords numbers salt_hex) fault = RefusesSaltOrParams numbers salt_hex fault
+AreRefused (HashWords format numbers salt_hex) fault = RefusesSaltOrParams numbers salt_hex fault
 AreRefused (VerifyPhcWords text) fault =
     (fault ≡ HashRefused EncodingInvalid) × ((hash : PasswordHash) → ¬ IsHashText text hash)
+AreRefused (VerifyMcfWords text) fault = (fault ≡ HashRefused EncodingInvalid) × ¬ IsModular text
 
 -- what was read asks for this command
 abbrev pub AsksBy : Option Words → Command → Type 0

@@ -1,6 +1,8 @@
--- Why a run ends before its line is written. A row of the table is a status and a fault line.
+-- Why a run ends without an answer: each fault has a status and a fault line.
 use Rattle.std.specs.Prelude.{◌≡◌, ◌⊎◌, ℕ, List, codes, ⊤}
 use Rattle.password_hash.specs.Refusal.{Refusal, BadAlgorithm, BadEncoding, BadOutputSize, BadParam, BadParams, BadSalt, BadVersion, NoMemory}
+use Rattle.password_hash.specs.declared.mcf.Error.{Error as McfError}
+use Rattle.password_hash.specs.declared.mcf.Error.TheVariants.{EncodingInvalid as McfEncodingInvalid, OutOfMemory as McfOutOfMemory}
 use Rattle.scrypt.specs.declared.errors.DeriveError.{DeriveError}
 use Rattle.scrypt.specs.declared.errors.DeriveError.TheVariants.{InvalidOutputLen as DerivedBadLength, OutOfMemory as DerivedOutOfMemory}
 use Rattle.scrypt_tool.specs.declared.fault.Fault.{Fault}
@@ -48,6 +50,11 @@ abbrev pub fault_of : DeriveError → Fault
 fault_of DerivedBadLength = InvalidOutputLen
 fault_of DerivedOutOfMemory = OutOfMemory
 
+-- the fault of a modular text that is not read
+abbrev pub mcf_fault_of : McfError → Fault
+mcf_fault_of McfEncodingInvalid = HashRefused EncodingInvalid
+mcf_fault_of McfOutOfMemory = OutOfMemory
+
 -- what a fault says of a hash
 abbrev pub hash_refusal : HashFault → Refusal
 hash_refusal Algorithm = BadAlgorithm
@@ -66,7 +73,7 @@ Says (HashRefused why) refusal = refusal ≡ hash_refusal why
 Says OutOfMemory refusal = refusal ≡ NoMemory
 Says fault refusal = ⊥
 
--- a parameter is `ln`, `r` or `p`
-abbrev pub IsTellable : Refusal → Type 0
-IsTellable (BadParam name) = (name ≡ codes "ln") ⊎ (name ≡ codes "r") ⊎ (name ≡ codes "p")
-IsTellable refusal = ⊤
+-- a refusal that names a parameter names `ln`, `r` or `p`
+abbrev pub NamesCost : Refusal → Type 0
+NamesCost (BadParam name) = (name ≡ codes "ln") ⊎ (name ≡ codes "r") ⊎ (name ≡ codes "p")
+NamesCost refusal = ⊤

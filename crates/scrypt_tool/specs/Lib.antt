@@ -1,8 +1,8 @@
--- In reading order: what the words ask for, why a run ends early, and what the program tells.
+-- In reading order: what the words ask for, why a run ends without an answer, and what the program tells.
 
 -- numbers in decimal digits
 pub mod Decimal
--- why a run ends early: the table of statuses and fault lines
+-- why a run ends without an answer: statuses and fault lines
 pub mod Fault
 -- what the words ask for, and what they are refused for
 pub mod Asked

@@ -1,17 +1,20 @@
 -- What the program tells for its words and its input.
-use Rattle.std.specs.Prelude.{◌≡◌, ◌⊎◌, ℕ, List, [], ◌++◌, codes, Option, None, Some, IfSome, ⊤}
+use Rattle.std.specs.Prelude.{◌≡◌, ◌⊎◌, ℕ, List, [], ◌++◌, codes, Option, None, Some, IfSome, Result, Ok, Err, ⊤}
 use Rattle.std.specs.Io.KnownBytes.{Appends}
 use Rattle.hex.specs.Hex.{encode_lower}
 use Rattle.password_hash.specs.Phc.{hash_text}
-use Rattle.password_hash.specs.Refusal.{WrongPassword}
+use Rattle.password_hash.specs.Refusal.{Refusal, WrongPassword, refusal}
+use Rattle.password_hash.specs.declared.error.Error.{Error}
 use Rattle.password_hash.specs.declared.phc.hash.PasswordHash.{PasswordHash}
 use Rattle.scrypt.specs.Accepted.{IsOutputLen, Parameters}
 use Rattle.scrypt.specs.Derives.{key_by}
+use Rattle.scrypt.specs.McfHash.{IsMadeHash as MadeMcf, Verdict as McfVerdict}
 use Rattle.scrypt.specs.PhcHash.{HashIsRefused, IsMadeHash, Verdict}
 use Rattle.scrypt_tool.specs.Asked.{Asks, Refuses}
 use Rattle.scrypt_tool.specs.Fault.{fault_line, hash_refusal, status_of}
 use Rattle.scrypt_tool.specs.declared.command.Command.{Command}
-use Rattle.scrypt_tool.specs.declared.command.Command.TheVariants.{Key, HashPhc, VerifyPhc}
+use Rattle.scrypt_tool.specs.declared.command.Command.TheVariants.{Key, Hash, VerifyPhc, VerifyMcf}
+use Rattle.scrypt_tool.specs.declared.words.Format.TheVariants.{Phc, Mcf}
 use Rattle.scrypt_tool.specs.declared.fault.Fault.{Fault}
 use Rattle.scrypt_tool.specs.declared.fault.Fault.TheVariants.{HashRefused}
 
@@ -36,33 +39,47 @@ abbrev pub GivesHashPhc : Parameters → List ℕ → List ℕ → ℕ → List 
 GivesHashPhc c salt password status line = (status ≡ 0)
     × ((hash : PasswordHash) × IsMadeHash c password salt hash × (line ≡ hash_text hash ++ codes "\n"))
 
--- whether the password is that of a PHC hash
-abbrev pub GivesVerdict : PasswordHash → List ℕ → ℕ → List ℕ → Type 0
-GivesVerdict hash password status line =
-    ((status ≡ 0) × (line ≡ codes "ok\n") × Verdict password hash None)
-    ⊎ ((status ≡ 1) × (line ≡ codes "no\n") × Verdict password hash (Some WrongPassword))
+-- the text of a made `$7$` hash
+abbrev pub GivesHashMcf : Parameters → List ℕ → List ℕ → ℕ → List ℕ → Type 0
+GivesHashMcf c salt password status line = (status ≡ 0)
+    × ((text : List ℕ) × MadeMcf c password salt text × (line ≡ text ++ codes "\n"))
+
+-- whether the password is that of a hash
+abbrev pub GivesVerdict : (Option Refusal → Type 0) → ℕ → List ℕ → Type 0
+GivesVerdict IsVerdict status line =
+    ((status ≡ 0) × (line ≡ codes "ok\n") × IsVerdict None)
+    ⊎ ((status ≡ 1) × (line ≡ codes "no\n") × IsVerdict (Some WrongPassword))
+
+-- the answer to a verification: `ok`, or `no` to a wrong password
+abbrev pub SaysVerified : Result ⊤ Error → ℕ → List ℕ → Type 0
+SaysVerified (Ok u) status line = (status ≡ 0) × (line ≡ codes "ok\n")
+SaysVerified (Err e) status line = (refusal e ≡ WrongPassword) × (status ≡ 1) × (line ≡ codes "no\n")
 
 -- the command is answered on this input by this status and this line
 abbrev pub Gives : Command → List ℕ → ℕ → List ℕ → Type 0
 Gives (Key params len salt) input status line = GivesKey params len salt.items input status line
-Gives (HashPhc params salt) input status line = GivesHashPhc params salt.items input status line
-Gives (VerifyPhc hash) input status line = GivesVerdict hash input status line
+Gives (Hash Phc params salt) input status line = GivesHashPhc params salt.items input status line
+Gives (Hash Mcf params salt) input status line = GivesHashMcf params salt.items input status line
+Gives (VerifyPhc hash) input status line = GivesVerdict (Verdict input hash) status line
+Gives (VerifyMcf hash) input status line = GivesVerdict (McfVerdict input hash) status line
 
--- hashing refuses this salt
+-- making a PHC hash refuses this salt
 abbrev pub DeniesHash : List ℕ → Fault → Type 0
 DeniesHash salt (HashRefused why) = HashIsRefused salt None None (hash_refusal why)
 DeniesHash salt fault = ⊥
 
--- verifying refuses this hash
-abbrev pub DeniesVerdict : PasswordHash → List ℕ → Fault → Type 0
-DeniesVerdict hash password (HashRefused why) = Verdict password hash (Some (hash_refusal why))
-DeniesVerdict hash password fault = ⊥
+-- verifying refuses a hash
+abbrev pub DeniesVerdict : (Option Refusal → Type 0) → Fault → Type 0
+DeniesVerdict IsVerdict (HashRefused why) = IsVerdict (Some (hash_refusal why))
+DeniesVerdict IsVerdict fault = ⊥
 
 -- hashing or verifying refuses the command on this input
 abbrev pub Denies : Command → List ℕ → Fault → Type 0
 Denies (Key params len salt) input fault = ⊥
-Denies (HashPhc params salt) input fault = DeniesHash salt.items fault
-Denies (VerifyPhc hash) input fault = DeniesVerdict hash input fault
+Denies (Hash Phc params salt) input fault = DeniesHash salt.items fault
+Denies (Hash Mcf params salt) input fault = ⊥
+Denies (VerifyPhc hash) input fault = DeniesVerdict (Verdict input hash) fault
+Denies (VerifyMcf hash) input fault = DeniesVerdict (McfVerdict input hash) fault
 
 -- what is told of an answer
 abbrev pub answer_of : ℕ → List ℕ → Told
@@ -72,7 +89,8 @@ answer_of status line = record { status = status; line = line; fault = [] }
 abbrev pub refusal_of : Fault → Told
 refusal_of fault = record { status = status_of fault; line = []; fault = fault_line fault }
 
--- the program tells this for its words and its input
+-- the program tells this for its words and its input, where memory is there and neither the input nor
+-- the output fails
 pub data Tells (words : List (List ℕ)) (input : List ℕ) : Told → Type 0 where
   answers : (command : Command) (status : ℕ) (line : List ℕ) → Asks words command
       → Gives command input status line → Tells words input (answer_of status line)

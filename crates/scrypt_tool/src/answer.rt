@@ -1,14 +1,18 @@
 // The line that answers a command.
 
-ghost use Rattle.std.specs.Prelude.{◌≡◌, ◌⊎◌, ◌++◌, IfOk, IfErr, codes, string_bytes};
+ghost use Rattle.std.specs.Prelude.{◌≡◌, ◌⊎◌, ◌++◌, IfOk, IfErr, IsErrAnd, codes, string_bytes};
+ghost use Rattle.password_hash.specs.Refusal.{refusal};
 ghost use Rattle.scrypt.specs.Accepted.{IsOutputLen};
-ghost use Rattle.scrypt_tool.specs.Told.{CanAnswer, Denies, DeniesHash, DeniesVerdict, Gives, GivesHashPhc, GivesKey, GivesVerdict};
+ghost use Rattle.scrypt.specs.McfHash.{Verdict as McfVerdict};
+ghost use Rattle.scrypt.specs.PhcHash.{Verdict};
+ghost use Rattle.scrypt_tool.specs.Fault.{NamesCost, Says};
+ghost use Rattle.scrypt_tool.specs.Told.{CanAnswer, Denies, DeniesHash, DeniesVerdict, Gives, GivesHashMcf, GivesHashPhc, GivesKey, GivesVerdict, SaysVerified};
 ghost use Rattle.scrypt_tool.specs.declared.fault.Fault.TheVariants.{OutOfMemory};
 
 use crate::command::Command;
 use crate::fault::Fault;
-use password_hash::phc::PasswordHash;
-use password_hash::{PasswordHasher, PasswordVerifier};
+use crate::words::Format;
+use password_hash::{PasswordHasher, PasswordVerifier, mcf, phc};
 use scrypt::{Params, Scrypt, scrypt};
 use std::alloc::Global;
 
@@ -32,8 +36,18 @@ impl Command {
     {
         match self {
             Command::Key { params, len, salt } => key(alloc, input, salt, params, *len),
-            Command::HashPhc { params, salt } => hash_phc(alloc, input, salt, params),
+            Command::Hash {
+                format: Format::Phc,
+                params,
+                salt,
+            } => hash_phc(alloc, input, salt, params),
+            Command::Hash {
+                format: Format::Mcf,
+                params,
+                salt,
+            } => hash_mcf(alloc, input, salt, params),
             Command::VerifyPhc { hash } => verify_phc(alloc, input, hash),
+            Command::VerifyMcf { hash } => verify_mcf(alloc, input, hash),
         }
     }
 }
@@ -63,10 +77,27 @@ fn hash_phc(alloc: Global, password: &[u8], salt: &[u8], params: &Params) -> Res
     ensures err { IfErr result (λ fault. (fault ≡ OutOfMemory) ⊎ DeniesHash salt.now fault) }
 {
     let hasher = Scrypt::new_with_params(*params);
-    let made: password_hash::Result<PasswordHash> =
-        hasher.hash_password_with_salt(alloc, password, salt);
+    let made: password_hash::Result<phc::PasswordHash> = hasher.hash_password_with_salt(
+        alloc, password, salt,
+    );
     match made {
         Ok(hash) => on_a_line(hash.to_string(alloc)?),
+        Err(error) => Err(Fault::of(error).unwrap()),
+    }
+}
+
+// The text of the `$7$` hash that these parameters make.
+fn hash_mcf(alloc: Global, password: &[u8], salt: &[u8], params: &Params) -> Result<Answer, Fault>
+    ensures ok { IfOk result (λ answer.
+        GivesHashMcf params.now salt.now password.now answer.status (string_bytes answer.line)) }
+    ensures err { IfErr result (λ fault. fault ≡ OutOfMemory) }
+{
+    let hasher = Scrypt::new_with_params(*params);
+    let made: password_hash::Result<mcf::PasswordHash> = hasher.hash_password_with_salt(
+        alloc, password, salt,
+    );
+    match made {
+        Ok(hash) => on_a_line(String::from_str(alloc, hash.as_str())?),
         Err(error) => Err(Fault::of(error).unwrap()),
     }
 }
@@ -82,14 +113,34 @@ fn on_a_line(text: String) -> Result<Answer, Fault>
     Ok(Answer { status: 0, line })
 }
 
-// `ok` where the password is that of the hash, and `no` where it is not.
-fn verify_phc(alloc: Global, password: &[u8], hash: &PasswordHash) -> Result<Answer, Fault>
+// Whether the password is that of a PHC hash.
+fn verify_phc(alloc: Global, password: &[u8], hash: &phc::PasswordHash) -> Result<Answer, Fault>
     ensures ok { IfOk result (λ answer.
-        GivesVerdict hash.now password.now answer.status (string_bytes answer.line)) }
+        GivesVerdict (Verdict password.now hash.now) answer.status (string_bytes answer.line)) }
     ensures err { IfErr result (λ fault.
-        (fault ≡ OutOfMemory) ⊎ DeniesVerdict hash.now password.now fault) }
+        (fault ≡ OutOfMemory) ⊎ DeniesVerdict (Verdict password.now hash.now) fault) }
 {
-    let Err(error) = Scrypt::new().verify_password(alloc, password, hash) else {
+    verdict(alloc, Scrypt::new().verify_password(alloc, password, hash))
+}
+
+// Whether the password is that of a `$7$` hash.
+fn verify_mcf(alloc: Global, password: &[u8], hash: &mcf::PasswordHash) -> Result<Answer, Fault>
+    ensures ok { IfOk result (λ answer.
+        GivesVerdict (McfVerdict password.now hash.now) answer.status (string_bytes answer.line)) }
+    ensures err { IfErr result (λ fault.
+        (fault ≡ OutOfMemory) ⊎ DeniesVerdict (McfVerdict password.now hash.now) fault) }
+{
+    verdict(alloc, Scrypt::new().verify_password(alloc, password, hash))
+}
+
+// `ok` where the password was accepted, and `no` where it is another.
+fn verdict(alloc: Global, verified: password_hash::Result<()>) -> Result<Answer, Fault>
+    requires { IfErr verified (λ e. NamesCost (refusal e)) }
+    ensures ok { IfOk result (λ answer. SaysVerified verified answer.status (string_bytes answer.line)) }
+    ensures err { IfErr result (λ fault.
+        (fault ≡ OutOfMemory) ⊎ IsErrAnd verified (λ e. Says fault (refusal e))) }
+{
+    let Err(error) = verified else {
         return said(alloc, 0, "ok\n");
     };
     match Fault::of(error) {

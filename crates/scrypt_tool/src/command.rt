@@ -5,8 +5,10 @@ ghost use Rattle.scrypt_tool.specs.Asked.{Asks, AsksBy, AreSaltAndParams, Refuse
 ghost use Rattle.scrypt_tool.specs.declared.fault.Fault.TheVariants.{OutOfMemory};
 
 use crate::fault::{Fault, HashFault};
-use crate::words::{Numbers, is_modular_word, read_decimal, read_numbers, read_salt};
-use password_hash::phc::PasswordHash;
+use crate::words::{
+    Format, Numbers, is_seven_word, read_decimal, read_format, read_numbers, read_salt,
+};
+use password_hash::{mcf, phc};
 use scrypt::{Params, output_len_ok};
 use std::alloc::Global;
 
@@ -19,14 +21,19 @@ pub enum Command {
         len: usize,
         salt: Vec<u8>,
     },
-    /// `hash phc LOG_N R P SALT_HEX`: the text of a PHC hash.
-    HashPhc {
+    /// `hash phc|mcf LOG_N R P SALT_HEX`: the text of a hash of this format.
+    Hash {
+        format: Format,
         params: Params,
         salt: Vec<u8>,
     },
     /// `verify HASH` of a PHC text: whether the password is that of the hash.
     VerifyPhc {
-        hash: PasswordHash,
+        hash: phc::PasswordHash,
+    },
+    /// `verify HASH` of a `$7$` text.
+    VerifyMcf {
+        hash: mcf::PasswordHash,
     },
 }
 
@@ -47,7 +54,7 @@ impl Command {
         match name.as_str() {
             "key" => read_key(alloc, words),
             "hash" => read_hash(alloc, words),
-            "verify" => read_verify(words),
+            "verify" => read_verify(alloc, words),
             _ => Err(Fault::Usage),
         }
     }
@@ -80,27 +87,31 @@ fn read_hash(alloc: Global, words: &[String]) -> Result<Command, Fault>
     let [format, log_n, r, p, salt_hex] = words else {
         return Err(Fault::Usage);
     };
-    if format.as_str() != "phc" {
-        return Err(Fault::Usage);
-    }
+    let format = read_format(format.as_str()).ok_or(Fault::Usage)?;
     let numbers = read_numbers(log_n.as_str(), r.as_str(), p.as_str()).ok_or(Fault::Usage)?;
     let (salt, params) = read_salt_and_params(alloc, numbers, salt_hex.as_str())?;
-    Ok(Command::HashPhc { params, salt })
+    Ok(Command::Hash {
+        format,
+        params,
+        salt,
+    })
 }
 
 // Reads what stands behind `verify`, the text of a hash.
-fn read_verify(words: &[String]) -> Result<Command, Fault>
+fn read_verify(alloc: Global, words: &[String]) -> Result<Command, Fault>
     ensures ok { IfOk result (AsksBy (verify_words (map string_bytes words.now))) }
-    ensures err { IfErr result (RefusesBy (verify_words (map string_bytes words.now))) }
+    ensures err { IfErr result (λ fault.
+        (fault ≡ OutOfMemory) ⊎ RefusesBy (verify_words (map string_bytes words.now)) fault) }
 {
     let [text] = words else {
         return Err(Fault::Usage);
     };
     let text = text.as_str();
-    if is_modular_word(text.as_bytes()) {
-        return Err(Fault::Usage);
+    if is_seven_word(text.as_bytes()) {
+        let hash = mcf::PasswordHash::new(alloc, text)?;
+        return Ok(Command::VerifyMcf { hash });
     }
-    match PasswordHash::new(text) {
+    match phc::PasswordHash::new(text) {
         Ok(hash) => Ok(Command::VerifyPhc { hash }),
         Err(_) => Err(Fault::HashRefused(HashFault::EncodingInvalid)),
     }

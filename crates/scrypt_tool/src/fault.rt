@@ -1,15 +1,15 @@
-// Why a run ends before its line is written.
+// Why a run ends without an answer.
 
 ghost use Rattle.std.specs.Prelude.{◌≡◌, MatchOption};
 ghost use Rattle.password_hash.specs.Refusal.{WrongPassword, refusal};
-ghost use Rattle.scrypt_tool.specs.Fault.{IsTellable, Says, fault_line, fault_of, hash_fault_line, status_of};
+ghost use Rattle.scrypt_tool.specs.Fault.{NamesCost, Says, fault_line, fault_of, hash_fault_line, mcf_fault_of, status_of};
 ghost use Rattle.scrypt_tool.specs.declared.fault.Fault.TheVariants.{InvalidOutputLen as BadLength, InvalidParams as BadParams, OutOfMemory};
 
-use password_hash::Error;
+use password_hash::{Error, mcf};
 use scrypt::{DeriveError, InvalidParams};
 use std::alloc::AllocError;
 
-/// Why a run ends before its line is written.
+/// Why a run ends without an answer.
 #[derive(Clone, Copy, Debug, PartialEq, Eq)]
 pub enum Fault {
     /// The words are no command, or a number is no decimal below its bound.
@@ -56,7 +56,7 @@ pub enum HashFault {
 impl Fault {
     /// The fault that an error of hashing or verifying is told as, or none for a wrong password.
     pub fn of(error: Error) -> Option<Fault>
-        requires { IsTellable (refusal error) }
+        requires { NamesCost (refusal error) }
         ensures { MatchOption result (refusal error ≡ WrongPassword) (λ fault. Says fault (refusal error)) }
     {
         Some(Fault::HashRefused(match error {
@@ -142,6 +142,17 @@ impl From<DeriveError> for Fault {
         match error {
             DeriveError::InvalidOutputLen => Fault::InvalidOutputLen,
             DeriveError::OutOfMemory => Fault::OutOfMemory,
+        }
+    }
+}
+
+impl From<mcf::Error> for Fault {
+    ghost from_gives = { λ error fault. fault ≡ mcf_fault_of error };
+
+    fn from(error: mcf::Error) -> Fault {
+        match error {
+            mcf::Error::EncodingInvalid => Fault::HashRefused(HashFault::EncodingInvalid),
+            mcf::Error::OutOfMemory => Fault::OutOfMemory,
         }
     }
 }

@@ -2,7 +2,7 @@
 //!
 //! ```text
 //! scrypt_tool key LOG_N R P LEN SALT_HEX < password
-//! scrypt_tool hash phc LOG_N R P SALT_HEX < password
+//! scrypt_tool hash phc|mcf LOG_N R P SALT_HEX < password
 //! scrypt_tool verify HASH < password
 //! ```
 //!

@@ -43,8 +43,8 @@ pub fn encode64_uint32(out: &mut [u8], number: u32) -> Result<()>
     Ok(())
 }
 
-// The five letters of a number modulo 2^30.
-fn five_letters(number: u32) -> [u8; 5]
+/// The five letters of a number modulo 2^30.
+pub(super) fn five_letters(number: u32) -> [u8; 5]
     ensures { result ≡ letters_of 5 number }
 {
     [

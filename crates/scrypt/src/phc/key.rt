@@ -1,4 +1,4 @@
-// The key of a PHC hash.
+// The key that hashing makes, and that of a PHC hash.
 
 ghost use Rattle.std.specs.Prelude.{◌≡◌, length, IfOk, IfErr};
 ghost use Rattle.password_hash.specs.declared.error.Error.TheVariants.{OutOfMemory};
@@ -12,7 +12,7 @@ use std::alloc::Global;
 
 /// The derived key of `len` bytes, 10 to 64. It stands in an array, so that the three buffers of
 /// the derivation are all that memory is asked for.
-pub(super) fn key_of(
+pub(crate) fn key_of(
     alloc: Global,
     password: &[u8],
     salt: &[u8],

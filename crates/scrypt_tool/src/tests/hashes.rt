@@ -10,8 +10,9 @@ use std::test::Fail;
 // or 1, and else to the faults.
 type Case = (&'static str, &'static str, u8, &'static str);
 
-// The first hash is passlib's, and the second one's key is that of RFC 7914, section 12.
-const ANSWERS: [Case; 8] = [
+// The first hash is passlib's, the second one's key is that of RFC 7914, section 12, and the `$7$` hashes
+// are libxcrypt's.
+const ANSWERS: [Case; 14] = [
     (
         "hash phc 16 8 1 68cd79ef5debdd7b2fc5b8b7d65aabd5",
         "password",
@@ -51,10 +52,42 @@ const ANSWERS: [Case; 8] = [
     ),
     ("verify $scrypt$ln=4$aA", "password", 1, "no\n"),
     ("verify $scrypt", "password", 1, "no\n"),
+    (
+        "hash mcf 4 1 1 ",
+        "",
+        0,
+        "$7$2/..../....$rNxJWVHNv/mCNcgE/f6/L4zO6Fos5c2uTzhyzoisI62\n",
+    ),
+    (
+        "hash mcf 14 32 1 986d90d343e07e4f7e00864f03040bf3",
+        "pleaseletmein",
+        0,
+        "$7$CU..../....Mq4YHD2syxYT.MsH1Ek0n1$JyHIxez0DOwm0r6.kAIohc8UFBOLU4xX8a1wGBpLrw7\n",
+    ),
+    (
+        "verify $7$2/..../....$rNxJWVHNv/mCNcgE/f6/L4zO6Fos5c2uTzhyzoisI62",
+        "",
+        0,
+        "ok\n",
+    ),
+    (
+        "verify $7$2/..../....$rNxJWVHNv/mCNcgE/f6/L4zO6Fos5c2uTzhyzoisI62",
+        "\n",
+        1,
+        "no\n",
+    ),
+    // A shorter key is the beginning of a longer one, and a salt may be a plain text.
+    ("verify $7$2/..../....$r/", "", 0, "ok\n"),
+    (
+        "verify $7$C6..../....SodiumChloride$kBGj9fHznVYFQMEn/qDCfrDevf9YDtcDdKvEqHJLV8D",
+        "pleaseletmein",
+        0,
+        "ok\n",
+    ),
 ];
 
 // What hashing and verifying refuse, after the input was read.
-const REFUSALS: [Case; 9] = [
+const REFUSALS: [Case; 15] = [
     (
         "hash phc 4 1 1 ",
         "password",
@@ -109,6 +142,42 @@ const REFUSALS: [Case; 9] = [
         2,
         "hash refused: ParamsInvalid\n",
     ),
+    (
+        "verify $scrypt$ln=255",
+        "password",
+        2,
+        "hash refused: ParamsInvalid\n",
+    ),
+    (
+        "verify $7",
+        "password",
+        2,
+        "hash refused: EncodingInvalid\n",
+    ),
+    (
+        "verify $7$",
+        "password",
+        2,
+        "hash refused: EncodingInvalid\n",
+    ),
+    (
+        "verify $7$*/..../....$r/",
+        "password",
+        2,
+        "hash refused: ParamsInvalid\n",
+    ),
+    (
+        "verify $7$2/..../....$z2",
+        "password",
+        2,
+        "hash refused: EncodingInvalid\n",
+    ),
+    (
+        "verify $7$2/..../....$",
+        "password",
+        2,
+        "hash refused: OutputSize\n",
+    ),
 ];
 
 #[test]
@@ -136,7 +205,12 @@ fn answers_and_refusals(rt: HostRuntime) -> Result<(), Fail> {
 // The text of a hash is read before the input, and what verifying refuses comes after it.
 #[test]
 fn input_that_fails(rt: HostRuntime) -> Result<(), Fail> {
-    for line in ["hash phc 4 1 1 ", "verify $argon2id", "verify $scrypt"] {
+    for line in [
+        "hash phc 4 1 1 ",
+        "verify $argon2id",
+        "verify $scrypt",
+        "verify $7$",
+    ] {
         let mut input = Input::failing(b"password", ErrorKind::Other);
         let told = tell(rt.alloc(), line, &mut input, Page::new(), Page::new())?;
         assert_eq!(rt; told.ended, INPUT_FAILED, "{line}");

@@ -31,7 +31,7 @@ fn refused(rt: &impl Abort, alloc: Global, line: &str, fault: &str) -> Result<()
 }
 
 // A line of words, and its fault line.
-const REFUSALS: [(&str, &str); 17] = [
+const REFUSALS: [(&str, &str); 19] = [
     ("key 04 1 1 64 ", USAGE),
     ("key 4 1 1 64 0", SALT),
     ("key 4 1 1 64 0g", SALT),
@@ -45,6 +45,8 @@ const REFUSALS: [(&str, &str); 17] = [
     ("hash phc 4 1 1 0", SALT),
     ("hash phc 4 0 1 00", PARAMS),
     ("hash phc 57 1 1 00", PARAMS),
+    ("hash mcf 4 1 1 0", SALT),
+    ("hash mcf 57 1 1 ", PARAMS),
     ("verify ", ENCODING),
     ("verify $scrypt$", ENCODING),
     ("verify $8$a", ENCODING),
@@ -107,7 +109,7 @@ fn numbers_at_their_bounds(rt: HostRuntime) -> Result<(), Fail> {
 }
 
 // Wrong words, and commands of the usage line that are not there yet.
-const NO_COMMANDS: [&str; 15] = [
+const NO_COMMANDS: [&str; 14] = [
     "",
     "key",
     "key 4 1 1 64",
@@ -118,10 +120,9 @@ const NO_COMMANDS: [&str; 15] = [
     "hash phc 4 1 1",
     "hash phc 4 1 1 00 00",
     "hash PHC 4 1 1 00",
-    "hash mcf 4 1 1 ",
+    "hash mcf 4 1 1",
+    "hash md5 4 1 1 00",
     "verify",
-    "verify $7",
-    "verify $7$2/..../....$",
     "verify $scrypt $scrypt",
 ];
 
@@ -134,10 +135,12 @@ fn words_of_no_command(rt: HostRuntime) -> Result<(), Fail> {
 }
 
 // The tables of these parameters would have 2^63 bytes.
-const LARGE: [&str; 3] = [
+const LARGE: [&str; 5] = [
     "key 56 1 1 32 ",
     "hash phc 56 1 1 00",
+    "hash mcf 56 1 1 00",
     "verify $scrypt$ln=56,r=1,p=1$aA$AAAAAAAAAAAAAA",
+    "verify $7$s/..../....$r/",
 ];
 
 #[test]

@@ -2,7 +2,9 @@ use Rattle.std.proofs.Common.{subst}
 use Rattle.password_hash.proofs.OneReading.{one_reading}
 use Rattle.password_hash.specs.Phc.{hash_text}
 use Rattle.scrypt.specs.PhcHash.{Accepts}
-use Rattle.scrypt.proofs.MadeFacts.{made_accepts, made_is_text}
+use Rattle.scrypt.proofs.McfHashFacts.{made_accepted}
+use Rattle.scrypt.proofs.McfTextFacts.{made_text}
+use Rattle.scrypt.proofs.PhcHashFacts.{made_accepts, made_is_text}
 use Rattle.scrypt.proofs.laws.made_hashes_are_accepted.Goals as goal
 
 pub returns-clause-phc : goal.returns-clause-phc
@@ -15,3 +17,9 @@ pub returns-clause-phc_read_back : goal.returns-clause-phc_read_back
 returns-clause-phc_read_back c costs password salt hash again fits len salted made read =
     let printed = made_is_text costs password salt hash fits len salted made in
     subst (Accepts password) (one_reading (hash_text hash) hash again printed read) (made_accepts costs password salt hash fits made)
+
+pub returns-clause-seven_written : goal.returns-clause-seven_written
+returns-clause-seven_written c = made_text
+
+pub returns-clause-seven : goal.returns-clause-seven
+returns-clause-seven c = made_accepted

@@ -1,17 +1,17 @@
-use Rattle.scrypt_tool.proofs.FaultFacts.{accepted_verdict, denied_verdict, said_no, said_ok, verify_tellable, wrong_verdict}
+use Rattle.scrypt.specs.PhcHash.{Verdict}
+use Rattle.std.proofs.lemmas.Result.{on_ok_weaker}
+use Rattle.scrypt_tool.proofs.FaultFacts.{accepted_phc, denied_phc, is_denied, is_tellable, is_verdict, phc_tellable, wrong_phc}
 use Rattle.scrypt_tool.proofs.answer.verify_phc.Goals as goal
 
-pub returns-in_default-clause-ok : goal.returns-in_default-clause-ok
-returns-in_default-clause-ok c =
-    said_ok c.said.result (accepted_verdict c.in_default.ensures.ok) c.said.ensures.status c.said.ensures.line
+pub verdict-requires : goal.verdict-requires
+verdict-requires c = is_tellable c.verify_password.result c.verify_password.ensures.err phc_tellable
 
-pub of-requires : goal.of-requires
-of-requires c = verify_tellable c.in-Err.ensures.err
+pub returns-clause-ok : goal.returns-clause-ok
+returns-clause-ok c =
+    is_verdict (Verdict c.args.password.now c.args.hash.now) c.verify_password.result c.verdict.result
+    (on_ok_weaker c.verify_password.result accepted_phc c.verify_password.ensures.ok)
+    c.verify_password.ensures.err wrong_phc c.verdict.ensures.ok
 
-pub returns-in-Some-clause-err : goal.returns-in-Some-clause-err
-returns-in-Some-clause-err c = denied_verdict c.in-Some.fault c.in-Some.ensures c.in-Err.ensures.err
-
-pub returns-in-None-clause-ok : goal.returns-in-None-clause-ok
-returns-in-None-clause-ok c =
-    said_no c.said-in-None.result (wrong_verdict c.in-Err.ensures.err c.in-None.ensures)
-    c.said-in-None.ensures.status c.said-in-None.ensures.line
+pub returns-clause-err : goal.returns-clause-err
+returns-clause-err c =
+    is_denied (Verdict c.args.password.now c.args.hash.now) c.verify_password.result c.verdict.result c.verify_password.ensures.err denied_phc c.verdict.ensures.err

@@ -1,4 +1,4 @@
-use Rattle.std.proofs.Common.{inl, inr}
+use Rattle.std.proofs.Common.{inr}
 use Rattle.std.proofs.lemmas.Result.{err_from_is_err_and}
 use Rattle.scrypt_tool.proofs.AskedFacts.{salt_found, salt_refused}
 use Rattle.scrypt_tool.specs.Asked.{no_params}

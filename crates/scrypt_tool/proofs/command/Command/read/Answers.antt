@@ -1,5 +1,5 @@
 use Rattle.std.proofs.Common.{◌∙◌, ap, inr, map, string_bytes, sym}
-use Rattle.scrypt_tool.proofs.AskedFacts.{asks_as, not_memory, refuses_as, unread}
+use Rattle.scrypt_tool.proofs.AskedFacts.{asks_as, refuses_as, unread}
 use Rattle.scrypt_tool.proofs.WordsFacts.{after_hash, after_key, after_verify, no_name, no_words}
 use Rattle.scrypt_tool.proofs.command.Command.read.Goals as goal
 
@@ -40,7 +40,7 @@ pub returns-in-verify-clause-err : goal.returns-in-verify-clause-err
 returns-in-verify-clause-err c =
     refuses_as _ _ c.read_verify.result
     (after_verify _ _ _ (ap (map string_bytes) c.in-Some.ensures.cases.0) (sym c.as_str.ensures.value ∙ c.in-verify.is))
-    (not_memory _ c.read_verify.result c.read_verify.ensures.err)
+    c.read_verify.ensures.err
 
 pub returns-in_default-as_str-clause-err : goal.returns-in_default-as_str-clause-err
 returns-in_default-as_str-clause-err c =

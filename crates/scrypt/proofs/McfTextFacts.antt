@@ -1,0 +1,160 @@
+-- The text that hashing writes is that of the hash.
+use Rattle.std.proofs.Common.{◌≡◌, ◌≢◌, ◌∙◌, ℕ, zero, suc, ◌+◌, ◌-◌, ◌^◌, ◌%◌, ◌<◌, ◌≤◌, List, [], ◌∷◌, ◌++◌, length, take, drop, set, Some, Ok, refl, sym, ap, subst, arith, lit<, append_assoc, length-append, length-drop}
+use Rattle.std.specs.Prelude.{All, IsTrue, codes, unwrap_or}
+use Rattle.std.specs.Str.{IsAscii}
+use Rattle.std.proofs.lemmas.List.{append-nil, drop_all, drop_at, take_at, drop-drop}
+use Rattle.std.proofs.lemmas.List.Elements.{All-nil, All-cons, All-append, All-from_get_or, All-head, All-tail, All-weaker}
+use borrow.Rule.Slice.PartMut.{put_mid}
+use Rattle.password_hash.specs.Crypt64.{letter, letters_of, crypt64_of}
+use Rattle.password_hash.specs.Mcf.{dollar, is_id_byte, IsField}
+use Rattle.password_hash.proofs.LetterFacts.{letter-ascii, letter_value-letter}
+use Rattle.password_hash.proofs.Crypt64Facts.{IsPlain, crypt64_of-plain, length-letters_of, letters_of-plain}
+use Rattle.password_hash.proofs.ModularFacts.{IsField-crypt64_of}
+use Rattle.scrypt.specs.Accepted.{AreAccepted, IsOutputLen, Parameters}
+use Rattle.scrypt.specs.Derives.{key_by}
+use Rattle.scrypt.proofs.KeyFacts.{key_by-are_bytes, length-key_by}
+use Rattle.scrypt.specs.PhcAnswers.{bare}
+use Rattle.scrypt.specs.McfCosts.{five_letter_number, costs_letters, costs_text, SaysCosts, ReadsField, accepted}
+use Rattle.scrypt.specs.McfHash.{IsHashText, IsMadeHash, made_len}
+use Rattle.scrypt.proofs.AcceptedFacts.{small_costs, small_log_n}
+use Rattle.scrypt.proofs.McfCostsFacts.{five_letter_number-letters_of, to_the_end}
+
+-- what is left by a write from one place to the end
+pub put_to_the_end : (place : ℕ) (text new : List ℕ) → place ≤ length text → put_mid place (length text - place) text new ≡ take place text ++ new
+put_to_the_end place text new inside =
+    ap (λ rest. take place text ++ (new ++ rest)) (drop_all (length text - place) (drop place text) (omega (arith, length-drop place text)))
+    ∙ ap (λ behind. take place text ++ behind) (append-nil new)
+
+-- letters that fill their room
+filled : (letters room : List ℕ) → length room ≤ length letters → letters ++ drop (length letters) room ≡ letters
+filled letters room full = ap (λ rest. letters ++ rest) (drop_all (length letters) room full) ∙ append-nil letters
+
+-- a dollar, and behind it letters that fill the room
+pub put_behind_dollar : (out letters new : List ℕ) → length out ≡ 1 + length letters
+    → new ≡ letters ++ drop (length letters) (take (length (set out 0 dollar) - 1) (drop 1 (set out 0 dollar)))
+    → put_mid 1 (length (set out 0 dollar) - 1) (set out 0 dollar) new ≡ dollar ∷ letters
+put_behind_dollar [] letters new count written = absurd (omega arith)
+put_behind_dollar (first ∷ out) letters new count written =
+    put_to_the_end 1 (dollar ∷ out) new (omega arith)
+    ∙ ap (λ rest. dollar ∷ rest) (written ∙ ap (λ room. letters ++ drop (length letters) room) (to_the_end (dollar ∷ out) (dollar ∷ out) 1 refl)
+    ∙ filled letters out (omega arith))
+
+-- letters written behind the front of a text
+pub put_behind_front : (front text letters new : List ℕ) → length front ≡ 14 → 14 ≤ length text
+    → new ≡ letters ++ drop (length letters) (take (length (front ++ drop 14 text) - 14) (drop 14 (front ++ drop 14 text)))
+    → put_mid 14 (length (front ++ drop 14 text) - 14) (front ++ drop 14 text) new ≡ front ++ (letters ++ drop (14 + length letters) text)
+put_behind_front front text letters new count inside written =
+    let whole : 14 ≤ length (front ++ drop 14 text) = omega (arith, length-append front (drop 14 text), count) in
+    put_to_the_end 14 (front ++ drop 14 text) new whole
+    ∙ ap (λ z. z ++ new) (take_at front (drop 14 text) 14 count)
+    ∙ ap (λ z. front ++ z) (written ∙ ap (λ z. letters ++ drop (length letters) z)
+    (to_the_end (front ++ drop 14 text) (front ++ drop 14 text) 14 refl ∙ drop_at front (drop 14 text) 14 count)
+    ∙ ap (λ z. letters ++ z) (drop-drop (length letters) 14 text))
+
+-- a place of a list of ASCII bytes, or behind it
+ascii_by_index : (text : List ℕ) → All (λ byte. byte < 128) text → IsAscii text
+ascii_by_index [] each i = lit< tt
+ascii_by_index (byte ∷ text) each zero = All-head (λ b. b < 128) byte text each
+ascii_by_index (byte ∷ text) each (suc i) = ascii_by_index text (All-tail (λ b. b < 128) byte text each) i
+
+-- the letters of the numbers
+
+plain_letters : (log_n r p : ℕ) → log_n < 64 → All IsPlain (costs_letters log_n r p)
+plain_letters log_n r p small =
+    All-cons IsPlain (letter log_n) (letters_of 5 r ++ letters_of 5 p) (letter-ascii log_n small)
+    (All-append IsPlain (letters_of 5 r) (letters_of 5 p) (letters_of-plain 5 r) (letters_of-plain 5 p))
+
+count_letters : (log_n r p : ℕ) → length (costs_letters log_n r p) ≡ 11
+count_letters log_n r p = omega (arith, length-append (letters_of 5 r) (letters_of 5 p), length-letters_of 5 r, length-letters_of 5 p)
+
+pub count_text : (c : Parameters) → length (costs_text c) ≡ 14
+count_text c = omega (arith, count_letters c.log_n c.r c.p)
+
+-- they say the numbers
+letters_say : (log_n r p : ℕ) (salt : List ℕ) → log_n < 64 → r < 2 ^ 30 → p < 2 ^ 30
+    → SaysCosts (costs_letters log_n r p ++ salt) log_n r p
+letters_say log_n r p salt small small_r small_p =
+    let r_letters = letters_of 5 r in
+    let p_letters = letters_of 5 p in
+    let from_r : (r_letters ++ p_letters) ++ salt ≡ r_letters ++ (p_letters ++ salt) = append_assoc r_letters p_letters salt in
+    let from_p : drop 5 ((r_letters ++ p_letters) ++ salt) ≡ p_letters ++ salt =
+    ap (drop 5) from_r ∙ drop_at r_letters (p_letters ++ salt) 5 (length-letters_of 5 r) in
+    let r_is : r % 2 ^ 30 ≡ r = omega arith in
+    let p_is : p % 2 ^ 30 ≡ p = omega arith in
+    record {
+      first_byte = (letter-ascii log_n small).0;
+      log_n_is = ap (λ value. unwrap_or value 255) (letter_value-letter log_n small);
+      r_is = ap five_letter_number from_r ∙ five_letter_number-letters_of r (p_letters ++ salt) ∙ ap Some r_is;
+      p_is = ap five_letter_number from_p ∙ five_letter_number-letters_of p salt ∙ ap Some p_is;
+    }
+
+-- so the field is read as the costs and the salt
+pub field_read : (c : Parameters) (salt : List ℕ) → AreAccepted c.log_n c.r c.p → ReadsField (costs_letters c.log_n c.r c.p ++ salt) (Ok (bare c, salt))
+field_read c salt good =
+    let small = small_costs c.log_n c.r c.p good in
+    let says = letters_say c.log_n c.r c.p salt (omega (arith, small.0)) small.1 small.2 in
+    let rest : drop 11 (costs_letters c.log_n c.r c.p ++ salt) ≡ salt = drop_at (costs_letters c.log_n c.r c.p) salt 11 (count_letters c.log_n c.r c.p) in
+    subst (λ s. ReadsField (costs_letters c.log_n c.r c.p ++ salt) (Ok (bare c, s))) rest (accepted says good)
+
+-- the text of some costs, a salt without a dollar, and a key
+pub text_is : (c : Parameters) (salt key : List ℕ) → AreAccepted c.log_n c.r c.p → IsField salt → All (λ byte. byte < 256) key → IsOutputLen (length key)
+    → IsHashText (costs_text c ++ (salt ++ dollar ∷ crypt64_of key)) (bare c) salt key
+text_is c salt key good no_dollar are_bytes allowed =
+    let letters = costs_letters c.log_n c.r c.p in
+    let field = letters ++ salt in
+    let small : c.log_n ≤ 56 = small_log_n c.log_n c.r good.0 good.2 in
+    let field_is : IsField field =
+    All-append (λ byte. byte ≢ dollar) letters salt
+    (All-weaker IsPlain (λ byte. byte ≢ dollar) (λ byte plain. plain.1) letters (plain_letters c.log_n c.r c.p (omega arith))) no_dollar in
+    record {
+      letters = crypt64_of key;
+      has_costs = record {
+        field = field;
+        parts = record {
+          is_id = (lit< tt, All-cons (λ byte. IsTrue (is_id_byte byte)) 55 [] refl (All-nil (λ byte. IsTrue (is_id_byte byte))));
+          are_fields = All-cons IsField field (crypt64_of key ∷ []) field_is (All-cons IsField (crypt64_of key) [] (IsField-crypt64_of key) (All-nil IsField));
+          written = ap (λ rest. codes "$7$" ++ rest)
+              (sym (append_assoc letters salt (dollar ∷ crypt64_of key)) ∙ ap (λ z. field ++ (dollar ∷ z)) (sym (append-nil (crypt64_of key))));
+        };
+        costs = field_read c salt good;
+      };
+      key_is = record { are_bytes = are_bytes; encoding = refl };
+      key_len = allowed;
+    }
+
+-- the text that hashing makes
+pub made_text : (c : Parameters) (password salt : List ℕ) → AreAccepted c.log_n c.r c.p
+    → IsMadeHash c password salt (costs_text c ++ (crypt64_of salt
+    ++ dollar ∷ crypt64_of (key_by c password (crypt64_of salt) (made_len c))))
+made_text c password salt good =
+    let letters = crypt64_of salt in
+    let key = key_by c password letters (made_len c) in
+    let long = length-key_by c password letters (made_len c) in
+    text_is c letters key good (IsField-crypt64_of salt)
+    (All-from_get_or (λ byte. byte < 256) key 0 (λ i below. key_by-are_bytes c password letters (made_len c) i))
+    (omega (arith, long), omega (arith, long))
+
+-- every byte of it is ASCII
+pub text_ascii : (c : Parameters) (salt key : List ℕ) → AreAccepted c.log_n c.r c.p
+    → IsAscii (costs_text c ++ (crypt64_of salt ++ dollar ∷ crypt64_of key))
+text_ascii c salt key good =
+    let small : c.log_n ≤ 56 = small_log_n c.log_n c.r good.0 good.2 in
+    let plain = λ (letters : List ℕ) (each : All IsPlain letters). All-weaker IsPlain (λ byte. byte < 128) (λ byte is. is.0) letters each in
+    let letters = costs_letters c.log_n c.r c.p in
+    let key_part = All-cons (λ byte. byte < 128) dollar (crypt64_of key) (lit< tt) (plain (crypt64_of key) (crypt64_of-plain key)) in
+    let behind = All-append (λ byte. byte < 128) (crypt64_of salt) (dollar ∷ crypt64_of key) (plain (crypt64_of salt) (crypt64_of-plain salt)) key_part in
+    let rest = letters ++ (crypt64_of salt ++ dollar ∷ crypt64_of key) in
+    let whole = All-append (λ byte. byte < 128) letters (crypt64_of salt ++ dollar ∷ crypt64_of key) (plain letters (plain_letters c.log_n c.r c.p (omega arith))) behind in
+    ascii_by_index (36 ∷ 55 ∷ 36 ∷ rest)
+    (All-cons (λ byte. byte < 128) 36 (55 ∷ 36 ∷ rest) (lit< tt)
+    (All-cons (λ byte. byte < 128) 55 (36 ∷ rest) (lit< tt) (All-cons (λ byte. byte < 128) 36 rest (lit< tt) whole)))
+
+-- a text in three parts, cut where the third begins
+
+pub between_cuts : (front salt rest : List ℕ) (at : ℕ) → length front ≡ 14 → at ≡ 14 + length salt → take (at - 14) (drop 14 (front ++ (salt ++ rest))) ≡ salt
+between_cuts front salt rest at count is =
+    ap (take (at - 14)) (drop_at front (salt ++ rest) 14 count) ∙ take_at salt rest (at - 14) (omega arith)
+
+pub before_cut : (front salt rest : List ℕ) (at : ℕ) → length front ≡ 14 → at ≡ 14 + length salt → take at (front ++ (salt ++ rest)) ≡ front ++ salt
+before_cut front salt rest at count is =
+    ap (take at) (sym (append_assoc front salt rest)) ∙ take_at (front ++ salt) rest at (omega (arith, length-append front salt))

@@ -1,0 +1,182 @@
+// Making `$7$` hashes.
+
+ghost use Rattle.std.specs.Prelude.{◌≡◌, ◌↔◌, ◌+◌, ◌<◌, ◌≤◌, ◌∷◌, ◌++◌, None, All, length, drop, IsTrue, IfOk, IfErr, OnOk};
+ghost use Rattle.std.specs.Option.{option_map};
+ghost use Rattle.std.specs.Str.{IsAscii};
+ghost use Rattle.password_hash.specs.Crypt64.{crypt64_of, encoded_len};
+ghost use Rattle.password_hash.specs.Mcf.{IsModular, dollar};
+ghost use Rattle.password_hash.specs.declared.error.Error.TheVariants.{OutOfMemory};
+ghost use Rattle.scrypt.specs.Accepted.{AreAccepted, IsStoredLen};
+ghost use Rattle.scrypt.specs.McfCosts.{costs_text};
+ghost use Rattle.scrypt.specs.McfHash.{HashIsRefused, IsMadeHash, IsSevenOrNone, made_len};
+
+use crate::mcf::five_letters::five_letters;
+use crate::mcf::reading::is_seven;
+use crate::phc::key::key_of;
+use crate::{Params, Scrypt};
+use password_hash::mcf::alphabet::letter;
+use password_hash::mcf::{Base64, PasswordHash};
+use password_hash::{CustomizedPasswordHasher, Error, PasswordHasher, Result, Version};
+use std::alloc::Global;
+
+// How many bytes stand before the salt: `$7$` and the eleven letters of the costs.
+const COSTS_LEN: usize = 14;
+
+impl PasswordHasher<PasswordHash> for Scrypt {
+    ghost hashes = { λ scrypt password salt hash. IsMadeHash scrypt password salt hash };
+
+    ghost refuses = { λ scrypt password salt why. HashIsRefused None None why };
+
+    /// Hashes the password with this value's own parameters.
+    fn hash_password_with_salt(
+        &self,
+        alloc: Global,
+        password: &[u8],
+        salt: &[u8],
+    ) -> Result<PasswordHash> {
+        self.hash_password_with_params(alloc, password, salt, self.params())
+    }
+}
+
+impl CustomizedPasswordHasher<PasswordHash> for Scrypt {
+    type Params = Params;
+
+    ghost customizes = { λ _ password salt id version params hash. IsMadeHash params password salt hash };
+
+    ghost refuses = { λ _ password salt id version params why. HashIsRefused id version why };
+
+    /// Hashes the password with these parameters; the key has 32 bytes, whatever their length. The
+    /// derivation's salt is the crypt Base64 of the salt, as it stands in the text.
+    ///
+    /// Refuses in this order: `Algorithm` where one is named that is not `7`, `Version` where one is
+    /// named, and `OutOfMemory`. Memory is asked for the whole text first, then for the three buffers of
+    /// the derivation, and all before the first core.
+    fn hash_password_customized(
+        &self,
+        alloc: Global,
+        password: &[u8],
+        salt: &[u8],
+        alg_id: Option<&str>,
+        version: Option<Version>,
+        params: Params,
+    ) -> Result<PasswordHash> {
+        if !is_seven_or_none(alg_id) {
+            return Err(Error::Algorithm);
+        }
+        if version.is_some() {
+            return Err(Error::Version);
+        }
+        hash_of(alloc, password, salt, &params)
+    }
+}
+
+// Whether no algorithm but `7` is named.
+fn is_seven_or_none(alg_id: Option<&str>) -> bool
+    ensures { IsTrue result ↔ IsSevenOrNone (option_map (λ s. s.now) alg_id.entry) }
+{
+    match alg_id {
+        Some(id) => is_seven(id),
+        None => true,
+    }
+}
+
+// The hash of a password and a salt.
+fn hash_of(alloc: Global, password: &[u8], salt: &[u8], params: &Params) -> Result<PasswordHash>
+    ensures value { IfOk result (IsMadeHash params.now password.now salt.now) }
+    ensures memory { IfErr result (λ e. e ≡ OutOfMemory) }
+{
+    let key_at = COSTS_LEN + Base64::Crypt.encoded_len(salt.len());
+    // The room of the whole text is taken before the buffers of the derivation.
+    let len = key_at + 1 + Base64::Crypt.encoded_len(made_len(params));
+    let mut text = vec![in alloc; 0u8; len]?;
+    match write_text(alloc, password, salt, params, key_at, &mut text) {
+        Ok(()) => Ok(hash_of_text(text)),
+        Err(refused) => Err(refused),
+    }
+}
+
+// Writes the text of the hash, in which `$` and the key stand from `key_at` on. Behind the derivation
+// nothing can fail.
+fn write_text(
+    alloc: Global,
+    password: &[u8],
+    salt: &[u8],
+    params: &Params,
+    key_at: usize,
+    text: &mut [u8],
+) -> Result<()>
+    requires key_at { key_at ≡ 14 + length (crypt64_of salt.now) }
+    requires room { length text.old ≡ key_at + 1 + encoded_len (made_len params.now) }
+    ensures made { OnOk result (IsMadeHash params.now password.now salt.now text.new) }
+    ensures ascii { OnOk result (IsAscii text.new) }
+    ensures memory { IfErr result (λ e. e ≡ OutOfMemory) }
+{
+    write_costs_and_salt(text, params, salt);
+    let len = made_len(params);
+    let key = match key_of(alloc, password, &text[COSTS_LEN..key_at], params, len) {
+        Ok(key) => key,
+        Err(refused) => return Err(refused),
+    };
+    write_key(&mut text[key_at..], key.as_bytes());
+    Ok(())
+}
+
+// Writes `$7$`, the letters of the costs and those of the salt.
+fn write_costs_and_salt(out: &mut [u8], params: &Params, salt: &[u8])
+    requires { 14 + length (crypt64_of salt.now) ≤ length out.old }
+    ensures written { out.new ≡ costs_text params.now
+        ++ (crypt64_of salt.now ++ drop (14 + length (crypt64_of salt.now)) out.old) }
+    ensures accepted { AreAccepted params.now.log_n params.now.r params.now.p }
+{
+    out[..COSTS_LEN].copy_from_slice(&costs_of(params));
+    let Ok(_) = Base64::Crypt.encode_slice(salt, &mut out[COSTS_LEN..]) else {
+        unreachable!();
+    };
+}
+
+// `$7$` and the eleven letters of the costs.
+fn costs_of(params: &Params) -> [u8; COSTS_LEN]
+    ensures value { result ≡ costs_text params.now }
+    ensures accepted { AreAccepted params.now.log_n params.now.r params.now.p }
+{
+    let mut letters = *b"$7$...........";
+    letters[3] = letter(u32::from(params.log_n()));
+    letters[4..9].copy_from_slice(&five_letters(params.r()));
+    letters[9..].copy_from_slice(&five_letters(params.p()));
+    letters
+}
+
+// Writes `$` and the letters of the key, which fill the room.
+fn write_key(out: &mut [u8], key: &[u8])
+    requires { length out.old ≡ 1 + length (crypt64_of key.now) }
+    ensures written { out.new ≡ dollar ∷ crypt64_of key.now }
+    ensures bytes { All (λ byte. byte < 256) key.now }
+{
+    out[0] = b'$';
+    let Ok(_) = Base64::Crypt.encode_slice(key, &mut out[1..]) else {
+        unreachable!();
+    };
+}
+
+// The hash of which this is the text.
+fn hash_of_text(text: Vec<u8>) -> PasswordHash
+    requires ascii { IsAscii text.items }
+    requires modular { IsModular text.items }
+    ensures { result ≡ text.items }
+{
+    let Ok(text) = String::from_utf8(text) else {
+        unreachable!();
+    };
+    let Ok(hash) = PasswordHash::from_string(text) else {
+        unreachable!();
+    };
+    hash
+}
+
+// The length of the key that hashing with these parameters makes.
+fn made_len(_params: &Params) -> usize
+    ensures value { result ≡ made_len _params.now }
+    ensures stored { IsStoredLen result }
+{
+    Params::RECOMMENDED_LEN
+}

@@ -1,0 +1,74 @@
+// What a `$7$` text says.
+
+ghost use Rattle.std.specs.Prelude.{◌≡◌, ◌↔◌, ℕ, List, length, IfOk, IfErr, IsTrue};
+ghost use Rattle.password_hash.specs.Crypt64.{Crypt64};
+ghost use Rattle.password_hash.specs.McfViews.{field_text, hash_text};
+ghost use Rattle.password_hash.specs.Refusal.{refusal};
+ghost use Rattle.scrypt.specs.Accepted.{IsOutputLen};
+ghost use Rattle.scrypt.specs.McfHash.{IsHashText, TextIsRefused, seven};
+
+use crate::mcf::costs::decode_params_and_salt;
+use crate::{Params, output_len_ok};
+use password_hash::mcf::{Field, PasswordHashRef};
+use password_hash::{Error, Result};
+
+/// The costs, the salt and the key of a hash. Nothing is copied: the salt is a part of the text, and
+/// the key stands as its letters.
+#[derive(Clone, Copy)]
+pub(super) struct Stored<'a> {
+    pub(super) params: Params,
+    pub(super) salt: &'a [u8],
+    pub(super) key: Field<'a>,
+    /// The length of the key in bytes.
+    pub(super) key_len: usize,
+}
+
+/// Reads a text.
+///
+/// Refuses in this order: `Algorithm` where the id is not `7`, `EncodingInvalid` where there is no
+/// field, what reading the first field refuses, `EncodingInvalid` where there is no second field, it
+/// is not crypt Base64 or there is a third field, and `OutputSize` where the key has a length that
+/// can't be derived.
+pub(super) fn read<'a>(hash: &PasswordHashRef<'a>) -> Result<Stored<'a>>
+    ensures ok { IfOk result (λ stored. (key : List ℕ) × Crypt64 key (field_text stored.key) × (length key ≡ stored.key_len)
+        × IsHashText (hash_text hash.now) stored.params stored.salt.now key) }
+    ensures len { IfOk result (λ stored. IsOutputLen stored.key_len) }
+    ensures err { IfErr result (λ e. TextIsRefused (hash_text hash.now) (refusal e)) }
+{
+    if !is_seven(hash.id()) {
+        return Err(Error::Algorithm);
+    }
+    let mut fields = hash.fields();
+    let Some(first) = fields.next() else {
+        return Err(Error::EncodingInvalid);
+    };
+    let (params, salt) = match decode_params_and_salt(first.as_str()) {
+        Ok(read) => read,
+        Err(refused) => return Err(refused),
+    };
+    let Some(key) = fields.next() else {
+        return Err(Error::EncodingInvalid);
+    };
+    let Some(key_len) = key.base64_len() else {
+        return Err(Error::EncodingInvalid);
+    };
+    if fields.next().is_some() {
+        return Err(Error::EncodingInvalid);
+    }
+    if !output_len_ok(key_len) {
+        return Err(Error::OutputSize);
+    }
+    Ok(Stored {
+        params,
+        salt,
+        key,
+        key_len,
+    })
+}
+
+/// Whether this is the id of `$7$` texts.
+pub(super) fn is_seven(id: &str) -> bool
+    ensures { IsTrue result ↔ (id.now ≡ seven) }
+{
+    id == "7"
+}
