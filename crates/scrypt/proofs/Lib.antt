@@ -14,6 +14,8 @@ pub mod StandardFacts
 pub mod PhcCostsFacts
 pub mod ReadingFacts
 pub mod PhcHashFacts
+pub mod PhcVerdictFacts
 pub mod McfCostsFacts
 pub mod McfHashFacts
+pub mod McfVerdictFacts
 pub mod McfTextFacts

@@ -15,7 +15,7 @@ use Rattle.scrypt.specs.McfCosts.{SaysCosts, costs_letters, ReadsField, malforme
 use Rattle.scrypt.specs.McfHash.{HasCosts, IsHashText, TextIsRefused, other_id, no_field, bad_costs, no_key, bad_key, third_field, bad_key_len, Accepts, seven, IsMadeHash, made_len}
 
 -- a text has one id and one list of fields
-fields_once : {text id other : List ℕ} {fields others : List (List ℕ)} → Modular text id fields → Modular text other others → (id ≡ other) × (fields ≡ others)
+pub fields_once : {text id other : List ℕ} {fields others : List (List ℕ)} → Modular text id fields → Modular text other others → (id ≡ other) × (fields ≡ others)
 fields_once {text} {id} {other} {fields} {others} first second =
     let a = Modular-one text id fields first in
     let b = Modular-one text other others second in

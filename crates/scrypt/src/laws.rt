@@ -1,6 +1,6 @@
 //! Laws of the definitions. Each function does nothing when it runs: its contract is the law.
 
-ghost use Rattle.std.specs.Prelude.{◌≡◌, ◌↔◌, ℕ, ◌*◌, ◌%◌, ◌^◌, ◌<◌, ◌≤◌, List, [], ◌∷◌, ◌++◌, length, take, Result, Ok, IfSome, IsSome, Some, All};
+ghost use Rattle.std.specs.Prelude.{◌≡◌, ◌↔◌, ℕ, ◌*◌, ◌%◌, ◌^◌, ◌<◌, ◌≤◌, List, [], ◌∷◌, ◌++◌, length, take, Option, Result, Ok, IfSome, IsSome, Some, All};
 ghost use Rattle.sha2.specs.Sha256.{sha256};
 ghost use Rattle.password_hash.specs.Crypt64.{Crypt64, crypt64_of, letter_value, letters_of};
 ghost use Rattle.password_hash.specs.Mcf.{Modular, dollar};
@@ -14,10 +14,10 @@ ghost use Rattle.scrypt.specs.Derives.{key_by};
 ghost use Rattle.scrypt.specs.Diagonal.{AreInverse, IsBlockMixBy, diagonal_core, diagonal_order, inverse_pivot, pivot, standard_order};
 ghost use Rattle.scrypt.specs.Key.{derived_key, mixed_chunks};
 ghost use Rattle.scrypt.specs.McfCosts.{costs_letters, costs_text, five_letter_number};
-ghost use Rattle.scrypt.specs.McfHash.{Accepts as SevenAccepts, IsHashText as IsSevenText, IsMadeHash as IsMadeSeven, made_len};
+ghost use Rattle.scrypt.specs.McfHash.{Accepts as SevenAccepts, IsHashText as IsSevenText, IsMadeHash as IsMadeSeven, Verdict as SevenVerdict, made_len};
 ghost use Rattle.scrypt.specs.PhcAnswers.{bare};
 ghost use Rattle.scrypt.specs.PhcCosts.{ReadsCosts, written_pairs};
-ghost use Rattle.scrypt.specs.PhcHash.{Accepts, IsMadeHash};
+ghost use Rattle.scrypt.specs.PhcHash.{Accepts, IsMadeHash, Verdict};
 
 /// A shorter key is the beginning of a longer one, of any two lengths. Key files rely on it, which ask
 /// for more bytes later and find the first ones as they were.
@@ -91,6 +91,15 @@ pub fn made_hashes_are_accepted()
     ensures seven_written { (c : Parameters) (password salt : List ℕ) → AreAccepted c.log_n c.r c.p
         → IsMadeSeven c password salt (costs_text c ++ (crypt64_of salt
         ++ dollar ∷ crypt64_of (key_by c password (crypt64_of salt) (made_len c)))) }
+{}
+
+/// Verifying a hash comes to one verdict, whether the hash is a PHC hash or a `$7$` text: login services
+/// rely on it, which answer the same to the same password.
+pub fn verdicts_are_one()
+    ensures phc { (password : List ℕ) (hash : PasswordHash) (one other : Option Refusal) → Verdict password hash one
+        → Verdict password hash other → one ≡ other }
+    ensures seven { (password text : List ℕ) (one other : Option Refusal) → SevenVerdict password text one
+        → SevenVerdict password text other → one ≡ other }
 {}
 
 /// Numbers below 2^30 and their five letters undo each other, every five letters say a number, and

@@ -4,3 +4,4 @@ pub mod AskedFacts
 pub mod FaultFacts
 pub mod McfFaultFacts
 pub mod ToldFacts
+pub mod OneToldFacts

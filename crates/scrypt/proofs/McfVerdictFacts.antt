@@ -1,0 +1,85 @@
+-- Verifying a `$7$` text has one verdict.
+use Rattle.std.proofs.Common.{◌≡◌, ◌⊎◌, List, ℕ, [], ◌∷◌, length, Some, Ok, Err, inl, inr, refl, sym, ap, subst, ◌∙◌}
+use Rattle.std.specs.Prelude.{Option}
+use Rattle.password_hash.specs.Crypt64.{Crypt64, IsCrypt64}
+use Rattle.password_hash.specs.Mcf.{Modular}
+use Rattle.password_hash.specs.Refusal.{Refusal, BadAlgorithm, BadEncoding, BadOutputSize}
+use Rattle.scrypt.specs.Accepted.{IsOutputLen, Parameters}
+use Rattle.scrypt.specs.McfCosts.{ReadsField}
+use Rattle.scrypt.specs.McfHash.{seven, TextIsRefused, other_id, no_field, bad_costs, no_key, bad_key, third_field, bad_key_len, Verdict, refused, wrong, right}
+use Rattle.scrypt.proofs.McfHashFacts.{accepted_key, field_once, fields_once, not_both}
+
+-- What the second field and those behind it are refused by, and what all are: the first field decides first.
+
+abbrev KeyIsRefused : List (List ℕ) → Refusal → Type 0
+KeyIsRefused [] why = why ≡ BadEncoding
+KeyIsRefused (letters ∷ []) why =
+    ((¬ IsCrypt64 letters) × (why ≡ BadEncoding))
+    ⊎ ((key : List ℕ) × Crypt64 key letters × (¬ IsOutputLen (length key)) × (why ≡ BadOutputSize))
+KeyIsRefused (letters ∷ third ∷ behind) why = why ≡ BadEncoding
+
+abbrev FieldsAreRefused : List (List ℕ) → Refusal → Type 0
+FieldsAreRefused [] why = why ≡ BadEncoding
+FieldsAreRefused (field ∷ behind) why =
+    ReadsField field (Err why) ⊎ ((out : Parameters × List ℕ) × ReadsField field (Ok out) × KeyIsRefused behind why)
+
+-- the reason that a text with the id `7` is refused for
+fields_refused : {text : List ℕ} {why : Refusal} → TextIsRefused text why
+    → ((why ≡ BadAlgorithm) × ((fields : List (List ℕ)) → ¬ Modular text seven fields))
+    ⊎ ((fields : List (List ℕ)) × Modular text seven fields × FieldsAreRefused fields why)
+fields_refused (other_id parts other) = inl (refl, λ fields parts'. other (fields_once parts parts').0)
+fields_refused (no_field parts) = inr ([], parts, refl)
+fields_refused (bad_costs {field} {behind} parts why) = inr (field ∷ behind, parts, inl why)
+fields_refused (no_key costs) = inr (costs.field ∷ [], costs.parts, inr (_, costs.costs, refl))
+fields_refused (bad_key {letters = letters} {behind = []} costs none) =
+    inr (costs.field ∷ letters ∷ [], costs.parts, inr (_, costs.costs, inl (none, refl)))
+fields_refused (bad_key {letters = letters} {behind = third ∷ behind} costs none) =
+    inr (costs.field ∷ letters ∷ third ∷ behind, costs.parts, inr (_, costs.costs, refl))
+fields_refused (third_field {letters = letters} {third = third} {behind = behind} costs good) =
+    inr (costs.field ∷ letters ∷ third ∷ behind, costs.parts, inr (_, costs.costs, refl))
+fields_refused (bad_key_len {letters = letters} {key = key} costs is none) =
+    inr (costs.field ∷ letters ∷ [], costs.parts, inr (_, costs.costs, inr (key, is, none, refl)))
+
+key_refused_once : (behind : List (List ℕ)) {why why' : Refusal} → KeyIsRefused behind why → KeyIsRefused behind why' → why ≡ why'
+key_refused_once [] first second = first ∙ sym second
+key_refused_once (letters ∷ []) (inl first) (inl second) = first.1 ∙ sym second.1
+key_refused_once (letters ∷ []) (inl first) (inr second) = absurd (first.0 (second.0, second.1))
+key_refused_once (letters ∷ []) (inr first) (inl second) = absurd (second.0 (first.0, first.1))
+key_refused_once (letters ∷ []) (inr first) (inr second) = first.3 ∙ sym second.3
+key_refused_once (letters ∷ third ∷ behind) first second = first ∙ sym second
+
+fields_refused_once : (fields : List (List ℕ)) {why why' : Refusal} → FieldsAreRefused fields why → FieldsAreRefused fields why' → why ≡ why'
+fields_refused_once [] first second = first ∙ sym second
+fields_refused_once (field ∷ behind) (inl first) (inl second) = let same = field_once first second in cc
+fields_refused_once (field ∷ behind) (inl first) (inr second) = let same = field_once first second.1 in absurd (cc)
+fields_refused_once (field ∷ behind) (inr first) (inl second) = let same = field_once first.1 second in absurd (cc)
+fields_refused_once (field ∷ behind) (inr first) (inr second) = key_refused_once behind first.2 second.2
+
+-- a text is refused for one thing
+pub refused_once : {text : List ℕ} {why why' : Refusal} → TextIsRefused text why → TextIsRefused text why' → why ≡ why'
+refused_once {why = why} {why' = why'} first second = elim (fields_refused first) [
+  | inl other ↦ elim (fields_refused second) [
+    | inl other' ↦ other.0 ∙ sym other'.0
+    | inr found' ↦ absurd (other.1 found'.0 found'.1)
+  ]
+  | inr found ↦ elim (fields_refused second) [
+    | inl other' ↦ absurd (other'.1 found.0 found.1)
+    | inr found' ↦
+        let same = (fields_once found.1 found'.1).1 in
+        fields_refused_once found'.0 (subst (λ fields. FieldsAreRefused fields why) same found.2) found'.2
+  ]
+]
+
+-- and verifying comes to one
+pub verdict_once : {password text : List ℕ} {out out' : Option Refusal} → Verdict password text out → Verdict password text out' → out ≡ out'
+verdict_once (refused why) (refused why') = ap Some (refused_once why why')
+verdict_once (refused why) (wrong whole other) = absurd (not_both why whole)
+verdict_once (refused why) (right whole same) = absurd (not_both why whole)
+verdict_once (wrong whole other) (refused why) = absurd (not_both why whole)
+verdict_once (wrong whole other) (wrong whole' other') = refl
+verdict_once (wrong whole other) (right {c} {salt} {key} whole' same) =
+    absurd (other (accepted_key whole (record { costs = c; salt = salt; stored = key; whole = whole'; right = same })))
+verdict_once (right whole same) (refused why) = absurd (not_both why whole)
+verdict_once (right {c} {salt} {key} whole same) (wrong whole' other) =
+    absurd (other (accepted_key whole' (record { costs = c; salt = salt; stored = key; whole = whole; right = same })))
+verdict_once (right whole same) (right whole' same') = refl
