@@ -51,9 +51,41 @@ def some_bytes(rng, greatest):
     return bytes(rng.choice((0, 10, 255, rng.randrange(256))) for _ in range(rng.randrange(greatest)))
 
 
+def matches(got, wanted, about):
+    """Whether they agree. What differs is printed."""
+    if got != wanted:
+        print(f"differs: {about}: {got}, wanted {wanted}")
+    return got == wanted
+
+
+def tally(what, agree):
+    """Counts what agrees."""
+    print(f"{what}: {sum(agree)} of {len(agree)} agree")
+    return sum(agree), len(agree) - sum(agree), 0
+
+
+def skipped(what):
+    """Names what isn't installed."""
+    print(f"{what} isn't installed for {sys.executable}: skipped")
+    return 0, 0, 1
+
+
+def pinned(what, digest, count, test):
+    """Whether a test of the gate pins the digest of so many cases."""
+    with open(test, encoding="utf-8") as text:
+        return tally(what, [f'"{digest}"' in text.read()] * count)
+
+
+def verified(program, text, password):
+    """Whether `verify` says yes to the password of this text, and no to another."""
+    right = run(program, ["verify", text], password)
+    other = run(program, ["verify", text], password + b"x")
+    return right == (0, b"ok\n", b"") and other == (1, b"no\n", b"")
+
+
 def keys(program, rng):
     """The command `key` on random passwords, salts, costs and lengths."""
-    passed = failed = 0
+    agree = []
     for _ in range(CASES):
         password, salt = some_bytes(rng, 140), some_bytes(rng, 70)
         log_n, r, p = rng.randrange(11), rng.choice((1, 2, 3, 5, 7, 8)), rng.randrange(1, 6)
@@ -62,14 +94,8 @@ def keys(program, rng):
         length = rng.choice((1, 2, 31, 32, 33, 63, 64, 65, 100))
         words = ["key", str(log_n), str(r), str(p), str(length), salt.hex()]
         wanted = (0, expected_key(password, salt, log_n, r, p, length).hex().encode() + b"\n", b"")
-        got = run(program, words, password)
-        if got == wanted:
-            passed += 1
-        else:
-            failed += 1
-            print(f"differs: {words} on {password.hex()}: {got}, wanted {wanted}")
-    print(f"key: {passed} of {CASES} agree with hashlib.scrypt, or where it refuses with plain Python")
-    return passed, failed, 0
+        agree.append(matches(run(program, words, password), wanted, (words, password.hex())))
+    return tally("keys of hashlib.scrypt, or of plain Python where it refuses", agree)
 
 
 def phc_text(salt, key, log_n, r, p):
@@ -80,35 +106,23 @@ def phc_text(salt, key, log_n, r, p):
 
 def hashes(program, rng):
     """The commands `hash phc` and `verify` on random passwords, salts, costs and key lengths."""
-    passed = failed = 0
+    agree = []
     for _ in range(CASES):
         password, salt = some_bytes(rng, 140), some_bytes(rng, 64) + b"!"
         costs = rng.randrange(8), rng.choice((1, 2, 3, 8)), rng.randrange(1, 4)
         words = ["hash", "phc", *map(str, costs), salt.hex()]
         key = expected_key(password, salt, *costs, 64)
         short = phc_text(salt, key[: rng.randrange(10, 65)], *costs)
-        runs = [
-            (run(program, words, password), (0, phc_text(salt, key[:32], *costs).encode() + b"\n", b"")),
-            (run(program, ["verify", short], password), (0, b"ok\n", b"")),
-            (run(program, ["verify", short], password + b"x"), (1, b"no\n", b"")),
-        ]
-        for got, wanted in runs:
-            if got == wanted:
-                passed += 1
-            else:
-                failed += 1
-                print(f"differs: {words} on {password.hex()}: {got}, wanted {wanted}")
-    print(f"hash phc, verify: {passed} of {3 * CASES} agree with hashlib.scrypt and Python's Base64")
-    return passed, failed, 0
+        made = 0, phc_text(salt, key[:32], *costs).encode() + b"\n", b""
+        agree.append(matches(run(program, words, password), made, (words, password.hex())))
+        agree.append(verified(program, short, password))
+    return tally("hashes of hashlib.scrypt and Python's Base64", agree)
 
 
 def phc_mutations(_program, _rng):
     """The verdicts on texts one character away from PHC texts, which a test of the gate pins."""
-    digest, read, texts = phc.verdicts()
-    with open(MUTATIONS, encoding="utf-8") as test:
-        agree = f'"{digest}"' in test.read()
-    print(f"phc: {texts} texts, of which {read} are read, {'agree' if agree else 'DIFFER'}")
-    return (texts, 0, 0) if agree else (0, texts, 0)
+    digest, _read, texts = phc.verdicts()
+    return pinned("mutations of PHC texts", digest, texts, MUTATIONS)
 
 
 def phc_passlib(program, rng):
@@ -116,8 +130,7 @@ def phc_passlib(program, rng):
     try:
         from passlib.hash import scrypt
     except ImportError:
-        print(f"passlib isn't installed for {sys.executable}: skipped")
-        return 0, 0, 1
+        return skipped("passlib")
     text = phc.TEXTS[0]
     agree = [scrypt.verify("password", text) and not scrypt.verify("invalid", text)]
     for _ in range(20):
@@ -126,20 +139,15 @@ def phc_passlib(program, rng):
         theirs = scrypt.using(salt=salt, rounds=log_n, block_size=r, parallelism=p).hash(password)
         words = ["hash", "phc", str(log_n), str(r), str(p), salt.hex()]
         ours = run(program, words, password)[1].decode().strip()
-        agree.append(run(program, ["verify", theirs], password) == (0, b"ok\n", b""))
-        agree.append(run(program, ["verify", theirs], password + b"x") == (1, b"no\n", b""))
+        agree.append(verified(program, theirs, password))
         agree.append(scrypt.verify(password, ours) and not scrypt.verify(password + b"x", ours))
-    print(f"passlib: {sum(agree)} of {len(agree)} hashes agree")
-    return sum(agree), len(agree) - sum(agree), 0
+    return tally("hashes of passlib", agree)
 
 
 def crypt_letters(_program, _rng):
     """The letters of byte strings in crypt Base64, which a test of the gate pins."""
     digest, strings = crypt64.all_letters()
-    with open(LETTERS, encoding="utf-8") as test:
-        agree = f'"{digest}"' in test.read()
-    print(f"crypt Base64: the letters of {strings} byte strings {'agree' if agree else 'DIFFER'}")
-    return (strings, 0, 0) if agree else (0, strings, 0)
+    return pinned("letters of byte strings in crypt Base64", digest, strings, LETTERS)
 
 
 def crypt_letters_passlib(_program, _rng):
@@ -147,21 +155,17 @@ def crypt_letters_passlib(_program, _rng):
     try:
         from passlib.utils.binary import h64
     except ImportError:
-        print(f"passlib isn't installed for {sys.executable}: skipped")
-        return 0, 0, 1
-    told = [h64.encode_bytes(data).decode() == crypt64.letters(data) for data in crypt64.strings()]
-    print(f"passlib: the letters of {sum(told)} of {len(told)} byte strings agree")
-    return sum(told), len(told) - sum(told), 0
+        return skipped("passlib")
+    agree = [h64.encode_bytes(data).decode() == crypt64.letters(data) for data in crypt64.strings()]
+    return tally("letters of byte strings by passlib", agree)
 
 
 def crypt_hashes(program, rng):
-    """crypt(3) makes the hashes of the tests, its hashes are verified here and ours there, and so are
-    those of mkpasswd."""
+    """crypt(3) makes the hashes of the tests, its hashes are verified here and ours there."""
     try:
         library = ctypes.CDLL("libcrypt.so.1")
     except OSError:
-        print("crypt(3) isn't installed: skipped")
-        return 0, 0, 1
+        return skipped("crypt(3)")
     library.crypt.restype = ctypes.c_char_p
     with open(HASHES, encoding="utf-8") as tests:
         stored = tests.read()
@@ -179,16 +183,16 @@ def crypt_hashes(program, rng):
         theirs = library.crypt(password, plain.encode() + b"$")
         agree.append(ours.startswith((crypt64.costs(log_n, r, p) + crypt64.letters(salt) + "$").encode()))
         agree.append(library.crypt(password, ours) == ours)
-        agree.append(run(program, ["verify", theirs], password) == (0, b"ok\n", b""))
-        agree.append(run(program, ["verify", theirs], password + b"x") == (1, b"no\n", b""))
-    if shutil.which("mkpasswd"):
-        made = subprocess.run(["mkpasswd", "--method=scrypt", "password"], capture_output=True)
-        agree.append(run(program, ["verify", made.stdout.strip()], b"password") == (0, b"ok\n", b""))
-        agree.append(run(program, ["verify", made.stdout.strip()], b"invalid") == (1, b"no\n", b""))
-    else:
-        print("mkpasswd isn't installed: skipped")
-    print(f"crypt(3), mkpasswd: {sum(agree)} of {len(agree)} hashes agree")
-    return sum(agree), len(agree) - sum(agree), 0 if shutil.which("mkpasswd") else 1
+        agree.append(verified(program, theirs, password))
+    return tally("hashes of crypt(3)", agree)
+
+
+def mkpasswd_hashes(program, _rng):
+    """A hash of mkpasswd is verified here."""
+    if not shutil.which("mkpasswd"):
+        return skipped("mkpasswd")
+    made = subprocess.run(["mkpasswd", "--method=scrypt", "password"], capture_output=True)
+    return tally("hashes of mkpasswd", [verified(program, made.stdout.strip(), b"password")])
 
 
 def sodium_hashes(program, rng):
@@ -196,8 +200,7 @@ def sodium_hashes(program, rng):
     try:
         library = ctypes.CDLL("libsodium.so.23")
     except OSError:
-        print("libsodium isn't installed: skipped")
-        return 0, 0, 1
+        return skipped("libsodium")
     make = library.crypto_pwhash_scryptsalsa208sha256_str
     verify = library.crypto_pwhash_scryptsalsa208sha256_str_verify
     agree = []
@@ -206,13 +209,11 @@ def sodium_hashes(program, rng):
         length = ctypes.c_ulonglong(len(password))
         theirs = ctypes.create_string_buffer(102)
         agree.append(make(theirs, password, length, ctypes.c_ulonglong(1 << 15), 1 << 24) == 0)
-        agree.append(run(program, ["verify", theirs.value], password) == (0, b"ok\n", b""))
-        agree.append(run(program, ["verify", theirs.value], password + b"x") == (1, b"no\n", b""))
+        agree.append(verified(program, theirs.value, password))
         words = ["hash", "mcf", str(rng.randrange(1, 11)), "8", "1", rng.randbytes(32).hex()]
         ours = ctypes.create_string_buffer(run(program, words, password)[1].strip(), 102)
         agree.append(verify(ours, password, length) == 0)
-    print(f"libsodium: {sum(agree)} of {len(agree)} hashes agree")
-    return sum(agree), len(agree) - sum(agree), 0
+    return tally("hashes of libsodium", agree)
 
 
 PARTS = [
@@ -223,6 +224,7 @@ PARTS = [
     crypt_letters,
     crypt_letters_passlib,
     crypt_hashes,
+    mkpasswd_hashes,
     sodium_hashes,
 ]
 
