@@ -2,8 +2,9 @@
 """Checks beside the gate: what has to be refused by the compiler, before any proof.
 
 Each file crates/NAME/must-not-compile/*.edit is an edit as in must-fail/, and has to be refused as a
-use of something private. And a proof by hand could change a count of cores, so that no Proof.antt
-may stand but those of the counter itself.
+use of something private. Two more things would let a count of cores say what was not run, and both
+are refused: a proof by hand other than the three of the counter itself, and a new count anywhere but
+where a key's derivation begins.
 """
 
 import glob
@@ -14,7 +15,9 @@ import subprocess
 import sys
 import tempfile
 
-BY_HAND = "crates/scrypt/proofs/cores/CoreCount/"
+COUNTER = "crates/scrypt_kernel/proofs/cores/CoreCount/"
+BY_HAND = [COUNTER + it + "/Proof.antt" for it in ["after_core", "after_lanes_core", "new"]]
+NEW_COUNTS = {"crates/scrypt/src/derivation.rt": 1}
 
 
 def edited(crate, edit):
@@ -46,6 +49,18 @@ def refused_as_private(crate):
     return ran.returncode != 0 and errors != [] and all(it.startswith("private-") for it in errors)
 
 
+def new_counts():
+    """How often each file outside the tests begins a count of cores."""
+    counts = {}
+    for path in glob.glob("crates/*/src/**/*.rt", recursive=True):
+        if not path.startswith("crates/scrypt_tests/"):
+            with open(path, encoding="utf-8") as file:
+                times = file.read().count("CoreCount::new(")
+            if times:
+                counts[path] = times
+    return counts
+
+
 def main():
     failed = 0
     with tempfile.TemporaryDirectory() as room:
@@ -60,10 +75,13 @@ def main():
                     file.write(text)
             print(f"must-not-compile {edit}: {'refused, as private' if refused else 'NOT REFUSED'}")
             failed += not refused
-    proofs = glob.glob("crates/*/proofs/**/Proof.antt", recursive=True)
-    strangers = [it for it in proofs if not it.startswith(BY_HAND)]
-    print(f"proofs by hand outside the counter: {', '.join(strangers) or 'none'}")
-    sys.exit(1 if failed or strangers else 0)
+    if sorted(glob.glob("crates/*/proofs/**/Proof.antt", recursive=True)) != BY_HAND:
+        print(f"proofs by hand other than {', '.join(BY_HAND)}")
+        failed += 1
+    if new_counts() != NEW_COUNTS:
+        print(f"new counts of cores: {new_counts()}, where only {NEW_COUNTS} may be")
+        failed += 1
+    sys.exit(1 if failed else 0)
 
 
 if __name__ == "__main__":

@@ -4,8 +4,8 @@ use Rattle.std.specs.Prelude.{Option, Some, None, nat_eq}
 use Rattle.std.specs.Bool.{Decides}
 use Rattle.std.specs.Option.{option_eq}
 use Rattle.std.proofs.lemmas.Bool.Decides.{Decides-and, Decides-eqb}
-use Rattle.std.proofs.Common.{refl, ap, ◌∙◌, ◌≡◌, ℕ, ◌*◌, ◌^◌, ◌<◌, ◌≤◌, arith}
-use Rattle.std.proofs.Math.Nat.{lt_of_not-le, mul_assoc}
+use Rattle.std.proofs.Common.{refl, ap, ◌∙◌, ◌≡◌, ℕ, ◌-◌, ◌*◌, ◌^◌, ◌<◌, ◌≤◌, arith}
+use Rattle.std.proofs.Math.Nat.{lt_of_not-le, mul-le-mul_right, mul_assoc}
 use Rattle.std.proofs.Math.Pow.{pow_mono}
 use Rattle.std.proofs.lemmas.Nat.{mul-le}
 
@@ -37,6 +37,13 @@ small_costs log_n r p fits =
 -- the words of the table, as the code computes them
 pub small_table : (log_n r : ℕ) → 128 * r * 2 ^ log_n < 2 ^ 64 → 2 ^ log_n * (32 * r) < 2 ^ 62
 small_table log_n r fits = omega arith
+
+-- and those of a table that keeps fewer rows
+pub small_thin_table : (log_n s r : ℕ) → 128 * r * 2 ^ log_n < 2 ^ 64 → 2 ^ (log_n - s) * (32 * r) < 2 ^ 62
+small_thin_table log_n s r fits =
+    let fewer : 2 ^ (log_n - s) ≤ 2 ^ log_n = pow_mono (omega arith) in
+    let product = mul-le-mul_right (32 * r) fewer in
+    omega (arith, product, small_table log_n r fits)
 
 option_decided : (first second : Option ℕ) → Decides (option_eq nat_eq first second) (first ≡ second)
 option_decided None None = (λ _. refl, λ _. refl)

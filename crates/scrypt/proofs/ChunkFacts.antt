@@ -7,13 +7,13 @@ use Rattle.std.proofs.lemmas.List.Elements.{All-head, All-tail}
 use Rattle.std.proofs.lemmas.List.FromFn.{length-map-range_with_len}
 use Rattle.std.proofs.lemmas.List.Sums.{sum_by-cons}
 use borrow.Rule.Slice.PartMut.{put_mid}
-use Rattle.scrypt.specs.Words.{bytes_of, part, words_of}
-use Rattle.scrypt.specs.RoMix.{ro_mix}
+use Rattle.scrypt_kernel.specs.Words.{bytes_of, part, words_of}
+use Rattle.scrypt_kernel.specs.RoMix.{ro_mix}
 use Rattle.scrypt.specs.Key.{mixed_chunk, mixed_chunks}
 use Rattle.scrypt.specs.ChunkOrder.{NamesEachOnce, mixed_in_order, with_chunk_mixed}
-use Rattle.scrypt.proofs.RoMixFacts.{length-ro_mix}
-use Rattle.scrypt.proofs.WordFacts.{length-bytes_of}
-use Rattle.scrypt.proofs.PartFacts.{length-part, part_put_same, part_put_other, parts_all, parts_apart}
+use Rattle.scrypt_kernel.proofs.RoMixFacts.{length-ro_mix}
+use Rattle.scrypt_kernel.proofs.WordFacts.{length-bytes_of}
+use Rattle.scrypt_kernel.proofs.PartFacts.{length-part, part_put_same, part_put_other, parts_all, parts_apart}
 
 -- a chunk keeps its length
 length-mixed_chunk : (b : List ℕ) (log_n r i : ℕ) → 0 < r → i * (128 * r) + 128 * r ≤ length b → length (mixed_chunk b log_n r i) ≡ 128 * r

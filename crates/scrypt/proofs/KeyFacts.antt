@@ -2,15 +2,15 @@
 use Rattle.std.proofs.Common.{◌≡◌, ◌≢◌, ℕ, ◌<◌, ◌≤◌, ◌+◌, ◌*◌, List, length, take, drop, slice_index, sym, ap, ◌∙◌, arith, below_more}
 use Rattle.std.proofs.lemmas.List.FromFn.{take-map-range_with_len}
 use borrow.Rule.Slice.PartMut.{put_mid}
-use Rattle.scrypt.specs.Words.{bytes_of, part, words_of}
-use Rattle.scrypt.specs.RoMix.{ro_mix}
-use Rattle.scrypt.specs.Hmac.{padded_key}
-use Rattle.scrypt.specs.Pbkdf2.{pbkdf2}
+use Rattle.scrypt_kernel.specs.Words.{bytes_of, part, words_of}
+use Rattle.scrypt_kernel.specs.RoMix.{ro_mix}
+use Rattle.scrypt_kernel.specs.Hmac.{padded_key}
+use Rattle.scrypt_kernel.specs.Pbkdf2.{pbkdf2}
 use Rattle.scrypt.specs.Accepted.{Parameters}
 use Rattle.scrypt.specs.Derives.{key_by}
 use Rattle.scrypt.specs.Key.{derived_key, mixed_chunk, mixed_chunks}
-use Rattle.scrypt.proofs.PartFacts.{part_of_slice, part_put_same, part_put_other, parts_all}
-use Rattle.scrypt.proofs.Pbkdf2Facts.{length-pbkdf2, pbkdf2-are_bytes, same_pbkdf2}
+use Rattle.scrypt_kernel.proofs.PartFacts.{part_of_slice, part_put_same, part_put_other, parts_all}
+use Rattle.scrypt_kernel.proofs.Pbkdf2Facts.{length-pbkdf2, pbkdf2-are_bytes, same_pbkdf2}
 
 -- the first i chunks of x are those of b after scryptROMix, and the others are those of b
 pub record AreMixed (b : List ℕ) (log_n r i : ℕ) (x : List ℕ) : Type 0 where

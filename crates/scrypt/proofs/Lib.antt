@@ -1,14 +1,7 @@
 pub mod AcceptedFacts
-pub mod WordFacts
-pub mod PartFacts
-pub mod OrderFacts
-pub mod LaneFacts
-pub mod SalsaFacts
-pub mod BlockMixFacts
-pub mod IntegerifyFacts
-pub mod RoMixFacts
-pub mod Pbkdf2Facts
 pub mod KeyFacts
+pub mod CostFacts
+pub mod ThinKeyFacts
 pub mod ChunkFacts
 pub mod StandardFacts
 pub mod PhcCostsFacts

@@ -1,10 +1,10 @@
--- What a derivation costs: calls of the Salsa20/8 core, as the standard's steps with a table V make
--- them, and memory. One table and one scratch serve all p chunks. A word has 4 bytes.
-use Rattle.std.specs.Prelude.{ℕ, ◌*◌, ◌^◌}
-
--- the cores of one scryptROMix: 2 * N block mixes of 2 * r cores each
-abbrev pub ro_mix_cost : ℕ → ℕ → ℕ
-ro_mix_cost log_n r = 4 * 2 ^ log_n * r
+-- What a derivation costs: calls of the Salsa20/8 core, and memory. One table and one scratch serve all
+-- p chunks.
+use Rattle.std.specs.Prelude.{ℕ, zero, suc, ◌+◌, ◌*◌, ◌^◌, List}
+use Rattle.scrypt_kernel.specs.Words.{part, words_of}
+use Rattle.scrypt_kernel.specs.Pbkdf2.{pbkdf2}
+use Rattle.scrypt_kernel.specs.Table.{extra_rows}
+pub use Rattle.scrypt_kernel.specs.RoMixCost.{ro_mix_cost, scratch_words, table_words, thin_scratch_words}
 
 -- the cores of a derivation, of p chunks
 abbrev pub cost : ℕ → ℕ → ℕ → ℕ
@@ -14,10 +14,15 @@ cost log_n r p = ro_mix_cost log_n r * p
 abbrev pub chunks_bytes : ℕ → ℕ → ℕ
 chunks_bytes r p = p * (128 * r)
 
--- the words of the table V, which has N rows of 32 * r words
-abbrev pub table_words : ℕ → ℕ → ℕ
-table_words log_n r = 2 ^ log_n * (32 * r)
+-- how many rows the walks of the first i chunks of B mix anew, with a table that keeps each row whose
+-- number is a multiple of 2 ^ s
+unfoldable pub extra_rows_of_chunks : List ℕ → ℕ → ℕ → ℕ → ℕ → ℕ
+extra_rows_of_chunks b log_n s r zero = 0
+extra_rows_of_chunks b log_n s r (suc i) =
+    extra_rows_of_chunks b log_n s r i + extra_rows (words_of (part (128 * r) b i)) log_n s (2 ^ log_n)
 
--- the words of two rows: X, and X with a row taken in
-abbrev pub scratch_words : ℕ → ℕ
-scratch_words r = 64 * r
+-- the cores of a derivation with such a table: 2 * r more for each row that is mixed anew
+abbrev pub thin_cost : List ℕ → List ℕ → ℕ → ℕ → ℕ → ℕ → ℕ
+thin_cost password salt log_n r p s =
+    let b = pbkdf2 password salt (p * (128 * r)) in
+    cost log_n r p + 2 * r * extra_rows_of_chunks b log_n s r p

@@ -1,9 +1,9 @@
 -- scrypt (RFC 7914, section 6).
 use Rattle.std.specs.Prelude.{ℕ, ◌*◌, List}
 use Rattle.std.specs.List.{flat_map, range_with_len}
-use Rattle.scrypt.specs.Words.{bytes_of, part, words_of}
-use Rattle.scrypt.specs.Pbkdf2.{pbkdf2}
-use Rattle.scrypt.specs.RoMix.{ro_mix}
+use Rattle.scrypt_kernel.specs.Words.{bytes_of, part, words_of}
+use Rattle.scrypt_kernel.specs.Pbkdf2.{pbkdf2}
+use Rattle.scrypt_kernel.specs.RoMix.{ro_mix}
 
 -- chunk i of B, of 128 * r bytes, after scryptROMix (step 2)
 abbrev pub mixed_chunk : List ℕ → ℕ → ℕ → ℕ → List ℕ

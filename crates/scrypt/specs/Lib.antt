@@ -1,27 +1,25 @@
 -- The table of contents, in reading order: a file cites only those above it.
 
--- RFC 7914, section 3: words, bytes and blocks
-pub mod Words
--- RFC 2104: HMAC with SHA-256
-pub mod Hmac
--- RFC 8018, section 5.2: PBKDF2 with one iteration
-pub mod Pbkdf2
--- RFC 7914, section 3: the Salsa20/8 core
-pub mod Salsa
--- RFC 7914, section 4: scryptBlockMix
-pub mod BlockMix
--- RFC 7914, section 5: scryptROMix
-pub mod RoMix
+-- the steps below the derivation of a key
+pub use Rattle.scrypt_kernel.specs.Words
+pub use Rattle.scrypt_kernel.specs.Hmac
+pub use Rattle.scrypt_kernel.specs.Pbkdf2
+pub use Rattle.scrypt_kernel.specs.Salsa
+pub use Rattle.scrypt_kernel.specs.BlockMix
+pub use Rattle.scrypt_kernel.specs.RoMix
+pub use Rattle.scrypt_kernel.specs.RoMixCost
+pub use Rattle.scrypt_kernel.specs.Diagonal
+pub use Rattle.scrypt_kernel.specs.Table
 -- RFC 7914, section 6: the derived key
 pub mod Key
+-- the derived key by a table that keeps some rows
+pub mod ThinKey
 -- the chunks mixed in another order
 pub mod ChunkOrder
 -- RFC 7914, section 6: which parameters and output lengths are accepted
 pub mod Accepted
 -- what a derivation costs in cores and in memory
 pub mod Cost
--- the order in which the lanes hold the words of a block
-pub mod Diagonal
 -- the texts of errors
 pub mod ErrorText
 -- the derived key as a `Kdf` gives it

@@ -1,14 +1,18 @@
 // The derived key (RFC 7914, section 6).
 
-ghost use Rattle.std.specs.Prelude.{◌≡◌, ◌↔◌, ◌+◌, ◌*◌, ◌^◌, ◌<◌, ◌≤◌, length, IsOk, IsTrue, IsErrOf, OnOk, OnErr};
+ghost use Rattle.std.specs.Prelude.{◌≡◌, ◌↔◌, ◌+◌, ◌-◌, ◌*◌, ◌^◌, ◌<◌, ◌≤◌, length, IfSome, IsOk, IsSome, IsTrue, IsErrOf, OnOk, OnErr};
 ghost use Rattle.scrypt.specs.Accepted.{IsOutputLen};
-ghost use Rattle.scrypt.specs.Cost.{chunks_bytes, cost, scratch_words, table_words};
+ghost use Rattle.scrypt.specs.Cost.{chunks_bytes, cost, scratch_words, table_words, thin_cost, thin_scratch_words};
 ghost use Rattle.scrypt.specs.Key.{derived_key};
 ghost use Rattle.scrypt.specs.declared.errors.DeriveError.TheVariants.{InvalidOutputLen as BadLength, OutOfMemory};
 
-use crate::pbkdf2::pbkdf2_one;
-use crate::romix::scrypt_ro_mix;
 use crate::{CoreCount, DeriveError, InvalidOutputLen, Params};
+use scrypt_kernel::memory::Lent;
+use scrypt_kernel::order::diagonal::Diagonal;
+use scrypt_kernel::pbkdf2::pbkdf2_one;
+use scrypt_kernel::romix::ro_mix;
+use scrypt_kernel::table::{Table, Whole};
+use scrypt_kernel::thin::Thin;
 use std::alloc::Global;
 
 /// The greatest length of an output in bytes, `(2^32 - 1) * 32` (RFC 7914, section 6: `dkLen`).
@@ -48,6 +52,26 @@ impl BufferLens {
             scratch: 64 * r,
         }
     }
+
+    /// The lengths for [`scrypt_thin`](crate::scrypt_thin) with a table that keeps one row in `2^s`:
+    /// the table has `32 * r * 2^(log_n - s)` words, and the scratch `96 * r`. `None` if `s` is above
+    /// `log_n`.
+    pub fn thin(params: &Params, s: u8) -> Option<BufferLens>
+        ensures exact { IsSome result ↔ (s ≤ params.now.log_n) }
+        ensures chunks { IfSome result (λ lens. lens.chunks ≡ chunks_bytes params.now.r params.now.p) }
+        ensures table { IfSome result (λ lens. lens.table ≡ table_words (params.now.log_n - s) params.now.r) }
+        ensures scratch { IfSome result (λ lens. lens.scratch ≡ thin_scratch_words params.now.r) }
+    {
+        if s > params.log_n() {
+            return None;
+        }
+        let r = params.r() as usize;
+        Some(BufferLens {
+            chunks: BufferLens::of(params).chunks,
+            table: (1usize << (params.log_n() - s)) * (32 * r),
+            scratch: 96 * r,
+        })
+    }
 }
 
 /// Writes the scrypt key of `password` and `salt` to `output` (RFC 7914, section 6).
@@ -75,6 +99,7 @@ pub fn scrypt(
 /// Does what [`scrypt`] does, and counts the `4 * N * r * p` Salsa20/8 cores.
 ///
 /// A refusal leaves the count as it was too.
+#[tactic(auto, using(crate::proofs::CostFacts::whole_table_cost))]
 pub fn scrypt_counted(
     alloc: Global,
     password: &[u8],
@@ -88,6 +113,8 @@ pub fn scrypt_counted(
         params.now.log_n params.now.r params.now.p (length output.old)) }
     ensures all { OnOk result (cores.new.all ≡ cores.old.all
         + cost params.now.log_n params.now.r params.now.p) }
+    ensures lanes { OnOk result (cores.new.lanes ≡ cores.old.lanes
+        + cost params.now.log_n params.now.r params.now.p) }
     ensures refused { OnErr result (output.new ≡ output.old) }
     ensures uncounted { OnErr result ((cores.new.all ≡ cores.old.all) × (cores.new.lanes ≡ cores.old.lanes)) }
 {
@@ -96,9 +123,11 @@ pub fn scrypt_counted(
     }
     let lens = BufferLens::of(params);
     let mut chunks = vec![in alloc; 0u8; lens.chunks]?;
-    let mut table = vec![in alloc; 0u32; lens.table]?;
+    let mut table = Whole {
+        rows: Vec::with_capacity(alloc, lens.table)?,
+    };
     let mut scratch = vec![in alloc; 0u32; lens.scratch]?;
-    scrypt_with_buffers(
+    derive(
         password,
         salt,
         params,
@@ -107,7 +136,7 @@ pub fn scrypt_counted(
         &mut scratch,
         output,
         cores,
-    )?;
+    );
     Ok(())
 }
 
@@ -117,7 +146,7 @@ pub fn scrypt_counted(
 /// and `scratch` in words. What they hold before the call does not matter, and nothing is said of
 /// what they hold after it. Refuses `InvalidOutputLen` exactly where the output does not have 1 to
 /// 137438953440 bytes, and then changes nothing. Takes no memory.
-#[tactic(auto, using(crate::proofs::AcceptedFacts::small_chunks))]
+#[tactic(auto, using(crate::proofs::CostFacts::whole_table_cost))]
 pub fn scrypt_with_buffers(
     password: &[u8],
     salt: &[u8],
@@ -136,6 +165,8 @@ pub fn scrypt_with_buffers(
         params.now.log_n params.now.r params.now.p (length output.old)) }
     ensures all { OnOk result (cores.new.all ≡ cores.old.all
         + cost params.now.log_n params.now.r params.now.p) }
+    ensures lanes { OnOk result (cores.new.lanes ≡ cores.old.lanes
+        + cost params.now.log_n params.now.r params.now.p) }
     ensures refused { OnErr result (output.new ≡ output.old) }
     ensures buffers { OnErr result ((chunks.new ≡ chunks.old) × (table.new ≡ table.old) × (scratch.new ≡ scratch.old)) }
     ensures uncounted { OnErr result ((cores.new.all ≡ cores.old.all) × (cores.new.lanes ≡ cores.old.lanes)) }
@@ -143,17 +174,97 @@ pub fn scrypt_with_buffers(
     if !output_len_ok(output.len()) {
         return Err(InvalidOutputLen);
     }
+    let mut table = Whole {
+        rows: Lent::new(table),
+    };
+    derive(
+        password, salt, params, chunks, &mut table, scratch, output, cores,
+    );
+    Ok(())
+}
+
+/// Writes the scrypt key of `password` and `salt` to `output`, with a smaller table.
+///
+/// The table keeps each row whose number is a multiple of `2^s`, and any other row is mixed anew where
+/// it is needed. So the table has `2^s` times fewer words, and there are more than `4 * N * r * p`
+/// cores: `cores` counts them. The buffers have the lengths of [`BufferLens::thin`], and `s` is at most
+/// `log_n`. It does not matter what the buffers hold before the call, and what they hold after it is
+/// unspecified.
+///
+/// `InvalidOutputLen`, which changes nothing, unless the output has 1 to 137438953440 bytes. Nothing is
+/// allocated.
+#[tactic(auto, using(crate::proofs::AcceptedFacts::small_log_n))]
+pub fn scrypt_thin(
+    password: &[u8],
+    salt: &[u8],
+    params: &Params,
+    s: u8,
+    chunks: &mut [u8],
+    table: &mut [u32],
+    scratch: &mut [u32],
+    output: &mut [u8],
+    cores: &mut CoreCount,
+) -> Result<(), InvalidOutputLen>
+    requires spacing { s ≤ params.now.log_n }
+    requires chunks { length chunks.old ≡ chunks_bytes params.now.r params.now.p }
+    requires table { length table.old ≡ table_words (params.now.log_n - s) params.now.r }
+    requires scratch { length scratch.old ≡ thin_scratch_words params.now.r }
+    ensures allowed { IsOk result ↔ IsOutputLen (length output.old) }
+    ensures value { OnOk result (output.new ≡ derived_key password.now salt.now
+        params.now.log_n params.now.r params.now.p (length output.old)) }
+    ensures all { OnOk result (cores.new.all ≡ cores.old.all + thin_cost password.now salt.now
+        params.now.log_n params.now.r params.now.p s) }
+    ensures lanes { OnOk result (cores.new.lanes ≡ cores.old.lanes + thin_cost password.now salt.now
+        params.now.log_n params.now.r params.now.p s) }
+    ensures refused { OnErr result (output.new ≡ output.old) }
+    ensures buffers { OnErr result ((chunks.new ≡ chunks.old) × (table.new ≡ table.old) × (scratch.new ≡ scratch.old)) }
+    ensures uncounted { OnErr result ((cores.new.all ≡ cores.old.all) × (cores.new.lanes ≡ cores.old.lanes)) }
+{
+    if !output_len_ok(output.len()) {
+        return Err(InvalidOutputLen);
+    }
+    let (scratch, spare) = scratch.split_at_mut(64 * params.r() as usize);
+    let mut table = Thin::new(table, spare, s);
+    derive(
+        password, salt, params, chunks, &mut table, scratch, output, cores,
+    );
+    Ok(())
+}
+
+// Steps 1 to 3, with any table.
+#[tactic(auto, using(crate::proofs::AcceptedFacts::small_chunks))]
+fn derive<T: Table>(
+    password: &[u8],
+    salt: &[u8],
+    params: &Params,
+    chunks: &mut [u8],
+    table: &mut T,
+    scratch: &mut [u32],
+    output: &mut [u8],
+    cores: &mut CoreCount,
+)
+    requires chunks { length chunks.old ≡ chunks_bytes params.now.r params.now.p }
+    requires spacing { T.spacing table.old ≤ params.now.log_n }
+    requires room { T.has_room table.old (2 ^ (params.now.log_n - T.spacing table.old)) (32 * params.now.r) }
+    requires scratch { length scratch.old ≡ scratch_words params.now.r }
+    requires length { length output.old ≤ 137438953440 }
+    ensures value { output.new ≡ derived_key password.now salt.now
+        params.now.log_n params.now.r params.now.p (length output.old) }
+    ensures all { cores.new.all ≡ cores.old.all + thin_cost password.now salt.now
+        params.now.log_n params.now.r params.now.p (T.spacing table.old) }
+    ensures lanes { cores.new.lanes ≡ cores.old.lanes + thin_cost password.now salt.now
+        params.now.log_n params.now.r params.now.p (T.spacing table.old) }
+{
     let chunk_len = 128 * params.r() as usize;
     let p = params.p() as usize;
     // Step 1: B, which has p chunks.
     pbkdf2_one(password, salt, chunks);
-    // Step 2: each chunk is mixed, over the same table.
+    // Step 2: for i = 0 to p - 1 do B[i] = scryptROMix (r, B[i], N).
     'chunks: for i in 0..p {
         let at = i * chunk_len;
         let chunk = &mut chunks[at..at + chunk_len];
-        scrypt_ro_mix(chunk, table, scratch, params.log_n(), cores);
+        ro_mix::<Diagonal, T>(chunk, table, scratch, params.log_n(), cores);
     }
-    // Step 3: the key, with B as salt.
+    // Step 3: DK, with B as salt.
     pbkdf2_one(password, chunks, output);
-    Ok(())
 }

@@ -1,6 +1,6 @@
 //! Laws of the definitions. Each function does nothing when it runs: its contract is the law.
 
-ghost use Rattle.std.specs.Prelude.{◌≡◌, ◌↔◌, ℕ, ◌*◌, ◌%◌, ◌^◌, ◌<◌, ◌≤◌, List, [], ◌∷◌, ◌++◌, length, take, Option, Result, Ok, IfSome, IsSome, Some, All};
+ghost use Rattle.std.specs.Prelude.{◌≡◌, ◌↔◌, ℕ, ◌-◌, ◌*◌, ◌%◌, ◌^◌, ◌<◌, ◌≤◌, List, [], ◌∷◌, ◌++◌, length, take, Option, Result, Ok, IfSome, IsSome, Some, All};
 ghost use Rattle.sha2.specs.Sha256.{sha256};
 ghost use Rattle.password_hash.specs.Crypt64.{Crypt64, crypt64_of, letter_value, letters_of};
 ghost use Rattle.password_hash.specs.Mcf.{Modular, dollar};
@@ -8,11 +8,13 @@ ghost use Rattle.password_hash.specs.Phc.{IsHashText, IsSalt, hash_text};
 ghost use Rattle.password_hash.specs.Refusal.{Refusal};
 ghost use Rattle.password_hash.specs.declared.phc.hash.PasswordHash.{PasswordHash};
 ghost use Rattle.scrypt.specs.Accepted.{AreAccepted, IsStoredLen, Parameters};
-ghost use Rattle.scrypt.specs.BlockMix.{block_mix};
+ghost use Rattle.scrypt_kernel.specs.BlockMix.{block_mix};
 ghost use Rattle.scrypt.specs.ChunkOrder.{NamesEachOnce, mixed_in_order};
 ghost use Rattle.scrypt.specs.Derives.{key_by};
-ghost use Rattle.scrypt.specs.Diagonal.{AreInverse, IsBlockMixBy, diagonal_core, diagonal_order, inverse_pivot, pivot, standard_order};
+ghost use Rattle.scrypt_kernel.specs.Diagonal.{AreInverse, IsBlockMixBy, diagonal_core, diagonal_order, inverse_pivot, pivot, standard_order};
 ghost use Rattle.scrypt.specs.Key.{derived_key, mixed_chunks};
+ghost use Rattle.scrypt.specs.ThinKey.{thin_key};
+ghost use Rattle.scrypt_kernel.specs.Table.{extra_rows};
 ghost use Rattle.scrypt.specs.McfCosts.{costs_letters, costs_text, five_letter_number};
 ghost use Rattle.scrypt.specs.McfHash.{Accepts as SevenAccepts, IsHashText as IsSevenText, IsMadeHash as IsMadeSeven, Verdict as SevenVerdict, made_len};
 ghost use Rattle.scrypt.specs.PhcAnswers.{bare};
@@ -119,6 +121,21 @@ pub fn costs_prefix_is_injective()
     ensures { (log_n r p other_log_n other_r other_p : ℕ) → AreAccepted log_n r p → AreAccepted other_log_n other_r other_p
         → (costs_letters log_n r p ≡ costs_letters other_log_n other_r other_p)
         ↔ ((log_n ≡ other_log_n) × (r ≡ other_r) × (p ≡ other_p)) }
+{}
+
+/// A table that keeps fewer rows gives the same key, at every `s`: machines with less memory than the
+/// stored costs ask for rely on it.
+#[tactic(auto, using(crate::proofs::ThinKeyFacts::thin_key_is))]
+pub fn thin_key_is_the_key()
+    ensures same { (password salt : List ℕ) (log_n r p s n : ℕ)
+        → thin_key password salt log_n r p s n ≡ derived_key password salt log_n r p n }
+{}
+
+/// With a table that keeps one row in `2^s`, each of the `N` steps of the walk mixes at most `2^s - 1`
+/// rows anew: whoever chooses `s` relies on it for the greatest cost.
+#[tactic(auto, using(crate::proofs::ThinKeyFacts::extra_rows_at_most))]
+pub fn extra_rows_are_bounded()
+    ensures bound { (b : List ℕ) (log_n s : ℕ) → extra_rows b log_n s (2 ^ log_n) ≤ 2 ^ log_n * (2 ^ s - 1) }
 {}
 
 /// The diagonal order and the standard order undo each other on all whole blocks, and the two

@@ -12,27 +12,21 @@
 //! stand in `specs/`, one file a section of a standard.
 #![tactic(auto)]
 
-pub mod block_mix;
-mod cores;
 mod derivation;
 mod errors;
 mod hasher;
-pub mod hmac;
 pub mod laws;
 pub mod mcf;
-mod order;
 mod params;
-pub mod pbkdf2;
 pub mod phc;
-pub mod romix;
-pub mod salsa;
-mod words;
 
-pub use cores::CoreCount;
-pub use derivation::{BufferLens, output_len_ok, scrypt, scrypt_counted, scrypt_with_buffers};
+pub use derivation::{
+    BufferLens, output_len_ok, scrypt, scrypt_counted, scrypt_thin, scrypt_with_buffers,
+};
 pub use errors::{DeriveError, InvalidOutputLen, InvalidParams};
 pub use hasher::Scrypt;
 pub use params::Params;
 pub use password_hash;
 pub use password_hash::kdf;
 pub use password_hash::kdf::{Kdf, Pbkdf};
+pub use scrypt_kernel::{CoreCount, block_mix, hmac, pbkdf2, romix, salsa};

@@ -1,5 +1,5 @@
-use Rattle.scrypt.specs.Diagonal.{inverse_pivot, pivot}
-use Rattle.scrypt.proofs.OrderFacts.{diagonal_inverse, in_then_out, out_then_in}
+use Rattle.scrypt_kernel.specs.Diagonal.{inverse_pivot, pivot}
+use Rattle.scrypt_kernel.proofs.OrderFacts.{diagonal_inverse, in_then_out, out_then_in}
 use Rattle.scrypt.proofs.laws.diagonal_order_undone.Goals as goal
 
 pub returns-clause-undone : goal.returns-clause-undone

@@ -1,5 +1,5 @@
 use Rattle.scrypt.proofs.KeyFacts.{same_key}
-use Rattle.scrypt.proofs.Pbkdf2Facts.{padded_digest, padded_zero_byte}
+use Rattle.scrypt_kernel.proofs.Pbkdf2Facts.{padded_digest, padded_zero_byte}
 use Rattle.scrypt.proofs.laws.zero_byte_and_digest_passwords_collide.Goals as goal
 
 pub returns-clause-zero_byte : goal.returns-clause-zero_byte

@@ -1,0 +1,42 @@
+-- Facts on the cores of a derivation.
+use Rattle.std.proofs.Common.{◌≡◌, ℕ, zero, suc, ◌+◌, ◌*◌, ◌^◌, List, refl, sym, ap, ◌∙◌, arith, add-one}
+use Rattle.scrypt_kernel.specs.Words.{part, words_of}
+use Rattle.scrypt_kernel.specs.Pbkdf2.{pbkdf2}
+use Rattle.scrypt_kernel.specs.Table.{extra_rows}
+use Rattle.scrypt_kernel.proofs.WalkFacts.{extra_rows-whole}
+use Rattle.scrypt.specs.Cost.{cost, extra_rows_of_chunks, ro_mix_cost, thin_cost}
+
+none_of_chunks : (b : List ℕ) (log_n r i : ℕ) → extra_rows_of_chunks b log_n 0 r i ≡ 0
+unfolding extra_rows_of_chunks
+none_of_chunks b log_n r zero = refl
+none_of_chunks b log_n r (suc i) =
+    let before = none_of_chunks b log_n r i in
+    let none = extra_rows-whole (words_of (part (128 * r) b i)) log_n (2 ^ log_n) in
+    omega arith
+
+-- a table that keeps every row has the cost of the standard's
+pub whole_table_cost : (password salt : List ℕ) (log_n r p : ℕ) → thin_cost password salt log_n r p 0 ≡ cost log_n r p
+whole_table_cost password salt log_n r p =
+    let none = none_of_chunks (pbkdf2 password salt (p * (128 * r))) log_n r p in
+    ap (λ e. cost log_n r p + 2 * r * e) none ∙ omega arith
+
+-- one more chunk
+more_chunks : (b : List ℕ) (log_n s r i : ℕ) → extra_rows_of_chunks b log_n s r (i + 1)
+    ≡ extra_rows_of_chunks b log_n s r i + extra_rows (words_of (part (128 * r) b i)) log_n s (2 ^ log_n)
+unfolding extra_rows_of_chunks
+more_chunks b log_n s r i = rw add-one refl
+
+sum_more : (first m i r d e : ℕ) → first + (m * i + 2 * r * d) + (m + 2 * r * e) ≡ first + (m * (i + 1) + 2 * r * (d + e))
+sum_more first m i r d e = omega arith
+
+-- the count after one more chunk
+pub counted_chunk : (b : List ℕ) (log_n s r i first before after e : ℕ)
+    → e ≡ extra_rows (words_of (part (128 * r) b i)) log_n s (2 ^ log_n)
+    → after ≡ before + (ro_mix_cost log_n r + 2 * r * e)
+    → before ≡ first + (ro_mix_cost log_n r * i + 2 * r * extra_rows_of_chunks b log_n s r i)
+    → after ≡ first + (ro_mix_cost log_n r * (i + 1) + 2 * r * extra_rows_of_chunks b log_n s r (i + 1))
+counted_chunk b log_n s r i first before after e anew one until =
+    one ∙ ap (λ n. n + (ro_mix_cost log_n r + 2 * r * e)) until
+    ∙ sum_more first (ro_mix_cost log_n r) i r (extra_rows_of_chunks b log_n s r i) e
+    ∙ ap (λ n. first + (ro_mix_cost log_n r * (i + 1) + 2 * r * (extra_rows_of_chunks b log_n s r i + n))) anew
+    ∙ ap (λ n. first + (ro_mix_cost log_n r * (i + 1) + 2 * r * n)) (sym (more_chunks b log_n s r i))

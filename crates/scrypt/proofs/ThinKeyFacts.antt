@@ -1,0 +1,58 @@
+-- Facts on the derived key by a table that keeps some rows.
+use Rattle.std.proofs.Common.{◌≡◌, ◌≤◌, ℕ, zero, suc, ◌+◌, ◌-◌, ◌*◌, ◌/◌, ◌%◌, ◌^◌, List, ◌++◌, refl, sym, ap, ◌∙◌, arith, add-zero}
+use Rattle.std.specs.List.{flat_map, range_with_len}
+use Rattle.std.proofs.lemmas.Nat.{pow_pos}
+use Rattle.scrypt_kernel.specs.Words.{bytes_of, part, words_of, xor_words}
+use Rattle.scrypt_kernel.specs.Pbkdf2.{pbkdf2}
+use Rattle.scrypt_kernel.specs.BlockMix.{block_mix}
+use Rattle.scrypt_kernel.specs.RoMix.{integerify, ro_mix, row, walk}
+use Rattle.scrypt_kernel.specs.Table.{extra_rows, rows_anew}
+use Rattle.scrypt.specs.Key.{derived_key, mixed_chunk}
+use Rattle.scrypt.specs.ThinKey.{row_anew, thin_chunk, thin_key, thin_walk}
+
+-- the rows after a row are rows
+row_after : (b : List ℕ) (i k : ℕ) → row (row b i) k ≡ row b (i + k)
+unfolding row
+row_after b i zero = ap (row b) (sym (add-zero i))
+row_after b i (suc k) =
+    let there : suc (i + k) ≡ i + suc k = omega arith in
+    ap block_mix (row_after b i k) ∙ ap (row b) there
+
+row_anew_is : (b : List ℕ) (s j : ℕ) → row_anew b s j ≡ row b j
+row_anew_is b s j =
+    let there : j / 2 ^ s * 2 ^ s + j % 2 ^ s ≡ j = omega arith in
+    row_after b (j / 2 ^ s * 2 ^ s) (j % 2 ^ s) ∙ ap (row b) there
+
+thin_walk_is : (b : List ℕ) (log_n s k : ℕ) → thin_walk b log_n s k ≡ walk b log_n k
+unfolding thin_walk walk
+thin_walk_is b log_n s zero = refl
+thin_walk_is b log_n s (suc k) =
+    let next = λ (x : List ℕ). block_mix (xor_words x (row_anew b s (integerify x % 2 ^ log_n))) in
+    let x = walk b log_n k in
+    ap next (thin_walk_is b log_n s k) ∙ ap (λ z. block_mix (xor_words x z)) (row_anew_is b s (integerify x % 2 ^ log_n))
+
+same_parts : (f g : ℕ → List ℕ) (a n : ℕ) → ((i : ℕ) → f i ≡ g i) → flat_map f (range_with_len a n) ≡ flat_map g (range_with_len a n)
+same_parts f g a zero same = refl
+same_parts f g a (suc n) same =
+    ap (λ z. z ++ flat_map f (range_with_len (a + 1) n)) (same a) ∙ ap (λ z. g a ++ z) (same_parts f g (a + 1) n same)
+
+-- the key is the same
+pub thin_key_is : (password salt : List ℕ) (log_n r p s n : ℕ) → thin_key password salt log_n r p s n ≡ derived_key password salt log_n r p n
+unfolding thin_key derived_key ro_mix
+thin_key_is password salt log_n r p s n =
+    let b = pbkdf2 password salt (p * (128 * r)) in
+    ap (λ z. pbkdf2 password z n) (same_parts (thin_chunk b log_n s r) (mixed_chunk b log_n r) 0 p
+    (λ i. ap bytes_of (thin_walk_is (words_of (part (128 * r) b i)) log_n s (2 ^ log_n))))
+
+at_most : (b : List ℕ) (log_n s k : ℕ) → extra_rows b log_n s k ≤ k * (2 ^ s - 1)
+unfolding extra_rows
+at_most b log_n s zero = omega arith
+at_most b log_n s (suc k) =
+    let before = at_most b log_n s k in
+    let some = pow_pos s in
+    let next : rows_anew s (integerify (walk b log_n k) % 2 ^ log_n) ≤ 2 ^ s - 1 = omega arith in
+    omega arith
+
+-- the walk mixes at most 2 ^ s - 1 rows anew in each of its N steps
+pub extra_rows_at_most : (b : List ℕ) (log_n s : ℕ) → extra_rows b log_n s (2 ^ log_n) ≤ 2 ^ log_n * (2 ^ s - 1)
+extra_rows_at_most b log_n s = at_most b log_n s (2 ^ log_n)

@@ -1,7 +1,0 @@
-use Rattle.scrypt.proofs.LaneFacts.{double_rounds_are}
-use Rattle.scrypt.proofs.cores.lanes.double_round.Goals as goal
-
-pub returns : goal.returns
-returns c =
-    rw (c.quarter_round-2.ensures, c.quarter_round.ensures)
-    (double_rounds_are c.args.a c.fits-a.0 c.args.b c.fits-b.0 c.args.c c.fits-c.0 c.args.d c.fits-d.0)

@@ -1,6 +1,0 @@
-use Rattle.scrypt.specs.Words.{add32}
-use Rattle.scrypt.proofs.WordFacts.{IsMerged}
-use Rattle.scrypt.proofs.words.add_words.Given as goal
-
-abbrev pub invariant-loop-i : goal.invariant-loop-i
-invariant-loop-i l = IsMerged add32 l.initial.x l.y l.i l.x

@@ -1,0 +1,117 @@
+-- Facts on scryptBlockMix.
+use Rattle.std.proofs.Common.{◌≡◌, ℕ, zero, suc, ◌+◌, ◌-◌, ◌*◌, ◌/◌, ◌%◌, ◌<◌, ◌≤◌, List, [], length, zero-add, bit_xor, add-one, refl, sym, ap, ap₂, ◌∙◌, arith}
+use Rattle.std.proofs.lemmas.List.{append-nil, length-append}
+use Rattle.std.proofs.lemmas.Simd.{length-zip2}
+use Rattle.std.specs.List.{flat_map, range_with_len}
+use Rattle.scrypt_kernel.specs.Words.{block, last_block, xor_words}
+use Rattle.scrypt_kernel.specs.Salsa.{salsa20_8}
+use Rattle.scrypt_kernel.specs.BlockMix.{block_mix, chain, y}
+use Rattle.scrypt_kernel.specs.Diagonal.{AreInverse, IsBlockMixBy, permuted}
+use Rattle.scrypt_kernel.proofs.PartFacts.{halves_all, length-part, length-parts, part_after, part_of_parts}
+use Rattle.scrypt_kernel.proofs.SalsaFacts.{length-salsa20_8}
+use Rattle.scrypt_kernel.proofs.OrderFacts.{block_in, block_out, in_then_out, length-permuted, out_then_in, zip_in}
+
+-- one more step of the chain
+pub chain_more : (b : List ℕ) (i : ℕ) → chain b (i + 1) ≡ salsa20_8 (xor_words (chain b i) (block b i))
+unfolding chain
+chain_more b i = rw add-one refl
+
+-- a list whose blocks are those of the block mix
+pub block_mix_all : (b x : List ℕ) (r : ℕ) → r ≡ length b / 32 → length x ≡ 2 * r * 16
+    → ((k : ℕ) → k < r → block x k ≡ y b (2 * k))
+    → ((k : ℕ) → k < r → block x (r + k) ≡ y b (2 * k + 1)) → x ≡ block_mix b
+unfolding block_mix
+block_mix_all b x r is long even odd =
+    rw (← is) (halves_all (λ k. y b (2 * k)) (λ k. y b (2 * k + 1)) 16 r x long even odd)
+
+pub length-chain : (b : List ℕ) → 16 ≤ length b → length b % 16 ≡ 0 → (i : ℕ) → i * 16 ≤ length b → length (chain b i) ≡ 16
+unfolding chain
+length-chain b some whole zero room = length-part 16 (length b / 16 - 1) b (omega arith)
+length-chain b some whole (suc i) room =
+    let before = length-chain b some whole i (omega arith) in
+    let one : length (block b i) ≡ 16 = length-part 16 i b (omega arith) in
+    length-salsa20_8 _ ∙ length-zip2 bit_xor (chain b i) (block b i) (before ∙ sym one) ∙ before
+
+-- the parts of a block mix, and their length
+module _ (b : List ℕ) (some : 0 < length b) (whole : length b % 32 ≡ 0) where
+  length-y : (i : ℕ) → i < length b / 16 → length (y b i) ≡ 16
+  length-y i inside = length-chain b (omega arith) (omega arith) (i + 1) (omega arith)
+
+  length-even : length (flat_map (λ k. y b (2 * k)) (range_with_len 0 (length b / 32))) ≡ length b / 32 * 16
+  length-even = length-parts (λ k. y b (2 * k)) 16 0 (length b / 32) (λ k h. length-y (2 * (0 + k)) (omega arith))
+
+  pub length-block_mix : length (block_mix b) ≡ length b
+  unfolding block_mix
+  length-block_mix =
+      let r : ℕ = length b / 32 in
+      let odd = length-parts (λ k. y b (2 * k + 1)) 16 0 r (λ k h. length-y (2 * (0 + k) + 1) (omega arith)) in
+      length-append (flat_map (λ k. y b (2 * k)) (range_with_len 0 r)) _ ∙ omega (arith, length-even, odd)
+
+  pub even_block : (k : ℕ) → k < length b / 32 → block (block_mix b) k ≡ y b (2 * k)
+  unfolding block_mix
+  even_block k inside =
+      part_of_parts (λ k. y b (2 * k)) 16 0 (length b / 32) k _ (λ k h. length-y (2 * (0 + k)) (omega arith)) inside
+      ∙ ap (λ i. y b (2 * i)) (zero-add k)
+
+  pub odd_block : (k : ℕ) → k < length b / 32 → block (block_mix b) (length b / 32 + k) ≡ y b (2 * k + 1)
+  unfolding block_mix
+  odd_block k inside =
+      let r : ℕ = length b / 32 in
+      let odd = flat_map (λ k. y b (2 * k + 1)) (range_with_len 0 r) in
+      part_after 16 r k (flat_map (λ k. y b (2 * k)) (range_with_len 0 r)) odd length-even
+      ∙ ap (λ z. block z k) (sym (append-nil odd))
+      ∙ part_of_parts (λ k. y b (2 * k + 1)) 16 0 r k [] (λ k h. length-y (2 * (0 + k) + 1) (omega arith)) inside
+      ∙ ap (λ i. y b (2 * i + 1)) (zero-add k)
+
+-- the chain of words in another order
+module _ (p q : List ℕ) (inverse : AreInverse p q) (input : List ℕ) where
+  -- block k in this order
+  pub block_is_in : (k : ℕ) → k * 16 + 16 ≤ length input → block input k ≡ permuted p (block (permuted q input) k)
+  block_is_in k room =
+      let size : length (block input k) ≡ 16 = length-part 16 k input room in
+      sym (out_then_in p q inverse (block input k) (omega arith)) ∙ ap (permuted p) (sym (block_out p q inverse input k room))
+
+  -- it begins with the last block
+  pub last_block_in : 16 ≤ length input → length input % 16 ≡ 0
+      → last_block input ≡ permuted p (last_block (permuted q input))
+  last_block_in some whole =
+      let long : length (permuted q input) ≡ length input = length-permuted q input in
+      rw long (block_is_in (length input / 16 - 1) (omega arith))
+
+  -- and goes on with the core
+  pub next_in_chain : (x : List ℕ) (i : ℕ) → 16 ≤ length input → length input % 16 ≡ 0 → i * 16 + 16 ≤ length input
+      → x ≡ permuted p (chain (permuted q input) i)
+      → permuted p (salsa20_8 (permuted q (xor_words x (block input i)))) ≡ permuted p (chain (permuted q input) (i + 1))
+  next_in_chain x i some whole room is =
+      let b = permuted q input in
+      let long : length b ≡ length input = length-permuted q input in
+      let z = chain b i in
+      let w = block b i in
+      let one : length z ≡ 16 = length-chain b (omega arith) (omega arith) i (omega arith) in
+      let two : length w ≡ 16 = length-part 16 i b (omega arith) in
+      let both : length (xor_words z w) ≡ 16 = length-zip2 bit_xor z w (one ∙ sym two) ∙ one in
+      let taken : permuted q (xor_words x (block input i)) ≡ xor_words z w =
+      ap (permuted q) (ap₂ xor_words is (block_is_in i room) ∙ zip_in p q inverse bit_xor z w (one ∙ sym two) (omega arith))
+      ∙ in_then_out p q inverse (xor_words z w) (omega arith) in
+      ap (λ v. permuted p (salsa20_8 v)) taken ∙ ap (permuted p) (sym (chain_more b i))
+
+-- the block mix of words in another order, by the core in that order
+module _ (p q : List ℕ) (inverse : AreInverse p q) (b : List ℕ) (some : 0 < length b) (whole : length b % 32 ≡ 0) where
+  pub block_mix_by : IsBlockMixBy (λ x. permuted p (salsa20_8 (permuted q x))) (permuted p b) (permuted p (block_mix b))
+  unfolding chain
+  block_mix_by =
+      let input = permuted p b in
+      let long : length input ≡ length b = length-permuted p b in
+      let mixed : length (block_mix b) ≡ length b = length-block_mix b some whole in
+      let back : permuted q input ≡ b = in_then_out p q inverse b (omega arith) in
+      record {
+        x = λ i. permuted p (chain b i);
+        first = ap (λ z. permuted p (last_block z)) (sym back) ∙ sym (last_block_in p q inverse input (omega arith) (omega arith));
+        next = λ i h. ap (λ z. permuted p (chain z (i + 1))) (sym back)
+            ∙ sym (next_in_chain p q inverse input (permuted p (chain b i)) i (omega arith) (omega arith) (omega arith)
+            (ap (λ z. permuted p (chain z i)) (sym back)));
+        long = length-permuted p (block_mix b) ∙ mixed ∙ sym long;
+        even = λ k h. block_in p q inverse (block_mix b) k (omega arith) ∙ ap (permuted p) (even_block b some whole k (omega arith));
+        odd = λ k h. ap (λ n. block (permuted p (block_mix b)) (n / 32 + k)) long
+            ∙ block_in p q inverse (block_mix b) (length b / 32 + k) (omega arith) ∙ ap (permuted p) (odd_block b some whole k (omega arith));
+      }

@@ -1,0 +1,161 @@
+-- Facts on vectors of four lanes, and on a block in diagonal order as four of them.
+use Rattle.std.proofs.Common.{◌≡◌, ℕ, ◌<◌, ◌+◌, ◌-◌, ◌*◌, ◌/◌, ◌%◌, ◌^◌, List, [], ◌∷◌, ◌++◌, length, bit_or, bit_xor, arith, refl, sym, ap, subst, ◌∙◌, add-zero, Fits, append_assoc, zero, suc}
+use Rattle.std.proofs.lemmas.List.{append-nil}
+use Rattle.std.specs.Int.{w32, rotate_left}
+use Rattle.std.specs.Int.Bits.{and_shifted, xor_assoc, xor_disjoint}
+use Rattle.std.specs.Simd.Lanes.{Each1, zip2}
+use Rattle.std.proofs.lemmas.Nat.{mod-pow-add, mod_low, or_shifted, pow_pos, shl-shr, shr_below}
+use Rattle.std.proofs.lemmas.Simd.{length-zip2}
+use Rattle.scrypt_kernel.specs.Words.{add32, part}
+use Rattle.scrypt_kernel.specs.Salsa.{double_round, quarter_round, salsa20_8}
+use Rattle.scrypt_kernel.specs.Diagonal.{diagonal_order, inverse_pivot, lanes_of, permuted, pivot, quarter_rounds, standard_order, turned}
+use Rattle.scrypt_kernel.proofs.WordFacts.{part-zip2}
+use Rattle.scrypt_kernel.proofs.PartFacts.{parts_all, parts_same}
+use Rattle.scrypt_kernel.proofs.OrderFacts.{diagonal_inverse, in_then_out, length-permuted, out_then_in, zip_in}
+use Rattle.scrypt_kernel.proofs.SalsaFacts.{length-double_round}
+
+-- the two parts of a rotation share no bit, and an exclusive or joins them as an or does
+rotation_parts : (x k : ℕ) → x < 2 ^ 32 → 0 < k → k < 32
+    → bit_xor (x * 2 ^ k % 2 ^ 32) (x / 2 ^ (32 - k)) ≡ bit_or (x * 2 ^ k % 2 ^ 32) (x / 2 ^ (32 - k))
+rotation_parts x k fits low high =
+    let j : ℕ = 32 - k in
+    let all : 32 ≡ j + k = omega arith in
+    let turned : 32 ≡ k + j = omega arith in
+    let clear : x * 2 ^ k % 2 ^ k ≡ 0 = ap (λ n. n % 2 ^ k) (sym (add-zero (x * 2 ^ k))) ∙ mod_low x k 0 (pow_pos k) in
+    let upper : x * 2 ^ k % 2 ^ 32 ≡ x % 2 ^ j * 2 ^ k =
+    ap (λ i. x * 2 ^ k % 2 ^ i) all ∙ mod-pow-add (x * 2 ^ k) j k ∙ rw (shl-shr x k, clear) (add-zero (x % 2 ^ j * 2 ^ k)) in
+    let lower : x / 2 ^ j < 2 ^ k = shr_below x k j (subst (λ i. x < 2 ^ i) turned fits) in
+    let apart = and_shifted (x % 2 ^ j) k (x / 2 ^ j) lower in
+    rw upper (xor_disjoint (x % 2 ^ j * 2 ^ k) (x / 2 ^ j) apart ∙ sym (or_shifted (x % 2 ^ j) k (x / 2 ^ j) lower))
+
+-- a word xor a rotated word, by two exclusive ors
+pub xor_parts : (x y k : ℕ) → y < 2 ^ 32 → 0 < k → k < 32
+    → bit_xor (bit_xor x (y * 2 ^ k % 2 ^ 32)) (y / 2 ^ (32 - k)) ≡ bit_xor x (rotate_left w32 y k)
+xor_parts x y k fits low high =
+    let left : k % 32 ≡ k = omega arith in
+    let right : (32 - k) % 32 ≡ 32 - k = omega arith in
+    rw (left, right) (xor_assoc x (y * 2 ^ k % 2 ^ 32) (y / 2 ^ (32 - k)) ∙ ap (bit_xor x) (rotation_parts y k fits low high))
+
+-- what holds of each list of four elements
+four_lanes : (P : List ℕ → Type 0) → ((a b c d : ℕ) → P (a ∷ b ∷ c ∷ d ∷ [])) → (xs : List ℕ) → length xs ≡ 4 → P xs
+four_lanes P p (a ∷ b ∷ c ∷ d ∷ []) h = p a b c d
+four_lanes P p [] h = absurd (omega arith)
+four_lanes P p (a ∷ []) h = absurd (omega arith)
+four_lanes P p (a ∷ b ∷ []) h = absurd (omega arith)
+four_lanes P p (a ∷ b ∷ c ∷ []) h = absurd (omega arith)
+four_lanes P p (a ∷ b ∷ c ∷ d ∷ e ∷ xs) h = absurd (omega arith)
+
+-- the vector y shifted by k to both sides, and taken into x
+abbrev XorRotated : ℕ → List ℕ → List ℕ → Type 0
+XorRotated k x y =
+    let left = zip2 (λ a n. a * 2 ^ n % 2 ^ 32) y (k ∷ k ∷ k ∷ k ∷ []) in
+    let right = zip2 (λ a n. a / 2 ^ n) y ((32 - k) ∷ (32 - k) ∷ (32 - k) ∷ (32 - k) ∷ []) in
+    zip2 bit_xor (zip2 bit_xor x left) right ≡ zip2 (λ a b. bit_xor a (rotate_left w32 b k)) x y
+
+pub xor_rotated : (k : ℕ) → 0 < k → k < 32 → (x y : List ℕ) → length x ≡ 4 → length y ≡ 4
+    → Each1 (Fits w32) y → XorRotated k x y
+xor_rotated k low high x y long_x long_y fits = four_lanes (λ x. (y : List ℕ) → length y ≡ 4 → Each1 (Fits w32) y → XorRotated k x y) (λ x0 x1 x2 x3.
+    four_lanes (λ y. Each1 (Fits w32) y → XorRotated k (x0 ∷ x1 ∷ x2 ∷ x3 ∷ []) y) (λ y0 y1 y2 y3 fits.
+    cc (
+      xor_parts x0 y0 k fits.0.fits low high,
+      xor_parts x1 y1 k fits.1.0.fits low high,
+      xor_parts x2 y2 k fits.1.1.0.fits low high,
+      xor_parts x3 y3 k fits.1.1.1.0.fits low high,
+    ))) x long_x y long_y fits
+
+-- the four steps of the quarter rounds on whole vectors
+abbrev QuarterRounds : List ℕ → List ℕ → List ℕ → List ℕ → Type 0
+QuarterRounds a b c d =
+    let taken = λ (k : ℕ) (x y : List ℕ). zip2 (λ a b. bit_xor a (rotate_left w32 b k)) x y in
+    let b' = taken 7 b (zip2 add32 a d) in
+    let c' = taken 9 c (zip2 add32 b' a) in
+    let d' = taken 13 d (zip2 add32 c' b') in
+    let a' = taken 18 a (zip2 add32 d' c') in
+    (a', b', c', d') ≡ quarter_rounds a b c d
+
+pub quarter_rounds_are : (a : List ℕ) → length a ≡ 4 → (b : List ℕ) → length b ≡ 4
+    → (c : List ℕ) → length c ≡ 4 → (d : List ℕ) → length d ≡ 4 → QuarterRounds a b c d
+unfolding quarter_round
+quarter_rounds_are =
+    four_lanes (λ a. (b : List ℕ) → length b ≡ 4 → (c : List ℕ) → length c ≡ 4 → (d : List ℕ) → length d ≡ 4 → QuarterRounds a b c d) (λ a0 a1 a2 a3.
+    four_lanes (λ b. (c : List ℕ) → length c ≡ 4 → (d : List ℕ) → length d ≡ 4 → QuarterRounds (a0 ∷ a1 ∷ a2 ∷ a3 ∷ []) b c d) (λ b0 b1 b2 b3.
+    four_lanes (λ c. (d : List ℕ) → length d ≡ 4 → QuarterRounds (a0 ∷ a1 ∷ a2 ∷ a3 ∷ []) (b0 ∷ b1 ∷ b2 ∷ b3 ∷ []) c d) (λ c0 c1 c2 c3.
+    four_lanes (QuarterRounds (a0 ∷ a1 ∷ a2 ∷ a3 ∷ []) (b0 ∷ b1 ∷ b2 ∷ b3 ∷ []) (c0 ∷ c1 ∷ c2 ∷ c3 ∷ [])) (λ d0 d1 d2 d3. refl))))
+
+-- the lanes after the quarter rounds of the columns and of the rows
+abbrev DoubleRound : List ℕ → List ℕ → List ℕ → List ℕ → Type 0
+DoubleRound a b c d =
+    let rows = turned (quarter_rounds a b c d) in
+    turned (quarter_rounds rows.0 rows.1 rows.2 rows.3)
+    ≡ lanes_of (diagonal_order (double_round (standard_order (a ++ b ++ c ++ d))))
+
+pub double_rounds_are : (a : List ℕ) → length a ≡ 4 → (b : List ℕ) → length b ≡ 4
+    → (c : List ℕ) → length c ≡ 4 → (d : List ℕ) → length d ≡ 4 → DoubleRound a b c d
+unfolding double_round permuted
+double_rounds_are =
+    four_lanes (λ a. (b : List ℕ) → length b ≡ 4 → (c : List ℕ) → length c ≡ 4 → (d : List ℕ) → length d ≡ 4 → DoubleRound a b c d) (λ a0 a1 a2 a3.
+    four_lanes (λ b. (c : List ℕ) → length c ≡ 4 → (d : List ℕ) → length d ≡ 4 → DoubleRound (a0 ∷ a1 ∷ a2 ∷ a3 ∷ []) b c d) (λ b0 b1 b2 b3.
+    four_lanes (λ c. (d : List ℕ) → length d ≡ 4 → DoubleRound (a0 ∷ a1 ∷ a2 ∷ a3 ∷ []) (b0 ∷ b1 ∷ b2 ∷ b3 ∷ []) c d) (λ c0 c1 c2 c3.
+    four_lanes (DoubleRound (a0 ∷ a1 ∷ a2 ∷ a3 ∷ []) (b0 ∷ b1 ∷ b2 ∷ b3 ∷ []) (c0 ∷ c1 ∷ c2 ∷ c3 ∷ [])) (λ d0 d1 d2 d3. refl))))
+
+-- the lanes of a block, one after another
+abbrev joined : List ℕ × List ℕ × List ℕ × List ℕ → List ℕ
+joined lanes = lanes.0 ++ lanes.1 ++ lanes.2 ++ lanes.3
+
+joined_lanes : (x : List ℕ) → length x ≡ 16 → joined (lanes_of x) ≡ x
+joined_lanes x long = simp append_assoc (sym (simp append-nil at (parts_all (part 4 x) 4 4 x long (λ k h. refl))))
+
+-- a block in diagonal order after a double round
+abbrev pub round : List ℕ → List ℕ
+round x = diagonal_order (double_round (standard_order x))
+
+length-round : (x : List ℕ) → length (round x) ≡ length x
+length-round x =
+    length-permuted pivot (double_round (standard_order x)) ∙ length-double_round (standard_order x) ∙ length-permuted inverse_pivot x
+
+-- four rounds of the lanes of a block
+pub four_rounds : (x : List ℕ) → length x ≡ 16 → {once twice thrice turned : List ℕ × List ℕ × List ℕ × List ℕ}
+    → once ≡ lanes_of (round (joined (lanes_of x))) → twice ≡ lanes_of (round (joined once))
+    → thrice ≡ lanes_of (round (joined twice)) → turned ≡ lanes_of (round (joined thrice))
+    → turned ≡ lanes_of (round (round (round (round x))))
+four_rounds x long is_once is_twice is_thrice is_turned =
+    let next = λ (lanes : List ℕ × List ℕ × List ℕ × List ℕ) (z : List ℕ) (h : length z ≡ 16) (is : lanes ≡ lanes_of z).
+    ap (λ l. lanes_of (round (joined l))) is ∙ ap (λ w. lanes_of (round w)) (joined_lanes z h) in
+    let one : length (round x) ≡ 16 = length-round x ∙ long in
+    let two : length (round (round x)) ≡ 16 = length-round (round x) ∙ one in
+    let three : length (round (round (round x))) ≡ 16 = length-round (round (round x)) ∙ two in
+    is_turned ∙ next _ (round (round (round x))) three
+    (is_thrice ∙ next _ (round (round x)) two (is_twice ∙ next _ (round x) one (is_once ∙ next _ x long refl)))
+
+below_four : (P : ℕ → Type 0) → P 0 → P 1 → P 2 → P 3 → (k : ℕ) → k < 4 → P k
+below_four P p0 p1 p2 p3 zero h = p0
+below_four P p0 p1 p2 p3 (suc zero) h = p1
+below_four P p0 p1 p2 p3 (suc (suc zero)) h = p2
+below_four P p0 p1 p2 p3 (suc (suc (suc zero))) h = p3
+below_four P p0 p1 p2 p3 (suc (suc (suc (suc k)))) h = absurd (omega arith)
+
+-- the sum of a block and its four rounds is the core
+pub core_by_parts : (x y : List ℕ) → length x ≡ 16 → length y ≡ 16
+    → let sums = λ (k : ℕ). part 4 y k ≡ zip2 add32 (part 4 x k) (part 4 (round (round (round (round x)))) k) in
+    sums 0 → sums 1 → sums 2 → sums 3 → y ≡ diagonal_order (salsa20_8 (standard_order x))
+unfolding salsa20_8
+core_by_parts x y long_x long_y sum0 sum1 sum2 sum3 =
+    let s = standard_order x in
+    let long : length s ≡ 16 = length-permuted inverse_pivot x ∙ long_x in
+    let again = λ (w : List ℕ) (h : length w ≡ 16). ap (λ z. diagonal_order (double_round z)) (in_then_out pivot inverse_pivot diagonal_inverse w (omega arith)) in
+    let s1 = double_round s in
+    let s2 = double_round s1 in
+    let s3 = double_round s2 in
+    let long1 : length s1 ≡ 16 = length-double_round s ∙ long in
+    let long2 : length s2 ≡ 16 = length-double_round s1 ∙ long1 in
+    let long3 : length s3 ≡ 16 = length-double_round s2 ∙ long2 in
+    let turned : round (round (round (round x))) ≡ diagonal_order (double_round s3) =
+    ap round (ap round (again s1 long1) ∙ again s2 long2) ∙ again s3 long3 in
+    let z = diagonal_order (double_round s3) in
+    let sum : length (zip2 add32 x z) ≡ 16 = length-zip2 add32 x z (long_x ∙ sym (length-permuted pivot (double_round s3) ∙ length-double_round s3 ∙ long3)) ∙ long_x in
+    let summed : y ≡ zip2 add32 x z = parts_same 4 4 y (zip2 add32 x z) long_y sum (λ k h.
+    below_four (λ k. part 4 y k ≡ zip2 add32 (part 4 x k) (part 4 (round (round (round (round x)))) k)) sum0 sum1 sum2 sum3 k h
+    ∙ ap (λ w. zip2 add32 (part 4 x k) (part 4 w k)) turned ∙ sym (part-zip2 add32 4 k x z)) in
+    let back : x ≡ diagonal_order s = sym (out_then_in pivot inverse_pivot diagonal_inverse x (omega arith)) in
+    summed ∙ ap (λ w. zip2 add32 w z) back
+    ∙ zip_in pivot inverse_pivot diagonal_inverse add32 s (double_round s3) (long ∙ sym (length-double_round s3 ∙ long3)) (omega arith)

@@ -1,0 +1,11 @@
+pub mod WordFacts
+pub mod PartFacts
+pub mod OrderFacts
+pub mod LaneFacts
+pub mod SalsaFacts
+pub mod BlockMixFacts
+pub mod IntegerifyFacts
+pub mod RoMixFacts
+pub mod WalkFacts
+pub mod Pbkdf2Facts
+pub mod StandardFacts

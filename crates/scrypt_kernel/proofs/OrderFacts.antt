@@ -1,0 +1,152 @@
+-- Facts on words whose blocks are permuted.
+use Rattle.std.proofs.Common.{◌≡◌, ℕ, ◌<◌, ◌≤◌, ◌+◌, ◌*◌, ◌/◌, ◌%◌, List, length, map, drop, get_or, refl, sym, ap, ap₂, ◌∙◌, arith, lit<, inl, inr, zero-add}
+use Rattle.std.proofs.lemmas.List.{ext_get_or, get_or-take, get_or-drop, get_or-map, length-map}
+use Rattle.std.proofs.lemmas.List.Sums.{AllPass-from_list_all}
+use Rattle.std.proofs.lemmas.Bool.{cases_lt, ltb-true}
+use Rattle.std.proofs.Math.ListN.{get_or-eq_default}
+use Rattle.std.proofs.lemmas.List.FromFn.{length-map-range_with_len, get_or-map-range_with_len, get_or-range_with_len}
+use Rattle.std.specs.List.{list_all, range_with_len}
+use Rattle.std.specs.Prelude.{IsTrue, nat_lt}
+use Rattle.std.specs.Simd.Lanes.{zip2}
+use Rattle.std.proofs.lemmas.Simd.{length-zip2, get_or-zip2}
+use Rattle.scrypt_kernel.specs.Words.{block}
+use Rattle.scrypt_kernel.specs.Diagonal.{AreInverse, inverse_pivot, permuted, pivot}
+use Rattle.scrypt_kernel.proofs.PartFacts.{length-part}
+
+pub length-permuted : (p x : List ℕ) → length (permuted p x) ≡ length x
+unfolding permuted
+length-permuted p x = length-map-range_with_len _ 0 (length x)
+
+pub get_or-permuted : (p x : List ℕ) (i : ℕ) → i < length x
+    → get_or (permuted p x) i 0 ≡ get_or x (16 * (i / 16) + get_or p (i % 16) 0) 0
+unfolding permuted
+get_or-permuted p x i h =
+    get_or-map-range_with_len (λ i. get_or x (16 * (i / 16) + get_or p (i % 16) 0) 0) 0 (length x) i i 0 h (omega arith)
+
+-- p names places of a block
+abbrev pub IsWithin : List ℕ → Type 0
+IsWithin p = (j : ℕ) → get_or p j 0 < 16
+
+pub within : (p : List ℕ) → IsTrue (list_all (λ j. nat_lt j 16) p) → IsWithin p
+within p h j =
+    elim (cases_lt j (length p)) [
+      | inl lt ↦ ltb-true (get_or p j 0) 16 (AllPass-from_list_all (λ j. nat_lt j 16) p h j 0 lt)
+      | inr ge ↦ rw (get_or-eq_default p 0 ge) (lit< tt)
+    ]
+
+-- q undoes p
+abbrev Undoes : List ℕ → List ℕ → Type 0
+Undoes q p = (j : ℕ) → j < 16 → get_or p (get_or q j 0) 0 ≡ j
+
+undoes : (p q : List ℕ) → map (λ j. get_or p j 0) q ≡ range_with_len 0 16 → Undoes q p
+undoes p q undone j h =
+    let long : length q ≡ 16 = sym (length-map q (λ j. get_or p j 0)) ∙ ap length undone in
+    sym (get_or-map (λ j. get_or p j 0) q j 0 0 (omega arith)) ∙ ap (λ z. get_or z j 0) undone ∙ get_or-range_with_len 0 16 j 0 h ∙ zero-add j
+
+permuted_back : (p q : List ℕ) → IsWithin q → Undoes q p → (x : List ℕ) → length x % 16 ≡ 0
+    → permuted q (permuted p x) ≡ x
+permuted_back p q inside back x whole =
+    let y = permuted p x in
+    let size : length y ≡ length x = length-permuted p x in
+    let long : length (permuted q y) ≡ length x = length-permuted q y ∙ size in
+    ext_get_or 0 _ _ long (λ i h.
+    let below : i < length x = omega arith in
+    let small : i % 16 < 16 = omega arith in
+    let place : get_or q (i % 16) 0 < 16 = inside (i % 16) in
+    let j : ℕ = 16 * (i / 16) + get_or q (i % 16) 0 in
+    let block_of : j / 16 ≡ i / 16 = omega arith in
+    let place_of : j % 16 ≡ get_or q (i % 16) 0 = omega arith in
+    let at : 16 * (i / 16) + i % 16 ≡ i = omega arith in
+    get_or-permuted q y i (omega arith) ∙ get_or-permuted p x j (omega arith)
+    ∙ ap (λ m. get_or x m 0) (rw (block_of, place_of, back (i % 16) small) at))
+
+module _ (p : List ℕ) (inside : IsWithin p) where
+  pub block_permuted : (x : List ℕ) (k : ℕ) → k * 16 + 16 ≤ length x
+      → block (permuted p x) k ≡ permuted p (block x k)
+  block_permuted x k room =
+      let long : length (permuted p x) ≡ length x = length-permuted p x in
+      let one : length (block (permuted p x) k) ≡ 16 = length-part 16 k (permuted p x) (omega arith) in
+      let size : length (block x k) ≡ 16 = length-part 16 k x room in
+      let two : length (permuted p (block x k)) ≡ 16 = length-permuted p (block x k) ∙ size in
+      ext_get_or 0 _ _ (one ∙ sym two) (λ i h.
+      let below : i < 16 = omega arith in
+      let block_of : (k * 16 + i) / 16 ≡ k = omega arith in
+      let place_of : (k * 16 + i) % 16 ≡ i = omega arith in
+      let first_block : i / 16 ≡ 0 = omega arith in
+      let same_place : i % 16 ≡ i = omega arith in
+      let place : get_or p i 0 < 16 = inside i in
+      let at : 16 * k + get_or p i 0 ≡ k * 16 + get_or p i 0 = omega arith in
+      let first : 16 * 0 + get_or p i 0 ≡ get_or p i 0 = omega arith in
+      let left : get_or (block (permuted p x) k) i 0 ≡ get_or x (k * 16 + get_or p i 0) 0 =
+      get_or-take 16 (drop (k * 16) (permuted p x)) i 0 below ∙ get_or-drop (k * 16) (permuted p x) i 0
+      ∙ get_or-permuted p x (k * 16 + i) (omega arith)
+      ∙ ap (λ j. get_or x j 0) (rw (block_of, place_of) at) in
+      let right : get_or (permuted p (block x k)) i 0 ≡ get_or x (k * 16 + get_or p i 0) 0 =
+      get_or-permuted p (block x k) i (omega arith)
+      ∙ ap (λ j. get_or (block x k) j 0) (rw (first_block, same_place) first)
+      ∙ get_or-take 16 (drop (k * 16) x) (get_or p i 0) 0 place ∙ get_or-drop (k * 16) x (get_or p i 0) 0 in
+      left ∙ sym right)
+
+  -- an operation word by word
+  pub zip_permuted : (f : ℕ → ℕ → ℕ) (x y : List ℕ) → length x ≡ length y → length x % 16 ≡ 0
+      → zip2 f (permuted p x) (permuted p y) ≡ permuted p (zip2 f x y)
+  zip_permuted f x y same whole =
+      let px : length (permuted p x) ≡ length x = length-permuted p x in
+      let py : length (permuted p y) ≡ length y = length-permuted p y in
+      let left : length (zip2 f (permuted p x) (permuted p y)) ≡ length x = length-zip2 f _ _ (px ∙ same ∙ sym py) ∙ px in
+      let both : length (zip2 f x y) ≡ length x = length-zip2 f x y same in
+      let right : length (permuted p (zip2 f x y)) ≡ length x = length-permuted p (zip2 f x y) ∙ both in
+      ext_get_or 0 _ _ (left ∙ sym right) (λ i h.
+      let below : i < length x = omega arith in
+      let place : get_or p (i % 16) 0 < 16 = inside (i % 16) in
+      let j : ℕ = 16 * (i / 16) + get_or p (i % 16) 0 in
+      let one : j < length x = omega arith in
+      let two : j < length y = omega arith in
+      get_or-zip2 f (permuted p x) (permuted p y) i 0 0 0 (omega arith) (omega arith)
+      ∙ ap₂ f (get_or-permuted p x i below) (get_or-permuted p y i (omega arith))
+      ∙ sym (get_or-permuted p (zip2 f x y) i (omega arith) ∙ get_or-zip2 f x y j 0 0 0 one two))
+
+-- a block whose words come from the places of p
+pub block_by_places : (p x y : List ℕ) → length x ≡ 16 → length y ≡ 16
+    → ((j : ℕ) → j < 16 → get_or y j 0 ≡ get_or x (get_or p j 0) 0) → y ≡ permuted p x
+block_by_places p x y long_x long_y each =
+    ext_get_or 0 y (permuted p x) (long_y ∙ sym (length-permuted p x ∙ long_x)) (λ j h.
+    let below : j < 16 = omega arith in
+    let first_block : j / 16 ≡ 0 = omega arith in
+    let same_place : j % 16 ≡ j = omega arith in
+    let at : get_or p j 0 ≡ 16 * 0 + get_or p j 0 = omega arith in
+    each j below ∙ ap (λ i. get_or x i 0) at
+    ∙ sym (get_or-permuted p x j (omega arith) ∙ ap (λ i. get_or x i 0) (rw (first_block, same_place) refl)))
+
+-- the order of the standard leaves each word where it is
+pub permuted_in_place : (x : List ℕ) → permuted (range_with_len 0 16) x ≡ x
+permuted_in_place x =
+    let long : length (permuted (range_with_len 0 16) x) ≡ length x = length-permuted (range_with_len 0 16) x in
+    ext_get_or 0 _ _ long (λ i h.
+    let at : 16 * (i / 16) + i % 16 ≡ i = omega arith in
+    let small : i % 16 < 16 = omega arith in
+    get_or-permuted (range_with_len 0 16) x i (omega arith)
+    ∙ ap (λ j. get_or x (16 * (i / 16) + j) 0) (get_or-range_with_len 0 16 (i % 16) 0 small ∙ zero-add (i % 16))
+    ∙ ap (λ j. get_or x j 0) at)
+
+-- two tables that undo each other
+module _ (p q : List ℕ) (inverse : AreInverse p q) where
+  pub in_then_out : (x : List ℕ) → length x % 16 ≡ 0 → permuted q (permuted p x) ≡ x
+  in_then_out x whole = permuted_back p q (within q inverse.inverse_places) (undoes p q inverse.undone) x whole
+
+  pub out_then_in : (x : List ℕ) → length x % 16 ≡ 0 → permuted p (permuted q x) ≡ x
+  out_then_in x whole = permuted_back q p (within p inverse.places) (undoes q p inverse.redone) x whole
+
+  pub block_in : (x : List ℕ) (k : ℕ) → k * 16 + 16 ≤ length x → block (permuted p x) k ≡ permuted p (block x k)
+  block_in x k room = block_permuted p (within p inverse.places) x k room
+
+  pub block_out : (x : List ℕ) (k : ℕ) → k * 16 + 16 ≤ length x → block (permuted q x) k ≡ permuted q (block x k)
+  block_out x k room = block_permuted q (within q inverse.inverse_places) x k room
+
+  pub zip_in : (f : ℕ → ℕ → ℕ) (x y : List ℕ) → length x ≡ length y → length x % 16 ≡ 0
+      → zip2 f (permuted p x) (permuted p y) ≡ permuted p (zip2 f x y)
+  zip_in f x y same whole = zip_permuted p (within p inverse.places) f x y same whole
+
+-- the tables of the diagonal order
+pub diagonal_inverse : AreInverse pivot inverse_pivot
+diagonal_inverse = record { places = refl; inverse_places = refl; undone = refl; redone = refl }

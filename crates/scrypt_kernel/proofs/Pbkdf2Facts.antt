@@ -1,0 +1,134 @@
+-- Facts on HMAC and PBKDF2.
+use Rattle.std.proofs.Common.{◌≡◌, ℕ, zero, inl, inr, ◌<◌, ◌≤◌, ◌+◌, ◌-◌, ◌*◌, ◌/◌, ◌%◌, suc, List, [], ◌∷◌, ◌++◌, length, map, take, drop, get_or, slice_index, replicate, bit_xor, false, true, nat_lt, refl, sym, ap, ◌∙◌, arith, append_assoc, length-append}
+use Rattle.std.proofs.lemmas.Bool.{cases_lt, le-ltb, lt-ltb}
+use Rattle.std.proofs.lemmas.List.{drop-replicate, get_or_append_left, get_or-append_right, get_or-take, get_or-drop, length-take-le, ext_get_or}
+use Rattle.std.proofs.lemmas.List.FromFn.{get_or-map-range_with_len, length-map-range_with_len}
+use Rattle.std.specs.List.{flat_map, range_with_len}
+use Rattle.sha2.proofs.Facts256.{length-sha256}
+use Rattle.sha2.specs.Sha256.{digest_bytes, sha256}
+use Rattle.std.specs.List.{All}
+use Rattle.std.specs.Int.{to_be_bytes, w32}
+use Rattle.std.proofs.lemmas.List.Elements.{All-append, All-cons, All-get_or, All-nil}
+use Rattle.std.proofs.lemmas.List.{get_or_past}
+use borrow.Rule.Slice.PartMut.{put_mid}
+use Rattle.scrypt_kernel.specs.Hmac.{hmac_sha256, padded_key}
+use Rattle.scrypt_kernel.specs.Pbkdf2.{pbkdf2, pbkdf2_block, pbkdf2_byte}
+use Rattle.scrypt_kernel.specs.Words.{part}
+use Rattle.scrypt_kernel.proofs.PartFacts.{length-part, parts_all}
+
+-- a key that fits a block
+pub padded_short : (secret ys : List ℕ) → length secret ≤ 64 → ys ≡ secret
+    → ys ++ drop (length secret) (replicate 64 0) ≡ padded_key secret
+padded_short secret ys fits same =
+    let short : nat_lt 64 (length secret) ≡ false = le-ltb 64 (length secret) fits in
+    rw (same, drop-replicate {X = ℕ} (length secret) 64 0, short) refl
+
+-- the elements of a list below a part that was written
+pub put_below : (a n : ℕ) (xs ys : List ℕ) (k : ℕ) → k < a → a ≤ length xs
+    → get_or (put_mid a n xs ys) k 0 ≡ get_or xs k 0
+put_below a n xs ys k h room =
+    let front : length (take a xs) ≡ a = length-take-le a xs room in
+    get_or_append_left (take a xs) _ 0 k (omega arith) ∙ get_or-take a xs k 0 h
+
+-- the elements of the part
+pub put_inside : (a n : ℕ) (xs ys : List ℕ) (k : ℕ) → a ≤ k → k < a + length ys → a ≤ length xs
+    → get_or (put_mid a n xs ys) k 0 ≡ get_or ys (k - a) 0
+put_inside a n xs ys k low high room =
+    let front : length (take a xs) ≡ a = length-take-le a xs room in
+    get_or-append_right (take a xs) _ a k 0 front low ∙ get_or_append_left ys _ 0 (k - a) (omega arith)
+
+-- byte k is in block k / 32
+pub byte_in_block : (password salt made cut : List ℕ) (i k size : ℕ)
+    → 32 * i ≤ k → k < 32 * (i + 1) → k - 32 * i < size
+    → made ≡ pbkdf2_block password salt (i + 1) → cut ≡ take size made
+    → get_or cut (k - 32 * i) 0 ≡ pbkdf2_byte password salt k
+unfolding pbkdf2_byte
+byte_in_block password salt made cut i k size low high inside is_made is_cut =
+    let number : k / 32 ≡ i = omega arith in
+    let place : k % 32 ≡ k - 32 * i = omega arith in
+    rw (number, place, is_cut, get_or-take, is_made) refl
+
+pub length-pbkdf2 : (password salt : List ℕ) (n : ℕ) → length (pbkdf2 password salt n) ≡ n
+length-pbkdf2 password salt n = length-map-range_with_len (pbkdf2_byte password salt) 0 n
+
+-- the bytes between 32 * i and 32 * (i + 1) are those of block i + 1
+part_of_pbkdf2 : (password salt : List ℕ) (n i : ℕ) → i < n
+    → part 32 (pbkdf2 password salt (n * 32)) i ≡ pbkdf2_block password salt (i + 1)
+unfolding pbkdf2_byte hmac_sha256
+part_of_pbkdf2 password salt n i inside =
+    let whole = pbkdf2 password salt (n * 32) in
+    let room : i * 32 + 32 ≤ length whole = omega (arith, length-pbkdf2 password salt (n * 32)) in
+    let one : length (part 32 whole i) ≡ 32 = length-part 32 i whole room in
+    let two : length (pbkdf2_block password salt (i + 1)) ≡ 32 = length-sha256 _ in
+    ext_get_or 0 _ _ (one ∙ sym two) (λ j h.
+    let below : j < 32 = omega arith in
+    let number : (i * 32 + j) / 32 ≡ i = omega arith in
+    let place : (i * 32 + j) % 32 ≡ j = omega arith in
+    get_or-take 32 (drop (i * 32) whole) j 0 below ∙ get_or-drop (i * 32) whole j 0
+    ∙ get_or-map-range_with_len (pbkdf2_byte password salt) 0 (n * 32) (i * 32 + j) (i * 32 + j) 0 (omega arith) (omega arith)
+    ∙ rw (number, place) refl)
+
+-- whole blocks of a derived key
+pub pbkdf2_by_blocks : (password salt : List ℕ) (n : ℕ)
+    → pbkdf2 password salt (n * 32) ≡ flat_map (λ i. pbkdf2_block password salt (i + 1)) (range_with_len 0 n)
+pbkdf2_by_blocks password salt n =
+    parts_all (λ i. pbkdf2_block password salt (i + 1)) 32 n (pbkdf2 password salt (n * 32))
+    (length-pbkdf2 password salt (n * 32)) (λ i h. part_of_pbkdf2 password salt n i h)
+
+-- a key that is padded to the same block gives the same bytes
+same_hmac : (one other text : List ℕ) → padded_key one ≡ padded_key other → hmac_sha256 one text ≡ hmac_sha256 other text
+unfolding hmac_sha256
+same_hmac one other text padded =
+    ap (λ k. sha256 (map (bit_xor 0x5c) k ++ sha256 (map (bit_xor 0x36) k ++ text))) padded
+
+same_byte : (one other salt : List ℕ) → padded_key one ≡ padded_key other → (k : ℕ) → pbkdf2_byte one salt k ≡ pbkdf2_byte other salt k
+unfolding pbkdf2_byte
+same_byte one other salt padded k = ap (λ t. slice_index t (k % 32)) (same_hmac one other _ padded)
+
+pub same_pbkdf2 : (one other salt : List ℕ) (n : ℕ) → padded_key one ≡ padded_key other → pbkdf2 one salt n ≡ pbkdf2 other salt n
+same_pbkdf2 one other salt n padded = λ i. map (λ k. same_byte one other salt padded k i) (range_with_len 0 n)
+
+-- a zero byte after a key that leaves room in its block
+pub padded_zero_byte : (secret : List ℕ) → length secret < 64 → padded_key (secret ++ 0 ∷ []) ≡ padded_key secret
+padded_zero_byte secret fits =
+    let longer : length (secret ++ 0 ∷ []) ≡ suc (length secret) = length-append secret (0 ∷ []) ∙ omega arith in
+    let one : nat_lt 64 (length (secret ++ 0 ∷ [])) ≡ false = le-ltb 64 _ (omega arith) in
+    let other : nat_lt 64 (length secret) ≡ false = le-ltb 64 (length secret) (omega arith) in
+    let room : 64 - length secret ≡ suc (64 - length (secret ++ 0 ∷ [])) = omega arith in
+    rw (one, other, room) (append_assoc secret (0 ∷ []) (replicate (64 - length (secret ++ 0 ∷ [])) 0))
+
+-- the digest of a key that is longer than a block
+pub padded_digest : (secret : List ℕ) → 64 < length secret → padded_key (sha256 secret) ≡ padded_key secret
+padded_digest secret above =
+    let digest : nat_lt 64 (length (sha256 secret)) ≡ false = le-ltb 64 _ (omega (arith, length-sha256 secret)) in
+    let long : nat_lt 64 (length secret) ≡ true = lt-ltb 64 (length secret) above in
+    rw (long, digest) refl
+
+-- a digest is of bytes
+digest_bytes-are_bytes : (h : List ℕ) (n : ℕ) → All (λ b. b < 256) (digest_bytes h n)
+unfolding digest_bytes
+digest_bytes-are_bytes h zero = All-nil (λ b. b < 256)
+digest_bytes-are_bytes h (suc n) =
+    let w : ℕ = slice_index h n in
+    All-append (λ b. b < 256) (digest_bytes h n) (to_be_bytes w32 w) (digest_bytes-are_bytes h n)
+    (All-cons (λ b. b < 256) (w / 16777216 % 256) (w / 65536 % 256 ∷ w / 256 % 256 ∷ w % 256 ∷ []) (omega arith)
+    (All-cons (λ b. b < 256) (w / 65536 % 256) (w / 256 % 256 ∷ w % 256 ∷ []) (omega arith)
+    (All-cons (λ b. b < 256) (w / 256 % 256) (w % 256 ∷ []) (omega arith)
+    (All-cons (λ b. b < 256) (w % 256) [] (omega arith) (All-nil (λ b. b < 256))))))
+
+digest-fits : (m : List ℕ) (k : ℕ) → k < 32 → slice_index (sha256 m) k < 256
+unfolding sha256
+digest-fits m k inside =
+    All-get_or (λ b. b < 256) (digest_bytes _ 8) k 0 (omega (arith, length-sha256 m)) (digest_bytes-are_bytes _ 8)
+
+-- and so is what PBKDF2 derives
+pbkdf2_byte-fits : (password salt : List ℕ) (k : ℕ) → pbkdf2_byte password salt k < 256
+unfolding pbkdf2_byte hmac_sha256
+pbkdf2_byte-fits password salt k = digest-fits _ (k % 32) (omega arith)
+
+pub pbkdf2-are_bytes : (password salt : List ℕ) (n i : ℕ) → slice_index (pbkdf2 password salt n) i < 256
+pbkdf2-are_bytes password salt n i = elim (cases_lt i n) [
+  | inl inside ↦
+      rw (get_or-map-range_with_len (pbkdf2_byte password salt) 0 n i i 0 inside (omega arith)) (pbkdf2_byte-fits password salt i)
+  | inr outside ↦ rw (get_or_past (pbkdf2 password salt n) i 0 (omega (arith, length-pbkdf2 password salt n))) (omega arith)
+]

@@ -1,0 +1,93 @@
+use mathlib.Core.Path.{refl}
+use mathlib.Core.List.{[], ◌∷◌}
+use seplogic.Ra.Ura.{Ura}
+use mir.Syntax.{named}
+use mir.Val.{Val, vptr, vstruct, vcons, vunit, vnil}
+use base.Logic.{SProp, ent, via, fst∗}
+use base.Fml.{Fml}
+use prog.Memory.{Memory}
+use prog.Routine.{Routine}
+use prog.Wp.{Calls, Loops, WpFn, Tables}
+use types.Logic.{Logic}
+use contract.Lifetimes.{Lfts, Shares}
+use contract.Monad.{Fun}
+use contract.Running.{tables, tables_of}
+use sound.WpLaws.{WpFn-mono}
+use types.Kit.{‵, raw, ◌$◌, ◌∵◌, !, qed, move, suffices, done}
+use types.Run.{no_more, and_then, unit_lit, returns, enter}
+use types.Part.{agg}
+use types.ByLocal.{alloc_all, pass_all, free_all, look_at, sets}
+use denote.Exit.{yes}
+use denote.RattleType.{owns}
+use denote.Ref.{shr_vals, shr_Tells}
+use denote.Shadow.{pure_i}
+use denote.Signature.{Slot, plain, types_at}
+use denote.Builtin.{u32, ArrayOf}
+use denote.Triple.Entry.{on_entry, alive, Args}
+use denote.Triple.Spec.{Meets, triple_of}
+use denote.Triple.Table.{entered}
+use denote.Triple.Walked.{says, stay_none_ref, Stays, walk_of, Walks, ends_at, walked, Goes-none_ref, walk_Meets}
+use Rattle.scrypt_kernel.specs.contracts.cores.CoreCount.after_lanes_core.Key.{name as key}
+use Rattle.scrypt_kernel.specs.contracts.cores.CoreCount.after_lanes_core as f
+use Rattle.scrypt_kernel.proofs.cores.CoreCount.after_lanes_core.Statement as stated
+use Rattle.scrypt_kernel.proofs.cores.CoreCount.after_lanes_core.Code as code
+use Rattle.scrypt_kernel.specs.contracts.cores.CoreCount as made
+use Rattle.std.proofs.Common.{◌+◌}
+use Rattle.scrypt_kernel.specs.declared.cores.CoreCount.{CoreCount}
+
+abbrev words : Slot 3
+words = ArrayOf (plain (λ _. u32)) (λ _. tt) 16
+
+abbrev stayed : Stays (f.ended).signature.params (f.ended).kept
+stayed = (stay_none_ref (0 ∷ []) tt (plain (λ _. made.the_row)) yes, (stay_none_ref (1 ∷ []) tt words yes, (stay_none_ref (2 ∷ []) tt words yes, tt)))
+
+module _ {M : Type 1} {𝓤 : Ura M} (𝓛 : Logic 𝓤) (mem : Memory → SProp 𝓤) (run : Routine → Fun 𝓤) (C : Calls 𝓤 𝓛.H) (Λ : Loops 𝓤 𝓛.H) where
+  open 𝓛 use {H}
+
+  module _ (κs : Lfts 3) (qs : Shares 3) (a : Args f.signature κs) where
+    abbrev before : Val
+    before = vptr a.0.ref_ptr.0 a.0.ref_ptr.1
+
+    abbrev from : Val
+    from = vptr a.1.0.ref_ptr.0 a.1.0.ref_ptr.1
+
+    abbrev to : Val
+    to = vptr a.1.1.0.ref_ptr.0 a.1.1.0.ref_ptr.1
+
+    abbrev counted : CoreCount
+    counted = record { seal = tt; all = a.0.now.all + 1; lanes = a.0.now.lanes + 1 }
+
+    abbrev bound : (walk_of 𝓛 f.ended stayed (f.clauses 𝓛 mem run)).Ghost
+    bound = ((κs, qs, tt, a, (before ∷ [], (from ∷ [], (to ∷ [], tt)))), tt)
+
+    abbrev passed : Fml
+    passed = owns (types_at f.signature.params κs) a (before ∷ [], (from ∷ [], (to ∷ [], tt)))
+
+    walk : ent 𝓤 (on_entry 𝓛 f.signature κs qs a (before ∷ [], (from ∷ [], (to ∷ [], tt))))
+        (WpFn 𝓤 H C Λ code.function (before ∷ from ∷ to ∷ []) ((walk_of 𝓛 f.ended stayed (f.clauses 𝓛 mem run)).post bound))
+    walk =
+        qed 𝓛 (raw (alive 𝓛 f.signature κs qs) ∷ ‵ passed ∷ []) ∵ enter ! C Λ code.function (before ∷ from ∷ to ∷ []) _ $
+        alloc_all ! (λ l. pass_all ! refl ((tt, tt), ((tt, tt), ((tt, tt), tt))) $ sets ! (agg ! (and_then ! (unit_lit !) (no_more !))) refl (tt, (tt, tt)) $
+        returns ! (look_at ! 0 refl) $ free_all ! refl $
+        suffices ! _ (ends_at 𝓛 f.ended stayed (f.clauses 𝓛 mem run) bound (vstruct (vcons vunit vnil)) counted (tt, (tt, (tt, tt))) (tt, (tt, (tt, tt)))) $
+        says ! (refl, refl) $ pure_i ! (made.the_row.own_val counted (vstruct (vcons vunit vnil) ∷ [])) ((λ vss. (tt, (tt, tt))), tt) (((vunit ∷ [], tt), (refl, (refl, tt))), tt) $
+        move ! (1 ∷ 2 ∷ 0 ∷ []) $ done !)
+
+  walks : Walks 𝓛 f.ended stayed (WpFn 𝓤 H C Λ code.function) (f.clauses 𝓛 mem run)
+  walks =
+      walked 𝓛 f.ended stayed (f.clauses 𝓛 mem run) (WpFn 𝓤 H C Λ code.function) (λ κs. (shr_vals, (shr_vals, (shr_vals, tt))))
+      (λ κs. (shr_Tells (named 0) κs.0 made.the_row, (shr_Tells (named 1) κs.1.0 (words.row κs), (shr_Tells (named 2) κs.1.1.0 (words.row κs), tt))))
+      (λ κs qs bounds a g are. via 𝓤 _ (fst∗ 𝓤 _ ((f.clauses 𝓛 mem run κs a).requires g)) (walk κs qs a))
+
+meets : {M : Type 1} {𝓤 : Ura M} (𝓛 : Logic 𝓤) (mem : Memory → SProp 𝓤) (run : Routine → Fun 𝓤) (𝓣 : Tables 𝓤 𝓛.H)
+    → Meets 𝓛 f.signature (WpFn 𝓤 𝓛.H 𝓣.C 𝓣.Λ code.function) (f.spec 𝓛 mem run)
+meets {𝓤 = 𝓤} 𝓛 mem run 𝓣 =
+    walk_Meets 𝓛 f.ended stayed (Goes-none_ref 𝓛 3 (0 ∷ []) tt (plain (λ _. made.the_row)) yes, (Goes-none_ref 𝓛 3 (1 ∷ []) tt words yes, (Goes-none_ref 𝓛 3 (2 ∷ []) tt words yes, tt))) (f.clauses 𝓛 mem run) (WpFn 𝓤 𝓛.H 𝓣.C 𝓣.Λ code.function)
+    (WpFn-mono 𝓤 𝓛.H 𝓛.laws 𝓣 code.function) (walks 𝓛 mem run 𝓣.C 𝓣.Λ)
+
+pub after_lanes_core_spec : {M : Type 1} → stated.statement M
+unfolding tables_of
+after_lanes_core_spec 𝓤 𝓛 𝓜 𝓡 wired =
+    entered 𝓤 𝓛.H (triple_of 𝓛 f.signature (f.spec 𝓛 𝓜.mem 𝓡.returns))
+    (tables 𝓤 𝓛.H 𝓜 𝓡 𝓡.env).C (tables 𝓤 𝓛.H 𝓜 𝓡 𝓡.env).Λ key code.function (code.unfolded 𝓤 𝓛.H 𝓜 𝓡 wired)
+    (meets 𝓛 𝓜.mem 𝓡.returns (tables_of 𝓤 𝓛.H 𝓜 (tables 𝓤 𝓛.H 𝓜 𝓡 𝓡.env)))

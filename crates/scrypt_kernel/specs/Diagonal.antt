@@ -1,0 +1,73 @@
+-- Diagonal order: in each block the words of the four diagonals follow one another, so that the four
+-- columns of a double round are the lanes of four vectors of four words. This order is not the
+-- standard's: it is how the lanes compute.
+use Rattle.std.specs.Prelude.{◌≡◌, ℕ, ◌+◌, ◌*◌, ◌/◌, ◌%◌, ◌<◌, List, [], ◌∷◌, ◌++◌, map, length, take, drop, slice_index, nat_lt, IsTrue}
+use Rattle.scrypt_kernel.specs.Words.{block, last_block, part, xor_words}
+use Rattle.scrypt_kernel.specs.Salsa.{quarter_round, salsa20_8}
+use Rattle.std.specs.List.{list_all, range_with_len}
+
+-- the place in standard order of the word at each place in diagonal order
+abbrev pub pivot : List ℕ
+pivot = 0 ∷ 5 ∷ 10 ∷ 15 ∷ 4 ∷ 9 ∷ 14 ∷ 3 ∷ 8 ∷ 13 ∷ 2 ∷ 7 ∷ 12 ∷ 1 ∷ 6 ∷ 11 ∷ []
+
+-- the place in diagonal order of the word at each place in standard order
+abbrev pub inverse_pivot : List ℕ
+inverse_pivot = 0 ∷ 13 ∷ 10 ∷ 7 ∷ 4 ∷ 1 ∷ 14 ∷ 11 ∷ 8 ∷ 5 ∷ 2 ∷ 15 ∷ 12 ∷ 9 ∷ 6 ∷ 3 ∷ []
+
+-- in each block, the word from place p[i] at place i
+unfoldable pub permuted : List ℕ → List ℕ → List ℕ
+permuted p x =
+    map (λ i. slice_index x (16 * (i / 16) + slice_index p (i % 16))) (range_with_len 0 (length x))
+
+-- words in standard order, put into diagonal order
+abbrev pub diagonal_order : List ℕ → List ℕ
+diagonal_order x = permuted pivot x
+
+-- words in diagonal order, put into standard order
+abbrev pub standard_order : List ℕ → List ℕ
+standard_order x = permuted inverse_pivot x
+
+-- the tables p and q name the 16 places of a block, and undo each other
+pub record AreInverse (p q : List ℕ) : Type 0 where
+  pub places : IsTrue (list_all (λ j. nat_lt j 16) p)
+  pub inverse_places : IsTrue (list_all (λ j. nat_lt j 16) q)
+  pub undone : map (slice_index p) q ≡ range_with_len 0 16
+  pub redone : map (slice_index q) p ≡ range_with_len 0 16
+
+-- a block as the lanes of four vectors
+abbrev pub lanes_of : List ℕ → List ℕ × List ℕ × List ℕ × List ℕ
+lanes_of x = (part 4 x 0, part 4 x 1, part 4 x 2, part 4 x 3)
+
+-- the quarter rounds of four columns, whose words are the lanes of the vectors a, b, c and d
+abbrev pub quarter_rounds : List ℕ → List ℕ → List ℕ → List ℕ → List ℕ × List ℕ × List ℕ × List ℕ
+quarter_rounds a b c d =
+    let column = λ (j : ℕ).
+    quarter_round (slice_index a j) (slice_index b j) (slice_index c j) (slice_index d j) in
+    let lanes = range_with_len 0 4 in (
+      map (λ j. (column j).0) lanes,
+      map (λ j. (column j).1) lanes,
+      map (λ j. (column j).2) lanes,
+      map (λ j. (column j).3) lanes,
+    )
+
+-- a vector turned to the left by k places
+abbrev pub turned_left : ℕ → List ℕ → List ℕ
+turned_left k x = drop k x ++ take k x
+
+-- the vectors of the rows from those of the columns, and the other way round: d, c and b are turned to
+-- the left by one, two and three places, and d and b change places
+abbrev pub turned : List ℕ × List ℕ × List ℕ × List ℕ → List ℕ × List ℕ × List ℕ × List ℕ
+turned (a, b, c, d) = (a, turned_left 1 d, turned_left 2 c, turned_left 3 b)
+
+-- the core on a block in diagonal order
+abbrev pub diagonal_core : List ℕ → List ℕ
+diagonal_core x = diagonal_order (salsa20_8 (standard_order x))
+
+-- out is the block mix of b with f in place of the core, and x i is X before step i
+pub record IsBlockMixBy (f : List ℕ → List ℕ) (b out : List ℕ) : Type 0 where
+  pub x : ℕ → List ℕ
+  pub first : x 0 ≡ last_block b
+  pub next : (i : ℕ) → i < length b / 16 → x (i + 1) ≡ f (xor_words (x i) (block b i))
+  pub long : length out ≡ length b
+  pub even : (k : ℕ) → k < length b / 32 → block out k ≡ x (2 * k + 1)
+  pub odd : (k : ℕ) → k < length b / 32 → block out (length b / 32 + k) ≡ x (2 * k + 1 + 1)

@@ -1,0 +1,27 @@
+//! scryptBlockMix (RFC 7914, section 4) on words in diagonal order, four lanes at a time.
+
+ghost use Rattle.std.specs.Prelude.{◌≡◌, ◌+◌, ◌*◌, ◌/◌, ◌%◌, ◌<◌, length};
+ghost use Rattle.scrypt_kernel.specs.BlockMix.{block_mix};
+ghost use Rattle.scrypt_kernel.specs.Diagonal.{diagonal_order, standard_order};
+
+use crate::CoreCount;
+use crate::block_mix::mix;
+pub use crate::cores::lanes::core;
+use crate::order::diagonal::Diagonal;
+pub use crate::order::diagonal::{shuffle_in, shuffle_out};
+
+/// Writes the block mix of `input` to `output`, both in diagonal order, and counts its `2 * r`
+/// cores, all of which are of the lanes (RFC 7914, section 4).
+///
+/// Both have `32 * r` words, which are `2 * r` blocks of 16, with `r` at least 1.
+#[inline(always)]
+pub fn scrypt_block_mix(input: &[u32], output: &mut [u32], cores: &mut CoreCount)
+    requires same { length input.now ≡ length output.old }
+    requires some { 0 < length input.now }
+    requires whole { length input.now % 32 ≡ 0 }
+    ensures value { output.new ≡ diagonal_order (block_mix (standard_order input.now)) }
+    ensures all { cores.new.all ≡ cores.old.all + 2 * (length input.now / 32) }
+    ensures lanes { cores.new.lanes ≡ cores.old.lanes + 2 * (length input.now / 32) }
+{
+    mix::<Diagonal, &[u32]>(&input, output, cores);
+}

@@ -1,0 +1,23 @@
+//! scryptBlockMix (RFC 7914, section 4) on words in standard order.
+
+ghost use Rattle.std.specs.Prelude.{◌≡◌, ◌+◌, ◌*◌, ◌/◌, ◌%◌, ◌<◌, length};
+ghost use Rattle.scrypt_kernel.specs.BlockMix.{block_mix};
+
+use crate::CoreCount;
+use crate::block_mix::mix;
+use crate::order::standard::Standard;
+
+/// Writes the block mix of `input` to `output`, and counts its `2 * r` cores (RFC 7914, section 4).
+///
+/// Both have `32 * r` words, which are `2 * r` blocks of 16, with `r` at least 1.
+#[inline(always)]
+pub fn scrypt_block_mix(input: &[u32], output: &mut [u32], cores: &mut CoreCount)
+    requires same { length input.now ≡ length output.old }
+    requires some { 0 < length input.now }
+    requires whole { length input.now % 32 ≡ 0 }
+    ensures value { output.new ≡ block_mix input.now }
+    ensures all { cores.new.all ≡ cores.old.all + 2 * (length input.now / 32) }
+    ensures lanes { cores.new.lanes ≡ cores.old.lanes }
+{
+    mix::<Standard, &[u32]>(&input, output, cores);
+}

@@ -1,0 +1,54 @@
+//! The Salsa20/8 cores, and the count of how many were run. Nothing outside this module and those
+//! below it raises a count.
+
+ghost use Rattle.std.specs.Prelude.{◌≡◌, ℕ, ◌+◌};
+ghost use Rattle.std.specs.Borrow.{ftrue};
+ghost use Rattle.scrypt_kernel.specs.Salsa.{salsa20_8};
+ghost use Rattle.scrypt_kernel.specs.Diagonal.{diagonal_order, standard_order};
+
+pub mod lanes;
+pub mod salsa;
+
+use std::marker::Model;
+
+/// How many Salsa20/8 cores were run: all of them, and those of the lanes.
+///
+/// Contracts see two numbers without an upper bound. At run time a count has no bytes, and no running
+/// program reads it.
+#[derive(Drop)]
+pub struct CoreCount {
+    seal: (),
+    pub ghost all: { ℕ },
+    pub ghost lanes: { ℕ },
+}
+
+impl Model for CoreCount {
+    ghost also_owns = { λ _. ftrue };
+}
+
+impl CoreCount {
+    /// A count of no core.
+    pub fn new() -> CoreCount
+        ensures { (result.all ≡ 0) × (result.lanes ≡ 0) }
+    {
+        CoreCount { seal: () }
+    }
+
+    // The count after one more core, whose input and output are the evidence that it was run.
+    fn after_core(_before: &CoreCount, _from: &[u32; 16], _to: &[u32; 16]) -> CoreCount
+        requires { _to.now ≡ salsa20_8 _from.now }
+        ensures { (result.all ≡ _before.now.all + 1) × (result.lanes ≡ _before.now.lanes) }
+    {
+        CoreCount { seal: () }
+    }
+
+    // The count after one more core of the lanes, whose input and output are in diagonal order.
+    fn after_lanes_core(_before: &CoreCount, _from: &[u32; 16], _to: &[u32; 16]) -> CoreCount
+        requires { _to.now ≡ diagonal_order (salsa20_8 (standard_order _from.now)) }
+        ensures { (result.all ≡ _before.now.all + 1) × (result.lanes ≡ _before.now.lanes + 1) }
+    {
+        CoreCount { seal: () }
+    }
+}
+
+const _: () = prove!(size_of::<CoreCount>() == 0);

@@ -1,0 +1,90 @@
+//! The Salsa20/8 core (RFC 7914, section 3) on words in diagonal order, four lanes at a time.
+
+ghost use Rattle.std.specs.Prelude.{◌≡◌, ◌+◌, ◌*◌, ◌<◌, ◌++◌, bit_xor};
+ghost use Rattle.std.specs.Int.{w32, rotate_left};
+ghost use Rattle.std.specs.Simd.Lanes.{zip2};
+ghost use Rattle.scrypt_kernel.specs.Words.{add32};
+ghost use Rattle.scrypt_kernel.specs.Salsa.{double_round, salsa20_8};
+ghost use Rattle.scrypt_kernel.specs.Diagonal.{diagonal_order, lanes_of, quarter_rounds, standard_order, turned};
+
+use crate::cores::CoreCount;
+use crate::words::{lanes, put_lanes};
+use std::simd::u32x4;
+
+/// Replaces the 16 words, which are in diagonal order, by their Salsa20/8 core in diagonal order, and
+/// counts it as a core of the lanes (RFC 7914, section 3).
+#[inline(always)]
+pub fn core(x: &mut [u32; 16], cores: &mut CoreCount)
+    ensures value { x.new ≡ diagonal_order (salsa20_8 (standard_order x.old)) }
+    ensures all { cores.new.all ≡ cores.old.all + 1 }
+    ensures lanes { cores.new.lanes ≡ cores.old.lanes + 1 }
+{
+    let from = *x;
+    salsa20_8(x);
+    *cores = CoreCount::after_lanes_core(cores, &from, x);
+}
+
+#[inline(always)]
+fn salsa20_8(x: &mut [u32; 16])
+    ensures { x.new ≡ diagonal_order (salsa20_8 (standard_order x.old)) }
+{
+    let (a, b, c, d) = (lanes(x, 0), lanes(x, 1), lanes(x, 2), lanes(x, 3));
+    let once = double_round(a, b, c, d);
+    let twice = double_round(once.0, once.1, once.2, once.3);
+    let thrice = double_round(twice.0, twice.1, twice.2, twice.3);
+    let all = double_round(thrice.0, thrice.1, thrice.2, thrice.3);
+    put_lanes(x, 0, a + all.0);
+    put_lanes(x, 1, b + all.1);
+    put_lanes(x, 2, c + all.2);
+    put_lanes(x, 3, d + all.3);
+}
+
+// A double round is two turns: the first is the columns, and the second the rows.
+#[inline(always)]
+fn double_round(a: u32x4, b: u32x4, c: u32x4, d: u32x4) -> (u32x4, u32x4, u32x4, u32x4)
+    ensures { result
+        ≡ lanes_of (diagonal_order (double_round (standard_order (a ++ b ++ c ++ d)))) }
+{
+    let (a, b, c, d) = turn(a, b, c, d);
+    turn(a, b, c, d)
+}
+
+// Four quarter rounds at once, one in each lane. Then the lanes are turned: from the columns of the
+// block they become the rows, and the other way round.
+#[inline(always)]
+fn turn(a: u32x4, b: u32x4, c: u32x4, d: u32x4) -> (u32x4, u32x4, u32x4, u32x4)
+    ensures { result ≡ turned (quarter_rounds a b c d) }
+{
+    let (a, b, c, d) = quarter_round(a, b, c, d);
+    (
+        a,
+        d.rotate_elements_left::<1>(),
+        c.rotate_elements_left::<2>(),
+        b.rotate_elements_left::<3>(),
+    )
+}
+
+#[inline(always)]
+fn quarter_round(a: u32x4, b: u32x4, c: u32x4, d: u32x4) -> (u32x4, u32x4, u32x4, u32x4)
+    ensures { result ≡ quarter_rounds a b c d }
+{
+    let b = xor_rotated(b, a + d, 7);
+    let c = xor_rotated(c, b + a, 9);
+    let d = xor_rotated(d, c + b, 13);
+    let a = xor_rotated(a, d + c, 18);
+    (a, b, c, d)
+}
+
+// The exclusive or of `x` with the lanes of `y`, each rotated to the left by `k` bits. The two parts of
+// a rotation share no bit, so two exclusive ors take them in, which is 3 to 8 per cent faster than an
+// or of the parts first. The part that is used last is computed first, so that the other one, for
+// which the next step waits, needs no copy.
+#[inline(always)]
+fn xor_rotated(x: u32x4, y: u32x4, k: u32) -> u32x4
+    requires { (0 < k) × (k < 32) }
+    ensures { result ≡ zip2 (λ a b. bit_xor a (rotate_left w32 b k)) x y }
+{
+    let right = y >> u32x4::splat(32 - k);
+    let left = y << u32x4::splat(k);
+    x ^ left ^ right
+}

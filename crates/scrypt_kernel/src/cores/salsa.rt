@@ -1,0 +1,52 @@
+//! The Salsa20/8 core (RFC 7914, section 3) on words in standard order.
+
+ghost use Rattle.std.specs.Prelude.{◌≡◌, ◌≢◌, ◌+◌, ◌<◌};
+ghost use Rattle.scrypt_kernel.specs.Salsa.{quarter_round_at, double_round, salsa20_8};
+
+use crate::cores::CoreCount;
+use crate::words::add_words;
+
+/// Replaces the 16 words by their Salsa20/8 core, and counts it (RFC 7914, section 3).
+#[inline(always)]
+pub fn core(x: &mut [u32; 16], cores: &mut CoreCount)
+    ensures value { x.new ≡ salsa20_8 x.old }
+    ensures all { cores.new.all ≡ cores.old.all + 1 }
+    ensures lanes { cores.new.lanes ≡ cores.old.lanes }
+{
+    let from = *x;
+    let mut turned = from;
+    double_round(&mut turned);
+    double_round(&mut turned);
+    double_round(&mut turned);
+    double_round(&mut turned);
+    add_words(x, &turned);
+    *cores = CoreCount::after_core(cores, &from, x);
+}
+
+#[inline(always)]
+fn double_round(x: &mut [u32; 16])
+    ensures { x.new ≡ double_round x.old }
+{
+    // the columns
+    quarter_round(x, 0, 4, 8, 12);
+    quarter_round(x, 5, 9, 13, 1);
+    quarter_round(x, 10, 14, 2, 6);
+    quarter_round(x, 15, 3, 7, 11);
+    // the rows
+    quarter_round(x, 0, 1, 2, 3);
+    quarter_round(x, 5, 6, 7, 4);
+    quarter_round(x, 10, 11, 8, 9);
+    quarter_round(x, 15, 12, 13, 14);
+}
+
+#[inline(always)]
+fn quarter_round(x: &mut [u32; 16], a: usize, b: usize, c: usize, d: usize)
+    requires places { (a < 16) × (b < 16) × (c < 16) × (d < 16) }
+    requires apart { (a ≢ b) × (a ≢ c) × (a ≢ d) × (b ≢ c) × (b ≢ d) × (c ≢ d) }
+    ensures { x.new ≡ quarter_round_at a b c d x.old }
+{
+    x[b] ^= x[a].wrapping_add(x[d]).rotate_left(7);
+    x[c] ^= x[b].wrapping_add(x[a]).rotate_left(9);
+    x[d] ^= x[c].wrapping_add(x[b]).rotate_left(13);
+    x[a] ^= x[d].wrapping_add(x[c]).rotate_left(18);
+}

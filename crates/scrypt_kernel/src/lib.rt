@@ -1,0 +1,19 @@
+//! The steps of scrypt (RFC 7914) below the derivation of a key, each proved against its definition:
+//! HMAC, PBKDF2, the Salsa20/8 core, scryptBlockMix and scryptROMix.
+//!
+//! The definitions that the contracts cite are in `specs/`, one file for each section of a standard.
+#![tactic(auto)]
+
+pub mod block_mix;
+mod cores;
+pub mod hmac;
+pub mod memory;
+pub mod order;
+pub mod pbkdf2;
+pub mod romix;
+pub mod salsa;
+pub mod table;
+pub mod thin;
+mod words;
+
+pub use cores::CoreCount;

@@ -1,0 +1,133 @@
+//! Memory in which the rows of a table are added one after another.
+
+ghost use Rattle.std.specs.Prelude.{◌≡◌, ℕ, ◌+◌, ◌*◌, ◌/◌, ◌%◌, ◌<◌, ◌≤◌, List, [], ◌++◌, length};
+ghost use Rattle.std.specs.Vec.{vec_capacity, vec_len};
+ghost use Rattle.scrypt_kernel.specs.Words.{part};
+ghost use Rattle.scrypt_kernel.specs.BlockMix.{block_mix};
+ghost use Rattle.scrypt_kernel.specs.Diagonal.{permuted};
+
+use crate::block_mix::mix;
+use crate::order::Order;
+use crate::{CoreCount, words};
+
+/// Memory for rows of words, and the rows that are in it.
+pub trait Memory {
+    // the words of the rows
+    ghost words: { Self → List ℕ };
+
+    // how many words there is room for
+    ghost room: { Self → ℕ };
+
+    /// The words of the rows.
+    fn words(&self) -> &[u32]
+        ensures value { result.now ≡ words self.now };
+
+    /// Removes all rows.
+    fn clear(&mut self)
+        ensures words { words self.new ≡ [] }
+        ensures room { room self.old ≤ room self.new };
+
+    /// Adds a row.
+    fn append(&mut self, row: &[u32])
+        requires { length (words self.old) + length row.now ≤ room self.old }
+        ensures words { words self.new ≡ words self.old ++ row.now }
+        ensures room { room self.old ≤ room self.new };
+
+    /// Adds the block mix of row `i`, the last one, as row `i + 1`, and counts its cores.
+    ///
+    /// A row has the length of `spare`, whose words are lost.
+    fn add_mix<O: Order>(&mut self, i: usize, spare: &mut [u32], cores: &mut CoreCount)
+        requires some { 0 < length spare.old }
+        requires whole { length spare.old % 32 ≡ 0 }
+        requires last { length (words self.old) ≡ (i + 1) * length spare.old }
+        requires room { (i + 2) * length spare.old ≤ room self.old }
+        ensures words { words self.new ≡ words self.old ++ permuted O.pivot
+            (block_mix (permuted O.inverse_pivot (part (length spare.old) (words self.old) i))) }
+        ensures room { room self.old ≤ room self.new }
+        ensures all { cores.new.all ≡ cores.old.all + 2 * (length spare.old / 32) }
+        ensures lanes { cores.new.lanes ≡ cores.old.lanes
+            + O.lanes_of_core * (2 * (length spare.old / 32)) };
+}
+
+/// Memory that the caller lends. Each row is mixed straight into its place.
+#[derive(Drop)]
+pub struct Lent<'a> {
+    memory: &'a mut [u32],
+    len: usize,
+    ghost inside: { len ≤ length memory.now },
+}
+
+impl<'a> Lent<'a> {
+    ghost use Rattle.scrypt_kernel.specs.Memory.{lent_room, lent_words};
+
+    /// This memory, with no row in it.
+    pub fn new(memory: &'a mut [u32]) -> Lent<'a>
+        ensures empty { lent_words result ≡ [] }
+        ensures room { lent_room result ≡ length memory.old }
+    {
+        Lent { memory, len: 0 }
+    }
+}
+
+impl<'a> Memory for Lent<'a> {
+    ghost use Rattle.scrypt_kernel.specs.Memory.{lent_room, lent_words};
+
+    ghost words = { lent_words };
+
+    ghost room = { lent_room };
+
+    #[inline(always)]
+    fn words(&self) -> &[u32] {
+        &self.memory[..self.len]
+    }
+
+    #[inline(always)]
+    fn clear(&mut self) {
+        self.len = 0;
+    }
+
+    #[inline(always)]
+    fn append(&mut self, row: &[u32]) {
+        let memory = &mut *self.memory;
+        let end = self.len + row.len();
+        memory[self.len..end].copy_from_slice(row);
+        self.len = end;
+    }
+
+    #[inline(always)]
+    fn add_mix<O: Order>(&mut self, i: usize, spare: &mut [u32], cores: &mut CoreCount) {
+        let s = spare.len();
+        let memory = &mut *self.memory;
+        let (rows, rest) = memory.split_at_mut(self.len);
+        mix::<O, &[u32]>(&words::part(rows, s, i), &mut rest[..s], cores);
+        self.len += s;
+    }
+}
+
+/// A vector that grows within its capacity, so that no pass over its memory writes zeros first.
+impl Memory for Vec<u32> {
+    ghost words = { λ rows. rows.items };
+
+    ghost room = { λ rows. vec_capacity rows };
+
+    #[inline(always)]
+    fn words(&self) -> &[u32] {
+        self.as_slice()
+    }
+
+    #[inline(always)]
+    fn clear(&mut self) {
+        self.clear();
+    }
+
+    #[inline(always)]
+    fn append(&mut self, row: &[u32]) {
+        self.extend_from_slice(row).unwrap();
+    }
+
+    #[inline(always)]
+    fn add_mix<O: Order>(&mut self, i: usize, spare: &mut [u32], cores: &mut CoreCount) {
+        mix::<O, &[u32]>(&words::part(self.as_slice(), spare.len(), i), spare, cores);
+        self.extend_from_slice(spare).unwrap();
+    }
+}

@@ -1,0 +1,60 @@
+//! The orders in which the words of a block can be kept.
+
+ghost use Rattle.std.specs.Prelude.{◌≡◌, ℕ, ◌+◌, ◌*◌, ◌%◌, ◌^◌, ◌<◌, ◌≤◌, List, length};
+ghost use Rattle.scrypt_kernel.specs.Salsa.{salsa20_8};
+ghost use Rattle.scrypt_kernel.specs.RoMix.{integerify};
+ghost use Rattle.scrypt_kernel.specs.Diagonal.{AreInverse, permuted};
+
+pub mod diagonal;
+pub mod standard;
+
+use crate::CoreCount;
+
+/// An order of the words in each block, and what scryptROMix computes in it.
+pub trait Order {
+    // the place in standard order of the word at each place of this one
+    ghost pivot: { List ℕ };
+
+    // the place in this order of the word at each place of standard order
+    ghost inverse_pivot: { List ℕ };
+
+    // how many cores of the lanes one core is, 0 or 1
+    ghost lanes_of_core: { ℕ };
+
+    /// Puts words from standard order into this one.
+    fn shuffle_in(x: &mut [u32])
+        requires { length x.old % 16 ≡ 0 }
+        ensures value { x.new ≡ permuted pivot x.old };
+
+    /// Puts words from this order into standard order.
+    fn shuffle_out(x: &mut [u32])
+        requires { length x.old % 16 ≡ 0 }
+        ensures value { x.new ≡ permuted inverse_pivot x.old };
+
+    /// Integerify modulo `2^log_n` (RFC 7914, section 5, step 3).
+    fn integerify(x: &[u32], log_n: u8) -> usize
+        requires some { 0 < length x.now }
+        requires whole { length x.now % 16 ≡ 0 }
+        requires small { log_n ≤ 56 }
+        ensures value { result ≡ integerify (permuted inverse_pivot x.now) % 2 ^ log_n }
+        ensures inside { result < 2 ^ log_n };
+
+    /// Replaces a block by its Salsa20/8 core, and counts it.
+    fn core(x: &mut [u32; 16], cores: &mut CoreCount)
+        ensures value { x.new ≡ permuted pivot (salsa20_8 (permuted inverse_pivot x.old)) }
+        ensures all { cores.new.all ≡ cores.old.all + 1 }
+        ensures lanes { cores.new.lanes ≡ cores.old.lanes + lanes_of_core };
+
+    ghost inverse: { AreInverse pivot inverse_pivot };
+}
+
+// The low `log_n` bits of the number that begins with these two words, in little-endian order.
+#[inline(always)]
+fn low_bits(first: u32, second: u32, log_n: u8) -> usize
+    requires { log_n ≤ 56 }
+    ensures value { result ≡ (first + 2 ^ 32 * second) % 2 ^ log_n }
+    ensures inside { result < 2 ^ log_n }
+{
+    let number = (u64::from(second) << 32) | u64::from(first);
+    (number & ((1u64 << log_n) - 1)) as usize
+}

@@ -1,0 +1,104 @@
+//! Lists of words, their bytes, and the parts that they are cut into.
+
+ghost use Rattle.std.specs.Prelude.{◌≡◌, ◌≢◌, ℕ, ◌+◌, ◌*◌, ◌%◌, ◌≤◌, length};
+ghost use Rattle.scrypt_kernel.specs.Words.{add_words, xor_words, bytes_of, words_of, block, part};
+
+use std::simd::u32x4;
+
+/// Reads the words of `bytes`, four bytes each in little-endian order.
+pub fn read_words(bytes: &[u8], words: &mut [u32])
+    requires { length bytes.now ≡ 4 * length words.old }
+    ensures { words.new ≡ words_of bytes.now }
+{
+    for i in 0..words.len() {
+        let at = 4 * i;
+        words[i] = u32::from_le_bytes([bytes[at], bytes[at + 1], bytes[at + 2], bytes[at + 3]]);
+    }
+}
+
+/// Writes the bytes of `words`, four each in little-endian order.
+pub fn write_words(words: &[u32], bytes: &mut [u8])
+    requires { length bytes.old ≡ 4 * length words.now }
+    ensures { bytes.new ≡ bytes_of words.now }
+{
+    for i in 0..words.len() {
+        bytes[4 * i..4 * i + 4].copy_from_slice(&words[i].to_le_bytes());
+    }
+}
+
+/// Adds `y` to `x`, word by word.
+#[inline(always)]
+pub fn add_words(x: &mut [u32], y: &[u32])
+    requires { length x.old ≡ length y.now }
+    ensures { x.new ≡ add_words x.old y.now }
+{
+    for i in 0..x.len() {
+        x[i] = x[i].wrapping_add(y[i]);
+    }
+}
+
+/// Part `k` of `x`, which is cut into parts of `s` words.
+#[inline(always)]
+pub fn part(x: &[u32], s: usize, k: usize) -> &[u32]
+    requires { k * s + s ≤ length x.now }
+    ensures value { result.now ≡ part s x.now k }
+    ensures len { length result.now ≡ s }
+{
+    &x[k * s..k * s + s]
+}
+
+/// Block `k` of `x`.
+#[inline(always)]
+pub fn block_at(x: &[u32], k: usize) -> [u32; 16]
+    requires { 16 * k + 16 ≤ length x.now }
+    ensures { result ≡ block x.now k }
+{
+    let mut words = [0u32; 16];
+    for j in 0..4 {
+        put_lanes(&mut words, j, lanes(x, 4 * k + j));
+    }
+    words
+}
+
+/// Writes `from` as block `k` of `x`.
+#[inline(always)]
+pub fn put_block(x: &mut [u32], k: usize, from: &[u32; 16])
+    requires { 16 * k + 16 ≤ length x.old }
+    ensures written { block x.new k ≡ from.now }
+    ensures others { (j : ℕ) → j ≢ k → block x.new j ≡ block x.old j }
+{
+    for j in 0..4 {
+        put_lanes(x, 4 * k + j, lanes(from, j));
+    }
+}
+
+/// The exclusive or of two blocks.
+#[inline(always)]
+pub fn xor_blocks(x: &[u32; 16], y: &[u32; 16]) -> [u32; 16]
+    ensures { result ≡ xor_words x.now y.now }
+{
+    let mut words = [0u32; 16];
+    for j in 0..4 {
+        put_lanes(&mut words, j, lanes(x, j) ^ lanes(y, j));
+    }
+    words
+}
+
+/// Part `k` of `x`, which is cut into parts of four words, as the lanes of a vector.
+#[inline(always)]
+pub fn lanes(x: &[u32], k: usize) -> u32x4
+    requires { 4 * k + 4 ≤ length x.now }
+    ensures { result ≡ part 4 x.now k }
+{
+    u32x4::from_slice(part(x, 4, k))
+}
+
+/// Writes four lanes as part `k` of `x`, which is cut into parts of four words.
+#[inline(always)]
+pub fn put_lanes(x: &mut [u32], k: usize, from: u32x4)
+    requires { 4 * k + 4 ≤ length x.old }
+    ensures written { part 4 x.new k ≡ from }
+    ensures others { (j : ℕ) → j ≢ k → part 4 x.new j ≡ part 4 x.old j }
+{
+    from.copy_to_slice(&mut x[4 * k..4 * k + 4]);
+}
