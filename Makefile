@@ -3,10 +3,11 @@
 #   make test   is the whole gate: what must not compile, every proof from nothing, every edit that
 #               the prover must refuse, every test and every program
 # And besides the gate:
+#   make wrong-bodies tries the rest of the edits that the prover must refuse
 #   make oracle compares the program with independent implementations on random input
 #   make bench  measures the program against other implementations on this machine
 
-.PHONY: run test oracle bench kit
+.PHONY: run test wrong-bodies oracle bench kit
 
 run: kit
 	cd crates/scrypt_tool && rt run -- key 4 1 1 64 ""
@@ -14,6 +15,9 @@ run: kit
 test: kit
 	python3 ci/must_not_compile.py
 	rt ci
+
+wrong-bodies: kit
+	python3 ci/wrong_bodies.py
 
 oracle: kit
 	cd crates/scrypt_tool && rt run -- key 0 1 1 1 "" > /dev/null < /dev/null
