@@ -7,7 +7,7 @@ use Rattle.scrypt_kernel.specs.RoMix.{ro_mix}
 use Rattle.scrypt_kernel.specs.Hmac.{padded_key}
 use Rattle.scrypt_kernel.specs.Pbkdf2.{pbkdf2}
 use Rattle.scrypt.specs.Accepted.{Parameters}
-use Rattle.scrypt.specs.Derives.{key_by}
+use Rattle.scrypt.specs.KeyOfParams.{key_by}
 use Rattle.scrypt.specs.Key.{derived_key, mixed_chunk, mixed_chunks}
 use Rattle.scrypt_kernel.proofs.PartFacts.{part_of_slice, part_put_same, part_put_other, parts_all}
 use Rattle.scrypt_kernel.proofs.Pbkdf2Facts.{length-pbkdf2, pbkdf2-are_bytes, same_pbkdf2}

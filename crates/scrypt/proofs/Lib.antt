@@ -4,11 +4,11 @@ pub mod CostFacts
 pub mod ThinKeyFacts
 pub mod ChunkFacts
 pub mod StandardFacts
+pub mod VerdictFacts
 pub mod PhcCostsFacts
-pub mod ReadingFacts
+pub mod PhcReadingFacts
 pub mod PhcHashFacts
-pub mod PhcVerdictFacts
 pub mod McfCostsFacts
 pub mod McfHashFacts
-pub mod McfVerdictFacts
+pub mod McfRefusalFacts
 pub mod McfTextFacts

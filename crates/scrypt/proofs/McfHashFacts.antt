@@ -1,5 +1,5 @@
 -- Facts on `$7$` hashes: a text says one hash or is refused, and says it as it was written.
-use Rattle.std.proofs.Common.{◌≡◌, ℕ, List, [], ◌∷◌, length, Ok, Err, refl, sym, ap, ap₂, subst, ◌∙◌, ◌++◌}
+use Rattle.std.proofs.Common.{◌≡◌, ℕ, List, [], ◌∷◌, Ok, Err, refl, sym, ap, ap₂, subst, ◌∙◌, ◌++◌}
 use Rattle.std.specs.Prelude.{IfOk, Result}
 use Rattle.password_hash.specs.Crypt64.{Crypt64, crypt64_of}
 use Rattle.password_hash.specs.Mcf.{Modular, behind_dollars}
@@ -7,12 +7,12 @@ use Rattle.password_hash.specs.Refusal.{Refusal}
 use Rattle.password_hash.proofs.ModularFacts.{Modular-one}
 use Rattle.password_hash.proofs.OneReading.{Crypt64-one}
 use Rattle.scrypt.specs.Accepted.{Parameters}
-use Rattle.scrypt.specs.Derives.{key_by}
-use Rattle.scrypt.specs.PhcAnswers.{bare}
+use Rattle.scrypt.specs.KeyOfParams.{key_by}
+use Rattle.scrypt.specs.Accepted.{without_len}
 use Rattle.scrypt.proofs.KeyFacts.{length-key_by}
 use Rattle.scrypt.proofs.McfCostsFacts.{field_is}
 use Rattle.scrypt.specs.McfCosts.{SaysCosts, costs_letters, ReadsField, malformed, not_accepted, accepted}
-use Rattle.scrypt.specs.McfHash.{HasCosts, IsHashText, TextIsRefused, other_id, no_field, bad_costs, no_key, bad_key, third_field, bad_key_len, Accepts, seven, IsMadeHash, made_len}
+use Rattle.scrypt.specs.McfHash.{HasCosts, IsWhole, ReadIsRefused, other_id, no_field, bad_costs, no_key, bad_key, third_field, bad_key_len, Accepts, mcf_id, IsMadeHash, made_len}
 
 -- a text has one id and one list of fields
 pub fields_once : {text id other : List ℕ} {fields others : List (List ℕ)} → Modular text id fields → Modular text other others → (id ≡ other) × (fields ≡ others)
@@ -58,16 +58,16 @@ costs_once {text} {c} {c'} {salt} {salt'} {behind} {behind'} first second =
     (ap (λ z. z.0) pair, ap (λ z. z.1) pair, cc)
 
 -- a text says one hash
-pub hash_once : {text : List ℕ} {c c' : Parameters} {salt salt' key key' : List ℕ} → IsHashText text c salt key → IsHashText text c' salt' key'
+pub whole_once : {text : List ℕ} {c c' : Parameters} {salt salt' key key' : List ℕ} → IsWhole text c salt key → IsWhole text c' salt' key'
     → (c ≡ c') × (salt ≡ salt') × (key ≡ key')
-hash_once {key = key} {key' = key'} first second =
+whole_once {key = key} {key' = key'} first second =
     let costs = costs_once first.has_costs second.has_costs in
     let behind = costs.2 in
     let letters : first.letters ≡ second.letters = cc in
     (costs.0, costs.1, Crypt64-one second.letters key key' (subst (λ l. Crypt64 key l) letters first.key_is) second.key_is)
 
 -- a text that says a hash is not refused
-pub not_both : {text : List ℕ} {why : Refusal} {c : Parameters} {salt key : List ℕ} → TextIsRefused text why → IsHashText text c salt key → ⊥
+pub not_both : {text : List ℕ} {why : Refusal} {c : Parameters} {salt key : List ℕ} → ReadIsRefused text why → IsWhole text c salt key → ⊥
 not_both (other_id parts other) h = other (fields_once parts h.has_costs.parts).0
 not_both (no_field parts) h = let fields = (fields_once parts h.has_costs.parts).1 in cc
 not_both (bad_costs {field} {behind} {why} parts refused) h =
@@ -87,18 +87,6 @@ not_both {key = key} (bad_key_len {letters = letters} {key = other} costs is non
     let keys = Crypt64-one h.letters other key (subst (λ l. Crypt64 other l) same is) h.key_is in
     none (rw keys h.key_len)
 
--- a hash that accepts a password holds its key
-pub accepted_key : {password text : List ℕ} {c : Parameters} {salt key : List ℕ} → IsHashText text c salt key → Accepts password text
-    → key ≡ key_by c password salt (length key)
-accepted_key {password} {text} {c} {salt} {key} whole h =
-    let same = hash_once whole h.whole in
-    same.2 ∙ h.right
-    ∙ sym (ap₂ (λ z k. key_by z password salt (length k)) same.0 same.2 ∙ ap (λ s. key_by h.costs password s (length h.stored)) same.1)
-
--- a text that is refused accepts no password
-pub refused_accepts_none : {password text : List ℕ} {why : Refusal} → TextIsRefused text why → Accepts password text → ⊥
-refused_accepts_none refused h = not_both refused h.whole
-
 -- a field that is read begins with the letters of its costs
 field_written : {field : List ℕ} {out : Result (Parameters × List ℕ) Refusal} → ReadsField field out
     → IfOk out (λ read. field ≡ costs_letters read.0.log_n read.0.r read.0.p ++ read.1)
@@ -107,16 +95,16 @@ field_written (not_accepted says refused) = tt
 field_written {field} (accepted {log_n} {r} {p} says good) = field_is field log_n r p says good
 
 -- a hash has one text
-pub text_of : {text : List ℕ} {c : Parameters} {salt key : List ℕ} → IsHashText text c salt key
-    → text ≡ behind_dollars (seven ∷ (costs_letters c.log_n c.r c.p ++ salt) ∷ crypt64_of key ∷ [])
+pub text_of : {text : List ℕ} {c : Parameters} {salt key : List ℕ} → IsWhole text c salt key
+    → text ≡ behind_dollars (mcf_id ∷ (costs_letters c.log_n c.r c.p ++ salt) ∷ crypt64_of key ∷ [])
 text_of h =
     h.has_costs.parts.written
-    ∙ ap₂ (λ field letters. behind_dollars (seven ∷ field ∷ letters ∷ [])) (field_written h.has_costs.costs) h.key_is.encoding
+    ∙ ap₂ (λ field letters. behind_dollars (mcf_id ∷ field ∷ letters ∷ [])) (field_written h.has_costs.costs) h.key_is.encoding
 
 -- a made hash accepts its password
 pub made_accepted : (c : Parameters) (password salt text : List ℕ) → IsMadeHash c password salt text → Accepts password text
 made_accepted c password salt text made = record {
-  costs = bare c;
+  costs = without_len c;
   salt = crypt64_of salt;
   stored = key_by c password (crypt64_of salt) (made_len c);
   whole = made;

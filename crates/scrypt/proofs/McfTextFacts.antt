@@ -11,11 +11,11 @@ use Rattle.password_hash.proofs.LetterFacts.{letter-ascii, letter_value-letter}
 use Rattle.password_hash.proofs.Crypt64Facts.{IsPlain, crypt64_of-plain, length-letters_of, letters_of-plain}
 use Rattle.password_hash.proofs.ModularFacts.{IsField-crypt64_of}
 use Rattle.scrypt.specs.Accepted.{AreAccepted, IsOutputLen, Parameters}
-use Rattle.scrypt.specs.Derives.{key_by}
+use Rattle.scrypt.specs.KeyOfParams.{key_by}
 use Rattle.scrypt.proofs.KeyFacts.{key_by-are_bytes, length-key_by}
-use Rattle.scrypt.specs.PhcAnswers.{bare}
+use Rattle.scrypt.specs.Accepted.{without_len}
 use Rattle.scrypt.specs.McfCosts.{five_letter_number, costs_letters, costs_text, SaysCosts, ReadsField, accepted}
-use Rattle.scrypt.specs.McfHash.{IsHashText, IsMadeHash, made_len}
+use Rattle.scrypt.specs.McfHash.{IsWhole, IsMadeHash, made_len}
 use Rattle.scrypt.proofs.AcceptedFacts.{small_costs, small_log_n}
 use Rattle.scrypt.proofs.McfCostsFacts.{five_letter_number-letters_of, to_the_end}
 
@@ -89,16 +89,16 @@ letters_say log_n r p salt small small_r small_p =
     }
 
 -- so the field is read as the costs and the salt
-pub field_read : (c : Parameters) (salt : List ℕ) → AreAccepted c.log_n c.r c.p → ReadsField (costs_letters c.log_n c.r c.p ++ salt) (Ok (bare c, salt))
+pub field_read : (c : Parameters) (salt : List ℕ) → AreAccepted c.log_n c.r c.p → ReadsField (costs_letters c.log_n c.r c.p ++ salt) (Ok (without_len c, salt))
 field_read c salt good =
     let small = small_costs c.log_n c.r c.p good in
     let says = letters_say c.log_n c.r c.p salt (omega (arith, small.0)) small.1 small.2 in
     let rest : drop 11 (costs_letters c.log_n c.r c.p ++ salt) ≡ salt = drop_at (costs_letters c.log_n c.r c.p) salt 11 (count_letters c.log_n c.r c.p) in
-    subst (λ s. ReadsField (costs_letters c.log_n c.r c.p ++ salt) (Ok (bare c, s))) rest (accepted says good)
+    subst (λ s. ReadsField (costs_letters c.log_n c.r c.p ++ salt) (Ok (without_len c, s))) rest (accepted says good)
 
 -- the text of some costs, a salt without a dollar, and a key
 pub text_is : (c : Parameters) (salt key : List ℕ) → AreAccepted c.log_n c.r c.p → IsField salt → All (λ byte. byte < 256) key → IsOutputLen (length key)
-    → IsHashText (costs_text c ++ (salt ++ dollar ∷ crypt64_of key)) (bare c) salt key
+    → IsWhole (costs_text c ++ (salt ++ dollar ∷ crypt64_of key)) (without_len c) salt key
 text_is c salt key good no_dollar are_bytes allowed =
     let letters = costs_letters c.log_n c.r c.p in
     let field = letters ++ salt in

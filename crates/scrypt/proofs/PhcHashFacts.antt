@@ -1,51 +1,76 @@
 -- Facts on PHC hashes of scrypt.
-use Rattle.std.proofs.Common.{◌≡◌, ℕ, List, length, refl, sym, ap, ap₂, subst, ◌∙◌, arith, lit≤, None, Some, Ok, Err}
+use Rattle.std.proofs.Common.{◌≡◌, ℕ, List, refl, sym, ap, subst, ◌∙◌, arith, lit≤, None, Some, Ok, Err, inl, inr}
 use Rattle.std.specs.Prelude.{IfSome, IsSome, Option, unwrap_or}
 use Rattle.password_hash.specs.Phc.{IsHashText, IsSalt, hash_text}
 use Rattle.password_hash.specs.Refusal.{Refusal}
 use Rattle.password_hash.specs.declared.phc.hash.PasswordHash.{PasswordHash}
 use Rattle.scrypt.specs.Accepted.{AreAccepted, IsStoredLen, Parameters}
-use Rattle.scrypt.specs.Derives.{key_by}
-use Rattle.scrypt.specs.PhcAnswers.{bare}
+use Rattle.scrypt.specs.KeyOfParams.{key_by}
+use Rattle.scrypt.specs.Accepted.{without_len}
 use Rattle.scrypt.specs.PhcCosts.{ReadsCosts}
-use Rattle.scrypt.specs.PhcHash.{Accepts, IsMadeHash, IsWhole, made_len}
+use Rattle.scrypt.specs.PhcHash.{Accepts, IsMadeHash, IsWhole, ReadIsRefused, algorithm, version, costs, missing, made_len}
 use Rattle.scrypt.proofs.AcceptedFacts.{small_costs}
 use Rattle.scrypt.proofs.KeyFacts.{key_by-are_bytes, length-key_by}
 use Rattle.scrypt.proofs.PhcCostsFacts.{three_pairs}
-use Rattle.scrypt.proofs.ReadingFacts.{reads_once, written_read}
+use Rattle.scrypt.proofs.PhcReadingFacts.{reads_once, written_read}
 
 -- parameters that are refused are not accepted too
-pub not_read : {pairs : List (List ℕ × List ℕ)} {why : Refusal} {c : Parameters}
+not_read : {pairs : List (List ℕ × List ℕ)} {why : Refusal} {c : Parameters}
     → ReadsCosts pairs (Err why) → ReadsCosts pairs (Ok c) → ⊥
 not_read refused read = let same = reads_once refused read in cc
 
--- a hash with a version accepts no password
-pub no_version : {password : List ℕ} {hash : PasswordHash} → IsSome hash.version → Accepts password hash → ⊥
-no_version some h = let none = h.whole.of_costs.version in let there = rw none at some in cc
+-- a version that is there and is not
+versioned : {version : Option ℕ} → IsSome version → version ≡ None → ⊥
+versioned some none = let there = rw none at some in absurd cc
 
--- a whole hash that accepts a password holds its key
-pub accepted_key : {password : List ℕ} {hash : PasswordHash} {c : Parameters} {salt key : List ℕ}
-    → IsWhole hash c salt key → Accepts password hash → key ≡ key_by c password salt (length key)
-accepted_key {password} {hash} {c} {salt} {key} whole h =
-    let costs = reads_once whole.of_costs.costs h.whole.of_costs.costs in
-    let same_costs : c ≡ h.costs = cc in
-    let same_salt : salt ≡ h.salt = let a = whole.salt_is in let b = h.whole.salt_is in cc in
-    let same_key : key ≡ h.stored = let a = whole.key_is in let b = h.whole.key_is in cc in
-    same_key ∙ h.right
-    ∙ sym (ap₂ (λ z k. key_by z password salt (length k)) same_costs same_key ∙ ap (λ s. key_by h.costs password s (length h.stored)) same_salt)
+-- a hash is whole with one set of costs, one salt and one key
+pub whole_once : {hash : PasswordHash} {c c' : Parameters} {salt salt' key key' : List ℕ} → IsWhole hash c salt key → IsWhole hash c' salt' key'
+    → (c ≡ c') × (salt ≡ salt') × (key ≡ key')
+whole_once first second =
+    let costs = reads_once first.of_costs.costs second.of_costs.costs in
+    let salts = sym first.salt_is ∙ second.salt_is in
+    let keys = sym first.key_is ∙ second.key_is in
+    (cc, cc, cc)
+
+-- a hash that is refused is not whole
+pub not_both : {hash : PasswordHash} {why : Refusal} {c : Parameters} {salt key : List ℕ} → ReadIsRefused hash why → IsWhole hash c salt key → ⊥
+not_both (algorithm other) whole = other whole.of_costs.algorithm
+not_both (version is some) whole = versioned some whole.of_costs.version
+not_both (costs is none refused) whole = not_read refused whole.of_costs.costs
+not_both (missing of_costs (inl gone)) whole = let there = whole.salt_is in absurd cc
+not_both (missing of_costs (inr gone)) whole = let there = whole.key_is in absurd cc
+
+-- a hash is refused for one thing
+pub refused_once : {hash : PasswordHash} {why why' : Refusal} → ReadIsRefused hash why → ReadIsRefused hash why' → why ≡ why'
+refused_once (algorithm other) (algorithm other') = refl
+refused_once (algorithm other) (version is' some') = absurd (other is')
+refused_once (algorithm other) (costs is' none' refused') = absurd (other is')
+refused_once (algorithm other) (missing of_costs' gone') = absurd (other of_costs'.algorithm)
+refused_once (version is some) (algorithm other') = absurd (other' is)
+refused_once (version is some) (version is' some') = refl
+refused_once (version is some) (costs is' none' refused') = absurd (versioned some none')
+refused_once (version is some) (missing of_costs' gone') = absurd (versioned some of_costs'.version)
+refused_once (costs is none refused) (algorithm other') = absurd (other' is)
+refused_once (costs is none refused) (version is' some') = absurd (versioned some' none)
+refused_once (costs is none refused) (costs is' none' refused') = let same = reads_once refused refused' in cc
+refused_once (costs is none refused) (missing of_costs' gone') = absurd (not_read refused of_costs'.costs)
+refused_once (missing of_costs gone) (algorithm other') = absurd (other' of_costs.algorithm)
+refused_once (missing of_costs gone) (version is' some') = absurd (versioned some' of_costs.version)
+refused_once (missing of_costs gone) (costs is' none' refused') = absurd (not_read refused' of_costs.costs)
+refused_once (missing of_costs gone) (missing of_costs' gone') = refl
 
 -- a made hash accepts its password
 pub made_accepts : (c : Parameters) (password salt : List ℕ) (hash : PasswordHash) → AreAccepted c.log_n c.r c.p
     → IsMadeHash c password salt hash → Accepts password hash
 made_accepts c password salt hash fits made = record {
-  costs = bare c;
+  costs = without_len c;
   salt = salt;
   stored = key_by c password salt (made_len c);
   whole = record {
     of_costs = record {
       algorithm = made.algorithm;
       version = made.version;
-      costs = subst (λ pairs. ReadsCosts pairs (Ok (bare c))) (sym made.params) (written_read c fits);
+      costs = subst (λ pairs. ReadsCosts pairs (Ok (without_len c))) (sym made.params) (written_read c fits);
     };
     salt_is = made.salt_is;
     key_is = made.key_is;

@@ -3,9 +3,6 @@
 -- below 2 ^ (128 * r / 8), neither is asked for; in their place 128 * r * N stays below 2 ^ 64.
 use Rattle.std.specs.Prelude.{ℕ, ◌<◌, ◌≤◌, ◌*◌, ◌^◌, ◌&&◌, Bool, nat_eq, Option, None}
 use Rattle.std.specs.Option.{option_eq}
-use Rattle.std.specs.Cmp.{IsEquivalence, and_equiv, on_equiv}
-use Rattle.std.specs.Cmp.Lexicographic.{options_equiv}
-use Rattle.std.proofs.lemmas.Cmp.{nat_eq_equiv}
 
 -- the parameters of a derivation, and perhaps the length of a key that is stored with them
 pub record Parameters : Type 0 where
@@ -13,6 +10,10 @@ pub record Parameters : Type 0 where
   pub r : ℕ
   pub p : ℕ
   pub output_len : Option ℕ
+
+-- the same parameters without a length
+abbrev pub without_len : Parameters → Parameters
+without_len c = record c { output_len = None }
 
 -- log_n, r and p are accepted
 abbrev pub AreAccepted : ℕ → ℕ → ℕ → Type 0
@@ -36,9 +37,3 @@ abbrev pub parameters_eq : Parameters → Parameters → Bool
 parameters_eq a b =
     (option_eq nat_eq a.output_len b.output_len && nat_eq a.log_n b.log_n)
     && (nat_eq a.r b.r && nat_eq a.p b.p)
-
--- the test of parameters is an equivalence
-pub parameters_eq_equiv : IsEquivalence parameters_eq
-parameters_eq_equiv =
-    and_equiv (and_equiv (on_equiv (λ (c : Parameters). c.output_len) (options_equiv nat_eq_equiv)) (on_equiv (λ (c : Parameters). c.log_n) nat_eq_equiv))
-    (and_equiv (on_equiv (λ (c : Parameters). c.r) nat_eq_equiv) (on_equiv (λ (c : Parameters). c.p) nat_eq_equiv))

@@ -22,15 +22,19 @@ pub mod Accepted
 pub mod Cost
 -- the texts of errors
 pub mod ErrorText
--- the derived key as a `Kdf` gives it
-pub mod Derives
+-- the key of parameters, as a `Kdf` gives it
+pub mod KeyOfParams
+-- what making a hash is refused by, in every format
+pub mod Hashing
+-- what verifying a password comes to, in every format
+pub mod Verifying
 -- costs read from PHC parameters
 pub mod PhcCosts
--- PHC hashes that are made, and passwords that they accept
+-- PHC hashes that are made, and those that are whole
 pub mod PhcHash
 -- what the conversions between parameters and PHC values answer
-pub mod PhcAnswers
+pub mod PhcConversions
 -- five-letter numbers, and the costs of a `$7$` text
 pub mod McfCosts
--- `$7$` hashes that are made, and passwords that they accept
+-- `$7$` hashes that are made, and those that are whole
 pub mod McfHash

@@ -1,10 +1,12 @@
 -- PHC hashes of scrypt: which are made, and which passwords they accept.
-use Rattle.std.specs.Prelude.{◌≡◌, ◌≢◌, ◌⊎◌, ℕ, ◌≤◌, List, length, codes, Option, None, Some, IsSome, IfSome, unwrap_or, Ok, Err}
-use Rattle.password_hash.specs.Refusal.{Refusal, BadAlgorithm, BadSalt, BadVersion, NoMemory, WrongPassword}
+use Rattle.std.specs.Prelude.{◌≡◌, ◌≢◌, ◌⊎◌, ℕ, ◌≤◌, List, length, codes, Option, None, Some, IsSome, unwrap_or, Ok, Err}
+use Rattle.password_hash.specs.Refusal.{Refusal, BadAlgorithm, BadVersion, WrongPassword}
 use Rattle.password_hash.specs.declared.phc.hash.PasswordHash.{PasswordHash}
 use Rattle.scrypt.specs.Accepted.{Parameters}
-use Rattle.scrypt.specs.Derives.{key_by}
+use Rattle.scrypt.specs.KeyOfParams.{key_by}
 use Rattle.scrypt.specs.PhcCosts.{ReadsCosts, written_pairs}
+use Rattle.scrypt.specs.Hashing.{HashingIsRefused, IsNamedOrNone}
+use Rattle.scrypt.specs.Verifying.{IsAccepted, IsRefusedBy, VerdictOf}
 
 -- the name of the algorithm
 abbrev pub scrypt_id : List ℕ
@@ -29,16 +31,11 @@ pub record IsMadeHash (c : Parameters) (password salt : List ℕ) (hash : Passwo
 
 -- the caller named no algorithm but scrypt
 abbrev pub IsScryptOrNone : Option (List ℕ) → Type 0
-IsScryptOrNone alg_id = IfSome alg_id (λ id. id ≡ scrypt_id)
+IsScryptOrNone = IsNamedOrNone scrypt_id
 
--- What hashing is refused by: the algorithm, then the version, then the salt, and at last memory.
-pub data HashIsRefused (salt : List ℕ) (alg_id : Option (List ℕ)) (version : Option ℕ) : Refusal → Type 0 where
-  by_algorithm : ¬ IsScryptOrNone alg_id → HashIsRefused salt alg_id version BadAlgorithm
-  by_version : IsScryptOrNone alg_id → IsSome version → HashIsRefused salt alg_id version BadVersion
-  by_salt : IsScryptOrNone alg_id → version ≡ None → ¬ IsSaltLen (length salt)
-      → HashIsRefused salt alg_id version BadSalt
-  by_memory : IsScryptOrNone alg_id → version ≡ None → IsSaltLen (length salt)
-      → HashIsRefused salt alg_id version NoMemory
+-- what hashing is refused by
+abbrev pub HashIsRefused : List ℕ → Option (List ℕ) → Option ℕ → Refusal → Type 0
+HashIsRefused salt = HashingIsRefused scrypt_id (IsSaltLen (length salt))
 
 -- the hash is one of scrypt without a version, and these are its costs
 pub record IsOfCosts (hash : PasswordHash) (c : Parameters) : Type 0 where
@@ -52,31 +49,24 @@ pub record IsWhole (hash : PasswordHash) (c : Parameters) (salt key : List ℕ) 
   pub salt_is : hash.salt ≡ Some salt
   pub key_is : hash.hash ≡ Some key
 
--- the password is that of the hash: the stored key is the derived key of its length, by the costs
--- and the salt of the hash
-pub record Accepts (password : List ℕ) (hash : PasswordHash) : Type 0 where
-  pub costs : Parameters
-  pub salt : List ℕ
-  pub stored : List ℕ
-  pub whole : IsWhole hash costs salt stored
-  pub right : stored ≡ key_by costs password salt (length stored)
+-- What reading a hash is refused by, the first in this order: another algorithm, a version, what its
+-- parameters are refused by, and that the salt or the key is missing.
+pub data ReadIsRefused (hash : PasswordHash) : Refusal → Type 0 where
+  algorithm : hash.algorithm ≢ scrypt_id → ReadIsRefused hash BadAlgorithm
+  version : hash.algorithm ≡ scrypt_id → IsSome hash.version → ReadIsRefused hash BadVersion
+  costs : {why : Refusal} → hash.algorithm ≡ scrypt_id → hash.version ≡ None → ReadsCosts hash.params (Err why)
+      → ReadIsRefused hash why
+  missing : {c : Parameters} → IsOfCosts hash c → (hash.salt ≡ None) ⊎ (hash.hash ≡ None)
+      → ReadIsRefused hash WrongPassword
 
--- What verifying comes to where memory is there: `None`, which is yes, or the first of these
--- refusals in their order.
-pub data Verdict (password : List ℕ) (hash : PasswordHash) : Option Refusal → Type 0 where
-  algorithm : hash.algorithm ≢ scrypt_id → Verdict password hash (Some BadAlgorithm)
-  version : hash.algorithm ≡ scrypt_id → IsSome hash.version → Verdict password hash (Some BadVersion)
-  costs : (why : Refusal) → hash.algorithm ≡ scrypt_id → hash.version ≡ None
-      → ReadsCosts hash.params (Err why) → Verdict password hash (Some why)
-  missing : (c : Parameters) → IsOfCosts hash c → (hash.salt ≡ None) ⊎ (hash.hash ≡ None)
-      → Verdict password hash (Some WrongPassword)
-  wrong : (c : Parameters) (salt key : List ℕ) → IsWhole hash c salt key
-      → key ≢ key_by c password salt (length key) → Verdict password hash (Some WrongPassword)
-  right : (c : Parameters) (salt key : List ℕ) → IsWhole hash c salt key
-      → key ≡ key_by c password salt (length key) → Verdict password hash None
+-- the password is that of the hash
+abbrev pub Accepts : List ℕ → PasswordHash → Type 0
+Accepts password hash = IsAccepted (IsWhole hash) password
 
--- What verifying is refused by: its verdict, or memory, but only where nothing before memory refuses.
-pub data VerifyIsRefused (password : List ℕ) (hash : PasswordHash) : Refusal → Type 0 where
-  by_verdict : {why : Refusal} → Verdict password hash (Some why) → VerifyIsRefused password hash why
-  for_memory : (c : Parameters) (salt key : List ℕ) → IsWhole hash c salt key
-      → VerifyIsRefused password hash NoMemory
+-- what verifying comes to where memory is there
+abbrev pub Verdict : List ℕ → PasswordHash → Option Refusal → Type 0
+Verdict password hash = VerdictOf (IsWhole hash) (ReadIsRefused hash) password
+
+-- what verifying is refused by
+abbrev pub VerifyIsRefused : List ℕ → PasswordHash → Refusal → Type 0
+VerifyIsRefused password hash = IsRefusedBy (IsWhole hash) (ReadIsRefused hash) password

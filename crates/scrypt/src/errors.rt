@@ -1,4 +1,4 @@
-// What a derivation and its parameters are refused for.
+//! What a derivation and its parameters are refused for.
 
 ghost use Rattle.std.specs.Prelude.{◌≡◌, Some, codes};
 ghost use Rattle.scrypt.specs.ErrorText.{derive_error_text};

@@ -9,15 +9,16 @@ ghost use Rattle.password_hash.specs.Refusal.{Refusal};
 ghost use Rattle.password_hash.specs.declared.phc.hash.PasswordHash.{PasswordHash};
 ghost use Rattle.scrypt.specs.Accepted.{AreAccepted, IsStoredLen, Parameters};
 ghost use Rattle.scrypt_kernel.specs.BlockMix.{block_mix};
+ghost use Rattle.scrypt_kernel.specs.Salsa.{salsa20_8};
 ghost use Rattle.scrypt.specs.ChunkOrder.{NamesEachOnce, mixed_in_order};
-ghost use Rattle.scrypt.specs.Derives.{key_by};
+ghost use Rattle.scrypt.specs.KeyOfParams.{key_by};
 ghost use Rattle.scrypt_kernel.specs.Diagonal.{AreInverse, IsBlockMixBy, diagonal_core, diagonal_order, inverse_pivot, pivot, standard_order};
 ghost use Rattle.scrypt.specs.Key.{derived_key, mixed_chunks};
 ghost use Rattle.scrypt.specs.ThinKey.{thin_key};
 ghost use Rattle.scrypt_kernel.specs.Table.{extra_rows};
 ghost use Rattle.scrypt.specs.McfCosts.{costs_letters, costs_text, five_letter_number};
-ghost use Rattle.scrypt.specs.McfHash.{Accepts as SevenAccepts, IsHashText as IsSevenText, IsMadeHash as IsMadeSeven, Verdict as SevenVerdict, made_len};
-ghost use Rattle.scrypt.specs.PhcAnswers.{bare};
+ghost use Rattle.scrypt.specs.McfHash.{Accepts as McfAccepts, IsWhole as IsMcfWhole, IsMadeHash as IsMadeMcf, Verdict as McfVerdict, made_len};
+ghost use Rattle.scrypt.specs.Accepted.{without_len};
 ghost use Rattle.scrypt.specs.PhcCosts.{ReadsCosts, written_pairs};
 ghost use Rattle.scrypt.specs.PhcHash.{Accepts, IsMadeHash, Verdict};
 
@@ -48,9 +49,9 @@ pub fn chunks_in_any_order()
 /// Costs that are written as PHC parameters are read back as the same `log_n`, `r` and `p`, and in no
 /// other way: migration tools rely on it, which write hashes with costs of their own.
 pub fn written_costs_read_back()
-    ensures read { (c : Parameters) → AreAccepted c.log_n c.r c.p → ReadsCosts (written_pairs c) (Ok (bare c)) }
+    ensures read { (c : Parameters) → AreAccepted c.log_n c.r c.p → ReadsCosts (written_pairs c) (Ok (without_len c)) }
     ensures only { (c : Parameters) (out : Result Parameters Refusal) → AreAccepted c.log_n c.r c.p
-        → ReadsCosts (written_pairs c) out → out ≡ Ok (bare c) }
+        → ReadsCosts (written_pairs c) out → out ≡ Ok (without_len c) }
 {}
 
 /// A PHC text, a modular text, a `$7$` text and a text of crypt Base64 each have at most one reading,
@@ -65,11 +66,11 @@ pub fn texts_have_one_reading()
         → Modular text other more → (one ≡ other) × (fields ≡ more) }
     ensures modular_text { (id one other : List ℕ) (fields : List (List ℕ)) → Modular one id fields
         → Modular other id fields → one ≡ other }
-    ensures seven_reading { (text salt more_salt stored more_stored : List ℕ) (one other : Parameters)
-        → IsSevenText text one salt stored → IsSevenText text other more_salt more_stored
+    ensures mcf_reading { (text salt more_salt stored more_stored : List ℕ) (one other : Parameters)
+        → IsMcfWhole text one salt stored → IsMcfWhole text other more_salt more_stored
         → (one ≡ other) × (salt ≡ more_salt) × (stored ≡ more_stored) }
-    ensures seven_text { (one other salt stored : List ℕ) (c : Parameters) → IsSevenText one c salt stored
-        → IsSevenText other c salt stored → one ≡ other }
+    ensures mcf_text { (one other salt stored : List ℕ) (c : Parameters) → IsMcfWhole one c salt stored
+        → IsMcfWhole other c salt stored → one ≡ other }
     ensures crypt64_reading { (letters one other : List ℕ) → Crypt64 one letters → Crypt64 other letters
         → one ≡ other }
     ensures crypt64_text { (bytes one other : List ℕ) → Crypt64 bytes one → Crypt64 bytes other → one ≡ other }
@@ -88,10 +89,10 @@ pub fn made_hashes_are_accepted()
     ensures phc_read_back { (c : Parameters) (password salt : List ℕ) (hash again : PasswordHash) → AreAccepted c.log_n c.r c.p
         → IfSome c.output_len IsStoredLen → IsSalt salt → IsMadeHash c password salt hash
         → IsHashText (hash_text hash) again → Accepts password again }
-    ensures seven { (c : Parameters) (password salt text : List ℕ) → IsMadeSeven c password salt text
-        → SevenAccepts password text }
-    ensures seven_written { (c : Parameters) (password salt : List ℕ) → AreAccepted c.log_n c.r c.p
-        → IsMadeSeven c password salt (costs_text c ++ (crypt64_of salt
+    ensures mcf { (c : Parameters) (password salt text : List ℕ) → IsMadeMcf c password salt text
+        → McfAccepts password text }
+    ensures mcf_written { (c : Parameters) (password salt : List ℕ) → AreAccepted c.log_n c.r c.p
+        → IsMadeMcf c password salt (costs_text c ++ (crypt64_of salt
         ++ dollar ∷ crypt64_of (key_by c password (crypt64_of salt) (made_len c)))) }
 {}
 
@@ -100,8 +101,8 @@ pub fn made_hashes_are_accepted()
 pub fn verdicts_are_one()
     ensures phc { (password : List ℕ) (hash : PasswordHash) (one other : Option Refusal) → Verdict password hash one
         → Verdict password hash other → one ≡ other }
-    ensures seven { (password text : List ℕ) (one other : Option Refusal) → SevenVerdict password text one
-        → SevenVerdict password text other → one ≡ other }
+    ensures mcf { (password text : List ℕ) (one other : Option Refusal) → McfVerdict password text one
+        → McfVerdict password text other → one ≡ other }
 {}
 
 /// Numbers below 2^30 and their five letters undo each other, every five letters say a number, and
@@ -148,8 +149,12 @@ pub fn diagonal_order_undone()
 {}
 
 /// The block mix of words in diagonal order, with the core in diagonal order in place of the core,
-/// is the block mix in diagonal order: the lanes rely on it.
+/// is the block mix in diagonal order: the lanes rely on it. What a block mix by a core is, is tied
+/// down twice: the standard's is one by the standard's core, and no core has two.
 pub fn block_mix_in_diagonal_order()
-    ensures { (b : List ℕ) → 0 < length b → length b % 32 ≡ 0
+    ensures mixed { (b : List ℕ) → 0 < length b → length b % 32 ≡ 0
         → IsBlockMixBy diagonal_core (diagonal_order b) (diagonal_order (block_mix b)) }
+    ensures standard { (b : List ℕ) → 0 < length b → length b % 32 ≡ 0 → IsBlockMixBy salsa20_8 b (block_mix b) }
+    ensures once { (f : List ℕ → List ℕ) (b out other : List ℕ) → length b % 32 ≡ 0
+        → IsBlockMixBy f b out → IsBlockMixBy f b other → out ≡ other }
 {}

@@ -12,19 +12,20 @@
 //! stand in `specs/`, one file a section of a standard.
 #![tactic(auto)]
 
+mod algorithm;
 mod derivation;
-mod errors;
-mod hasher;
+pub mod errors;
 pub mod laws;
 pub mod mcf;
 mod params;
 pub mod phc;
+mod stored_key;
 
+pub use algorithm::Scrypt;
 pub use derivation::{
     BufferLens, output_len_ok, scrypt, scrypt_counted, scrypt_thin, scrypt_with_buffers,
 };
 pub use errors::{DeriveError, InvalidOutputLen, InvalidParams};
-pub use hasher::Scrypt;
 pub use params::Params;
 pub use password_hash;
 pub use password_hash::kdf;

@@ -1,8 +1,10 @@
 // Which numbers a derivation takes.
 
 ghost use Rattle.std.specs.Prelude.{◌≡◌, ◌↔◌, ◌+◌, ◌*◌, ◌^◌, ◌<◌, ◌≤◌, IsOk, IfOk, IfSome, IsTrue, None, Some};
-ghost use Rattle.scrypt.specs.Accepted.{AreAccepted, IsStoredLen, parameters_eq, parameters_eq_equiv, recommended_parameters};
-ghost use Rattle.std.specs.Cmp.{partial_equiv_from_equiv};
+ghost use Rattle.scrypt.specs.Accepted.{AreAccepted, IsStoredLen, Parameters, parameters_eq, recommended_parameters};
+ghost use Rattle.std.specs.Cmp.{and_equiv, on_equiv, partial_equiv_from_equiv};
+ghost use Rattle.std.specs.Cmp.Lexicographic.{options_equiv};
+ghost use Rattle.std.proofs.lemmas.Cmp.{nat_eq_equiv};
 
 use crate::InvalidParams;
 use password_hash::phc::Output;
@@ -164,7 +166,9 @@ impl Params {
 impl PartialEq for Params {
     ghost eq = { parameters_eq };
 
-    ghost laws = { partial_equiv_from_equiv parameters_eq_equiv };
+    ghost laws = { partial_equiv_from_equiv (and_equiv
+        (and_equiv (on_equiv (λ (c : Parameters). c.output_len) (options_equiv nat_eq_equiv)) (on_equiv (λ (c : Parameters). c.log_n) nat_eq_equiv))
+        (and_equiv (on_equiv (λ (c : Parameters). c.r) nat_eq_equiv) (on_equiv (λ (c : Parameters). c.p) nat_eq_equiv))) };
 
     /// Whether the four are equal: the optional length, `log_n`, `r` and `p`.
     #[tactic(auto, using(crate::proofs::AcceptedFacts::parameters_decided))]

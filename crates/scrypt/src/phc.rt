@@ -2,7 +2,7 @@
 
 mod costs;
 mod hashing;
-pub(crate) mod key;
+mod reading;
 mod verifying;
 
 pub use password_hash::phc::{Ident, Output, PasswordHash, Salt};

@@ -115,3 +115,37 @@ module _ (p q : List ℕ) (inverse : AreInverse p q) (b : List ℕ) (some : 0 < 
         odd = λ k h. ap (λ n. block (permuted p (block_mix b)) (n / 32 + k)) long
             ∙ block_in p q inverse (block_mix b) (length b / 32 + k) (omega arith) ∙ ap (permuted p) (odd_block b some whole k (omega arith));
       }
+
+-- the block mix is a block mix by the core
+pub block_mix_by_core : (b : List ℕ) → 0 < length b → length b % 32 ≡ 0 → IsBlockMixBy salsa20_8 b (block_mix b)
+unfolding chain
+block_mix_by_core b some whole = record {
+  x = chain b;
+  first = refl;
+  next = λ i h. chain_more b i;
+  long = length-block_mix b some whole;
+  even = even_block b some whole;
+  odd = odd_block b some whole;
+}
+
+-- X before each step is the same in both
+same_x : {f : List ℕ → List ℕ} {b out other : List ℕ} (one : IsBlockMixBy f b out) (two : IsBlockMixBy f b other)
+    → (i : ℕ) → i ≤ length b / 16 → one.x i ≡ two.x i
+same_x one two zero room = one.first ∙ sym two.first
+same_x {f} {b} one two (suc i) room =
+    let before = same_x one two i (omega arith) in
+    let next = one.next i (omega arith) ∙ ap (λ x. f (xor_words x (block b i))) before ∙ sym (two.next i (omega arith)) in
+    rw (← add-one) next
+
+-- a core has one block mix
+pub block_mix_by_once : (f : List ℕ → List ℕ) (b out other : List ℕ) → length b % 32 ≡ 0
+    → IsBlockMixBy f b out → IsBlockMixBy f b other → out ≡ other
+block_mix_by_once f b out other whole one two =
+    let r : ℕ = length b / 32 in
+    let long : length out ≡ 2 * r * 16 = omega (arith, one.long, whole) in
+    let other_long : length other ≡ 2 * r * 16 = omega (arith, two.long, whole) in
+    let first = halves_all (λ k. one.x (2 * k + 1)) (λ k. one.x (2 * k + 1 + 1)) 16 r out long one.even one.odd in
+    let second = halves_all (λ k. one.x (2 * k + 1)) (λ k. one.x (2 * k + 1 + 1)) 16 r other other_long
+    (λ k h. two.even k h ∙ sym (same_x one two (2 * k + 1) (omega arith)))
+    (λ k h. two.odd k h ∙ sym (same_x one two (2 * k + 1 + 1) (omega arith))) in
+    first ∙ sym second

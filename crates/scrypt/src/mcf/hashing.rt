@@ -8,11 +8,11 @@ ghost use Rattle.password_hash.specs.Mcf.{IsModular, dollar};
 ghost use Rattle.password_hash.specs.declared.error.Error.TheVariants.{OutOfMemory};
 ghost use Rattle.scrypt.specs.Accepted.{AreAccepted, IsStoredLen};
 ghost use Rattle.scrypt.specs.McfCosts.{costs_text};
-ghost use Rattle.scrypt.specs.McfHash.{HashIsRefused, IsMadeHash, IsSevenOrNone, made_len};
+ghost use Rattle.scrypt.specs.McfHash.{HashIsRefused, IsMadeHash, IsMcfOrNone, made_len};
 
 use crate::mcf::five_letters::five_letters;
-use crate::mcf::reading::is_seven;
-use crate::phc::key::key_of;
+use crate::mcf::reading::is_mcf;
+use crate::stored_key::short_key;
 use crate::{Params, Scrypt};
 use password_hash::mcf::alphabet::letter;
 use password_hash::mcf::{Base64, PasswordHash};
@@ -41,7 +41,8 @@ impl PasswordHasher<PasswordHash> for Scrypt {
 impl CustomizedPasswordHasher<PasswordHash> for Scrypt {
     type Params = Params;
 
-    ghost customizes = { λ _ password salt id version params hash. IsMadeHash params password salt hash };
+    ghost customizes = { λ _ password salt id version params hash. IsMcfOrNone id × (version ≡ None)
+        × IsMadeHash params password salt hash };
 
     ghost refuses = { λ _ password salt id version params why. HashIsRefused id version why };
 
@@ -60,7 +61,7 @@ impl CustomizedPasswordHasher<PasswordHash> for Scrypt {
         version: Option<Version>,
         params: Params,
     ) -> Result<PasswordHash> {
-        if !is_seven_or_none(alg_id) {
+        if !is_mcf_or_none(alg_id) {
             return Err(Error::Algorithm);
         }
         if version.is_some() {
@@ -71,11 +72,11 @@ impl CustomizedPasswordHasher<PasswordHash> for Scrypt {
 }
 
 // Whether no algorithm but `7` is named.
-fn is_seven_or_none(alg_id: Option<&str>) -> bool
-    ensures { IsTrue result ↔ IsSevenOrNone (option_map (λ s. s.now) alg_id.entry) }
+fn is_mcf_or_none(alg_id: Option<&str>) -> bool
+    ensures { IsTrue result ↔ IsMcfOrNone (option_map (λ s. s.now) alg_id.entry) }
 {
     match alg_id {
-        Some(id) => is_seven(id),
+        Some(id) => is_mcf(id),
         None => true,
     }
 }
@@ -113,7 +114,7 @@ fn write_text(
 {
     write_costs_and_salt(text, params, salt);
     let len = made_len(params);
-    let key = match key_of(alloc, password, &text[COSTS_LEN..key_at], params, len) {
+    let key = match short_key(alloc, password, &text[COSTS_LEN..key_at], params, len) {
         Ok(key) => key,
         Err(refused) => return Err(refused),
     };

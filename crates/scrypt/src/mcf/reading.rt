@@ -5,7 +5,7 @@ ghost use Rattle.password_hash.specs.Crypt64.{Crypt64};
 ghost use Rattle.password_hash.specs.McfViews.{field_text, hash_text};
 ghost use Rattle.password_hash.specs.Refusal.{refusal};
 ghost use Rattle.scrypt.specs.Accepted.{IsOutputLen};
-ghost use Rattle.scrypt.specs.McfHash.{IsHashText, TextIsRefused, seven};
+ghost use Rattle.scrypt.specs.McfHash.{IsWhole, ReadIsRefused, mcf_id};
 
 use crate::mcf::costs::decode_params_and_salt;
 use crate::{Params, output_len_ok};
@@ -31,11 +31,11 @@ pub(super) struct Stored<'a> {
 /// can't be derived.
 pub(super) fn read<'a>(hash: &PasswordHashRef<'a>) -> Result<Stored<'a>>
     ensures ok { IfOk result (λ stored. (key : List ℕ) × Crypt64 key (field_text stored.key) × (length key ≡ stored.key_len)
-        × IsHashText (hash_text hash.now) stored.params stored.salt.now key) }
+        × IsWhole (hash_text hash.now) stored.params stored.salt.now key) }
     ensures len { IfOk result (λ stored. IsOutputLen stored.key_len) }
-    ensures err { IfErr result (λ e. TextIsRefused (hash_text hash.now) (refusal e)) }
+    ensures err { IfErr result (λ e. ReadIsRefused (hash_text hash.now) (refusal e)) }
 {
-    if !is_seven(hash.id()) {
+    if !is_mcf(hash.id()) {
         return Err(Error::Algorithm);
     }
     let mut fields = hash.fields();
@@ -67,8 +67,8 @@ pub(super) fn read<'a>(hash: &PasswordHashRef<'a>) -> Result<Stored<'a>>
 }
 
 /// Whether this is the id of `$7$` texts.
-pub(super) fn is_seven(id: &str) -> bool
-    ensures { IsTrue result ↔ (id.now ≡ seven) }
+pub(super) fn is_mcf(id: &str) -> bool
+    ensures { IsTrue result ↔ (id.now ≡ mcf_id) }
 {
     id == "7"
 }

@@ -1,14 +1,11 @@
 // Verifying `$7$` hashes.
 
-ghost use Rattle.std.specs.Prelude.{◌≡◌, IfOk, IfErr};
 ghost use Rattle.password_hash.specs.McfViews.{hash_text};
-ghost use Rattle.password_hash.specs.declared.error.Error.TheVariants.{OutOfMemory};
-ghost use Rattle.scrypt.specs.Accepted.{IsOutputLen};
-ghost use Rattle.scrypt.specs.Derives.{key_by};
 ghost use Rattle.scrypt.specs.McfHash.{Accepts, VerifyIsRefused};
 
+use crate::Scrypt;
 use crate::mcf::reading::read;
-use crate::{Params, Scrypt, scrypt};
+use crate::stored_key::long_key;
 use password_hash::mcf::{PasswordHash, PasswordHashRef};
 use password_hash::{Error, PasswordVerifier, Result};
 use std::alloc::Global;
@@ -37,7 +34,8 @@ impl<'a> PasswordVerifier<PasswordHashRef<'a>> for Scrypt {
             Ok(stored) => stored,
             Err(refused) => return Err(refused),
         };
-        let key = match key_of(alloc, password, stored.salt, &stored.params, stored.key_len) {
+        let len = stored.key_len;
+        let key = match long_key(alloc, password, stored.salt, &stored.params, len) {
             Ok(key) => key,
             Err(refused) => return Err(refused),
         };
@@ -57,23 +55,4 @@ impl PasswordVerifier<PasswordHash> for Scrypt {
     fn verify_password(&self, alloc: Global, password: &[u8], hash: &PasswordHash) -> Result<()> {
         self.verify_password(alloc, password, &hash.as_password_hash_ref())
     }
-}
-
-// The derived key of `len` bytes.
-fn key_of(
-    alloc: Global,
-    password: &[u8],
-    salt: &[u8],
-    params: &Params,
-    len: usize,
-) -> Result<Vec<u8>>
-    requires { IsOutputLen len }
-    ensures value { IfOk result (λ key. key.items ≡ key_by params.now password.now salt.now len) }
-    ensures memory { IfErr result (λ e. e ≡ OutOfMemory) }
-{
-    let mut key = vec![in alloc; 0u8; len]?;
-    if scrypt(alloc, password, salt, params, &mut key).is_err() {
-        return Err(Error::OutOfMemory);
-    }
-    Ok(key)
 }

@@ -5,7 +5,7 @@ ghost use Rattle.password_hash.specs.Decimal.{IsDecimal};
 ghost use Rattle.password_hash.specs.Refusal.{BadParam, refusal};
 ghost use Rattle.password_hash.specs.Value.{value_text};
 ghost use Rattle.scrypt.specs.Accepted.{IsStoredLen};
-ghost use Rattle.scrypt.specs.PhcAnswers.{AnswersCosts, AnswersHashCosts, Writes, stored_len};
+ghost use Rattle.scrypt.specs.PhcConversions.{AnswersCosts, AnswersHashCosts, Writes, stored_len};
 ghost use Rattle.scrypt.specs.PhcCosts.{written_pairs};
 
 use crate::Params;

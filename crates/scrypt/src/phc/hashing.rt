@@ -7,7 +7,7 @@ ghost use Rattle.scrypt.specs.PhcHash.{HashIsRefused, IsMadeHash, IsScryptOrNone
 
 use crate::phc::ALG_ID;
 use crate::phc::costs::written;
-use crate::phc::key::key_of;
+use crate::stored_key::short_key;
 use crate::{Params, Scrypt};
 use password_hash::phc::{PasswordHash, Salt};
 use password_hash::{CustomizedPasswordHasher, Error, PasswordHasher, Result, Version};
@@ -32,7 +32,8 @@ impl PasswordHasher<PasswordHash> for Scrypt {
 impl CustomizedPasswordHasher<PasswordHash> for Scrypt {
     type Params = Params;
 
-    ghost customizes = { λ _ password salt id version params hash. IsMadeHash params password salt hash };
+    ghost customizes = { λ _ password salt id version params hash. IsScryptOrNone id × (version ≡ None)
+        × IsMadeHash params password salt hash };
 
     ghost refuses = { λ _ password salt id version params why. HashIsRefused salt id version why };
 
@@ -58,7 +59,7 @@ impl CustomizedPasswordHasher<PasswordHash> for Scrypt {
         let Ok(salt) = Salt::new(salt) else {
             return Err(Error::SaltInvalid);
         };
-        match key_of(alloc, password, salt.as_bytes(), &params, made_len(&params)) {
+        match short_key(alloc, password, salt.as_bytes(), &params, made_len(&params)) {
             Ok(key) => Ok(PasswordHash {
                 algorithm: ALG_ID,
                 version: None,

@@ -1,12 +1,12 @@
 // Verifying PHC hashes.
 
 ghost use Rattle.std.specs.Prelude.{◌≡◌, ◌↔◌, IsTrue};
-ghost use Rattle.scrypt.specs.PhcHash.{Accepts, VerifyIsRefused, scrypt_id};
+ghost use Rattle.scrypt.specs.PhcHash.{Accepts, VerifyIsRefused};
 
-use crate::phc::ALG_ID;
-use crate::phc::key::key_of;
-use crate::{Params, Scrypt};
-use password_hash::phc::{Ident, Output, PasswordHash};
+use crate::Scrypt;
+use crate::phc::reading::read;
+use crate::stored_key::short_key;
+use password_hash::phc::{Output, PasswordHash};
 use password_hash::{Error, PasswordVerifier, Result};
 use std::alloc::Global;
 
@@ -16,41 +16,26 @@ impl PasswordVerifier<PasswordHash> for Scrypt {
     ghost refuses = { λ password hash why. VerifyIsRefused password hash why };
 
     /// Verifies the password by the costs, the salt and the key's length of the hash, and never by
-    /// this value's own parameters.
+    /// this value's own parameters. All bytes of the two keys are compared.
     ///
     /// Refuses in this order: `Algorithm` where it is not `scrypt`, `Version` where there is one,
     /// what reading the parameters refuses, `PasswordInvalid` where salt or key is missing,
     /// `OutOfMemory`, and `PasswordInvalid` where the key differs.
     fn verify_password(&self, alloc: Global, password: &[u8], hash: &PasswordHash) -> Result<()> {
-        if !is_scrypt(&hash.algorithm) {
-            return Err(Error::Algorithm);
-        }
-        let params = match Params::try_from(hash) {
-            Ok(params) => params,
+        let stored = match read(hash) {
+            Ok(stored) => stored,
             Err(refused) => return Err(refused),
         };
-        let Some(salt) = &hash.salt else {
-            return Err(Error::PasswordInvalid);
-        };
-        let Some(stored) = &hash.hash else {
-            return Err(Error::PasswordInvalid);
-        };
-        let key = match key_of(alloc, password, salt.as_bytes(), &params, stored.len()) {
+        let len = stored.key.len();
+        let key = match short_key(alloc, password, stored.salt, &stored.params, len) {
             Ok(key) => key,
             Err(refused) => return Err(refused),
         };
-        if !are_equal(&key, stored) {
+        if !are_equal(&key, stored.key) {
             return Err(Error::PasswordInvalid);
         }
         Ok(())
     }
-}
-
-// Whether this is the name of scrypt.
-fn is_scrypt(id: &Ident) -> bool
-    ensures { IsTrue result ↔ (id.now ≡ scrypt_id) }
-{
-    *id == ALG_ID
 }
 
 // Whether these are the same bytes; each byte is looked at.

@@ -18,8 +18,8 @@ returns-clause-phc_read_back c costs password salt hash again fits len salted ma
     let printed = made_is_text costs password salt hash fits len salted made in
     subst (Accepts password) (one_reading (hash_text hash) hash again printed read) (made_accepts costs password salt hash fits made)
 
-pub returns-clause-seven_written : goal.returns-clause-seven_written
-returns-clause-seven_written c = made_text
+pub returns-clause-mcf_written : goal.returns-clause-mcf_written
+returns-clause-mcf_written c = made_text
 
-pub returns-clause-seven : goal.returns-clause-seven
-returns-clause-seven c = made_accepted
+pub returns-clause-mcf : goal.returns-clause-mcf
+returns-clause-mcf c = made_accepted

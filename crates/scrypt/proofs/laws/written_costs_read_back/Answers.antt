@@ -1,4 +1,4 @@
-use Rattle.scrypt.proofs.ReadingFacts.{reads_once, written_read}
+use Rattle.scrypt.proofs.PhcReadingFacts.{reads_once, written_read}
 use Rattle.scrypt.proofs.laws.written_costs_read_back.Goals as goal
 
 pub returns-clause-read : goal.returns-clause-read

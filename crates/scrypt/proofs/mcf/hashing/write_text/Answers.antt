@@ -5,10 +5,10 @@ use Rattle.password_hash.specs.Crypt64.{crypt64_of}
 use Rattle.password_hash.specs.Mcf.{dollar}
 use Rattle.password_hash.proofs.GroupFacts.{length-crypt64_of}
 use Rattle.password_hash.proofs.ModularFacts.{IsField-crypt64_of}
-use Rattle.scrypt.specs.Derives.{key_by}
-use Rattle.scrypt.specs.PhcAnswers.{bare}
+use Rattle.scrypt.specs.KeyOfParams.{key_by}
+use Rattle.scrypt.specs.Accepted.{without_len}
 use Rattle.scrypt.specs.McfCosts.{costs_text}
-use Rattle.scrypt.specs.McfHash.{IsHashText, made_len}
+use Rattle.scrypt.specs.McfHash.{IsWhole, made_len}
 use Rattle.scrypt.proofs.McfCostsFacts.{to_the_end}
 use Rattle.scrypt.proofs.KeyFacts.{length-key_by}
 use Rattle.scrypt.proofs.McfTextFacts.{before_cut, between_cuts, count_text, put_to_the_end, text_ascii, text_is}
@@ -51,8 +51,8 @@ returns-clause-made c =
     let key = c.as_bytes.result.now in
     let made = text_is params letters key c.write_costs_and_salt.ensures.accepted (IsField-crypt64_of c.args.salt.now) c.write_key.ensures.bytes
     (omega (arith, c.as_bytes.ensures.least), omega (arith, c.as_bytes.ensures.greatest)) in
-    subst (λ text. IsHashText text (bare params) letters (key_by params c.args.password.now letters (made_len params))) (sym (text_at at.After-write_key))
-    (subst (IsHashText (costs_text params ++ (letters ++ dollar ∷ crypt64_of key)) (bare params) letters) (key_is at.After-as_bytes) made)
+    subst (λ text. IsWhole text (without_len params) letters (key_by params c.args.password.now letters (made_len params))) (sym (text_at at.After-write_key))
+    (subst (IsWhole (costs_text params ++ (letters ++ dollar ∷ crypt64_of key)) (without_len params) letters) (key_is at.After-as_bytes) made)
 
 pub returns-clause-ascii : goal.returns-clause-ascii
 returns-clause-ascii c =

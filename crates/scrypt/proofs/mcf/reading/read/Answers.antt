@@ -19,7 +19,7 @@ moved {text} {id} {id'} {fields} {fields'} parts same_id same_fields =
 costs_at : (c : After-next-2) → HasCosts (hash_text c.args.hash.now) c.in-Ok.read.0 c.in-Ok.read.1.now (fields_left c.next.new.self)
 costs_at c = record {
   field = c.as_str.result.now;
-  parts = moved c.fields-fields.ensures.reading (sym c.id.ensures.value ∙ c.is_seven.ensures.0 c.if-not-is_seven.false)
+  parts = moved c.fields-fields.ensures.reading (sym c.id.ensures.value ∙ c.is_mcf.ensures.0 c.if-not-is_mcf.false)
       (c.in-Some.ensures.steps ∙ ap (λ field. field ∷ fields_left c.next.new.self) (sym c.as_str.ensures));
   costs = c.in-Ok.ensures.ok;
 }
@@ -36,16 +36,16 @@ no_other : (fields rest : Fields) (next : Option Field) → YieldsFirstBy field_
 no_other fields rest None steps none = steps.0
 no_other fields rest (Some field) steps none = absurd (false≢true (sym none))
 
-pub returns-then-not-is_seven-clause-err : goal.returns-then-not-is_seven-clause-err
-returns-then-not-is_seven-clause-err c = other_id c.id.ensures.reading (λ h. let yes = c.is_seven.ensures.1 h in cc)
+pub returns-then-not-is_mcf-clause-err : goal.returns-then-not-is_mcf-clause-err
+returns-then-not-is_mcf-clause-err c = other_id c.id.ensures.reading (λ h. let yes = c.is_mcf.ensures.1 h in cc)
 
 pub returns-in_default-clause-err : goal.returns-in_default-clause-err
 returns-in_default-clause-err c =
-    no_field (moved c.fields-fields.ensures.reading (sym c.id.ensures.value ∙ c.is_seven.ensures.0 c.if-not-is_seven.false) c.in_default.ensures.steps.0)
+    no_field (moved c.fields-fields.ensures.reading (sym c.id.ensures.value ∙ c.is_mcf.ensures.0 c.if-not-is_mcf.false) c.in_default.ensures.steps.0)
 
 pub returns-in-Err-clause-err : goal.returns-in-Err-clause-err
 returns-in-Err-clause-err c =
-    bad_costs (moved c.fields-fields.ensures.reading (sym c.id.ensures.value ∙ c.is_seven.ensures.0 c.if-not-is_seven.false)
+    bad_costs (moved c.fields-fields.ensures.reading (sym c.id.ensures.value ∙ c.is_mcf.ensures.0 c.if-not-is_mcf.false)
     (c.in-Some.ensures.steps ∙ ap (λ field. field ∷ fields_left c.next.new.self) (sym c.as_str.ensures))) c.in-Err.ensures.err
 
 pub returns-in_default-next-clause-err : goal.returns-in_default-next-clause-err

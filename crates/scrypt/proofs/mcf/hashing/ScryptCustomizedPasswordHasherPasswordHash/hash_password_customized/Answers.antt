@@ -3,16 +3,17 @@ use Rattle.std.specs.Option.{option_map}
 use Rattle.std.proofs.lemmas.Result.{IfErr-weaker}
 use Rattle.password_hash.specs.Refusal.{refusal}
 use Rattle.password_hash.specs.declared.error.Error.TheVariants.{OutOfMemory}
-use Rattle.scrypt.specs.McfHash.{HashIsRefused, by_algorithm, by_version, by_memory}
+use Rattle.scrypt.specs.Hashing.{by_algorithm, by_version, by_memory}
+use Rattle.scrypt.specs.McfHash.{HashIsRefused}
 use Rattle.scrypt.proofs.mcf.hashing.ScryptCustomizedPasswordHasherPasswordHash.hash_password_customized.Goals as goal
 
-pub returns-then-not-is_seven_or_none-clause-err : goal.returns-then-not-is_seven_or_none-clause-err
-returns-then-not-is_seven_or_none-clause-err c = by_algorithm (λ h. let yes = c.is_seven_or_none.ensures.1 h in cc)
+pub returns-then-not-is_mcf_or_none-clause-err : goal.returns-then-not-is_mcf_or_none-clause-err
+returns-then-not-is_mcf_or_none-clause-err c = by_algorithm (λ h. let yes = c.is_mcf_or_none.ensures.1 h in cc)
 
 pub returns-then-is_some-clause-err : goal.returns-then-is_some-clause-err
-returns-then-is_some-clause-err c = by_version (c.is_seven_or_none.ensures.0 (search rules)) (search rules)
+returns-then-is_some-clause-err c = by_version (c.is_mcf_or_none.ensures.0 (search rules)) (search rules)
 
 pub returns-clause-err : goal.returns-clause-err
 returns-clause-err c =
     IfErr-weaker c.hash_of.result (λ e. e ≡ OutOfMemory) (λ e. HashIsRefused (option_map (λ s. s.now) c.args.alg_id) c.args.version (refusal e))
-    (λ e is. rw is (by_memory (c.is_seven_or_none.ensures.0 (search rules)) (search rules))) c.hash_of.ensures.memory
+    (λ e is. rw is (by_memory (c.is_mcf_or_none.ensures.0 (search rules)) (search rules) tt)) c.hash_of.ensures.memory

@@ -1,5 +1,5 @@
 use Rattle.std.proofs.Common.{refl, rules}
-use Rattle.scrypt.specs.PhcHash.{by_algorithm, by_version, by_salt, by_memory}
+use Rattle.scrypt.specs.Hashing.{by_algorithm, by_version, by_salt, by_memory}
 use Rattle.scrypt.proofs.phc.hashing.ScryptCustomizedPasswordHasherPasswordHash.hash_password_customized.Goals as goal
 
 pub returns-then-not-is_scrypt_or_none-clause-err : goal.returns-then-not-is_scrypt_or_none-clause-err

@@ -1,8 +1,8 @@
-// The value that derives keys, hashes passwords and verifies them.
+// scrypt as a value with parameters, which derives keys, makes hashes and verifies passwords.
 
 ghost use Rattle.std.specs.Prelude.{◌≡◌, ℕ, List, length};
 ghost use Rattle.scrypt.specs.Accepted.{IsOutputLen, Parameters, recommended_parameters};
-ghost use Rattle.scrypt.specs.Derives.{KeyIsRefused, key_by};
+ghost use Rattle.scrypt.specs.KeyOfParams.{KeyIsRefused, key_by};
 
 use crate::{DeriveError, Params, scrypt};
 use password_hash::kdf::{self, Kdf, Pbkdf};
@@ -60,7 +60,7 @@ impl From<Params> for Scrypt {
 }
 
 impl Kdf for Scrypt {
-    ghost derives = { λ scrypt password salt out. out ≡ key_by scrypt password salt (length out) };
+    ghost derives = { λ scrypt password salt out. IsOutputLen (length out) × (out ≡ key_by scrypt password salt (length out)) };
 
     ghost refuses = { λ scrypt password salt len e. KeyIsRefused len e };
 

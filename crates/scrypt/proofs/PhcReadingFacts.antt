@@ -7,25 +7,25 @@ use Rattle.password_hash.proofs.DecimalFacts.{IsDecimal-decimal}
 use Rattle.scrypt.specs.Accepted.{AreAccepted, Parameters}
 use Rattle.scrypt.proofs.AcceptedFacts.{small_costs}
 use Rattle.scrypt.proofs.PhcCostsFacts.{first_letters}
-use Rattle.scrypt.specs.PhcAnswers.{bare}
+use Rattle.scrypt.specs.Accepted.{without_len}
 use Rattle.scrypt.specs.PhcCosts.{Reads, ReadsCosts, written_pairs, accepted, not_accepted, ln, ln_refused, r, r_refused, p, p_refused, unknown}
 
 -- costs that were read have no length
-pub read_bare : {log_n r p : ℕ} {pairs : List (List ℕ × List ℕ)} {out : Result Parameters Refusal}
+pub read_without_len : {log_n r p : ℕ} {pairs : List (List ℕ × List ℕ)} {out : Result Parameters Refusal}
     → Reads log_n r p pairs out → IfOk out (λ c. c.output_len ≡ None)
-read_bare (accepted h) = refl
-read_bare (not_accepted h) = tt
-read_bare (ln n name decimal small rest) = read_bare rest
-read_bare (ln_refused name large) = tt
-read_bare (r n name decimal rest) = read_bare rest
-read_bare (r_refused name none) = tt
-read_bare (p n name decimal rest) = read_bare rest
-read_bare (p_refused name none) = tt
-read_bare (unknown no_ln no_r no_p) = tt
+read_without_len (accepted h) = refl
+read_without_len (not_accepted h) = tt
+read_without_len (ln n name decimal small rest) = read_without_len rest
+read_without_len (ln_refused name large) = tt
+read_without_len (r n name decimal rest) = read_without_len rest
+read_without_len (r_refused name none) = tt
+read_without_len (p n name decimal rest) = read_without_len rest
+read_without_len (p_refused name none) = tt
+read_without_len (unknown no_ln no_r no_p) = tt
 
 -- costs that have no length are those without it
-pub bare_is : (c : Parameters) → c.output_len ≡ None → bare c ≡ c
-bare_is c none = ap (λ n. record c { output_len = n }) (sym none)
+pub without_len_is : (c : Parameters) → c.output_len ≡ None → without_len c ≡ c
+without_len_is c none = ap (λ n. record c { output_len = n }) (sym none)
 
 -- a text is the decimal of one number alone
 decimal_once : {text : List ℕ} {m n : ℕ} → IsDecimal text m → IsDecimal text n → m ≡ n
@@ -128,7 +128,7 @@ reads_once (p_refused name none) second = refused_p name none second
 reads_once (unknown no_ln no_r no_p) second = unknown_decides no_ln no_r no_p second
 
 -- costs that were written are read
-pub written_read : (c : Parameters) → AreAccepted c.log_n c.r c.p → ReadsCosts (written_pairs c) (Ok (bare c))
+pub written_read : (c : Parameters) → AreAccepted c.log_n c.r c.p → ReadsCosts (written_pairs c) (Ok (without_len c))
 written_read c fits =
     let small = small_costs c.log_n c.r c.p fits in
     ln c.log_n refl (IsDecimal-decimal c.log_n (omega (arith, small.0))) (omega (arith, small.0))

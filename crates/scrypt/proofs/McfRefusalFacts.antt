@@ -1,13 +1,12 @@
--- Verifying a `$7$` text has one verdict.
-use Rattle.std.proofs.Common.{◌≡◌, ◌⊎◌, List, ℕ, [], ◌∷◌, length, Some, Ok, Err, inl, inr, refl, sym, ap, subst, ◌∙◌}
-use Rattle.std.specs.Prelude.{Option}
+-- A `$7$` text is refused for one thing.
+use Rattle.std.proofs.Common.{◌≡◌, ◌⊎◌, List, ℕ, [], ◌∷◌, length, Ok, Err, inl, inr, refl, sym, subst, ◌∙◌}
 use Rattle.password_hash.specs.Crypt64.{Crypt64, IsCrypt64}
 use Rattle.password_hash.specs.Mcf.{Modular}
 use Rattle.password_hash.specs.Refusal.{Refusal, BadAlgorithm, BadEncoding, BadOutputSize}
 use Rattle.scrypt.specs.Accepted.{IsOutputLen, Parameters}
 use Rattle.scrypt.specs.McfCosts.{ReadsField}
-use Rattle.scrypt.specs.McfHash.{seven, TextIsRefused, other_id, no_field, bad_costs, no_key, bad_key, third_field, bad_key_len, Verdict, refused, wrong, right}
-use Rattle.scrypt.proofs.McfHashFacts.{accepted_key, field_once, fields_once, not_both}
+use Rattle.scrypt.specs.McfHash.{mcf_id, ReadIsRefused, other_id, no_field, bad_costs, no_key, bad_key, third_field, bad_key_len}
+use Rattle.scrypt.proofs.McfHashFacts.{field_once, fields_once}
 
 -- What the second field and those behind it are refused by, and what all are: the first field decides first.
 
@@ -24,9 +23,9 @@ FieldsAreRefused (field ∷ behind) why =
     ReadsField field (Err why) ⊎ ((out : Parameters × List ℕ) × ReadsField field (Ok out) × KeyIsRefused behind why)
 
 -- the reason that a text with the id `7` is refused for
-fields_refused : {text : List ℕ} {why : Refusal} → TextIsRefused text why
-    → ((why ≡ BadAlgorithm) × ((fields : List (List ℕ)) → ¬ Modular text seven fields))
-    ⊎ ((fields : List (List ℕ)) × Modular text seven fields × FieldsAreRefused fields why)
+fields_refused : {text : List ℕ} {why : Refusal} → ReadIsRefused text why
+    → ((why ≡ BadAlgorithm) × ((fields : List (List ℕ)) → ¬ Modular text mcf_id fields))
+    ⊎ ((fields : List (List ℕ)) × Modular text mcf_id fields × FieldsAreRefused fields why)
 fields_refused (other_id parts other) = inl (refl, λ fields parts'. other (fields_once parts parts').0)
 fields_refused (no_field parts) = inr ([], parts, refl)
 fields_refused (bad_costs {field} {behind} parts why) = inr (field ∷ behind, parts, inl why)
@@ -56,7 +55,7 @@ fields_refused_once (field ∷ behind) (inr first) (inl second) = let same = fie
 fields_refused_once (field ∷ behind) (inr first) (inr second) = key_refused_once behind first.2 second.2
 
 -- a text is refused for one thing
-pub refused_once : {text : List ℕ} {why why' : Refusal} → TextIsRefused text why → TextIsRefused text why' → why ≡ why'
+pub refused_once : {text : List ℕ} {why why' : Refusal} → ReadIsRefused text why → ReadIsRefused text why' → why ≡ why'
 refused_once {why = why} {why' = why'} first second = elim (fields_refused first) [
   | inl other ↦ elim (fields_refused second) [
     | inl other' ↦ other.0 ∙ sym other'.0
@@ -69,17 +68,3 @@ refused_once {why = why} {why' = why'} first second = elim (fields_refused first
         fields_refused_once found'.0 (subst (λ fields. FieldsAreRefused fields why) same found.2) found'.2
   ]
 ]
-
--- and verifying comes to one
-pub verdict_once : {password text : List ℕ} {out out' : Option Refusal} → Verdict password text out → Verdict password text out' → out ≡ out'
-verdict_once (refused why) (refused why') = ap Some (refused_once why why')
-verdict_once (refused why) (wrong whole other) = absurd (not_both why whole)
-verdict_once (refused why) (right whole same) = absurd (not_both why whole)
-verdict_once (wrong whole other) (refused why) = absurd (not_both why whole)
-verdict_once (wrong whole other) (wrong whole' other') = refl
-verdict_once (wrong whole other) (right {c} {salt} {key} whole' same) =
-    absurd (other (accepted_key whole (record { costs = c; salt = salt; stored = key; whole = whole'; right = same })))
-verdict_once (right whole same) (refused why) = absurd (not_both why whole)
-verdict_once (right {c} {salt} {key} whole same) (wrong whole' other) =
-    absurd (other (accepted_key whole' (record { costs = c; salt = salt; stored = key; whole = whole; right = same })))
-verdict_once (right whole same) (right whole' same') = refl

@@ -3,7 +3,7 @@ use Rattle.std.specs.Prelude.{◌≡◌, ℕ, List, length, ◌⊎◌, Option, N
 use Rattle.password_hash.specs.Refusal.{BadVersion, refusal}
 use Rattle.password_hash.specs.declared.error.Error.{Error}
 use Rattle.password_hash.specs.declared.phc.hash.PasswordHash.{PasswordHash}
-use Rattle.scrypt.specs.Accepted.{Parameters}
+use Rattle.scrypt.specs.Accepted.{Parameters, without_len}
 use Rattle.scrypt.specs.PhcCosts.{ReadsCosts, written_pairs}
 
 -- the costs that are read, or what they are refused by
@@ -16,14 +16,10 @@ abbrev pub stored_len : Option (List ℕ) → ℕ
 stored_len None = 32
 stored_len (Some key) = length key
 
--- the costs without a length
-abbrev pub bare : Parameters → Parameters
-bare c = record c { output_len = None }
-
 -- the costs of a hash with the length of its key, or the version, or what its costs are refused by
 abbrev pub AnswersHashCosts : PasswordHash → Result Parameters Error → Type 0
 AnswersHashCosts hash (Ok c) =
-    (hash.version ≡ None) × ReadsCosts hash.params (Ok (bare c)) × (c.output_len ≡ Some (stored_len hash.hash))
+    (hash.version ≡ None) × ReadsCosts hash.params (Ok (without_len c)) × (c.output_len ≡ Some (stored_len hash.hash))
 AnswersHashCosts hash (Err e) =
     (IsSome hash.version × (refusal e ≡ BadVersion)) ⊎ ((hash.version ≡ None) × ReadsCosts hash.params (Err (refusal e)))
 

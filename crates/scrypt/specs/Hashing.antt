@@ -1,0 +1,18 @@
+-- What making a hash comes to, in every format.
+use Rattle.std.specs.Prelude.{◌≡◌, ℕ, List, Option, None, IsSome, IfSome}
+use Rattle.password_hash.specs.Refusal.{Refusal, BadAlgorithm, BadSalt, BadVersion, NoMemory}
+
+-- the caller named no algorithm but this one
+abbrev pub IsNamedOrNone : List ℕ → Option (List ℕ) → Type 0
+IsNamedOrNone name alg_id = IfSome alg_id (λ id. id ≡ name)
+
+-- What hashing is refused by: the algorithm, then the version, then the salt where the format takes no
+-- such salt, and at last memory.
+pub data HashingIsRefused (name : List ℕ) (SaltFits : Type 0) (alg_id : Option (List ℕ)) (version : Option ℕ)
+    : Refusal → Type 0 where
+  by_algorithm : ¬ IsNamedOrNone name alg_id → HashingIsRefused name SaltFits alg_id version BadAlgorithm
+  by_version : IsNamedOrNone name alg_id → IsSome version → HashingIsRefused name SaltFits alg_id version BadVersion
+  by_salt : IsNamedOrNone name alg_id → version ≡ None → ¬ SaltFits
+      → HashingIsRefused name SaltFits alg_id version BadSalt
+  by_memory : IsNamedOrNone name alg_id → version ≡ None → SaltFits
+      → HashingIsRefused name SaltFits alg_id version NoMemory

@@ -1,0 +1,54 @@
+// What a PHC hash of scrypt holds.
+
+ghost use Rattle.std.specs.Prelude.{◌≡◌, ◌↔◌, IfErr, IfOk, IsTrue};
+ghost use Rattle.password_hash.specs.Refusal.{refusal};
+ghost use Rattle.scrypt.specs.Accepted.{without_len};
+ghost use Rattle.scrypt.specs.PhcHash.{IsWhole, ReadIsRefused, scrypt_id};
+
+use crate::Params;
+use crate::phc::ALG_ID;
+use password_hash::phc::{Ident, Output, PasswordHash};
+use password_hash::{Error, Result};
+
+/// The costs, the salt and the key of a hash, of which nothing is copied.
+#[derive(Clone, Copy)]
+pub(super) struct Stored<'a> {
+    pub(super) params: Params,
+    pub(super) salt: &'a [u8],
+    pub(super) key: &'a Output,
+}
+
+/// Reads a hash.
+///
+/// Refuses in this order: `Algorithm` where it is not `scrypt`, `Version` where there is one, what
+/// reading the parameters refuses, and `PasswordInvalid` where salt or key is missing.
+pub(super) fn read(hash: &PasswordHash) -> Result<Stored<'_>>
+    ensures ok { IfOk result (λ stored. IsWhole hash.now (without_len stored.params) stored.salt.now stored.key.now) }
+    ensures err { IfErr result (λ e. ReadIsRefused hash.now (refusal e)) }
+{
+    if !is_scrypt(&hash.algorithm) {
+        return Err(Error::Algorithm);
+    }
+    let params = match Params::try_from(hash) {
+        Ok(params) => params,
+        Err(refused) => return Err(refused),
+    };
+    let Some(salt) = &hash.salt else {
+        return Err(Error::PasswordInvalid);
+    };
+    let Some(key) = &hash.hash else {
+        return Err(Error::PasswordInvalid);
+    };
+    Ok(Stored {
+        params,
+        salt: salt.as_bytes(),
+        key,
+    })
+}
+
+// Whether this is the name of scrypt.
+fn is_scrypt(id: &Ident) -> bool
+    ensures { IsTrue result ↔ (id.now ≡ scrypt_id) }
+{
+    *id == ALG_ID
+}

@@ -1,0 +1,68 @@
+// The key that hashing stores, and the one that verifying compares with a stored one.
+
+ghost use Rattle.std.specs.Prelude.{◌≡◌, length, IfErr, IfOk, OnOk};
+ghost use Rattle.password_hash.specs.declared.error.Error.TheVariants.{OutOfMemory};
+ghost use Rattle.scrypt.specs.Accepted.{IsOutputLen, IsStoredLen};
+ghost use Rattle.scrypt.specs.KeyOfParams.{key_by};
+
+use crate::{Params, scrypt};
+use password_hash::phc::Output;
+use password_hash::{Error, Result};
+use std::alloc::Global;
+
+/// The derived key of `len` bytes, 10 to 64. It stands in an array, so that the three buffers of
+/// the derivation are all that memory is asked for.
+pub(crate) fn short_key(
+    alloc: Global,
+    password: &[u8],
+    salt: &[u8],
+    params: &Params,
+    len: usize,
+) -> Result<Output>
+    requires { IsStoredLen len }
+    ensures value { IfOk result (λ key. key ≡ key_by params.now password.now salt.now len) }
+    ensures memory { IfErr result (λ e. e ≡ OutOfMemory) }
+{
+    let mut places = [0u8; Output::MAX_LENGTH];
+    let key = &mut places[..len];
+    derive(alloc, password, salt, params, key)?;
+    let Ok(key) = Output::new(key) else {
+        unreachable!();
+    };
+    Ok(key)
+}
+
+/// The derived key of `len` bytes, for which memory is asked first.
+pub(crate) fn long_key(
+    alloc: Global,
+    password: &[u8],
+    salt: &[u8],
+    params: &Params,
+    len: usize,
+) -> Result<Vec<u8>>
+    requires { IsOutputLen len }
+    ensures value { IfOk result (λ key. key.items ≡ key_by params.now password.now salt.now len) }
+    ensures memory { IfErr result (λ e. e ≡ OutOfMemory) }
+{
+    let mut key = vec![in alloc; 0u8; len]?;
+    derive(alloc, password, salt, params, &mut key)?;
+    Ok(key)
+}
+
+// Derives a key of an accepted length, for which nothing but memory can be refused.
+fn derive(
+    alloc: Global,
+    password: &[u8],
+    salt: &[u8],
+    params: &Params,
+    out: &mut [u8],
+) -> Result<()>
+    requires { IsOutputLen (length out.old) }
+    ensures value { OnOk result (out.new ≡ key_by params.now password.now salt.now (length out.old)) }
+    ensures memory { IfErr result (λ e. e ≡ OutOfMemory) }
+{
+    match scrypt(alloc, password, salt, params, out) {
+        Ok(()) => Ok(()),
+        Err(_) => Err(Error::OutOfMemory),
+    }
+}
