@@ -1,10 +1,11 @@
 -- Bounds on accepted parameters.
-use Rattle.scrypt.specs.Accepted.{AreAccepted, Parameters, parameters_eq}
-use Rattle.std.specs.Prelude.{Option, Some, None, nat_eq}
+use Rattle.scrypt.specs.Accepted.{AreAccepted, IsStoredLen, Parameters, parameters_eq}
+use Rattle.scrypt.specs.Hashing.{made_len}
+use Rattle.std.specs.Prelude.{IfSome, Option, Some, None, nat_eq, unwrap_or}
 use Rattle.std.specs.Bool.{Decides}
 use Rattle.std.specs.Option.{option_eq}
 use Rattle.std.proofs.lemmas.Bool.Decides.{Decides-and, Decides-eqb}
-use Rattle.std.proofs.Common.{refl, ap, ◌∙◌, ◌≡◌, ℕ, ◌-◌, ◌*◌, ◌^◌, ◌<◌, ◌≤◌, arith}
+use Rattle.std.proofs.Common.{refl, ap, ◌∙◌, ◌≡◌, ℕ, ◌-◌, ◌*◌, ◌^◌, ◌<◌, ◌≤◌, arith, lit≤}
 use Rattle.std.proofs.Math.Nat.{lt_of_not-le, mul-le-mul_right, mul_assoc}
 use Rattle.std.proofs.Math.Pow.{pow_mono}
 use Rattle.std.proofs.lemmas.Nat.{mul-le}
@@ -62,3 +63,11 @@ parameters_decided a b =
           ∙ ap (λ z. made b.output_len b.log_n z a.p) same.1.0 ∙ ap (λ z. made b.output_len b.log_n b.r z) same.1.1,
       λ e. each.1 ((ap (λ c. c.output_len) e, ap (λ c. c.log_n) e), (ap (λ c. c.r) e, ap (λ c. c.p) e)),
     )
+
+-- the length of a key that hashing makes is one that is stored
+stored_or_32 : (len : Option ℕ) → IfSome len IsStoredLen → IsStoredLen (unwrap_or len 32)
+stored_or_32 None fits = (lit≤ tt, lit≤ tt)
+stored_or_32 (Some len) fits = fits
+
+pub made_len_stored : (c : Parameters) → IfSome c.output_len IsStoredLen → IsStoredLen (made_len c)
+made_len_stored c fits = stored_or_32 c.output_len fits

@@ -12,7 +12,8 @@ use Rattle.scrypt.specs.Accepted.{without_len}
 use Rattle.scrypt.proofs.KeyFacts.{length-key_by}
 use Rattle.scrypt.proofs.McfCostsFacts.{field_is}
 use Rattle.scrypt.specs.McfCosts.{SaysCosts, costs_letters, ReadsField, malformed, not_accepted, accepted}
-use Rattle.scrypt.specs.McfHash.{HasCosts, IsWhole, ReadIsRefused, other_id, no_field, bad_costs, no_key, bad_key, third_field, bad_key_len, Accepts, mcf_id, IsMadeHash, made_len}
+use Rattle.scrypt.specs.McfHash.{HasCosts, IsWhole, ReadIsRefused, other_id, no_field, bad_costs, no_key, bad_key, third_field, bad_key_len, Accepts, mcf_id, IsMadeHash}
+use Rattle.scrypt.specs.Hashing.{made_len}
 
 -- a text has one id and one list of fields
 pub fields_once : {text id other : List ℕ} {fields others : List (List ℕ)} → Modular text id fields → Modular text other others → (id ≡ other) × (fields ≡ others)

@@ -1,6 +1,6 @@
 -- The text that hashing writes is that of the hash.
 use Rattle.std.proofs.Common.{◌≡◌, ◌≢◌, ◌∙◌, ℕ, zero, suc, ◌+◌, ◌-◌, ◌^◌, ◌%◌, ◌<◌, ◌≤◌, List, [], ◌∷◌, ◌++◌, length, take, drop, set, Some, Ok, refl, sym, ap, subst, arith, lit<, append_assoc, length-append, length-drop}
-use Rattle.std.specs.Prelude.{All, IsTrue, codes, unwrap_or}
+use Rattle.std.specs.Prelude.{All, IfSome, IsTrue, codes, unwrap_or}
 use Rattle.std.specs.Str.{IsAscii}
 use Rattle.std.proofs.lemmas.List.{append-nil, drop_all, drop_at, take_at, drop-drop}
 use Rattle.std.proofs.lemmas.List.Elements.{All-nil, All-cons, All-append, All-from_get_or, All-head, All-tail, All-weaker}
@@ -10,13 +10,14 @@ use Rattle.password_hash.specs.Mcf.{dollar, is_id_byte, IsField}
 use Rattle.password_hash.proofs.LetterFacts.{letter-ascii, letter_value-letter}
 use Rattle.password_hash.proofs.Crypt64Facts.{IsPlain, crypt64_of-plain, length-letters_of, letters_of-plain}
 use Rattle.password_hash.proofs.ModularFacts.{IsField-crypt64_of}
-use Rattle.scrypt.specs.Accepted.{AreAccepted, IsOutputLen, Parameters}
+use Rattle.scrypt.specs.Accepted.{AreAccepted, IsOutputLen, IsStoredLen, Parameters}
 use Rattle.scrypt.specs.KeyOfParams.{key_by}
 use Rattle.scrypt.proofs.KeyFacts.{key_by-are_bytes, length-key_by}
 use Rattle.scrypt.specs.Accepted.{without_len}
 use Rattle.scrypt.specs.McfCosts.{five_letter_number, costs_letters, costs_text, SaysCosts, ReadsField, accepted}
-use Rattle.scrypt.specs.McfHash.{IsWhole, IsMadeHash, made_len}
-use Rattle.scrypt.proofs.AcceptedFacts.{small_costs, small_log_n}
+use Rattle.scrypt.specs.McfHash.{IsWhole, IsMadeHash}
+use Rattle.scrypt.specs.Hashing.{made_len}
+use Rattle.scrypt.proofs.AcceptedFacts.{made_len_stored, small_costs, small_log_n}
 use Rattle.scrypt.proofs.McfCostsFacts.{five_letter_number-letters_of, to_the_end}
 
 -- what is left by a write from one place to the end
@@ -123,16 +124,16 @@ text_is c salt key good no_dollar are_bytes allowed =
     }
 
 -- the text that hashing makes
-pub made_text : (c : Parameters) (password salt : List ℕ) → AreAccepted c.log_n c.r c.p
+pub made_text : (c : Parameters) (password salt : List ℕ) → AreAccepted c.log_n c.r c.p → IfSome c.output_len IsStoredLen
     → IsMadeHash c password salt (costs_text c ++ (crypt64_of salt
     ++ dollar ∷ crypt64_of (key_by c password (crypt64_of salt) (made_len c))))
-made_text c password salt good =
+made_text c password salt good fits =
     let letters = crypt64_of salt in
     let key = key_by c password letters (made_len c) in
     let long = length-key_by c password letters (made_len c) in
     text_is c letters key good (IsField-crypt64_of salt)
     (All-from_get_or (λ byte. byte < 256) key 0 (λ i below. key_by-are_bytes c password letters (made_len c) i))
-    (omega (arith, long), omega (arith, long))
+    (let stored = made_len_stored c fits in (omega (arith, long, stored.0), omega (arith, long, stored.1)))
 
 -- every byte of it is ASCII
 pub text_ascii : (c : Parameters) (salt key : List ℕ) → AreAccepted c.log_n c.r c.p

@@ -1,6 +1,6 @@
 -- Facts on PHC hashes of scrypt.
-use Rattle.std.proofs.Common.{◌≡◌, ℕ, List, refl, sym, ap, subst, ◌∙◌, arith, lit≤, None, Some, Ok, Err, inl, inr}
-use Rattle.std.specs.Prelude.{IfSome, IsSome, Option, unwrap_or}
+use Rattle.std.proofs.Common.{◌≡◌, ℕ, List, refl, sym, ap, subst, ◌∙◌, arith, lit≤, None, Ok, Err, inl, inr}
+use Rattle.std.specs.Prelude.{IfSome, IsSome, Option}
 use Rattle.password_hash.specs.Phc.{IsHashText, IsSalt, hash_text}
 use Rattle.password_hash.specs.Refusal.{Refusal}
 use Rattle.password_hash.specs.declared.phc.hash.PasswordHash.{PasswordHash}
@@ -8,8 +8,9 @@ use Rattle.scrypt.specs.Accepted.{AreAccepted, IsStoredLen, Parameters}
 use Rattle.scrypt.specs.KeyOfParams.{key_by}
 use Rattle.scrypt.specs.Accepted.{without_len}
 use Rattle.scrypt.specs.PhcCosts.{ReadsCosts}
-use Rattle.scrypt.specs.PhcHash.{Accepts, IsMadeHash, IsWhole, ReadIsRefused, algorithm, version, costs, missing, made_len}
-use Rattle.scrypt.proofs.AcceptedFacts.{small_costs}
+use Rattle.scrypt.specs.PhcHash.{Accepts, IsMadeHash, IsWhole, ReadIsRefused, algorithm, version, costs, missing}
+use Rattle.scrypt.specs.Hashing.{made_len}
+use Rattle.scrypt.proofs.AcceptedFacts.{made_len_stored, small_costs}
 use Rattle.scrypt.proofs.KeyFacts.{key_by-are_bytes, length-key_by}
 use Rattle.scrypt.proofs.PhcCostsFacts.{three_pairs}
 use Rattle.scrypt.proofs.PhcReadingFacts.{reads_once, written_read}
@@ -59,35 +60,36 @@ refused_once (missing of_costs gone) (version is' some') = absurd (versioned som
 refused_once (missing of_costs gone) (costs is' none' refused') = absurd (not_read refused' of_costs.costs)
 refused_once (missing of_costs gone) (missing of_costs' gone') = refl
 
--- a made hash accepts its password
+-- a made hash is whole
+pub made_whole : (c : Parameters) (password salt : List ℕ) (hash : PasswordHash) → AreAccepted c.log_n c.r c.p
+    → IsMadeHash c password salt hash → IsWhole hash (without_len c) salt (key_by c password salt (made_len c))
+made_whole c password salt hash fits made = record {
+  of_costs = record {
+    algorithm = made.algorithm;
+    version = made.version;
+    costs = subst (λ pairs. ReadsCosts pairs (Ok (without_len c))) (sym made.params) (written_read c fits);
+  };
+  salt_is = made.salt_is;
+  key_is = made.key_is;
+}
+
+-- and accepts its password
 pub made_accepts : (c : Parameters) (password salt : List ℕ) (hash : PasswordHash) → AreAccepted c.log_n c.r c.p
     → IsMadeHash c password salt hash → Accepts password hash
 made_accepts c password salt hash fits made = record {
   costs = without_len c;
   salt = salt;
   stored = key_by c password salt (made_len c);
-  whole = record {
-    of_costs = record {
-      algorithm = made.algorithm;
-      version = made.version;
-      costs = subst (λ pairs. ReadsCosts pairs (Ok (without_len c))) (sym made.params) (written_read c fits);
-    };
-    salt_is = made.salt_is;
-    key_is = made.key_is;
-  };
+  whole = made_whole c password salt hash fits made;
   right = ap (key_by c password salt) (sym (length-key_by c password salt (made_len c)));
 }
-
-stored_made : (len : Option ℕ) → IfSome len IsStoredLen → IsStoredLen (unwrap_or len 32)
-stored_made None fits = (lit≤ tt, lit≤ tt)
-stored_made (Some len) fits = fits
 
 -- and has a text
 pub made_is_text : (c : Parameters) (password salt : List ℕ) (hash : PasswordHash) → AreAccepted c.log_n c.r c.p
     → IfSome c.output_len IsStoredLen → IsSalt salt → IsMadeHash c password salt hash → IsHashText (hash_text hash) hash
 made_is_text c password salt hash fits len salted made =
     let small = small_costs c.log_n c.r c.p fits in
-    let stored = stored_made c.output_len len in
+    let stored = made_len_stored c len in
     let long = length-key_by c password salt (made_len c) in
     record {
       whole = refl;

@@ -1,6 +1,11 @@
 -- What making a hash comes to, in every format.
-use Rattle.std.specs.Prelude.{◌≡◌, ℕ, List, Option, None, IsSome, IfSome}
+use Rattle.std.specs.Prelude.{◌≡◌, ℕ, List, Option, None, IsSome, IfSome, unwrap_or}
 use Rattle.password_hash.specs.Refusal.{Refusal, BadAlgorithm, BadSalt, BadVersion, NoMemory}
+use Rattle.scrypt.specs.Accepted.{Parameters}
+
+-- the length of the key that hashing with these parameters makes: 32 where none was given
+abbrev pub made_len : Parameters → ℕ
+made_len c = unwrap_or c.output_len 32
 
 -- the caller named no algorithm but this one
 abbrev pub IsNamedOrNone : List ℕ → Option (List ℕ) → Type 0

@@ -7,7 +7,7 @@ use Rattle.scrypt.specs.Accepted.{IsOutputLen, Parameters}
 use Rattle.scrypt.specs.KeyOfParams.{key_by}
 use Rattle.scrypt.specs.Accepted.{without_len}
 use Rattle.scrypt.specs.McfCosts.{ReadsField}
-use Rattle.scrypt.specs.Hashing.{HashingIsRefused, IsNamedOrNone}
+use Rattle.scrypt.specs.Hashing.{HashingIsRefused, IsNamedOrNone, made_len}
 use Rattle.scrypt.specs.Verifying.{IsAccepted, IsRefusedBy, VerdictOf}
 
 -- the id of `$7$` texts
@@ -44,10 +44,6 @@ pub data ReadIsRefused (text : List ℕ) : Refusal → Type 0 where
       → HasCosts text c salt (letters ∷ third ∷ behind) → IsCrypt64 letters → ReadIsRefused text BadEncoding
   bad_key_len : {c : Parameters} {salt letters key : List ℕ} → HasCosts text c salt (letters ∷ []) → Crypt64 key letters
       → ¬ IsOutputLen (length key) → ReadIsRefused text BadOutputSize
-
--- the length of the key that hashing makes; the length that the parameters may hold is not looked at
-abbrev pub made_len : Parameters → ℕ
-made_len c = 32
 
 -- the text is the hash that these parameters make of a password and a salt: the derivation's salt is the
 -- letters of the salt, as they stand in the text

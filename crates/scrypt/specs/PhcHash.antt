@@ -1,20 +1,16 @@
 -- PHC hashes of scrypt: which are made, and which passwords they accept.
-use Rattle.std.specs.Prelude.{◌≡◌, ◌≢◌, ◌⊎◌, ℕ, ◌≤◌, List, length, codes, Option, None, Some, IsSome, unwrap_or, Ok, Err}
+use Rattle.std.specs.Prelude.{◌≡◌, ◌≢◌, ◌⊎◌, ℕ, ◌≤◌, List, length, codes, Option, None, Some, IsSome, Ok, Err}
 use Rattle.password_hash.specs.Refusal.{Refusal, BadAlgorithm, BadVersion, WrongPassword}
 use Rattle.password_hash.specs.declared.phc.hash.PasswordHash.{PasswordHash}
 use Rattle.scrypt.specs.Accepted.{Parameters}
 use Rattle.scrypt.specs.KeyOfParams.{key_by}
 use Rattle.scrypt.specs.PhcCosts.{ReadsCosts, written_pairs}
-use Rattle.scrypt.specs.Hashing.{HashingIsRefused, IsNamedOrNone}
+use Rattle.scrypt.specs.Hashing.{HashingIsRefused, IsNamedOrNone, made_len}
 use Rattle.scrypt.specs.Verifying.{IsAccepted, IsRefusedBy, VerdictOf}
 
 -- the name of the algorithm
 abbrev pub scrypt_id : List ℕ
 scrypt_id = codes "scrypt"
-
--- the length of the key that hashing with these parameters makes: 32 where none was given
-abbrev pub made_len : Parameters → ℕ
-made_len c = unwrap_or c.output_len 32
 
 -- a salt of a PHC hash: 1 to 64 bytes
 abbrev pub IsSaltLen : ℕ → Type 0

@@ -17,7 +17,8 @@ ghost use Rattle.scrypt.specs.Key.{derived_key, mixed_chunks};
 ghost use Rattle.scrypt.specs.ThinKey.{thin_key};
 ghost use Rattle.scrypt_kernel.specs.Table.{extra_rows};
 ghost use Rattle.scrypt.specs.McfCosts.{costs_letters, costs_text, five_letter_number};
-ghost use Rattle.scrypt.specs.McfHash.{Accepts as McfAccepts, IsWhole as IsMcfWhole, IsMadeHash as IsMadeMcf, Verdict as McfVerdict, made_len};
+ghost use Rattle.scrypt.specs.McfHash.{Accepts as McfAccepts, IsWhole as IsMcfWhole, IsMadeHash as IsMadeMcf, Verdict as McfVerdict};
+ghost use Rattle.scrypt.specs.Hashing.{made_len};
 ghost use Rattle.scrypt.specs.Accepted.{without_len};
 ghost use Rattle.scrypt.specs.PhcCosts.{ReadsCosts, written_pairs};
 ghost use Rattle.scrypt.specs.PhcHash.{Accepts, IsMadeHash, Verdict};
@@ -92,7 +93,7 @@ pub fn made_hashes_are_accepted()
     ensures mcf { (c : Parameters) (password salt text : List ℕ) → IsMadeMcf c password salt text
         → McfAccepts password text }
     ensures mcf_written { (c : Parameters) (password salt : List ℕ) → AreAccepted c.log_n c.r c.p
-        → IsMadeMcf c password salt (costs_text c ++ (crypt64_of salt
+        → IfSome c.output_len IsStoredLen → IsMadeMcf c password salt (costs_text c ++ (crypt64_of salt
         ++ dollar ∷ crypt64_of (key_by c password (crypt64_of salt) (made_len c)))) }
 {}
 

@@ -3,7 +3,7 @@
 mod costs;
 mod five_letters;
 mod hashing;
-mod reading;
+pub(crate) mod reading;
 mod verifying;
 
 pub use costs::decode_params_and_salt;

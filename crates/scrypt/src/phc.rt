@@ -2,7 +2,7 @@
 
 mod costs;
 mod hashing;
-mod reading;
+pub(crate) mod reading;
 mod verifying;
 
 pub use password_hash::phc::{Ident, Output, PasswordHash, Salt};

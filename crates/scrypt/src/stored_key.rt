@@ -3,12 +3,24 @@
 ghost use Rattle.std.specs.Prelude.{◌≡◌, length, IfErr, IfOk, OnOk};
 ghost use Rattle.password_hash.specs.declared.error.Error.TheVariants.{OutOfMemory};
 ghost use Rattle.scrypt.specs.Accepted.{IsOutputLen, IsStoredLen};
+ghost use Rattle.scrypt.specs.Hashing.{made_len};
 ghost use Rattle.scrypt.specs.KeyOfParams.{key_by};
 
 use crate::{Params, scrypt};
 use password_hash::phc::Output;
 use password_hash::{Error, Result};
 use std::alloc::Global;
+
+/// The length of the key that hashing with these parameters makes.
+pub(crate) fn made_len(params: &Params) -> usize
+    ensures value { result ≡ made_len params.now }
+    ensures stored { IsStoredLen result }
+{
+    match params.output_len() {
+        Some(len) => len,
+        None => Params::RECOMMENDED_LEN,
+    }
+}
 
 /// The derived key of `len` bytes, 10 to 64. It stands in an array, so that the three buffers of
 /// the derivation are all that memory is asked for.

@@ -6,13 +6,14 @@ ghost use Rattle.std.specs.Str.{IsAscii};
 ghost use Rattle.password_hash.specs.Crypt64.{crypt64_of, encoded_len};
 ghost use Rattle.password_hash.specs.Mcf.{IsModular, dollar};
 ghost use Rattle.password_hash.specs.declared.error.Error.TheVariants.{OutOfMemory};
-ghost use Rattle.scrypt.specs.Accepted.{AreAccepted, IsStoredLen};
+ghost use Rattle.scrypt.specs.Accepted.{AreAccepted};
 ghost use Rattle.scrypt.specs.McfCosts.{costs_text};
-ghost use Rattle.scrypt.specs.McfHash.{HashIsRefused, IsMadeHash, IsMcfOrNone, made_len};
+ghost use Rattle.scrypt.specs.Hashing.{made_len};
+ghost use Rattle.scrypt.specs.McfHash.{HashIsRefused, IsMadeHash, IsMcfOrNone};
 
 use crate::mcf::five_letters::five_letters;
 use crate::mcf::reading::is_mcf;
-use crate::stored_key::short_key;
+use crate::stored_key::{made_len, short_key};
 use crate::{Params, Scrypt};
 use password_hash::mcf::alphabet::letter;
 use password_hash::mcf::{Base64, PasswordHash};
@@ -46,7 +47,7 @@ impl CustomizedPasswordHasher<PasswordHash> for Scrypt {
 
     ghost refuses = { λ _ password salt id version params why. HashIsRefused id version why };
 
-    /// Hashes the password with these parameters; the key has 32 bytes, whatever their length. The
+    /// Hashes the password with these parameters; the key has their length, or 32 bytes. The
     /// derivation's salt is the crypt Base64 of the salt, as it stands in the text.
     ///
     /// Refuses in this order: `Algorithm` where one is named that is not `7`, `Version` where one is
@@ -172,12 +173,4 @@ fn hash_of_text(text: Vec<u8>) -> PasswordHash
         unreachable!();
     };
     hash
-}
-
-// The length of the key that hashing with these parameters makes.
-fn made_len(_params: &Params) -> usize
-    ensures value { result ≡ made_len _params.now }
-    ensures stored { IsStoredLen result }
-{
-    Params::RECOMMENDED_LEN
 }

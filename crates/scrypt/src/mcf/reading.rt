@@ -15,12 +15,12 @@ use password_hash::{Error, Result};
 /// The costs, the salt and the key of a hash. Nothing is copied: the salt is a part of the text, and
 /// the key stands as its letters.
 #[derive(Clone, Copy)]
-pub(super) struct Stored<'a> {
-    pub(super) params: Params,
-    pub(super) salt: &'a [u8],
-    pub(super) key: Field<'a>,
+pub(crate) struct Stored<'a> {
+    pub(crate) params: Params,
+    pub(crate) salt: &'a [u8],
+    pub(crate) key: Field<'a>,
     /// The length of the key in bytes.
-    pub(super) key_len: usize,
+    pub(crate) key_len: usize,
 }
 
 /// Reads a text.
@@ -29,7 +29,7 @@ pub(super) struct Stored<'a> {
 /// field, what reading the first field refuses, `EncodingInvalid` where there is no second field, it
 /// is not crypt Base64 or there is a third field, and `OutputSize` where the key has a length that
 /// can't be derived.
-pub(super) fn read<'a>(hash: &PasswordHashRef<'a>) -> Result<Stored<'a>>
+pub(crate) fn read<'a>(hash: &PasswordHashRef<'a>) -> Result<Stored<'a>>
     ensures ok { IfOk result (λ stored. (key : List ℕ) × Crypt64 key (field_text stored.key) × (length key ≡ stored.key_len)
         × IsWhole (hash_text hash.now) stored.params stored.salt.now key) }
     ensures len { IfOk result (λ stored. IsOutputLen stored.key_len) }

@@ -2,12 +2,11 @@
 
 ghost use Rattle.std.specs.Prelude.{◌≡◌, ◌↔◌, length, true, None, unwrap_or, IsTrue};
 ghost use Rattle.std.specs.Option.{option_map};
-ghost use Rattle.scrypt.specs.Accepted.{IsStoredLen};
-ghost use Rattle.scrypt.specs.PhcHash.{HashIsRefused, IsMadeHash, IsScryptOrNone, made_len};
+ghost use Rattle.scrypt.specs.PhcHash.{HashIsRefused, IsMadeHash, IsScryptOrNone};
 
 use crate::phc::ALG_ID;
 use crate::phc::costs::written;
-use crate::stored_key::short_key;
+use crate::stored_key::{made_len, short_key};
 use crate::{Params, Scrypt};
 use password_hash::phc::{PasswordHash, Salt};
 use password_hash::{CustomizedPasswordHasher, Error, PasswordHasher, Result, Version};
@@ -79,16 +78,5 @@ fn is_scrypt_or_none(alg_id: Option<&str>) -> bool
     match alg_id {
         Some(id) => id == ALG_ID.as_str(),
         None => true,
-    }
-}
-
-// The length of the key that hashing with these parameters makes.
-fn made_len(params: &Params) -> usize
-    ensures value { result ≡ made_len params.now }
-    ensures stored { IsStoredLen result }
-{
-    match params.output_len() {
-        Some(len) => len,
-        None => Params::RECOMMENDED_LEN,
     }
 }

@@ -12,17 +12,17 @@ use password_hash::{Error, Result};
 
 /// The costs, the salt and the key of a hash, of which nothing is copied.
 #[derive(Clone, Copy)]
-pub(super) struct Stored<'a> {
-    pub(super) params: Params,
-    pub(super) salt: &'a [u8],
-    pub(super) key: &'a Output,
+pub(crate) struct Stored<'a> {
+    pub(crate) params: Params,
+    pub(crate) salt: &'a [u8],
+    pub(crate) key: &'a Output,
 }
 
 /// Reads a hash.
 ///
 /// Refuses in this order: `Algorithm` where it is not `scrypt`, `Version` where there is one, what
 /// reading the parameters refuses, and `PasswordInvalid` where salt or key is missing.
-pub(super) fn read(hash: &PasswordHash) -> Result<Stored<'_>>
+pub(crate) fn read(hash: &PasswordHash) -> Result<Stored<'_>>
     ensures ok { IfOk result (λ stored. IsWhole hash.now (without_len stored.params) stored.salt.now stored.key.now) }
     ensures err { IfErr result (λ e. ReadIsRefused hash.now (refusal e)) }
 {

@@ -1,14 +1,15 @@
 use Rattle.std.proofs.Common.{◌≡◌, ◌∙◌, ◌-◌, ◌++◌, ◌∷◌, ap, ap₂, refl, sym, subst, arith, append_assoc, length, take, drop, length-drop}
 use Rattle.std.specs.Str.{IsAscii}
 use borrow.Rule.Slice.PartMut.{put_mid}
-use Rattle.password_hash.specs.Crypt64.{crypt64_of}
+use Rattle.password_hash.specs.Crypt64.{crypt64_of, encoded_len}
 use Rattle.password_hash.specs.Mcf.{dollar}
 use Rattle.password_hash.proofs.GroupFacts.{length-crypt64_of}
 use Rattle.password_hash.proofs.ModularFacts.{IsField-crypt64_of}
 use Rattle.scrypt.specs.KeyOfParams.{key_by}
 use Rattle.scrypt.specs.Accepted.{without_len}
 use Rattle.scrypt.specs.McfCosts.{costs_text}
-use Rattle.scrypt.specs.McfHash.{IsWhole, made_len}
+use Rattle.scrypt.specs.McfHash.{IsWhole}
+use Rattle.scrypt.specs.Hashing.{made_len}
 use Rattle.scrypt.proofs.McfCostsFacts.{to_the_end}
 use Rattle.scrypt.proofs.KeyFacts.{length-key_by}
 use Rattle.scrypt.proofs.McfTextFacts.{before_cut, between_cuts, count_text, put_to_the_end, text_ascii, text_is}
@@ -26,9 +27,10 @@ pub write_key-requires : goal.write_key-requires
 write_key-requires c =
     let text = c.write_costs_and_salt.new.out in
     let key = c.as_bytes.result.now in
-    let key_len : length key ≡ 32 = ap length (key_is c) ∙ length-key_by c.args.params.now c.args.password.now (crypt64_of c.args.salt.now) 32 in
+    let len = made_len c.args.params.now in
+    let key_len : length key ≡ len = ap length (key_is c) ∙ length-key_by c.args.params.now c.args.password.now (crypt64_of c.args.salt.now) len in
     ap length (to_the_end text text c.args.key_at refl)
-    ∙ omega (arith, length-drop c.args.key_at text, c.write_costs_and_salt.auto.out, c.requires.room, length-crypt64_of key, key_len)
+    ∙ omega (arith, length-drop c.args.key_at text, c.write_costs_and_salt.auto.out, c.requires.room, length-crypt64_of key ∙ ap encoded_len key_len)
 
 -- the whole text
 text_at : (c : After-write_key) → put_mid c.args.key_at (length c.write_costs_and_salt.new.out - c.args.key_at) c.write_costs_and_salt.new.out c.write_key.new.out
