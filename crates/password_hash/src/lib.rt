@@ -8,4 +8,4 @@ pub mod phc;
 mod traits;
 
 pub use error::{Error, Result, Version};
-pub use traits::{CustomizedPasswordHasher, PasswordHasher, PasswordVerifier};
+pub use traits::{CustomizedPasswordHasher, PasswordHasher, PasswordVerifier, RehashCheck};

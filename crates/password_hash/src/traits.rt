@@ -1,5 +1,5 @@
 //! What makes password hashes and what verifies them.
-ghost use Rattle.std.specs.Prelude.{◌≡◌, List, ℕ, Option, None, IfOk, IfErr, OnOk};
+ghost use Rattle.std.specs.Prelude.{◌≡◌, ◌↔◌, List, ℕ, Option, None, IfOk, IfErr, IsTrue, OnOk};
 ghost use Rattle.std.specs.Option.{option_map};
 ghost use Rattle.password_hash.specs.Refusal.{Refusal, refusal, WrongPassword};
 
@@ -85,4 +85,23 @@ pub trait PasswordVerifier<H> {
         ensures ok { OnOk result (accepts password.now hash.now) }
         ensures wrong { IfErr result (λ e. refusal e ≡ WrongPassword → ¬ accepts password.now hash.now) }
         ensures err { IfErr result (λ e. refuses password.now hash.now (refusal e)) };
+}
+
+/// Tells which hashes of the kind `H` are weaker than this value's own parameters ask for, so that a
+/// login service makes them anew while it has the password.
+pub trait RehashCheck<H> {
+    // The hash can be read.
+    ghost readable: { H → Type 0 };
+
+    // The hash can be read, and is weaker than wanted.
+    ghost weaker: { Self → H → Type 0 };
+
+    // What a hash that can't be read is refused by.
+    ghost refuses: { H → Refusal → Type 0 };
+
+    /// Whether the hash is weaker than wanted. Takes no memory.
+    fn needs_rehash(&self, hash: &H) -> Result<bool>
+        ensures ok { OnOk result (readable hash.now) }
+        ensures weak { IfOk result (λ weak. IsTrue weak ↔ weaker self.now hash.now) }
+        ensures err { IfErr result (λ e. refuses hash.now (refusal e)) };
 }

@@ -5,6 +5,7 @@ pub mod ThinKeyFacts
 pub mod ChunkFacts
 pub mod StandardFacts
 pub mod VerdictFacts
+pub mod RehashFacts
 pub mod PhcCostsFacts
 pub mod PhcReadingFacts
 pub mod PhcHashFacts

@@ -38,3 +38,5 @@ pub mod PhcConversions
 pub mod McfCosts
 -- `$7$` hashes that are made, and those that are whole
 pub mod McfHash
+-- which stored hashes are weaker than wanted
+pub mod Rehashing

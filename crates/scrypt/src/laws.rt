@@ -17,11 +17,12 @@ ghost use Rattle.scrypt.specs.Key.{derived_key, mixed_chunks};
 ghost use Rattle.scrypt.specs.ThinKey.{thin_key};
 ghost use Rattle.scrypt_kernel.specs.Table.{extra_rows};
 ghost use Rattle.scrypt.specs.McfCosts.{costs_letters, costs_text, five_letter_number};
-ghost use Rattle.scrypt.specs.McfHash.{Accepts as McfAccepts, IsWhole as IsMcfWhole, IsMadeHash as IsMadeMcf, Verdict as McfVerdict};
+ghost use Rattle.scrypt.specs.McfHash.{Accepts as McfAccepts, IsWhole as IsMcfWhole, IsMadeHash as IsMadeMcf, ReadIsRefused as McfReadIsRefused, Verdict as McfVerdict};
 ghost use Rattle.scrypt.specs.Hashing.{made_len};
 ghost use Rattle.scrypt.specs.Accepted.{without_len};
 ghost use Rattle.scrypt.specs.PhcCosts.{ReadsCosts, written_pairs};
-ghost use Rattle.scrypt.specs.PhcHash.{Accepts, IsMadeHash, Verdict};
+ghost use Rattle.scrypt.specs.PhcHash.{Accepts, IsMadeHash, IsWhole, ReadIsRefused, Verdict};
+ghost use Rattle.scrypt.specs.Rehashing.{IsWeaker};
 
 /// A shorter key is the beginning of a longer one, of any two lengths. Key files rely on it, which ask
 /// for more bytes later and find the first ones as they were.
@@ -104,6 +105,20 @@ pub fn verdicts_are_one()
         → Verdict password hash other → one ≡ other }
     ensures mcf { (password text : List ℕ) (one other : Option Refusal) → McfVerdict password text one
         → McfVerdict password text other → one ≡ other }
+{}
+
+/// A hash that accepts a password can be read, so that asking whether it is weaker than wanted is then
+/// never refused; and a hash that was made with the wanted parameters is not weaker than they ask for:
+/// login services rely on both, which make a hash anew once.
+pub fn rehashing_converges()
+    ensures phc_readable { (password : List ℕ) (hash : PasswordHash) (why : Refusal) → Accepts password hash
+        → ¬ ReadIsRefused hash why }
+    ensures mcf_readable { (password text : List ℕ) (why : Refusal) → McfAccepts password text
+        → ¬ McfReadIsRefused text why }
+    ensures phc { (c : Parameters) (password salt : List ℕ) (hash : PasswordHash) → AreAccepted c.log_n c.r c.p
+        → IsMadeHash c password salt hash → ¬ IsWeaker (IsWhole hash) c }
+    ensures mcf { (c : Parameters) (password salt text : List ℕ) → IsMadeMcf c password salt text
+        → ¬ IsWeaker (IsMcfWhole text) c }
 {}
 
 /// Numbers below 2^30 and their five letters undo each other, every five letters say a number, and

@@ -19,6 +19,7 @@ pub mod laws;
 pub mod mcf;
 mod params;
 pub mod phc;
+mod rehashing;
 mod stored_key;
 
 pub use algorithm::Scrypt;

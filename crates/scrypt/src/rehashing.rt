@@ -1,0 +1,74 @@
+// Which stored hashes are weaker than wanted.
+
+ghost use Rattle.std.specs.Prelude.{◌↔◌, IsTrue};
+ghost use Rattle.password_hash.specs.McfViews.{hash_text};
+ghost use Rattle.scrypt.specs.McfHash.{IsWhole as IsMcfWhole, ReadIsRefused as McfReadIsRefused};
+ghost use Rattle.scrypt.specs.PhcHash.{IsWhole, ReadIsRefused};
+ghost use Rattle.scrypt.specs.Rehashing.{IsBelow, IsReadable, IsWeaker};
+
+use crate::mcf::reading as mcf_reading;
+use crate::phc::reading as phc_reading;
+use crate::stored_key::made_len;
+use crate::{Params, Scrypt};
+use password_hash::{RehashCheck, Result, mcf, phc};
+
+impl RehashCheck<phc::PasswordHash> for Scrypt {
+    ghost readable = { λ hash. IsReadable (IsWhole hash) };
+
+    ghost weaker = { λ scrypt hash. IsWeaker (IsWhole hash) scrypt };
+
+    ghost refuses = { λ hash why. ReadIsRefused hash why };
+
+    /// Whether `log_n`, `r`, `p` or the length of the key is below that of this value's own parameters,
+    /// whose key has 32 bytes where they have no length; one of the four is enough.
+    ///
+    /// Refuses what verifying refuses before it asks for memory, in the same order.
+    fn needs_rehash(&self, hash: &phc::PasswordHash) -> Result<bool> {
+        match phc_reading::read(hash) {
+            Ok(stored) => Ok(is_below(&self.params(), &stored.params, stored.key.len())),
+            Err(refused) => Err(refused),
+        }
+    }
+}
+
+impl<'a> RehashCheck<mcf::PasswordHashRef<'a>> for Scrypt {
+    ghost readable = { λ hash. IsReadable (IsMcfWhole (hash_text hash)) };
+
+    ghost weaker = { λ scrypt hash. IsWeaker (IsMcfWhole (hash_text hash)) scrypt };
+
+    ghost refuses = { λ hash why. McfReadIsRefused (hash_text hash) why };
+
+    /// Whether `log_n`, `r`, `p` or the length of the key is below that of this value's own parameters,
+    /// whose key has 32 bytes where they have no length; one of the four is enough.
+    ///
+    /// Refuses what verifying refuses before it asks for memory, in the same order.
+    fn needs_rehash(&self, hash: &mcf::PasswordHashRef<'a>) -> Result<bool> {
+        match mcf_reading::read(hash) {
+            Ok(stored) => Ok(is_below(&self.params(), &stored.params, stored.key_len)),
+            Err(refused) => Err(refused),
+        }
+    }
+}
+
+impl RehashCheck<mcf::PasswordHash> for Scrypt {
+    ghost readable = { λ hash. IsReadable (IsMcfWhole hash) };
+
+    ghost weaker = { λ scrypt hash. IsWeaker (IsMcfWhole hash) scrypt };
+
+    ghost refuses = { λ hash why. McfReadIsRefused hash why };
+
+    /// Tells of the text what it tells of the borrowed text.
+    fn needs_rehash(&self, hash: &mcf::PasswordHash) -> Result<bool> {
+        self.needs_rehash(&hash.as_password_hash_ref())
+    }
+}
+
+// Whether one of the four is below the wanted one.
+fn is_below(wanted: &Params, stored: &Params, key_len: usize) -> bool
+    ensures { IsTrue result ↔ IsBelow wanted.now stored.now key_len }
+{
+    stored.log_n() < wanted.log_n()
+        || stored.r() < wanted.r()
+        || stored.p() < wanted.p()
+        || key_len < made_len(wanted)
+}
