@@ -31,14 +31,14 @@ impl Model for Scrypt {
 impl Scrypt {
     /// scrypt with the recommended parameters.
     pub fn new() -> Scrypt
-        ensures { result ≡ recommended_parameters }
+        ensures value { result ≡ recommended_parameters }
     {
         Scrypt::new_with_params(Params::RECOMMENDED)
     }
 
     /// scrypt with these parameters.
     pub fn new_with_params(params: Params) -> Scrypt
-        ensures { result ≡ params }
+        ensures value { result ≡ params }
     {
         Scrypt { params }
     }

@@ -20,7 +20,7 @@ const MAX_OUTPUT_LEN: usize = 137_438_953_440;
 
 /// Whether an output of `len` bytes can be derived: exactly for 1 to 137438953440.
 pub fn output_len_ok(len: usize) -> bool
-    ensures { IsTrue result ↔ IsOutputLen len }
+    ensures exact { IsTrue result ↔ IsOutputLen len }
 {
     (1..=MAX_OUTPUT_LEN).contains(&len)
 }

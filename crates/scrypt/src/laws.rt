@@ -27,7 +27,7 @@ ghost use Rattle.scrypt.specs.Rehashing.{IsWeaker};
 /// A shorter key is the beginning of a longer one, of any two lengths. Key files rely on it, which ask
 /// for more bytes later and find the first ones as they were.
 pub fn shorter_key_is_prefix()
-    ensures { (password salt : List ℕ) (log_n r p m n : ℕ) → m ≤ n
+    ensures prefix { (password salt : List ℕ) (log_n r p m n : ℕ) → m ≤ n
         → derived_key password salt log_n r p m ≡ take m (derived_key password salt log_n r p n) }
 {}
 
@@ -44,7 +44,7 @@ pub fn zero_byte_and_digest_passwords_collide()
 /// The chunks may be mixed one after another in any order that names each once: migration tools rely
 /// on it, whose keys come from programs that take the chunks in another order.
 pub fn chunks_in_any_order()
-    ensures { (b order : List ℕ) (log_n r p : ℕ) → 0 < r → length b ≡ p * (128 * r) → NamesEachOnce p order
+    ensures same { (b order : List ℕ) (log_n r p : ℕ) → 0 < r → length b ≡ p * (128 * r) → NamesEachOnce p order
         → mixed_in_order log_n r b order ≡ mixed_chunks b log_n r p }
 {}
 
@@ -135,7 +135,7 @@ pub fn five_letters_are_inverse()
 /// The eleven letters with which `$7$` texts write accepted costs are equal exactly where `log_n`, `r`
 /// and `p` are: migration tools rely on it, which tell costs by the beginning of a text.
 pub fn costs_prefix_is_injective()
-    ensures { (log_n r p other_log_n other_r other_p : ℕ) → AreAccepted log_n r p → AreAccepted other_log_n other_r other_p
+    ensures injective { (log_n r p other_log_n other_r other_p : ℕ) → AreAccepted log_n r p → AreAccepted other_log_n other_r other_p
         → (costs_letters log_n r p ≡ costs_letters other_log_n other_r other_p)
         ↔ ((log_n ≡ other_log_n) × (r ≡ other_r) × (p ≡ other_p)) }
 {}

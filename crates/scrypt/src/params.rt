@@ -101,7 +101,7 @@ impl Params {
     /// The recommended parameters.
     #[deprecated]
     pub fn recommended() -> Params
-        ensures { result ≡ recommended_parameters }
+        ensures value { result ≡ recommended_parameters }
     {
         Params::RECOMMENDED
     }
@@ -139,7 +139,7 @@ impl Params {
     /// The work factor `N = 2^log_n`.
     #[tactic(auto, using(crate::proofs::AcceptedFacts::small_log_n))]
     pub fn n(&self) -> u64
-        ensures { result ≡ 2 ^ self.now.log_n }
+        ensures value { result ≡ 2 ^ self.now.log_n }
     {
         1 << self.log_n
     }

@@ -29,7 +29,7 @@ impl Model for CoreCount {
 impl CoreCount {
     /// A count of no core.
     pub fn new() -> CoreCount
-        ensures { (result.all ≡ 0) × (result.lanes ≡ 0) }
+        ensures none { (result.all ≡ 0) × (result.lanes ≡ 0) }
     {
         CoreCount { seal: () }
     }

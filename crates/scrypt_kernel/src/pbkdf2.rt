@@ -10,7 +10,7 @@ use crate::hmac::Hmac;
 ///
 /// `out` has at most 137438953440 bytes, which is `(2^32 - 1) * 32`, and may be empty.
 pub fn pbkdf2_one(password: &[u8], salt: &[u8], out: &mut [u8])
-    requires { length out.old ≤ 137438953440 }
+    requires length { length out.old ≤ 137438953440 }
     ensures value { out.new ≡ pbkdf2 password.now salt.now (length out.old) }
 {
     let mut hmac = Hmac::new(password);

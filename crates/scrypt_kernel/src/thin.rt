@@ -31,7 +31,7 @@ impl<'a> Thin<'a> {
     /// A table with no row yet: `memory` is for the rows that it keeps, and `spare` for one row that is
     /// mixed anew.
     pub fn new(memory: &'a mut [u32], spare: &'a mut [u32], s: u8) -> Thin<'a>
-        requires { s ≤ 56 }
+        requires small { s ≤ 56 }
         ensures spacing { thin_spacing result ≡ s }
         ensures room { (rows size : ℕ) → rows * size ≤ length memory.old → size ≤ length spare.old
             → thin_has_room result rows size }

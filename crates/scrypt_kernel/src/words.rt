@@ -6,7 +6,7 @@ ghost use Rattle.scrypt_kernel.specs.Words.{add_words, xor_words, bytes_of, word
 use std::simd::u32x4;
 
 /// Reads the words of `bytes`, four bytes each in little-endian order.
-pub fn read_words(bytes: &[u8], words: &mut [u32])
+pub(crate) fn read_words(bytes: &[u8], words: &mut [u32])
     requires { length bytes.now ≡ 4 * length words.old }
     ensures { words.new ≡ words_of bytes.now }
 {
@@ -17,7 +17,7 @@ pub fn read_words(bytes: &[u8], words: &mut [u32])
 }
 
 /// Writes the bytes of `words`, four each in little-endian order.
-pub fn write_words(words: &[u32], bytes: &mut [u8])
+pub(crate) fn write_words(words: &[u32], bytes: &mut [u8])
     requires { length bytes.old ≡ 4 * length words.now }
     ensures { bytes.new ≡ bytes_of words.now }
 {
@@ -28,7 +28,7 @@ pub fn write_words(words: &[u32], bytes: &mut [u8])
 
 /// Adds `y` to `x`, word by word.
 #[inline(always)]
-pub fn add_words(x: &mut [u32], y: &[u32])
+pub(crate) fn add_words(x: &mut [u32], y: &[u32])
     requires { length x.old ≡ length y.now }
     ensures { x.new ≡ add_words x.old y.now }
 {
@@ -39,7 +39,7 @@ pub fn add_words(x: &mut [u32], y: &[u32])
 
 /// Part `k` of `x`, which is cut into parts of `s` words.
 #[inline(always)]
-pub fn part(x: &[u32], s: usize, k: usize) -> &[u32]
+pub(crate) fn part(x: &[u32], s: usize, k: usize) -> &[u32]
     requires { k * s + s ≤ length x.now }
     ensures value { result.now ≡ part s x.now k }
     ensures len { length result.now ≡ s }
@@ -49,7 +49,7 @@ pub fn part(x: &[u32], s: usize, k: usize) -> &[u32]
 
 /// Block `k` of `x`.
 #[inline(always)]
-pub fn block_at(x: &[u32], k: usize) -> [u32; 16]
+pub(crate) fn block_at(x: &[u32], k: usize) -> [u32; 16]
     requires { 16 * k + 16 ≤ length x.now }
     ensures { result ≡ block x.now k }
 {
@@ -62,7 +62,7 @@ pub fn block_at(x: &[u32], k: usize) -> [u32; 16]
 
 /// Writes `from` as block `k` of `x`.
 #[inline(always)]
-pub fn put_block(x: &mut [u32], k: usize, from: &[u32; 16])
+pub(crate) fn put_block(x: &mut [u32], k: usize, from: &[u32; 16])
     requires { 16 * k + 16 ≤ length x.old }
     ensures written { block x.new k ≡ from.now }
     ensures others { (j : ℕ) → j ≢ k → block x.new j ≡ block x.old j }
@@ -74,7 +74,7 @@ pub fn put_block(x: &mut [u32], k: usize, from: &[u32; 16])
 
 /// The exclusive or of two blocks.
 #[inline(always)]
-pub fn xor_blocks(x: &[u32; 16], y: &[u32; 16]) -> [u32; 16]
+pub(crate) fn xor_blocks(x: &[u32; 16], y: &[u32; 16]) -> [u32; 16]
     ensures { result ≡ xor_words x.now y.now }
 {
     let mut words = [0u32; 16];
@@ -86,7 +86,7 @@ pub fn xor_blocks(x: &[u32; 16], y: &[u32; 16]) -> [u32; 16]
 
 /// Part `k` of `x`, which is cut into parts of four words, as the lanes of a vector.
 #[inline(always)]
-pub fn lanes(x: &[u32], k: usize) -> u32x4
+pub(crate) fn lanes(x: &[u32], k: usize) -> u32x4
     requires { 4 * k + 4 ≤ length x.now }
     ensures { result ≡ part 4 x.now k }
 {
@@ -95,7 +95,7 @@ pub fn lanes(x: &[u32], k: usize) -> u32x4
 
 /// Writes four lanes as part `k` of `x`, which is cut into parts of four words.
 #[inline(always)]
-pub fn put_lanes(x: &mut [u32], k: usize, from: u32x4)
+pub(crate) fn put_lanes(x: &mut [u32], k: usize, from: u32x4)
     requires { 4 * k + 4 ≤ length x.old }
     ensures written { part 4 x.new k ≡ from }
     ensures others { (j : ℕ) → j ≢ k → part 4 x.new j ≡ part 4 x.old j }

@@ -73,7 +73,7 @@ impl Order for Diagonal {
 ///
 /// The length of `x` is a multiple of 16, possibly 0.
 pub fn shuffle_in(x: &mut [u32])
-    requires { length x.old % 16 ≡ 0 }
+    requires whole { length x.old % 16 ≡ 0 }
     ensures value { x.new ≡ diagonal_order x.old }
 {
     permute(x, &PIVOT_ABCD);
@@ -83,7 +83,7 @@ pub fn shuffle_in(x: &mut [u32])
 ///
 /// The length of `x` is a multiple of 16, possibly 0.
 pub fn shuffle_out(x: &mut [u32])
-    requires { length x.old % 16 ≡ 0 }
+    requires whole { length x.old % 16 ≡ 0 }
     ensures value { x.new ≡ standard_order x.old }
 {
     permute(x, &INVERSE_PIVOT_ABCD);

@@ -71,4 +71,4 @@ returns-then-not-output_len_ok-clause-err c =
     let last = no_other _ _ _ c.next-3.ensures.steps (sym c.is_some.ensures ∙ c.if-is_some.false) in
     let key = c.in-Some-base64_len.ensures in
     bad_key_len (rw last at (rw c.in-Some-next.ensures.steps at costs)) key.1
-    (λ good. let yes = c.output_len_ok.ensures.1 (rw key.2 at good) in cc)
+    (λ good. let yes = c.output_len_ok.ensures.exact.1 (rw key.2 at good) in cc)
