@@ -1,50 +1,13 @@
--- What hashing and verifying refuse can be told: no parameter is refused but `ln`, `r` and `p`.
-use Rattle.std.proofs.Common.{◌≡◌, ◌≢◌, ◌⊎◌, ℕ, List, Err, Ok, inl, inr, refl, Option, None, Some}
-use Rattle.std.specs.Prelude.{Result, IfErr, IfOk, IfSome, IsErrAnd, OnOk, string_bytes, ⊤}
-use Rattle.password_hash.specs.Refusal.{Refusal, NoMemory, WrongPassword, refusal}
-use Rattle.password_hash.specs.declared.error.Error.{Error}
-use Rattle.password_hash.specs.declared.phc.hash.PasswordHash.{PasswordHash}
-use Rattle.scrypt.specs.Accepted.{Parameters}
-use Rattle.scrypt.specs.PhcCosts.{Reads, accepted, not_accepted, ln, ln_refused, r, r_refused, p, p_refused, unknown}
-use Rattle.scrypt.specs.PhcHash.{Accepts, Verdict, VerifyIsRefused, algorithm, version, costs, missing, wrong, right, by_verdict, for_memory}
-use Rattle.scrypt_tool.specs.Fault.{NamesCost, Says, hash_refusal}
-use Rattle.scrypt_tool.specs.Told.{DeniesVerdict, GivesVerdict, SaysVerified}
-use Rattle.scrypt_tool.specs.declared.answer.Answer.{Answer}
+-- Faults and the refusals that they report.
+use Rattle.std.proofs.Common.{◌≡◌, ◌≢◌, ◌⊎◌, ◌∙◌, ap, bytes_eq, codes, if◌then◌else◌, inl, inr, refl, sym}
+use Rattle.password_hash.specs.Refusal.{Refusal, BadEncoding, BadOutputSize, BadParam, BadParams, BadSalt, BadVersion, NoMemory, WrongPassword}
+use Rattle.scrypt_tool.specs.Fault.{IsHashFault, Reports, hash_refusal}
 use Rattle.scrypt_tool.specs.declared.fault.Fault.{Fault}
 use Rattle.scrypt_tool.specs.declared.fault.Fault.TheVariants.{Usage, SaltNotHex, InvalidParams, InvalidOutputLen, HashRefused, OutOfMemory, InputFailed, OutputFailed}
 use Rattle.scrypt_tool.specs.declared.fault.HashFault.{HashFault}
 use Rattle.scrypt_tool.specs.declared.fault.HashFault.TheVariants.{Algorithm, EncodingInvalid, OutputSize, LnInvalid, RInvalid, PInvalid, ParamsInvalid, SaltInvalid, Version}
 
--- costs that are refused
-costs_tellable : {log_n r p : ℕ} {pairs : List (List ℕ × List ℕ)} {out : Result Parameters Refusal}
-    → Reads log_n r p pairs out → IfErr out NamesCost
-costs_tellable (accepted h) = tt
-costs_tellable (not_accepted h) = tt
-costs_tellable (ln n name decimal small rest) = costs_tellable rest
-costs_tellable (ln_refused name large) = inl refl
-costs_tellable (r n name decimal rest) = costs_tellable rest
-costs_tellable (r_refused name none) = inr (inl refl)
-costs_tellable (p n name decimal rest) = costs_tellable rest
-costs_tellable (p_refused name none) = inr (inr refl)
-costs_tellable (unknown no_ln no_r no_p) = tt
-
--- a verdict
-verdict_tellable : {password : List ℕ} {hash : PasswordHash} {out : Option Refusal}
-    → Verdict password hash out → IfSome out NamesCost
-verdict_tellable (algorithm h) = tt
-verdict_tellable (version h i) = tt
-verdict_tellable (costs why h i read) = costs_tellable read
-verdict_tellable (missing c h i) = tt
-verdict_tellable (wrong c salt key h i) = tt
-verdict_tellable (right c salt key h i) = tt
-
--- what verifying refuses
-pub phc_tellable : {password : List ℕ} {hash : PasswordHash} (why : Refusal)
-    → VerifyIsRefused password hash why → NamesCost why
-phc_tellable why (by_verdict h) = verdict_tellable h
-phc_tellable why (for_memory c salt key h) = tt
-
--- no fault of a hash says want of memory
+-- no fault of a hash reports that memory is not available
 pub not_memory : (why : HashFault) → NoMemory ≢ hash_refusal why
 not_memory Algorithm h = absurd cc
 not_memory EncodingInvalid h = absurd cc
@@ -56,52 +19,65 @@ not_memory ParamsInvalid h = absurd cc
 not_memory SaltInvalid h = absurd cc
 not_memory Version h = absurd cc
 
--- a fault that says what verifying a PHC hash refuses
-pub denied_phc : {password : List ℕ} {hash : PasswordHash} (why : Refusal) (fault : Fault) → Says fault why
-    → VerifyIsRefused password hash why → (fault ≡ OutOfMemory) ⊎ DeniesVerdict (Verdict password hash) fault
-denied_phc why (HashRefused told) says (by_verdict h) = inr (rw says at h)
-denied_phc why (HashRefused told) says (for_memory c salt key h) = absurd (not_memory told says)
-denied_phc why OutOfMemory says h = inl refl
-denied_phc why Usage says h = absurd says
-denied_phc why SaltNotHex says h = absurd says
-denied_phc why InvalidParams says h = absurd says
-denied_phc why InvalidOutputLen says h = absurd says
-denied_phc why InputFailed says h = absurd says
-denied_phc why OutputFailed says h = absurd says
+-- a fault that reports a refusal is that of memory, or one of a hash
+pub reported : (P : Refusal → Type 0) (fault : Fault) {why : Refusal} → Reports fault why → (why ≡ NoMemory) ⊎ P why
+    → (fault ≡ OutOfMemory) ⊎ IsHashFault P fault
+reported P (HashRefused told) reports (inl is) = absurd (not_memory told (sym is ∙ reports))
+reported P (HashRefused told) reports (inr h) = inr (rw reports at h)
+reported P OutOfMemory reports h = inl refl
+reported P Usage reports h = absurd reports
+reported P SaltNotHex reports h = absurd reports
+reported P InvalidParams reports h = absurd reports
+reported P InvalidOutputLen reports h = absurd reports
+reported P InputFailed reports h = absurd reports
+reported P OutputFailed reports h = absurd reports
 
--- the verdict on an accepted password
-pub accepted_phc : {password : List ℕ} {hash : PasswordHash} → Accepts password hash → Verdict password hash None
-accepted_phc h = right h.costs h.salt h.stored h.whole h.right
+-- the refusal of a fault of a hash
+pub hash_fault : (P : Refusal → Type 0) (fault : Fault) → IsHashFault P fault
+    → (why : HashFault) × (fault ≡ HashRefused why) × P (hash_refusal why)
+hash_fault P (HashRefused why) h = (why, refl, h)
+hash_fault P Usage h = absurd h
+hash_fault P SaltNotHex h = absurd h
+hash_fault P InvalidParams h = absurd h
+hash_fault P InvalidOutputLen h = absurd h
+hash_fault P OutOfMemory h = absurd h
+hash_fault P InputFailed h = absurd h
+hash_fault P OutputFailed h = absurd h
 
--- the verdict on a wrong password
-pub wrong_phc : {password : List ℕ} {hash : PasswordHash} (why : Refusal)
-    → VerifyIsRefused password hash why → why ≡ WrongPassword → Verdict password hash (Some WrongPassword)
-wrong_phc why (by_verdict h) is = rw is at h
-wrong_phc why (for_memory c salt key h) is = absurd cc
+-- the fault of a refusal, back from what it reports
+abbrev pub fault_reporting : Refusal → HashFault
+fault_reporting BadEncoding = EncodingInvalid
+fault_reporting BadOutputSize = OutputSize
+fault_reporting (BadParam name) =
+    if bytes_eq name (codes "ln") then LnInvalid else if bytes_eq name (codes "r") then RInvalid else PInvalid
+fault_reporting BadParams = ParamsInvalid
+fault_reporting BadSalt = SaltInvalid
+fault_reporting BadVersion = Version
+fault_reporting refusal = Algorithm
 
--- the answer is the verdict: a password that is accepted is right, and one that is refused as wrong is wrong
-pub is_verdict : (IsVerdict : Option Refusal → Type 0) {IsRefused : Refusal → Type 0} (verified : Result ⊤ Error)
-    (said : Result Answer Fault) → OnOk verified (IsVerdict None) → IfErr verified (λ e. IsRefused (refusal e))
-    → ((why : Refusal) → IsRefused why → why ≡ WrongPassword → IsVerdict (Some WrongPassword))
-    → IfOk said (λ answer. SaysVerified verified answer.status (string_bytes answer.line))
-    → IfOk said (λ answer. GivesVerdict IsVerdict answer.status (string_bytes answer.line))
-is_verdict IsVerdict verified (Err fault) h refused i says = tt
-is_verdict IsVerdict (Ok u) (Ok answer) h refused i says = inl (says.0, says.1, h)
-is_verdict IsVerdict (Err e) (Ok answer) h refused i says = inr (says.1, says.2, i (refusal e) refused says.0)
+reported_back : (why : HashFault) → fault_reporting (hash_refusal why) ≡ why
+reported_back Algorithm = refl
+reported_back EncodingInvalid = refl
+reported_back OutputSize = refl
+reported_back LnInvalid = refl
+reported_back RInvalid = refl
+reported_back PInvalid = refl
+reported_back ParamsInvalid = refl
+reported_back SaltInvalid = refl
+reported_back Version = refl
 
--- the fault is what verifying refuses
-pub is_denied : (IsVerdict : Option Refusal → Type 0) {IsRefused : Refusal → Type 0} (verified : Result ⊤ Error)
-    (said : Result Answer Fault) → IfErr verified (λ e. IsRefused (refusal e))
-    → ((why : Refusal) (fault : Fault) → Says fault why → IsRefused why → (fault ≡ OutOfMemory) ⊎ DeniesVerdict IsVerdict fault)
-    → IfErr said (λ fault. (fault ≡ OutOfMemory) ⊎ IsErrAnd verified (λ e. Says fault (refusal e)))
-    → IfErr said (λ fault. (fault ≡ OutOfMemory) ⊎ DeniesVerdict IsVerdict fault)
-is_denied IsVerdict verified (Ok answer) refused denied says = tt
-is_denied IsVerdict verified (Err fault) refused denied (inl h) = inl h
-is_denied IsVerdict (Ok u) (Err fault) refused denied (inr h) = absurd h
-is_denied IsVerdict (Err e) (Err fault) refused denied (inr h) = denied (refusal e) fault h refused
+-- two faults that report the same are one
+pub reported_once : {why other : HashFault} → hash_refusal why ≡ hash_refusal other → why ≡ other
+reported_once {why} {other} same = sym (reported_back why) ∙ ap fault_reporting same ∙ reported_back other
 
--- what verifying refuses can be told
-pub is_tellable : {IsRefused : Refusal → Type 0} (verified : Result ⊤ Error) → IfErr verified (λ e. IsRefused (refusal e))
-    → ((why : Refusal) → IsRefused why → NamesCost why) → IfErr verified (λ e. NamesCost (refusal e))
-is_tellable (Ok u) refused tellable = tt
-is_tellable (Err e) refused tellable = tellable (refusal e) refused
+-- no fault of a hash reports a wrong password
+pub not_wrong : (why : HashFault) → WrongPassword ≢ hash_refusal why
+not_wrong Algorithm h = absurd cc
+not_wrong EncodingInvalid h = absurd cc
+not_wrong OutputSize h = absurd cc
+not_wrong LnInvalid h = absurd cc
+not_wrong RInvalid h = absurd cc
+not_wrong PInvalid h = absurd cc
+not_wrong ParamsInvalid h = absurd cc
+not_wrong SaltInvalid h = absurd cc
+not_wrong Version h = absurd cc

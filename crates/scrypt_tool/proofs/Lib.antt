@@ -1,7 +1,7 @@
 pub mod DecimalFacts
 pub mod WordsFacts
-pub mod AskedFacts
 pub mod FaultFacts
-pub mod McfFaultFacts
-pub mod ToldFacts
-pub mod OneToldFacts
+pub mod VerdictFacts
+pub mod CommandFacts
+pub mod OutcomeFacts
+pub mod UniqueOutcome

@@ -1,7 +1,76 @@
--- The words behind a command's name: five of `key` and of `hash`, and one of `verify`.
-use Rattle.std.proofs.Common.{◌≡◌, ◌≢◌, ℕ, Bool, List, [], ◌∷◌, None, length, get_or, arith, map, refl, bytes_eq, codes, false, true}
+-- The words of each command: five after `key` and after `hash`, and one after `verify`.
+use Rattle.std.proofs.Common.{◌≡◌, ◌≢◌, ◌^◌, ℕ, Bool, List, [], ◌∷◌, None, Some, length, get_or, arith, map, refl, bytes_eq, codes, false, true}
 use Rattle.std.proofs.lemmas.Slice.Eq.{bytes_eq-Decides}
-use Rattle.scrypt_tool.specs.Asked.{format_of, hash_words, key_words, verify_words, words_of}
+use Rattle.scrypt_tool.specs.Decimal.{decimal_below}
+use Rattle.scrypt_tool.specs.Words.{MakeWords, VerifyWords, format_of, hash_words, key_words, numbers_of, verify_words, words_of}
+use Rattle.scrypt_tool.specs.declared.words.Format.{Format}
+use Rattle.scrypt_tool.specs.declared.words.Numbers.{Numbers}
+use Rattle.scrypt_tool.specs.declared.words.Product.TheVariants.{Key, Hash}
+
+-- LOG_N R P, where each is a decimal
+pub numbers_found : (log_n_word r_word p_word : List ℕ) (log_n r p : ℕ)
+    → decimal_below (2 ^ 8) log_n_word ≡ Some log_n → decimal_below (2 ^ 32) r_word ≡ Some r
+    → decimal_below (2 ^ 32) p_word ≡ Some p
+    → numbers_of log_n_word r_word p_word ≡ Some record { log_n = log_n; r = r; p = p }
+unfolding numbers_of
+numbers_found log_n_word r_word p_word log_n r p h i j = rw h (rw i (rw j refl))
+
+pub no_log_n : (log_n_word r_word p_word : List ℕ)
+    → decimal_below (2 ^ 8) log_n_word ≡ None → numbers_of log_n_word r_word p_word ≡ None
+unfolding numbers_of
+no_log_n log_n_word r_word p_word h = rw h refl
+
+pub no_r : (log_n_word r_word p_word : List ℕ) (log_n : ℕ)
+    → decimal_below (2 ^ 8) log_n_word ≡ Some log_n → decimal_below (2 ^ 32) r_word ≡ None
+    → numbers_of log_n_word r_word p_word ≡ None
+unfolding numbers_of
+no_r log_n_word r_word p_word log_n h i = rw h (rw i refl)
+
+pub no_p : (log_n_word r_word p_word : List ℕ) (log_n r : ℕ)
+    → decimal_below (2 ^ 8) log_n_word ≡ Some log_n → decimal_below (2 ^ 32) r_word ≡ Some r
+    → decimal_below (2 ^ 32) p_word ≡ None → numbers_of log_n_word r_word p_word ≡ None
+unfolding numbers_of
+no_p log_n_word r_word p_word log_n r h i j = rw h (rw i (rw j refl))
+
+-- the words of `key` without numbers
+pub no_key_numbers : (log_n r p len salt_hex : List ℕ)
+    → numbers_of log_n r p ≡ None → key_words (log_n ∷ r ∷ p ∷ len ∷ salt_hex ∷ []) ≡ None
+unfolding key_words
+no_key_numbers log_n r p len salt_hex h = rw h refl
+
+-- the words of `key` without a length
+pub no_len : (log_n r p len salt_hex : List ℕ) (numbers : Numbers)
+    → numbers_of log_n r p ≡ Some numbers → decimal_below (2 ^ 64) len ≡ None
+    → key_words (log_n ∷ r ∷ p ∷ len ∷ salt_hex ∷ []) ≡ None
+unfolding key_words
+no_len log_n r p len salt_hex numbers h i = rw h (rw i refl)
+
+-- the words of `key`
+pub key_words_found : (log_n r p len_word salt_hex : List ℕ) (numbers : Numbers) (len : ℕ)
+    → numbers_of log_n r p ≡ Some numbers → decimal_below (2 ^ 64) len_word ≡ Some len
+    → key_words (log_n ∷ r ∷ p ∷ len_word ∷ salt_hex ∷ []) ≡ Some (MakeWords (Key len) numbers salt_hex)
+unfolding key_words
+key_words_found log_n r p len_word salt_hex numbers len h i = rw h (rw i refl)
+
+-- the words of `hash` with another format
+pub no_format : (format log_n r p salt_hex : List ℕ)
+    → format_of format ≡ None → hash_words (format ∷ log_n ∷ r ∷ p ∷ salt_hex ∷ []) ≡ None
+unfolding hash_words
+no_format format log_n r p salt_hex h = rw h refl
+
+-- the words of `hash` without numbers
+pub no_hash_numbers : (format log_n r p salt_hex : List ℕ) (named : Format)
+    → format_of format ≡ Some named → numbers_of log_n r p ≡ None
+    → hash_words (format ∷ log_n ∷ r ∷ p ∷ salt_hex ∷ []) ≡ None
+unfolding hash_words
+no_hash_numbers format log_n r p salt_hex named h i = rw h (rw i refl)
+
+-- the words of `hash`
+pub hash_words_found : (format log_n r p salt_hex : List ℕ) (named : Format) (numbers : Numbers)
+    → format_of format ≡ Some named → numbers_of log_n r p ≡ Some numbers
+    → hash_words (format ∷ log_n ∷ r ∷ p ∷ salt_hex ∷ []) ≡ Some (MakeWords (Hash named) numbers salt_hex)
+unfolding hash_words
+hash_words_found format log_n r p salt_hex named numbers h i = rw h (rw i refl)
 
 -- a test that is not met
 not_true : (met : Bool) → (met ≡ true → ⊥) → met ≡ false
@@ -68,7 +137,7 @@ not_verify_words text [] n = refl
 not_verify_words text (x0 ∷ []) n = absurd (n refl)
 not_verify_words text (x0 ∷ x1 ∷ xs) n = refl
 
--- a command's name, and the words behind it
+-- a command's name, and the words after it
 pub after_key : (words rest : List (List ℕ)) (name : List ℕ) → words ≡ name ∷ rest → name ≡ codes "key"
     → words_of words ≡ key_words rest
 unfolding words_of
@@ -104,3 +173,8 @@ pub no_words : {A : Type 0} (text : A → List ℕ) (words : List A) → length 
 unfolding words_of
 no_words text [] n = refl
 no_words text (x ∷ words) n = absurd (omega arith)
+
+-- the word of `verify`
+pub verify_words_found : (text : List ℕ) → verify_words (text ∷ []) ≡ Some (VerifyWords text)
+unfolding verify_words
+verify_words_found text = refl

@@ -1,8 +1,6 @@
 -- Why a run ends without an answer: each fault has a status and a fault line.
 use Rattle.std.specs.Prelude.{◌≡◌, ◌⊎◌, ℕ, List, codes, ⊤}
 use Rattle.password_hash.specs.Refusal.{Refusal, BadAlgorithm, BadEncoding, BadOutputSize, BadParam, BadParams, BadSalt, BadVersion, NoMemory}
-use Rattle.password_hash.specs.declared.mcf.Error.{Error as McfError}
-use Rattle.password_hash.specs.declared.mcf.Error.TheVariants.{EncodingInvalid as McfEncodingInvalid, OutOfMemory as McfOutOfMemory}
 use Rattle.scrypt.specs.declared.errors.DeriveError.{DeriveError}
 use Rattle.scrypt.specs.declared.errors.DeriveError.TheVariants.{InvalidOutputLen as DerivedBadLength, OutOfMemory as DerivedOutOfMemory}
 use Rattle.scrypt_tool.specs.declared.fault.Fault.{Fault}
@@ -46,16 +44,11 @@ fault_line InputFailed = codes "input failed\n"
 fault_line OutputFailed = codes "output failed\n"
 
 -- the fault of a derivation that fails
-abbrev pub fault_of : DeriveError → Fault
-fault_of DerivedBadLength = InvalidOutputLen
-fault_of DerivedOutOfMemory = OutOfMemory
+abbrev pub derive_fault : DeriveError → Fault
+derive_fault DerivedBadLength = InvalidOutputLen
+derive_fault DerivedOutOfMemory = OutOfMemory
 
--- the fault of a modular text that is not read
-abbrev pub mcf_fault_of : McfError → Fault
-mcf_fault_of McfEncodingInvalid = HashRefused EncodingInvalid
-mcf_fault_of McfOutOfMemory = OutOfMemory
-
--- what a fault says of a hash
+-- the refusal that a fault of a hash reports
 abbrev pub hash_refusal : HashFault → Refusal
 hash_refusal Algorithm = BadAlgorithm
 hash_refusal EncodingInvalid = BadEncoding
@@ -67,11 +60,16 @@ hash_refusal ParamsInvalid = BadParams
 hash_refusal SaltInvalid = BadSalt
 hash_refusal Version = BadVersion
 
--- the fault says this of a hash, or of memory
-abbrev pub Says : Fault → Refusal → Type 0
-Says (HashRefused why) refusal = refusal ≡ hash_refusal why
-Says OutOfMemory refusal = refusal ≡ NoMemory
-Says fault refusal = ⊥
+-- the fault reports this refusal of a hash, or that memory is not available
+abbrev pub Reports : Fault → Refusal → Type 0
+Reports (HashRefused why) refusal = refusal ≡ hash_refusal why
+Reports OutOfMemory refusal = refusal ≡ NoMemory
+Reports fault refusal = ⊥
+
+-- the fault is one of a hash, and its refusal has the property
+abbrev pub IsHashFault : (Refusal → Type 0) → Fault → Type 0
+IsHashFault P (HashRefused why) = P (hash_refusal why)
+IsHashFault P fault = ⊥
 
 -- a refusal that names a parameter names `ln`, `r` or `p`
 abbrev pub NamesCost : Refusal → Type 0

@@ -1,18 +1,18 @@
 // Why a run ends without an answer.
 
-ghost use Rattle.std.specs.Prelude.{◌≡◌, MatchOption};
+ghost use Rattle.std.specs.Prelude.{◌≡◌, IfNone, IfSome};
 ghost use Rattle.password_hash.specs.Refusal.{WrongPassword, refusal};
-ghost use Rattle.scrypt_tool.specs.Fault.{NamesCost, Says, fault_line, fault_of, hash_fault_line, mcf_fault_of, status_of};
+ghost use Rattle.scrypt_tool.specs.Fault.{NamesCost, Reports, derive_fault, fault_line, hash_fault_line, status_of};
 ghost use Rattle.scrypt_tool.specs.declared.fault.Fault.TheVariants.{InvalidOutputLen as BadLength, InvalidParams as BadParams, OutOfMemory};
 
-use password_hash::{Error, mcf};
+use password_hash::Error;
 use scrypt::{DeriveError, InvalidParams};
 use std::alloc::AllocError;
 
 /// Why a run ends without an answer.
 #[derive(Clone, Copy, Debug, PartialEq, Eq)]
 pub enum Fault {
-    /// The words are no command, or a number is no decimal below its bound.
+    /// The words are not a command, or a number is not a decimal below its bound.
     Usage,
     /// The salt is not an even number of hexadecimal digits.
     SaltNotHex,
@@ -20,9 +20,9 @@ pub enum Fault {
     InvalidParams,
     /// LEN is 0, or above 137438953440.
     InvalidOutputLen,
-    /// A hash is not made, read or verified.
+    /// Making, reading or verifying a hash is refused.
     HashRefused(HashFault),
-    /// A growth was refused.
+    /// An allocation failed.
     OutOfMemory,
     /// The input could not be read to its end.
     InputFailed,
@@ -30,22 +30,22 @@ pub enum Fault {
     OutputFailed,
 }
 
-/// Why a hash is not made, read or verified, where neither memory nor the password is the cause.
+/// Why making, reading or verifying a hash is refused, if neither memory nor the password is the cause.
 #[derive(Clone, Copy, Debug, PartialEq, Eq)]
 pub enum HashFault {
     /// The algorithm is not the one of its format.
     Algorithm,
-    /// The text is not one of a hash.
+    /// The text is not that of a hash.
     EncodingInvalid,
     /// The length of the key is not an allowed one.
     OutputSize,
-    /// The parameter `ln` is no decimal of at most 255.
+    /// The parameter `ln` is not a decimal of at most 255.
     LnInvalid,
-    /// The parameter `r` is no decimal.
+    /// The parameter `r` is not a decimal.
     RInvalid,
-    /// The parameter `p` is no decimal.
+    /// The parameter `p` is not a decimal.
     PInvalid,
-    /// Another parameter stands there, or the numbers are not accepted parameters.
+    /// There is another parameter, or the numbers are not accepted parameters.
     ParamsInvalid,
     /// The length of the salt is not an allowed one.
     SaltInvalid,
@@ -54,10 +54,11 @@ pub enum HashFault {
 }
 
 impl Fault {
-    /// The fault that an error of hashing or verifying is told as, or none for a wrong password.
+    /// The fault that reports an error of hashing or verifying, or `None` for a wrong password.
     pub fn of(error: Error) -> Option<Fault>
         requires { NamesCost (refusal error) }
-        ensures { MatchOption result (refusal error ≡ WrongPassword) (λ fault. Says fault (refusal error)) }
+        ensures some { IfSome result (λ fault. Reports fault (refusal error)) }
+        ensures none { IfNone result (refusal error ≡ WrongPassword) }
     {
         Some(Fault::HashRefused(match error {
             Error::Algorithm => HashFault::Algorithm,
@@ -76,7 +77,7 @@ impl Fault {
 
     /// The exit status.
     pub fn status(self) -> u8
-        ensures { result ≡ status_of self }
+        ensures value { result ≡ status_of self }
     {
         match self {
             Fault::Usage
@@ -91,7 +92,7 @@ impl Fault {
 
     /// The fault line, with its newline.
     pub fn line(self) -> &'static str
-        ensures { result.now ≡ fault_line self }
+        ensures value { result.now ≡ fault_line self }
     {
         match self {
             Fault::Usage => {
@@ -111,7 +112,7 @@ impl Fault {
 impl HashFault {
     // The fault line, with its newline: the error's name, and that of its parameter.
     fn line(self) -> &'static str
-        ensures { result.now ≡ hash_fault_line self }
+        ensures value { result.now ≡ hash_fault_line self }
     {
         match self {
             HashFault::Algorithm => "hash refused: Algorithm\n",
@@ -136,23 +137,12 @@ impl From<AllocError> for Fault {
 }
 
 impl From<DeriveError> for Fault {
-    ghost from_gives = { λ error fault. fault ≡ fault_of error };
+    ghost from_gives = { λ error fault. fault ≡ derive_fault error };
 
     fn from(error: DeriveError) -> Fault {
         match error {
             DeriveError::InvalidOutputLen => Fault::InvalidOutputLen,
             DeriveError::OutOfMemory => Fault::OutOfMemory,
-        }
-    }
-}
-
-impl From<mcf::Error> for Fault {
-    ghost from_gives = { λ error fault. fault ≡ mcf_fault_of error };
-
-    fn from(error: mcf::Error) -> Fault {
-        match error {
-            mcf::Error::EncodingInvalid => Fault::HashRefused(HashFault::EncodingInvalid),
-            mcf::Error::OutOfMemory => Fault::OutOfMemory,
         }
     }
 }

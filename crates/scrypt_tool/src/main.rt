@@ -14,6 +14,7 @@ mod answer;
 mod command;
 mod fault;
 mod run;
+mod stored_hash;
 #[cfg(test)]
 mod tests;
 mod words;

@@ -1,10 +1,10 @@
 // The program over any reader and any two writers.
 
-ghost use Rattle.std.specs.Prelude.{◌≡◌, ◌⊎◌, ◌↔◌, ◌≤◌, IsTrue, IfOk, IfErr, IfSome, IsErrAnd, OnOk, OnErr, if◌then◌else◌, false, map, string_bytes};
+ghost use Rattle.std.specs.Prelude.{◌≡◌, ◌⊎◌, ◌↔◌, ◌≤◌, IsTrue, IfOk, IfErr, IfSome, IsErrAnd, OnOk, if◌then◌else◌, false, map, string_bytes};
 ghost use Rattle.std.specs.Io.KnownBytes.{Appends, IsAtEnd, Keeps};
-ghost use Rattle.scrypt_tool.specs.Asked.{Refuses};
+ghost use Rattle.scrypt_tool.specs.Command.{AreRefused};
 ghost use Rattle.scrypt_tool.specs.Fault.{fault_line, status_of};
-ghost use Rattle.scrypt_tool.specs.Told.{AppendsAnswer, IsAnswer, IsDenied, IsTold};
+ghost use Rattle.scrypt_tool.specs.Outcome.{AppendsAnswer, IsAnswer, IsInputRefused, OutcomeIs};
 ghost use Rattle.scrypt_tool.specs.declared.fault.Fault.{Fault};
 ghost use Rattle.scrypt_tool.specs.declared.fault.Fault.TheVariants.{InputFailed, OutOfMemory, OutputFailed};
 
@@ -20,18 +20,18 @@ pub struct Ended {
     pub status: u8,
     /// the fault is `input failed`
     pub input_failed: bool,
-    /// no fault line was due, or one was written whole
+    /// there was no fault line to write, or it was written whole
     pub fault_told: bool,
 }
 
 /// Runs the program on its words, the arguments after its name.
 ///
-/// It reads the words, then the whole input, works out the line that answers them, and writes this
-/// line at once. The status is 0 after the line was written, or 1 where the line is `no`. It is 2
-/// where the words are refused, and then the input is not read, or where hashing or verifying
-/// refuses. It is 3 where memory was refused, and 4 where the input or the output failed. Only after
-/// `output failed` may a part of the line have been written. The fault line goes to `faults` by one
-/// `write_all`; where that fails, the status stays what it is.
+/// It reads the words, then the whole input, computes the line that answers them, and writes this
+/// line at once. The status is 0 after the line was written, or 1 if the line is `no`. It is 2 if the
+/// words are refused, and then the input is not read, or if hashing or verifying refuses. It is 3 if
+/// an allocation failed, and 4 if the input or the output failed. Only on `output failed` may a part
+/// of the line have been written. The fault line goes to `faults` by one `write_all`; if that fails,
+/// the status stays the same.
 pub fn run<R: Read, W: Write, F: Write>(
     alloc: Global,
     words: &[String],
@@ -39,15 +39,14 @@ pub fn run<R: Read, W: Write, F: Write>(
     writer: &mut W,
     faults: &mut F,
 ) -> Ended
-    ensures status { (result.status ≡ 3) ⊎ (result.status ≡ 4) ⊎ IsTold
-        (map string_bytes words.now) (R.remaining reader.old) (λ told. result.status ≡ told.status) }
+    ensures status { (result.status ≡ 3) ⊎ (result.status ≡ 4) ⊎ OutcomeIs
+        (map string_bytes words.now) (R.remaining reader.old) (λ outcome. result.status ≡ outcome.status) }
     ensures line { IsAnswer result.status →
-        IsTold (map string_bytes words.now) (R.remaining reader.old) (λ told. (result.status ≡ told.status)
-        × Appends (W.contents writer.old) (W.contents writer.new) told.line) }
+        OutcomeIs (map string_bytes words.now) (R.remaining reader.old) (λ outcome. (result.status ≡ outcome.status)
+        × Appends (W.contents writer.old) (W.contents writer.new) outcome.line) }
     ensures fault { result.status ≤ 2 → IsTrue result.fault_told →
-        IsTold (map string_bytes words.now) (R.remaining reader.old) (λ told. (result.status ≡ told.status)
-        × Appends (F.contents faults.old) (F.contents faults.new) told.fault) }
-    // What stops a run.
+        OutcomeIs (map string_bytes words.now) (R.remaining reader.old) (λ outcome. (result.status ≡ outcome.status)
+        × Appends (F.contents faults.old) (F.contents faults.new) outcome.fault) }
     ensures out_of_memory { result.status ≡ 3 → IsTrue result.fault_told →
         Appends (F.contents faults.old) (F.contents faults.new) (fault_line OutOfMemory) }
     ensures failed { result.status ≡ 4 → IsTrue result.fault_told →
@@ -56,13 +55,15 @@ pub fn run<R: Read, W: Write, F: Write>(
     ensures input_failed { IsTrue result.input_failed → result.status ≡ 4 }
     ensures nothing { (result.status ≡ 2) ⊎ (result.status ≡ 3) ⊎ IsTrue result.input_failed →
         Keeps (W.contents writer.old) (W.contents writer.new) }
-    // With every reader: words that are refused leave it unread, and a line needs all of it.
-    ensures refused { (fault : Fault) → Refuses (map string_bytes words.now) fault →
-        ((result.status ≡ 2) ⊎ (result.status ≡ 3)) × Keeps (R.remaining reader.old) (R.remaining reader.new) }
+    // With every reader, whether its bytes are known or not.
+    ensures refused { (fault : Fault) → AreRefused (map string_bytes words.now) fault →
+        (result.status ≡ 2) ⊎ (result.status ≡ 3) }
+    ensures unread { (fault : Fault) → AreRefused (map string_bytes words.now) fault →
+        Keeps (R.remaining reader.old) (R.remaining reader.new) }
     ensures read { IsAnswer result.status ⊎ ((result.status ≡ 4) × (result.input_failed ≡ false)) →
         IsAtEnd (R.remaining reader.new) }
-    ensures done { IsAnswer result.status → IsTrue result.fault_told
-        × Keeps (F.contents faults.old) (F.contents faults.new) }
+    ensures done { IsAnswer result.status → IsTrue result.fault_told }
+    ensures no_fault { IsAnswer result.status → Keeps (F.contents faults.old) (F.contents faults.new) }
 {
     match answer(alloc, words, reader, writer) {
         Ok(status) => Ended {
@@ -70,11 +71,11 @@ pub fn run<R: Read, W: Write, F: Write>(
             input_failed: false,
             fault_told: true,
         },
-        Err(fault) => tell(fault, faults),
+        Err(fault) => end(fault, faults),
     }
 }
 
-// Does the work in its order, up to the line that answers the words, and gives the status.
+// Does the work in its order, up to the line that answers the words, and returns the status.
 fn answer<R: Read, W: Write>(
     alloc: Global,
     words: &[String],
@@ -85,14 +86,14 @@ fn answer<R: Read, W: Write>(
         (W.contents writer.old) (W.contents writer.new)) }
     ensures ok { IfOk result IsAnswer }
     ensures read { OnOk result (IsAtEnd (R.remaining reader.new)) }
-    ensures err { IfErr result (λ fault. Refuses (map string_bytes words.now) fault
-        ⊎ IsDenied (map string_bytes words.now) (R.remaining reader.old) fault
+    ensures err { IfErr result (λ fault. AreRefused (map string_bytes words.now) fault
+        ⊎ IsInputRefused (map string_bytes words.now) (R.remaining reader.old) fault
         ⊎ (fault ≡ OutOfMemory) ⊎ (fault ≡ InputFailed)
         ⊎ ((fault ≡ OutputFailed) × IsAtEnd (R.remaining reader.new))) }
     ensures nothing { IfErr result (λ fault. (fault ≡ OutputFailed)
         ⊎ Keeps (W.contents writer.old) (W.contents writer.new)) }
-    ensures refused { (refusal : Fault) → Refuses (map string_bytes words.now) refusal →
-        IsErrAnd result (λ fault. Refuses (map string_bytes words.now) fault ⊎ (fault ≡ OutOfMemory))
+    ensures refused { (refusal : Fault) → AreRefused (map string_bytes words.now) refusal →
+        IsErrAnd result (λ fault. AreRefused (map string_bytes words.now) fault ⊎ (fault ≡ OutOfMemory))
         × Keeps (R.remaining reader.old) (R.remaining reader.new) }
 {
     let command = Command::read(alloc, words)?;
@@ -134,10 +135,10 @@ fn write_line<W: Write>(writer: &mut W, line: &str) -> Result<(), Fault>
 }
 
 // Ends the run with this fault, and writes its line.
-fn tell<F: Write>(fault: Fault, faults: &mut F) -> Ended
+fn end<F: Write>(fault: Fault, faults: &mut F) -> Ended
     ensures status { result.status ≡ status_of fault }
     ensures failed { IsTrue result.input_failed ↔ (fault ≡ InputFailed) }
-    ensures told { IsTrue result.fault_told →
+    ensures written { IsTrue result.fault_told →
         Appends (F.contents faults.old) (F.contents faults.new) (fault_line fault) }
 {
     Ended {

@@ -1,15 +1,43 @@
-// The words of a command: numbers in decimal digits, and a salt in hexadecimal.
+// The words of a command, with their numbers read.
 
-ghost use Rattle.std.specs.Prelude.{◌≡◌, ◌⊎◌, IfOk, IfErr, IsErr, Ok};
-ghost use Rattle.hex.specs.Hex.{decode_of};
-ghost use Rattle.scrypt_tool.specs.Asked.{format_of, is_seven_word, numbers_of};
+ghost use Rattle.std.specs.Prelude.{◌≡◌, map, option_map, string_bytes};
 ghost use Rattle.scrypt_tool.specs.Decimal.{DecimalGives, has_plus_or_leading_zero};
-ghost use Rattle.scrypt_tool.specs.declared.fault.Fault.TheVariants.{OutOfMemory, SaltNotHex};
+ghost use Rattle.scrypt_tool.specs.Words.{format_of, hash_words, key_words, numbers_of, verify_words, words_of, words_view};
 
-use crate::fault::Fault;
-use hex::FromHexError;
-use std::alloc::Global;
 use std::str::FromStr;
+
+/// The words of a command. The salt's digits and the text of a hash are not read yet.
+#[derive(Drop)]
+pub enum Words<'a> {
+    /// `key LOG_N R P LEN SALT_HEX` or `hash phc|mcf LOG_N R P SALT_HEX`
+    Make {
+        product: Product,
+        numbers: Numbers,
+        salt_hex: &'a str,
+    },
+    /// `verify HASH`
+    Verify {
+        text: &'a str,
+    },
+}
+
+/// What is made of a password.
+#[derive(Clone, Copy, Debug, PartialEq, Eq)]
+pub enum Product {
+    /// a key of `len` bytes
+    Key { len: usize },
+    /// a hash of this format
+    Hash { format: Format },
+}
+
+/// A format of hash texts.
+#[derive(Clone, Copy, Debug, PartialEq, Eq)]
+pub enum Format {
+    /// the PHC string format
+    Phc,
+    /// the `$7$` form of crypt(5)
+    Mcf,
+}
 
 /// The numbers LOG_N, R and P, which need not be accepted parameters.
 #[derive(Clone, Copy, Debug, PartialEq, Eq)]
@@ -19,57 +47,70 @@ pub struct Numbers {
     pub p: u32,
 }
 
-/// A format of hash texts.
-#[derive(Clone, Copy, Debug, PartialEq, Eq)]
-pub enum Format {
-    /// The PHC string format.
-    Phc,
-    /// The `$7$` form of crypt(5).
-    Mcf,
+impl<'a> Words<'a> {
+    /// Reads the words after the program's name.
+    ///
+    /// Returns `None` if they are not those of a command, or if a number is not a decimal below its
+    /// bound.
+    pub fn read(words: &'a [String]) -> Option<Words<'a>>
+        ensures value { option_map words_view result ≡ words_of (map string_bytes words.now) }
+    {
+        let (name, words) = words.split_first()?;
+        match name.as_str() {
+            "key" => read_key(words),
+            "hash" => read_hash(words),
+            "verify" => read_verify(words),
+            _ => None,
+        }
+    }
 }
 
-/// Reads a number: digits alone, no leading zero except in `0` itself, below the type's bound.
-pub fn read_decimal<N: FromStr>(word: &str) -> Option<N>
-where
-    N::Err: Drop,
-    ensures { DecimalGives N.from_str_gives word.now result }
+// Reads LOG_N R P LEN SALT_HEX.
+fn read_key<'a>(words: &'a [String]) -> Option<Words<'a>>
+    ensures { option_map words_view result ≡ key_words (map string_bytes words.now) }
 {
-    if has_plus_or_leading_zero(word.as_bytes()) {
+    let [log_n, r, p, len, salt_hex] = words else {
         return None;
-    }
-    word.parse().ok()
+    };
+    let numbers = read_numbers(log_n.as_str(), r.as_str(), p.as_str())?;
+    let len = read_decimal(len.as_str())?;
+    Some(Words::Make {
+        product: Product::Key { len },
+        numbers,
+        salt_hex: salt_hex.as_str(),
+    })
 }
 
-// Whether a plus stands first, or a zero that is not the only digit: `parse` would take both.
-#[tactic(auto, unfolding(crate::specs::Decimal::has_plus_or_leading_zero))]
-fn has_plus_or_leading_zero(text: &[u8]) -> bool
-    ensures { result ≡ has_plus_or_leading_zero text.now }
+// Reads phc|mcf LOG_N R P SALT_HEX.
+fn read_hash<'a>(words: &'a [String]) -> Option<Words<'a>>
+    ensures { option_map words_view result ≡ hash_words (map string_bytes words.now) }
 {
-    matches!(text, [b'+', ..] | [b'0', _, ..])
+    let [format, log_n, r, p, salt_hex] = words else {
+        return None;
+    };
+    let format = read_format(format.as_str())?;
+    let numbers = read_numbers(log_n.as_str(), r.as_str(), p.as_str())?;
+    Some(Words::Make {
+        product: Product::Hash { format },
+        numbers,
+        salt_hex: salt_hex.as_str(),
+    })
 }
 
-/// Reads the name of a format.
-pub fn read_format(word: &str) -> Option<Format>
-    ensures { result ≡ format_of word.now }
+// Reads HASH.
+fn read_verify<'a>(words: &'a [String]) -> Option<Words<'a>>
+    ensures { option_map words_view result ≡ verify_words (map string_bytes words.now) }
 {
-    match word {
-        "phc" => Some(Format::Phc),
-        "mcf" => Some(Format::Mcf),
-        _ => None,
-    }
+    let [text] = words else {
+        return None;
+    };
+    Some(Words::Verify {
+        text: text.as_str(),
+    })
 }
 
-/// Whether this is the word `$7` or begins with `$7$`: it is read as a `$7$` text, and any other as a
-/// PHC text.
-#[tactic(auto, unfolding(crate::specs::Asked::is_seven_word))]
-pub fn is_seven_word(text: &[u8]) -> bool
-    ensures { result ≡ is_seven_word text.now }
-{
-    matches!(text, [b'$', b'7'] | [b'$', b'7', b'$', ..])
-}
-
-/// Reads LOG_N, R and P.
-pub fn read_numbers(log_n: &str, r: &str, p: &str) -> Option<Numbers>
+// Reads LOG_N, R and P.
+fn read_numbers(log_n: &str, r: &str, p: &str) -> Option<Numbers>
     ensures { result ≡ numbers_of log_n.now r.now p.now }
 {
     Some(Numbers {
@@ -79,17 +120,34 @@ pub fn read_numbers(log_n: &str, r: &str, p: &str) -> Option<Numbers>
     })
 }
 
-/// Reads SALT_HEX, an even number of hexadecimal digits of either case.
-///
-/// Refuses `SaltNotHex` where it is none, and `OutOfMemory`.
-pub fn read_salt(alloc: Global, salt_hex: &str) -> Result<Vec<u8>, Fault>
-    ensures ok { IfOk result (λ salt. decode_of salt_hex.now ≡ Ok salt.items) }
-    ensures err { IfErr result (λ fault.
-        (fault ≡ OutOfMemory) ⊎ ((fault ≡ SaltNotHex) × IsErr (decode_of salt_hex.now))) }
+// Reads the name of a format.
+fn read_format(word: &str) -> Option<Format>
+    ensures { result ≡ format_of word.now }
 {
-    match hex::decode(alloc, salt_hex) {
-        Ok(salt) => Ok(salt),
-        Err(FromHexError::OutOfMemory) => Err(Fault::OutOfMemory),
-        Err(_) => Err(Fault::SaltNotHex),
+    match word {
+        "phc" => Some(Format::Phc),
+        "mcf" => Some(Format::Mcf),
+        _ => None,
     }
+}
+
+// Reads a number: digits alone, no leading zero except in `0` itself, below the type's bound.
+fn read_decimal<N: FromStr>(word: &str) -> Option<N>
+where
+    N::Err: Drop,
+    ensures { DecimalGives N.from_str_gives word.now result }
+{
+    // `parse` also reads a plus and leading zeros.
+    if has_plus_or_leading_zero(word.as_bytes()) {
+        return None;
+    }
+    word.parse().ok()
+}
+
+// Whether a plus is first, or a zero that is not the only digit.
+#[tactic(auto, unfolding(crate::specs::Decimal::has_plus_or_leading_zero))]
+fn has_plus_or_leading_zero(text: &[u8]) -> bool
+    ensures { result ≡ has_plus_or_leading_zero text.now }
+{
+    matches!(text, [b'+', ..] | [b'0', _, ..])
 }

@@ -1,4 +1,4 @@
-use Rattle.scrypt_tool.proofs.AskedFacts.{asked_not_refused}
+use Rattle.scrypt_tool.proofs.CommandFacts.{asked_not_refused}
 use Rattle.scrypt_tool.proofs.run.answer.Goals as goal
 
 pub returns-in_err-input-clause-refused : goal.returns-in_err-input-clause-refused

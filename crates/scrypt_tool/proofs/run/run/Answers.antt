@@ -1,5 +1,5 @@
 use Rattle.std.proofs.Common.{inr}
-use Rattle.scrypt_tool.proofs.ToldFacts.{answer_fault, answer_line, answer_status, end_fault, end_status, refused_end}
+use Rattle.scrypt_tool.proofs.OutcomeFacts.{answer_fault, answer_line, answer_status, end_fault, end_status, refused_end}
 use Rattle.scrypt_tool.proofs.run.run.Goals as goal
 
 pub returns-in-Ok-clause-status : goal.returns-in-Ok-clause-status
@@ -12,13 +12,15 @@ pub returns-in-Ok-clause-fault : goal.returns-in-Ok-clause-fault
 returns-in-Ok-clause-fault g c = λ low told. answer_fault _ _ _ _ _ _ c.in-Ok.ensures.line
 
 pub returns-in-Err-clause-status : goal.returns-in-Err-clause-status
-returns-in-Err-clause-status g c = end_status _ _ _ _ _ c.tell.ensures.status c.in-Err.ensures.err
+returns-in-Err-clause-status g c = end_status _ _ _ _ _ c.end.ensures.status c.in-Err.ensures.err
 
 pub returns-in-Err-clause-fault : goal.returns-in-Err-clause-fault
 returns-in-Err-clause-fault g c =
-    λ low told. end_fault _ _ _ _ _ _ _ c.tell.ensures.status low (c.tell.ensures.told told) c.in-Err.ensures.err
+    λ low told. end_fault _ _ _ _ _ _ _ c.end.ensures.status low (c.end.ensures.written told) c.in-Err.ensures.err
 
 pub returns-in-Err-clause-refused : goal.returns-in-Err-clause-refused
 returns-in-Err-clause-refused g c =
-    λ fault h. let refused = c.in-Err.ensures.refused fault h in
-    (refused_end _ _ _ c.tell.ensures.status refused.0, refused.1)
+    λ fault h. refused_end _ _ _ c.end.ensures.status (c.in-Err.ensures.refused fault h).0
+
+pub returns-in-Err-clause-unread : goal.returns-in-Err-clause-unread
+returns-in-Err-clause-unread g c = λ fault h. (c.in-Err.ensures.refused fault h).1

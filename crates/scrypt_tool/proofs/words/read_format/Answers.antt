@@ -1,6 +1,6 @@
 use Rattle.std.proofs.Common.{refl, sym}
 use Rattle.scrypt_tool.proofs.WordsFacts.{no_format_named}
-use Rattle.scrypt_tool.specs.Asked.{format_of}
+use Rattle.scrypt_tool.specs.Words.{format_of}
 use Rattle.scrypt_tool.proofs.words.read_format.Goals as goal
 
 pub returns-in-phc : goal.returns-in-phc

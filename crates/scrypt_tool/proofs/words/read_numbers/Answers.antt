@@ -1,5 +1,5 @@
 use Rattle.std.proofs.Common.{◌∙◌, sym}
-use Rattle.scrypt_tool.proofs.AskedFacts.{no_log_n, no_p, no_r, numbers_found}
+use Rattle.scrypt_tool.proofs.WordsFacts.{no_log_n, no_p, no_r, numbers_found}
 use Rattle.scrypt_tool.proofs.DecimalFacts.{decimal_gives}
 use Rattle.scrypt_tool.proofs.words.read_numbers.Goals as goal
 

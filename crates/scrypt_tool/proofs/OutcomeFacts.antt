@@ -1,0 +1,88 @@
+-- The outcome of a run.
+use Rattle.std.proofs.Common.{◌≡◌, ◌≤◌, ◌⊎◌, ◌∙◌, ℕ, List, [], Option, Some, None, inl, inr, refl, sym, arith, append-nil}
+use Rattle.std.specs.Io.KnownBytes.{Appends}
+use Rattle.scrypt_tool.proofs.CommandFacts.{refused_status}
+use Rattle.scrypt_tool.specs.Command.{AreRefused}
+use Rattle.scrypt_tool.specs.Fault.{fault_line, status_of}
+use Rattle.scrypt_tool.specs.Outcome.{AppendsAnswer, IsInputRefused, Outcome, OutcomeIs, answer_of, refusal_of}
+use Rattle.scrypt_tool.specs.Outcome.HasOutcome.{answered, input_refused, words_refused}
+use Rattle.scrypt_tool.specs.declared.fault.Fault.{Fault}
+use Rattle.scrypt_tool.specs.declared.fault.Fault.TheVariants.{InputFailed, OutOfMemory, OutputFailed}
+
+-- nothing was appended
+pub appends_nothing : (contents : Option (List ℕ)) → Appends contents contents []
+appends_nothing None = tt
+appends_nothing (Some xs) = sym (append-nil xs)
+
+-- the status of an answer
+pub answer_status : (words : List (List ℕ)) (known old new : Option (List ℕ)) (status : ℕ)
+    → AppendsAnswer words known old new status → OutcomeIs words known (λ outcome. status ≡ outcome.status)
+answer_status words known old new status (input, is, (command, line, asks, gives, appends)) =
+    (input, is, (answer_of status line, answered command status line asks gives, refl))
+
+-- the line of an answer
+pub answer_line : (words : List (List ℕ)) (known old new : Option (List ℕ)) (status : ℕ)
+    → AppendsAnswer words known old new status
+    → OutcomeIs words known (λ outcome. (status ≡ outcome.status) × Appends old new outcome.line)
+answer_line words known old new status (input, is, (command, line, asks, gives, appends)) =
+    (input, is, (answer_of status line, answered command status line asks gives, (refl, appends)))
+
+-- the fault line of an answer
+pub answer_fault : (words : List (List ℕ)) (known old new contents : Option (List ℕ)) (status : ℕ)
+    → AppendsAnswer words known old new status
+    → OutcomeIs words known (λ outcome. (status ≡ outcome.status) × Appends contents contents outcome.fault)
+answer_fault words known old new contents status (input, is, (command, line, asks, gives, appends)) =
+    (input, is, (answer_of status line, answered command status line asks gives, (refl, appends_nothing contents)))
+
+-- the outcome of words that are refused, on any input
+words_end : (words : List (List ℕ)) (known : Option (List ℕ)) (fault : Fault) (P : Outcome → Type 0)
+    → AreRefused words fault → P (refusal_of fault) → OutcomeIs words known P
+words_end words None fault P h holds = ([], tt, (refusal_of fault, words_refused fault h, holds))
+words_end words (Some input) fault P h holds =
+    (input, refl, (refusal_of fault, words_refused fault h, holds))
+
+-- the outcome of a command that is refused
+input_end : (words : List (List ℕ)) (known : Option (List ℕ)) (fault : Fault) (P : Outcome → Type 0)
+    → IsInputRefused words known fault → P (refusal_of fault) → OutcomeIs words known P
+input_end words known fault P (input, is, (command, asks, h)) holds =
+    (input, is, (refusal_of fault, input_refused command fault asks h, holds))
+
+-- what ends a run without a line: a refusal, or what stops it
+abbrev pub Ends : List (List ℕ) → Option (List ℕ) → Type 0 → Fault → Type 0
+Ends words known Read fault =
+    AreRefused words fault ⊎ IsInputRefused words known fault ⊎ (fault ≡ OutOfMemory) ⊎ (fault ≡ InputFailed)
+    ⊎ ((fault ≡ OutputFailed) × Read)
+
+-- the status of an end without a line
+pub end_status : (words : List (List ℕ)) (known : Option (List ℕ)) (fault : Fault) (Read : Type 0) (status : ℕ)
+    → status ≡ status_of fault → Ends words known Read fault
+    → (status ≡ 3) ⊎ (status ≡ 4) ⊎ OutcomeIs words known (λ outcome. status ≡ outcome.status)
+end_status words known fault Read status is (inl h) =
+    inr (inr (words_end words known fault (λ outcome. status ≡ outcome.status) h is))
+end_status words known fault Read status is (inr (inl h)) =
+    inr (inr (input_end words known fault (λ outcome. status ≡ outcome.status) h is))
+end_status words known fault Read status is (inr (inr (inl h))) = inl (rw h at is)
+end_status words known fault Read status is (inr (inr (inr (inl h)))) = inr (inl (rw h at is))
+end_status words known fault Read status is (inr (inr (inr (inr h)))) = inr (inl (rw h.0 at is))
+
+-- the fault line of an end with status 2
+pub end_fault : (words : List (List ℕ)) (known : Option (List ℕ)) (fault : Fault) (Read : Type 0) (status : ℕ)
+    (old new : Option (List ℕ))
+    → status ≡ status_of fault → status ≤ 2 → Appends old new (fault_line fault) → Ends words known Read fault
+    → OutcomeIs words known (λ outcome. (status ≡ outcome.status) × Appends old new outcome.fault)
+end_fault words known fault Read status old new is low appends (inl h) =
+    words_end words known fault (λ outcome. (status ≡ outcome.status) × Appends old new outcome.fault) h (is, appends)
+end_fault words known fault Read status old new is low appends (inr (inl h)) =
+    input_end words known fault (λ outcome. (status ≡ outcome.status) × Appends old new outcome.fault) h (is, appends)
+end_fault words known fault Read status old new is low appends (inr (inr (inl h))) =
+    let wrong = rw h at is in absurd (omega arith)
+end_fault words known fault Read status old new is low appends (inr (inr (inr (inl h)))) =
+    let wrong = rw h at is in absurd (omega arith)
+end_fault words known fault Read status old new is low appends (inr (inr (inr (inr h)))) =
+    let wrong = rw h.0 at is in absurd (omega arith)
+
+-- the status of an end by refused words
+pub refused_end : (words : List (List ℕ)) (fault : Fault) (status : ℕ) → status ≡ status_of fault
+    → AreRefused words fault ⊎ (fault ≡ OutOfMemory) → (status ≡ 2) ⊎ (status ≡ 3)
+refused_end words fault status is (inl h) = inl (is ∙ refused_status _ _ h)
+refused_end words fault status is (inr h) = inr (rw h at is)

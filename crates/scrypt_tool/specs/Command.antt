@@ -1,0 +1,62 @@
+-- What the words ask for. They are read in this order, and the first thing that is wrong refuses them:
+-- the words and the numbers, the salt, the parameters, the length of the key, the text of a hash.
+use Rattle.std.specs.Prelude.{◌≡◌, ℕ, List, None, Ok, IsErr, IsOk, IsSomeAnd, MatchOption, ⊤}
+use Rattle.hex.specs.Hex.{decode_of}
+use Rattle.scrypt.specs.Accepted.{AreAccepted, IsOutputLen, Parameters}
+use Rattle.scrypt_tool.specs.StoredHash.{IsHashOf, IsHashText}
+use Rattle.scrypt_tool.specs.Words.{CommandWords, MakeWords, VerifyWords, words_of}
+use Rattle.scrypt_tool.specs.declared.command.Command.{Command}
+use Rattle.scrypt_tool.specs.declared.command.Command.TheVariants.{Make, Verify}
+use Rattle.scrypt_tool.specs.declared.fault.Fault.{Fault}
+use Rattle.scrypt_tool.specs.declared.fault.Fault.TheVariants.{Usage, SaltNotHex, InvalidParams, InvalidOutputLen, HashRefused}
+use Rattle.scrypt_tool.specs.declared.fault.HashFault.TheVariants.{EncodingInvalid}
+use Rattle.scrypt_tool.specs.declared.words.Numbers.{Numbers}
+use Rattle.scrypt_tool.specs.declared.words.Product.{Product}
+use Rattle.scrypt_tool.specs.declared.words.Product.TheVariants.{Key, Hash}
+
+-- the numbers are those of accepted parameters
+abbrev pub AreNumbersAccepted : Numbers → Type 0
+AreNumbersAccepted numbers = AreAccepted numbers.log_n numbers.r numbers.p
+
+-- the salt of these digits, and the accepted parameters of these numbers
+pub record AreSaltAndParams (numbers : Numbers) (salt_hex salt : List ℕ) (params : Parameters) : Type 0 where
+  pub salt_read : decode_of salt_hex ≡ Ok salt
+  pub accepted : AreNumbersAccepted numbers
+  pub params_are : params ≡ record { log_n = numbers.log_n; r = numbers.r; p = numbers.p; output_len = None }
+
+-- a key of that length can be derived; a hash has an allowed length of its own
+abbrev pub HasAllowedLen : Product → Type 0
+HasAllowedLen (Key len) = IsOutputLen len
+HasAllowedLen (Hash format) = ⊤
+
+-- what is to be made can be made
+abbrev pub IsPossible : Command → Type 0
+IsPossible (Make product params salt) = HasAllowedLen product
+IsPossible (Verify hash) = ⊤
+
+-- these words mean this command
+abbrev pub Means : CommandWords → Command → Type 0
+Means (MakeWords named numbers salt_hex) (Make product params salt) =
+    AreSaltAndParams numbers salt_hex salt.items params × (product ≡ named) × HasAllowedLen named
+Means (VerifyWords text) (Verify hash) = IsHashOf text hash
+Means words command = ⊥
+
+-- these words are refused, and this is the first thing that is wrong with them
+pub data IsRefused : CommandWords → Fault → Type 0 where
+  bad_salt : {product : Product} {numbers : Numbers} {salt_hex : List ℕ}
+      → IsErr (decode_of salt_hex) → IsRefused (MakeWords product numbers salt_hex) SaltNotHex
+  bad_params : {product : Product} {numbers : Numbers} {salt_hex : List ℕ}
+      → IsOk (decode_of salt_hex) → ¬ AreNumbersAccepted numbers
+      → IsRefused (MakeWords product numbers salt_hex) InvalidParams
+  bad_len : {product : Product} {numbers : Numbers} {salt_hex : List ℕ}
+      → IsOk (decode_of salt_hex) → AreNumbersAccepted numbers → ¬ HasAllowedLen product
+      → IsRefused (MakeWords product numbers salt_hex) InvalidOutputLen
+  bad_hash : {text : List ℕ} → ¬ IsHashText text → IsRefused (VerifyWords text) (HashRefused EncodingInvalid)
+
+-- the words after the program's name ask for this command
+abbrev pub AskFor : List (List ℕ) → Command → Type 0
+AskFor words command = IsSomeAnd (words_of words) (λ read. Means read command)
+
+-- they are refused, and this is the first thing that is wrong with them
+abbrev pub AreRefused : List (List ℕ) → Fault → Type 0
+AreRefused words fault = MatchOption (words_of words) (fault ≡ Usage) (λ read. IsRefused read fault)
