@@ -47,8 +47,8 @@ made_text made = rw (made.algorithm, made.version, made.params, made.salt_is, ma
 made_once : (product : Product) (c : Parameters) (salt password : List ℕ) {text other : List ℕ}
     → IsMadeText product c salt password text → IsMadeText product c salt password other → text ≡ other
 made_once (Key len) c salt password made again = made ∙ sym again
-made_once (Hash PhcFormat) c salt password (hash, made, is) (hash', made', is') = is ∙ made_text made ∙ sym (made_text made') ∙ sym is'
-made_once (Hash McfFormat) c salt password made again = text_of made ∙ sym (text_of again)
+made_once (Hash PhcFormat len) c salt password (hash, made, is) (hash', made', is') = is ∙ made_text made ∙ sym (made_text made') ∙ sym is'
+made_once (Hash McfFormat len) c salt password made again = text_of made ∙ sym (text_of again)
 
 -- a word is the text of one hash, and a password has one verdict on it
 hash_verdict_once : (word : List ℕ) (hash again : StoredHash) (password : List ℕ) (one other : Option Refusal)
@@ -108,19 +108,19 @@ same_some same = cc
 
 -- the fault by which making a hash refuses a salt
 salt_fault : (product : Product) (salt : List ℕ) (fault : Fault) → IsSaltRefused product salt fault
-    → (product ≡ Hash PhcFormat) × ((why : HashFault) × (fault ≡ HashRefused why) × (hash_refusal why ≡ BadSalt) × ¬ IsSaltLen (length salt))
+    → ((len : Option ℕ) × (product ≡ Hash PhcFormat len)) × ((why : HashFault) × (fault ≡ HashRefused why) × (hash_refusal why ≡ BadSalt) × ¬ IsSaltLen (length salt))
 salt_fault (Key len) salt fault h = absurd h
-salt_fault (Hash McfFormat) salt fault h = absurd h
-salt_fault (Hash PhcFormat) salt fault h =
+salt_fault (Hash McfFormat len) salt fault h = absurd h
+salt_fault (Hash PhcFormat len) salt fault h =
     let found = hash_fault (HashIsRefused salt None None) fault h in
-    let bad = bad_salt_of salt found.0 found.2 in (refl, (found.0, found.1, bad.0, bad.1))
+    let bad = bad_salt_of salt found.0 found.2 in ((len, refl), (found.0, found.1, bad.0, bad.1))
 
 -- what is printed is not refused
 not_refused : (words : CommandWords) (command again : Command) (input : List ℕ) (status : ℕ) (line : List ℕ) (fault : Fault)
     → Means words command → Means words again → Gives command input status line → Refuses again input fault → ⊥
 not_refused (MakeWords named numbers salt_hex) (Make product params salt) (Make product' params' salt') input status line fault (read, is, allowed) (read', is', allowed') (s, (text, made, l)) h =
     let found = salt_fault product' salt'.items fault h in
-    let phc = rw (is ∙ sym is' ∙ found.0) at made in
+    let phc = rw (is ∙ sym is' ∙ found.0.1) at made in
     found.1.3 (rw (salt_once salt_hex read'.salt_read read.salt_read) phc.1.salt_len)
 not_refused (MakeWords named numbers salt_hex) (Make product params salt) (Verify hash) input status line fault means mean gives h = mean
 not_refused (MakeWords named numbers salt_hex) (Verify hash) again input status line fault means mean gives h = means

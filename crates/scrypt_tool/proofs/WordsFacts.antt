@@ -1,8 +1,8 @@
--- The words of each command: five after `key` and after `hash`, and one after `verify`.
-use Rattle.std.proofs.Common.{◌≡◌, ◌≢◌, ◌^◌, ℕ, Bool, List, [], ◌∷◌, None, Some, length, get_or, arith, map, refl, bytes_eq, codes, false, true}
+-- The words of each command: five after `key`, five or six after `hash`, and one after `verify`.
+use Rattle.std.proofs.Common.{◌≡◌, ◌≢◌, ◌^◌, ℕ, Bool, List, [], ◌∷◌, None, Option, Some, length, get_or, arith, map, refl, bytes_eq, codes, false, true}
 use Rattle.std.proofs.lemmas.Slice.Eq.{bytes_eq-Decides}
 use Rattle.scrypt_tool.specs.Decimal.{decimal_below}
-use Rattle.scrypt_tool.specs.Words.{MakeWords, VerifyWords, format_of, hash_words, key_words, numbers_of, verify_words, words_of}
+use Rattle.scrypt_tool.specs.Words.{MakeWords, VerifyWords, format_of, hash_words, key_words, named_hash_words, numbers_of, verify_words, words_of}
 use Rattle.scrypt_tool.specs.declared.words.Format.{Format}
 use Rattle.scrypt_tool.specs.declared.words.Numbers.{Numbers}
 use Rattle.scrypt_tool.specs.declared.words.Product.TheVariants.{Key, Hash}
@@ -52,25 +52,46 @@ pub key_words_found : (log_n r p len_word salt_hex : List ℕ) (numbers : Number
 unfolding key_words
 key_words_found log_n r p len_word salt_hex numbers len h i = rw h (rw i refl)
 
--- the words of `hash` with another format
-pub no_format : (format log_n r p salt_hex : List ℕ)
-    → format_of format ≡ None → hash_words (format ∷ log_n ∷ r ∷ p ∷ salt_hex ∷ []) ≡ None
-unfolding hash_words
-no_format format log_n r p salt_hex h = rw h refl
+-- a hash of another format
+pub no_format : (format salt_hex : List ℕ) (numbers : Numbers) (len : Option ℕ)
+    → format_of format ≡ None → named_hash_words format numbers salt_hex len ≡ None
+unfolding named_hash_words
+no_format format salt_hex numbers len h = rw h refl
+
+-- a hash of a format that is named
+pub named_hash_found : (format salt_hex : List ℕ) (numbers : Numbers) (len : Option ℕ) (named : Format)
+    → format_of format ≡ Some named → named_hash_words format numbers salt_hex len ≡ Some (MakeWords (Hash named len) numbers salt_hex)
+unfolding named_hash_words
+named_hash_found format salt_hex numbers len named h = rw h refl
 
 -- the words of `hash` without numbers
-pub no_hash_numbers : (format log_n r p salt_hex : List ℕ) (named : Format)
-    → format_of format ≡ Some named → numbers_of log_n r p ≡ None
+pub no_hash_numbers : (format log_n r p salt_hex : List ℕ) → numbers_of log_n r p ≡ None
     → hash_words (format ∷ log_n ∷ r ∷ p ∷ salt_hex ∷ []) ≡ None
 unfolding hash_words
-no_hash_numbers format log_n r p salt_hex named h i = rw h (rw i refl)
+no_hash_numbers format log_n r p salt_hex h = rw h refl
+
+pub no_hash_numbers_with_len : (format log_n r p salt_hex len : List ℕ) → numbers_of log_n r p ≡ None
+    → hash_words (format ∷ log_n ∷ r ∷ p ∷ salt_hex ∷ len ∷ []) ≡ None
+unfolding hash_words
+no_hash_numbers_with_len format log_n r p salt_hex len h = rw h refl
+
+-- the words of `hash` with another word in the place of a length
+pub no_hash_len : (format log_n r p salt_hex len : List ℕ) (numbers : Numbers) → numbers_of log_n r p ≡ Some numbers
+    → decimal_below (2 ^ 64) len ≡ None → hash_words (format ∷ log_n ∷ r ∷ p ∷ salt_hex ∷ len ∷ []) ≡ None
+unfolding hash_words
+no_hash_len format log_n r p salt_hex len numbers h i = rw h (rw i refl)
 
 -- the words of `hash`
-pub hash_words_found : (format log_n r p salt_hex : List ℕ) (named : Format) (numbers : Numbers)
-    → format_of format ≡ Some named → numbers_of log_n r p ≡ Some numbers
-    → hash_words (format ∷ log_n ∷ r ∷ p ∷ salt_hex ∷ []) ≡ Some (MakeWords (Hash named) numbers salt_hex)
+pub hash_words_found : (format log_n r p salt_hex : List ℕ) (numbers : Numbers) → numbers_of log_n r p ≡ Some numbers
+    → hash_words (format ∷ log_n ∷ r ∷ p ∷ salt_hex ∷ []) ≡ named_hash_words format numbers salt_hex None
 unfolding hash_words
-hash_words_found format log_n r p salt_hex named numbers h i = rw h (rw i refl)
+hash_words_found format log_n r p salt_hex numbers h = rw h refl
+
+pub hash_words_found_with_len : (format log_n r p salt_hex len_word : List ℕ) (numbers : Numbers) (len : ℕ)
+    → numbers_of log_n r p ≡ Some numbers → decimal_below (2 ^ 64) len_word ≡ Some len
+    → hash_words (format ∷ log_n ∷ r ∷ p ∷ salt_hex ∷ len_word ∷ []) ≡ named_hash_words format numbers salt_hex (Some len)
+unfolding hash_words
+hash_words_found_with_len format log_n r p salt_hex len_word numbers len h i = rw h (rw i refl)
 
 -- a test that is not met
 not_true : (met : Bool) → (met ≡ true → ⊥) → met ≡ false
@@ -100,6 +121,30 @@ pub are_five : {A : Type 0} (text : A → List ℕ) (words : List A) (a b c d e 
 are_five text words a b c d e n h0 h1 h2 h3 h4 t0 t1 t2 t3 t4 =
     rw (five words a b c d e n h0 h1 h2 h3 h4, t0, t1, t2, t3, t4) refl
 
+-- a list of six elements is these six
+six : {A : Type 0} (xs : List A) (a b c d e f : A) → length xs ≡ 6
+    → a ≡ get_or xs 0 a → b ≡ get_or xs 1 b → c ≡ get_or xs 2 c
+    → d ≡ get_or xs 3 d → e ≡ get_or xs 4 e → f ≡ get_or xs 5 f
+    → xs ≡ a ∷ b ∷ c ∷ d ∷ e ∷ f ∷ []
+six [] a b c d e f n h0 h1 h2 h3 h4 h5 = absurd (omega arith)
+six (x0 ∷ []) a b c d e f n h0 h1 h2 h3 h4 h5 = absurd (omega arith)
+six (x0 ∷ x1 ∷ []) a b c d e f n h0 h1 h2 h3 h4 h5 = absurd (omega arith)
+six (x0 ∷ x1 ∷ x2 ∷ []) a b c d e f n h0 h1 h2 h3 h4 h5 = absurd (omega arith)
+six (x0 ∷ x1 ∷ x2 ∷ x3 ∷ []) a b c d e f n h0 h1 h2 h3 h4 h5 = absurd (omega arith)
+six (x0 ∷ x1 ∷ x2 ∷ x3 ∷ x4 ∷ []) a b c d e f n h0 h1 h2 h3 h4 h5 = absurd (omega arith)
+six (x0 ∷ x1 ∷ x2 ∷ x3 ∷ x4 ∷ x5 ∷ []) a b c d e f n h0 h1 h2 h3 h4 h5 = cc
+six (x0 ∷ x1 ∷ x2 ∷ x3 ∷ x4 ∷ x5 ∷ x6 ∷ xs) a b c d e f n h0 h1 h2 h3 h4 h5 = absurd (omega arith)
+
+-- the texts of six words
+pub are_six : {A : Type 0} (text : A → List ℕ) (words : List A) (a b c d e f : A) {ta tb tc td te tf : List ℕ}
+    → length words ≡ 6
+    → a ≡ get_or words 0 a → b ≡ get_or words 1 b → c ≡ get_or words 2 c
+    → d ≡ get_or words 3 d → e ≡ get_or words 4 e → f ≡ get_or words 5 f
+    → ta ≡ text a → tb ≡ text b → tc ≡ text c → td ≡ text d → te ≡ text e → tf ≡ text f
+    → map text words ≡ ta ∷ tb ∷ tc ∷ td ∷ te ∷ tf ∷ []
+are_six text words a b c d e f n h0 h1 h2 h3 h4 h5 t0 t1 t2 t3 t4 t5 =
+    rw (six words a b c d e f n h0 h1 h2 h3 h4 h5, t0, t1, t2, t3, t4, t5) refl
+
 -- words that are not five are not those of `key`
 pub not_key_words : {A : Type 0} (text : A → List ℕ) (words : List A) → length words ≢ 5 → key_words (map text words) ≡ None
 unfolding key_words
@@ -111,16 +156,18 @@ not_key_words text (x0 ∷ x1 ∷ x2 ∷ x3 ∷ []) n = refl
 not_key_words text (x0 ∷ x1 ∷ x2 ∷ x3 ∷ x4 ∷ []) n = absurd (n refl)
 not_key_words text (x0 ∷ x1 ∷ x2 ∷ x3 ∷ x4 ∷ x5 ∷ xs) n = refl
 
--- nor those of `hash`
-pub not_hash_words : {A : Type 0} (text : A → List ℕ) (words : List A) → length words ≢ 5 → hash_words (map text words) ≡ None
+-- words that are neither five nor six are not those of `hash`
+pub not_hash_words : {A : Type 0} (text : A → List ℕ) (words : List A) → length words ≢ 5 → length words ≢ 6
+    → hash_words (map text words) ≡ None
 unfolding hash_words
-not_hash_words text [] n = refl
-not_hash_words text (x0 ∷ []) n = refl
-not_hash_words text (x0 ∷ x1 ∷ []) n = refl
-not_hash_words text (x0 ∷ x1 ∷ x2 ∷ []) n = refl
-not_hash_words text (x0 ∷ x1 ∷ x2 ∷ x3 ∷ []) n = refl
-not_hash_words text (x0 ∷ x1 ∷ x2 ∷ x3 ∷ x4 ∷ []) n = absurd (n refl)
-not_hash_words text (x0 ∷ x1 ∷ x2 ∷ x3 ∷ x4 ∷ x5 ∷ xs) n = refl
+not_hash_words text [] n m = refl
+not_hash_words text (x0 ∷ []) n m = refl
+not_hash_words text (x0 ∷ x1 ∷ []) n m = refl
+not_hash_words text (x0 ∷ x1 ∷ x2 ∷ []) n m = refl
+not_hash_words text (x0 ∷ x1 ∷ x2 ∷ x3 ∷ []) n m = refl
+not_hash_words text (x0 ∷ x1 ∷ x2 ∷ x3 ∷ x4 ∷ []) n m = absurd (n refl)
+not_hash_words text (x0 ∷ x1 ∷ x2 ∷ x3 ∷ x4 ∷ x5 ∷ []) n m = absurd (m refl)
+not_hash_words text (x0 ∷ x1 ∷ x2 ∷ x3 ∷ x4 ∷ x5 ∷ x6 ∷ xs) n m = refl
 
 -- the text of one word
 pub is_one : {A : Type 0} (text : A → List ℕ) (words : List A) (a : A) {ta : List ℕ}

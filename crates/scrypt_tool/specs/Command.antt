@@ -1,8 +1,8 @@
 -- What the words ask for. They are read in this order, and the first thing that is wrong refuses them:
 -- the words and the numbers, the salt, the parameters, the length of the key, the text of a hash.
-use Rattle.std.specs.Prelude.{◌≡◌, ℕ, List, None, Ok, IsErr, IsOk, IsSomeAnd, MatchOption, ⊤}
+use Rattle.std.specs.Prelude.{◌≡◌, ℕ, List, None, Ok, Option, IfSome, IsErr, IsOk, IsSomeAnd, MatchOption, ⊤}
 use Rattle.hex.specs.Hex.{decode_of}
-use Rattle.scrypt.specs.Accepted.{AreAccepted, IsOutputLen, Parameters}
+use Rattle.scrypt.specs.Accepted.{AreAccepted, IsOutputLen, IsStoredLen, Parameters}
 use Rattle.scrypt_tool.specs.StoredHash.{IsHashOf, IsHashText}
 use Rattle.scrypt_tool.specs.Words.{CommandWords, MakeWords, VerifyWords, words_of}
 use Rattle.scrypt_tool.specs.declared.command.Command.{Command}
@@ -14,20 +14,29 @@ use Rattle.scrypt_tool.specs.declared.words.Numbers.{Numbers}
 use Rattle.scrypt_tool.specs.declared.words.Product.{Product}
 use Rattle.scrypt_tool.specs.declared.words.Product.TheVariants.{Key, Hash}
 
--- the numbers are those of accepted parameters
-abbrev pub AreNumbersAccepted : Numbers → Type 0
-AreNumbersAccepted numbers = AreAccepted numbers.log_n numbers.r numbers.p
+-- the length that a hash's parameters hold
+abbrev pub stored_len : Product → Option ℕ
+stored_len (Key len) = None
+stored_len (Hash format len) = len
+
+-- the parameters of a product
+abbrev pub params_of : Product → Numbers → Parameters
+params_of product numbers = record { log_n = numbers.log_n; r = numbers.r; p = numbers.p; output_len = stored_len product }
+
+-- they are accepted
+abbrev pub AreParamsAccepted : Product → Numbers → Type 0
+AreParamsAccepted product numbers = AreAccepted numbers.log_n numbers.r numbers.p × IfSome (stored_len product) IsStoredLen
 
 -- the salt of these digits, and the accepted parameters of these numbers
-pub record AreSaltAndParams (numbers : Numbers) (salt_hex salt : List ℕ) (params : Parameters) : Type 0 where
+pub record AreSaltAndParams (product : Product) (numbers : Numbers) (salt_hex salt : List ℕ) (params : Parameters) : Type 0 where
   pub salt_read : decode_of salt_hex ≡ Ok salt
-  pub accepted : AreNumbersAccepted numbers
-  pub params_are : params ≡ record { log_n = numbers.log_n; r = numbers.r; p = numbers.p; output_len = None }
+  pub accepted : AreParamsAccepted product numbers
+  pub params_are : params ≡ params_of product numbers
 
 -- a key of that length can be derived; a hash has an allowed length of its own
 abbrev pub HasAllowedLen : Product → Type 0
 HasAllowedLen (Key len) = IsOutputLen len
-HasAllowedLen (Hash format) = ⊤
+HasAllowedLen (Hash format len) = ⊤
 
 -- what is to be made can be made
 abbrev pub IsPossible : Command → Type 0
@@ -37,7 +46,7 @@ IsPossible (Verify hash) = ⊤
 -- these words mean this command
 abbrev pub Means : CommandWords → Command → Type 0
 Means (MakeWords named numbers salt_hex) (Make product params salt) =
-    AreSaltAndParams numbers salt_hex salt.items params × (product ≡ named) × HasAllowedLen named
+    AreSaltAndParams named numbers salt_hex salt.items params × (product ≡ named) × HasAllowedLen named
 Means (VerifyWords text) (Verify hash) = IsHashOf text hash
 Means words command = ⊥
 
@@ -46,10 +55,10 @@ pub data IsRefused : CommandWords → Fault → Type 0 where
   bad_salt : {product : Product} {numbers : Numbers} {salt_hex : List ℕ}
       → IsErr (decode_of salt_hex) → IsRefused (MakeWords product numbers salt_hex) SaltNotHex
   bad_params : {product : Product} {numbers : Numbers} {salt_hex : List ℕ}
-      → IsOk (decode_of salt_hex) → ¬ AreNumbersAccepted numbers
+      → IsOk (decode_of salt_hex) → ¬ AreParamsAccepted product numbers
       → IsRefused (MakeWords product numbers salt_hex) InvalidParams
   bad_len : {product : Product} {numbers : Numbers} {salt_hex : List ℕ}
-      → IsOk (decode_of salt_hex) → AreNumbersAccepted numbers → ¬ HasAllowedLen product
+      → IsOk (decode_of salt_hex) → AreParamsAccepted product numbers → ¬ HasAllowedLen product
       → IsRefused (MakeWords product numbers salt_hex) InvalidOutputLen
   bad_hash : {text : List ℕ} → ¬ IsHashText text → IsRefused (VerifyWords text) (HashRefused EncodingInvalid)
 

@@ -27,8 +27,8 @@ IsMadePhcText c salt password text = (hash : PasswordHash) × IsMadePhc c passwo
 -- the text of what is made of a password: a derived key in hexadecimal, or a hash
 abbrev pub IsMadeText : Product → Parameters → List ℕ → List ℕ → List ℕ → Type 0
 IsMadeText (Key len) c salt password text = text ≡ encode_lower (key_by c password salt len)
-IsMadeText (Hash Phc) c salt password text = IsMadePhcText c salt password text
-IsMadeText (Hash Mcf) c salt password text = IsMadeMcf c password salt text
+IsMadeText (Hash Phc len) c salt password text = IsMadePhcText c salt password text
+IsMadeText (Hash Mcf len) c salt password text = IsMadeMcf c password salt text
 
 -- the status and the line that a made text is printed with
 abbrev pub GivesMade : (List ℕ → Type 0) → ℕ → List ℕ → Type 0
@@ -47,7 +47,7 @@ Gives (Verify hash) input status line = GivesVerdict hash input status line
 
 -- making a PHC hash refuses this salt; nothing else that is made refuses one
 abbrev pub IsSaltRefused : Product → List ℕ → Fault → Type 0
-IsSaltRefused (Hash Phc) salt fault = IsHashFault (HashIsRefused salt None None) fault
+IsSaltRefused (Hash Phc len) salt fault = IsHashFault (HashIsRefused salt None None) fault
 IsSaltRefused product salt fault = ⊥
 
 -- hashing or verifying refuses the command on this input

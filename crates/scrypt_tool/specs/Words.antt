@@ -47,12 +47,21 @@ format_of word =
     else if bytes_eq word (codes "mcf") then Some Mcf
     else None
 
--- after `hash`: phc|mcf LOG_N R P SALT_HEX
+-- the hash of the format that a word names
+unfoldable pub named_hash_words : List ℕ → Numbers → List ℕ → Option ℕ → Option CommandWords
+named_hash_words format numbers salt_hex len = do
+  format ← format_of format
+  Some (MakeWords (Hash format len) numbers salt_hex)
+
+-- after `hash`: phc|mcf LOG_N R P SALT_HEX [LEN], with LEN below 2 ^ 64
 unfoldable pub hash_words : List (List ℕ) → Option CommandWords
 hash_words (format ∷ log_n ∷ r ∷ p ∷ salt_hex ∷ []) = do
-  format ← format_of format
   numbers ← numbers_of log_n r p
-  Some (MakeWords (Hash format) numbers salt_hex)
+  named_hash_words format numbers salt_hex None
+hash_words (format ∷ log_n ∷ r ∷ p ∷ salt_hex ∷ len ∷ []) = do
+  numbers ← numbers_of log_n r p
+  len ← decimal_below (2 ^ 64) len
+  named_hash_words format numbers salt_hex (Some len)
 hash_words words = None
 
 -- after `verify`: HASH

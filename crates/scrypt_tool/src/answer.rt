@@ -70,9 +70,11 @@ fn make(
         Product::Key { len } => key(alloc, password, salt, params, *len),
         Product::Hash {
             format: Format::Phc,
+            ..
         } => phc_hash(alloc, password, salt, params),
         Product::Hash {
             format: Format::Mcf,
+            ..
         } => mcf_hash(alloc, password, salt, params),
     }
 }

@@ -1,8 +1,8 @@
 // What the words ask for.
 
-ghost use Rattle.std.specs.Prelude.{◌≡◌, ◌⊎◌, IfOk, IfErr, IsErr, IsTrue, Ok, ◌↔◌, map, string_bytes};
+ghost use Rattle.std.specs.Prelude.{◌≡◌, ◌⊎◌, IfOk, IfErr, IsErr, IsOk, IsTrue, Ok, ◌↔◌, map, string_bytes};
 ghost use Rattle.hex.specs.Hex.{decode_of};
-ghost use Rattle.scrypt_tool.specs.Command.{AreRefused, AskFor, HasAllowedLen, IsRefused, Means};
+ghost use Rattle.scrypt_tool.specs.Command.{AreParamsAccepted, AreRefused, AskFor, HasAllowedLen, IsRefused, Means, params_of};
 ghost use Rattle.scrypt_tool.specs.Words.{MakeWords, VerifyWords};
 ghost use Rattle.scrypt_tool.specs.declared.fault.Fault.TheVariants.{OutOfMemory, SaltNotHex};
 
@@ -10,7 +10,7 @@ use crate::fault::{Fault, HashFault};
 use crate::stored_hash::StoredHash;
 use crate::words::{Numbers, Product, Words};
 use hex::FromHexError;
-use scrypt::{Params, output_len_ok};
+use scrypt::{InvalidParams, Params, output_len_ok};
 use std::alloc::Global;
 
 /// What the words ask for.
@@ -65,7 +65,7 @@ fn read_make<'a>(
         (fault ≡ OutOfMemory) ⊎ IsRefused (MakeWords product numbers salt_hex.now) fault) }
 {
     let salt = read_salt(alloc, salt_hex)?;
-    let params = Params::new(numbers.log_n, numbers.r, numbers.p)?;
+    let params = read_params(product, numbers)?;
     if !has_allowed_len(product) {
         return Err(Fault::InvalidOutputLen);
     }
@@ -74,6 +74,18 @@ fn read_make<'a>(
         params,
         salt,
     })
+}
+
+// The parameters of the product, which hold the length that is named for a hash.
+fn read_params(product: Product, numbers: Numbers) -> Result<Params, InvalidParams>
+    ensures accepted { IsOk result ↔ AreParamsAccepted product numbers }
+    ensures value { IfOk result (λ params. params ≡ params_of product numbers) }
+{
+    let Numbers { log_n, r, p } = numbers;
+    match product {
+        Product::Hash { len: Some(len), .. } => Params::new_with_output_len(log_n, r, p, len),
+        _ => Params::new(log_n, r, p),
+    }
 }
 
 // Whether a key of that length can be derived. A hash has an allowed length of its own.

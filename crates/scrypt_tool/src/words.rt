@@ -2,14 +2,14 @@
 
 ghost use Rattle.std.specs.Prelude.{◌≡◌, map, option_map, string_bytes};
 ghost use Rattle.scrypt_tool.specs.Decimal.{DecimalGives, has_plus_or_leading_zero};
-ghost use Rattle.scrypt_tool.specs.Words.{format_of, hash_words, key_words, numbers_of, verify_words, words_of, words_view};
+ghost use Rattle.scrypt_tool.specs.Words.{format_of, hash_words, key_words, named_hash_words, numbers_of, verify_words, words_of, words_view};
 
 use std::str::FromStr;
 
 /// The words of a command. The salt's digits and the text of a hash are not read yet.
 #[derive(Drop)]
 pub enum Words<'a> {
-    /// `key LOG_N R P LEN SALT_HEX` or `hash phc|mcf LOG_N R P SALT_HEX`
+    /// `key LOG_N R P LEN SALT_HEX` or `hash phc|mcf LOG_N R P SALT_HEX [LEN]`
     Make {
         product: Product,
         numbers: Numbers,
@@ -26,8 +26,8 @@ pub enum Words<'a> {
 pub enum Product {
     /// a key of `len` bytes
     Key { len: usize },
-    /// a hash of this format
-    Hash { format: Format },
+    /// a hash of this format, whose key has `len` bytes if a length is named
+    Hash { format: Format, len: Option<usize> },
 }
 
 /// A format of hash texts.
@@ -81,19 +81,38 @@ fn read_key<'a>(words: &'a [String]) -> Option<Words<'a>>
     })
 }
 
-// Reads phc|mcf LOG_N R P SALT_HEX.
+// Reads phc|mcf LOG_N R P SALT_HEX [LEN].
 fn read_hash<'a>(words: &'a [String]) -> Option<Words<'a>>
     ensures { option_map words_view result ≡ hash_words (map string_bytes words.now) }
 {
-    let [format, log_n, r, p, salt_hex] = words else {
-        return None;
-    };
-    let format = read_format(format.as_str())?;
-    let numbers = read_numbers(log_n.as_str(), r.as_str(), p.as_str())?;
+    match words {
+        [format, log_n, r, p, salt_hex] => {
+            let numbers = read_numbers(log_n.as_str(), r.as_str(), p.as_str())?;
+            read_hash_of(format.as_str(), numbers, salt_hex.as_str(), None)
+        }
+        [format, log_n, r, p, salt_hex, len] => {
+            let numbers = read_numbers(log_n.as_str(), r.as_str(), p.as_str())?;
+            let len = read_decimal(len.as_str())?;
+            read_hash_of(format.as_str(), numbers, salt_hex.as_str(), Some(len))
+        }
+        _ => None,
+    }
+}
+
+// The words of a hash, of which the format is not read yet.
+fn read_hash_of<'a>(
+    format: &str,
+    numbers: Numbers,
+    salt_hex: &'a str,
+    len: Option<usize>,
+) -> Option<Words<'a>>
+    ensures { option_map words_view result ≡ named_hash_words format.now numbers salt_hex.now len }
+{
+    let format = read_format(format)?;
     Some(Words::Make {
-        product: Product::Hash { format },
+        product: Product::Hash { format, len },
         numbers,
-        salt_hex: salt_hex.as_str(),
+        salt_hex,
     })
 }
 

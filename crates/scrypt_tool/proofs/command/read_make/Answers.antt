@@ -13,7 +13,7 @@ pub returns-in_err-params-clause-err : goal.returns-in_err-params-clause-err
 returns-in_err-params-clause-err c =
     let left = err_from_is_err_and c.from_residual-in_err-params.result c.from_residual-in_err-params.ensures.1 in
     rw (left.1, left.2)
-    (inr (bad_params (salt_found _ c.in_ok-salt.ensures.ok) (λ h. let accepted = c.in_err-params.ensures.accepted.1 h in absurd cc)))
+    (inr (bad_params {product = c.args.product} {numbers = c.args.numbers} (salt_found _ c.in_ok-salt.ensures.ok) (λ h. let accepted = c.in_err-params.ensures.accepted.1 h in absurd cc)))
 
 pub returns-then-not-has_allowed_len-clause-err : goal.returns-then-not-has_allowed_len-clause-err
 returns-then-not-has_allowed_len-clause-err c =
