@@ -50,7 +50,7 @@ input_end words known fault P (input, is, (command, asks, h)) holds =
 -- what ends a run without a line: a refusal, or what stops it
 abbrev pub Ends : List (List ℕ) → Option (List ℕ) → Type 0 → Fault → Type 0
 Ends words known Read fault =
-    AreRefused words fault ⊎ IsInputRefused words known fault ⊎ (fault ≡ OutOfMemory) ⊎ (fault ≡ InputFailed)
+    AreRefused words fault ⊎ (IsInputRefused words known fault × Read) ⊎ (fault ≡ OutOfMemory) ⊎ (fault ≡ InputFailed)
     ⊎ ((fault ≡ OutputFailed) × Read)
 
 -- the status of an end without a line
@@ -60,7 +60,7 @@ pub end_status : (words : List (List ℕ)) (known : Option (List ℕ)) (fault : 
 end_status words known fault Read status is (inl h) =
     inr (inr (words_end words known fault (λ outcome. status ≡ outcome.status) h is))
 end_status words known fault Read status is (inr (inl h)) =
-    inr (inr (input_end words known fault (λ outcome. status ≡ outcome.status) h is))
+    inr (inr (input_end words known fault (λ outcome. status ≡ outcome.status) h.0 is))
 end_status words known fault Read status is (inr (inr (inl h))) = inl (rw h at is)
 end_status words known fault Read status is (inr (inr (inr (inl h)))) = inr (inl (rw h at is))
 end_status words known fault Read status is (inr (inr (inr (inr h)))) = inr (inl (rw h.0 at is))
@@ -73,7 +73,7 @@ pub end_fault : (words : List (List ℕ)) (known : Option (List ℕ)) (fault : F
 end_fault words known fault Read status old new is low appends (inl h) =
     words_end words known fault (λ outcome. (status ≡ outcome.status) × Appends old new outcome.fault) h (is, appends)
 end_fault words known fault Read status old new is low appends (inr (inl h)) =
-    input_end words known fault (λ outcome. (status ≡ outcome.status) × Appends old new outcome.fault) h (is, appends)
+    input_end words known fault (λ outcome. (status ≡ outcome.status) × Appends old new outcome.fault) h.0 (is, appends)
 end_fault words known fault Read status old new is low appends (inr (inr (inl h))) =
     let wrong = rw h at is in absurd (omega arith)
 end_fault words known fault Read status old new is low appends (inr (inr (inr (inl h)))) =
@@ -86,3 +86,15 @@ pub refused_end : (words : List (List ℕ)) (fault : Fault) (status : ℕ) → s
     → AreRefused words fault ⊎ (fault ≡ OutOfMemory) → (status ≡ 2) ⊎ (status ≡ 3)
 refused_end words fault status is (inl h) = inl (is ∙ refused_status _ _ h)
 refused_end words fault status is (inr h) = inr (rw h at is)
+
+-- an end with status 2 that is not by refused words comes after the whole input
+pub read_before_refusal : (words : List (List ℕ)) (known : Option (List ℕ)) (fault : Fault) (Read : Type 0) (status : ℕ)
+    → status ≡ status_of fault → Ends words known Read fault → status ≡ 2
+    → ((refusal : Fault) → ¬ AreRefused words refusal) → Read
+read_before_refusal words known fault Read status is (inl h) two none = absurd (none fault h)
+read_before_refusal words known fault Read status is (inr (inl h)) two none = h.1
+read_before_refusal words known fault Read status is (inr (inr (inl h))) two none =
+    let wrong = rw h at is in absurd (omega arith)
+read_before_refusal words known fault Read status is (inr (inr (inr (inl h)))) two none =
+    let wrong = rw h at is in absurd (omega arith)
+read_before_refusal words known fault Read status is (inr (inr (inr (inr h)))) two none = h.1

@@ -60,6 +60,8 @@ pub fn run<R: Read, W: Write, F: Write>(
         (result.status ≡ 2) ⊎ (result.status ≡ 3) }
     ensures unread { (fault : Fault) → AreRefused (map string_bytes words.now) fault →
         Keeps (R.remaining reader.old) (R.remaining reader.new) }
+    ensures read_before_refusal { result.status ≡ 2 →
+        ((fault : Fault) → ¬ AreRefused (map string_bytes words.now) fault) → IsAtEnd (R.remaining reader.new) }
     ensures read { IsAnswer result.status ⊎ ((result.status ≡ 4) × (result.input_failed ≡ false)) →
         IsAtEnd (R.remaining reader.new) }
     ensures done { IsAnswer result.status → IsTrue result.fault_told }
@@ -87,7 +89,7 @@ fn answer<R: Read, W: Write>(
     ensures ok { IfOk result IsAnswer }
     ensures read { OnOk result (IsAtEnd (R.remaining reader.new)) }
     ensures err { IfErr result (λ fault. AreRefused (map string_bytes words.now) fault
-        ⊎ IsInputRefused (map string_bytes words.now) (R.remaining reader.old) fault
+        ⊎ (IsInputRefused (map string_bytes words.now) (R.remaining reader.old) fault × IsAtEnd (R.remaining reader.new))
         ⊎ (fault ≡ OutOfMemory) ⊎ (fault ≡ InputFailed)
         ⊎ ((fault ≡ OutputFailed) × IsAtEnd (R.remaining reader.new))) }
     ensures nothing { IfErr result (λ fault. (fault ≡ OutputFailed)

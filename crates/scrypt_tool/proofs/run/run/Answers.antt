@@ -1,5 +1,5 @@
 use Rattle.std.proofs.Common.{inr}
-use Rattle.scrypt_tool.proofs.OutcomeFacts.{answer_fault, answer_line, answer_status, end_fault, end_status, refused_end}
+use Rattle.scrypt_tool.proofs.OutcomeFacts.{answer_fault, answer_line, answer_status, end_fault, end_status, read_before_refusal, refused_end}
 use Rattle.scrypt_tool.proofs.run.run.Goals as goal
 
 pub returns-in-Ok-clause-status : goal.returns-in-Ok-clause-status
@@ -24,3 +24,7 @@ returns-in-Err-clause-refused g c =
 
 pub returns-in-Err-clause-unread : goal.returns-in-Err-clause-unread
 returns-in-Err-clause-unread g c = λ fault h. (c.in-Err.ensures.refused fault h).1
+
+pub returns-in-Err-clause-read_before_refusal : goal.returns-in-Err-clause-read_before_refusal
+returns-in-Err-clause-read_before_refusal g c =
+    λ two none. read_before_refusal _ _ _ _ _ c.end.ensures.status c.in-Err.ensures.err two none
