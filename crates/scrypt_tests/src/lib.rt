@@ -29,4 +29,6 @@ mod romix;
 #[cfg(test)]
 mod texts;
 #[cfg(test)]
+mod thin;
+#[cfg(test)]
 mod vectors;
