@@ -4,6 +4,7 @@ use crate::vectors::{
     DIGEST_OF_65, LONG_PASSWORD_KEY, RFC_KEY_1, RFC_KEY_2, RFC_KEY_3, SHORT_PASSWORD_KEY,
 };
 use hex::{FromHex, encode};
+use scrypt::laws::{shorter_key_is_prefix, zero_byte_and_digest_passwords_collide};
 use scrypt::{DeriveError, Params, output_len_ok, scrypt};
 use std::alloc::Global;
 use std::test::Fail;
@@ -38,12 +39,12 @@ fn rfc_7914_keys(rt: HostRuntime) -> Result<(), Fail> {
 fn shorter_keys_are_prefixes(rt: HostRuntime) -> Result<(), Fail> {
     let params = Params::new(4, 1, 1)?;
     let whole = <[u8; 64]>::from_hex(RFC_KEY_1)?;
+    shorter_key_is_prefix();
     for len in [1, 32, 33, 64] {
         let mut output = [0u8; 64];
-        if let Some(key) = output.get_mut(..len) {
-            scrypt(rt.alloc(), b"", b"", &params, key)?;
-            assert_eq!(rt; Some(&*key), whole.get(..len), "with {len} bytes");
-        }
+        let key = &mut output[..len];
+        scrypt(rt.alloc(), b"", b"", &params, key)?;
+        assert_eq!(rt; &*key, &whole[..len], "with {len} bytes");
     }
     Ok(())
 }
@@ -53,6 +54,7 @@ fn shorter_keys_are_prefixes(rt: HostRuntime) -> Result<(), Fail> {
 #[test]
 fn passwords_that_share_a_key(rt: HostRuntime) -> Result<(), Fail> {
     let alloc = rt.alloc();
+    zero_byte_and_digest_passwords_collide();
     let mut trailing_zero = [b'a'; 64];
     trailing_zero[63] = 0;
     let short = key_of(alloc, &[b'a'; 63], b"", (4, 1, 1))?;

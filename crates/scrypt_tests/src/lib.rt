@@ -31,4 +31,6 @@ mod texts;
 #[cfg(test)]
 mod thin;
 #[cfg(test)]
+mod traits;
+#[cfg(test)]
 mod vectors;

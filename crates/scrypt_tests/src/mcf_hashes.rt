@@ -5,8 +5,9 @@ use crate::vectors::{
     EMPTY_PASSWORD_HASH, LIBXCRYPT_HASH, LIBXCRYPT_SALT, LIBXCRYPT_SALT_LETTERS, PLAIN_SALT_HASH,
 };
 use hex::FromHex;
-use password_hash::mcf::Base64;
+use password_hash::mcf::{self, Base64};
 use password_hash::{CustomizedPasswordHasher, Error, PasswordHasher, PasswordVerifier};
+use scrypt::laws::made_hashes_are_accepted;
 use scrypt::mcf::{PasswordHash, PasswordHashRef};
 use scrypt::{Params, Scrypt};
 use std::alloc::Global;
@@ -174,6 +175,7 @@ fn plain_text_as_salt(rt: HostRuntime) -> Result<(), Fail> {
 #[test]
 fn made_hashes(rt: HostRuntime) -> Result<(), Fail> {
     let alloc = rt.alloc();
+    made_hashes_are_accepted();
     let hasher = Scrypt::new();
     let salt = <[u8; 16]>::from_hex(LIBXCRYPT_SALT)?;
     let made: PasswordHash = hasher.hash_password_with_params(
@@ -255,4 +257,76 @@ fn refusals_of_hashing_in_order(rt: HostRuntime) -> Result<(), Fail> {
         assert_eq!(rt; made, Err(refused), "{reason}");
     }
     Ok(())
+}
+
+// The costs are small and the salt is good, so nothing but the names can be refused.
+#[test]
+fn names_of_the_algorithm(rt: HostRuntime) -> Result<(), Fail> {
+    let alloc = rt.alloc();
+    for (alg_id, version, refused, reason) in [
+        (
+            Some("argon2id"),
+            None,
+            Error::Algorithm,
+            "another algorithm",
+        ),
+        (
+            Some("scrypt"),
+            None,
+            Error::Algorithm,
+            "the identifier of PHC hashes",
+        ),
+        (
+            Some("7.a"),
+            None,
+            Error::Algorithm,
+            "the identifier and more",
+        ),
+        (
+            Some("7"),
+            Some(7),
+            Error::Version,
+            "no version is supported",
+        ),
+        (None, Some(0), Error::Version, "nor is version 0"),
+    ] {
+        let made: Result<PasswordHash, Error> = Scrypt::new().hash_password_customized(
+            alloc,
+            b"",
+            b"",
+            alg_id,
+            version,
+            Params::new(4, 1, 1)?,
+        );
+        assert_eq!(rt; made, Err(refused), "{reason}");
+    }
+    for alg_id in [Some("7"), None] {
+        let made: PasswordHash = Scrypt::new().hash_password_customized(
+            alloc,
+            b"",
+            b"",
+            alg_id,
+            None,
+            Params::new(4, 1, 1)?,
+        )?;
+        assert_eq!(rt; made.as_str(), EMPTY_PASSWORD_HASH);
+    }
+    Ok(())
+}
+
+#[test]
+fn identifiers_without_a_dot(rt: HostRuntime) {
+    let alloc = rt.alloc();
+    for text in ["$7.a", "$.", "$7.$a"] {
+        assert!(rt; PasswordHashRef::new(text).is_err(), "borrowed {text}");
+        assert_eq!(rt;
+            PasswordHash::new(alloc, text),
+            Err(mcf::Error::EncodingInvalid),
+            "{text}"
+        );
+    }
+    assert_eq!(rt;
+        PasswordHash::from_id(alloc, "7.a"),
+        Err(mcf::Error::EncodingInvalid)
+    );
 }

@@ -83,6 +83,10 @@ fn equality_looks_at_the_length(rt: HostRuntime) -> Result<(), Fail> {
     assert_eq!(rt; bare, Params::RECOMMENDED);
     assert_eq!(rt; Params::default(), Params::RECOMMENDED);
     assert_eq!(rt; Scrypt::new(), Scrypt::from(bare));
+    assert_eq!(rt;
+        Scrypt::default(),
+        Scrypt::new_with_params(Params::RECOMMENDED)
+    );
     assert_ne!(rt; Scrypt::default(), Scrypt::new_with_params(sized));
     Ok(())
 }

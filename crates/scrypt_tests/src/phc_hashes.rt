@@ -4,6 +4,7 @@ use crate::texts::changed;
 use crate::vectors::{PASSLIB_HASH, RFC_KEY_3_HASH};
 use password_hash::phc::ParamsString;
 use password_hash::{CustomizedPasswordHasher, Error, PasswordHasher, PasswordVerifier};
+use scrypt::laws::made_hashes_are_accepted;
 use scrypt::phc::{ALG_ID, PasswordHash};
 use scrypt::{InvalidParams, Params, Scrypt};
 use std::alloc::{AllocError, Global};
@@ -122,6 +123,7 @@ fn changes_of_a_hash(rt: HostRuntime) -> Result<(), Fail> {
 #[test]
 fn made_hashes(rt: HostRuntime) -> Result<(), Fail> {
     let alloc = rt.alloc();
+    made_hashes_are_accepted();
     let hasher = Scrypt::new();
     let made: PasswordHash = hasher.hash_password_with_params(
         alloc,
@@ -186,6 +188,81 @@ fn refusals_of_hashing_in_order(rt: HostRuntime) -> Result<(), Fail> {
             alloc, b"", salt, alg_id, version, params,
         );
         assert_eq!(rt; made, Err(refused), "{reason}");
+    }
+    Ok(())
+}
+
+// The costs are small and the salt is good, so nothing but the names can be refused.
+#[test]
+fn names_of_the_algorithm(rt: HostRuntime) -> Result<(), Fail> {
+    let alloc = rt.alloc();
+    let params = Params::new(4, 1, 1)?;
+    let hasher = Scrypt::new();
+    for (alg_id, version, refused, reason) in [
+        (
+            Some("argon2id"),
+            None,
+            Error::Algorithm,
+            "another algorithm",
+        ),
+        (
+            Some("7"),
+            None,
+            Error::Algorithm,
+            "the identifier of `$7$` hashes",
+        ),
+        (
+            Some("scrypt"),
+            Some(1),
+            Error::Version,
+            "no version is supported",
+        ),
+        (None, Some(0), Error::Version, "nor is version 0"),
+    ] {
+        let made: Result<PasswordHash, Error> = hasher.hash_password_customized(
+            alloc, b"", b"salt", alg_id, version, params,
+        );
+        assert_eq!(rt; made, Err(refused), "{reason}");
+    }
+    let wanted: PasswordHash = hasher.hash_password_with_params(alloc, b"", b"salt", params)?;
+    for alg_id in [Some("scrypt"), None] {
+        let made: PasswordHash = hasher.hash_password_customized(
+            alloc, b"", b"salt", alg_id, None, params,
+        )?;
+        assert_eq!(rt; made, wanted);
+    }
+    Ok(())
+}
+
+#[test]
+fn salts_of_refused_lengths(rt: HostRuntime) -> Result<(), Fail> {
+    let params = Params::new(4, 1, 1)?;
+    for salt in [[].as_slice(), [0; 65].as_slice()] {
+        let made: Result<PasswordHash, Error> = Scrypt::new().hash_password_with_params(
+            rt.alloc(),
+            b"",
+            salt,
+            params,
+        );
+        assert_eq!(rt; made, Err(Error::SaltInvalid));
+    }
+    Ok(())
+}
+
+// PHC texts have no padding.
+#[test]
+fn padded_keys(rt: HostRuntime) -> Result<(), Fail> {
+    let alloc = rt.alloc();
+    for (text, unpadded, padded) in [
+        (PASSLIB_HASH, "iCs5E", "iCs5E="),
+        (RFC_KEY_3_HASH, "RdofI", "RdofI="),
+    ] {
+        assert!(rt; PasswordHash::new(text).is_ok());
+        let text = changed(alloc, text, unpadded, padded)?;
+        assert_eq!(rt;
+            PasswordHash::new(text.as_str()),
+            Err(Error::EncodingInvalid)
+        );
     }
     Ok(())
 }
@@ -260,6 +337,6 @@ fn enroll_and_log_in(alloc: Global, hasher: &Scrypt, password: &[u8]) -> Result<
 #[test]
 fn hash_print_read_verify(rt: HostRuntime) -> Result<(), Fail> {
     let hasher = Scrypt::default();
-    enroll_and_log_in(rt.alloc(), &hasher, b"hunter42")?;
+    assert!(rt; enroll_and_log_in(rt.alloc(), &hasher, b"hunter42").is_ok());
     Ok(())
 }
