@@ -25,10 +25,10 @@ CASES = 200
 MUTATIONS = "crates/scrypt_tests/src/phc_mutations.rt"
 
 # where the letters that this repository writes are pinned
-LETTERS = "crates/scrypt_tests/src/crypt_letters.rt"
+LETTERS = "crates/scrypt_tests/src/mcf_base64.rt"
 
 # where the `$7$` hashes of the tests stand
-HASHES = "crates/scrypt_tests/src/crypt_hashes.rt"
+HASHES = "crates/scrypt_tests/src/vectors.rt"
 
 
 def run(program, words, password):

@@ -55,12 +55,56 @@ def ro_mix(words, n):
     return words
 
 
+def chunks_of(password, salt, r, p):
+    """The p chunks of B as words (section 6, step 1)."""
+    size = 128 * r
+    b = hashlib.pbkdf2_hmac("sha256", password, salt, 1, p * size)
+    return [list(struct.unpack(f"<{size // 4}I", b[at : at + size])) for at in range(0, p * size, size)]
+
+
 def scrypt(password, salt, log_n, r, p, length):
     """scrypt (section 6)."""
-    size = 128 * r
-    chunks = hashlib.pbkdf2_hmac("sha256", password, salt, 1, p * size)
     mixed = b""
-    for at in range(0, p * size, size):
-        words = list(struct.unpack(f"<{size // 4}I", chunks[at : at + size]))
-        mixed += struct.pack(f"<{size // 4}I", *ro_mix(words, 1 << log_n))
+    for words in chunks_of(password, salt, r, p):
+        mixed += struct.pack(f"<{len(words)}I", *ro_mix(words, 1 << log_n))
     return hashlib.pbkdf2_hmac("sha256", password, mixed, 1, length)
+
+
+def thin_ro_mix(words, n, s):
+    """scryptROMix by a table of the rows whose numbers are multiples of 2^s, and its cores.
+
+    A row that the table lacks is mixed anew, from the row below it that the table has. Each block mix
+    adds its cores to the count.
+    """
+    cores = 0
+
+    def mix(row):
+        nonlocal cores
+        cores += len(row) // 16
+        return block_mix(row)
+
+    table = []
+    for i in range(n):
+        if i % (1 << s) == 0:
+            table.append(words)
+        words = mix(words)
+    for _ in range(n):
+        j = (words[-16] | words[-15] << 32) % n
+        row = table[j >> s]
+        for _ in range(j % (1 << s)):
+            row = mix(row)
+        words = mix(xor(words, row))
+    return words, cores
+
+
+def walk_rows(words, n):
+    """The numbers of the rows that the walk of one scryptROMix reads."""
+    table, rows = [], []
+    for _ in range(n):
+        table.append(words)
+        words = block_mix(words)
+    for _ in range(n):
+        j = (words[-16] | words[-15] << 32) % n
+        rows.append(j)
+        words = block_mix(xor(words, table[j]))
+    return rows

@@ -1,11 +1,9 @@
 // Derivation in memory that the caller lends.
 
+use crate::vectors::RFC_KEY_1;
 use hex::encode;
 use scrypt::{CoreCount, InvalidOutputLen, Params, scrypt_counted, scrypt_with_buffers};
 use std::test::Fail;
-
-const RFC_KEY_1: &str =
-    "77d6576238657b203b19ca42c18a0497f16b4844e3074ae8dfdffa3fede21442fcd0069ded0948f8326a753a0fc81f17e8d3e0fb2e0d3628cf35e20c38d18906";
 
 #[test]
 fn buffers_may_hold_anything(rt: HostRuntime) -> Result<(), Fail> {

@@ -1,6 +1,7 @@
 // The lanes: the diagonal order, the core and scryptBlockMix in it, and scryptROMix over them.
 
-use crate::parts::{CORE_INPUT, CORE_OUTPUT, words_of};
+use crate::primitives::words_of;
+use crate::vectors::{CORE_INPUT, CORE_OUTPUT};
 use scrypt::block_mix::lanes::{core, scrypt_block_mix, shuffle_in, shuffle_out};
 use scrypt::block_mix::pivot::{INVERSE_PIVOT_ABCD, PIVOT_ABCD, pivots_are_inverse};
 use scrypt::block_mix::plain;

@@ -5,24 +5,32 @@
 #[cfg(test)]
 mod buffers;
 #[cfg(test)]
-mod crypt_costs;
-#[cfg(test)]
-mod crypt_hashes;
-#[cfg(test)]
-mod crypt_letters;
-#[cfg(test)]
 mod derived_keys;
+#[cfg(test)]
+mod kdf;
 #[cfg(test)]
 mod lanes;
 #[cfg(test)]
-mod mixing;
+mod mcf_base64;
+#[cfg(test)]
+mod mcf_costs;
+#[cfg(test)]
+mod mcf_hashes;
 #[cfg(test)]
 mod parameters;
-#[cfg(test)]
-mod parts;
 #[cfg(test)]
 mod phc_hashes;
 #[cfg(test)]
 mod phc_mutations;
 #[cfg(test)]
-mod values;
+mod primitives;
+#[cfg(test)]
+mod romix;
+#[cfg(test)]
+mod texts;
+#[cfg(test)]
+mod thin;
+#[cfg(test)]
+mod traits;
+#[cfg(test)]
+mod vectors;

@@ -1,17 +1,16 @@
 // PHC hashes: made, printed, read and verified.
 
+use crate::texts::changed;
+use crate::vectors::{PASSLIB_HASH, RFC_KEY_3_HASH};
 use password_hash::phc::ParamsString;
 use password_hash::{CustomizedPasswordHasher, Error, PasswordHasher, PasswordVerifier};
+use scrypt::laws::made_hashes_are_accepted;
 use scrypt::phc::{ALG_ID, PasswordHash};
 use scrypt::{InvalidParams, Params, Scrypt};
 use std::alloc::{AllocError, Global};
 use std::test::Fail;
 
-// made by passlib of the password `password`
-const PASSLIB_HASH: &str =
-    "$scrypt$ln=16,r=8,p=1$aM15713r3Xsvxbi31lqr1Q$nFNh2CVHVjNldFVKDHDlm4CbdRSCdEBsjjJxD+iCs5E";
-
-// What verifying the text with this password comes to.
+// The verdict on this password.
 fn verdict(alloc: Global, text: &str, password: &[u8]) -> Result<(), Error> {
     let hash = PasswordHash::new(text)?;
     Scrypt::new().verify_password(alloc, password, &hash)
@@ -26,75 +25,105 @@ fn hash_from_passlib(rt: HostRuntime) {
     );
 }
 
-// Texts near that hash, and what verifying `password` against each comes to.
-const CHANGES: [(&str, Result<(), Error>); 14] = [
-    // Missing costs are the recommended ones, so `ln=16` alone is the same hash.
+// Changes of that hash, each with its reason and the verdict on `password`.
+const CHANGES: [(&str, &str, &str, Result<(), Error>); 13] = [
     (
-        "$scrypt$ln=16$aM15713r3Xsvxbi31lqr1Q$nFNh2CVHVjNldFVKDHDlm4CbdRSCdEBsjjJxD+iCs5E",
+        ",r=8,p=1",
+        "",
+        "missing costs are the recommended ones",
         Ok(()),
     ),
     (
-        "$scrypt$p=1,r=8,ln=16$aM15713r3Xsvxbi31lqr1Q$nFNh2CVHVjNldFVKDHDlm4CbdRSCdEBsjjJxD+iCs5E",
+        "ln=16,r=8,p=1",
+        "p=1,r=8,ln=16",
+        "costs come in any order",
         Ok(()),
     ),
     (
-        "$scrypt$ln=16,r=8,p=1$aM15713r3Xsvxbi31lqr1Q$nFNh2CVHVjNldFVKDHDlm4CbdRSCdEBsjjJxD+iCs5F",
+        "s5E",
+        "s5F",
+        "spare bits of the key are set",
         Err(Error::EncodingInvalid),
     ),
     (
-        "$scrypt$v=1$ln=16,r=8,p=1$aM15713r3Xsvxbi31lqr1Q$nFNh2CVHVjNldFVKDHDlm4CbdRSCdEBsjjJxD+iCs5E",
+        "$ln",
+        "$v=1$ln",
+        "no version is supported",
         Err(Error::Version),
     ),
     (
-        "$scrypt$ln=256,r=8,p=1$aM15713r3Xsvxbi31lqr1Q$nFNh2CVHVjNldFVKDHDlm4CbdRSCdEBsjjJxD+iCs5E",
+        "ln=16",
+        "ln=256",
+        "log_n is above 255",
         Err(Error::ParamInvalid { name: "ln" }),
     ),
     (
-        "$scrypt$ln=016,r=8,p=1$aM15713r3Xsvxbi31lqr1Q$nFNh2CVHVjNldFVKDHDlm4CbdRSCdEBsjjJxD+iCs5E",
+        "ln=16",
+        "ln=016",
+        "log_n begins with 0",
         Err(Error::ParamInvalid { name: "ln" }),
     ),
     (
-        "$scrypt$ln=16,r=4294967296,p=1$aM15713r3Xsvxbi31lqr1Q$nFNh2CVHVjNldFVKDHDlm4CbdRSCdEBsjjJxD+iCs5E",
+        "r=8",
+        "r=4294967296",
+        "r is 2^32",
         Err(Error::ParamInvalid { name: "r" }),
     ),
     (
-        "$scrypt$ln=16,r=8,p=1,x=1$aM15713r3Xsvxbi31lqr1Q$nFNh2CVHVjNldFVKDHDlm4CbdRSCdEBsjjJxD+iCs5E",
+        "p=1",
+        "p=1,x=1",
+        "x is not a cost",
         Err(Error::ParamsInvalid),
     ),
+    ("ln=16", "ln=57", "N * r is 2^60", Err(Error::ParamsInvalid)),
+    ("r=8", "r=0", "r is 0", Err(Error::ParamsInvalid)),
     (
-        "$scrypt$ln=57,r=8,p=1$aM15713r3Xsvxbi31lqr1Q$nFNh2CVHVjNldFVKDHDlm4CbdRSCdEBsjjJxD+iCs5E",
-        Err(Error::ParamsInvalid),
-    ),
-    (
-        "$scrypt$ln=16,r=0,p=1$aM15713r3Xsvxbi31lqr1Q$nFNh2CVHVjNldFVKDHDlm4CbdRSCdEBsjjJxD+iCs5E",
-        Err(Error::ParamsInvalid),
-    ),
-    (
-        "$argon2id$ln=16,r=8,p=1$aM15713r3Xsvxbi31lqr1Q$nFNh2CVHVjNldFVKDHDlm4CbdRSCdEBsjjJxD+iCs5E",
+        "$scrypt",
+        "$argon2id",
+        "another algorithm",
         Err(Error::Algorithm),
     ),
+    (KEY_PART, "", "no key", Err(Error::PasswordInvalid)),
     (
-        "$scrypt$ln=16,r=8,p=1$aM15713r3Xsvxbi31lqr1Q",
+        SALT_AND_KEY_PARTS,
+        "",
+        "neither salt nor key",
         Err(Error::PasswordInvalid),
-    ),
-    ("$scrypt$ln=16,r=8,p=1", Err(Error::PasswordInvalid)),
-    // Its table would have 2^63 bytes.
-    (
-        "$scrypt$ln=56,r=1,p=1$aA$AAAAAAAAAAAAAA",
-        Err(Error::OutOfMemory),
     ),
 ];
 
+const KEY_PART: &str = "$nFNh2CVHVjNldFVKDHDlm4CbdRSCdEBsjjJxD+iCs5E";
+
+const SALT_AND_KEY_PARTS: &str =
+    "$aM15713r3Xsvxbi31lqr1Q$nFNh2CVHVjNldFVKDHDlm4CbdRSCdEBsjjJxD+iCs5E";
+
 #[test]
-fn changes_of_a_hash(rt: HostRuntime) {
-    for (text, answer) in CHANGES {
-        assert_eq!(rt; verdict(rt.alloc(), text, b"password"), answer, "{text}");
+fn changes_of_a_hash(rt: HostRuntime) -> Result<(), Fail> {
+    let alloc = rt.alloc();
+    for (old, new, reason, answer) in CHANGES {
+        let text = changed(alloc, PASSLIB_HASH, old, new)?;
+        assert_eq!(rt;
+            verdict(alloc, text.as_str(), b"password"),
+            answer,
+            "{reason}"
+        );
     }
+    // The table would have 2^63 bytes.
+    assert_eq!(rt;
+        verdict(
+            alloc,
+            "$scrypt$ln=56,r=1,p=1$aA$AAAAAAAAAAAAAA",
+            b"password"
+        ),
+        Err(Error::OutOfMemory)
+    );
+    Ok(())
 }
 
 #[test]
 fn made_hashes(rt: HostRuntime) -> Result<(), Fail> {
     let alloc = rt.alloc();
+    made_hashes_are_accepted();
     let hasher = Scrypt::new();
     let made: PasswordHash = hasher.hash_password_with_params(
         alloc,
@@ -103,10 +132,7 @@ fn made_hashes(rt: HostRuntime) -> Result<(), Fail> {
         Params::new(14, 8, 1)?,
     )?;
     let text = made.to_string(alloc)?;
-    assert_eq!(rt;
-        text.as_str(),
-        "$scrypt$ln=14,r=8,p=1$U29kaXVtQ2hsb3JpZGU$cCO9yzr9c0hGHAbNgf046/2o+7qQT44+qbVD9lRdofI"
-    );
+    assert_eq!(rt; text.as_str(), RFC_KEY_3_HASH);
     let short: PasswordHash = hasher.hash_password_with_params(
         alloc,
         b"pleaseletmein",
@@ -126,27 +152,122 @@ fn made_hashes(rt: HostRuntime) -> Result<(), Fail> {
 fn refusals_of_hashing_in_order(rt: HostRuntime) -> Result<(), Fail> {
     let alloc = rt.alloc();
     let params = Params::new(4, 1, 1)?;
-    for (alg_id, version, salt, refused) in [
+    for (alg_id, version, salt_len, refused, reason) in [
         (
             Some("argon2id"),
             Some(0),
-            [0u8; 65].as_slice(),
+            65,
             Error::Algorithm,
+            "the algorithm comes before the version",
         ),
-        (Some("scrypt"), Some(0), [0; 65].as_slice(), Error::Version),
-        (None, Some(0), b"salt".as_slice(), Error::Version),
-        (Some("scrypt"), None, [0; 65].as_slice(), Error::SaltInvalid),
-        (None, None, b"".as_slice(), Error::SaltInvalid),
+        (
+            Some("scrypt"),
+            Some(0),
+            65,
+            Error::Version,
+            "the version comes before the salt",
+        ),
+        (None, Some(0), 4, Error::Version, "no version is supported"),
+        (
+            Some("scrypt"),
+            None,
+            65,
+            Error::SaltInvalid,
+            "a salt has at most 64 bytes",
+        ),
+        (
+            None,
+            None,
+            0,
+            Error::SaltInvalid,
+            "a salt has at least one byte",
+        ),
     ] {
+        let salt = &[0u8; 65][..salt_len];
         let made: Result<PasswordHash, Error> = Scrypt::new().hash_password_customized(
             alloc, b"", salt, alg_id, version, params,
         );
-        assert_eq!(rt; made, Err(refused));
+        assert_eq!(rt; made, Err(refused), "{reason}");
     }
     Ok(())
 }
 
-// The costs of a hash, where it has some.
+// The costs are small and the salt is good, so nothing but the names can be refused.
+#[test]
+fn names_of_the_algorithm(rt: HostRuntime) -> Result<(), Fail> {
+    let alloc = rt.alloc();
+    let params = Params::new(4, 1, 1)?;
+    let hasher = Scrypt::new();
+    for (alg_id, version, refused, reason) in [
+        (
+            Some("argon2id"),
+            None,
+            Error::Algorithm,
+            "another algorithm",
+        ),
+        (
+            Some("7"),
+            None,
+            Error::Algorithm,
+            "the identifier of `$7$` hashes",
+        ),
+        (
+            Some("scrypt"),
+            Some(1),
+            Error::Version,
+            "no version is supported",
+        ),
+        (None, Some(0), Error::Version, "nor is version 0"),
+    ] {
+        let made: Result<PasswordHash, Error> = hasher.hash_password_customized(
+            alloc, b"", b"salt", alg_id, version, params,
+        );
+        assert_eq!(rt; made, Err(refused), "{reason}");
+    }
+    let wanted: PasswordHash = hasher.hash_password_with_params(alloc, b"", b"salt", params)?;
+    for alg_id in [Some("scrypt"), None] {
+        let made: PasswordHash = hasher.hash_password_customized(
+            alloc, b"", b"salt", alg_id, None, params,
+        )?;
+        assert_eq!(rt; made, wanted);
+    }
+    Ok(())
+}
+
+#[test]
+fn salts_of_refused_lengths(rt: HostRuntime) -> Result<(), Fail> {
+    let params = Params::new(4, 1, 1)?;
+    for salt in [[].as_slice(), [0; 65].as_slice()] {
+        let made: Result<PasswordHash, Error> = Scrypt::new().hash_password_with_params(
+            rt.alloc(),
+            b"",
+            salt,
+            params,
+        );
+        assert_eq!(rt; made, Err(Error::SaltInvalid));
+    }
+    Ok(())
+}
+
+// PHC texts have no padding.
+#[test]
+fn padded_keys(rt: HostRuntime) -> Result<(), Fail> {
+    let alloc = rt.alloc();
+    for (text, unpadded, padded) in [
+        (PASSLIB_HASH, "iCs5E", "iCs5E="),
+        (RFC_KEY_3_HASH, "RdofI", "RdofI="),
+    ] {
+        assert!(rt; PasswordHash::new(text).is_ok());
+        let text = changed(alloc, text, unpadded, padded)?;
+        assert_eq!(rt;
+            PasswordHash::new(text.as_str()),
+            Err(Error::EncodingInvalid)
+        );
+    }
+    Ok(())
+}
+
+// The costs of a hash, if it has some.
 fn costs_of(hash: &PasswordHash) -> Option<Params> {
     match Params::try_from(hash) {
         Ok(params) => Some(params),
@@ -154,7 +275,7 @@ fn costs_of(hash: &PasswordHash) -> Option<Params> {
     }
 }
 
-// The costs that parameters of a hash are read as.
+// The costs that these parameters of a hash encode, if any.
 fn read_costs(params: &ParamsString) -> Option<Params> {
     match Params::try_from(params) {
         Ok(params) => Some(params),
@@ -216,6 +337,6 @@ fn enroll_and_log_in(alloc: Global, hasher: &Scrypt, password: &[u8]) -> Result<
 #[test]
 fn hash_print_read_verify(rt: HostRuntime) -> Result<(), Fail> {
     let hasher = Scrypt::default();
-    enroll_and_log_in(rt.alloc(), &hasher, b"hunter42")?;
+    assert!(rt; enroll_and_log_in(rt.alloc(), &hasher, b"hunter42").is_ok());
     Ok(())
 }

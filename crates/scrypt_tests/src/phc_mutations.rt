@@ -1,5 +1,6 @@
 // Every text that is one character away from a good PHC text, read here and by plain Python.
 
+use crate::vectors::PASSLIB_HASH;
 use hex::encode;
 use scrypt::phc::PasswordHash;
 use sha2::{Digest, Sha256};
@@ -8,7 +9,7 @@ use std::str;
 use std::test::Fail;
 
 const TEXTS: [&str; 5] = [
-    "$scrypt$ln=16,r=8,p=1$aM15713r3Xsvxbi31lqr1Q$nFNh2CVHVjNldFVKDHDlm4CbdRSCdEBsjjJxD+iCs5E",
+    PASSLIB_HASH,
     "$scrypt$v=1$ln=1$aA$AAAAAAAAAAAAAA",
     "$a-1$v=4294967295$x=/+.-,y=0$aGk",
     "$scrypt$v=0$ln=4,r=1,p=1",

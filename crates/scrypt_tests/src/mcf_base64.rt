@@ -1,4 +1,4 @@
-// The letters of byte strings in crypt Base64, written here and by plain Python.
+// The letters of byte strings in crypt Base64, by this library and by plain Python.
 
 use hex::encode;
 use password_hash::mcf::Base64;
@@ -10,7 +10,7 @@ use std::test::Fail;
 const STRINGS: u32 = 1000;
 
 // By `ci/crypt64.py`: the SHA-256 digest of the letters of every byte string of up to two bytes and of
-// the generator's, 66793 strings, a newline behind each.
+// the generator's, 66793 strings, a newline after each.
 const LETTERS: &str = "d92993ce7ec941bde418da239fefa69757d286dfda69298a4836c5ee535201b4";
 
 // The generator's next byte: the highest of the eight bytes that are its state.

@@ -19,15 +19,15 @@ fn numbers_of_five_letters(rt: HostRuntime) {
         assert_eq!(rt; decode64_uint32(letters), Ok(number));
     }
     // Above 2^30 the number is taken modulo 2^30.
-    let mut out = [0; 5];
-    assert_eq!(rt; encode64_uint32(&mut out, 1_073_741_824), Ok(()));
-    assert_eq!(rt; out, *b".....");
-    assert_eq!(rt; encode64_uint32(&mut out, u32::MAX), Ok(()));
-    assert_eq!(rt; out, *b"zzzzz");
+    for (number, letters) in [(1_073_741_824, b"....."), (u32::MAX, b"zzzzz")] {
+        let mut out = [0; 5];
+        assert_eq!(rt; encode64_uint32(&mut out, number), Ok(()));
+        assert_eq!(rt; out, *letters);
+    }
 }
 
 #[test]
-fn places_behind_five_letters(rt: HostRuntime) {
+fn places_after_five_letters(rt: HostRuntime) {
     let mut out = *b"-------";
     assert_eq!(rt; encode64_uint32(&mut out, 32), Ok(()));
     assert_eq!(rt; out, *b"U....--");
@@ -38,16 +38,22 @@ fn places_behind_five_letters(rt: HostRuntime) {
     );
     assert_eq!(rt; short, *b"----");
     assert_eq!(rt; decode64_uint32(b"U....$$"), Ok(32));
-    for letters in ["", "U...", "U..-.", "*....", "U...\u{e9}"] {
+    for (letters, reason) in [
+        ("", "no letter"),
+        ("U...", "four letters"),
+        ("U..-.", "the fourth is outside the alphabet"),
+        ("*....", "the first is outside the alphabet"),
+        ("U...\u{e9}", "the last is not ASCII"),
+    ] {
         assert_eq!(rt;
             decode64_uint32(letters.as_bytes()),
             Err(Error::EncodingInvalid),
-            "at {letters}"
+            "{reason}"
         );
     }
 }
 
-// Texts with the costs that they say, and the salt behind them.
+// Texts, the costs that they encode, and the salt after them.
 const ACCEPTED: [(&str, (u8, u32, u32), &str); 5] = [
     (
         "CU..../....Mq4YHD2syxYT.MsH1Ek0n1",
@@ -60,23 +66,47 @@ const ACCEPTED: [(&str, (u8, u32, u32), &str); 5] = [
     ("C6..../....s\u{e9}l $", (14, 8, 1), "s\u{e9}l $"),
 ];
 
-const REFUSED: [(&str, Error); 13] = [
-    ("", Error::EncodingInvalid),
-    ("C", Error::EncodingInvalid),
-    ("*U...", Error::EncodingInvalid),
-    ("CU..../...", Error::EncodingInvalid),
-    ("\u{e9}U..../....", Error::EncodingInvalid),
-    ("CU...\u{e9}/....", Error::EncodingInvalid),
-    ("*U..../...*", Error::EncodingInvalid),
-    ("*U..../....", Error::ParamsInvalid),
-    ("\u{7f}U..../....", Error::ParamsInvalid),
-    ("C...../....", Error::ParamsInvalid),
-    ("2U....zzzzz", Error::ParamsInvalid),
-    ("t/..../....", Error::ParamsInvalid),
-    ("zzzzzzzzzzz", Error::ParamsInvalid),
+const REFUSED: [(&str, Error, &str); 13] = [
+    ("", Error::EncodingInvalid, "no letter"),
+    ("C", Error::EncodingInvalid, "log_n alone"),
+    ("*U...", Error::EncodingInvalid, "r has four letters"),
+    ("CU..../...", Error::EncodingInvalid, "p has four letters"),
+    (
+        "\u{e9}U..../....",
+        Error::EncodingInvalid,
+        "log_n is not ASCII",
+    ),
+    (
+        "CU...\u{e9}/....",
+        Error::EncodingInvalid,
+        "r ends in a letter that is not ASCII",
+    ),
+    (
+        "*U..../...*",
+        Error::EncodingInvalid,
+        "p is refused before log_n",
+    ),
+    (
+        "*U..../....",
+        Error::ParamsInvalid,
+        "log_n outside the alphabet reads as 255",
+    ),
+    (
+        "\u{7f}U..../....",
+        Error::ParamsInvalid,
+        "so does the last ASCII character",
+    ),
+    ("C...../....", Error::ParamsInvalid, "r is 0"),
+    ("2U....zzzzz", Error::ParamsInvalid, "r * p is above 2^30"),
+    ("t/..../....", Error::ParamsInvalid, "log_n is 57"),
+    (
+        "zzzzzzzzzzz",
+        Error::ParamsInvalid,
+        "each number is the greatest",
+    ),
 ];
 
-// What the text is refused by.
+// The error for the text, if it is refused.
 fn refusal(text: &str) -> Option<Error> {
     match decode_params_and_salt(text) {
         Ok(_) => None,
@@ -93,8 +123,8 @@ fn costs_and_salts(rt: HostRuntime) -> Result<(), Fail> {
         assert_eq!(rt; params, Params::new(log_n, r, p)?, "at {text}");
         assert_eq!(rt; salt, rest.as_bytes(), "at {text}");
     }
-    for (text, refused) in REFUSED {
-        assert_eq!(rt; refusal(text), Some(refused), "at {text}");
+    for (text, refused, reason) in REFUSED {
+        assert_eq!(rt; refusal(text), Some(refused), "{reason}");
     }
     Ok(())
 }

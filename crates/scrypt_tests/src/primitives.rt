@@ -1,17 +1,11 @@
 // HMAC, PBKDF2 and the Salsa20/8 core alone.
 
+use crate::vectors::{CORE_INPUT, CORE_OUTPUT, HMAC_BY_LONG_KEY, HMAC_OF_JEFE, PBKDF2_KEY};
 use hex::{FromHex, encode};
 use scrypt::hmac::hmac_sha256;
 use scrypt::pbkdf2::pbkdf2_one;
 use scrypt::{CoreCount, salsa};
 use std::test::Fail;
-
-// RFC 7914, section 8
-pub const CORE_INPUT: &str =
-    "7e879a214f3ec9867ca940e641718f26baee555b8c61c1b50df846116dcd3b1dee24f319df9b3d8514121e4b5ac5aa3276021d2909c74829edebc68db8b8c25e";
-
-pub const CORE_OUTPUT: &str =
-    "a41f859c6608cc993b81cacb020cef05044b2181a2fd337dfd7b1c6396682f29b4393168e3c9e6bcfe6bc5b7a06d96bae424cc102c91745c24ad673dc7618f81";
 
 /// The words of 64 bytes in hexadecimal.
 pub fn words_of(text: &str) -> Result<[u32; 16], Fail> {
@@ -26,34 +20,23 @@ pub fn words_of(text: &str) -> Result<[u32; 16], Fail> {
 #[test]
 fn hmac_vectors(rt: HostRuntime) -> Result<(), Fail> {
     let alloc = rt.alloc();
-    // RFC 4231, section 4.3, with the text cut in two
+    // The text may be cut in two.
     let jefe = hmac_sha256(b"Jefe", b"what do ya want ", b"for nothing?");
-    assert_eq!(rt;
-        encode(alloc, jefe)?.as_str(),
-        "5bdcc146bf60754e6a042426089575c75a003f089d2739839dec58b964ec3843"
-    );
-    // RFC 4231, section 4.7: a key of 131 bytes
+    assert_eq!(rt; encode(alloc, jefe)?.as_str(), HMAC_OF_JEFE);
     let long = hmac_sha256(
         &[0xaa; 131],
         b"Test Using Larger Than Block-Size Key - Hash Key First",
         b"",
     );
-    assert_eq!(rt;
-        encode(alloc, long)?.as_str(),
-        "60e431591ee0b67f0d8a26aacbf5b77f8e0bc6213728c5140546040f0ee37f54"
-    );
+    assert_eq!(rt; encode(alloc, long)?.as_str(), HMAC_BY_LONG_KEY);
     Ok(())
 }
 
 #[test]
 fn pbkdf2_vector(rt: HostRuntime) -> Result<(), Fail> {
-    // RFC 7914, section 11
     let mut out = [0u8; 64];
     pbkdf2_one(b"passwd", b"salt", &mut out);
-    assert_eq!(rt;
-        encode(rt.alloc(), out)?.as_str(),
-        "55ac046e56e3089fec1691c22544b605f94185216dde0465e68b9d57c20dacbc49ca9cccf179b645991664b39d77ef317c71b845b1e30bd509112041d3a19783"
-    );
+    assert_eq!(rt; encode(rt.alloc(), out)?.as_str(), PBKDF2_KEY);
     pbkdf2_one(b"passwd", b"salt", &mut []);
     Ok(())
 }

@@ -1,0 +1,332 @@
+// `$7$` hashes: made, read and verified.
+
+use crate::texts::changed;
+use crate::vectors::{
+    EMPTY_PASSWORD_HASH, LIBXCRYPT_HASH, LIBXCRYPT_SALT, LIBXCRYPT_SALT_LETTERS, PLAIN_SALT_HASH,
+};
+use hex::FromHex;
+use password_hash::mcf::{self, Base64};
+use password_hash::{CustomizedPasswordHasher, Error, PasswordHasher, PasswordVerifier};
+use scrypt::laws::made_hashes_are_accepted;
+use scrypt::mcf::{PasswordHash, PasswordHashRef};
+use scrypt::{Params, Scrypt};
+use std::alloc::Global;
+use std::test::Fail;
+
+// The verdict on this password, by the borrowed text and by the owned one alike.
+pub fn verdict(alloc: Global, text: &str, password: &[u8]) -> Result<Result<(), Error>, Fail> {
+    let scrypt = Scrypt::new();
+    let borrowed = match PasswordHashRef::new(text) {
+        Ok(hash) => scrypt.verify_password(alloc, password, &hash),
+        Err(_) => return Err("not a modular text".into()),
+    };
+    let owned = PasswordHash::new(alloc, text)?;
+    if scrypt.verify_password(alloc, password, &owned) != borrowed {
+        return Err("the two ways differ".into());
+    }
+    Ok(borrowed)
+}
+
+#[test]
+fn hash_from_libxcrypt(rt: HostRuntime) -> Result<(), Fail> {
+    let alloc = rt.alloc();
+    assert_eq!(rt; verdict(alloc, LIBXCRYPT_HASH, b"pleaseletmein")?, Ok(()));
+    assert_eq!(rt;
+        verdict(alloc, LIBXCRYPT_HASH, b"bogus")?,
+        Err(Error::PasswordInvalid)
+    );
+    Ok(())
+}
+
+// Changes of that hash, each with its reason and the verdict on `pleaseletmein`.
+const CHANGES: [(&str, &str, &str, Result<(), Error>); 9] = [
+    ("rw7", "rwD", "another key", Err(Error::PasswordInvalid)),
+    (
+        "rw7",
+        "rwE",
+        "spare bits of the key are set",
+        Err(Error::EncodingInvalid),
+    ),
+    (KEY_LETTERS, "", "the key is empty", Err(Error::OutputSize)),
+    (
+        "rw7",
+        "rw7$",
+        "a field after the key",
+        Err(Error::EncodingInvalid),
+    ),
+    (
+        KEY_FIELD,
+        "",
+        "no field for the key",
+        Err(Error::EncodingInvalid),
+    ),
+    ("$7$", "$8$", "another identifier", Err(Error::Algorithm)),
+    (
+        "$CU",
+        "$*U",
+        "log_n is outside the alphabet",
+        Err(Error::ParamsInvalid),
+    ),
+    ("CU", "t/", "log_n is 57", Err(Error::ParamsInvalid)),
+    (
+        LIBXCRYPT_SALT_LETTERS,
+        "",
+        "another salt",
+        Err(Error::PasswordInvalid),
+    ),
+];
+
+// The letters of the key, and its whole field.
+const KEY_LETTERS: &str = "JyHIxez0DOwm0r6.kAIohc8UFBOLU4xX8a1wGBpLrw7";
+
+const KEY_FIELD: &str = "$JyHIxez0DOwm0r6.kAIohc8UFBOLU4xX8a1wGBpLrw7";
+
+#[test]
+fn changes_of_a_hash(rt: HostRuntime) -> Result<(), Fail> {
+    let alloc = rt.alloc();
+    for (old, new, reason, answer) in CHANGES {
+        let text = changed(alloc, LIBXCRYPT_HASH, old, new)?;
+        assert_eq!(rt;
+            verdict(alloc, text.as_str(), b"pleaseletmein")?,
+            answer,
+            "{reason}"
+        );
+    }
+    Ok(())
+}
+
+// Changes of the hash of the empty password, each with its reason and the verdict on that password.
+const CHANGES_OF_THE_EMPTY_PASSWORD: [(&str, &str, &str, Result<(), Error>); 2] = [
+    ("$2", "$2", "the hash itself", Ok(())),
+    ("sI62", "sI62z", "a key of 33 bytes", Ok(())),
+];
+
+// Texts with a short key, each with its reason and the verdict on the empty password.
+const SHORT_TEXTS: [(&str, &str, Result<(), Error>); 12] = [
+    ("$7$2/..../....$r/", "a key of one byte", Ok(())),
+    (
+        "$7$2/..../....$s/",
+        "another key of one byte",
+        Err(Error::PasswordInvalid),
+    ),
+    ("$7", "no field", Err(Error::EncodingInvalid)),
+    ("$7$", "one empty field", Err(Error::EncodingInvalid)),
+    ("$7$$r/", "no costs", Err(Error::EncodingInvalid)),
+    (
+        "$7$\u{e9}/..../....$r/",
+        "log_n is not ASCII",
+        Err(Error::EncodingInvalid),
+    ),
+    (
+        "$7$*/..../....$r/",
+        "log_n is outside the alphabet",
+        Err(Error::ParamsInvalid),
+    ),
+    (
+        "$7$*/...$r/",
+        "r has four letters",
+        Err(Error::EncodingInvalid),
+    ),
+    (
+        "$7$t/..../....$r/",
+        "log_n is 57",
+        Err(Error::ParamsInvalid),
+    ),
+    (
+        "$7$t/..../....$$",
+        "the costs come before the key",
+        Err(Error::ParamsInvalid),
+    ),
+    (
+        "$7$2/..../....$$",
+        "the fields come before the key's length",
+        Err(Error::EncodingInvalid),
+    ),
+    (
+        "$7$s/..../....$r/",
+        "the table would have 2^63 bytes",
+        Err(Error::OutOfMemory),
+    ),
+];
+
+#[test]
+fn texts_of_the_empty_password(rt: HostRuntime) -> Result<(), Fail> {
+    let alloc = rt.alloc();
+    for (old, new, reason, answer) in CHANGES_OF_THE_EMPTY_PASSWORD {
+        let text = changed(alloc, EMPTY_PASSWORD_HASH, old, new)?;
+        assert_eq!(rt; verdict(alloc, text.as_str(), b"")?, answer, "{reason}");
+    }
+    for (text, reason, answer) in SHORT_TEXTS {
+        assert_eq!(rt; verdict(alloc, text, b"")?, answer, "{reason}");
+    }
+    Ok(())
+}
+
+// Other tools write the salt as a plain text; its bytes are the salt of the derivation.
+#[test]
+fn plain_text_as_salt(rt: HostRuntime) -> Result<(), Fail> {
+    assert_eq!(rt;
+        verdict(rt.alloc(), PLAIN_SALT_HASH, b"pleaseletmein")?,
+        Ok(())
+    );
+    Ok(())
+}
+
+#[test]
+fn made_hashes(rt: HostRuntime) -> Result<(), Fail> {
+    let alloc = rt.alloc();
+    made_hashes_are_accepted();
+    let hasher = Scrypt::new();
+    let salt = <[u8; 16]>::from_hex(LIBXCRYPT_SALT)?;
+    let made: PasswordHash = hasher.hash_password_with_params(
+        alloc,
+        b"pleaseletmein",
+        &salt,
+        Params::new(14, 32, 1)?,
+    )?;
+    assert_eq!(rt; made.as_str(), LIBXCRYPT_HASH);
+    let read = Base64::Crypt.decode_vec(alloc, LIBXCRYPT_SALT_LETTERS)?;
+    assert_eq!(rt; read.as_slice(), salt.as_slice());
+    assert_eq!(rt;
+        hasher.verify_password(alloc, b"pleaseletmein", &made.as_password_hash_ref()),
+        Ok(())
+    );
+    Ok(())
+}
+
+#[test]
+fn made_hashes_of_the_empty_password(rt: HostRuntime) -> Result<(), Fail> {
+    let alloc = rt.alloc();
+    let params = Params::new(4, 1, 1)?;
+    let by_params: PasswordHash = Scrypt::new().hash_password_with_params(alloc, b"", b"", params)?;
+    assert_eq!(rt; by_params.as_str(), EMPTY_PASSWORD_HASH);
+    let by_itself: PasswordHash = Scrypt::new_with_params(params).hash_password_with_salt(
+        alloc, b"", b"",
+    )?;
+    assert_eq!(rt; by_itself.as_str(), EMPTY_PASSWORD_HASH);
+    // The length in the parameters is ignored.
+    let sized = Params::new_with_output_len(4, 1, 1, 64)?;
+    let by_sized: PasswordHash = Scrypt::new().hash_password_with_params(alloc, b"", b"", sized)?;
+    assert_eq!(rt; by_sized.as_str(), EMPTY_PASSWORD_HASH);
+    Ok(())
+}
+
+#[test]
+fn drawn_salts(rt: HostRuntime) -> Result<(), Fail> {
+    let alloc = rt.alloc();
+    let hasher = Scrypt::new_with_params(Params::new(4, 8, 2)?);
+    let hash: PasswordHash = hasher.hash_password(alloc, b"hunter42", [0xff; 16])?;
+    assert!(rt;
+        hash.as_str()
+            .starts_with("$7$26....0....zzzzzzzzzzzzzzzzzzzzz1$")
+    );
+    assert_eq!(rt; verdict(alloc, hash.as_str(), b"hunter42")?, Ok(()));
+    assert_eq!(rt;
+        verdict(alloc, hash.as_str(), b"hunter43")?,
+        Err(Error::PasswordInvalid)
+    );
+    Ok(())
+}
+
+#[test]
+fn refusals_of_hashing_in_order(rt: HostRuntime) -> Result<(), Fail> {
+    let alloc = rt.alloc();
+    // Its table would have 2^63 bytes.
+    let large = Params::new(56, 1, 1)?;
+    for (alg_id, version, refused, reason) in [
+        (
+            Some("scrypt"),
+            Some(0),
+            Error::Algorithm,
+            "the algorithm comes before the version",
+        ),
+        (Some(""), None, Error::Algorithm, "an empty identifier"),
+        (
+            Some("7"),
+            Some(0),
+            Error::Version,
+            "the version comes before memory",
+        ),
+        (None, Some(0), Error::Version, "no version is supported"),
+        (Some("7"), None, Error::OutOfMemory, "its own identifier"),
+        (None, None, Error::OutOfMemory, "no identifier"),
+    ] {
+        let made: Result<PasswordHash, Error> = Scrypt::new().hash_password_customized(
+            alloc, b"", b"salt", alg_id, version, large,
+        );
+        assert_eq!(rt; made, Err(refused), "{reason}");
+    }
+    Ok(())
+}
+
+// The costs are small and the salt is good, so nothing but the names can be refused.
+#[test]
+fn names_of_the_algorithm(rt: HostRuntime) -> Result<(), Fail> {
+    let alloc = rt.alloc();
+    for (alg_id, version, refused, reason) in [
+        (
+            Some("argon2id"),
+            None,
+            Error::Algorithm,
+            "another algorithm",
+        ),
+        (
+            Some("scrypt"),
+            None,
+            Error::Algorithm,
+            "the identifier of PHC hashes",
+        ),
+        (
+            Some("7.a"),
+            None,
+            Error::Algorithm,
+            "the identifier and more",
+        ),
+        (
+            Some("7"),
+            Some(7),
+            Error::Version,
+            "no version is supported",
+        ),
+        (None, Some(0), Error::Version, "nor is version 0"),
+    ] {
+        let made: Result<PasswordHash, Error> = Scrypt::new().hash_password_customized(
+            alloc,
+            b"",
+            b"",
+            alg_id,
+            version,
+            Params::new(4, 1, 1)?,
+        );
+        assert_eq!(rt; made, Err(refused), "{reason}");
+    }
+    for alg_id in [Some("7"), None] {
+        let made: PasswordHash = Scrypt::new().hash_password_customized(
+            alloc,
+            b"",
+            b"",
+            alg_id,
+            None,
+            Params::new(4, 1, 1)?,
+        )?;
+        assert_eq!(rt; made.as_str(), EMPTY_PASSWORD_HASH);
+    }
+    Ok(())
+}
+
+#[test]
+fn identifiers_without_a_dot(rt: HostRuntime) {
+    let alloc = rt.alloc();
+    for text in ["$7.a", "$.", "$7.$a"] {
+        assert!(rt; PasswordHashRef::new(text).is_err(), "borrowed {text}");
+        assert_eq!(rt;
+            PasswordHash::new(alloc, text),
+            Err(mcf::Error::EncodingInvalid),
+            "{text}"
+        );
+    }
+    assert_eq!(rt;
+        PasswordHash::from_id(alloc, "7.a"),
+        Err(mcf::Error::EncodingInvalid)
+    );
+}

@@ -1,0 +1,97 @@
+// Vectors of the standards and of other implementations, in lines of 32 bytes.
+
+// RFC 7914, section 8: the Salsa20/8 core.
+pub const CORE_INPUT: &str = concat!(
+    "7e879a214f3ec9867ca940e641718f26baee555b8c61c1b50df846116dcd3b1d",
+    "ee24f319df9b3d8514121e4b5ac5aa3276021d2909c74829edebc68db8b8c25e",
+);
+
+pub const CORE_OUTPUT: &str = concat!(
+    "a41f859c6608cc993b81cacb020cef05044b2181a2fd337dfd7b1c6396682f29",
+    "b4393168e3c9e6bcfe6bc5b7a06d96bae424cc102c91745c24ad673dc7618f81",
+);
+
+// RFC 7914, section 10: scryptROMix at N = 16 and r = 1.
+pub const RO_MIX_INPUT: &str = concat!(
+    "f7ce0b653d2d72a4108cf5abe912ffdd777616dbbb27a70e8204f3ae2d0f6fad",
+    "89f68f4811d1e87bcc3bd7400a9ffd29094f0184639574f39ae5a1315217bcd7",
+    "894991447213bb226c25b54da86370fbcd984380374666bb8ffcb5bf40c254b0",
+    "67d27c51ce4ad5fed829c90b505a571b7f4d1cad6a523cda770e67bceaaf7e89",
+);
+
+pub const RO_MIX_OUTPUT: &str = concat!(
+    "79ccc193629debca047f0b70604bf6b62ce3dd4a9626e355fafc6198e6ea2b46",
+    "d58413673b99b029d665c357601fb426a0b2f4bba200ee9f0a43d19b571a9c71",
+    "ef1142e65d5a266fddca832ce59faa7cac0b9cf1be2bffca300d01ee387619c4",
+    "ae12fd4438f203a0e4e1c47ec314861f4e9087cb33396a6873e8f9d2539a4b8e",
+);
+
+// RFC 7914, section 11: PBKDF2 of `passwd` and `salt`, with one iteration.
+pub const PBKDF2_KEY: &str = concat!(
+    "55ac046e56e3089fec1691c22544b605f94185216dde0465e68b9d57c20dacbc",
+    "49ca9cccf179b645991664b39d77ef317c71b845b1e30bd509112041d3a19783",
+);
+
+// RFC 7914, section 12: the empty password and salt, at (4, 1, 1).
+pub const RFC_KEY_1: &str = concat!(
+    "77d6576238657b203b19ca42c18a0497f16b4844e3074ae8dfdffa3fede21442",
+    "fcd0069ded0948f8326a753a0fc81f17e8d3e0fb2e0d3628cf35e20c38d18906",
+);
+
+// RFC 7914, section 12: `password` and `NaCl`, at (10, 8, 16).
+pub const RFC_KEY_2: &str = concat!(
+    "fdbabe1c9d3472007856e7190d01e9fe7c6ad7cbc8237830e77376634b373162",
+    "2eaf30d92e22a3886ff109279d9830dac727afb94a83ee6d8360cbdfa2cc0640",
+);
+
+// RFC 7914, section 12: `pleaseletmein` and `SodiumChloride`, at (14, 8, 1).
+pub const RFC_KEY_3: &str = concat!(
+    "7023bdcb3afd7348461c06cd81fd38ebfda8fbba904f8e3ea9b543f6545da1f2",
+    "d5432955613f0fcf62d49705242a9af9e61e85dc0d651e40dfcf017b45575887",
+);
+
+// By Python's hashlib, with no salt and at (4, 1, 1): the key of 63 letters `a`.
+pub const SHORT_PASSWORD_KEY: &str = concat!(
+    "e0b4589da9a4cf4e793e11875539462f684da6803e2fde0adf948fa93a9c32e8",
+    "1533d6c645be8e8601897f56a43d65f8f308c01580c1e105acf997651748abe2",
+);
+
+// By Python's hashlib, with no salt and at (4, 1, 1): the key of 65 letters `a`.
+pub const LONG_PASSWORD_KEY: &str = concat!(
+    "b598f174427f4e2605a5a1db00567edeb7e6823f396b5993d1674c7ee89b6c53",
+    "b9208e51da405077e8e3f974dd756cc8ac8f49b8807d50488f9bd79b7f3dcfa8",
+);
+
+// The SHA-256 digest of 65 letters `a`.
+pub const DIGEST_OF_65: &str = "635361c48bb9eab14198e76ea8ab7f1a41685d6ad62aa9146d301d4f17eb0ae0";
+
+// RFC 4231, section 4.3: the key `Jefe`.
+pub const HMAC_OF_JEFE: &str = "5bdcc146bf60754e6a042426089575c75a003f089d2739839dec58b964ec3843";
+
+// RFC 4231, section 4.7: a key of 131 bytes.
+pub const HMAC_BY_LONG_KEY: &str =
+    "60e431591ee0b67f0d8a26aacbf5b77f8e0bc6213728c5140546040f0ee37f54";
+
+// By passlib, of the password `password`.
+pub const PASSLIB_HASH: &str =
+    "$scrypt$ln=16,r=8,p=1$aM15713r3Xsvxbi31lqr1Q$nFNh2CVHVjNldFVKDHDlm4CbdRSCdEBsjjJxD+iCs5E";
+
+// The third key of RFC 7914 as a PHC hash.
+pub const RFC_KEY_3_HASH: &str =
+    "$scrypt$ln=14,r=8,p=1$U29kaXVtQ2hsb3JpZGU$cCO9yzr9c0hGHAbNgf046/2o+7qQT44+qbVD9lRdofI";
+
+// By libxcrypt, of the password `pleaseletmein`.
+pub const LIBXCRYPT_HASH: &str =
+    "$7$CU..../....Mq4YHD2syxYT.MsH1Ek0n1$JyHIxez0DOwm0r6.kAIohc8UFBOLU4xX8a1wGBpLrw7";
+
+// The letters of its salt, and the bytes that they encode.
+pub const LIBXCRYPT_SALT_LETTERS: &str = "Mq4YHD2syxYT.MsH1Ek0n1";
+
+pub const LIBXCRYPT_SALT: &str = "986d90d343e07e4f7e00864f03040bf3";
+
+// By libxcrypt, of the password `pleaseletmein`; the salt is a text that other tools write.
+pub const PLAIN_SALT_HASH: &str =
+    "$7$C6..../....SodiumChloride$kBGj9fHznVYFQMEn/qDCfrDevf9YDtcDdKvEqHJLV8D";
+
+// Of the empty password and the empty salt; the key is the first half of RFC 7914's first.
+pub const EMPTY_PASSWORD_HASH: &str = "$7$2/..../....$rNxJWVHNv/mCNcgE/f6/L4zO6Fos5c2uTzhyzoisI62";
