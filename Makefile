@@ -5,8 +5,9 @@
 # And besides the gate:
 #   make wrong-bodies tries the rest of the edits that the prover must refuse
 #   make oracle compares the program with independent implementations on random input
-#   make bench  measures the library and the program against other implementations on this machine;
-#               other programs join by WORKERS="--worker NAME=PATH ..", which bench/bench.py describes
+#   make bench  measures the library and the program against other implementations on this machine.
+#               Other programs join by WORKERS="--worker NAME=PATH ..", as bench/bench.py describes,
+#               and WORKERS="--callgrind" counts instructions
 #   make compare-worker WORKER=PATH  compares 10,000 keys with those of such a program
 
 .PHONY: run test wrong-bodies oracle bench compare-worker kit
