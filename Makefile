@@ -5,9 +5,12 @@
 # And besides the gate:
 #   make wrong-bodies tries the rest of the edits that the prover must refuse
 #   make oracle compares the program with independent implementations on random input
-#   make bench  measures the program against other implementations on this machine
+#   make bench  measures the library and the program against other implementations on this machine.
+#               Other programs join by WORKERS="--worker NAME=PATH ..", as bench/bench.py describes,
+#               and WORKERS="--callgrind" counts instructions
+#   make compare-worker WORKER=PATH  compares 10,000 keys with those of such a program
 
-.PHONY: run test wrong-bodies oracle bench kit
+.PHONY: run test wrong-bodies oracle bench compare-worker kit
 
 run: kit
 	cd crates/scrypt_tool && rt run -- key 4 1 1 64 ""
@@ -24,8 +27,14 @@ oracle: kit
 	python3 ci/oracle.py crates/scrypt_tool/out/scrypt_tool
 
 bench: kit
+	cd crates/scrypt_c && rt lib > /dev/null
 	cd crates/scrypt_tool && rt run -- key 0 1 1 1 "" > /dev/null < /dev/null
-	python3 bench/bench.py crates/scrypt_tool/out/scrypt_tool 15 docs/growth.svg
+	python3 bench/bench.py crates/scrypt_c/out/libscrypt_c.a crates/scrypt_tool/out/scrypt_tool \
+	  --picture docs/speed.svg $(WORKERS)
+
+compare-worker: kit
+	cd crates/scrypt_tool && rt run -- key 0 1 1 1 "" > /dev/null < /dev/null
+	python3 ci/compare_worker.py crates/scrypt_tool/out/scrypt_tool $(WORKER)
 
 kit:
 	@command -v rt > /dev/null || { \

@@ -1,146 +1,105 @@
 #!/usr/bin/env python3
-"""Measures the program against other implementations of scrypt on this machine.
+"""Compares this library and its program with other implementations of scrypt on this machine.
 
-usage: bench.py PROGRAM [RUNS [PICTURE]]
+usage: bench.py ARCHIVE PROGRAM [--worker NAME=PATH].. [--runs 15] [--cpu N] [--costs 14,8,1:17,8,1]
+                [--picture FILE] [--callgrind]
 
-For each cost the implementations take turns, and the least time of RUNS turns (15 if not given)
-counts. The start of the program's process, measured in the same way, is taken off its time. Printed
-are nanoseconds for a Salsa20/8 core, of which there are 4 * N * r * p, and in brackets the time in
-parts of hashlib's, which is OpenSSL's. Then the time of a core over log_n from 10 to 20, which shows
-that time grows with N; with PICTURE, it is drawn there as SVG.
+All libraries are called in one process: this one as libscrypt_c.a (ARCHIVE), which cc links into a
+shared library, libxcrypt, libsodium, libscrypt-kdf, and hashlib, which is OpenSSL's. What isn't
+installed is named and left out. Each round calls every one of them once, in a new random order, on
+one processor (--cpu, the last if not given); the least and the median of the rounds are printed as
+tables in Markdown. An implementation that is refused, or whose key isn't OpenSSL's, has no figure.
+
+Each call takes its table and gives it back, so the pages of memory that it touches for the first
+time are part of its time. Everything is measured twice, the second time with
+GLIBC_TUNABLES=glibc.malloc.hugetlb=1, which lets malloc ask for pages of 2 MiB in place of 4 KiB.
+What takes its table by mmap is not reached by that. The table of page faults shows which are.
+
+Then the program as a process, from its start to its end. With --picture, the time of a core over
+log_n is drawn as SVG. With --callgrind, valgrind counts the instructions of a core, and nothing is
+timed.
+
+Any other program joins by --worker. It is a process of its own, on the same processor, that reads
+lines and answers each of them by a line, at once:
+
+    LOG_N R P LENGTH PASSWORD SALT REPEATS      numbers, and bytes in hexadecimal (- for none)
+    ok NANOSECONDS NANOSECONDS KEY              the least wall time and processor time, and the key
+    err REASON                                  in place of that where it is refused
 """
 
-import ctypes
-import ctypes.util
-import hashlib
+import argparse
+import json
+import os
 import subprocess
 import sys
-import time
+import tempfile
 
-COSTS = [(14, 8, 1), (17, 8, 1), (14, 32, 1), (10, 8, 16)]
-PASSWORD, SALT, LENGTH = b"pleaseletmein", b"SodiumChloride", 64
+import instructions
+import picture
+import program
+import tables
+from libraries import shared
 
-
-def program_call(path):
-    def call(log_n, r, p):
-        words = [path, "key", str(log_n), str(r), str(p), str(LENGTH), SALT.hex()]
-        return bytes.fromhex(subprocess.check_output(words, input=PASSWORD).decode().strip())
-
-    return call
-
-
-def hashlib_call(log_n, r, p):
-    return hashlib.scrypt(
-        PASSWORD, salt=SALT, n=1 << log_n, r=r, p=p, dklen=LENGTH, maxmem=(1 << 31) - 1
-    )
+COSTS = "10,8,16:14,8,1:17,8,1:20,8,1:14,32,1"
+GROWTH = ":".join(f"{log_n},8,1" for log_n in (10, 12, 14, 15, 16, 17, 18, 20))
+HUGE_PAGES = {"GLIBC_TUNABLES": "glibc.malloc.hugetlb=1"}
+HERE = os.path.dirname(os.path.abspath(__file__))
 
 
-def library_call(name, function):
-    """A call of a C library in the form that Tarsnap's library and libsodium share."""
-    found = ctypes.util.find_library(name)
-    if not found:
-        return None
-    derive = getattr(ctypes.CDLL(found), function)
-    size, word, data = ctypes.c_size_t, ctypes.c_uint32, ctypes.c_char_p
-    derive.argtypes = [data, size, data, size, ctypes.c_uint64, word, word, data, size]
-
-    def call(log_n, r, p):
-        key = ctypes.create_string_buffer(LENGTH)
-        if derive(PASSWORD, len(PASSWORD), SALT, len(SALT), 1 << log_n, r, p, key, LENGTH):
-            sys.exit(f"{name} refused ({log_n}, {r}, {p})")
-        return key.raw
-
-    return call
+def command(library, runs, costs, workers):
+    """The command that measures these costs."""
+    script = os.path.join(HERE, "measure.py")
+    return [sys.executable, script, library, str(runs), costs, *workers]
 
 
-def timed(call, costs):
-    start = time.perf_counter()
-    key = call(*costs)
-    return time.perf_counter() - start, key
+def measured(library, args, costs, more=None):
+    """The figures at these costs, with `more` in the environment."""
+    words = command(library, args.runs, costs, args.worker)
+    return json.loads(subprocess.check_output(words, env=os.environ | (more or {})))
 
 
-def least_times(calls, costs, runs):
-    """The least time of each implementation, over turns that are taken one after another."""
-    least, keys = {}, set()
-    for _ in range(runs):
-        for name, call in calls.items():
-            seconds, key = timed(call, costs)
-            least[name] = min(seconds, least.get(name, seconds))
-            keys.add(key)
-    if len(keys) != 1:
-        sys.exit(f"the keys differ at {costs}")
-    return least
+def without_repeats(costs):
+    return ":".join(dict.fromkeys(costs.split(":")))
 
 
-def growth(calls, start, runs):
-    """Nanoseconds for a core of each implementation, by log_n from 10 to 20, at r = 8 and p = 1."""
-    rows = {}
-    for log_n in range(10, 21):
-        least = least_times(calls, (log_n, 8, 1), max(3, min(runs, 1 << (19 - min(log_n, 19)))))
-        least["this program"] -= start
-        rows[log_n] = {name: s / (32 << log_n) * 1e9 for name, s in least.items()}
-    return rows
+def compare(library, args):
+    """Measures and prints everything."""
+    whole = [args.costs, GROWTH] if args.picture else [args.costs]
+    pages = {"4 KiB": measured(library, args, without_repeats(":".join(whole)))}
+    if args.picture:
+        with open(args.picture, "w", encoding="utf-8") as file:
+            file.write(picture.drawn(pages["4 KiB"], GROWTH.split(":")))
+    if tables.has_huge_pages():
+        pages["2 MiB"] = measured(library, args, args.costs, HUGE_PAGES)
+    else:
+        print("this system has no huge pages: left out", file=sys.stderr)
+    tables.show(pages, args.costs.split(":"))
 
 
-def picture(rows):
-    """The rows as an SVG: log_n to the right, nanoseconds for a core upwards."""
-    width, height, left, top = 640, 360, 60, 24
-    greatest = max(max(row.values()) for row in rows.values()) * 1.1
-    x = lambda log_n: left + (log_n - 10) * (width - left - 20) / 10
-    y = lambda ns: height - 40 - ns / greatest * (height - 40 - top)
-    parts = [
-        f'<svg xmlns="http://www.w3.org/2000/svg" width="{width}" height="{height}" '
-        'font-family="sans-serif" font-size="12">',
-        f'<rect width="{width}" height="{height}" fill="white"/>',
-        f'<text x="{left}" y="16">nanoseconds for a Salsa20/8 core, r = 8, p = 1</text>',
-    ]
-    for ns in range(0, int(greatest) + 1, 20):
-        parts.append(f'<line x1="{left}" x2="{width - 20}" y1="{y(ns):.1f}" y2="{y(ns):.1f}" stroke="#ddd"/>')
-        parts.append(f'<text x="{left - 8}" y="{y(ns) + 4:.1f}" text-anchor="end">{ns}</text>')
-    for log_n in rows:
-        parts.append(f'<text x="{x(log_n):.1f}" y="{height - 20}" text-anchor="middle">{log_n}</text>')
-    parts.append(f'<text x="{width - 20}" y="{height - 6}" text-anchor="end">log_n</text>')
-    for i, name in enumerate(next(iter(rows.values()))):
-        colour = ["#c00", "#06c", "#080", "#a60"][i % 4]
-        points = " ".join(f"{x(log_n):.1f},{y(row[name]):.1f}" for log_n, row in rows.items())
-        parts.append(f'<polyline points="{points}" fill="none" stroke="{colour}" stroke-width="2"/>')
-        parts.append(f'<text x="{left + 12 + 140 * i}" y="{height - 46}" fill="{colour}">{name}</text>')
-    return "\n".join(parts + ["</svg>"]) + "\n"
+def arguments():
+    parser = argparse.ArgumentParser(usage=__doc__.split("usage: ")[1])
+    parser.add_argument("archive")
+    parser.add_argument("program")
+    parser.add_argument("--worker", action="append", default=[])
+    parser.add_argument("--runs", type=int, default=15)
+    parser.add_argument("--cpu", type=int, default=max(os.sched_getaffinity(0)))
+    parser.add_argument("--costs", default=COSTS)
+    parser.add_argument("--picture")
+    parser.add_argument("--callgrind", action="store_true")
+    return parser.parse_args()
 
 
 def main():
-    runs = int(sys.argv[2]) if len(sys.argv) > 2 else 15
-    ours = program_call(sys.argv[1])
-    start = min(timed(ours, (0, 1, 1))[0] for _ in range(max(runs, 15)))
-    calls = {"this program": ours, "hashlib": hashlib_call}
-    for name, function in [
-        ("sodium", "crypto_pwhash_scryptsalsa208sha256_ll"),
-        ("scrypt-kdf", "crypto_scrypt"),
-    ]:
-        call = library_call(name, function)
-        if call:
-            calls["lib" + name] = call
-        else:
-            print(f"lib{name} isn't installed: skipped")
-    print(f"least of {runs} turns; the start of a process takes {start * 1e3:.1f} ms")
-    print("| (log_n, r, p) | " + " | ".join(calls) + " |")
-    print("|---" * (len(calls) + 1) + "|")
-    for costs in COSTS:
-        log_n, r, p = costs
-        least = least_times(calls, costs, runs)
-        least["this program"] -= start
-        cores = 4 * (1 << log_n) * r * p
-        cells = [f"{s / cores * 1e9:.1f} ({s / least['hashlib']:.2f})" for s in least.values()]
-        print(f"| {costs} | " + " | ".join(cells) + " |", flush=True)
-    rows = growth(calls, start, runs)
-    print("\nnanoseconds for a core, at r = 8 and p = 1")
-    print("| log_n | " + " | ".join(calls) + " |")
-    print("|---" * (len(calls) + 1) + "|")
-    for log_n, row in rows.items():
-        print(f"| {log_n} | " + " | ".join(f"{ns:.1f}" for ns in row.values()) + " |")
-    if len(sys.argv) > 3:
-        with open(sys.argv[3], "w", encoding="utf-8") as file:
-            file.write(picture(rows))
+    args = arguments()
+    os.sched_setaffinity(0, {args.cpu})
+    with tempfile.TemporaryDirectory() as folder:
+        library = shared(args.archive, folder)
+        if args.callgrind:
+            instructions.show(lambda costs: command(library, 1, costs, []), args.worker)
+            return
+        print(tables.machine(args), flush=True)
+        compare(library, args)
+    program.show(args.program, args.costs.split(":"), args.runs)
 
 
 if __name__ == "__main__":

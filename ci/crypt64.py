@@ -27,6 +27,16 @@ def letters(data):
     return written
 
 
+def read(text):
+    """The bytes of letters."""
+    data = b""
+    for at in range(0, len(text), 4):
+        group = text[at : at + 4]
+        number = sum(ALPHABET.index(letter) * 64**place for place, letter in enumerate(group))
+        data += number.to_bytes(3, "little")[: len(group) - 1]
+    return data
+
+
 def costs(log_n, r, p):
     """What stands before the salt in a `$7$` text."""
     five = [ALPHABET[number // 64**place % 64] for number in (r, p) for place in range(5)]

@@ -1,0 +1,128 @@
+"""The implementations that are called in this process: libraries of C, by ctypes, and hashlib."""
+
+import ctypes
+import ctypes.util
+import hashlib
+import os
+import subprocess
+import sys
+import time
+
+from worker import Refused
+
+sys.path.insert(0, os.path.join(os.path.dirname(os.path.abspath(__file__)), "..", "ci"))
+import crypt64
+
+OURS, OPENSSL = "this library", "OpenSSL"
+
+SIZE, WORD, DATA = ctypes.c_size_t, ctypes.c_uint32, ctypes.c_char_p
+
+# how many bytes the structure crypt_data of crypt(3) has
+CRYPT_DATA = 32768
+
+
+class InProcess:
+    """An implementation that is called in this process."""
+
+    def __init__(self, name, call):
+        self.name, self.call, self.pid = name, call, os.getpid()
+
+    def derive(self, password, salt, costs, length):
+        """The nanoseconds that one call took, and its key."""
+        start = time.perf_counter_ns()
+        key = self.call(password, salt, *costs, length)
+        return time.perf_counter_ns() - start, key
+
+
+def shared(archive, folder):
+    """The static library as a shared one in `folder`, linked by cc with the kit's allocator."""
+    made = os.path.join(folder, "libscrypt_bench.so")
+    page = subprocess.check_output(["rt", "doc"], text=True).strip()
+    allocator = os.path.join(os.path.dirname(page), "c", "liblibc_c.a")
+    whole = ["-Wl,--whole-archive", archive, "-Wl,--no-whole-archive", allocator]
+    subprocess.run([os.environ.get("CC", "cc"), "-shared", "-o", made, *whole], check=True)
+    return made
+
+
+def filled(length, name, call):
+    """The bytes that `call` writes to a buffer of this length."""
+    key = ctypes.create_string_buffer(length)
+    status = call(key)
+    if status:
+        raise Refused(f"{name}: {status}")
+    return key.raw
+
+
+def ours(path):
+    """The library of this repository."""
+    derive = ctypes.CDLL(path).scrypt_kdf
+    derive.argtypes = [DATA, SIZE, DATA, SIZE, ctypes.c_uint8, WORD, WORD, DATA, SIZE]
+
+    def call(password, salt, log_n, r, p, length):
+        texts = password, len(password), salt, len(salt)
+        return filled(length, OURS, lambda key: derive(*texts, log_n, r, p, key, length))
+
+    return InProcess(OURS, call)
+
+
+def openssl():
+    """hashlib's scrypt, which is OpenSSL's."""
+
+    def call(password, salt, log_n, r, p, length):
+        room = (1 << 31) - 1
+        return hashlib.scrypt(password, salt=salt, n=1 << log_n, r=r, p=p, dklen=length, maxmem=room)
+
+    return InProcess(OPENSSL, call)
+
+
+def with_eight_words(library, name, function):
+    """A function of the form that libsodium and libscrypt-kdf share."""
+    derive = getattr(library, function)
+    derive.argtypes = [DATA, SIZE, DATA, SIZE, ctypes.c_uint64, WORD, WORD, DATA, SIZE]
+
+    def call(password, salt, log_n, r, p, length):
+        texts = password, len(password), salt, len(salt)
+        return filled(length, name, lambda key: derive(*texts, 1 << log_n, r, p, key, length))
+
+    return InProcess(name, call)
+
+
+def libsodium(library):
+    library.sodium_init()
+    return with_eight_words(library, "libsodium", "crypto_pwhash_scryptsalsa208sha256_ll")
+
+
+def libscrypt_kdf(library):
+    return with_eight_words(library, "libscrypt-kdf", "crypto_scrypt")
+
+
+def libxcrypt(library):
+    """crypt_r on a `$7$` setting: text passwords and salts alone, and keys of 32 bytes."""
+    library.crypt_r.argtypes = [DATA, DATA, ctypes.c_void_p]
+    library.crypt_r.restype = DATA
+
+    def call(password, salt, log_n, r, p, _length):
+        room = ctypes.create_string_buffer(CRYPT_DATA)
+        setting = crypt64.costs(log_n, r, p).encode() + salt + b"$"
+        text = library.crypt_r(password, setting, room)
+        if not text or not text.startswith(setting):
+            raise Refused("libxcrypt")
+        return crypt64.read(text[len(setting) :].decode())
+
+    return InProcess("libxcrypt", call)
+
+
+# the name by which the linker finds each library, and what makes an implementation of it
+FOUND = [("crypt", libxcrypt), ("sodium", libsodium), ("scrypt-kdf", libscrypt_kdf)]
+
+
+def libraries():
+    """Each library that is installed. One that is missing is named on standard error."""
+    made = []
+    for name, implementation in FOUND:
+        path = ctypes.util.find_library(name)
+        if path:
+            made.append(implementation(ctypes.CDLL(path)))
+        else:
+            print(f"lib{name} isn't installed: left out", file=sys.stderr)
+    return made

@@ -1,0 +1,98 @@
+#!/usr/bin/env python3
+"""Measures each implementation in one process, and prints the figures as JSON.
+
+usage: measure.py LIBRARY.so RUNS COSTS [NAME=WORKER..] [--only NAME]
+
+COSTS are those of each row, as 14,8,1:17,8,1. Each round calls every implementation once, in a new
+random order. bench.py starts this script, and says what a worker is.
+"""
+
+import argparse
+import json
+import random
+import statistics
+
+from libraries import OPENSSL, libraries, openssl, ours
+from worker import Refused, Worker
+
+PASSWORD, SALT, LENGTH = b"pleaseletmein", b"SodiumChloride", 64
+
+# The costs of some calls before the first that is timed. The C library maps a block of 16 MiB anew at
+# first, and hands the same block out again once it has seen it freed.
+WARM_UP, WARM_UPS = (14, 8, 1), 3
+
+
+def faults(pid):
+    """How many pages the process has touched for the first time, by proc(5)."""
+    with open(f"/proc/{pid}/stat", encoding="ascii", errors="replace") as stat:
+        return int(stat.read().rpartition(")")[2].split()[7])
+
+
+def derived(implementation, costs):
+    """The time of one call, its page faults and its key; none of them if it is refused."""
+    before = faults(implementation.pid)
+    try:
+        time, key = implementation.derive(PASSWORD, SALT, costs, LENGTH)
+    except (Refused, ValueError):
+        return None
+    return time, faults(implementation.pid) - before, key
+
+
+def figures(calls, key):
+    """What counts of some calls. An implementation whose key is another one has no figures."""
+    if None in calls or any(not key.startswith(one[2]) or len(one[2]) < 32 for one in calls):
+        return None
+    times = [one[0] for one in calls]
+    return {
+        "least": min(times),
+        "median": statistics.median(times),
+        "faults": statistics.median_low(one[1] for one in calls),
+    }
+
+
+def row(implementations, costs, runs):
+    """The figures of each implementation at these costs."""
+    calls = {it.name: [] for it in implementations}
+    for _ in range(runs):
+        for it in random.sample(implementations, len(implementations)):
+            calls[it.name].append(derived(it, costs))
+    key = reference(calls)
+    return {name: figures(made, key) for name, made in calls.items()}
+
+
+def reference(calls):
+    """The key that all have to answer: OpenSSL's, or that of the one that is measured alone."""
+    made = calls.get(OPENSSL) or next(iter(calls.values()))
+    return made[0][2] if made[0] else b""
+
+
+def everything(library, workers):
+    """This library, the workers, and what is installed here."""
+    named = [worker.split("=", 1) for worker in workers]
+    return [ours(library), *[Worker(*one) for one in named], *libraries(), openssl()]
+
+
+def costs_of(text):
+    return [tuple(int(number) for number in one.split(",")) for one in text.split(":")]
+
+
+def main():
+    parser = argparse.ArgumentParser()
+    for word in ("library", "runs", "costs"):
+        parser.add_argument(word)
+    parser.add_argument("workers", nargs="*")
+    parser.add_argument("--only")
+    args = parser.parse_args()
+    made = everything(args.library, args.workers)
+    if args.only:
+        made = [it for it in made if it.name == args.only]
+    for it in made * WARM_UPS:
+        derived(it, WARM_UP)
+    rows = {}
+    for costs in costs_of(args.costs):
+        rows[",".join(map(str, costs))] = row(made, costs, int(args.runs))
+    print(json.dumps(rows))
+
+
+if __name__ == "__main__":
+    main()

@@ -1,0 +1,83 @@
+"""The figures as tables in Markdown."""
+
+import datetime
+import os
+
+from libraries import OURS
+
+THP = "/sys/kernel/mm/transparent_hugepage/enabled"
+
+
+def has_huge_pages():
+    """Whether a process can ask for pages of 2 MiB."""
+    if not os.path.exists(THP):
+        return False
+    with open(THP, encoding="ascii") as file:
+        return "[never]" not in file.read()
+
+
+def machine(args):
+    """What was measured where, and how busy the machine was."""
+    with open("/proc/cpuinfo", encoding="ascii") as file:
+        models = [line.split(":")[1].strip() for line in file if line.startswith("model name")]
+    return (
+        f"{datetime.date.today()}, {models[0]} ({os.cpu_count()} processors, number {args.cpu} used), "
+        f"{args.runs} runs, load {os.getloadavg()[0]:.1f} at the start."
+    )
+
+
+def numbers(costs):
+    return [int(number) for number in costs.split(",")]
+
+
+def cores(costs):
+    """How many Salsa20/8 cores a key takes."""
+    log_n, r, p = numbers(costs)
+    return 4 * (1 << log_n) * r * p
+
+
+def label(costs):
+    return "(" + ", ".join(str(number) for number in numbers(costs)) + ")"
+
+
+def line(cells):
+    return "| " + " | ".join(cells) + " |"
+
+
+def head(cells):
+    return line(cells) + "\n" + "|---" * len(cells) + "|"
+
+
+def time_cell(name, row, costs, figure):
+    """Nanoseconds for a core, and in brackets the time of this library relative to it."""
+    if not row[name]:
+        return "no figure"
+    nanoseconds = f"{row[name][figure] / cores(costs):.1f}"
+    if name == OURS or not row[OURS]:
+        return nanoseconds
+    return f"{nanoseconds} ({row[OURS][figure] / row[name][figure]:.2f})"
+
+
+def fault_cell(name, row):
+    return f"{row[name]['faults']:,}" if row[name] else "no figure"
+
+
+def table(pages, costs, cell):
+    """A row for each kind of page and each of the costs, and a column for each implementation."""
+    names = list(pages["4 KiB"][costs[0]])
+    lines = [head(["pages", "(log_n, r, p)", *names])]
+    for kind, rows in pages.items():
+        for one in costs:
+            cells = [cell(name, rows[one], one) for name in names]
+            lines.append(line([kind, label(one), *cells]))
+    return "\n".join(lines)
+
+
+def show(pages, costs):
+    """Prints the least times, the medians, and the page faults."""
+    about = "nanoseconds for a Salsa20/8 core, and the time of this library relative to each"
+    for figure in ("least", "median"):
+        print(f"\nThe {figure} time: {about}\n")
+        print(table(pages, costs, lambda *of, kind=figure: time_cell(*of, kind)))
+    print("\nPage faults of one call\n")
+    print(table(pages, costs, lambda name, row, _costs: fault_cell(name, row)), flush=True)

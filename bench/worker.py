@@ -1,0 +1,29 @@
+"""An implementation in a process of its own, which bench.py describes."""
+
+import os
+import subprocess
+
+
+class Refused(Exception):
+    """An implementation answered with an error in place of a key."""
+
+
+class Worker:
+    """A process that derives a key for each line that it reads."""
+
+    def __init__(self, name, path):
+        self.name = name
+        self.process = subprocess.Popen(
+            [os.path.expanduser(path)], stdin=subprocess.PIPE, stdout=subprocess.PIPE, text=True, bufsize=1
+        )
+        self.pid = self.process.pid
+
+    def derive(self, password, salt, costs, length):
+        """The nanoseconds that one call took, and its key."""
+        numbers = " ".join(str(number) for number in (*costs, length))
+        texts = f"{password.hex() or '-'} {salt.hex() or '-'}"
+        self.process.stdin.write(f"{numbers} {texts} 1\n")
+        answer = self.process.stdout.readline().split()
+        if not answer or answer[0] != "ok":
+            raise Refused(f"{self.name}: {' '.join(answer) or 'no answer'}")
+        return int(answer[1]), bytes.fromhex("".join(answer[3:]))
