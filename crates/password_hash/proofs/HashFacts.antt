@@ -45,11 +45,11 @@ salt_and_key_lack c salts keys (Some salt) key hs hk =
     All-cons (Lacks c) (base64 salt) (key_part key) (salts salt hs) (key_lacks c keys key hk)
 
 dollar_lacks : (salt key : Option (List ℕ)) → IfSome salt IsSalt → IfSome key IsKey → All (Lacks 36) (salt_and_key_parts salt key)
-dollar_lacks = salt_and_key_lack 36 (λ bytes h. base64_lacks 36 refl bytes h.bytes) (λ bytes h. base64_lacks 36 refl bytes h.bytes)
+dollar_lacks = salt_and_key_lack 36 (λ bytes h. base64_lacks 36 refl bytes h.are_bytes) (λ bytes h. base64_lacks 36 refl bytes h.are_bytes)
 
 -- neither a salt nor a key has a `=`
 equals_lack : (salt key : Option (List ℕ)) → IfSome salt IsSalt → IfSome key IsKey → LackEquals (salt_and_key_parts salt key)
-equals_lack = salt_and_key_lack 61 (λ bytes h. base64_lacks 61 refl bytes h.bytes) (λ bytes h. base64_lacks 61 refl bytes h.bytes)
+equals_lack = salt_and_key_lack 61 (λ bytes h. base64_lacks 61 refl bytes h.are_bytes) (λ bytes h. base64_lacks 61 refl bytes h.are_bytes)
 
 -- no part of a hash has a `$`
 pub parts_lack : (text : List ℕ) (hash : PasswordHash) → IsHashText text hash → All (Lacks 36) (hash_parts hash)

@@ -1,4 +1,4 @@
-pub mod PaddedFacts
+pub mod StoredFacts
 pub mod LettersFacts
 pub mod PairsFacts
 pub mod ParamsFacts

@@ -57,7 +57,7 @@ same_key None (Some b) ha hb e = cc
 same_key (Some a) None ha hb e = cc
 same_key (Some a) (Some b) ha hb e =
     let letters : base64 a ≡ base64 b = cc in
-    ap (λ key. Some key) (base64_injective a b ha.bytes hb.bytes letters)
+    ap (λ key. Some key) (base64_injective a b ha.are_bytes hb.are_bytes letters)
 
 no_key : (key : Option (List ℕ)) → OnSome key (IsSome {T = List ℕ} None) → key ≡ None
 no_key None h = refl
@@ -70,7 +70,7 @@ same_salt_and_key (Some a) None k l ha hb hk hl ka lb e = cc
 same_salt_and_key (Some a) (Some b) k l ha hb hk hl ka lb e =
     let letters : base64 a ≡ base64 b = cc in
     let keys : key_part k ≡ key_part l = cc in
-    (ap (λ salt. Some salt) (base64_injective a b ha.bytes hb.bytes letters), same_key k l hk hl keys)
+    (ap (λ salt. Some salt) (base64_injective a b ha.are_bytes hb.are_bytes letters), same_key k l hk hl keys)
 
 -- two hashes with one text are one
 pub one_reading : (text : List ℕ) (a b : PasswordHash) → IsHashText text a → IsHashText text b → a ≡ b

@@ -167,7 +167,7 @@ salt_and_key_next part letters (Some salt) (Some key) h =
 pub salt_and_key_read : (parts : List (List ℕ)) (part letters salt key : List ℕ) → parts ≡ part ∷ slice_split (λ b. b == 36) letters → part ≡ base64 salt → IsSalt salt → letters ≡ base64 key → IsKey key → IsSaltAndKey parts (Some salt) (Some key)
 salt_and_key_read parts part letters salt key e is_salt salt_allowed is_key key_allowed =
     let alone : slice_split (λ b. b == 36) letters ≡ letters ∷ [] =
-    slice_split_none (λ b. b == 36) letters (rw is_key (base64_lacks 36 refl key key_allowed.bytes)) in
+    slice_split_none (λ b. b == 36) letters (rw is_key (base64_lacks 36 refl key key_allowed.are_bytes)) in
     record {
       whole = e ∙ rw (alone, is_salt, is_key) refl;
       salt_bytes = salt_allowed;

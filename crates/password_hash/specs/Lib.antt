@@ -1,5 +1,5 @@
 pub mod Refusal
-pub mod Padded
+pub mod Stored
 pub mod Letters
 pub mod Decimal
 pub mod Value

@@ -12,7 +12,7 @@ use std::{fmt, str};
 /// An identifier: 1 to 32 of the letters `a-z0-9-`.
 #[derive(Clone, Copy, Debug, PartialEq, Eq)]
 pub struct Ident {
-    bytes: ShortBytes<32>,
+    bytes: ShortBytes<1, 32>,
 }
 
 impl Model for Ident {
@@ -46,13 +46,10 @@ impl Ident {
         ensures value { IfOk result (λ ident. ident ≡ text.now) }
         ensures err { IfErr result (λ e. e ≡ EncodingInvalid) }
     {
-        let bytes = text.as_bytes();
-        if bytes.is_empty() || bytes.len() > 32 || !are_letters(bytes) {
-            return Err(Error::EncodingInvalid);
+        match ShortBytes::new(text.as_bytes()) {
+            Some(bytes) if are_letters(bytes.as_bytes()) => Ok(Ident { bytes }),
+            _ => Err(Error::EncodingInvalid),
         }
-        Ok(Ident {
-            bytes: ShortBytes::new(bytes),
-        })
     }
 
     /// The letters.

@@ -5,7 +5,7 @@ ghost use Rattle.std.specs.Prelude.{◌≡◌, ◌∷◌, ◌==◌, ℕ, List, O
 ghost use Rattle.std.specs.List.{slice_split};
 ghost use Rattle.password_hash.specs.Pairs.{ArePairs};
 ghost use Rattle.password_hash.specs.Parts.{IsVersion, LackEquals, LackVersion, Takes, TakesOnly, parts_left};
-ghost use Rattle.password_hash.specs.Phc.{IsKey, IsSalt, IsSaltAndKey, base64, params_part, version_part};
+ghost use Rattle.password_hash.specs.Phc.{IsSaltAndKey, params_part, version_part};
 
 use crate::Version;
 use crate::phc::encoding::decode;
@@ -68,35 +68,11 @@ pub(super) fn take_salt_and_key(left: Option<&str>) -> Option<(Option<Salt>, Opt
         return Some((None, None));
     };
     let (part, behind) = first_part(text);
-    let salt = salt(part)?;
+    let salt = decode(part)?;
     let Some(letters) = behind else {
-        return Some((Some(salt), None));
+        return Some((Some(Salt { bytes: salt }), None));
     };
-    // A `$` is none of the letters of a key, so that nothing stands behind it.
-    let key = key(letters)?;
-    Some((Some(salt), Some(key)))
-}
-
-/// The salt of these letters.
-fn salt(letters: &str) -> Option<Salt>
-    ensures found { IfSome result (λ salt. (letters.now ≡ base64 salt) × IsSalt salt) }
-    ensures only { (salt : List ℕ) → IsSalt salt → letters.now ≡ base64 salt → result ≡ Some salt }
-{
-    let bytes = decode(letters)?;
-    let Ok(salt) = Salt::new(bytes.as_bytes()) else {
-        return None;
-    };
-    Some(salt)
-}
-
-/// The key of these letters.
-fn key(letters: &str) -> Option<Output>
-    ensures found { IfSome result (λ key. (letters.now ≡ base64 key) × IsKey key) }
-    ensures only { (key : List ℕ) → IsKey key → letters.now ≡ base64 key → result ≡ Some key }
-{
-    let bytes = decode(letters)?;
-    let Ok(key) = Output::new(bytes.as_bytes()) else {
-        return None;
-    };
-    Some(key)
+    // A `$` is not a letter of Base64, so a key is the last part.
+    let key = decode(letters)?;
+    Some((Some(Salt { bytes: salt }), Some(Output { bytes: key })))
 }
