@@ -1,13 +1,14 @@
 pub mod StoredFacts
-pub mod LettersFacts
+pub mod IdentifierFacts
 pub mod PairsFacts
 pub mod ParamsFacts
 pub mod Base64Facts
 pub mod DecimalFacts
 pub mod PartsFacts
+pub mod PhcPartsFacts
 pub mod HashFacts
-pub mod LetterFacts
+pub mod AlphabetFacts
 pub mod Crypt64Facts
 pub mod GroupFacts
-pub mod ModularFacts
+pub mod McfFacts
 pub mod OneReading

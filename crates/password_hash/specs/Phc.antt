@@ -1,9 +1,10 @@
 -- A hash in the PHC string format.
-use Rattle.std.specs.Prelude.{◌≡◌, ℕ, ◌^◌, ◌<◌, ◌≤◌, List, [], ◌∷◌, ◌++◌, length, codes, decimal, flat_map, Option, None, Some, IfSome, OnSome, IsSome}
+use Rattle.std.specs.Prelude.{◌≡◌, ℕ, ◌^◌, ◌<◌, ◌≤◌, List, [], ◌∷◌, ◌++◌, length, codes, decimal, Option, None, Some, IfSome, OnSome, IsSome}
 use Rattle.base64.specs.Engines.{standard_no_pad}
 use Rattle.base64.specs.GeneralPurpose.{encode_of}
 use Rattle.password_hash.specs.Letters.{IsIdentifier}
 use Rattle.password_hash.specs.Pairs.{pairs_text, ArePairs}
+use Rattle.password_hash.specs.Parts.{parts_text}
 use Rattle.password_hash.specs.Stored.{AreBytesFromTo}
 use Rattle.password_hash.specs.declared.phc.hash.PasswordHash.{PasswordHash}
 
@@ -36,10 +37,6 @@ abbrev pub hash_parts : PasswordHash → List (List ℕ)
 hash_parts hash =
     hash.algorithm ∷ (version_part hash.version ++ (params_part hash.params
     ++ salt_and_key_parts hash.salt hash.hash))
-
--- the text of parts: each stands behind a `$`
-abbrev pub parts_text : List (List ℕ) → List ℕ
-parts_text parts = flat_map (λ part. codes "$" ++ part) parts
 
 -- the text of a hash
 abbrev pub hash_text : PasswordHash → List ℕ

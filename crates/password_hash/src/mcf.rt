@@ -1,4 +1,4 @@
-//! Modular texts of crypt(5), as `$7$..`, and the Base64 of their fields.
+//! MCF texts of crypt(5), as `$7$..`, and the Base64 of their fields.
 ghost use Rattle.std.specs.Prelude.{◌≡◌};
 ghost use Rattle.password_hash.specs.declared.mcf.Error.TheVariants.{OutOfMemory};
 
@@ -20,7 +20,7 @@ pub use hash::PasswordHash;
 pub use hash_ref::PasswordHashRef;
 use std::alloc::AllocError;
 
-/// Why a modular text or a field of one is refused.
+/// Why an MCF text or a field of one is refused.
 #[derive(Clone, Copy, Debug, PartialEq, Eq, thiserror::Error)]
 pub enum Error {
     /// The text is not of the form that is read.
@@ -31,7 +31,7 @@ pub enum Error {
     OutOfMemory,
 }
 
-/// What reads or writes modular texts returns.
+/// What reads or writes MCF texts returns.
 pub type Result<T> = std::result::Result<T, Error>;
 
 impl From<AllocError> for Error {

@@ -2,9 +2,10 @@
 use Rattle.std.proofs.Common.{◌≡◌, ℕ, List, [], ◌∷◌, length, Ok, Err, refl, sym, ap, ap₂, subst, ◌∙◌, ◌++◌}
 use Rattle.std.specs.Prelude.{IfOk, Result}
 use Rattle.password_hash.specs.Crypt64.{Crypt64, crypt64_of}
-use Rattle.password_hash.specs.Mcf.{Modular, behind_dollars}
+use Rattle.password_hash.specs.Mcf.{IsMcfText}
+use Rattle.password_hash.specs.Parts.{parts_text}
 use Rattle.password_hash.specs.Refusal.{Refusal}
-use Rattle.password_hash.proofs.ModularFacts.{Modular-one}
+use Rattle.password_hash.proofs.McfFacts.{IsMcfText-one}
 use Rattle.password_hash.proofs.OneReading.{Crypt64-one}
 use Rattle.scrypt.specs.Accepted.{Parameters}
 use Rattle.scrypt.specs.Derives.{key_by}
@@ -15,10 +16,10 @@ use Rattle.scrypt.specs.McfCosts.{SaysCosts, costs_letters, ReadsField, malforme
 use Rattle.scrypt.specs.McfHash.{HasCosts, IsHashText, TextIsRefused, other_id, no_field, bad_costs, no_key, bad_key, third_field, bad_key_len, Accepts, seven, IsMadeHash, made_len}
 
 -- a text has one id and one list of fields
-pub fields_once : {text id other : List ℕ} {fields others : List (List ℕ)} → Modular text id fields → Modular text other others → (id ≡ other) × (fields ≡ others)
+pub fields_once : {text id other : List ℕ} {fields others : List (List ℕ)} → IsMcfText text id fields → IsMcfText text other others → (id ≡ other) × (fields ≡ others)
 fields_once {text} {id} {other} {fields} {others} first second =
-    let a = Modular-one text id fields first in
-    let b = Modular-one text other others second in
+    let a = IsMcfText-one text id fields first in
+    let b = IsMcfText-one text other others second in
     (sym a.0 ∙ b.0, sym a.1 ∙ b.1)
 
 -- a field says one log_n, one r and one p
@@ -108,10 +109,10 @@ field_written {field} (accepted {log_n} {r} {p} says good) = field_is field log_
 
 -- a hash has one text
 pub text_of : {text : List ℕ} {c : Parameters} {salt key : List ℕ} → IsHashText text c salt key
-    → text ≡ behind_dollars (seven ∷ (costs_letters c.log_n c.r c.p ++ salt) ∷ crypt64_of key ∷ [])
+    → text ≡ parts_text (seven ∷ (costs_letters c.log_n c.r c.p ++ salt) ∷ crypt64_of key ∷ [])
 text_of h =
     h.has_costs.parts.written
-    ∙ ap₂ (λ field letters. behind_dollars (seven ∷ field ∷ letters ∷ [])) (field_written h.has_costs.costs) h.key_is.encoding
+    ∙ ap₂ (λ field letters. parts_text (seven ∷ field ∷ letters ∷ [])) (field_written h.has_costs.costs) h.key_is.encoding
 
 -- a made hash accepts its password
 pub made_accepted : (c : Parameters) (password salt text : List ℕ) → IsMadeHash c password salt text → Accepts password text

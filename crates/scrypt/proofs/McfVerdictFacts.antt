@@ -2,7 +2,7 @@
 use Rattle.std.proofs.Common.{◌≡◌, ◌⊎◌, List, ℕ, [], ◌∷◌, length, Some, Ok, Err, inl, inr, refl, sym, ap, subst, ◌∙◌}
 use Rattle.std.specs.Prelude.{Option}
 use Rattle.password_hash.specs.Crypt64.{Crypt64, IsCrypt64}
-use Rattle.password_hash.specs.Mcf.{Modular}
+use Rattle.password_hash.specs.Mcf.{IsMcfText}
 use Rattle.password_hash.specs.Refusal.{Refusal, BadAlgorithm, BadEncoding, BadOutputSize}
 use Rattle.scrypt.specs.Accepted.{IsOutputLen, Parameters}
 use Rattle.scrypt.specs.McfCosts.{ReadsField}
@@ -25,8 +25,8 @@ FieldsAreRefused (field ∷ behind) why =
 
 -- the reason that a text with the id `7` is refused for
 fields_refused : {text : List ℕ} {why : Refusal} → TextIsRefused text why
-    → ((why ≡ BadAlgorithm) × ((fields : List (List ℕ)) → ¬ Modular text seven fields))
-    ⊎ ((fields : List (List ℕ)) × Modular text seven fields × FieldsAreRefused fields why)
+    → ((why ≡ BadAlgorithm) × ((fields : List (List ℕ)) → ¬ IsMcfText text seven fields))
+    ⊎ ((fields : List (List ℕ)) × IsMcfText text seven fields × FieldsAreRefused fields why)
 fields_refused (other_id parts other) = inl (refl, λ fields parts'. other (fields_once parts parts').0)
 fields_refused (no_field parts) = inr ([], parts, refl)
 fields_refused (bad_costs {field} {behind} parts why) = inr (field ∷ behind, parts, inl why)

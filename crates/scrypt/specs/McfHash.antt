@@ -1,7 +1,7 @@
 -- `$7$` hashes: what their texts say, which are made, and which passwords they accept.
 use Rattle.std.specs.Prelude.{◌≡◌, ◌≢◌, ℕ, List, [], ◌∷◌, length, codes, Option, None, Some, IsSome, IfSome, Ok, Err}
 use Rattle.password_hash.specs.Crypt64.{Crypt64, IsCrypt64, crypt64_of}
-use Rattle.password_hash.specs.Mcf.{Modular}
+use Rattle.password_hash.specs.Mcf.{IsMcfText}
 use Rattle.password_hash.specs.Refusal.{Refusal, BadAlgorithm, BadEncoding, BadOutputSize, BadVersion, NoMemory, WrongPassword}
 use Rattle.scrypt.specs.Accepted.{IsOutputLen, Parameters}
 use Rattle.scrypt.specs.Derives.{key_by}
@@ -15,7 +15,7 @@ seven = codes "7"
 -- The text has the id `7`, its first field says these costs and this salt, and these fields are behind it.
 pub record HasCosts (text : List ℕ) (c : Parameters) (salt : List ℕ) (behind : List (List ℕ)) : Type 0 where
   pub field : List ℕ
-  pub parts : Modular text seven (field ∷ behind)
+  pub parts : IsMcfText text seven (field ∷ behind)
   pub costs : ReadsField field (Ok (c, salt))
 
 -- the text of a `$7$` hash: two fields, of which the first says costs and salt, and the second is a
@@ -30,10 +30,10 @@ pub record IsHashText (text : List ℕ) (c : Parameters) (salt key : List ℕ) :
 -- is refused by, no second field, a second field that is not crypt Base64, a third field, and a key whose
 -- length is no accepted output length.
 pub data TextIsRefused (text : List ℕ) : Refusal → Type 0 where
-  other_id : {id : List ℕ} {fields : List (List ℕ)} → Modular text id fields → id ≢ seven
+  other_id : {id : List ℕ} {fields : List (List ℕ)} → IsMcfText text id fields → id ≢ seven
       → TextIsRefused text BadAlgorithm
-  no_field : Modular text seven [] → TextIsRefused text BadEncoding
-  bad_costs : {field : List ℕ} {behind : List (List ℕ)} {why : Refusal} → Modular text seven (field ∷ behind)
+  no_field : IsMcfText text seven [] → TextIsRefused text BadEncoding
+  bad_costs : {field : List ℕ} {behind : List (List ℕ)} {why : Refusal} → IsMcfText text seven (field ∷ behind)
       → ReadsField field (Err why) → TextIsRefused text why
   no_key : {c : Parameters} {salt : List ℕ} → HasCosts text c salt [] → TextIsRefused text BadEncoding
   bad_key : {c : Parameters} {salt letters : List ℕ} {behind : List (List ℕ)} → HasCosts text c salt (letters ∷ behind)

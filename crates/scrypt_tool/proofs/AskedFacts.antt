@@ -7,7 +7,7 @@ use Rattle.scrypt.specs.Accepted.{AreAccepted, IsOutputLen, Parameters}
 use Rattle.scrypt_tool.specs.Asked.{AreRefused, AreSaltAndParams, AskFor, Asks, AsksBy, HashWords, KeyWords, Refuses, RefusesBy, RefusesSaltOrParams, VerifyMcfWords, VerifyPhcWords, Words, format_of, hash_words, is_seven_word, key_words, no_params, no_salt, numbers_of, verify_words, words_of}
 use Rattle.scrypt_tool.proofs.DecimalFacts.{UnsignedGives, decimal_gives}
 use Rattle.scrypt_tool.specs.Decimal.{DecimalGives, decimal_below}
-use Rattle.password_hash.specs.Mcf.{IsModular}
+use Rattle.password_hash.specs.Mcf.{IsMcf}
 use Rattle.password_hash.specs.declared.mcf.Error.{Error as McfError}
 use Rattle.password_hash.specs.declared.mcf.Error.TheVariants.{EncodingInvalid, OutOfMemory as McfOutOfMemory}
 use Rattle.scrypt_tool.specs.Fault.{mcf_fault_of, status_of}
@@ -188,7 +188,7 @@ phc_word text h = rw h refl
 
 -- a modular text that is not read
 pub modular_refused : (words : Option Words) (text : List ℕ) (error : McfError) → words ≡ Some (VerifyMcfWords text)
-    → (error ≡ EncodingInvalid → ¬ IsModular text)
+    → (error ≡ EncodingInvalid → ¬ IsMcf text)
     → (mcf_fault_of error ≡ OutOfMemory) ⊎ RefusesBy words (mcf_fault_of error)
 modular_refused words text EncodingInvalid found none = rw found (inr (refl, none refl))
 modular_refused words text McfOutOfMemory found none = inl refl

@@ -2,8 +2,8 @@
 use Rattle.std.proofs.Common.{◌≡◌, ◌≢◌, ◌⊎◌, ◌∙◌, ℕ, List, Result, [], ◌∷◌, ◌++◌, Option, None, Some, Ok, Err, IsErr, IsOk, ap, ap₂, bytes_eq, codes, if◌then◌else◌, length, inl, inr, refl, sym}
 use Rattle.password_hash.proofs.OneReading.{one_reading}
 use Rattle.password_hash.specs.Crypt64.{crypt64_of}
-use Rattle.password_hash.specs.Mcf.{behind_dollars}
-use Rattle.password_hash.specs.Phc.{IsHashText, hash_text, params_part, parts_text, salt_and_key_parts, version_part}
+use Rattle.password_hash.specs.Parts.{parts_text}
+use Rattle.password_hash.specs.Phc.{IsHashText, hash_text, params_part, salt_and_key_parts, version_part}
 use Rattle.password_hash.specs.Refusal.{Refusal, BadEncoding, BadOutputSize, BadParam, BadParams, BadSalt, BadVersion, NoMemory, WrongPassword}
 use Rattle.password_hash.specs.declared.phc.hash.PasswordHash.{PasswordHash}
 use Rattle.hex.specs.Hex.{decode_of, encode_lower}
@@ -138,7 +138,7 @@ gives_once (HashWords Phc numbers salt_hex) input (salt, params, read, (s, (hash
 gives_once (HashWords Mcf numbers salt_hex) input (salt, params, read, (s, (text, made, l))) (salt', params', read', (s', (text', made', l'))) = (
   s ∙ sym s',
   l ∙ ap (λ text. text ++ codes "\n") (text_of made
-      ∙ ap₂ (λ z c. behind_dollars (seven ∷ (costs_letters c.log_n c.r c.p ++ crypt64_of z)
+      ∙ ap₂ (λ z c. parts_text (seven ∷ (costs_letters c.log_n c.r c.p ++ crypt64_of z)
       ∷ crypt64_of (key_by c input (crypt64_of z) (mcf_made_len c)) ∷ [])) (salt_once salt_hex read.salt_read read'.salt_read) (params_once read read')
       ∙ sym (text_of made')) ∙ sym l',
 )

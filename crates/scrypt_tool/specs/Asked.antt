@@ -3,7 +3,7 @@
 -- of a hash.
 use Rattle.std.specs.Prelude.{◌≡◌, ◌⊎◌, ℕ, ◌^◌, ◌==◌, ◌&&◌, ◌||◌, Bool, bytes_eq, if◌then◌else◌, List, [], ◌∷◌, codes, length, slice_index, Option, Some, None, option_and_then, Ok, IsErr, IsOk, IsSomeAnd, MatchOption}
 use Rattle.hex.specs.Hex.{decode_of}
-use Rattle.password_hash.specs.Mcf.{IsModular}
+use Rattle.password_hash.specs.Mcf.{IsMcf}
 use Rattle.password_hash.specs.Phc.{IsHashText}
 use Rattle.password_hash.specs.declared.phc.hash.PasswordHash.{PasswordHash}
 use Rattle.scrypt.specs.Accepted.{AreAccepted, IsOutputLen, Parameters}
@@ -93,7 +93,7 @@ AskFor (KeyWords numbers salt_hex n) (Key params len salt) =
 AskFor (HashWords named numbers salt_hex) (Hash format params salt) =
     AreSaltAndParams numbers salt_hex salt.items params × (format ≡ named)
 AskFor (VerifyPhcWords text) (VerifyPhc hash) = IsHashText text hash
-AskFor (VerifyMcfWords text) (VerifyMcf hash) = (hash ≡ text) × IsModular text
+AskFor (VerifyMcfWords text) (VerifyMcf hash) = (hash ≡ text) × IsMcf text
 AskFor words command = ⊥
 
 -- the digits of the salt are refused, or after them the numbers
@@ -110,7 +110,7 @@ AreRefused (KeyWords numbers salt_hex n) fault = RefusesSaltOrParams numbers sal
 AreRefused (HashWords format numbers salt_hex) fault = RefusesSaltOrParams numbers salt_hex fault
 AreRefused (VerifyPhcWords text) fault =
     (fault ≡ HashRefused EncodingInvalid) × ((hash : PasswordHash) → ¬ IsHashText text hash)
-AreRefused (VerifyMcfWords text) fault = (fault ≡ HashRefused EncodingInvalid) × ¬ IsModular text
+AreRefused (VerifyMcfWords text) fault = (fault ≡ HashRefused EncodingInvalid) × ¬ IsMcf text
 
 -- what was read asks for this command
 abbrev pub AsksBy : Option Words → Command → Type 0

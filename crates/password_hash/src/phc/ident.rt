@@ -1,9 +1,9 @@
 //! The name of an algorithm or of a parameter.
 ghost use Rattle.std.specs.Prelude.{◌≡◌, ◌↔◌, Some, IsOk, IfOk, IfErr, codes};
-ghost use Rattle.std.specs.List.{list_all};
-ghost use Rattle.password_hash.specs.Letters.{IsIdentifier, is_identifier_letter};
+ghost use Rattle.password_hash.specs.Letters.{IsIdentifier};
 ghost use Rattle.password_hash.specs.declared.error.Error.TheVariants.{EncodingInvalid};
 
+use crate::letters::are_identifier_letters;
 use crate::phc::short_bytes::ShortBytes;
 use crate::{Error, Result};
 use std::marker::Model;
@@ -17,7 +17,7 @@ pub struct Ident {
 
 impl Model for Ident {
     ghost use Rattle.std.specs.Prelude.{ℕ, List};
-    ghost use Rattle.password_hash.specs.Letters.{IsIdentifier, is_identifier_letter};
+    ghost use Rattle.password_hash.specs.Letters.{IsIdentifier};
 
     ghost Value = { List ℕ };
 
@@ -47,7 +47,7 @@ impl Ident {
         ensures err { IfErr result (λ e. e ≡ EncodingInvalid) }
     {
         match ShortBytes::new(text.as_bytes()) {
-            Some(bytes) if are_letters(bytes.as_bytes()) => Ok(Ident { bytes }),
+            Some(bytes) if are_identifier_letters(bytes.as_bytes()) => Ok(Ident { bytes }),
             _ => Err(Error::EncodingInvalid),
         }
     }
@@ -67,18 +67,4 @@ impl fmt::Display for Ident {
     fn fmt<W: fmt::Write>(&self, f: &mut fmt::Formatter<W>) -> fmt::Result {
         f.write_str(self.as_str())
     }
-}
-
-/// Whether all are of `a-z0-9-`.
-fn are_letters(bytes: &[u8]) -> bool
-    ensures { result ≡ list_all is_identifier_letter bytes.now }
-{
-    bytes.iter().all(|b| is_letter(*b))
-}
-
-/// Whether this is one of `a-z0-9-`.
-fn is_letter(b: u8) -> bool
-    ensures { result ≡ is_identifier_letter b }
-{
-    matches!(b, b'a'..=b'z' | b'0'..=b'9' | b'-')
 }

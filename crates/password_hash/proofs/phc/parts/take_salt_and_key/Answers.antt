@@ -1,7 +1,7 @@
 use Rattle.std.proofs.Common.{◌≡◌, ◌∷◌, ◌==◌, ap, ◌∙◌}
 use Rattle.std.specs.List.{slice_split}
 use Rattle.password_hash.specs.Parts.{parts_left}
-use Rattle.password_hash.proofs.PartsFacts.{salt_and_key_next, salt_and_key_read}
+use Rattle.password_hash.proofs.PhcPartsFacts.{salt_and_key_next, salt_and_key_read}
 use Rattle.password_hash.proofs.phc.parts.take_salt_and_key.Goals as goal
 use Rattle.password_hash.proofs.phc.parts.take_salt_and_key.Goals.{In-Some-behind}
 
