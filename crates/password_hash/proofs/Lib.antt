@@ -12,3 +12,5 @@ pub mod Crypt64Facts
 pub mod GroupFacts
 pub mod McfFacts
 pub mod OneReading
+pub mod TextTests
+pub mod StandardFacts
