@@ -1,6 +1,6 @@
 -- Texts, read and printed by the definitions alone, so that a wrong letter, order or bound in a
 -- definition does not check.
-use Rattle.std.proofs.Common.{◌≡◌, ◌≢◌, ◌&&◌, ◌≤◌, ◌<◌, ℕ, true, false, not, nat_lt, List, [], ◌∷◌, length, take, codes, None, Some, refl, sym, ap, ◌∙◌, arith, lit<, lit≤}
+use Rattle.std.proofs.Common.{◌≡◌, ◌≢◌, ◌&&◌, ◌≤◌, ◌<◌, ℕ, true, false, not, nat_lt, List, [], ◌∷◌, length, map, take, codes, None, Some, refl, sym, ap, ◌∙◌, arith, lit<, lit≤}
 use Rattle.std.specs.Fmt.{digits}
 use Rattle.std.specs.List.{list_all}
 use Rattle.std.proofs.lemmas.Bool.{false≢true, ltb-true, lt-ltb}
@@ -124,55 +124,16 @@ capital_letter_refused = algorithm_refused (codes "Scrypt") (codes "Scrypt") [] 
 pub long_algorithm_refused : (hash : PasswordHash) → ¬ IsHashText (codes "$aaaaaaaaaaaaaaaaaaaaaaaaaaaaaaaaa") hash
 long_algorithm_refused = algorithm_refused (codes "aaaaaaaaaaaaaaaaaaaaaaaaaaaaaaaaa") (codes "aaaaaaaaaaaaaaaaaaaaaaaaaaaaaaaaa") [] refl refl
 
--- decimals
-
-pub decimal_zero : decimal_below 4294967296 (codes "0") ≡ Some 0
+-- decimals: the number, or `None` for a text that is not a decimal below 2 ^ 32
+pub decimals : map (decimal_below 4294967296) (codes "0" ∷ codes "7" ∷ codes "10" ∷ codes "4294967295" ∷ []) ≡ Some 0 ∷ Some 7 ∷ Some 10 ∷ Some 4294967295 ∷ []
 unfolding decimal_below has_plus_or_leading_zero
-decimal_zero = refl
+decimals = refl
 
-pub decimal_seven : decimal_below 4294967296 (codes "7") ≡ Some 7
+pub other_texts_are_no_decimals :
+    map (decimal_below 4294967296) (codes "4294967296" ∷ [] ∷ codes "00" ∷ codes "01" ∷ codes "+1" ∷ codes "-1" ∷ codes "1." ∷ codes "a" ∷ [])
+    ≡ None ∷ None ∷ None ∷ None ∷ None ∷ None ∷ None ∷ None ∷ []
 unfolding decimal_below has_plus_or_leading_zero
-decimal_seven = refl
-
-pub decimal_ten : decimal_below 4294967296 (codes "10") ≡ Some 10
-unfolding decimal_below has_plus_or_leading_zero
-decimal_ten = refl
-
-pub decimal_greatest : decimal_below 4294967296 (codes "4294967295") ≡ Some 4294967295
-unfolding decimal_below has_plus_or_leading_zero
-decimal_greatest = refl
-
-pub decimal_too_great : decimal_below 4294967296 (codes "4294967296") ≡ None
-unfolding decimal_below has_plus_or_leading_zero
-decimal_too_great = refl
-
-pub decimal_empty : decimal_below 4294967296 (codes "") ≡ None
-unfolding decimal_below has_plus_or_leading_zero
-decimal_empty = refl
-
-pub decimal_two_zeros : decimal_below 4294967296 (codes "00") ≡ None
-unfolding decimal_below has_plus_or_leading_zero
-decimal_two_zeros = refl
-
-pub decimal_leading_zero : decimal_below 4294967296 (codes "01") ≡ None
-unfolding decimal_below has_plus_or_leading_zero
-decimal_leading_zero = refl
-
-pub decimal_plus : decimal_below 4294967296 (codes "+1") ≡ None
-unfolding decimal_below has_plus_or_leading_zero
-decimal_plus = refl
-
-pub decimal_minus : decimal_below 4294967296 (codes "-1") ≡ None
-unfolding decimal_below has_plus_or_leading_zero
-decimal_minus = refl
-
-pub decimal_point : decimal_below 4294967296 (codes "1.") ≡ None
-unfolding decimal_below has_plus_or_leading_zero
-decimal_point = refl
-
-pub decimal_letter : decimal_below 4294967296 (codes "a") ≡ None
-unfolding decimal_below has_plus_or_leading_zero
-decimal_letter = refl
+other_texts_are_no_decimals = refl
 
 -- crypt Base64: bytes and their letters
 
