@@ -12,8 +12,8 @@ use Rattle.base64.specs.Decode.{or_else, or_error, bytes_fit, decode_outcome, gr
 use Rattle.base64.specs.Engines.{standard_no_pad}
 use Rattle.base64.proofs.EngineFacts.{decode_of_strict, decode_of-encode_of}
 use Rattle.base64.proofs.RoundTrip.{length-encode_symbols}
-use Rattle.password_hash.specs.Padded.{IsPadded}
-use Rattle.password_hash.proofs.PaddedFacts.{padded_is}
+use Rattle.password_hash.specs.Stored.{AreStored}
+use Rattle.password_hash.proofs.StoredFacts.{stored}
 use Rattle.password_hash.specs.Phc.{base64}
 
 fits : (len out n : ℕ) → bytes_fit len out ≡ Ok n → (n ≡ len) × (len ≤ out)
@@ -64,17 +64,17 @@ module _ (engine : GeneralPurpose) (strict : IsStrict engine) (consistent : IsCo
 
 -- what a slice of 64 places has of letters that were read
 pub record IsRead (letters new : List ℕ) (n : ℕ) : Type 0 where
-  pub padded : IsPadded 64 new n
+  pub stored : AreStored 0 64 new n
   pub whole : letters ≡ base64 (take n new)
   pub bytes : IsBytes (take n new)
 
 pub is_read : (letters new : List ℕ) (n : ℕ) → IsBytes letters → decode_slice_of standard_no_pad letters 64 ≡ Ok n → new ≡ decoded_bytes_of standard_no_pad letters ++ drop (length (decoded_bytes_of standard_no_pad letters)) (replicate 64 0) → IsBytes (decoded_bytes_of standard_no_pad letters) → IsRead letters new n
 is_read letters new n are e written bytes =
     let read = read_slice standard_no_pad (refl, refl) refl refl letters 64 n are e in
-    let padded = padded_is 64 (decoded_bytes_of standard_no_pad letters) (decoded_bytes_of standard_no_pad letters) refl (omega (arith, read.0, read.1)) in
+    let written_first = stored 0 64 (decoded_bytes_of standard_no_pad letters) (decoded_bytes_of standard_no_pad letters) refl (omega arith) (omega (arith, read.0, read.1)) in
     let front : take n new ≡ decoded_bytes_of standard_no_pad letters = rw (written, read.0) (take_at (decoded_bytes_of standard_no_pad letters) _ (length (decoded_bytes_of standard_no_pad letters)) refl) in
     record {
-      padded = rw (written, read.0) padded;
+      stored = rw (written, read.0) written_first;
       whole = rw front read.2;
       bytes = rw front bytes;
     }

@@ -7,7 +7,7 @@ use Rattle.std.proofs.Math.Seq.{take-length, drop-cons}
 use Rattle.std.proofs.lemmas.List.{append-nil}
 use Rattle.std.proofs.lemmas.List.Elements.{All-nil, All-cons, All-head, All-tail, All-append}
 use Rattle.password_hash.specs.Crypt64.{letter, letter_value, letters_of, with_digit, number_of, crypt64_of}
-use Rattle.password_hash.proofs.LetterFacts.{letter_value-letter, letter-of_value, letter-ascii}
+use Rattle.password_hash.proofs.AlphabetFacts.{letter_value-letter, letter-of_value, letter-ascii}
 
 abbrev pub AreBytes : List ℕ → Type 0
 AreBytes bytes = All (λ byte. byte < 256) bytes

@@ -1,14 +1,17 @@
 -- Decimal digits.
-use Rattle.std.proofs.Common.{◌≡◌, ℕ, ◌^◌, ◌<◌, ◌≤◌, Bool, false, IsTrue, List, [], ◌∷◌, length, get_or, slice_index, refl, sym, ap, ◌∙◌, arith, inl, inr}
-use Rattle.std.specs.Prelude.{decimal}
+use Rattle.std.proofs.Common.{◌≡◌, ◌≢◌, ◌&&◌, ℕ, ◌^◌, ◌<◌, ◌≤◌, Bool, true, false, nat_lt, IsTrue, List, [], ◌∷◌, length, get_or, slice_index, Option, None, Some, Result, Ok, Err, MatchBool, refl, sym, ap, ◌∙◌, arith, inl, inr}
+use Rattle.std.specs.Prelude.{decimal, IfSome}
 use Rattle.std.specs.List.{list_all}
-use Rattle.std.specs.Str.Parse.{AllDigits, digits_value}
-use Rattle.std.proofs.lemmas.Bool.{cases_lt}
+use Rattle.std.specs.Result.{OkIff, result_ok}
+use Rattle.std.specs.Str.{all_ascii_digits}
+use Rattle.std.specs.Str.Parse.{AllDigits, digits_value, ExplainsUnsignedError, HasUnsignedDigitsIfOk, ParsesUnsigned}
+use Rattle.std.specs.declared.num.ParseIntError.{ParseIntError}
+use Rattle.std.proofs.lemmas.Bool.{cases_lt, cases_Bool}
 use Rattle.std.proofs.lemmas.Fmt.{decimal_digit, decimal_is_IsNumeral, first_decimal, decimal-digits_value}
-use Rattle.std.proofs.lemmas.Str.Parse.{IsNumeralModel, numerals_by_value, tells_digits, digit_from_value}
+use Rattle.std.proofs.lemmas.Str.Parse.{IsNumeralModel, numerals_by_value, parse_plain, tells_digits, tells_all_ascii_digits, digit_from_value}
 use Rattle.std.proofs.lemmas.Bool.Decides.{nat_tests}
 use Rattle.password_hash.specs.Letters.{is_digit, is_value_letter, IsValue}
-use Rattle.password_hash.specs.Decimal.{IsDecimal}
+use Rattle.password_hash.specs.Decimal.{DecimalGives, IsDecimal, decimal_below, has_plus_or_leading_zero, is_decimal}
 use Rattle.password_hash.proofs.PairsFacts.{Lacks, letters_lack}
 
 digits : IsNumeralModel (AllDigits 10) (digits_value 10)
@@ -64,3 +67,81 @@ IsValue-decimal n small =
       some = written.some;
       letters = digits_are_letters is_value_letter is_value_letter_digit (decimal n) written.digits;
     }
+
+-- a text that begins with a plus or a leading zero is not a decimal
+none_after_plus_or_zero : (limit : ℕ) (text : List ℕ) → has_plus_or_leading_zero text ≡ true → decimal_below limit text ≡ None
+unfolding decimal_below
+none_after_plus_or_zero limit text h = grind (arith, nat_tests)
+
+-- without them, a plus does not come first
+no_plus : (text : List ℕ) → has_plus_or_leading_zero text ≡ false → get_or text 0 0 ≢ 43
+unfolding has_plus_or_leading_zero
+no_plus text h = grind (arith, nat_tests)
+
+-- what `parse` reads of such a text
+plain_gives : {E : Type 0} → (limit : ℕ) (text : List ℕ) (r : Result ℕ E) → has_plus_or_leading_zero text ≡ false
+    → OkIff r ((all_ascii_digits text ≡ true) × (0 < length text) × (digits_value 10 text < limit)) (digits_value 10 text)
+    → result_ok r ≡ decimal_below limit text
+unfolding decimal_below
+plain_gives limit text (Ok x) h g = grind (arith, nat_tests)
+plain_gives limit text (Err e) h g = grind (arith, nat_tests)
+
+-- the answer by whether a plus or a leading zero comes first
+answer_gives : {E : Type 0} → (k : ℕ) (parse_gives : List ℕ → Result ℕ E → Type 0)
+    → ((bs : List ℕ) (r : Result ℕ E) → parse_gives bs r → ParsesUnsigned k 10 bs r)
+    → (text : List ℕ) (answer : Option ℕ) (b : Bool) → has_plus_or_leading_zero text ≡ b
+    → MatchBool b (answer ≡ None) ((parsed : Result ℕ E) × parse_gives text parsed × (answer ≡ result_ok parsed))
+    → answer ≡ decimal_below (2 ^ k) text
+answer_gives k parse_gives only text answer true h g = g ∙ sym (none_after_plus_or_zero (2 ^ k) text h)
+answer_gives k parse_gives only text answer false h (parsed, given, is) =
+    is ∙ plain_gives (2 ^ k) text parsed h
+    (parse_plain (numerals_by_value _ tells_all_ascii_digits) k text parsed (only text parsed given) (no_plus text h))
+
+-- what `parse` gives for an unsigned type of k bits
+abbrev pub UnsignedGives : ℕ → List ℕ → Result ℕ ParseIntError → Type 0
+UnsignedGives k text r =
+    ParsesUnsigned k 10 text r × ExplainsUnsignedError 10 text r × HasUnsignedDigitsIfOk text r
+
+-- so a decimal of such a type is a decimal below 2 ^ k
+pub decimal_gives : (k : ℕ) (text : List ℕ) (answer : Option ℕ)
+    → DecimalGives (UnsignedGives k) text answer → answer ≡ decimal_below (2 ^ k) text
+decimal_gives k text answer given =
+    answer_gives k (UnsignedGives k) (λ bs r h. h.0) text answer (has_plus_or_leading_zero text) refl given
+
+-- what a decimal text of a 32-bit number gives, and what gives one
+pub record ReadsDecimal (text : List ℕ) (answer : Option ℕ) : Type 0 where
+  pub found : IfSome answer (IsDecimal text)
+  pub only : (n : ℕ) → IsDecimal text n → answer ≡ Some n
+
+decimal_found : (text : List ℕ) → IfSome (decimal_below (2 ^ 32) text) (IsDecimal text)
+unfolding decimal_below has_plus_or_leading_zero
+decimal_found text = elim (cases_Bool (is_decimal text && nat_lt (digits_value 10 text) (2 ^ 32))) [
+  | inl is ↦ rw is (record {
+    some = grind (arith, nat_tests);
+    digits = (numerals_by_value _ tells_all_ascii_digits).to text (grind (arith, nat_tests));
+    no_leading_zero = λ zero. grind (arith, nat_tests);
+    value = refl;
+    small = grind (arith, nat_tests);
+  })
+  | inr other ↦ rw other tt
+]
+
+decimal_only : (text : List ℕ) (n : ℕ) → IsDecimal text n → decimal_below (2 ^ 32) text ≡ Some n
+unfolding decimal_below has_plus_or_leading_zero
+decimal_only text n h =
+    let digits : all_ascii_digits text ≡ true = (numerals_by_value _ tells_all_ascii_digits).from text h.digits in
+    let some = h.some in
+    let zero = h.no_leading_zero in
+    let value = h.value in
+    let small = h.small in
+    let plus : slice_index text 0 ≢ 43 = no_plus_in_digits text h.digits in
+    grind (arith, nat_tests)
+  where
+    no_plus_in_digits : (text : List ℕ) → AllDigits 10 text → slice_index text 0 ≢ 43
+    no_plus_in_digits [] h e = cc
+    no_plus_in_digits (digit ∷ text) h e = let range = digit_from_value digit h.0 in absurd (omega (arith, range, e))
+
+pub reads_decimal : (text : List ℕ) (answer : Option ℕ) → DecimalGives (UnsignedGives 32) text answer → ReadsDecimal text answer
+reads_decimal text answer given =
+    let same = decimal_gives 32 text answer given in
+    record { found = rw same (decimal_found text); only = λ n h. same ∙ decimal_only text n h }

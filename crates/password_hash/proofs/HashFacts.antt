@@ -6,12 +6,14 @@ use Rattle.std.proofs.lemmas.Bool.{false≢true}
 use Rattle.std.proofs.lemmas.List.Elements.{All-nil, All-cons, All-head, All-tail, All-append, All-get_or}
 use Rattle.password_hash.specs.Letters.{is_identifier_letter, IsIdentifier}
 use Rattle.password_hash.specs.Pairs.{IsPair, pair_text, pairs_text, ArePairs}
-use Rattle.password_hash.specs.Parts.{IsVersion, LackVersion, LackEquals}
-use Rattle.password_hash.specs.Phc.{base64, version_part, params_part, key_part, salt_and_key_parts, hash_parts, parts_text, IsSalt, IsKey, IsSaltAndKey, IsHashText}
+use Rattle.password_hash.specs.Parts.{parts_text}
+use Rattle.password_hash.specs.PhcParts.{IsVersion, LackVersion, LackEquals}
+use Rattle.password_hash.specs.Phc.{base64, version_part, params_part, key_part, salt_and_key_parts, hash_parts, IsSalt, IsKey, IsSaltAndKey, IsHashText}
 use Rattle.password_hash.specs.declared.phc.hash.PasswordHash.{PasswordHash}
 use Rattle.password_hash.proofs.PairsFacts.{Lacks, letters_lack, texts_lack, before_first_at}
 use Rattle.password_hash.proofs.DecimalFacts.{decimal_lacks}
-use Rattle.password_hash.proofs.PartsFacts.{LacksVersion, base64_lacks, parts_from_parts_text, parts_text_from_parts, equals_of_pairs}
+use Rattle.password_hash.proofs.PartsFacts.{parts_of-parts_text, parts_text-parts_of}
+use Rattle.password_hash.proofs.PhcPartsFacts.{LacksVersion, base64_lacks, equals_of_pairs}
 
 -- a row of pieces that lack a byte lacks it, unless it stands between them
 join_lacks : (c separator : ℕ) → (separator == c) ≡ false → (pieces : List (List ℕ)) → All (Lacks c) pieces → Lacks c (join_with_byte separator pieces)
@@ -45,11 +47,11 @@ salt_and_key_lack c salts keys (Some salt) key hs hk =
     All-cons (Lacks c) (base64 salt) (key_part key) (salts salt hs) (key_lacks c keys key hk)
 
 dollar_lacks : (salt key : Option (List ℕ)) → IfSome salt IsSalt → IfSome key IsKey → All (Lacks 36) (salt_and_key_parts salt key)
-dollar_lacks = salt_and_key_lack 36 (λ bytes h. base64_lacks 36 refl bytes h.bytes) (λ bytes h. base64_lacks 36 refl bytes h.bytes)
+dollar_lacks = salt_and_key_lack 36 (λ bytes h. base64_lacks 36 refl bytes h.are_bytes) (λ bytes h. base64_lacks 36 refl bytes h.are_bytes)
 
 -- neither a salt nor a key has a `=`
 equals_lack : (salt key : Option (List ℕ)) → IfSome salt IsSalt → IfSome key IsKey → LackEquals (salt_and_key_parts salt key)
-equals_lack = salt_and_key_lack 61 (λ bytes h. base64_lacks 61 refl bytes h.bytes) (λ bytes h. base64_lacks 61 refl bytes h.bytes)
+equals_lack = salt_and_key_lack 61 (λ bytes h. base64_lacks 61 refl bytes h.are_bytes) (λ bytes h. base64_lacks 61 refl bytes h.are_bytes)
 
 -- no part of a hash has a `$`
 pub parts_lack : (text : List ℕ) (hash : PasswordHash) → IsHashText text hash → All (Lacks 36) (hash_parts hash)
@@ -88,7 +90,7 @@ pub record HasParts (part : List ℕ) (behind : List (List ℕ)) (hash : Passwor
 
 pub parts_of_hash : (text rest part : List ℕ) (behind : List (List ℕ)) (hash : PasswordHash) → IsHashText text hash → text ≡ 36 ∷ rest → slice_split (λ b. b == 36) rest ≡ part ∷ behind → HasParts part behind hash
 parts_of_hash text rest part behind hash h begins split =
-    let parts = parts_from_parts_text rest hash.algorithm (version_part hash.version ++ (params_part hash.params ++ salt_and_key_parts hash.salt hash.hash)) (parts_lack text hash h) (sym begins ∙ h.whole) in
+    let parts = parts_of-parts_text rest hash.algorithm (version_part hash.version ++ (params_part hash.params ++ salt_and_key_parts hash.salt hash.hash)) (parts_lack text hash h) (sym begins ∙ h.whole) in
     let both = sym split ∙ parts in
     let first : part ≡ hash.algorithm = cc in
     let left : behind ≡ version_part hash.version ++ (params_part hash.params ++ salt_and_key_parts hash.salt hash.hash) = cc in
@@ -107,7 +109,7 @@ hash_of_parts text rest hash behind from_params from_salt begins split algorithm
     let parts : behind ≡ version_part hash.version ++ (params_part hash.params ++ salt_and_key_parts hash.salt hash.hash) =
     version_first ∙ ap (λ left. version_part hash.version ++ left) (params_next ∙ ap (λ left. params_part hash.params ++ left) salt_and_key.whole) in
     record {
-      whole = begins ∙ parts_text_from_parts rest hash.algorithm behind split ∙ ap (λ left. parts_text (hash.algorithm ∷ left)) parts;
+      whole = begins ∙ parts_text-parts_of rest hash.algorithm behind split ∙ ap (λ left. parts_text (hash.algorithm ∷ left)) parts;
       algorithm = algorithm;
       version = version;
       params = params;

@@ -8,7 +8,7 @@ use Rattle.std.proofs.lemmas.List.{length-append, get_or_at}
 use Rattle.std.proofs.lemmas.List.Elements.{All-head, All-get_or, All-drop}
 use Rattle.password_hash.specs.Crypt64.{Crypt64, crypt64_of, encoded_len, letters_of, number_of}
 use Rattle.password_hash.specs.Pairs.{pairs_text, ArePairs}
-use Rattle.password_hash.specs.Parts.{IsVersion, LackVersion, LackEquals}
+use Rattle.password_hash.specs.PhcParts.{IsVersion, LackVersion, LackEquals}
 use Rattle.password_hash.specs.Phc.{base64, version_part, params_part, key_part, salt_and_key_parts, hash_parts, hash_text, IsSalt, IsKey, IsHashText}
 use Rattle.password_hash.specs.declared.phc.hash.PasswordHash.{PasswordHash}
 use Rattle.password_hash.proofs.Base64Facts.{base64_injective}
@@ -17,7 +17,8 @@ use Rattle.password_hash.proofs.GroupFacts.{append_parts, length-crypt64_of}
 use Rattle.password_hash.proofs.HashFacts.{parts_of_hash, parts_lack}
 use Rattle.password_hash.proofs.PairsFacts.{Lacks}
 use Rattle.password_hash.proofs.ParamsFacts.{same_pairs}
-use Rattle.password_hash.proofs.PartsFacts.{LacksVersion, equals_of_pairs, parts_from_parts_text}
+use Rattle.password_hash.proofs.PartsFacts.{parts_of-parts_text}
+use Rattle.password_hash.proofs.PhcPartsFacts.{LacksVersion, equals_of_pairs}
 
 same_version : (a b : Option ℕ) (xs ys : List (List ℕ)) → IsVersion a → IsVersion b → LackVersion xs → LackVersion ys → version_part a ++ xs ≡ version_part b ++ ys → (a ≡ b) × (xs ≡ ys)
 same_version None None xs ys ha hb hx hy e = (refl, e)
@@ -57,7 +58,7 @@ same_key None (Some b) ha hb e = cc
 same_key (Some a) None ha hb e = cc
 same_key (Some a) (Some b) ha hb e =
     let letters : base64 a ≡ base64 b = cc in
-    ap (λ key. Some key) (base64_injective a b ha.bytes hb.bytes letters)
+    ap (λ key. Some key) (base64_injective a b ha.are_bytes hb.are_bytes letters)
 
 no_key : (key : Option (List ℕ)) → OnSome key (IsSome {T = List ℕ} None) → key ≡ None
 no_key None h = refl
@@ -70,14 +71,14 @@ same_salt_and_key (Some a) None k l ha hb hk hl ka lb e = cc
 same_salt_and_key (Some a) (Some b) k l ha hb hk hl ka lb e =
     let letters : base64 a ≡ base64 b = cc in
     let keys : key_part k ≡ key_part l = cc in
-    (ap (λ salt. Some salt) (base64_injective a b ha.bytes hb.bytes letters), same_key k l hk hl keys)
+    (ap (λ salt. Some salt) (base64_injective a b ha.are_bytes hb.are_bytes letters), same_key k l hk hl keys)
 
 -- two hashes with one text are one
 pub one_reading : (text : List ℕ) (a b : PasswordHash) → IsHashText text a → IsHashText text b → a ≡ b
 one_reading text a b ha hb =
     let rest : List ℕ = drop 1 (hash_text a) in
     let behind = version_part a.version ++ (params_part a.params ++ salt_and_key_parts a.salt a.hash) in
-    let split : slice_split (λ c. c == 36) rest ≡ hash_parts a = parts_from_parts_text rest a.algorithm behind (parts_lack text a ha) refl in
+    let split : slice_split (λ c. c == 36) rest ≡ hash_parts a = parts_of-parts_text rest a.algorithm behind (parts_lack text a ha) refl in
     let of_a = parts_of_hash text rest a.algorithm behind a ha ha.whole split in
     let of_b = parts_of_hash text rest a.algorithm behind b hb ha.whole split in
     let version = same_version a.version b.version (params_part a.params ++ salt_and_key_parts a.salt a.hash) (params_part b.params ++ salt_and_key_parts b.salt b.hash) ha.version hb.version of_a.lack_version of_b.lack_version of_b.version_first in

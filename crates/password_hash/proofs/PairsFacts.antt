@@ -13,7 +13,7 @@ use Rattle.std.specs.Cmp.Lexicographic.{pointwise}
 use Rattle.std.proofs.lemmas.Slice.Eq.{bytes_eq-Decides, slice_eq-Decides}
 use Rattle.password_hash.specs.Letters.{IsIdentifier, is_identifier_letter, is_value_letter}
 use Rattle.password_hash.specs.Pairs.{IsPair, pair_text, pairs_text, ArePairs, pair_eq, pair_of, pairs_of, IsPairsText}
-use Rattle.password_hash.proofs.LettersFacts.{list_all_parts}
+use Rattle.password_hash.proofs.IdentifierFacts.{list_all_parts}
 
 -- no byte is c
 abbrev pub Lacks : ℕ → List ℕ → Type 0

@@ -1,176 +1,47 @@
--- Parts of a text.
-use Rattle.std.proofs.Common.{◌≡◌, ◌≢◌, ℕ, suc, ◌+◌, ◌*◌, ◌/◌, ◌%◌, ◌^◌, ◌<◌, ◌==◌, ◌||◌, Bool, false, List, [], ◌∷◌, ◌++◌, length, get_or, codes, slice_index, refl, sym, ap, subst, ◌∙◌, arith}
-use Rattle.std.specs.Prelude.{All, Option, None, Some, decimal}
-use Rattle.std.specs.List.{AllByRecursion as ByRecursion}
-use Rattle.std.specs.List.{slice_split, join_with_byte}
-use Rattle.std.proofs.lemmas.List.{append_assoc, append-nil, length-append, get_or_at}
-use Rattle.std.proofs.lemmas.List.Splits.{join_with_byte-slice_split, slice_split_at, slice_split_none, length-slice_split}
-use Rattle.std.proofs.lemmas.Bool.{ne_eqb, eq-eqb, false≢true}
-use Rattle.std.proofs.lemmas.List.Elements.{All-from_get_or, All-head, All-get_or, All-from_recursion}
-use Rattle.base64.specs.Rfc4648.{encode_symbols}
-use Rattle.base64.specs.GeneralPurpose.{IsBytes}
-use Rattle.base64.specs.Engines.{standard_no_pad}
-use Rattle.password_hash.specs.Letters.{is_lowercase, is_uppercase, is_digit}
-use Rattle.password_hash.specs.Pairs.{pairs_text}
-use Rattle.password_hash.specs.Phc.{base64, parts_text, version_part, params_part, IsSalt, IsKey, IsSaltAndKey}
-use Rattle.password_hash.specs.Decimal.{IsDecimal}
-use Rattle.password_hash.specs.Parts.{IsVersion, LackVersion, LackEquals}
-use Rattle.password_hash.proofs.DecimalFacts.{decimal_of, IsDecimal-decimal}
-use Rattle.password_hash.proofs.PairsFacts.{Lacks, letters_lack, slice_split-join}
+-- Texts of parts, each after a `$`.
+use Rattle.std.proofs.Common.{◌≡◌, ◌≢◌, ℕ, ◌<◌, ◌==◌, false, List, [], ◌∷◌, ◌++◌, length, get_or, refl, sym, ap, ◌∙◌, append_assoc}
+use Rattle.std.specs.Prelude.{All}
+use Rattle.std.specs.List.{join_with_byte}
+use Rattle.std.proofs.lemmas.Bool.{ne_eqb}
+use Rattle.std.proofs.lemmas.List.{append-nil}
+use Rattle.std.proofs.lemmas.List.Splits.{join_with_byte-slice_split, slice_split_at, slice_split_none}
+use Rattle.std.proofs.lemmas.List.Elements.{All-from_get_or}
+use Rattle.password_hash.specs.Parts.{dollar, parts_text, parts_of}
+use Rattle.password_hash.proofs.PairsFacts.{Lacks, slice_split-join}
 
--- the text of parts is a row of them behind a `$`
-pub parts_text-join : (part : List ℕ) (parts : List (List ℕ)) → parts_text (part ∷ parts) ≡ 36 ∷ join_with_byte 36 (part ∷ parts)
-parts_text-join part [] = ap (λ text. 36 ∷ text) (append-nil part)
-parts_text-join part (next ∷ parts) = ap (λ rest. 36 ∷ (part ++ rest)) (parts_text-join next parts)
+-- the text of parts is a `$` and the parts, joined by `$`
+parts_text-join : (part : List ℕ) (parts : List (List ℕ)) → parts_text (part ∷ parts) ≡ dollar ∷ join_with_byte dollar (part ∷ parts)
+parts_text-join part [] = ap (λ text. dollar ∷ text) (append-nil part)
+parts_text-join part (next ∷ parts) = ap (λ rest. dollar ∷ (part ++ rest)) (parts_text-join next parts)
 
 -- the parts of a text give the text
-pub parts_text_from_parts : (text part : List ℕ) (parts : List (List ℕ)) → slice_split (λ b. b == 36) text ≡ part ∷ parts → 36 ∷ text ≡ parts_text (part ∷ parts)
-parts_text_from_parts text part parts e =
-    ap (λ rest. 36 ∷ rest) (sym (join_with_byte-slice_split 36 text) ∙ ap (join_with_byte 36) e) ∙ sym (parts_text-join part parts)
+pub parts_text-parts_of : (text part : List ℕ) (parts : List (List ℕ)) → parts_of text ≡ part ∷ parts → dollar ∷ text ≡ parts_text (part ∷ parts)
+parts_text-parts_of text part parts e =
+    ap (λ rest. dollar ∷ rest) (sym (join_with_byte-slice_split dollar text) ∙ ap (join_with_byte dollar) e) ∙ sym (parts_text-join part parts)
 
--- and a text of parts without `$` gives the parts
-pub parts_from_parts_text : (text part : List ℕ) (parts : List (List ℕ)) → All (Lacks 36) (part ∷ parts) → 36 ∷ text ≡ parts_text (part ∷ parts) → slice_split (λ b. b == 36) text ≡ part ∷ parts
-parts_from_parts_text text part parts none e =
+-- and parts without `$` are those of their text
+pub parts_of-parts_text : (text part : List ℕ) (parts : List (List ℕ)) → All (Lacks dollar) (part ∷ parts) → dollar ∷ text ≡ parts_text (part ∷ parts) → parts_of text ≡ part ∷ parts
+parts_of-parts_text text part parts none e =
     let rest = e ∙ parts_text-join part parts in
-    let same : text ≡ join_with_byte 36 (part ∷ parts) = cc in
-    ap (slice_split (λ b. b == 36)) same ∙ slice_split-join 36 part parts none
+    let same : text ≡ join_with_byte dollar (part ∷ parts) = cc in
+    ap parts_of same ∙ slice_split-join dollar part parts none
 
--- the symbols of six bits of a table
-symbols_hold : (P : ℕ → Type 0) (t : List ℕ) → ((v : ℕ) → v < 64 → P (slice_index t v)) → (m : List ℕ) → IsBytes m → ByRecursion P (encode_symbols t m)
-unfolding encode_symbols
-symbols_hold P t each [] h = tt
-symbols_hold P t each (a ∷ []) h =
-    let small_a : a < 256 = h 0 in
-    (each (a / 4) (omega arith), (each (a % 4 * 16) (omega arith), tt))
-symbols_hold P t each (a ∷ b ∷ []) h =
-    let small_a : a < 256 = h 0 in
-    let small_b : b < 256 = h 1 in
-    (each (a / 4) (omega arith), (each (a % 4 * 16 + b / 16) (omega arith), (each (b % 16 * 4) (omega arith), tt)))
-symbols_hold P t each (a ∷ b ∷ c ∷ m) h =
-    let small_a : a < 256 = h 0 in
-    let small_b : b < 256 = h 1 in
-    let small_c : c < 256 = h 2 in
-    (each (a / 4) (omega arith), (each (a % 4 * 16 + b / 16) (omega arith), (each (b % 16 * 4 + c / 64) (omega arith), (each (c % 64) (omega arith), symbols_hold P t each m (λ i. h (suc (suc (suc i))))))))
+-- the text of one part more
+pub parts_text-push : (parts : List (List ℕ)) (part : List ℕ) → parts_text (parts ++ part ∷ []) ≡ parts_text parts ++ dollar ∷ part
+parts_text-push [] part = append-nil (dollar ∷ part)
+parts_text-push (first ∷ parts) part =
+    ap (λ more. (dollar ∷ first) ++ more) (parts_text-push parts part)
+    ∙ sym (append_assoc (dollar ∷ first) (parts_text parts) (dollar ∷ part))
 
--- `a-zA-Z0-9+/`
-abbrev is_base64_letter : ℕ → Bool
-is_base64_letter b = is_lowercase b || is_uppercase b || is_digit b || (b == 43) || (b == 47)
+lacks_by_place : (xs : List ℕ) → ((i : ℕ) → i < length xs → get_or xs i 0 ≢ dollar) → Lacks dollar xs
+lacks_by_place xs other =
+    All-from_get_or (λ b. (b == dollar) ≡ false) xs 0 (λ i below. ne_eqb (get_or xs i 0) dollar (other i below))
 
--- Base64 lacks a byte that is none of its letters
-pub base64_lacks : (c : ℕ) → is_base64_letter c ≡ false → (bytes : List ℕ) → IsBytes bytes → Lacks c (base64 bytes)
-base64_lacks c other bytes h =
-    let table : List ℕ = standard_no_pad.encode_table in
-    let none : Lacks c table = letters_lack is_base64_letter c other table refl in
-    let symbols = symbols_hold (λ b. (b == c) ≡ false) table (λ v below. All-get_or (λ b. (b == c) ≡ false) table v 0 below none) bytes h in
-    rw append-nil (All-from_recursion (λ b. (b == c) ≡ false) (encode_symbols table bytes) symbols)
-
-lacks_by_place : (c : ℕ) (xs : List ℕ) → ((i : ℕ) → i < length xs → get_or xs i 0 ≢ c) → Lacks c xs
-lacks_by_place c xs other =
-    All-from_get_or (λ b. (b == c) ≡ false) xs 0 (λ i below. ne_eqb (get_or xs i 0) c (other i below))
-
--- the part before the first `$`, and the parts behind it
-pub first_of_parts : (text part left : List ℕ) → text ≡ part ++ (36 ∷ left) → ((i : ℕ) → i < length part → get_or part i 0 ≢ 36) → slice_split (λ b. b == 36) text ≡ part ∷ slice_split (λ b. b == 36) left
-first_of_parts text part left e other =
-    ap (slice_split (λ b. b == 36)) e ∙ slice_split_at (λ b. b == 36) part 36 left (lacks_by_place 36 part other) refl
+-- the part before the first `$`, and the parts after it
+pub parts_of-first : (text part left : List ℕ) → text ≡ part ++ (dollar ∷ left) → ((i : ℕ) → i < length part → get_or part i 0 ≢ dollar) → parts_of text ≡ part ∷ parts_of left
+parts_of-first text part left e other =
+    ap parts_of e ∙ slice_split_at (λ b. b == dollar) part dollar left (lacks_by_place part other) refl
 
 -- a text without `$` is its one part
-pub only_part : (text : List ℕ) → ((i : ℕ) → i < length text → get_or text i 0 ≢ 36) → slice_split (λ b. b == 36) text ≡ text ∷ []
-only_part text other = slice_split_none (λ b. b == 36) text (lacks_by_place 36 text other)
-
--- a part that does not begin with `v=`
-abbrev pub LacksVersion : List ℕ → Type 0
-LacksVersion part = (rest : List ℕ) → part ≢ codes "v=" ++ rest
-
--- the version that a part with `v=` has
-pub record HasVersion (digits : List ℕ) (behind : List (List ℕ)) (version : Option ℕ) (others : List (List ℕ)) : Type 0 where
-  pub number : ℕ
-  pub is_version : version ≡ Some number
-  pub is_decimal : IsDecimal digits number
-  pub left : behind ≡ others
-
-pub version_next : (digits : List ℕ) (behind : List (List ℕ)) (version : Option ℕ) (others : List (List ℕ)) → IsVersion version → LackVersion others → (codes "v=" ++ digits) ∷ behind ≡ version_part version ++ others → HasVersion digits behind version others
-version_next digits behind None others h none e =
-    let heads = All-head LacksVersion (codes "v=" ++ digits) behind (subst (All LacksVersion) (sym e) none) in
-    absurd (heads digits refl)
-version_next digits behind (Some number) others h none e =
-    let same : digits ≡ decimal number = cc in
-    let left : behind ≡ others = cc in
-    record { number = number; is_version = refl; is_decimal = rw same (IsDecimal-decimal number h); left = left }
-
--- what is read of a part with `v=`
-pub version_read : (parts : List (List ℕ)) (part digits : List ℕ) (behind : List (List ℕ)) (number : ℕ) → parts ≡ part ∷ behind → part ≡ codes "v=" ++ digits → IsDecimal digits number → (parts ≡ (codes "v=" ++ decimal number) ∷ behind) × (number < 2 ^ 32)
-version_read parts part digits behind number e is h =
-    (e ∙ ap (λ first. first ∷ behind) (is ∙ ap (λ rest. codes "v=" ++ rest) (decimal_of digits number h)), h.small)
-
--- the text of parameters has a `=`
-pub equals_of_pairs : (pair : List ℕ × List ℕ) (pairs : List (List ℕ × List ℕ)) → (rest : List ℕ) × (pairs_text (pair ∷ pairs) ≡ pair.0 ++ (61 ∷ rest))
-equals_of_pairs pair [] = (pair.1, refl)
-equals_of_pairs pair (next ∷ pairs) =
-    (pair.1 ++ (44 ∷ pairs_text (next ∷ pairs)), append_assoc pair.0 (61 ∷ pair.1) (44 ∷ pairs_text (next ∷ pairs)))
-
--- a part without `=` is no text of parameters
-pub no_params : (part : List ℕ) (behind : List (List ℕ)) (params : List (List ℕ × List ℕ)) (others : List (List ℕ)) → ((k : ℕ) → k < length part → get_or part k 0 ≢ 61) → part ∷ behind ≡ params_part params ++ others → params ≡ []
-no_params part behind [] others none e = refl
-no_params part behind (pair ∷ params) others none e =
-    let text : part ≡ pairs_text (pair ∷ params) = cc in
-    let equals = equals_of_pairs pair params in
-    let whole = text ∙ equals.1 in
-    let within : length pair.0 < length part = omega (arith, ap length whole, length-append pair.0 (61 ∷ equals.0)) in
-    absurd (none (length pair.0) within (rw whole (get_or_at pair.0 61 equals.0 0 (length pair.0) refl)))
-
--- a part with a `=` is the text of the parameters
-pub params_next : (part : List ℕ) (behind : List (List ℕ)) (params : List (List ℕ × List ℕ)) (others : List (List ℕ)) → (k : ℕ) → k < length part → get_or part k 0 ≡ 61 → LackEquals others → part ∷ behind ≡ params_part params ++ others → (part ≡ pairs_text params) × (behind ≡ others)
-params_next part behind [] others k below equals none e =
-    let lacks = All-head (Lacks 61) part behind (subst (All (Lacks 61)) (sym e) none) in
-    let other = All-get_or (λ b. (b == 61) ≡ false) part k 0 below lacks in
-    absurd (false≢true (sym other ∙ eq-eqb (get_or part k 0) 61 equals))
-params_next part behind (pair ∷ params) others k below equals none e =
-    let text : part ≡ pairs_text (pair ∷ params) = cc in
-    let left : behind ≡ others = cc in
-    (text, left)
-
--- the salt and the key of two parts
-pub record HasSaltAndKey (part letters : List ℕ) (salt key : Option (List ℕ)) : Type 0 where
-  pub salt_bytes : List ℕ
-  pub key_bytes : List ℕ
-  pub is_salt : salt ≡ Some salt_bytes
-  pub is_key : key ≡ Some key_bytes
-  pub salt_letters : part ≡ base64 salt_bytes
-  pub key_letters : letters ≡ base64 key_bytes
-  pub salt_allowed : IsSalt salt_bytes
-  pub key_allowed : IsKey key_bytes
-
-pub salt_and_key_next : (part letters : List ℕ) (salt key : Option (List ℕ)) → IsSaltAndKey (part ∷ slice_split (λ b. b == 36) letters) salt key → HasSaltAndKey part letters salt key
-salt_and_key_next part letters None key h =
-    let e = h.whole in
-    cc
-salt_and_key_next part letters (Some salt) None h =
-    let e = h.whole in
-    let none : slice_split (λ b. b == 36) letters ≡ [] = cc in
-    absurd (omega (arith, ap length none, length-slice_split (λ b. b == 36) letters))
-salt_and_key_next part letters (Some salt) (Some key) h =
-    let e = h.whole in
-    let first : part ≡ base64 salt = cc in
-    let rest : slice_split (λ b. b == 36) letters ≡ base64 key ∷ [] = cc in
-    record {
-      salt_bytes = salt;
-      key_bytes = key;
-      is_salt = refl;
-      is_key = refl;
-      salt_letters = first;
-      key_letters = sym (join_with_byte-slice_split 36 letters) ∙ ap (join_with_byte 36) rest;
-      salt_allowed = h.salt_bytes;
-      key_allowed = h.key_bytes;
-    }
-
--- what is read of a salt and a key
-pub salt_and_key_read : (parts : List (List ℕ)) (part letters salt key : List ℕ) → parts ≡ part ∷ slice_split (λ b. b == 36) letters → part ≡ base64 salt → IsSalt salt → letters ≡ base64 key → IsKey key → IsSaltAndKey parts (Some salt) (Some key)
-salt_and_key_read parts part letters salt key e is_salt salt_allowed is_key key_allowed =
-    let alone : slice_split (λ b. b == 36) letters ≡ letters ∷ [] =
-    slice_split_none (λ b. b == 36) letters (rw is_key (base64_lacks 36 refl key key_allowed.bytes)) in
-    record {
-      whole = e ∙ rw (alone, is_salt, is_key) refl;
-      salt_bytes = salt_allowed;
-      key_bytes = key_allowed;
-      key_behind_salt = refl;
-    }
+pub parts_of-only : (text : List ℕ) → ((i : ℕ) → i < length text → get_or text i 0 ≢ dollar) → parts_of text ≡ text ∷ []
+parts_of-only text other = slice_split_none (λ b. b == dollar) text (lacks_by_place text other)

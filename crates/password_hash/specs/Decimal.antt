@@ -1,5 +1,7 @@
 -- Numbers in decimal digits.
-use Rattle.std.specs.Prelude.{◌≡◌, ℕ, ◌^◌, ◌<◌, List, length, slice_index}
+use Rattle.std.specs.Prelude.{◌≡◌, ℕ, ◌^◌, ◌||◌, ◌&&◌, ◌==◌, ◌<◌, not, nat_lt, Bool, if◌then◌else◌, List, length, slice_index, Option, Some, None, Result, MatchBool}
+use Rattle.std.specs.Result.{result_ok}
+use Rattle.std.specs.Str.{all_ascii_digits}
 use Rattle.std.specs.Str.Parse.{AllDigits, digits_value}
 
 -- one or more digits, the first no zero unless it is the only one, of a number below 2 ^ 32
@@ -9,3 +11,23 @@ pub record IsDecimal (text : List ℕ) (number : ℕ) : Type 0 where
   pub no_leading_zero : slice_index text 0 ≡ 48 → length text ≡ 1
   pub value : digits_value 10 text ≡ number
   pub small : number < 2 ^ 32
+
+-- the text begins with a plus, or with a zero that is not its only digit
+unfoldable pub has_plus_or_leading_zero : List ℕ → Bool
+has_plus_or_leading_zero text =
+    slice_index text 0 == 43 || (slice_index text 0 == 48 && nat_lt 1 (length text))
+
+-- one or more digits, the first no zero unless it is the only one
+abbrev pub is_decimal : List ℕ → Bool
+is_decimal text = nat_lt 0 (length text) && all_ascii_digits text && not (has_plus_or_leading_zero text)
+
+-- the number of a decimal text, if it is below the limit
+unfoldable pub decimal_below : ℕ → List ℕ → Option ℕ
+decimal_below limit text =
+    if is_decimal text && nat_lt (digits_value 10 text) limit then Some (digits_value 10 text)
+    else None
+
+-- what `parse` gives, but `None` for a text that begins with a plus or a leading zero
+abbrev pub DecimalGives : {N E : Type 0} → (List ℕ → Result N E → Type 0) → List ℕ → Option N → Type 0
+DecimalGives {N} {E} parse_gives text answer = MatchBool (has_plus_or_leading_zero text) (answer ≡ None)
+    ((parsed : Result N E) × parse_gives text parsed × (answer ≡ result_ok parsed))

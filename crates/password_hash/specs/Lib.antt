@@ -1,11 +1,12 @@
 pub mod Refusal
-pub mod Padded
+pub mod Stored
 pub mod Letters
 pub mod Decimal
+pub mod Parts
 pub mod Value
 pub mod Pairs
 pub mod Phc
-pub mod Parts
+pub mod PhcParts
 pub mod Crypt64
 pub mod Mcf
 pub mod McfViews

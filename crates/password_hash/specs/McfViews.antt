@@ -1,9 +1,9 @@
--- What contracts see of borrowed modular texts.
+-- What contracts see of borrowed MCF texts.
 use Rattle.std.specs.Prelude.{ℕ, List}
 use Rattle.password_hash.specs.declared.mcf.field.Field.{Field}
 use Rattle.password_hash.specs.declared.mcf.fields.Fields.{Fields}
 use Rattle.password_hash.specs.declared.mcf.hash_ref.PasswordHashRef.{PasswordHashRef}
-use Rattle.password_hash.specs.Mcf.{fields_behind}
+use Rattle.password_hash.specs.Parts.{parts_left}
 
 -- the text of a borrowed hash
 abbrev pub hash_text : PasswordHashRef → List ℕ
@@ -15,4 +15,4 @@ field_text field = field.text.now
 
 -- the texts of the fields that are yet to come
 abbrev pub fields_left : Fields → List (List ℕ)
-fields_left fields = fields_behind fields.left
+fields_left fields = parts_left fields.left

@@ -1,9 +1,11 @@
 -- A hash in the PHC string format.
-use Rattle.std.specs.Prelude.{◌≡◌, ℕ, ◌^◌, ◌<◌, ◌≤◌, List, [], ◌∷◌, ◌++◌, length, codes, decimal, flat_map, Option, None, Some, IfSome, OnSome, IsSome}
+use Rattle.std.specs.Prelude.{◌≡◌, ℕ, ◌^◌, ◌<◌, ◌≤◌, List, [], ◌∷◌, ◌++◌, length, codes, decimal, Option, None, Some, IfSome, OnSome, IsSome}
 use Rattle.base64.specs.Engines.{standard_no_pad}
-use Rattle.base64.specs.GeneralPurpose.{encode_of, IsBytes}
+use Rattle.base64.specs.GeneralPurpose.{encode_of}
 use Rattle.password_hash.specs.Letters.{IsIdentifier}
 use Rattle.password_hash.specs.Pairs.{pairs_text, ArePairs}
+use Rattle.password_hash.specs.Parts.{parts_text}
+use Rattle.password_hash.specs.Stored.{AreBytesFromTo}
 use Rattle.password_hash.specs.declared.phc.hash.PasswordHash.{PasswordHash}
 
 -- Base64 of RFC 4648, section 4, without padding
@@ -36,25 +38,17 @@ hash_parts hash =
     hash.algorithm ∷ (version_part hash.version ++ (params_part hash.params
     ++ salt_and_key_parts hash.salt hash.hash))
 
--- the text of parts: each stands behind a `$`
-abbrev pub parts_text : List (List ℕ) → List ℕ
-parts_text parts = flat_map (λ part. codes "$" ++ part) parts
-
 -- the text of a hash
 abbrev pub hash_text : PasswordHash → List ℕ
 hash_text hash = parts_text (hash_parts hash)
 
 -- a salt: 1 to 64 bytes
-pub record IsSalt (salt : List ℕ) : Type 0 where
-  pub bytes : IsBytes salt
-  pub some : 1 ≤ length salt
-  pub short : length salt ≤ 64
+abbrev pub IsSalt : List ℕ → Type 0
+IsSalt salt = AreBytesFromTo 1 64 salt
 
 -- a key: 10 to 64 bytes
-pub record IsKey (key : List ℕ) : Type 0 where
-  pub bytes : IsBytes key
-  pub least : 10 ≤ length key
-  pub greatest : length key ≤ 64
+abbrev pub IsKey : List ℕ → Type 0
+IsKey key = AreBytesFromTo 10 64 key
 
 -- the parts are a salt and a key, a salt alone, or none
 pub record IsSaltAndKey (parts : List (List ℕ)) (salt key : Option (List ℕ)) : Type 0 where

@@ -1,6 +1,5 @@
 //! What hashing, verifying and reading a hash text refuse by.
 use std::alloc::AllocError;
-use std::fmt;
 
 /// The version of an algorithm.
 pub type Version = u32;
@@ -9,48 +8,39 @@ pub type Version = u32;
 pub type Result<T> = std::result::Result<T, Error>;
 
 /// Why a password hash was not made, read or accepted.
-#[derive(Clone, Copy, Debug, PartialEq, Eq)]
+#[derive(Clone, Copy, Debug, PartialEq, Eq, thiserror::Error)]
 pub enum Error {
     /// The hash names another algorithm.
+    #[error("unsupported algorithm")]
     Algorithm,
     /// The text is not written as its format asks.
+    #[error("invalid encoding")]
     EncodingInvalid,
     /// The length of the key is not an allowed one.
+    #[error("invalid key length")]
     OutputSize,
     /// The value of the named parameter is not an allowed one.
+    #[error("invalid parameter {name}")]
     ParamInvalid {
         /// The name of the parameter.
         name: &'static str,
     },
     /// The parameters together are not allowed ones.
+    #[error("invalid parameters")]
     ParamsInvalid,
     /// The password is not the one of the hash.
+    #[error("wrong password")]
     PasswordInvalid,
     /// The length of the salt is not an allowed one.
+    #[error("invalid salt length")]
     SaltInvalid,
     /// The hash names a version that is not supported.
+    #[error("unsupported version")]
     Version,
     /// A request for memory was refused.
+    #[error("out of memory")]
     OutOfMemory,
 }
-
-impl fmt::Display for Error {
-    fn fmt<W: fmt::Write>(&self, f: &mut fmt::Formatter<W>) -> fmt::Result {
-        match self {
-            Error::Algorithm => write!(f, "unsupported algorithm"),
-            Error::EncodingInvalid => write!(f, "invalid encoding"),
-            Error::OutputSize => write!(f, "invalid key length"),
-            Error::ParamInvalid { name } => write!(f, "invalid parameter {name}"),
-            Error::ParamsInvalid => write!(f, "invalid parameters"),
-            Error::PasswordInvalid => write!(f, "wrong password"),
-            Error::SaltInvalid => write!(f, "invalid salt length"),
-            Error::Version => write!(f, "unsupported version"),
-            Error::OutOfMemory => write!(f, "out of memory"),
-        }
-    }
-}
-
-impl std::error::Error for Error {}
 
 impl From<AllocError> for Error {
     ghost use Rattle.std.specs.Prelude.{◌≡◌};

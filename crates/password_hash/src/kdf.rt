@@ -2,30 +2,20 @@
 ghost use Rattle.std.specs.Prelude.{◌≡◌, List, ℕ, OnOk, OnErr, IfErr, length};
 
 use std::alloc::{AllocError, Global};
-use std::fmt;
 
 /// Why no key was derived.
-#[derive(Clone, Copy, Debug, PartialEq, Eq)]
+#[derive(Clone, Copy, Debug, PartialEq, Eq, thiserror::Error)]
 pub enum Error {
     /// No key of this length can be derived.
+    #[error("refused key length")]
     Refused,
     /// A request for memory was refused.
+    #[error("out of memory")]
     OutOfMemory,
 }
 
 /// A result of deriving a key.
 pub type Result<T> = std::result::Result<T, Error>;
-
-impl fmt::Display for Error {
-    fn fmt<W: fmt::Write>(&self, f: &mut fmt::Formatter<W>) -> fmt::Result {
-        match self {
-            Error::Refused => write!(f, "refused key length"),
-            Error::OutOfMemory => write!(f, "out of memory"),
-        }
-    }
-}
-
-impl std::error::Error for Error {}
 
 impl From<AllocError> for Error {
     ghost use Rattle.std.specs.Prelude.{◌≡◌};

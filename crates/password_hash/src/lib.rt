@@ -1,9 +1,12 @@
 //! Password hashing: traits, errors and the two text formats.
 #![tactic(auto)]
 
+pub mod decimal;
 mod error;
 pub mod kdf;
+mod letters;
 pub mod mcf;
+mod parts;
 pub mod phc;
 mod traits;
 

@@ -1,4 +1,4 @@
-//! Modular texts of crypt(5), as `$7$..`, and the Base64 of their fields.
+//! MCF texts of crypt(5), as `$7$..`, and the Base64 of their fields.
 ghost use Rattle.std.specs.Prelude.{◌≡◌};
 ghost use Rattle.password_hash.specs.declared.mcf.Error.TheVariants.{OutOfMemory};
 
@@ -19,30 +19,20 @@ pub use fields::Fields;
 pub use hash::PasswordHash;
 pub use hash_ref::PasswordHashRef;
 use std::alloc::AllocError;
-use std::fmt;
 
-/// Why a modular text or a field of one is refused.
-#[derive(Clone, Copy, Debug, PartialEq, Eq)]
+/// Why an MCF text or a field of one is refused.
+#[derive(Clone, Copy, Debug, PartialEq, Eq, thiserror::Error)]
 pub enum Error {
     /// The text is not of the form that is read.
+    #[error("invalid encoding")]
     EncodingInvalid,
     /// Memory ran out.
+    #[error("out of memory")]
     OutOfMemory,
 }
 
-/// What reads or writes modular texts returns.
+/// What reads or writes MCF texts returns.
 pub type Result<T> = std::result::Result<T, Error>;
-
-impl fmt::Display for Error {
-    fn fmt<W: fmt::Write>(&self, f: &mut fmt::Formatter<W>) -> fmt::Result {
-        match self {
-            Error::EncodingInvalid => write!(f, "invalid encoding"),
-            Error::OutOfMemory => write!(f, "out of memory"),
-        }
-    }
-}
-
-impl std::error::Error for Error {}
 
 impl From<AllocError> for Error {
     ghost from_gives = { λ _ e. e ≡ OutOfMemory };

@@ -9,7 +9,7 @@ use Rattle.std.proofs.lemmas.List.Elements.{All-head, All-tail}
 use Rattle.password_hash.specs.Crypt64.{letter, letter_value, letters_of, number_of, with_digit}
 use Rattle.password_hash.proofs.Crypt64Facts.{length-letters_of, letters_of-number_of, number_of-letters_of}
 use Rattle.password_hash.proofs.GroupFacts.{append_parts}
-use Rattle.password_hash.proofs.LetterFacts.{letter_value-letter, letter-of_value}
+use Rattle.password_hash.proofs.AlphabetFacts.{letter_value-letter, letter-of_value}
 use Rattle.scrypt.specs.Accepted.{AreAccepted}
 use Rattle.scrypt.specs.McfCosts.{costs_letters, five_letter_number, SaysCosts}
 use Rattle.scrypt.proofs.AcceptedFacts.{small_costs}

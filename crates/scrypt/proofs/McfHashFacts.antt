@@ -2,9 +2,10 @@
 use Rattle.std.proofs.Common.{◌≡◌, ℕ, List, [], ◌∷◌, Ok, Err, refl, sym, ap, ap₂, subst, ◌∙◌, ◌++◌}
 use Rattle.std.specs.Prelude.{IfOk, Result}
 use Rattle.password_hash.specs.Crypt64.{Crypt64, crypt64_of}
-use Rattle.password_hash.specs.Mcf.{Modular, behind_dollars}
+use Rattle.password_hash.specs.Mcf.{IsMcfText}
+use Rattle.password_hash.specs.Parts.{parts_text}
 use Rattle.password_hash.specs.Refusal.{Refusal}
-use Rattle.password_hash.proofs.ModularFacts.{Modular-one}
+use Rattle.password_hash.proofs.McfFacts.{IsMcfText-one}
 use Rattle.password_hash.proofs.OneReading.{Crypt64-one}
 use Rattle.scrypt.specs.Accepted.{Parameters}
 use Rattle.scrypt.specs.KeyOfParams.{key_by}
@@ -16,10 +17,10 @@ use Rattle.scrypt.specs.McfHash.{HasCosts, IsWhole, ReadIsRefused, other_id, no_
 use Rattle.scrypt.specs.Hashing.{made_len}
 
 -- a text has one id and one list of fields
-pub fields_once : {text id other : List ℕ} {fields others : List (List ℕ)} → Modular text id fields → Modular text other others → (id ≡ other) × (fields ≡ others)
+pub fields_once : {text id other : List ℕ} {fields others : List (List ℕ)} → IsMcfText text id fields → IsMcfText text other others → (id ≡ other) × (fields ≡ others)
 fields_once {text} {id} {other} {fields} {others} first second =
-    let a = Modular-one text id fields first in
-    let b = Modular-one text other others second in
+    let a = IsMcfText-one text id fields first in
+    let b = IsMcfText-one text other others second in
     (sym a.0 ∙ b.0, sym a.1 ∙ b.1)
 
 -- a field says one log_n, one r and one p
@@ -97,10 +98,10 @@ field_written {field} (accepted {log_n} {r} {p} says good) = field_is field log_
 
 -- a hash has one text
 pub text_of : {text : List ℕ} {c : Parameters} {salt key : List ℕ} → IsWhole text c salt key
-    → text ≡ behind_dollars (mcf_id ∷ (costs_letters c.log_n c.r c.p ++ salt) ∷ crypt64_of key ∷ [])
+    → text ≡ parts_text (mcf_id ∷ (costs_letters c.log_n c.r c.p ++ salt) ∷ crypt64_of key ∷ [])
 text_of h =
     h.has_costs.parts.written
-    ∙ ap₂ (λ field letters. behind_dollars (mcf_id ∷ field ∷ letters ∷ [])) (field_written h.has_costs.costs) h.key_is.encoding
+    ∙ ap₂ (λ field letters. parts_text (mcf_id ∷ field ∷ letters ∷ [])) (field_written h.has_costs.costs) h.key_is.encoding
 
 -- a made hash accepts its password
 pub made_accepted : (c : Parameters) (password salt text : List ℕ) → IsMadeHash c password salt text → Accepts password text

@@ -1,7 +1,7 @@
 -- A `$7$` text is refused for one thing.
 use Rattle.std.proofs.Common.{◌≡◌, ◌⊎◌, List, ℕ, [], ◌∷◌, length, Ok, Err, inl, inr, refl, sym, subst, ◌∙◌}
 use Rattle.password_hash.specs.Crypt64.{Crypt64, IsCrypt64}
-use Rattle.password_hash.specs.Mcf.{Modular}
+use Rattle.password_hash.specs.Mcf.{IsMcfText}
 use Rattle.password_hash.specs.Refusal.{Refusal, BadAlgorithm, BadEncoding, BadOutputSize}
 use Rattle.scrypt.specs.Accepted.{IsOutputLen, Parameters}
 use Rattle.scrypt.specs.McfCosts.{ReadsField}
@@ -24,8 +24,8 @@ FieldsAreRefused (field ∷ behind) why =
 
 -- the reason that a text with the id `7` is refused for
 fields_refused : {text : List ℕ} {why : Refusal} → ReadIsRefused text why
-    → ((why ≡ BadAlgorithm) × ((fields : List (List ℕ)) → ¬ Modular text mcf_id fields))
-    ⊎ ((fields : List (List ℕ)) × Modular text mcf_id fields × FieldsAreRefused fields why)
+    → ((why ≡ BadAlgorithm) × ((fields : List (List ℕ)) → ¬ IsMcfText text mcf_id fields))
+    ⊎ ((fields : List (List ℕ)) × IsMcfText text mcf_id fields × FieldsAreRefused fields why)
 fields_refused (other_id parts other) = inl (refl, λ fields parts'. other (fields_once parts parts').0)
 fields_refused (no_field parts) = inr ([], parts, refl)
 fields_refused (bad_costs {field} {behind} parts why) = inr (field ∷ behind, parts, inl why)

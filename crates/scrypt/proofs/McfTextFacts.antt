@@ -6,10 +6,11 @@ use Rattle.std.proofs.lemmas.List.{append-nil, drop_all, drop_at, take_at, drop-
 use Rattle.std.proofs.lemmas.List.Elements.{All-nil, All-cons, All-append, All-from_get_or, All-head, All-tail, All-weaker}
 use borrow.Rule.Slice.PartMut.{put_mid}
 use Rattle.password_hash.specs.Crypt64.{letter, letters_of, crypt64_of}
-use Rattle.password_hash.specs.Mcf.{dollar, is_id_byte, IsField}
-use Rattle.password_hash.proofs.LetterFacts.{letter-ascii, letter_value-letter}
+use Rattle.password_hash.specs.Mcf.{IsField}
+use Rattle.password_hash.specs.Parts.{dollar}
+use Rattle.password_hash.proofs.AlphabetFacts.{letter-ascii, letter_value-letter}
 use Rattle.password_hash.proofs.Crypt64Facts.{IsPlain, crypt64_of-plain, length-letters_of, letters_of-plain}
-use Rattle.password_hash.proofs.ModularFacts.{IsField-crypt64_of}
+use Rattle.password_hash.proofs.McfFacts.{IsField-crypt64_of}
 use Rattle.scrypt.specs.Accepted.{AreAccepted, IsOutputLen, IsStoredLen, Parameters}
 use Rattle.scrypt.specs.KeyOfParams.{key_by}
 use Rattle.scrypt.proofs.KeyFacts.{key_by-are_bytes, length-key_by}
@@ -112,7 +113,7 @@ text_is c salt key good no_dollar are_bytes allowed =
       has_costs = record {
         field = field;
         parts = record {
-          is_id = (lit< tt, All-cons (λ byte. IsTrue (is_id_byte byte)) 55 [] refl (All-nil (λ byte. IsTrue (is_id_byte byte))));
+          is_id = (lit< tt, refl);
           are_fields = All-cons IsField field (crypt64_of key ∷ []) field_is (All-cons IsField (crypt64_of key) [] (IsField-crypt64_of key) (All-nil IsField));
           written = ap (λ rest. codes "$7$" ++ rest)
               (sym (append_assoc letters salt (dollar ∷ crypt64_of key)) ∙ ap (λ z. field ++ (dollar ∷ z)) (sym (append-nil (crypt64_of key))));

@@ -98,9 +98,9 @@ made_is_text c password salt hash fits len salted made =
       params = rw made.params (three_pairs c.log_n c.r c.p (omega (arith, small.0)) (omega (arith, small.1)) (omega (arith, small.2)));
       salt = rw made.salt_is salted;
       key = rw made.key_is (record {
-        bytes = key_by-are_bytes c password salt (made_len c);
-        least = omega (arith, long, stored.0);
-        greatest = omega (arith, long, stored.1);
+        are_bytes = key_by-are_bytes c password salt (made_len c);
+        enough = omega (arith, long, stored.0);
+        fits = omega (arith, long, stored.1);
       });
       key_behind_salt = rw (made.key_is, made.salt_is) refl;
     }

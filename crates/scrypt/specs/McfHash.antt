@@ -1,7 +1,7 @@
 -- `$7$` hashes: what their texts say, which are made, and which passwords they accept.
 use Rattle.std.specs.Prelude.{◌≢◌, ℕ, List, [], ◌∷◌, length, codes, Option, Ok, Err, ⊤}
 use Rattle.password_hash.specs.Crypt64.{Crypt64, IsCrypt64, crypt64_of}
-use Rattle.password_hash.specs.Mcf.{Modular}
+use Rattle.password_hash.specs.Mcf.{IsMcfText}
 use Rattle.password_hash.specs.Refusal.{Refusal, BadAlgorithm, BadEncoding, BadOutputSize}
 use Rattle.scrypt.specs.Accepted.{IsOutputLen, Parameters}
 use Rattle.scrypt.specs.KeyOfParams.{key_by}
@@ -17,7 +17,7 @@ mcf_id = codes "7"
 -- The text has the id `7`, its first field says these costs and this salt, and these fields are behind it.
 pub record HasCosts (text : List ℕ) (c : Parameters) (salt : List ℕ) (behind : List (List ℕ)) : Type 0 where
   pub field : List ℕ
-  pub parts : Modular text mcf_id (field ∷ behind)
+  pub parts : IsMcfText text mcf_id (field ∷ behind)
   pub costs : ReadsField field (Ok (c, salt))
 
 -- the text of a whole `$7$` hash: two fields, of which the first says costs and salt, and the second is a
@@ -32,10 +32,10 @@ pub record IsWhole (text : List ℕ) (c : Parameters) (salt key : List ℕ) : Ty
 -- is refused by, no second field, a second field that is not crypt Base64, a third field, and a key whose
 -- length is no accepted output length.
 pub data ReadIsRefused (text : List ℕ) : Refusal → Type 0 where
-  other_id : {id : List ℕ} {fields : List (List ℕ)} → Modular text id fields → id ≢ mcf_id
+  other_id : {id : List ℕ} {fields : List (List ℕ)} → IsMcfText text id fields → id ≢ mcf_id
       → ReadIsRefused text BadAlgorithm
-  no_field : Modular text mcf_id [] → ReadIsRefused text BadEncoding
-  bad_costs : {field : List ℕ} {behind : List (List ℕ)} {why : Refusal} → Modular text mcf_id (field ∷ behind)
+  no_field : IsMcfText text mcf_id [] → ReadIsRefused text BadEncoding
+  bad_costs : {field : List ℕ} {behind : List (List ℕ)} {why : Refusal} → IsMcfText text mcf_id (field ∷ behind)
       → ReadsField field (Err why) → ReadIsRefused text why
   no_key : {c : Parameters} {salt : List ℕ} → HasCosts text c salt [] → ReadIsRefused text BadEncoding
   bad_key : {c : Parameters} {salt letters : List ℕ} {behind : List (List ℕ)} → HasCosts text c salt (letters ∷ behind)

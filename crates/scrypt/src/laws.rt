@@ -3,7 +3,8 @@
 ghost use Rattle.std.specs.Prelude.{◌≡◌, ◌↔◌, ℕ, ◌-◌, ◌*◌, ◌%◌, ◌^◌, ◌<◌, ◌≤◌, List, [], ◌∷◌, ◌++◌, length, take, Option, Result, Ok, IfSome, IsSome, Some, All};
 ghost use Rattle.sha2.specs.Sha256.{sha256};
 ghost use Rattle.password_hash.specs.Crypt64.{Crypt64, crypt64_of, letter_value, letters_of};
-ghost use Rattle.password_hash.specs.Mcf.{Modular, dollar};
+ghost use Rattle.password_hash.specs.Mcf.{IsMcfText};
+ghost use Rattle.password_hash.specs.Parts.{dollar};
 ghost use Rattle.password_hash.specs.Phc.{IsHashText, IsSalt, hash_text};
 ghost use Rattle.password_hash.specs.Refusal.{Refusal};
 ghost use Rattle.password_hash.specs.declared.phc.hash.PasswordHash.{PasswordHash};
@@ -64,10 +65,10 @@ pub fn texts_have_one_reading()
         → one ≡ other }
     ensures phc_text { (hash : PasswordHash) (one other : List ℕ) → IsHashText one hash → IsHashText other hash
         → one ≡ other }
-    ensures modular_reading { (text one other : List ℕ) (fields more : List (List ℕ)) → Modular text one fields
-        → Modular text other more → (one ≡ other) × (fields ≡ more) }
-    ensures modular_text { (id one other : List ℕ) (fields : List (List ℕ)) → Modular one id fields
-        → Modular other id fields → one ≡ other }
+    ensures modular_reading { (text one other : List ℕ) (fields more : List (List ℕ)) → IsMcfText text one fields
+        → IsMcfText text other more → (one ≡ other) × (fields ≡ more) }
+    ensures modular_text { (id one other : List ℕ) (fields : List (List ℕ)) → IsMcfText one id fields
+        → IsMcfText other id fields → one ≡ other }
     ensures mcf_reading { (text salt more_salt stored more_stored : List ℕ) (one other : Parameters)
         → IsMcfWhole text one salt stored → IsMcfWhole text other more_salt more_stored
         → (one ≡ other) × (salt ≡ more_salt) × (stored ≡ more_stored) }

@@ -1,6 +1,6 @@
 -- The hash that a password is verified against, of either format.
 use Rattle.std.specs.Prelude.{◌≡◌, ℕ, ◌==◌, ◌&&◌, ◌||◌, Bool, false, true, MatchBool, List, length, slice_index, Option, Some}
-use Rattle.password_hash.specs.Mcf.{IsModular}
+use Rattle.password_hash.specs.Mcf.{IsMcf}
 use Rattle.password_hash.specs.McfViews.{hash_text}
 use Rattle.password_hash.specs.Phc.{IsHashText as IsPhcText}
 use Rattle.password_hash.specs.Refusal.{Refusal}
@@ -22,11 +22,11 @@ is_mcf_word word = slice_index word 0 == 36 && slice_index word 1 == 55
 -- the word is the text of this hash
 abbrev pub IsHashOf : List ℕ → StoredHash → Type 0
 IsHashOf word (Phc hash) = (is_mcf_word word ≡ false) × IsPhcText word hash
-IsHashOf word (Mcf hash) = (is_mcf_word word ≡ true) × IsModular word × (hash_text hash ≡ word)
+IsHashOf word (Mcf hash) = (is_mcf_word word ≡ true) × IsMcf word × (hash_text hash ≡ word)
 
 -- the word is the text of some hash
 abbrev pub IsHashText : List ℕ → Type 0
-IsHashText word = MatchBool (is_mcf_word word) (IsModular word) ((hash : PasswordHash) × IsPhcText word hash)
+IsHashText word = MatchBool (is_mcf_word word) (IsMcf word) ((hash : PasswordHash) × IsPhcText word hash)
 
 -- the hash is whole with these costs, this salt and this key
 abbrev pub IsWhole : StoredHash → Parameters → List ℕ → List ℕ → Type 0

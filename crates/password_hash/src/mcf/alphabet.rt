@@ -8,14 +8,14 @@ const ALPHABET: [u8; 64] = *b"./0123456789ABCDEFGHIJKLMNOPQRSTUVWXYZabcdefghijkl
 /// The letter of a value, which has to be below 64.
 pub fn letter(value: u32) -> u8
     requires { value < 64 }
-    ensures { result ≡ letter value }
+    ensures value { result ≡ letter value }
 {
     ALPHABET[value as usize]
 }
 
 /// The value of a letter, or `None` where the byte is no letter.
 pub fn value(byte: u8) -> Option<u8>
-    ensures { result ≡ letter_value byte }
+    ensures value { result ≡ letter_value byte }
 {
     match byte {
         b'.'..=b'9' => Some(byte - b'.'),
@@ -29,7 +29,7 @@ pub fn value(byte: u8) -> Option<u8>
 /// or `None` where a byte is no letter.
 pub fn number(letters: &[u8]) -> Option<u32>
     requires { length letters.now ≤ 5 }
-    ensures { result ≡ number_of letters.now }
+    ensures value { result ≡ number_of letters.now }
 {
     let mut number = 0;
     for place in (0..letters.len()).rev() {

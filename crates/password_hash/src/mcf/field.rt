@@ -1,4 +1,4 @@
-//! One field of a modular text.
+//! One field of an MCF text.
 ghost use Rattle.std.specs.Prelude.{◌≡◌, ◌↔◌, ℕ, List, length, IsTrue, IfOk, IsErrOf, MatchOption};
 ghost use Rattle.password_hash.specs.Crypt64.{Crypt64, IsCrypt64};
 
@@ -6,7 +6,7 @@ use super::crypt64::{Base64, decoded_len, is_encoding};
 use super::{Error, Result};
 use std::alloc::Global;
 
-/// A field of a modular text: any text without `$`, also the empty one.
+/// A field of an MCF text: any text without `$`, also the empty one.
 #[derive(Clone, Copy, Debug)]
 pub struct Field<'a> {
     pub(super) text: &'a str,
@@ -17,7 +17,7 @@ impl<'a> Field<'a> {
 
     /// The text of the field.
     pub fn as_str(&self) -> &'a str
-        ensures { result.now ≡ field_text self.now }
+        ensures value { result.now ≡ field_text self.now }
     {
         self.text
     }
@@ -37,7 +37,7 @@ impl<'a> Field<'a> {
     /// The number of bytes of which the field has the letters in crypt Base64, or `None` where no
     /// bytes have them. It takes no memory.
     pub fn base64_len(&self) -> Option<usize>
-        ensures { MatchOption result (¬ IsCrypt64 (field_text self.now))
+        ensures value { MatchOption result (¬ IsCrypt64 (field_text self.now))
             (λ n. (bytes : List ℕ) × Crypt64 bytes (field_text self.now) × (length bytes ≡ n)) }
     {
         decoded_len(self.text.as_bytes())
@@ -46,7 +46,7 @@ impl<'a> Field<'a> {
     /// Whether the field has the letters of these bytes in crypt Base64. It looks at every byte, and
     /// takes no memory.
     pub fn base64_matches(&self, bytes: &[u8]) -> bool
-        ensures { IsTrue result ↔ Crypt64 bytes.now (field_text self.now) }
+        ensures exact { IsTrue result ↔ Crypt64 bytes.now (field_text self.now) }
     {
         is_encoding(self.text.as_bytes(), bytes)
     }

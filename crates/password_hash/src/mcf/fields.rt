@@ -1,10 +1,11 @@
-//! The fields of a modular text.
-ghost use Rattle.std.specs.Prelude.{◌≡◌, ◌↔◌, ◌∷◌, IsTrue};
-ghost use Rattle.password_hash.specs.Mcf.{IsField, parts_of, fields_behind};
+//! The fields of an MCF text.
+ghost use Rattle.std.specs.Prelude.{◌↔◌, IsTrue};
+ghost use Rattle.password_hash.specs.Mcf.{IsField};
 
 use super::field::Field;
+use crate::parts::first_part;
 
-/// The fields of a modular text, in order.
+/// The fields of an MCF text, in order.
 #[derive(Debug, Drop)]
 pub struct Fields<'a> {
     /// What stands behind the next dollar, if there is one.
@@ -22,19 +23,9 @@ impl<'a> Iterator for Fields<'a> {
     ghost remaining = { item_count fields_left };
 
     fn next(&mut self) -> Option<Field<'a>> {
-        let (text, left) = split_part(self.left?);
+        let (text, left) = first_part(self.left?);
         self.left = left;
         Some(Field { text })
-    }
-}
-
-/// What stands before the first dollar, and what stands behind it, if there is one.
-pub(super) fn split_part(text: &str) -> (&str, Option<&str>)
-    ensures { parts_of text.now ≡ result.0.now ∷ fields_behind result.1 }
-{
-    match text.split_once('$') {
-        Some((part, behind)) => (part, Some(behind)),
-        None => (text, None),
     }
 }
 

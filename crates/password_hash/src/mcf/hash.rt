@@ -1,18 +1,19 @@
-//! An owned modular text.
+//! An owned MCF text.
 ghost use Rattle.std.specs.Prelude.{◌≡◌, ◌↔◌, ◌∷◌, ◌++◌, nat_eq, IsOk, IfOk, OnOk, IfErr, OnErr, IsErrOf, MatchResult, string_bytes};
 ghost use Rattle.std.specs.Cmp.{partial_equiv_from_equiv};
 ghost use Rattle.std.specs.Cmp.Lexicographic.{pointwise, nat_list_eq_equiv};
 ghost use Rattle.password_hash.specs.Crypt64.{crypt64_of};
-ghost use Rattle.password_hash.specs.Mcf.{dollar, IsId, IsField, Modular, IsModular, id_of, fields_of};
+ghost use Rattle.password_hash.specs.Mcf.{IsId, IsField, IsMcfText, IsMcf, id_of, fields_of};
+ghost use Rattle.password_hash.specs.Parts.{dollar};
 
 use super::crypt64::Base64;
 use super::fields::{Fields, is_field};
-use super::hash_ref::{PasswordHashRef, is_id, is_modular};
+use super::hash_ref::{PasswordHashRef, is_id, is_mcf};
 use super::{Error, Result};
 use std::alloc::Global;
 use std::marker::Model;
 
-/// A modular text: `$`, an id, and any number of fields, each behind a `$`.
+/// An MCF text: `$`, an id, and any number of fields, each behind a `$`.
 #[derive(Debug, Drop)]
 pub struct PasswordHash {
     text: String,
@@ -20,40 +21,40 @@ pub struct PasswordHash {
 
 impl Model for PasswordHash {
     ghost use Rattle.std.specs.Prelude.{ℕ, List, string_bytes};
-    ghost use Rattle.password_hash.specs.Mcf.{Modular, id_of, fields_of};
+    ghost use Rattle.password_hash.specs.Mcf.{IsMcfText, id_of, fields_of};
 
     ghost Value = { List ℕ };
 
     ghost view = { λ a. string_bytes a.text };
 
-    ghost invariant = { λ a. let text = string_bytes a.text in Modular text (id_of text) (fields_of text) };
+    ghost invariant = { λ a. let text = string_bytes a.text in IsMcfText text (id_of text) (fields_of text) };
 }
 
 impl PasswordHash {
     ghost use Rattle.password_hash.specs.McfViews.{hash_text, fields_left};
 
-    /// Keeps the text where it is a modular text, and else hands it back. It takes no memory.
+    /// Keeps the text where it is an MCF text, and else hands it back. It takes no memory.
     pub fn from_string(text: String) -> std::result::Result<PasswordHash, String>
-        ensures exact { IsOk result ↔ IsModular (string_bytes text) }
+        ensures exact { IsOk result ↔ IsMcf (string_bytes text) }
         ensures value { MatchResult result (λ hash. hash ≡ string_bytes text) (λ back. back ≡ text) }
     {
-        if !is_modular(text.as_str()) {
+        if !is_mcf(text.as_str()) {
             return Err(text);
         }
         Ok(PasswordHash { text })
     }
 
-    /// Copies a modular text.
+    /// Copies an MCF text.
     ///
     /// `EncodingInvalid` where it is none. Then no memory was asked for. `OutOfMemory` where memory
     /// ran out.
     pub fn new(alloc: Global, text: &str) -> Result<PasswordHash>
         ensures ok { IfOk result (λ hash. hash ≡ text.now) }
-        ensures accepted { OnOk result (IsModular text.now) }
-        ensures invalid { IsErrOf result Error.EncodingInvalid ↔ (¬ IsModular text.now) }
-        ensures memory { IsErrOf result Error.OutOfMemory → IsModular text.now }
+        ensures accepted { OnOk result (IsMcf text.now) }
+        ensures invalid { IsErrOf result Error.EncodingInvalid ↔ (¬ IsMcf text.now) }
+        ensures memory { IsErrOf result Error.OutOfMemory → IsMcf text.now }
     {
-        if !is_modular(text) {
+        if !is_mcf(text) {
             return Err(Error::EncodingInvalid);
         }
         let text = String::from_str(alloc, text)?;
@@ -115,7 +116,7 @@ impl PasswordHash {
 
     /// The whole text.
     pub fn as_str(&self) -> &str
-        ensures { result.now ≡ self.now }
+        ensures value { result.now ≡ self.now }
     {
         self.text.as_str()
     }
@@ -123,7 +124,7 @@ impl PasswordHash {
     /// The id: one or more of `a-z0-9-`.
     pub fn id(&self) -> &str
         ensures value { result.now ≡ id_of self.now }
-        ensures reading { Modular self.now result.now (fields_of self.now) }
+        ensures reading { IsMcfText self.now result.now (fields_of self.now) }
     {
         self.as_password_hash_ref().id()
     }
@@ -131,14 +132,14 @@ impl PasswordHash {
     /// The fields, in order.
     pub fn fields(&self) -> Fields<'_>
         ensures value { fields_left result ≡ fields_of self.now }
-        ensures reading { Modular self.now (id_of self.now) (fields_left result) }
+        ensures reading { IsMcfText self.now (id_of self.now) (fields_left result) }
     {
         self.as_password_hash_ref().fields()
     }
 
     /// The same text, borrowed.
     pub fn as_password_hash_ref(&self) -> PasswordHashRef<'_>
-        ensures { hash_text result ≡ self.now }
+        ensures value { hash_text result ≡ self.now }
     {
         PasswordHashRef {
             text: self.text.as_str(),

@@ -1,29 +1,32 @@
-//! A borrowed modular text.
+//! A borrowed MCF text.
 ghost use Rattle.std.specs.Prelude.{◌≡◌, ◌≢◌, ◌↔◌, ℕ, List, [], ◌∷◌, IsTrue, IsOk, IfOk, IfErr, MatchOption};
-ghost use Rattle.password_hash.specs.Mcf.{dollar, is_id_byte, IsId, Modular, IsModular, parts_of, id_of, fields_of, fields_behind};
+ghost use Rattle.password_hash.specs.Mcf.{IsId, IsMcfText, IsMcf, id_of, fields_of};
+ghost use Rattle.password_hash.specs.Parts.{dollar, parts_of, parts_left};
 
-use super::fields::{Fields, split_part};
+use super::fields::Fields;
 use super::{Error, Result};
+use crate::letters::are_identifier_letters;
+use crate::parts::first_part;
 
-/// A modular text that is borrowed: `$`, an id, and any number of fields, each behind a `$`.
+/// An MCF text that is borrowed: `$`, an id, and any number of fields, each behind a `$`.
 #[derive(Clone, Copy, Debug)]
 pub struct PasswordHashRef<'a> {
     pub(super) text: &'a str,
-    pub ghost modular: { Modular text.now (id_of text.now) (fields_of text.now) },
+    pub ghost is_text: { IsMcfText text.now (id_of text.now) (fields_of text.now) },
 }
 
 impl<'a> PasswordHashRef<'a> {
     ghost use Rattle.password_hash.specs.McfViews.{hash_text, fields_left};
 
-    /// Borrows a modular text.
+    /// Borrows an MCF text.
     ///
     /// `EncodingInvalid` where it is none. It takes no memory.
     pub fn new(text: &'a str) -> Result<PasswordHashRef<'a>>
-        ensures exact { IsOk result ↔ IsModular text.now }
+        ensures exact { IsOk result ↔ IsMcf text.now }
         ensures ok { IfOk result (λ hash. hash_text hash ≡ text.now) }
         ensures err { IfErr result (λ e. e ≡ Error.EncodingInvalid) }
     {
-        if !is_modular(text) {
+        if !is_mcf(text) {
             return Err(Error::EncodingInvalid);
         }
         Ok(PasswordHashRef { text })
@@ -31,7 +34,7 @@ impl<'a> PasswordHashRef<'a> {
 
     /// The whole text.
     pub fn as_str(&self) -> &'a str
-        ensures { result.now ≡ hash_text self.now }
+        ensures value { result.now ≡ hash_text self.now }
     {
         self.text
     }
@@ -39,7 +42,7 @@ impl<'a> PasswordHashRef<'a> {
     /// The id: one or more of `a-z0-9-`.
     pub fn id(&self) -> &'a str
         ensures value { result.now ≡ id_of (hash_text self.now) }
-        ensures reading { Modular (hash_text self.now) result.now (fields_of (hash_text self.now)) }
+        ensures reading { IsMcfText (hash_text self.now) result.now (fields_of (hash_text self.now)) }
     {
         split_id(self.text).unwrap().0
     }
@@ -47,7 +50,7 @@ impl<'a> PasswordHashRef<'a> {
     /// The fields, in order.
     pub fn fields(&self) -> Fields<'a>
         ensures value { fields_left result ≡ fields_of (hash_text self.now) }
-        ensures reading { Modular (hash_text self.now) (id_of (hash_text self.now)) (fields_left result) }
+        ensures reading { IsMcfText (hash_text self.now) (id_of (hash_text self.now)) (fields_left result) }
     {
         Fields {
             left: split_id(self.text).unwrap().1,
@@ -58,15 +61,15 @@ impl<'a> PasswordHashRef<'a> {
 /// The id of a text that begins with a dollar, and what stands behind the next dollar.
 fn split_id(text: &str) -> Option<(&str, Option<&str>)>
     ensures { MatchOption result ((rest : List ℕ) → text.now ≢ dollar ∷ rest)
-        (λ split. parts_of text.now ≡ [] ∷ split.0.now ∷ fields_behind split.1) }
+        (λ split. parts_of text.now ≡ [] ∷ split.0.now ∷ parts_left split.1) }
 {
     let rest = text.strip_prefix('$')?;
-    Some(split_part(rest))
+    Some(first_part(rest))
 }
 
-/// Whether this is a modular text.
-pub(super) fn is_modular(text: &str) -> bool
-    ensures { IsTrue result ↔ IsModular text.now }
+/// Whether this is an MCF text.
+pub(super) fn is_mcf(text: &str) -> bool
+    ensures { IsTrue result ↔ IsMcf text.now }
 {
     match split_id(text) {
         Some((id, _)) => is_id(id),
@@ -78,12 +81,5 @@ pub(super) fn is_modular(text: &str) -> bool
 pub(super) fn is_id(text: &str) -> bool
     ensures { IsTrue result ↔ IsId text.now }
 {
-    !text.is_empty() && text.as_bytes().iter().all(|byte| is_id_byte(*byte))
-}
-
-/// Whether a byte may stand in an id.
-fn is_id_byte(byte: u8) -> bool
-    ensures { result ≡ is_id_byte byte }
-{
-    matches!(byte, b'a'..=b'z' | b'0'..=b'9' | b'-')
+    !text.is_empty() && are_identifier_letters(text.as_bytes())
 }

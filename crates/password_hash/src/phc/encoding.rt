@@ -1,20 +1,24 @@
 //! Salts and keys as letters: Base64 of RFC 4648, section 4, without padding.
-ghost use Rattle.std.specs.Prelude.{◌≡◌, ◌≤◌, ℕ, List, Some, IfSome, length};
-ghost use Rattle.base64.specs.GeneralPurpose.{IsBytes};
+ghost use Rattle.std.specs.Prelude.{◌≡◌, ℕ, List, Some, IfSome};
 ghost use Rattle.password_hash.specs.Phc.{base64};
+ghost use Rattle.password_hash.specs.Stored.{AreBytesFromTo};
 
 use crate::phc::short_bytes::ShortBytes;
 use base64::engine::general_purpose::STANDARD_NO_PAD;
 
-/// The bytes that these are the letters of, at most 64 of them.
-pub(super) fn decode(letters: &str) -> Option<ShortBytes<64>>
-    ensures found { IfSome result (λ bytes. (letters.now ≡ base64 bytes) × IsBytes bytes) }
+/// The bytes that these are the letters of, from `LEAST` to 64 of them.
+pub(super) fn decode<const LEAST: usize>(letters: &str) -> Option<ShortBytes<LEAST, 64>>
+    ensures letters { IfSome result (λ bytes. letters.now ≡ base64 bytes) }
+    ensures bytes { IfSome result (AreBytesFromTo LEAST 64) }
     ensures only { (bytes : List ℕ) →
-        IsBytes bytes → length bytes ≤ 64 → letters.now ≡ base64 bytes → result ≡ Some bytes }
+        AreBytesFromTo LEAST 64 bytes → letters.now ≡ base64 bytes → result ≡ Some bytes }
 {
     let mut places = [0; 64];
     let Ok(len) = STANDARD_NO_PAD.decode_slice(letters.as_bytes(), &mut places) else {
         return None;
     };
+    if len < LEAST {
+        return None;
+    }
     Some(ShortBytes { places, len })
 }

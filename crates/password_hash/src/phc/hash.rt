@@ -1,11 +1,13 @@
 //! A password hash as one text.
 ghost use Rattle.std.specs.Prelude.{◌≡◌, ◌++◌, Some, IfSome, Ok, IfOk, IfErr, codes};
 ghost use Rattle.std.specs.Fmt.{DisplaysOnOk};
-ghost use Rattle.password_hash.specs.Phc.{base64, hash_text, IsHashText, params_part, parts_text, salt_and_key_parts, version_part};
+ghost use Rattle.password_hash.specs.Parts.{parts_text};
+ghost use Rattle.password_hash.specs.Phc.{base64, hash_text, IsHashText, params_part, salt_and_key_parts, version_part};
 ghost use Rattle.password_hash.specs.declared.phc.hash.PasswordHash.{PasswordHash};
 ghost use Rattle.password_hash.specs.declared.error.Error.TheVariants.{EncodingInvalid};
 
-use crate::phc::parts::{first_part, take_params, take_salt_and_key, take_version};
+use crate::parts::first_part;
+use crate::phc::parts::{take_params, take_salt_and_key, take_version};
 use crate::phc::{Ident, Output, ParamsString, Salt};
 use crate::{Error, Result, Version};
 use base64::display::Base64Display;

@@ -1,9 +1,9 @@
 //! The name of an algorithm or of a parameter.
 ghost use Rattle.std.specs.Prelude.{◌≡◌, ◌↔◌, Some, IsOk, IfOk, IfErr, codes};
-ghost use Rattle.std.specs.List.{list_all};
-ghost use Rattle.password_hash.specs.Letters.{IsIdentifier, is_identifier_letter};
+ghost use Rattle.password_hash.specs.Letters.{IsIdentifier};
 ghost use Rattle.password_hash.specs.declared.error.Error.TheVariants.{EncodingInvalid};
 
+use crate::letters::are_identifier_letters;
 use crate::phc::short_bytes::ShortBytes;
 use crate::{Error, Result};
 use std::marker::Model;
@@ -12,12 +12,12 @@ use std::{fmt, str};
 /// An identifier: 1 to 32 of the letters `a-z0-9-`.
 #[derive(Clone, Copy, Debug, PartialEq, Eq)]
 pub struct Ident {
-    bytes: ShortBytes<32>,
+    bytes: ShortBytes<1, 32>,
 }
 
 impl Model for Ident {
     ghost use Rattle.std.specs.Prelude.{ℕ, List};
-    ghost use Rattle.password_hash.specs.Letters.{IsIdentifier, is_identifier_letter};
+    ghost use Rattle.password_hash.specs.Letters.{IsIdentifier};
 
     ghost Value = { List ℕ };
 
@@ -46,13 +46,10 @@ impl Ident {
         ensures value { IfOk result (λ ident. ident ≡ text.now) }
         ensures err { IfErr result (λ e. e ≡ EncodingInvalid) }
     {
-        let bytes = text.as_bytes();
-        if bytes.is_empty() || bytes.len() > 32 || !are_letters(bytes) {
-            return Err(Error::EncodingInvalid);
+        match ShortBytes::new(text.as_bytes()) {
+            Some(bytes) if are_identifier_letters(bytes.as_bytes()) => Ok(Ident { bytes }),
+            _ => Err(Error::EncodingInvalid),
         }
-        Ok(Ident {
-            bytes: ShortBytes::new(bytes),
-        })
     }
 
     /// The letters.
@@ -70,18 +67,4 @@ impl fmt::Display for Ident {
     fn fmt<W: fmt::Write>(&self, f: &mut fmt::Formatter<W>) -> fmt::Result {
         f.write_str(self.as_str())
     }
-}
-
-/// Whether all are of `a-z0-9-`.
-fn are_letters(bytes: &[u8]) -> bool
-    ensures { result ≡ list_all is_identifier_letter bytes.now }
-{
-    bytes.iter().all(|b| is_letter(*b))
-}
-
-/// Whether this is one of `a-z0-9-`.
-fn is_letter(b: u8) -> bool
-    ensures { result ≡ is_identifier_letter b }
-{
-    matches!(b, b'a'..=b'z' | b'0'..=b'9' | b'-')
 }

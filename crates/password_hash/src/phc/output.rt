@@ -9,17 +9,15 @@ use std::marker::Model;
 /// A key of 10 to 64 bytes. Equality looks at every byte.
 #[derive(Clone, Copy, Debug, PartialEq, Eq)]
 pub struct Output {
-    bytes: ShortBytes<64>,
+    pub(super) bytes: ShortBytes<10, 64>,
 }
 
 impl Model for Output {
-    ghost use Rattle.std.specs.Prelude.{ℕ, List, ◌≤◌, length};
+    ghost use Rattle.std.specs.Prelude.{ℕ, List};
 
     ghost Value = { List ℕ };
 
     ghost view = { λ a. a.bytes };
-
-    ghost invariant = { λ a. (10 ≤ length a.bytes) × (length a.bytes ≤ 64) };
 
     ghost inverse = { λ xs. record { bytes = xs } };
 }
@@ -37,12 +35,10 @@ impl Output {
         ensures value { IfOk result (λ output. output ≡ key.now) }
         ensures err { IfErr result (λ e. e ≡ OutputSize) }
     {
-        if !(Output::MIN_LENGTH..=Output::MAX_LENGTH).contains(&key.len()) {
-            return Err(Error::OutputSize);
+        match ShortBytes::new(key) {
+            Some(bytes) => Ok(Output { bytes }),
+            None => Err(Error::OutputSize),
         }
-        Ok(Output {
-            bytes: ShortBytes::new(key),
-        })
     }
 
     /// The number of bytes, 10 to 64.

@@ -2,12 +2,12 @@
 ghost use Rattle.std.specs.Prelude.{◌≡◌, ◌≢◌, ◌↔◌, ◌≤◌, ◌∷◌, ◌++◌, ℕ, List, [], length, All, Contains, decimal, true, IsOk, Ok, IfOk, IfErr, IfSome, IfNone, OnOk, OnErr};
 ghost use Rattle.std.specs.Cmp.{partial_equiv_from_equiv};
 ghost use Rattle.std.specs.Cmp.Lexicographic.{pointwise};
-ghost use Rattle.std.specs.List.{list_all};
-ghost use Rattle.password_hash.specs.Letters.{is_value_letter, IsValue};
+ghost use Rattle.password_hash.specs.Letters.{IsValue};
 ghost use Rattle.password_hash.specs.Pairs.{ArePairs, IsPair, pair_eq, pairs_eq_equiv, pairs_text, with_pair};
 ghost use Rattle.password_hash.specs.Value.{value_text};
 ghost use Rattle.password_hash.specs.declared.error.Error.TheVariants.{ParamsInvalid};
 
+use crate::letters::are_value_letters;
 use crate::phc::pairs::{Pairs, cut};
 use crate::phc::{Ident, Value};
 use crate::{Error, Result};
@@ -38,7 +38,7 @@ impl Model for ParamsString {
 impl ParamsString {
     /// No parameters.
     pub fn new() -> ParamsString
-        ensures { result ≡ [] }
+        ensures value { result ≡ [] }
     {
         ParamsString {
             text: ArrayString::new(),
@@ -55,7 +55,8 @@ impl ParamsString {
 
     /// The parameters of a text: `ParamsInvalid` unless it is empty or the text of parameters.
     pub fn parse(text: &str) -> Result<ParamsString>
-        ensures ok { IfOk result (λ params. (text.now ≡ pairs_text params) × ArePairs params) }
+        ensures text { IfOk result (λ params. text.now ≡ pairs_text params) }
+        ensures pairs { IfOk result ArePairs }
         ensures only { (pairs : List (List ℕ × List ℕ)) →
             ArePairs pairs → text.now ≡ pairs_text pairs → result ≡ Ok pairs }
         ensures err { IfErr result (λ e. e ≡ ParamsInvalid) }
@@ -85,7 +86,7 @@ impl ParamsString {
 
     /// The names and values, in their order.
     pub fn iter(&self) -> Pairs<'_>
-        ensures { result ≡ self.now }
+        ensures value { result ≡ self.now }
     {
         Pairs {
             left: self.text.as_str(),
@@ -168,19 +169,5 @@ fn is_pair(name: &str, value: &str) -> bool
 fn is_value(text: &str) -> bool
     ensures { (result ≡ true) ↔ IsValue text.now }
 {
-    !text.is_empty() && are_letters(text.as_bytes())
-}
-
-/// Whether all are of `a-zA-Z0-9/+.-`.
-fn are_letters(bytes: &[u8]) -> bool
-    ensures { result ≡ list_all is_value_letter bytes.now }
-{
-    bytes.iter().all(|b| is_letter(*b))
-}
-
-/// Whether this is one of `a-zA-Z0-9/+.-`.
-fn is_letter(b: u8) -> bool
-    ensures { result ≡ is_value_letter b }
-{
-    matches!(b, b'a'..=b'z' | b'A'..=b'Z' | b'0'..=b'9' | b'/' | b'+' | b'.' | b'-')
+    !text.is_empty() && are_value_letters(text.as_bytes())
 }

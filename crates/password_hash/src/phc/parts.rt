@@ -1,26 +1,17 @@
 //! The parts of a PHC text, taken one by one from what is left of it.
 //!
 //! What is left is the text behind the last `$` that was passed, or nothing behind the last part.
-ghost use Rattle.std.specs.Prelude.{◌≡◌, ◌∷◌, ◌==◌, ℕ, List, Option, Some, IfSome};
-ghost use Rattle.std.specs.List.{slice_split};
+ghost use Rattle.std.specs.Prelude.{◌≡◌, ℕ, List, Option, Some, IfSome};
 ghost use Rattle.password_hash.specs.Pairs.{ArePairs};
-ghost use Rattle.password_hash.specs.Parts.{IsVersion, LackEquals, LackVersion, Takes, TakesOnly, parts_left};
-ghost use Rattle.password_hash.specs.Phc.{IsKey, IsSalt, IsSaltAndKey, base64, params_part, version_part};
+ghost use Rattle.password_hash.specs.Parts.{parts_left};
+ghost use Rattle.password_hash.specs.PhcParts.{IsVersion, LackEquals, LackVersion, Takes, TakesOnly};
+ghost use Rattle.password_hash.specs.Phc.{IsSaltAndKey, params_part, version_part};
 
 use crate::Version;
+use crate::decimal::read_decimal;
+use crate::parts::first_part;
 use crate::phc::encoding::decode;
-use crate::phc::value::decimal;
 use crate::phc::{Output, ParamsString, Salt};
-
-/// The first part of a text, and what is left behind it.
-pub(super) fn first_part(text: &str) -> (&str, Option<&str>)
-    ensures { slice_split (λ b. b == 36) text.now ≡ result.0.now ∷ parts_left result.1 }
-{
-    match text.split_once('$') {
-        Some((part, left)) => (part, Some(left)),
-        None => (text, None),
-    }
-}
 
 /// The version, where a part `v=` comes next, and what is left behind it.
 pub(super) fn take_version(left: Option<&str>) -> Option<(Option<Version>, Option<&str>)>
@@ -34,9 +25,7 @@ pub(super) fn take_version(left: Option<&str>) -> Option<(Option<Version>, Optio
     let Some(digits) = part.strip_prefix("v=") else {
         return Some((None, left));
     };
-    let Ok(version) = decimal(digits) else {
-        return None;
-    };
+    let version = read_decimal(digits)?;
     Some((Some(version), behind))
 }
 
@@ -68,35 +57,11 @@ pub(super) fn take_salt_and_key(left: Option<&str>) -> Option<(Option<Salt>, Opt
         return Some((None, None));
     };
     let (part, behind) = first_part(text);
-    let salt = salt(part)?;
+    let salt = decode(part)?;
     let Some(letters) = behind else {
-        return Some((Some(salt), None));
+        return Some((Some(Salt { bytes: salt }), None));
     };
-    // A `$` is none of the letters of a key, so that nothing stands behind it.
-    let key = key(letters)?;
-    Some((Some(salt), Some(key)))
-}
-
-/// The salt of these letters.
-fn salt(letters: &str) -> Option<Salt>
-    ensures found { IfSome result (λ salt. (letters.now ≡ base64 salt) × IsSalt salt) }
-    ensures only { (salt : List ℕ) → IsSalt salt → letters.now ≡ base64 salt → result ≡ Some salt }
-{
-    let bytes = decode(letters)?;
-    let Ok(salt) = Salt::new(bytes.as_bytes()) else {
-        return None;
-    };
-    Some(salt)
-}
-
-/// The key of these letters.
-fn key(letters: &str) -> Option<Output>
-    ensures found { IfSome result (λ key. (letters.now ≡ base64 key) × IsKey key) }
-    ensures only { (key : List ℕ) → IsKey key → letters.now ≡ base64 key → result ≡ Some key }
-{
-    let bytes = decode(letters)?;
-    let Ok(key) = Output::new(bytes.as_bytes()) else {
-        return None;
-    };
-    Some(key)
+    // A `$` is not a letter of Base64, so a key is the last part.
+    let key = decode(letters)?;
+    Some((Some(Salt { bytes: salt }), Some(Output { bytes: key })))
 }

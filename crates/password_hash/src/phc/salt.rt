@@ -9,17 +9,15 @@ use std::marker::Model;
 /// A salt of 1 to 64 bytes.
 #[derive(Clone, Copy, Debug, PartialEq, Eq)]
 pub struct Salt {
-    bytes: ShortBytes<64>,
+    pub(super) bytes: ShortBytes<1, 64>,
 }
 
 impl Model for Salt {
-    ghost use Rattle.std.specs.Prelude.{ℕ, List, ◌≤◌, length};
+    ghost use Rattle.std.specs.Prelude.{ℕ, List};
 
     ghost Value = { List ℕ };
 
     ghost view = { λ a. a.bytes };
-
-    ghost invariant = { λ a. (1 ≤ length a.bytes) × (length a.bytes ≤ 64) };
 
     ghost inverse = { λ xs. record { bytes = xs } };
 }
@@ -31,12 +29,10 @@ impl Salt {
         ensures value { IfOk result (λ made. made ≡ salt.now) }
         ensures err { IfErr result (λ e. e ≡ SaltInvalid) }
     {
-        if !(1..=64).contains(&salt.len()) {
-            return Err(Error::SaltInvalid);
+        match ShortBytes::new(salt) {
+            Some(bytes) => Ok(Salt { bytes }),
+            None => Err(Error::SaltInvalid),
         }
-        Ok(Salt {
-            bytes: ShortBytes::new(salt),
-        })
     }
 
     /// The bytes, 1 to 64 of them.

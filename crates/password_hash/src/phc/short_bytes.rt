@@ -1,54 +1,56 @@
-//! A short list of bytes that takes no memory.
-ghost use Rattle.std.specs.Prelude.{◌≡◌, ◌↔◌, ◌≤◌, true, length, nat_eq};
+//! A short list of bytes that is kept without allocating.
+ghost use Rattle.std.specs.Prelude.{◌≡◌, ◌↔◌, ◌≤◌, true, length, nat_eq, IsSome, IfSome};
 ghost use Rattle.std.specs.Cmp.{partial_equiv_from_equiv};
 ghost use Rattle.std.specs.Cmp.Lexicographic.{pointwise, nat_list_eq_equiv};
-ghost use Rattle.password_hash.specs.Padded.{padded};
 
 use std::marker::Model;
 
-/// At most `N` bytes in a fixed array, with zeros after them.
+/// `LEAST` to `MOST` bytes in a fixed array, with zeros after them.
 #[derive(Clone, Copy, Debug)]
-pub(crate) struct ShortBytes<const N: usize> {
-    pub(super) places: [u8; N],
+pub(crate) struct ShortBytes<const LEAST: usize, const MOST: usize> {
+    pub(super) places: [u8; MOST],
     pub(super) len: usize,
 }
 
-impl<const N: usize> Model for ShortBytes<N> {
+impl<const LEAST: usize, const MOST: usize> Model for ShortBytes<LEAST, MOST> {
     ghost use Rattle.std.specs.Prelude.{ℕ, List, take, length};
-    ghost use Rattle.password_hash.specs.Padded.{IsPadded, padded, padded-take, length-padded-take};
+    ghost use Rattle.password_hash.specs.Stored.{AreStored, padded};
+    ghost use Rattle.std.proofs.Common.{length-take-le};
 
     ghost Value = { List ℕ };
 
     ghost view = { λ a. take a.len a.places };
 
-    ghost invariant = { λ a. IsPadded N a.places a.len };
+    ghost invariant = { λ a. AreStored LEAST MOST a.places a.len };
 
-    ghost inverse = { λ xs. record { places = padded N xs; len = length xs } };
+    ghost inverse = { λ xs. record { places = padded MOST xs; len = length xs } };
 
     ghost inverse_ok = { λ a h i. record {
-      places = padded-take N a.places a.len h i;
-      len = length-padded-take N a.places a.len h i;
+      places = h.zeros i;
+      len = length-take-le a.len a.places h.within i;
     } };
 }
 
-impl<const N: usize> ShortBytes<N> {
-    /// A copy of these bytes, of which there are at most `N`.
-    pub(crate) fn new(bytes: &[u8]) -> ShortBytes<N>
-        requires { length bytes.now ≤ N }
-        ensures { result ≡ bytes.now }
+impl<const LEAST: usize, const MOST: usize> ShortBytes<LEAST, MOST> {
+    /// A copy of these bytes, if their length is within the bounds.
+    pub(crate) fn new(bytes: &[u8]) -> Option<ShortBytes<LEAST, MOST>>
+        ensures exact { IsSome result ↔ ((LEAST ≤ length bytes.now) × (length bytes.now ≤ MOST)) }
+        ensures value { IfSome result (λ made. made ≡ bytes.now) }
     {
-        let mut places = [0; N];
-        places[..bytes.len()].copy_from_slice(bytes);
-        ShortBytes {
-            places,
-            len: bytes.len(),
+        let len = bytes.len();
+        if len < LEAST || len > MOST {
+            return None;
         }
+        let mut places = [0; MOST];
+        places[..len].copy_from_slice(bytes);
+        Some(ShortBytes { places, len })
     }
 
     /// The number of bytes.
     pub(crate) fn len(&self) -> usize
         ensures value { result ≡ length self.now }
-        ensures fits { result ≤ N }
+        ensures least { LEAST ≤ result }
+        ensures most { result ≤ MOST }
     {
         self.len
     }
@@ -56,29 +58,30 @@ impl<const N: usize> ShortBytes<N> {
     /// The bytes.
     pub(crate) fn as_bytes(&self) -> &[u8]
         ensures value { result.now ≡ self.now }
-        ensures fits { length result.now ≤ N }
+        ensures least { LEAST ≤ length result.now }
+        ensures most { length result.now ≤ MOST }
     {
         &self.places[..self.len]
     }
 }
 
-impl<const N: usize> PartialEq for ShortBytes<N> {
+impl<const LEAST: usize, const MOST: usize> PartialEq for ShortBytes<LEAST, MOST> {
     ghost eq = { λ s t. pointwise nat_eq s t };
 
     ghost laws = { partial_equiv_from_equiv nat_list_eq_equiv };
 
-    #[tactic(auto, using(crate::proofs::PaddedFacts::tested))]
-    fn eq(&self, other: &ShortBytes<N>) -> bool {
+    #[tactic(auto, using(crate::proofs::StoredFacts::tested))]
+    fn eq(&self, other: &ShortBytes<LEAST, MOST>) -> bool {
         are_same(self.as_bytes(), other.as_bytes())
     }
 }
 
-impl<const N: usize> Eq for ShortBytes<N> {
+impl<const LEAST: usize, const MOST: usize> Eq for ShortBytes<LEAST, MOST> {
     ghost laws = { nat_list_eq_equiv };
 }
 
 /// Whether these are the same bytes. Every byte is looked at.
-#[tactic(auto, using(crate::proofs::PaddedFacts::same_bytes))]
+#[tactic(auto, using(crate::proofs::StoredFacts::same_bytes))]
 fn are_same(a: &[u8], b: &[u8]) -> bool
     ensures { (result ≡ true) ↔ (a.now ≡ b.now) }
 {

@@ -4,6 +4,7 @@ ghost use Rattle.password_hash.specs.Decimal.{IsDecimal};
 ghost use Rattle.password_hash.specs.Value.{value_text};
 ghost use Rattle.password_hash.specs.declared.error.Error.TheVariants.{EncodingInvalid};
 
+use crate::decimal::read_decimal;
 use crate::{Error, Result};
 
 /// The value of a parameter: one or more of the letters `a-zA-Z0-9/+.-`.
@@ -15,7 +16,7 @@ pub struct Value<'a> {
 impl<'a> Value<'a> {
     /// The letters.
     pub fn as_str(&self) -> &'a str
-        ensures { result.now ≡ value_text self.now }
+        ensures value { result.now ≡ value_text self.now }
     {
         self.text
     }
@@ -27,26 +28,6 @@ impl<'a> Value<'a> {
         ensures only { (n : ℕ) → IsDecimal (value_text self.now) n → result ≡ Ok n }
         ensures err { IfErr result (λ e. e ≡ EncodingInvalid) }
     {
-        decimal(self.text)
-    }
-}
-
-/// The number of a text in decimal digits, as in `Value::decimal`.
-pub(super) fn decimal(text: &str) -> Result<u32>
-    ensures ok { IfOk result (IsDecimal text.now) }
-    ensures only { (n : ℕ) → IsDecimal text.now n → result ≡ Ok n }
-    ensures err { IfErr result (λ e. e ≡ EncodingInvalid) }
-{
-    // `parse` also reads a sign and leading zeros.
-    let is_plain = match text.as_bytes() {
-        [b'1'..=b'9', ..] | [b'0'] => true,
-        _ => false,
-    };
-    if !is_plain {
-        return Err(Error::EncodingInvalid);
-    }
-    match text.parse() {
-        Ok(number) => Ok(number),
-        Err(_) => Err(Error::EncodingInvalid),
+        read_decimal(self.text).ok_or(Error::EncodingInvalid)
     }
 }

@@ -4,7 +4,8 @@ ghost use Rattle.std.specs.Prelude.{◌≡◌, ◌↔◌, ◌+◌, ◌<◌, ◌�
 ghost use Rattle.std.specs.Option.{option_map};
 ghost use Rattle.std.specs.Str.{IsAscii};
 ghost use Rattle.password_hash.specs.Crypt64.{crypt64_of, encoded_len};
-ghost use Rattle.password_hash.specs.Mcf.{IsModular, dollar};
+ghost use Rattle.password_hash.specs.Mcf.{IsMcf};
+ghost use Rattle.password_hash.specs.Parts.{dollar};
 ghost use Rattle.password_hash.specs.declared.error.Error.TheVariants.{OutOfMemory};
 ghost use Rattle.scrypt.specs.Accepted.{AreAccepted};
 ghost use Rattle.scrypt.specs.McfCosts.{costs_text};
@@ -163,7 +164,7 @@ fn write_key(out: &mut [u8], key: &[u8])
 // The hash of which this is the text.
 fn hash_of_text(text: Vec<u8>) -> PasswordHash
     requires ascii { IsAscii text.items }
-    requires modular { IsModular text.items }
+    requires modular { IsMcf text.items }
     ensures { result ≡ text.items }
 {
     let Ok(text) = String::from_utf8(text) else {

@@ -1,5 +1,5 @@
 use Rattle.std.proofs.Common.{sym, ◌∙◌}
-use Rattle.password_hash.proofs.ModularFacts.{Modular-one}
+use Rattle.password_hash.proofs.McfFacts.{IsMcfText-one}
 use Rattle.password_hash.proofs.OneReading.{Crypt64-one, one_reading}
 use Rattle.scrypt.proofs.McfHashFacts.{whole_once, text_of}
 use Rattle.scrypt.proofs.laws.texts_have_one_reading.Goals as goal
@@ -12,8 +12,8 @@ returns-clause-phc_text c hash one other is again = is.whole ∙ sym again.whole
 
 pub returns-clause-modular_reading : goal.returns-clause-modular_reading
 returns-clause-modular_reading c text one other fields more is again =
-    let first = Modular-one text one fields is in
-    let second = Modular-one text other more again in
+    let first = IsMcfText-one text one fields is in
+    let second = IsMcfText-one text other more again in
     (sym first.0 ∙ second.0, sym first.1 ∙ second.1)
 
 pub returns-clause-modular_text : goal.returns-clause-modular_text

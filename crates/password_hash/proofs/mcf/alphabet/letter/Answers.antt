@@ -4,4 +4,4 @@ use Rattle.password_hash.proofs.mcf.alphabet.letter.Goals as goal
 
 pub returns : goal.returns
 unfolding letter
-returns c = search rules
+returns c = record { value = search rules }

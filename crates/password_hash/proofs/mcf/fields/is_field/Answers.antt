@@ -1,7 +1,7 @@
 use Rattle.std.proofs.Common.{lit<}
 use Rattle.std.proofs.lemmas.Str.Pattern.{contains_char}
-use Rattle.password_hash.specs.Mcf.{dollar}
-use Rattle.password_hash.proofs.ModularFacts.{IsField-search}
+use Rattle.password_hash.specs.Parts.{dollar}
+use Rattle.password_hash.proofs.McfFacts.{IsField-search}
 use Rattle.password_hash.proofs.mcf.fields.is_field.Goals as goal
 
 pub returns : goal.returns

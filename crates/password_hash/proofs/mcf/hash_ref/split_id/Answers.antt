@@ -1,7 +1,7 @@
 use Rattle.std.proofs.Common.{◌∙◌, ap, lit<, Some, None, [], ◌∷◌, arith}
 use Rattle.std.proofs.lemmas.Str.Pattern.{strip_prefix_char}
-use Rattle.password_hash.specs.Mcf.{dollar}
-use Rattle.password_hash.proofs.ModularFacts.{parts_of-split}
+use Rattle.password_hash.specs.Parts.{dollar}
+use Rattle.password_hash.proofs.PartsFacts.{parts_of-first}
 use Rattle.password_hash.proofs.mcf.hash_ref.split_id.Goals as goal
 
 pub returns-in_err-rest : goal.returns-in_err-rest
@@ -11,5 +11,5 @@ returns-in_err-rest c =
 pub returns : goal.returns
 returns c =
     let begins = strip_prefix_char dollar c.args.text.now (Some c.in_ok-rest.rest) c.in_ok-rest.ensures.cases (lit< tt) in
-    parts_of-split c.args.text.now [] c.in_ok-rest.rest.now begins (λ i none. absurd (omega arith))
-    ∙ ap (λ parts. [] ∷ parts) c.split_part.ensures
+    parts_of-first c.args.text.now [] c.in_ok-rest.rest.now begins (λ i none. absurd (omega arith))
+    ∙ ap (λ parts. [] ∷ parts) c.first_part.ensures

@@ -2,7 +2,7 @@ use Rattle.std.proofs.Common.{◌≡◌, ◌≢◌, ◌<◌, ◌∷◌, ℕ, len
 use Rattle.std.proofs.lemmas.Bool.{false≢true}
 use Rattle.std.proofs.lemmas.Str.Pattern.{contains_char}
 use Rattle.password_hash.specs.Parts.{parts_left}
-use Rattle.password_hash.proofs.PartsFacts.{no_params, params_next}
+use Rattle.password_hash.proofs.PhcPartsFacts.{no_params, params_next}
 use Rattle.password_hash.proofs.phc.parts.take_params.Goals as goal
 use Rattle.password_hash.proofs.phc.parts.take_params.Goals.{After-contains}
 
@@ -18,7 +18,7 @@ returns-then-not-contains-clause-only c = λ params others are lacks e.
     let at = (goal.at.returns-then-not-contains-clause-only c).After-contains in
     let other : (k : ℕ) → k < length c.first_part.result.0.now → get_or c.first_part.result.0.now k 0 ≢ 61 = λ k below equals. false≢true (sym c.if-not-contains.true ∙ (told at).1 k below equals) in
     let empty = no_params c.first_part.result.0.now (parts_left c.first_part.result.1) params others other (sym (front at) ∙ e) in
-    (c.new-then-not-contains.ensures ∙ sym empty, e ∙ rw empty refl)
+    (c.new-then-not-contains.ensures.value ∙ sym empty, e ∙ rw empty refl)
 
 pub returns-in_default-parse-clause-only : goal.returns-in_default-parse-clause-only
 returns-in_default-parse-clause-only c = λ params others are lacks e.

@@ -1,7 +1,7 @@
 use Rattle.std.proofs.Common.{◌≡◌, ◌∷◌, ◌==◌, ap, ◌∙◌}
 use Rattle.std.specs.List.{slice_split}
 use Rattle.password_hash.specs.Parts.{parts_left}
-use Rattle.password_hash.proofs.PartsFacts.{salt_and_key_next, salt_and_key_read}
+use Rattle.password_hash.proofs.PhcPartsFacts.{salt_and_key_next, salt_and_key_read}
 use Rattle.password_hash.proofs.phc.parts.take_salt_and_key.Goals as goal
 use Rattle.password_hash.proofs.phc.parts.take_salt_and_key.Goals.{In-Some-behind}
 
@@ -12,9 +12,9 @@ front c =
 pub returns-clause-found : goal.returns-clause-found
 returns-clause-found c =
     let at = (goal.at.returns-clause-found c).In-Some-behind in
-    let salt = c.in_ok-salt.ensures.found in
-    let key = c.in_ok-key.ensures.found in
-    salt_and_key_read (parts_left c.args.left) c.first_part.result.0.now c.in-Some-behind.letters.now c.in_ok-salt.salt c.in_ok-key.key (front at) salt.0 salt.1 key.0 key.1
+    let salt = c.in_ok-salt.ensures in
+    let key = c.in_ok-key.ensures in
+    salt_and_key_read (parts_left c.args.left) c.first_part.result.0.now c.in-Some-behind.letters.now c.in_ok-salt.salt c.in_ok-key.key (front at) salt.letters salt.bytes key.letters key.bytes
 
 pub returns-in_err-key-clause-only : goal.returns-in_err-key-clause-only
 returns-in_err-key-clause-only c = λ salt key h.

@@ -34,7 +34,7 @@ says_at c =
     let first : c.in-Some.first.now ≡ slice_index c.args.text.now 0 = rw (← c.as_bytes-bytes.ensures.value) (c.in-Some.ensures.item.3.1 0) in
     record {
       first_byte = rw (← first) (ltb-true c.in-Some.first.now 128 (sym c.is_ascii.ensures ∙ c.if-not-is_ascii.false));
-      log_n_is = rw (← first, ← c.value.ensures) (sym c.unwrap_or-log_n.ensures);
+      log_n_is = rw (← first, ← c.value.ensures.value) (sym c.unwrap_or-log_n.ensures);
       r_is = ap five_letter_number (sym (to_the_end _ _ 1 c.as_bytes-bytes.ensures.value)) ∙ c.in-Ok.ensures.ok;
       p_is = ap five_letter_number (sym (to_the_end _ _ 6 c.as_bytes-bytes.ensures.value)) ∙ c.in-Ok-decode64_uint32.ensures.ok;
     }

@@ -1,7 +1,7 @@
 use Rattle.std.proofs.Common.{◌≡◌, ◌∙◌, ◌++◌, sym, subst, take, drop, length}
 use Rattle.std.specs.Str.{IsAscii}
 use Rattle.std.proofs.lemmas.List.{take_at}
-use Rattle.password_hash.specs.Mcf.{IsModular}
+use Rattle.password_hash.specs.Mcf.{IsMcf}
 use Rattle.scrypt.specs.McfHash.{IsMadeHash}
 use Rattle.scrypt.proofs.mcf.hashing.hash_of.Goals as goal
 use Rattle.scrypt.proofs.mcf.hashing.hash_of.Goals.{In-Ok}
@@ -14,7 +14,7 @@ pub hash_of_text-requires-clause-ascii : goal.hash_of_text-requires-clause-ascii
 hash_of_text-requires-clause-ascii c = subst IsAscii (sym (written_at c)) c.in-Ok.ensures.ascii
 
 pub hash_of_text-requires-clause-modular : goal.hash_of_text-requires-clause-modular
-hash_of_text-requires-clause-modular c = let made = c.in-Ok.ensures.made in subst IsModular (sym (written_at c)) (_, _, made.has_costs.parts)
+hash_of_text-requires-clause-modular c = let made = c.in-Ok.ensures.made in subst IsMcf (sym (written_at c)) (_, _, made.has_costs.parts)
 
 pub returns-in-Ok-clause-value : goal.returns-in-Ok-clause-value
 returns-in-Ok-clause-value c =

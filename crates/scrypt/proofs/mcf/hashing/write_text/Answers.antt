@@ -2,9 +2,9 @@ use Rattle.std.proofs.Common.{◌≡◌, ◌∙◌, ◌-◌, ◌++◌, ◌∷◌
 use Rattle.std.specs.Str.{IsAscii}
 use borrow.Rule.Slice.PartMut.{put_mid}
 use Rattle.password_hash.specs.Crypt64.{crypt64_of, encoded_len}
-use Rattle.password_hash.specs.Mcf.{dollar}
+use Rattle.password_hash.specs.Parts.{dollar}
 use Rattle.password_hash.proofs.GroupFacts.{length-crypt64_of}
-use Rattle.password_hash.proofs.ModularFacts.{IsField-crypt64_of}
+use Rattle.password_hash.proofs.McfFacts.{IsField-crypt64_of}
 use Rattle.scrypt.specs.KeyOfParams.{key_by}
 use Rattle.scrypt.specs.Accepted.{without_len}
 use Rattle.scrypt.specs.McfCosts.{costs_text}

@@ -14,7 +14,7 @@ is_cut c = record {
 pub returns-in_err-number-clause-split : goal.returns-in_err-number-clause-split
 returns-in_err-number-clause-split c =
     rw c.from_residual.ensures
-    (refuses_no_number _ _ _ (is_cut (goal.at.returns-in_err-number-clause-split c).After-split_at) (sym c.in_err-number.ensures))
+    (refuses_no_number _ _ _ (is_cut (goal.at.returns-in_err-number-clause-split c).After-split_at) (sym c.in_err-number.ensures.value))
 
 pub returns-then-len-eq0-clause-split : goal.returns-then-len-eq0-clause-split
 returns-then-len-eq0-clause-split c =
@@ -23,11 +23,11 @@ returns-then-len-eq0-clause-split c =
       | then-len-eq0-via-then-len-eq0 w ↦
           refuses_lone _ _ _ cut (omega (arith, w.if-len-eq0.true, c.saturating_sub-len.ensures))
       | then-len-eq0-via-else-len-eq0+then-number-len-ne0 w ↦
-          refuses_more_bits _ _ _ _ cut (sym c.in_ok-number.ensures) (rw (← c.saturating_sub-len.ensures) w.if-number-len-ne0.true)
+          refuses_more_bits _ _ _ _ cut (sym c.in_ok-number.ensures.value) (rw (← c.saturating_sub-len.ensures) w.if-number-len-ne0.true)
     ]
 
 pub returns-clause-split : goal.returns-clause-split
 returns-clause-split c =
     let cut = is_cut (goal.at.returns-clause-split c).After-split_at in
     rw c.to_le_bytes-bytes.ensures
-    (begins_with_group _ _ _ _ _ cut (sym c.in_ok-number.ensures) c.saturating_sub-len.ensures (omega arith) c.if-number-len-ne0.false)
+    (begins_with_group _ _ _ _ _ cut (sym c.in_ok-number.ensures.value) c.saturating_sub-len.ensures (omega arith) c.if-number-len-ne0.false)

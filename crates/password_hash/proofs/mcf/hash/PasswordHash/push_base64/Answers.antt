@@ -1,5 +1,5 @@
 use Rattle.password_hash.specs.Mcf.{IsField}
-use Rattle.password_hash.proofs.ModularFacts.{IsField-crypt64_of, only_memory}
+use Rattle.password_hash.proofs.McfFacts.{IsField-crypt64_of, only_memory}
 use Rattle.password_hash.proofs.mcf.hash.PasswordHash.push_base64.Goals as goal
 
 pub returns-clause-err : goal.returns-clause-err

@@ -16,11 +16,11 @@ returns-clause-steps c = elim c.if-self-eq0.branch [
       next_letter c.args.self.now.pending c.args.self.now.number c.if-self-eq0.self.pending c.if-self-eq0.self.number
       c.letter-first.result c.args.self.now.bytes.now c.if-self-eq0.self.bytes.now
       (rw (w.if-self-eq0.true, w.self-is) w.in_ok-self.ensures.same)
-      (rw w.self-is w.in_ok-self.ensures.some) c.letter-first.ensures
+      (rw w.self-is w.in_ok-self.ensures.some) c.letter-first.ensures.value
   | else-self-eq0 w ↦
       next_letter c.args.self.now.pending c.args.self.now.number c.if-self-eq0.self.pending c.if-self-eq0.self.number
       c.letter-first.result c.args.self.now.bytes.now c.if-self-eq0.self.bytes.now
-      (rw w.self-is refl) (rw w.self-is (omega arith)) c.letter-first.ensures
+      (rw w.self-is refl) (rw w.self-is (omega arith)) c.letter-first.ensures.value
 ]
 
 pub returns-clause-goes : goal.returns-clause-goes

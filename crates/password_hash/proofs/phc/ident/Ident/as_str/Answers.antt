@@ -1,4 +1,4 @@
-use Rattle.password_hash.proofs.LettersFacts.{ascii_is_text, identifier_ascii}
+use Rattle.password_hash.proofs.IdentifierFacts.{ascii_is_text, identifier_ascii}
 use Rattle.password_hash.proofs.phc.ident.Ident.as_str.Goals as goal
 
 pub unwrap-requires : goal.unwrap-requires

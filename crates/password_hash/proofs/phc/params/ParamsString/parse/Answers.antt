@@ -18,7 +18,7 @@ read_more params pieces pair piece before last =
 pub returns-then-is_empty-clause-only : goal.returns-then-is_empty-clause-only
 returns-then-is_empty-clause-only c = λ pairs h e.
     let empty : length c.args.text.now ≡ 0 = grind (arith, nat_tests) in
-    ap (λ params. Ok params) (c.new-params.ensures ∙ sym (no_pairs c.args.text.now pairs empty h e))
+    ap (λ params. Ok params) (c.new-params.ensures.value ∙ sym (no_pairs c.args.text.now pairs empty h e))
 
 pub loop-pair-preserved : goal.loop-pair-preserved
 loop-pair-preserved c =

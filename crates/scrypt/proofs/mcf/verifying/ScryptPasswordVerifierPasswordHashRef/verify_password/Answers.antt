@@ -24,7 +24,7 @@ differs_at : (c : Then-not-base64_matches)
 differs_at c same =
     let stored = c.in-Ok.ensures.ok in
     let derived = same ∙ ap (key_by c.in-Ok.stored.params c.args.password.now c.in-Ok.stored.salt.now) stored.2 ∙ sym c.in-Ok-long_key.ensures.value ∙ sym c.as_slice.ensures.value in
-    let yes = c.base64_matches.ensures.1 (subst (λ k. Crypt64 k (field_text c.in-Ok.stored.key)) derived stored.1) in
+    let yes = c.base64_matches.ensures.exact.1 (subst (λ k. Crypt64 k (field_text c.in-Ok.stored.key)) derived stored.1) in
     cc
 
 pub returns-then-not-base64_matches-clause-wrong : goal.returns-then-not-base64_matches-clause-wrong
@@ -36,7 +36,7 @@ returns-then-not-base64_matches-clause-err c = by_verdict (wrong c.in-Ok.ensures
 pub returns-clause-ok : goal.returns-clause-ok
 returns-clause-ok c =
     let stored = c.in-Ok.ensures.ok in
-    let matches = c.base64_matches.ensures.0 c.if-not-base64_matches.false in
+    let matches = c.base64_matches.ensures.exact.0 c.if-not-base64_matches.false in
     let same = Crypt64-one (field_text c.in-Ok.stored.key) _ _ stored.1 matches in
     record {
       costs = c.in-Ok.stored.params;

@@ -1,0 +1,141 @@
+-- What follows from the definition of MCF texts: each has one id and one list of fields, and texts put together by parts are MCF texts.
+use Rattle.std.proofs.Common.{◌≡◌, ◌≢◌, inl, inr, ◌∙◌, sym, ap, subst, refl, arith, ℕ, ◌<◌, Bool, true, false, not, ◌↔◌, IsTrue, Result, Ok, Err, IsErrOf, IfErr, ◌==◌, List, [], ◌∷◌, ◌++◌, length, get_or, append_assoc}
+use Rattle.std.specs.List.{All, onto_first}
+use Rattle.std.proofs.lemmas.Bool.{ne_eqb, eqb-true, eqb-false, cases_Bool, false≢true}
+use Rattle.std.proofs.lemmas.List.{append-nil}
+use Rattle.std.proofs.lemmas.List.Elements.{All-nil, All-cons, All-head, All-tail, All-weaker, All-push, All-from_get_or}
+use Rattle.std.proofs.lemmas.List.Splits.{slice_split-cons_yes, slice_split-cons_no}
+use Rattle.password_hash.specs.declared.mcf.Error.{Error}
+use Rattle.password_hash.specs.declared.mcf.Error.TheVariants.{EncodingInvalid, OutOfMemory}
+use Rattle.password_hash.specs.Crypt64.{crypt64_of}
+use Rattle.password_hash.specs.Letters.{is_identifier_letter}
+use Rattle.password_hash.specs.Mcf.{IsId, IsField, IsMcfText, IsMcf, id_of, fields_of}
+use Rattle.password_hash.specs.Parts.{dollar, parts_of, parts_text}
+use Rattle.password_hash.proofs.Crypt64Facts.{IsPlain, crypt64_of-plain}
+use Rattle.password_hash.proofs.PairsFacts.{Lacks, letters_lack}
+use Rattle.password_hash.proofs.PartsFacts.{parts_of-parts_text, parts_text-parts_of, parts_text-push}
+
+-- a field has no byte that is a dollar
+no_dollar : (field : List ℕ) → IsField field → All (λ byte. (byte == dollar) ≡ false) field
+no_dollar field is = All-weaker (λ byte. byte ≢ dollar) (λ byte. (byte == dollar) ≡ false) (λ byte other. ne_eqb byte dollar other) field is
+
+-- an id is without a dollar
+pub IsField-id : (id : List ℕ) → IsId id → IsField id
+IsField-id id is = All-weaker (λ byte. (byte == dollar) ≡ false) (λ byte. byte ≢ dollar) (λ byte other. eqb-false byte dollar other) id (letters_lack is_identifier_letter dollar refl id is.1)
+
+-- the letters of bytes are without a dollar
+pub IsField-crypt64_of : (bytes : List ℕ) → IsField (crypt64_of bytes)
+IsField-crypt64_of bytes = All-weaker IsPlain (λ byte. byte ≢ dollar) (λ byte plain. plain.1) (crypt64_of bytes) (crypt64_of-plain bytes)
+
+-- the parts of an MCF text
+pub parts_of-IsMcfText : (text id : List ℕ) (fields : List (List ℕ)) → IsMcfText text id fields → parts_of text ≡ [] ∷ id ∷ fields
+parts_of-IsMcfText text id fields is =
+    let parts : All IsField ([] ∷ id ∷ fields) =
+    All-cons IsField [] (id ∷ fields) (All-nil (λ byte. byte ≢ dollar)) (All-cons IsField id fields (IsField-id id is.is_id) is.are_fields) in
+    parts_of-parts_text text [] (id ∷ fields) (All-weaker IsField (Lacks dollar) no_dollar ([] ∷ id ∷ fields) parts) (ap (λ text. dollar ∷ text) is.written)
+
+-- no part of a text has a dollar
+are_fields-slice_split : (text : List ℕ) → All IsField (parts_of text)
+are_fields-slice_split [] = All-cons IsField [] [] (All-nil (λ byte. byte ≢ dollar)) (All-nil IsField)
+are_fields-slice_split (byte ∷ text) = elim (cases_Bool (byte == dollar)) [
+  | inl hit ↦
+      subst (All IsField) (sym (slice_split-cons_yes (λ b. b == dollar) byte text hit))
+      (All-cons IsField [] (parts_of text) (All-nil (λ byte. byte ≢ dollar)) (are_fields-slice_split text))
+  | inr miss ↦
+      subst (All IsField) (sym (slice_split-cons_no (λ b. b == dollar) byte text miss))
+      (onto (parts_of text) (eqb-false byte dollar miss) (are_fields-slice_split text))
+]
+  where
+    onto : (parts : List (List ℕ)) → byte ≢ dollar → All IsField parts → All IsField (onto_first byte parts)
+    onto [] other each = All-cons IsField (byte ∷ []) [] (All-cons (λ b. b ≢ dollar) byte [] other (All-nil (λ b. b ≢ dollar))) (All-nil IsField)
+    onto (part ∷ parts) other each =
+        All-cons IsField (byte ∷ part) parts
+        (All-cons (λ b. b ≢ dollar) byte part other (All-head IsField part parts each)) (All-tail IsField part parts each)
+
+-- a text that is split into nothing, an id and fields is an MCF text
+pub IsMcfText-from_parts : (text id : List ℕ) (fields : List (List ℕ)) → parts_of text ≡ [] ∷ id ∷ fields → IsId id → IsMcfText text id fields
+IsMcfText-from_parts text id fields parts is =
+    let each : All IsField ([] ∷ id ∷ fields) = subst (All IsField) parts (are_fields-slice_split text) in
+    record {
+      is_id = is;
+      are_fields = All-tail IsField id fields (All-tail IsField [] (id ∷ fields) each);
+      written = tail_is text (id ∷ fields) (parts_text-parts_of text [] (id ∷ fields) parts);
+    }
+  where
+    tail_is : (text : List ℕ) (parts : List (List ℕ)) → dollar ∷ text ≡ parts_text ([] ∷ parts) → text ≡ parts_text parts
+    tail_is text parts e = cc
+
+pub id_of-parts : (text id : List ℕ) (fields : List (List ℕ)) → parts_of text ≡ [] ∷ id ∷ fields → id_of text ≡ id
+unfolding id_of
+id_of-parts text id fields parts = rw parts refl
+
+pub fields_of-parts : (text id : List ℕ) (fields : List (List ℕ)) → parts_of text ≡ [] ∷ id ∷ fields → fields_of text ≡ fields
+unfolding fields_of
+fields_of-parts text id fields parts = rw parts refl
+
+-- an MCF text has one id and one list of fields
+pub IsMcfText-one : (text id : List ℕ) (fields : List (List ℕ)) → IsMcfText text id fields → (id_of text ≡ id) × (fields_of text ≡ fields)
+IsMcfText-one text id fields is =
+    let parts = parts_of-IsMcfText text id fields is in
+    (id_of-parts text id fields parts, fields_of-parts text id fields parts)
+
+-- it is the text of its own id and fields
+pub IsMcfText-read : (text : List ℕ) → IsMcf text → IsMcfText text (id_of text) (fields_of text)
+IsMcfText-read text is =
+    let one = IsMcfText-one text is.0 is.1 is.2 in
+    rw (one.0, one.1) is.2
+
+-- an id alone is an MCF text, and a field behind a dollar is one field more
+pub IsMcfText-id : (id : List ℕ) → IsId id → IsMcfText (dollar ∷ id) id []
+IsMcfText-id id is = record {
+  is_id = is;
+  are_fields = All-nil IsField;
+  written = sym (append-nil (dollar ∷ id));
+}
+
+pub IsMcfText-more : (text id field : List ℕ) (fields : List (List ℕ)) → IsMcfText text id fields → IsField field
+    → IsMcfText (text ++ dollar ∷ field) id (fields ++ field ∷ [])
+IsMcfText-more text id field fields is good = record {
+  is_id = is.is_id;
+  are_fields = All-push IsField fields field is.are_fields good;
+  written = ap (λ before. before ++ dollar ∷ field) is.written ∙ sym (parts_text-push (id ∷ fields) field);
+}
+
+-- the id of an MCF text is an id
+pub IsId-parts : (text id : List ℕ) (fields : List (List ℕ)) → parts_of text ≡ [] ∷ id ∷ fields → IsMcf text → IsId id
+IsId-parts text id fields parts is =
+    let same : is.0 ≡ id = sym (IsMcfText-one text is.0 is.1 is.2).0 ∙ id_of-parts text id fields parts in
+    subst IsId same is.2.is_id
+
+-- the text after a push
+pub IsMcfText-pushed : (text new field : List ℕ) → new ≡ text ++ dollar ∷ field → IsMcfText text (id_of text) (fields_of text) → IsField field
+    → IsMcfText new (id_of new) (fields_of new)
+IsMcfText-pushed text new field written is good =
+    IsMcfText-read new (
+      id_of text,
+      fields_of text ++ field ∷ [],
+      subst (λ pushed. IsMcfText pushed (id_of text) (fields_of text ++ field ∷ [])) (sym written) (IsMcfText-more text (id_of text) field (fields_of text) is good),
+    )
+
+-- the text of an id
+pub IsMcfText-of_id : (new id : List ℕ) → new ≡ dollar ∷ id → IsId id → IsMcfText new (id_of new) (fields_of new)
+IsMcfText-of_id new id written is =
+    IsMcfText-read new (id, [], subst (λ made. IsMcfText made id []) (sym written) (IsMcfText-id id is))
+
+-- a search for a dollar tells whether a text is a field
+pub IsField-search : (found : Bool) (text : List ℕ) → (found ≡ true → (k : ℕ) × (k < length text) × (get_or text k 0 ≡ dollar))
+    → ((k : ℕ) → k < length text → get_or text k 0 ≡ dollar → found ≡ true) → IsTrue (not found) ↔ IsField text
+IsField-search true text some none = (
+  λ wrong. absurd (false≢true wrong),
+  λ field. let at = some refl in absurd (field at.0 0 at.1 at.2),
+)
+IsField-search false text some none = (
+  λ _. All-from_get_or (λ byte. byte ≢ dollar) text 0 (λ k below is. false≢true (none k below is)),
+  λ _. refl,
+)
+
+-- an error that is not the one is the other
+pub only_memory : {T : Type 0} (r : Result T Error) → (IsErrOf r EncodingInvalid → ⊥) → IfErr r (λ e. e ≡ OutOfMemory)
+only_memory (Ok x) not_invalid = tt
+only_memory (Err EncodingInvalid) not_invalid = absurd (not_invalid refl)
+only_memory (Err OutOfMemory) not_invalid = refl

@@ -1,0 +1,146 @@
+-- The parts of a PHC text.
+use Rattle.std.proofs.Common.{◌≡◌, ◌≢◌, ℕ, suc, ◌+◌, ◌*◌, ◌/◌, ◌%◌, ◌^◌, ◌<◌, ◌==◌, ◌||◌, Bool, false, List, [], ◌∷◌, ◌++◌, length, get_or, codes, slice_index, refl, sym, ap, subst, ◌∙◌, arith}
+use Rattle.std.specs.Prelude.{All, Option, None, Some, decimal}
+use Rattle.std.specs.List.{AllByRecursion as ByRecursion}
+use Rattle.std.specs.List.{slice_split, join_with_byte}
+use Rattle.std.proofs.lemmas.List.{append_assoc, append-nil, length-append, get_or_at}
+use Rattle.std.proofs.lemmas.List.Splits.{join_with_byte-slice_split, slice_split_at, slice_split_none, length-slice_split}
+use Rattle.std.proofs.lemmas.Bool.{ne_eqb, eq-eqb, false≢true}
+use Rattle.std.proofs.lemmas.List.Elements.{All-from_get_or, All-head, All-get_or, All-from_recursion}
+use Rattle.base64.specs.Rfc4648.{encode_symbols}
+use Rattle.base64.specs.GeneralPurpose.{IsBytes}
+use Rattle.base64.specs.Engines.{standard_no_pad}
+use Rattle.password_hash.specs.Letters.{is_lowercase, is_uppercase, is_digit}
+use Rattle.password_hash.specs.Pairs.{pairs_text}
+use Rattle.password_hash.specs.Phc.{base64, version_part, params_part, IsSalt, IsKey, IsSaltAndKey}
+use Rattle.password_hash.specs.Decimal.{IsDecimal}
+use Rattle.password_hash.specs.PhcParts.{IsVersion, LackVersion, LackEquals}
+use Rattle.password_hash.proofs.DecimalFacts.{decimal_of, IsDecimal-decimal}
+use Rattle.password_hash.proofs.PairsFacts.{Lacks, letters_lack, slice_split-join}
+
+-- the symbols of six bits of a table
+symbols_hold : (P : ℕ → Type 0) (t : List ℕ) → ((v : ℕ) → v < 64 → P (slice_index t v)) → (m : List ℕ) → IsBytes m → ByRecursion P (encode_symbols t m)
+unfolding encode_symbols
+symbols_hold P t each [] h = tt
+symbols_hold P t each (a ∷ []) h =
+    let small_a : a < 256 = h 0 in
+    (each (a / 4) (omega arith), (each (a % 4 * 16) (omega arith), tt))
+symbols_hold P t each (a ∷ b ∷ []) h =
+    let small_a : a < 256 = h 0 in
+    let small_b : b < 256 = h 1 in
+    (each (a / 4) (omega arith), (each (a % 4 * 16 + b / 16) (omega arith), (each (b % 16 * 4) (omega arith), tt)))
+symbols_hold P t each (a ∷ b ∷ c ∷ m) h =
+    let small_a : a < 256 = h 0 in
+    let small_b : b < 256 = h 1 in
+    let small_c : c < 256 = h 2 in
+    (each (a / 4) (omega arith), (each (a % 4 * 16 + b / 16) (omega arith), (each (b % 16 * 4 + c / 64) (omega arith), (each (c % 64) (omega arith), symbols_hold P t each m (λ i. h (suc (suc (suc i))))))))
+
+-- `a-zA-Z0-9+/`
+abbrev is_base64_letter : ℕ → Bool
+is_base64_letter b = is_lowercase b || is_uppercase b || is_digit b || (b == 43) || (b == 47)
+
+-- Base64 lacks a byte that is none of its letters
+pub base64_lacks : (c : ℕ) → is_base64_letter c ≡ false → (bytes : List ℕ) → IsBytes bytes → Lacks c (base64 bytes)
+base64_lacks c other bytes h =
+    let table : List ℕ = standard_no_pad.encode_table in
+    let none : Lacks c table = letters_lack is_base64_letter c other table refl in
+    let symbols = symbols_hold (λ b. (b == c) ≡ false) table (λ v below. All-get_or (λ b. (b == c) ≡ false) table v 0 below none) bytes h in
+    rw append-nil (All-from_recursion (λ b. (b == c) ≡ false) (encode_symbols table bytes) symbols)
+
+-- a part that does not begin with `v=`
+abbrev pub LacksVersion : List ℕ → Type 0
+LacksVersion part = (rest : List ℕ) → part ≢ codes "v=" ++ rest
+
+-- the version that a part with `v=` has
+pub record HasVersion (digits : List ℕ) (behind : List (List ℕ)) (version : Option ℕ) (others : List (List ℕ)) : Type 0 where
+  pub number : ℕ
+  pub is_version : version ≡ Some number
+  pub is_decimal : IsDecimal digits number
+  pub left : behind ≡ others
+
+pub version_next : (digits : List ℕ) (behind : List (List ℕ)) (version : Option ℕ) (others : List (List ℕ)) → IsVersion version → LackVersion others → (codes "v=" ++ digits) ∷ behind ≡ version_part version ++ others → HasVersion digits behind version others
+version_next digits behind None others h none e =
+    let heads = All-head LacksVersion (codes "v=" ++ digits) behind (subst (All LacksVersion) (sym e) none) in
+    absurd (heads digits refl)
+version_next digits behind (Some number) others h none e =
+    let same : digits ≡ decimal number = cc in
+    let left : behind ≡ others = cc in
+    record { number = number; is_version = refl; is_decimal = rw same (IsDecimal-decimal number h); left = left }
+
+-- what is read of a part with `v=`
+pub version_read : (parts : List (List ℕ)) (part digits : List ℕ) (behind : List (List ℕ)) (number : ℕ) → parts ≡ part ∷ behind → part ≡ codes "v=" ++ digits → IsDecimal digits number → (parts ≡ (codes "v=" ++ decimal number) ∷ behind) × (number < 2 ^ 32)
+version_read parts part digits behind number e is h =
+    (e ∙ ap (λ first. first ∷ behind) (is ∙ ap (λ rest. codes "v=" ++ rest) (decimal_of digits number h)), h.small)
+
+-- the text of parameters has a `=`
+pub equals_of_pairs : (pair : List ℕ × List ℕ) (pairs : List (List ℕ × List ℕ)) → (rest : List ℕ) × (pairs_text (pair ∷ pairs) ≡ pair.0 ++ (61 ∷ rest))
+equals_of_pairs pair [] = (pair.1, refl)
+equals_of_pairs pair (next ∷ pairs) =
+    (pair.1 ++ (44 ∷ pairs_text (next ∷ pairs)), append_assoc pair.0 (61 ∷ pair.1) (44 ∷ pairs_text (next ∷ pairs)))
+
+-- a part without `=` is no text of parameters
+pub no_params : (part : List ℕ) (behind : List (List ℕ)) (params : List (List ℕ × List ℕ)) (others : List (List ℕ)) → ((k : ℕ) → k < length part → get_or part k 0 ≢ 61) → part ∷ behind ≡ params_part params ++ others → params ≡ []
+no_params part behind [] others none e = refl
+no_params part behind (pair ∷ params) others none e =
+    let text : part ≡ pairs_text (pair ∷ params) = cc in
+    let equals = equals_of_pairs pair params in
+    let whole = text ∙ equals.1 in
+    let within : length pair.0 < length part = omega (arith, ap length whole, length-append pair.0 (61 ∷ equals.0)) in
+    absurd (none (length pair.0) within (rw whole (get_or_at pair.0 61 equals.0 0 (length pair.0) refl)))
+
+-- a part with a `=` is the text of the parameters
+pub params_next : (part : List ℕ) (behind : List (List ℕ)) (params : List (List ℕ × List ℕ)) (others : List (List ℕ)) → (k : ℕ) → k < length part → get_or part k 0 ≡ 61 → LackEquals others → part ∷ behind ≡ params_part params ++ others → (part ≡ pairs_text params) × (behind ≡ others)
+params_next part behind [] others k below equals none e =
+    let lacks = All-head (Lacks 61) part behind (subst (All (Lacks 61)) (sym e) none) in
+    let other = All-get_or (λ b. (b == 61) ≡ false) part k 0 below lacks in
+    absurd (false≢true (sym other ∙ eq-eqb (get_or part k 0) 61 equals))
+params_next part behind (pair ∷ params) others k below equals none e =
+    let text : part ≡ pairs_text (pair ∷ params) = cc in
+    let left : behind ≡ others = cc in
+    (text, left)
+
+-- the salt and the key of two parts
+pub record HasSaltAndKey (part letters : List ℕ) (salt key : Option (List ℕ)) : Type 0 where
+  pub salt_bytes : List ℕ
+  pub key_bytes : List ℕ
+  pub is_salt : salt ≡ Some salt_bytes
+  pub is_key : key ≡ Some key_bytes
+  pub salt_letters : part ≡ base64 salt_bytes
+  pub key_letters : letters ≡ base64 key_bytes
+  pub salt_allowed : IsSalt salt_bytes
+  pub key_allowed : IsKey key_bytes
+
+pub salt_and_key_next : (part letters : List ℕ) (salt key : Option (List ℕ)) → IsSaltAndKey (part ∷ slice_split (λ b. b == 36) letters) salt key → HasSaltAndKey part letters salt key
+salt_and_key_next part letters None key h =
+    let e = h.whole in
+    cc
+salt_and_key_next part letters (Some salt) None h =
+    let e = h.whole in
+    let none : slice_split (λ b. b == 36) letters ≡ [] = cc in
+    absurd (omega (arith, ap length none, length-slice_split (λ b. b == 36) letters))
+salt_and_key_next part letters (Some salt) (Some key) h =
+    let e = h.whole in
+    let first : part ≡ base64 salt = cc in
+    let rest : slice_split (λ b. b == 36) letters ≡ base64 key ∷ [] = cc in
+    record {
+      salt_bytes = salt;
+      key_bytes = key;
+      is_salt = refl;
+      is_key = refl;
+      salt_letters = first;
+      key_letters = sym (join_with_byte-slice_split 36 letters) ∙ ap (join_with_byte 36) rest;
+      salt_allowed = h.salt_bytes;
+      key_allowed = h.key_bytes;
+    }
+
+-- what is read of a salt and a key
+pub salt_and_key_read : (parts : List (List ℕ)) (part letters salt key : List ℕ) → parts ≡ part ∷ slice_split (λ b. b == 36) letters → part ≡ base64 salt → IsSalt salt → letters ≡ base64 key → IsKey key → IsSaltAndKey parts (Some salt) (Some key)
+salt_and_key_read parts part letters salt key e is_salt salt_allowed is_key key_allowed =
+    let alone : slice_split (λ b. b == 36) letters ≡ letters ∷ [] =
+    slice_split_none (λ b. b == 36) letters (rw is_key (base64_lacks 36 refl key key_allowed.are_bytes)) in
+    record {
+      whole = e ∙ rw (alone, is_salt, is_key) refl;
+      salt_bytes = salt_allowed;
+      key_bytes = key_allowed;
+      key_behind_salt = refl;
+    }
