@@ -125,7 +125,6 @@ impl PartialEq for ParamsString {
 
     ghost laws = { partial_equiv_from_equiv pairs_eq_equiv };
 
-    #[tactic(auto, using(crate::proofs::ParamsFacts::tested))]
     fn eq(&self, other: &ParamsString) -> bool {
         self.as_str() == other.as_str()
     }
