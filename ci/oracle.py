@@ -10,6 +10,7 @@ last line is 'N passed, M failed, K skipped'.
 import base64
 import ctypes
 import hashlib
+import os
 import random
 import shutil
 import subprocess
@@ -216,7 +217,60 @@ def sodium_hashes(program, rng):
     return tally("hashes of libsodium", agree)
 
 
+# one command of each kind, which all answer an empty password with status 0
+STREAM_COMMANDS = [
+    ["key", "4", "1", "1", "64", ""],
+    ["hash", "phc", "4", "1", "1", "00"],
+    ["hash", "mcf", "4", "1", "1", ""],
+    ["verify", phc_text(b"\0", reference.scrypt(b"", b"\0", 4, 1, 1, 32), 4, 1, 1)],
+    ["verify", "$7$2/..../....$rNxJWVHNv/mCNcgE/f6/L4zO6Fos5c2uTzhyzoisI62"],
+]
+
+# a stream that fails, as the shell opens it, the fault line, and why it is here
+STREAMS = [
+    ('"$@" > /dev/full', b"output failed\n", "a full device takes nothing"),
+    ('"$@" >&-', b"output failed\n", "the standard output is closed"),
+    ('"$@" < /', b"input failed\n", "a directory opens, but cannot be read"),
+    ('"$@" <&-', b"input failed\n", "the standard input is closed"),
+]
+
+
+def on_pipe_without_reader(words):
+    """What a program answers whose output is a pipe that nobody reads."""
+    read, write = os.pipe()
+    os.close(read)
+    ran = subprocess.run(words, stdin=subprocess.DEVNULL, stdout=write, stderr=subprocess.PIPE)
+    os.close(write)
+    return ran.returncode, ran.stderr
+
+
+def on_shell_stream(redirected, words):
+    """What a program answers whose streams the shell redirects."""
+    shell = ["sh", "-c", redirected, "sh", *words]
+    ran = subprocess.run(shell, stdin=subprocess.DEVNULL, capture_output=True)
+    return ran.returncode, ran.stdout, ran.stderr
+
+
+def real_streams(program, _rng):
+    """Every command on streams of the system that fail: status 4, and nothing in the output."""
+    agree = []
+    for words in STREAM_COMMANDS:
+        words = [program, *words]
+        agree.append(matches(on_shell_stream('"$@"', words)[0], 0, (words, "streams that work")))
+        for redirected, fault, why in STREAMS:
+            got = on_shell_stream(redirected, words)
+            agree.append(matches(got, (4, b"", fault), (words, why)))
+        got = on_pipe_without_reader(words)
+        agree.append(matches(got, (4, b"output failed\n"), (words, "nobody reads the pipe")))
+    refused = [program, "key", "4", "1", "1", "0", ""]
+    for redirected in ('"$@" 2> /dev/full', '"$@" 2>&-'):
+        got = on_shell_stream(redirected, refused)
+        agree.append(matches(got, (2, b"", b""), (refused, "the fault line cannot be written")))
+    return tally("runs on streams of the system that fail", agree)
+
+
 PARTS = [
+    real_streams,
     keys,
     hashes,
     phc_mutations,

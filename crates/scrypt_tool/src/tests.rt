@@ -1,14 +1,16 @@
 // The whole program over readers and writers of its own.
 
-mod failures;
+mod fault_lines;
 mod hashes;
 mod keys;
+mod readers;
 mod refusals;
 mod streams;
+mod writers;
 
 use crate::run::{Ended, run};
 use std::alloc::Global;
-use std::io::Read;
+use std::io::{Read, Write};
 use std::test::Fail;
 use streams::Page;
 
@@ -19,32 +21,83 @@ const FIRST_KEY: &str =
 const USAGE: &str =
     "usage: key LOG_N R P LEN SALT_HEX | hash phc|mcf LOG_N R P SALT_HEX | verify HASH\n";
 
+// A command line, its status on the password `password`, and the line that it writes. The key is that of
+// Python's hashlib, and the `$7$` text is libxcrypt's.
+const COMMANDS: [(&str, u8, &str); 7] = [
+    (
+        "key 4 1 1 32 4e61436c",
+        0,
+        "aec6b7483ed26e08802b41f4032086a0e886be7ac48fcfd92ff0cef8109752f4\n",
+    ),
+    (
+        "hash phc 4 1 1 4e61436c",
+        0,
+        "$scrypt$ln=4,r=1,p=1$TmFDbA$rsa3SD7SbgiAK0H0AyCGoOiGvnrEj8/ZL/DO+BCXUvQ\n",
+    ),
+    (
+        "hash mcf 4 1 1 4e61436c",
+        0,
+        "$7$2/..../....C3qEg/$oOSIli7m/kDufp3GXHdJ7lqr3hzIyIJUYr4iTamAqDA\n",
+    ),
+    (
+        "verify $scrypt$ln=4,r=1,p=1$TmFDbA$rsa3SD7SbgiAK0H0AyCGoOiGvnrEj8/ZL/DO+BCXUvQ",
+        0,
+        "ok\n",
+    ),
+    (
+        "verify $7$2/..../....C3qEg/$oOSIli7m/kDufp3GXHdJ7lqr3hzIyIJUYr4iTamAqDA",
+        0,
+        "ok\n",
+    ),
+    (
+        "verify $scrypt$ln=4,r=1,p=1$TmFDbA$AAAAAAAAAAAAAA",
+        1,
+        "no\n",
+    ),
+    (
+        "verify $7$2/..../....$rNxJWVHNv/mCNcgE/f6/L4zO6Fos5c2uTzhyzoisI62",
+        1,
+        "no\n",
+    ),
+];
+
 // How a run ended, and what it wrote.
 #[derive(Drop)]
-struct Told {
+struct Printed {
     ended: Ended,
     output: Page,
     faults: Page,
 }
 
-// Runs a command line, whose words stand between single blanks.
-fn tell<R: Read>(
+// Runs a command line, whose words are separated by single blanks, on two pages.
+fn run_line<R: Read>(
     alloc: Global,
     line: &str,
     reader: &mut R,
     mut output: Page,
     mut faults: Page,
-) -> Result<Told, Fail> {
-    let mut words = Vec::new(alloc);
-    for word in line.split(' ') {
-        words.push(String::from_str(alloc, word)?)?;
-    }
-    let ended = run(alloc, &words, reader, &mut output, &mut faults);
-    Ok(Told {
+) -> Result<Printed, Fail> {
+    let ended = run_over(alloc, line, reader, &mut output, &mut faults)?;
+    Ok(Printed {
         ended,
         output,
         faults,
     })
+}
+
+// Runs a command line over any reader and any two writers.
+fn run_over<R: Read, W: Write, F: Write>(
+    alloc: Global,
+    line: &str,
+    reader: &mut R,
+    output: &mut W,
+    faults: &mut F,
+) -> Result<Ended, Fail> {
+    let mut words = Vec::new(alloc);
+    for word in line.split(' ') {
+        words.push(String::from_str(alloc, word)?)?;
+    }
+    Ok(run(alloc, &words, reader, output, faults))
 }
 
 const DONE: Ended = Ended {

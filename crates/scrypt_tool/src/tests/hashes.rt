@@ -1,9 +1,8 @@
 // Hashes that are made and verified.
 
+use super::run_line;
 use super::streams::{Input, Page};
-use super::{INPUT_FAILED, tell};
 use crate::run::Ended;
-use std::io::ErrorKind;
 use std::test::Fail;
 
 // A command line, its input, the status, and the line that is written: to the output with status 0
@@ -43,7 +42,7 @@ const ANSWERS: [Case; 14] = [
         0,
         "ok\n",
     ),
-    // A newline belongs to the password, and without a salt or a key none is right.
+    // A newline belongs to the password, and without a salt or a key no password is right.
     (
         "verify $scrypt$ln=14,r=8,p=1$U29kaXVtQ2hsb3JpZGU$cCO9yzr9c0hGHA",
         "pleaseletmein\n",
@@ -184,37 +183,20 @@ const REFUSALS: [Case; 15] = [
 fn answers_and_refusals(rt: HostRuntime) -> Result<(), Fail> {
     for (line, password, status, written) in ANSWERS.into_iter().chain(REFUSALS) {
         let mut input = Input::new(password.as_bytes(), usize::MAX);
-        let told = tell(rt.alloc(), line, &mut input, Page::new(), Page::new())?;
+        let printed = run_line(rt.alloc(), line, &mut input, Page::new(), Page::new())?;
         let ended = Ended {
             status,
             input_failed: false,
             fault_told: true,
         };
-        assert_eq!(rt; told.ended, ended, "{line}");
+        assert_eq!(rt; printed.ended, ended, "{line}");
         let (output, fault) = if status < 2 {
             (written, "")
         } else {
             ("", written)
         };
-        assert_eq!(rt; told.output.text(), output.as_bytes(), "{line}");
-        assert_eq!(rt; told.faults.text(), fault.as_bytes(), "{line}");
-    }
-    Ok(())
-}
-
-// The text of a hash is read before the input, and what verifying refuses comes after it.
-#[test]
-fn input_that_fails(rt: HostRuntime) -> Result<(), Fail> {
-    for line in [
-        "hash phc 4 1 1 ",
-        "verify $argon2id",
-        "verify $scrypt",
-        "verify $7$",
-    ] {
-        let mut input = Input::failing(b"password", ErrorKind::Other);
-        let told = tell(rt.alloc(), line, &mut input, Page::new(), Page::new())?;
-        assert_eq!(rt; told.ended, INPUT_FAILED, "{line}");
-        assert_eq!(rt; told.output.text(), b"".as_slice(), "{line}");
+        assert_eq!(rt; printed.output.text(), output.as_bytes(), "{line}");
+        assert_eq!(rt; printed.faults.text(), fault.as_bytes(), "{line}");
     }
     Ok(())
 }

@@ -1,16 +1,16 @@
 // Keys that are written.
 
 use super::streams::{Input, Page};
-use super::{DONE, FIRST_KEY, tell};
+use super::{DONE, FIRST_KEY, run_line};
 use std::test::Fail;
 
 #[test]
 fn first_key_of_rfc_7914(rt: HostRuntime) -> Result<(), Fail> {
     let input = &mut b"".as_slice();
-    let told = tell(rt.alloc(), "key 4 1 1 64 ", input, Page::new(), Page::new())?;
-    assert_eq!(rt; told.ended, DONE);
-    assert_eq!(rt; told.output.text(), FIRST_KEY.as_bytes());
-    assert_eq!(rt; told.faults.text(), b"".as_slice());
+    let printed = run_line(rt.alloc(), "key 4 1 1 64 ", input, Page::new(), Page::new())?;
+    assert_eq!(rt; printed.ended, DONE);
+    assert_eq!(rt; printed.output.text(), FIRST_KEY.as_bytes());
+    assert_eq!(rt; printed.faults.text(), b"".as_slice());
     Ok(())
 }
 
@@ -42,9 +42,9 @@ const KEYS: [(&str, &[u8], &str); 4] = [
 fn keys_of_passwords_and_salts(rt: HostRuntime) -> Result<(), Fail> {
     for (line, password, key) in KEYS {
         let mut input = Input::new(password, usize::MAX);
-        let told = tell(rt.alloc(), line, &mut input, Page::new(), Page::new())?;
-        assert_eq!(rt; told.ended, DONE, "{line}");
-        assert_eq!(rt; told.output.text(), key.as_bytes(), "{line}");
+        let printed = run_line(rt.alloc(), line, &mut input, Page::new(), Page::new())?;
+        assert_eq!(rt; printed.ended, DONE, "{line}");
+        assert_eq!(rt; printed.output.text(), key.as_bytes(), "{line}");
     }
     Ok(())
 }
@@ -54,16 +54,16 @@ fn long_password_in_pieces(rt: HostRuntime) -> Result<(), Fail> {
     let password = vec![in rt.alloc(); b'x'; 99_999]?;
     for most in [1, 1000, usize::MAX] {
         let mut input = Input::new(&password, most);
-        let told = tell(
+        let printed = run_line(
             rt.alloc(),
             "key 4 1 1 16 ",
             &mut input,
             Page::new(),
             Page::new(),
         )?;
-        assert_eq!(rt; told.ended, DONE, "{most} bytes a call");
+        assert_eq!(rt; printed.ended, DONE, "{most} bytes a call");
         assert_eq!(rt;
-            told.output.text(),
+            printed.output.text(),
             b"d9d598b48803bb1bbed2d5892c9870b3\n".as_slice()
         );
     }

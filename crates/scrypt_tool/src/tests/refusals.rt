@@ -1,7 +1,7 @@
 // Words that are refused, over a reader that fails: it is never read.
 
 use super::streams::{Input, Page};
-use super::{USAGE, tell};
+use super::{USAGE, run_line};
 use crate::run::Ended;
 use std::alloc::Global;
 use std::io::ErrorKind;
@@ -18,15 +18,15 @@ const ENCODING: &str = "hash refused: EncodingInvalid\n";
 
 fn refused(rt: &impl Abort, alloc: Global, line: &str, fault: &str) -> Result<(), Fail> {
     let mut input = Input::failing(b"", ErrorKind::Other);
-    let told = tell(alloc, line, &mut input, Page::new(), Page::new())?;
+    let printed = run_line(alloc, line, &mut input, Page::new(), Page::new())?;
     let ended = Ended {
         status: 2,
         input_failed: false,
         fault_told: true,
     };
-    assert_eq!(rt; told.ended, ended, "{line}");
-    assert_eq!(rt; told.output.text(), b"".as_slice(), "{line}");
-    assert_eq!(rt; told.faults.text(), fault.as_bytes(), "{line}");
+    assert_eq!(rt; printed.ended, ended, "{line}");
+    assert_eq!(rt; printed.output.text(), b"".as_slice(), "{line}");
+    assert_eq!(rt; printed.faults.text(), fault.as_bytes(), "{line}");
     Ok(())
 }
 
@@ -61,7 +61,7 @@ fn each_refusal(rt: HostRuntime) -> Result<(), Fail> {
     Ok(())
 }
 
-// The first thing that is wrong is told.
+// The first thing that is wrong is printed.
 const SEVERAL_WRONG: [(&str, &str); 6] = [
     ("key 4 1 1 00 0", USAGE),
     ("key 4 0 0 0 0", SALT),
@@ -108,7 +108,7 @@ fn numbers_at_their_bounds(rt: HostRuntime) -> Result<(), Fail> {
     Ok(())
 }
 
-// Wrong words, and commands of the usage line that are not there yet.
+// Words that are not those of a command.
 const NO_COMMANDS: [&str; 14] = [
     "",
     "key",
@@ -147,14 +147,18 @@ const LARGE: [&str; 5] = [
 fn memory_that_cannot_be_had(rt: HostRuntime) -> Result<(), Fail> {
     for line in LARGE {
         let input = &mut b"".as_slice();
-        let told = tell(rt.alloc(), line, input, Page::new(), Page::new())?;
+        let printed = run_line(rt.alloc(), line, input, Page::new(), Page::new())?;
         assert_eq!(rt;
-            (told.ended.status, told.ended.fault_told),
+            (printed.ended.status, printed.ended.fault_told),
             (3, true),
             "{line}"
         );
-        assert_eq!(rt; told.output.text(), b"".as_slice(), "{line}");
-        assert_eq!(rt; told.faults.text(), b"out of memory\n".as_slice(), "{line}");
+        assert_eq!(rt; printed.output.text(), b"".as_slice(), "{line}");
+        assert_eq!(rt;
+            printed.faults.text(),
+            b"out of memory\n".as_slice(),
+            "{line}"
+        );
     }
     Ok(())
 }

@@ -1,9 +1,8 @@
-// Readers and writers that are slow or fail.
+// Readers and writers that are slow, fail or count their calls.
 
 use std::io::{Error, ErrorKind, Read, Result, Write};
 
-/// A reader that hands out at most `most` bytes a call, and fails after the last one if it is told
-/// to.
+/// A reader that gives at most `most` bytes a call, and fails after the last one if it is told to.
 #[derive(Drop)]
 pub struct Input<'a> {
     rest: &'a [u8],
@@ -41,8 +40,8 @@ impl Read for Input<'_> {
     }
 }
 
-/// A writer on a page of fixed size, which takes at most `most` bytes a call, fails at one of its
-/// calls if it is told to, and counts a flush as a call.
+/// A writer on a page of fixed size, which takes at most `most` bytes a call, fails once, at call
+/// `fails_at`, and counts a flush as a call.
 #[derive(Drop)]
 pub struct Page {
     bytes: [u8; 160],
@@ -50,6 +49,7 @@ pub struct Page {
     most: usize,
     calls: usize,
     fails_at: usize,
+    failure: ErrorKind,
 }
 
 impl Page {
@@ -58,12 +58,17 @@ impl Page {
     }
 
     pub fn failing(most: usize, fails_at: usize) -> Page {
+        Page::failing_by(ErrorKind::Other, most, fails_at)
+    }
+
+    pub fn failing_by(failure: ErrorKind, most: usize, fails_at: usize) -> Page {
         Page {
             bytes: [0; 160],
             len: 0,
             most,
             calls: 0,
             fails_at,
+            failure,
         }
     }
 
@@ -75,7 +80,7 @@ impl Page {
         let fails = self.calls == self.fails_at;
         self.calls = self.calls.saturating_add(1);
         if fails {
-            Err(Error::other("page"))
+            Err(Error::from(self.failure))
         } else {
             Ok(())
         }
@@ -100,5 +105,50 @@ impl Write for Page {
 
     fn flush(&mut self) -> Result<()> {
         self.call()
+    }
+}
+
+/// How often each method of a writer was called.
+#[derive(Clone, Copy, Debug, PartialEq, Eq)]
+pub struct Calls {
+    pub write: usize,
+    pub write_all: usize,
+    pub flush: usize,
+}
+
+/// A page that counts the calls of each of its methods.
+#[derive(Drop)]
+pub struct CountedPage {
+    pub page: Page,
+    pub calls: Calls,
+}
+
+impl CountedPage {
+    pub fn new() -> CountedPage {
+        CountedPage {
+            page: Page::new(),
+            calls: Calls {
+                write: 0,
+                write_all: 0,
+                flush: 0,
+            },
+        }
+    }
+}
+
+impl Write for CountedPage {
+    fn write(&mut self, buf: &[u8]) -> Result<usize> {
+        self.calls.write = self.calls.write.saturating_add(1);
+        self.page.write(buf)
+    }
+
+    fn write_all(&mut self, buf: &[u8]) -> Result<()> {
+        self.calls.write_all = self.calls.write_all.saturating_add(1);
+        self.page.write_all(buf)
+    }
+
+    fn flush(&mut self) -> Result<()> {
+        self.calls.flush = self.calls.flush.saturating_add(1);
+        self.page.flush()
     }
 }
