@@ -1,4 +1,3 @@
-pub mod DecimalFacts
 pub mod WordsFacts
 pub mod FaultFacts
 pub mod VerdictFacts

@@ -1,7 +1,7 @@
 -- The words of each command: five after `key`, five or six after `hash`, and one after `verify`.
 use Rattle.std.proofs.Common.{◌≡◌, ◌≢◌, ◌^◌, ℕ, Bool, List, [], ◌∷◌, None, Option, Some, length, get_or, arith, map, refl, bytes_eq, codes, false, true}
 use Rattle.std.proofs.lemmas.Slice.Eq.{bytes_eq-Decides}
-use Rattle.scrypt_tool.specs.Decimal.{decimal_below}
+use Rattle.password_hash.specs.Decimal.{decimal_below}
 use Rattle.scrypt_tool.specs.Words.{MakeWords, VerifyWords, format_of, hash_words, key_words, named_hash_words, numbers_of, verify_words, words_of}
 use Rattle.scrypt_tool.specs.declared.words.Format.{Format}
 use Rattle.scrypt_tool.specs.declared.words.Numbers.{Numbers}

@@ -1,8 +1,6 @@
 -- In reading order: the words, why a run ends without an answer, the hash in the words, what they ask for,
 -- and what the program prints.
 
--- numbers in decimal digits
-pub mod Decimal
 -- the words of each command
 pub mod Words
 -- why a run ends without an answer: statuses and fault lines

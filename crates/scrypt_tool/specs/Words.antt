@@ -1,6 +1,6 @@
 -- The words of each command, with their numbers read.
 use Rattle.std.specs.Prelude.{ℕ, ◌^◌, bytes_eq, if◌then◌else◌, List, [], ◌∷◌, codes, Option, Some, None, option_and_then}
-use Rattle.scrypt_tool.specs.Decimal.{decimal_below}
+use Rattle.password_hash.specs.Decimal.{decimal_below}
 use Rattle.scrypt_tool.specs.declared.words.Format.{Format}
 use Rattle.scrypt_tool.specs.declared.words.Format.TheVariants.{Phc, Mcf}
 use Rattle.scrypt_tool.specs.declared.words.Numbers.{Numbers}

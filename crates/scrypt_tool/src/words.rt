@@ -1,10 +1,9 @@
 // The words of a command, with their numbers read.
 
 ghost use Rattle.std.specs.Prelude.{◌≡◌, map, option_map, string_bytes};
-ghost use Rattle.scrypt_tool.specs.Decimal.{DecimalGives, has_plus_or_leading_zero};
 ghost use Rattle.scrypt_tool.specs.Words.{format_of, hash_words, key_words, named_hash_words, numbers_of, verify_words, words_of, words_view};
 
-use std::str::FromStr;
+use password_hash::decimal::read_decimal;
 
 /// The words of a command. The salt's digits and the text of a hash are not read yet.
 #[derive(Drop)]
@@ -148,25 +147,4 @@ fn read_format(word: &str) -> Option<Format>
         "mcf" => Some(Format::Mcf),
         _ => None,
     }
-}
-
-// Reads a number: digits alone, no leading zero except in `0` itself, below the type's bound.
-fn read_decimal<N: FromStr>(word: &str) -> Option<N>
-where
-    N::Err: Drop,
-    ensures { DecimalGives N.from_str_gives word.now result }
-{
-    // `parse` also reads a plus and leading zeros.
-    if has_plus_or_leading_zero(word.as_bytes()) {
-        return None;
-    }
-    word.parse().ok()
-}
-
-// Whether a plus is first, or a zero that is not the only digit.
-#[tactic(auto, unfolding(crate::specs::Decimal::has_plus_or_leading_zero))]
-fn has_plus_or_leading_zero(text: &[u8]) -> bool
-    ensures { result ≡ has_plus_or_leading_zero text.now }
-{
-    matches!(text, [b'+', ..] | [b'0', _, ..])
 }

@@ -1,5 +1,5 @@
 use Rattle.std.proofs.Common.{◌∙◌, arith, refl, string_bytes, sym}
-use Rattle.scrypt_tool.proofs.DecimalFacts.{decimal_gives}
+use Rattle.password_hash.proofs.DecimalFacts.{decimal_gives}
 use Rattle.scrypt_tool.proofs.WordsFacts.{are_five, are_six, hash_words_found, hash_words_found_with_len, no_hash_len, no_hash_numbers, no_hash_numbers_with_len, not_hash_words}
 use Rattle.scrypt_tool.proofs.words.read_hash.Goals as goal
 use Rattle.scrypt_tool.proofs.words.read_hash.Goals.{in_default-via-then-words-lt5, in_default-via-else-words-lt5+else-words-lt6+else-words-lt7}
@@ -43,7 +43,7 @@ returns-in_err-len-in-len6 c =
     c.salt_hex-item-then-words-lt7.is c.len-item.is
     refl c.as_str-in-len6.ensures.value c.as_str-in-len6-2.ensures.value c.as_str-in-len6-3.ensures.value refl
     c.as_str-in-len6-4.ensures.value in
-    let len = decimal_gives 64 c.as_str-in-len6-4.result.now _ c.read_decimal.ensures in
+    let len = decimal_gives 64 c.as_str-in-len6-4.result.now _ c.read_decimal.ensures.gives in
     rw (c.from_residual-in_err-len-in-len6.ensures, six)
     (sym (no_hash_len _ _ _ _ _ _ _ (sym c.read_numbers-in-len6.ensures ∙ c.in_ok-numbers-in-len6.was) (sym len ∙ c.in_err-len-in-len6.was)))
 
@@ -54,6 +54,6 @@ returns-in_ok-len-in-len6 c =
     c.salt_hex-item-then-words-lt7.is c.len-item.is
     c.as_str-in-len6-5.ensures.value c.as_str-in-len6.ensures.value c.as_str-in-len6-2.ensures.value c.as_str-in-len6-3.ensures.value
     c.as_str-in-len6-6.ensures.value c.as_str-in-len6-4.ensures.value in
-    let len = decimal_gives 64 c.as_str-in-len6-4.result.now _ c.read_decimal.ensures in
+    let len = decimal_gives 64 c.as_str-in-len6-4.result.now _ c.read_decimal.ensures.gives in
     rw six (c.read_hash_of-in-len6.ensures
     ∙ sym (hash_words_found_with_len _ _ _ _ _ _ _ _ (sym c.read_numbers-in-len6.ensures ∙ c.in_ok-numbers-in-len6.was) (sym len ∙ c.in_ok-len-in-len6.was)))

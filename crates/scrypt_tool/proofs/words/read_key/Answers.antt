@@ -1,5 +1,5 @@
 use Rattle.std.proofs.Common.{◌∙◌, arith, refl, string_bytes, sym}
-use Rattle.scrypt_tool.proofs.DecimalFacts.{decimal_gives}
+use Rattle.password_hash.proofs.DecimalFacts.{decimal_gives}
 use Rattle.scrypt_tool.proofs.WordsFacts.{are_five, key_words_found, no_key_numbers, no_len, not_key_words}
 use Rattle.scrypt_tool.proofs.words.read_key.Goals as goal
 use Rattle.scrypt_tool.proofs.words.read_key.Goals.{in_default-via-then-words-lt5, in_default-via-else-words-lt5+else-words-lt6}
@@ -24,7 +24,7 @@ returns-in_err-len c =
     let five = are_five string_bytes c.args.words.now _ _ _ _ _ (omega arith)
     c.log_n-item.is c.r-item.is c.p-item.is c.len-item.is c.salt_hex-item.is
     c.as_str.ensures.value c.as_str-2.ensures.value c.as_str-3.ensures.value c.as_str-4.ensures.value refl in
-    let len = decimal_gives 64 c.as_str-4.result.now _ c.read_decimal.ensures in
+    let len = decimal_gives 64 c.as_str-4.result.now _ c.read_decimal.ensures.gives in
     rw (c.from_residual-in_err-len.ensures, five)
     (sym (no_len _ _ _ _ _ _ (sym c.read_numbers.ensures ∙ c.in_ok-numbers.was) (sym len ∙ c.in_err-len.was)))
 
@@ -34,6 +34,6 @@ returns c =
     c.log_n-item.is c.r-item.is c.p-item.is c.len-item.is c.salt_hex-item.is
     c.as_str.ensures.value c.as_str-2.ensures.value c.as_str-3.ensures.value c.as_str-4.ensures.value
     c.as_str-5.ensures.value in
-    let len = decimal_gives 64 c.as_str-4.result.now _ c.read_decimal.ensures in
+    let len = decimal_gives 64 c.as_str-4.result.now _ c.read_decimal.ensures.gives in
     rw five
     (sym (key_words_found _ _ _ _ _ _ _ (sym c.read_numbers.ensures ∙ c.in_ok-numbers.was) (sym len ∙ c.in_ok-len.was)))
