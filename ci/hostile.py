@@ -15,6 +15,7 @@ import functools
 import hashlib
 import random
 import re
+import resource
 import subprocess
 import sys
 
@@ -55,9 +56,12 @@ def accepted(log_n, r, p):
 
 def compared(salt, log_n, r, p, key):
     """The verdict once all but the key is accepted."""
+    # The chunks are allocated before the table, so they are to be small at every log_n.
+    if r * p > 16 or len(key) > 1 << 16:
+        raise Costly
     if log_n >= GREAT:
         return "OutOfMemory"
-    if log_n > 4 or r * p > 16 or log_n == 0 and r * p > 2 or len(key) > 1 << 16:
+    if log_n > 4 or log_n == 0 and r * p > 2:
         raise Costly
     return "Ok" if derived_key(salt, log_n, r, p, len(key)) == key else "PasswordInvalid"
 
@@ -195,6 +199,11 @@ def judged(rng, count):
         count -= 1
 
 
+def limited():
+    """No text is to take more than 4 GiB."""
+    resource.setrlimit(resource.RLIMIT_AS, (1 << 32, 1 << 32))
+
+
 def main():
     program, *numbers = sys.argv[1:]
     count = int(numbers[0]) if numbers else TEXTS
@@ -202,7 +211,8 @@ def main():
     print(f"hostile texts from seed {seed}")
     pairs = list(judged(random.Random(seed), count))
     lines = "".join(text + "\n" for text, _ in pairs).encode()
-    told = subprocess.run([program], input=lines, capture_output=True, check=True).stdout.decode().split("\n")
+    ran = subprocess.run([program], input=lines, capture_output=True, check=True, preexec_fn=limited)
+    told = ran.stdout.decode().split("\n")
     fell, differ = collections.Counter(), len(told) != len(pairs) + 1
     for (text, wanted), got in zip(pairs, told):
         fell[wanted] += 1
