@@ -4,7 +4,8 @@
 #               the prover must refuse, every test and every program
 # And besides the gate:
 #   make wrong-bodies tries the rest of the edits that the prover must refuse
-#   make oracle compares the program with independent implementations on random input
+#   make oracle compares the program with independent implementations on random input, and with a
+#               reader in plain Python on hostile hashes
 #   make bench  measures the library and the program against other implementations on this machine.
 #               Other programs join by WORKERS="--worker NAME=PATH ..", as bench/bench.py describes,
 #               and WORKERS="--callgrind" counts instructions
@@ -25,6 +26,9 @@ wrong-bodies: kit
 oracle: kit
 	cd crates/scrypt_tool && rt run -- key 0 1 1 1 "" > /dev/null < /dev/null
 	python3 ci/oracle.py crates/scrypt_tool/out/scrypt_tool
+	cd crates/verdicts && rt run < stdin > /dev/null
+	python3 ci/hostile.py crates/verdicts/out/verdicts
+	python3 ci/thin_cost.py
 
 bench: kit
 	cd crates/scrypt_c && rt lib > /dev/null

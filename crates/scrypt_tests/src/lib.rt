@@ -3,9 +3,13 @@
 #![tactic(auto)]
 
 #[cfg(test)]
+mod allocations;
+#[cfg(test)]
 mod buffers;
 #[cfg(test)]
 mod derived_keys;
+#[cfg(test)]
+mod hostile;
 #[cfg(test)]
 mod kdf;
 #[cfg(test)]
@@ -16,6 +20,8 @@ mod mcf_base64;
 mod mcf_costs;
 #[cfg(test)]
 mod mcf_hashes;
+#[cfg(test)]
+mod memory;
 #[cfg(test)]
 mod parameters;
 #[cfg(test)]

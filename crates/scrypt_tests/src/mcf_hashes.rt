@@ -39,7 +39,7 @@ fn hash_from_libxcrypt(rt: HostRuntime) -> Result<(), Fail> {
 }
 
 // Changes of that hash, each with its reason and the verdict on `pleaseletmein`.
-const CHANGES: [(&str, &str, &str, Result<(), Error>); 9] = [
+pub const CHANGES: [(&str, &str, &str, Result<(), Error>); 9] = [
     ("rw7", "rwD", "another key", Err(Error::PasswordInvalid)),
     (
         "rw7",

@@ -1,4 +1,4 @@
-// Texts that are one change away from another.
+// Texts that are made of others.
 
 use std::alloc::Global;
 use std::test::Fail;
@@ -12,4 +12,18 @@ pub fn changed(alloc: Global, base: &str, old: &str, new: &str) -> Result<String
         return Err("what is to be replaced occurs twice".into());
     }
     Ok(format!(in alloc; "{front}{new}{back}")?)
+}
+
+/// The text and so many times the character.
+pub fn followed_by(
+    alloc: Global,
+    text: &str,
+    character: char,
+    times: usize,
+) -> Result<String, Fail> {
+    let mut long = String::from_str(alloc, text)?;
+    for _ in 0..times {
+        long.push(character)?;
+    }
+    Ok(long)
 }

@@ -1,7 +1,8 @@
 -- For the same words and input the program has one outcome.
 use Rattle.std.proofs.Common.{◌≡◌, ◌⊎◌, ◌∙◌, ℕ, List, ◌∷◌, ◌++◌, Option, None, Some, Ok, ap, ap₂, codes, inl, inr, length, refl, sym, IsSomeAnd, MatchOption}
 use Rattle.password_hash.proofs.OneReading.{one_reading}
-use Rattle.password_hash.specs.Phc.{hash_text, params_part, parts_text, salt_and_key_parts, version_part}
+use Rattle.password_hash.specs.Phc.{hash_text, params_part, salt_and_key_parts, version_part}
+use Rattle.password_hash.specs.Parts.{parts_text}
 use Rattle.password_hash.specs.Refusal.{Refusal, BadSalt, NoMemory}
 use Rattle.password_hash.specs.declared.phc.hash.PasswordHash.{PasswordHash}
 use Rattle.hex.specs.Hex.{decode_of}

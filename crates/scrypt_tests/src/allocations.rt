@@ -1,0 +1,232 @@
+// Each allocation of a call fails in turn, and the exact number of them is asserted.
+
+use crate::mcf_hashes;
+use crate::memory::{Ended, failing_allocations};
+use crate::texts::{changed, followed_by};
+use crate::vectors::{EMPTY_PASSWORD_HASH, LIBXCRYPT_HASH};
+use password_hash::mcf::{self, Base64};
+use password_hash::{Error, PasswordHasher, PasswordVerifier, phc};
+use scrypt::{CoreCount, DeriveError, Kdf, Params, Scrypt, kdf, scrypt, scrypt_counted};
+use std::alloc::Global;
+use std::test::Fail;
+
+// The chunks, the table and the scratch at (4, 1, 1), in bytes.
+const BUFFERS: [usize; 3] = [128, 2048, 256];
+
+// How a call ended by its answer, if a failure left everything as it was.
+fn ended<T, E: PartialEq + Drop>(
+    answer: &Result<T, E>,
+    out_of_memory: E,
+    unchanged: bool,
+) -> Ended {
+    match answer {
+        Ok(_) => Ended::Done,
+        Err(refused) if unchanged && *refused == out_of_memory => Ended::OutOfMemory,
+        Err(_) => Ended::Otherwise,
+    }
+}
+
+#[test]
+fn derivations(rt: HostRuntime) -> Result<(), Fail> {
+    let alloc = rt.alloc();
+    let params = Params::new(4, 1, 1)?;
+    let by_scrypt = failing_allocations(alloc, &BUFFERS, || {
+        let mut output = [0xaau8; 32];
+        let answer = scrypt(alloc, b"", b"", &params, &mut output);
+        ended(&answer, DeriveError::OutOfMemory, output == [0xaa; 32])
+    })?;
+    assert_eq!(rt; by_scrypt, 3);
+    let by_counted = failing_allocations(alloc, &BUFFERS, || {
+        let mut output = [0xaau8; 32];
+        let mut cores = CoreCount::new();
+        let answer = scrypt_counted(alloc, b"", b"", &params, &mut output, &mut cores);
+        ended(&answer, DeriveError::OutOfMemory, output == [0xaa; 32])
+    })?;
+    assert_eq!(rt; by_counted, 3);
+    let by_kdf = failing_allocations(alloc, &BUFFERS, || {
+        let mut output = [0xaau8; 32];
+        let answer = Scrypt::from(params).derive_key(alloc, b"", b"", &mut output);
+        ended(&answer, kdf::Error::OutOfMemory, output == [0xaa; 32])
+    })?;
+    assert_eq!(rt; by_kdf, 3);
+    Ok(())
+}
+
+#[test]
+fn phc_hashing_and_verifying(rt: HostRuntime) -> Result<(), Fail> {
+    let alloc = rt.alloc();
+    let hasher = Scrypt::from(Params::new(4, 1, 1)?);
+    let hashing = failing_allocations(alloc, &BUFFERS, || {
+        let made: Result<phc::PasswordHash, Error> = hasher.hash_password_with_salt(
+            alloc, b"", b"salt",
+        );
+        ended(&made, Error::OutOfMemory, true)
+    })?;
+    assert_eq!(rt; hashing, 3);
+    let hash: phc::PasswordHash = hasher.hash_password_with_salt(alloc, b"", b"salt")?;
+    let verifying = failing_allocations(alloc, &BUFFERS, || {
+        ended(
+            &hasher.verify_password(alloc, b"", &hash),
+            Error::OutOfMemory,
+            true,
+        )
+    })?;
+    assert_eq!(rt; verifying, 3);
+    Ok(())
+}
+
+// Hashing takes the whole text first, and verifying the key.
+#[test]
+fn mcf_hashing_and_verifying(rt: HostRuntime) -> Result<(), Fail> {
+    let alloc = rt.alloc();
+    let hasher = Scrypt::from(Params::new(4, 1, 1)?);
+    let [chunks, table, scratch] = BUFFERS;
+    let hashing = failing_allocations(alloc, &[58, chunks, table, scratch], || {
+        let made: Result<mcf::PasswordHash, Error> = hasher.hash_password_with_salt(
+            alloc, b"", b"",
+        );
+        ended(&made, Error::OutOfMemory, true)
+    })?;
+    assert_eq!(rt; hashing, 4);
+    let hash = mcf::PasswordHash::new(alloc, EMPTY_PASSWORD_HASH)?;
+    let verifying = failing_allocations(alloc, &[32, chunks, table, scratch], || {
+        let verdict = hasher.verify_password(alloc, b"", &hash.as_password_hash_ref());
+        ended(
+            &verdict,
+            Error::OutOfMemory,
+            hash.as_str() == EMPTY_PASSWORD_HASH,
+        )
+    })?;
+    assert_eq!(rt; verifying, 4);
+    Ok(())
+}
+
+// Blocks of this size and more are kept where also a growing text can have them.
+const LETTERS: usize = 2000;
+
+const BYTES: usize = 1500;
+
+#[test]
+fn modular_texts(rt: HostRuntime) -> Result<(), Fail> {
+    let alloc = rt.alloc();
+    let memory = mcf::Error::OutOfMemory;
+    let text = followed_by(alloc, "$", 'a', LETTERS)?;
+    let new = failing_allocations(alloc, &[LETTERS + 1], || {
+        ended(&mcf::PasswordHash::new(alloc, text.as_str()), memory, true)
+    })?;
+    assert_eq!(rt; new, 1);
+    let id = followed_by(alloc, "", 'a', LETTERS)?;
+    let from_id = failing_allocations(alloc, &[LETTERS + 1], || {
+        ended(
+            &mcf::PasswordHash::from_id(alloc, id.as_str()),
+            memory,
+            true,
+        )
+    })?;
+    assert_eq!(rt; from_id, 1);
+    Ok(())
+}
+
+#[test]
+fn letters_and_bytes(rt: HostRuntime) -> Result<(), Fail> {
+    let alloc = rt.alloc();
+    let memory = mcf::Error::OutOfMemory;
+    let bytes = vec![in alloc; 0xffu8; BYTES]?;
+    let encoding = failing_allocations(alloc, &[LETTERS], || {
+        ended(&Base64::Crypt.encode_string(alloc, &bytes), memory, true)
+    })?;
+    assert_eq!(rt; encoding, 1);
+    let text = followed_by(alloc, "$7$", 'z', LETTERS)?;
+    for field in mcf::PasswordHashRef::new(text.as_str())?.fields() {
+        let decoding = failing_allocations(alloc, &[BYTES], || {
+            ended(
+                &Base64::Crypt.decode_vec(alloc, field.as_str()),
+                memory,
+                true,
+            )
+        })?;
+        assert_eq!(rt; decoding, 1);
+        let of_field = failing_allocations(alloc, &[BYTES], || {
+            ended(&field.decode_base64(alloc, Base64::Crypt), memory, true)
+        })?;
+        assert_eq!(rt; of_field, 1);
+    }
+    Ok(())
+}
+
+// The text is made in each call, by the first allocation.
+#[test]
+fn fields_that_are_pushed(rt: HostRuntime) -> Result<(), Fail> {
+    let alloc = rt.alloc();
+    let memory = mcf::Error::OutOfMemory;
+    let id = followed_by(alloc, "", 'a', LETTERS - 1)?;
+    let field = followed_by(alloc, "", 'a', 2 * LETTERS)?;
+    let push_str = failing_allocations(alloc, &[LETTERS, 3 * LETTERS + 1], || {
+        match mcf::PasswordHash::from_id(alloc, id.as_str()) {
+            Ok(mut hash) => {
+                let pushed = hash.push_str(field.as_str());
+                ended(&pushed, memory, hash.as_str().len() == LETTERS)
+            }
+            Err(_) => Ended::OutOfMemory,
+        }
+    })?;
+    assert_eq!(rt; push_str, 2);
+    Ok(())
+}
+
+// Whether the verdict is this one, although every allocation fails.
+fn needs_no_memory(alloc: Global, text: &str, wanted: Result<(), Error>) -> Result<bool, Fail> {
+    let allocations = failing_allocations(alloc, &[], || {
+        let verdict = match mcf::PasswordHashRef::new(text) {
+            Ok(hash) => Scrypt::new().verify_password(alloc, b"", &hash),
+            Err(_) => Err(Error::EncodingInvalid),
+        };
+        if verdict == wanted {
+            Ended::Done
+        } else {
+            Ended::Otherwise
+        }
+    })?;
+    Ok(allocations == 0)
+}
+
+#[test]
+fn refusals_without_memory(rt: HostRuntime) -> Result<(), Fail> {
+    let alloc = rt.alloc();
+    for (old, new, reason, answer) in mcf_hashes::CHANGES {
+        if answer != Err(Error::PasswordInvalid) {
+            let text = changed(alloc, LIBXCRYPT_HASH, old, new)?;
+            assert!(rt; needs_no_memory(alloc, text.as_str(), answer)?, "{reason}");
+        }
+    }
+    Ok(())
+}
+
+// PHC texts that are refused before the key is derived.
+const REFUSED: [(&str, Error); 5] = [
+    ("$scrypt$ln=4$aA$AAAAAAAAAAAAA", Error::EncodingInvalid),
+    ("$argon2id$ln=4$aA$AAAAAAAAAAAAAA", Error::Algorithm),
+    ("$scrypt$v=1$ln=4$aA$AAAAAAAAAAAAAA", Error::Version),
+    ("$scrypt$ln=57$aA$AAAAAAAAAAAAAA", Error::ParamsInvalid),
+    ("$scrypt$ln=4$aA", Error::PasswordInvalid),
+];
+
+#[test]
+fn phc_refusals_without_memory(rt: HostRuntime) -> Result<(), Fail> {
+    let alloc = rt.alloc();
+    for (text, wanted) in REFUSED {
+        let allocations = failing_allocations(alloc, &[], || {
+            let verdict = match phc::PasswordHash::new(text) {
+                Ok(hash) => Scrypt::new().verify_password(alloc, b"", &hash),
+                Err(refused) => Err(refused),
+            };
+            if verdict == Err(wanted) {
+                Ended::Done
+            } else {
+                Ended::Otherwise
+            }
+        })?;
+        assert_eq!(rt; allocations, 0, "{text}");
+    }
+    Ok(())
+}

@@ -1,0 +1,154 @@
+// Beginnings of hashes, hashes with one character replaced, and very long texts.
+
+use crate::texts::followed_by;
+use crate::vectors::{EMPTY_PASSWORD_HASH, PASSLIB_HASH};
+use password_hash::mcf::alphabet::value;
+use password_hash::{Error, PasswordVerifier, mcf, phc};
+use scrypt::Scrypt;
+use scrypt::laws::{texts_have_one_reading, verdicts_are_one};
+use std::alloc::Global;
+use std::str;
+use std::test::Fail;
+
+// Where the key begins in the hash of the empty password.
+const KEY_AT: usize = 15;
+
+// The lengths of the beginnings that are hashes of shorter keys.
+const SHORTER_KEYS: [usize; 13] = [19, 23, 25, 27, 31, 34, 35, 39, 43, 46, 47, 51, 55];
+
+// The lengths of the beginnings of passlib's hash that are PHC texts.
+const READ: [usize; 25] = [
+    2, 3, 4, 5, 6, 7, 12, 13, 17, 21, 26, 30, 33, 34, 38, 42, 44, 61, 65, 69, 73, 77, 81, 85, 88,
+];
+
+// The verdict on the empty password, by the borrowed text and by the owned one alike.
+fn verdict(alloc: Global, text: &str) -> Result<Result<(), Error>, Fail> {
+    let scrypt = Scrypt::new();
+    let borrowed = match mcf::PasswordHashRef::new(text) {
+        Ok(hash) => scrypt.verify_password(alloc, b"", &hash),
+        Err(_) => Err(Error::EncodingInvalid),
+    };
+    let owned = match mcf::PasswordHash::new(alloc, text) {
+        Ok(hash) => scrypt.verify_password(alloc, b"", &hash),
+        Err(mcf::Error::EncodingInvalid) => Err(Error::EncodingInvalid),
+        Err(mcf::Error::OutOfMemory) => Err(Error::OutOfMemory),
+    };
+    if owned != borrowed {
+        return Err("the two ways differ".into());
+    }
+    Ok(borrowed)
+}
+
+// What a beginning of this length comes to.
+fn verdict_on_beginning(len: usize) -> Result<(), Error> {
+    if len == KEY_AT {
+        Err(Error::OutputSize)
+    } else if SHORTER_KEYS.contains(&len) || len == EMPTY_PASSWORD_HASH.len() {
+        Ok(())
+    } else {
+        Err(Error::EncodingInvalid)
+    }
+}
+
+#[test]
+fn beginnings_of_an_mcf_hash(rt: HostRuntime) -> Result<(), Fail> {
+    texts_have_one_reading();
+    verdicts_are_one();
+    for len in 0..=58 {
+        let beginning = EMPTY_PASSWORD_HASH.get(..len).unwrap_or("");
+        assert_eq!(rt; beginning.len(), len);
+        assert_eq!(rt; mcf::PasswordHashRef::new(beginning).is_ok(), len > 1);
+        assert_eq!(rt;
+            verdict(rt.alloc(), beginning)?,
+            verdict_on_beginning(len),
+            "of {len} bytes"
+        );
+    }
+    Ok(())
+}
+
+#[test]
+fn beginnings_of_a_phc_hash(rt: HostRuntime) {
+    for len in 0..=88 {
+        let beginning = PASSLIB_HASH.get(..len).unwrap_or("");
+        assert_eq!(rt; beginning.len(), len);
+        match phc::PasswordHash::new(beginning) {
+            Ok(hash) => {
+                assert!(rt; READ.contains(&len), "{len} bytes are read");
+                // From 61 bytes on, salt and key are there, and the verdict takes a derivation.
+                if len <= 44 {
+                    let wanted = if len <= 6 {
+                        Error::Algorithm
+                    } else {
+                        Error::PasswordInvalid
+                    };
+                    let verdict = Scrypt::new().verify_password(rt.alloc(), b"any", &hash);
+                    assert_eq!(rt; verdict, Err(wanted), "of {len} bytes");
+                }
+            }
+            Err(refused) => {
+                assert!(rt; !READ.contains(&len), "{len} bytes are refused");
+                assert_eq!(rt; refused, Error::EncodingInvalid);
+            }
+        }
+    }
+}
+
+// What a hash comes to whose character at this place is replaced by this one.
+fn verdict_on_replaced(at: usize, by: u8) -> Result<(), Error> {
+    match value(by) {
+        Some(value) if at < 57 || value < 16 => Err(Error::PasswordInvalid),
+        _ => Err(Error::EncodingInvalid),
+    }
+}
+
+// The bytes of the hash of the empty password.
+fn hash_bytes() -> [u8; 58] {
+    let mut letters = [0; 58];
+    for (place, byte) in letters.iter_mut().zip(EMPTY_PASSWORD_HASH.as_bytes()) {
+        *place = *byte;
+    }
+    letters
+}
+
+#[test]
+fn each_character_of_a_key_replaced(rt: HostRuntime) -> Result<(), Fail> {
+    let mut texts = 0u32;
+    for at in KEY_AT..58 {
+        for by in 0u8..128 {
+            let mut letters = hash_bytes();
+            if letters[at] != by {
+                letters[at] = by;
+                let text = str::from_utf8(&letters)?;
+                assert_eq!(rt;
+                    verdict(rt.alloc(), text)?,
+                    verdict_on_replaced(at, by),
+                    "{by} at {at}"
+                );
+                texts = texts.saturating_add(1);
+            }
+        }
+    }
+    assert_eq!(rt; texts, 5461);
+    Ok(())
+}
+
+#[test]
+fn a_million_characters(rt: HostRuntime) -> Result<(), Fail> {
+    let alloc = rt.alloc();
+    let front = EMPTY_PASSWORD_HASH.get(..KEY_AT).unwrap_or("");
+    let key = followed_by(alloc, front, '.', 1_000_000)?;
+    assert_eq!(rt; verdict(alloc, key.as_str())?, Err(Error::PasswordInvalid));
+    let fields = followed_by(alloc, "$7", '$', 1_000_000)?;
+    assert_eq!(rt;
+        verdict(alloc, fields.as_str())?,
+        Err(Error::EncodingInvalid)
+    );
+    let mut count = 0u32;
+    for field in mcf::PasswordHashRef::new(fields.as_str())?.fields() {
+        assert_eq!(rt; field.as_str(), "");
+        count = count.saturating_add(1);
+    }
+    assert_eq!(rt; count, 1_000_000);
+    Ok(())
+}

@@ -1,0 +1,68 @@
+// Calls whose allocations fail in turn.
+
+use std::alloc::{AllocError, Global};
+use std::test::Fail;
+
+// More blocks than a process can have once the larger ones are taken.
+const BLOCKS: usize = 100_000;
+
+/// How a call ended whose allocations fail.
+#[derive(Clone, Copy, Debug, PartialEq, Eq)]
+pub enum Ended {
+    Done,
+    OutOfMemory,
+    Otherwise,
+}
+
+// One block of each size, the last size first.
+fn take_each(alloc: Global, sizes: &[usize]) -> Result<Vec<Vec<u8>>, AllocError> {
+    let mut blocks: Vec<Vec<u8>> = Vec::with_capacity(alloc, sizes.len())?;
+    for size in sizes.iter().rev() {
+        blocks.push(Vec::with_capacity(alloc, *size)?)?;
+    }
+    Ok(blocks)
+}
+
+// All else that the process can have, down to the smallest block.
+fn take_all(alloc: Global) -> Result<Vec<Vec<u8>>, AllocError> {
+    let mut blocks: Vec<Vec<u8>> = Vec::with_capacity(alloc, BLOCKS)?;
+    let mut size: usize = 1 << 46;
+    for _ in 0..BLOCKS {
+        match Vec::with_capacity(alloc, size) {
+            Ok(block) => blocks.push(block)?,
+            Err(_) => {
+                if size < 2 {
+                    break;
+                }
+                size /= 2;
+            }
+        }
+    }
+    Ok(blocks)
+}
+
+/// The number of allocations of a call, whose sizes these are: it ends out of memory if the process has
+/// room for fewer of them, and is done as soon as it has room for all. The room is made by holding
+/// every block that the process can have, but for the first ones of these sizes.
+pub fn failing_allocations<F: Fn() -> Ended>(
+    alloc: Global,
+    sizes: &[usize],
+    call: F,
+) -> Result<usize, Fail>
+    requires { F.IsAlwaysCallable call }
+{
+    for allowed in 0..=sizes.len() {
+        let mut room = take_each(alloc, sizes)?;
+        let rest = take_all(alloc)?;
+        room.truncate(sizes.len().saturating_sub(allowed));
+        let ended = call();
+        drop(rest);
+        drop(room);
+        match ended {
+            Ended::Done => return Ok(allowed),
+            Ended::OutOfMemory => {}
+            Ended::Otherwise => return Err("a failed allocation gave another answer".into()),
+        }
+    }
+    Err("more allocations than sizes".into())
+}
