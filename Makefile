@@ -5,9 +5,11 @@
 # And besides the gate:
 #   make wrong-bodies tries the rest of the edits that the prover must refuse
 #   make oracle compares the program with independent implementations on random input
+#   make lib    builds the libraries for C into build/lib, and make install PREFIX=.. puts them in place
+#   make callers calls them from each language of bindings/ that is installed here
 #   make bench  measures the program against other implementations on this machine
 
-.PHONY: run test wrong-bodies oracle bench kit
+.PHONY: run test wrong-bodies oracle lib install callers bench kit
 
 run: kit
 	cd crates/scrypt_tool && rt run -- key 4 1 1 64 ""
@@ -22,6 +24,17 @@ wrong-bodies: kit
 oracle: kit
 	cd crates/scrypt_tool && rt run -- key 0 1 1 1 "" > /dev/null < /dev/null
 	python3 ci/oracle.py crates/scrypt_tool/out/scrypt_tool
+
+lib: kit
+	bindings/lib.sh
+
+install: lib
+	@test -n "$(PREFIX)" || { echo "Say where to: make install PREFIX=.." >&2; exit 1; }
+	cd crates/scrypt_tool && rt run -- key 0 1 1 1 "" > /dev/null < /dev/null
+	bindings/install.sh "$(PREFIX)"
+
+callers: lib
+	bindings/callers.sh
 
 bench: kit
 	cd crates/scrypt_tool && rt run -- key 0 1 1 1 "" > /dev/null < /dev/null
