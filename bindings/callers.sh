@@ -1,6 +1,6 @@
 #!/bin/sh
-# Calls the libraries of build/lib from C and C++, by each compiler that is here, and checks which names they
-# export. Says what is not installed, and fails where a caller fails.
+# Calls the libraries of build/lib from C and C++, by each compiler that is here, and from Python, and checks
+# which names they export. Says what is not installed, and fails where a caller fails.
 set -eu
 cd "$(dirname "$0")/.."
 lib=build/lib
@@ -34,3 +34,7 @@ done
 for compiler in g++ clang++; do
   if has $compiler; then calls $compiler -std=c++11 -x c++; fi
 done
+if has python3; then
+  SCRYPT_C_LIBRARY=$PWD/$lib/libscrypt_c.so python3 -B bindings/python/test_scrypt_c.py
+  echo "called from Python"
+fi
