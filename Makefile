@@ -6,12 +6,14 @@
 #   make wrong-bodies tries the rest of the edits that the prover must refuse
 #   make oracle compares the program with independent implementations on random input, and with a
 #               reader in plain Python on hostile hashes
+#   make lib    builds the libraries for C into build/lib, and make install PREFIX=.. puts them in place
+#   make callers calls them from each language of bindings/ that is installed here
 #   make bench  measures the library and the program against other implementations on this machine.
 #               Other programs join by WORKERS="--worker NAME=PATH ..", as bench/bench.py describes,
 #               and WORKERS="--callgrind" counts instructions
 #   make compare-worker WORKER=PATH  compares 10,000 keys with those of such a program
 
-.PHONY: run test wrong-bodies oracle bench compare-worker kit
+.PHONY: run test wrong-bodies oracle lib install callers bench compare-worker kit
 
 run: kit
 	cd crates/scrypt_tool && rt run -- key 4 1 1 64 ""
@@ -29,6 +31,17 @@ oracle: kit
 	cd crates/verdicts && rt run < stdin > /dev/null
 	python3 ci/hostile.py crates/verdicts/out/verdicts
 	python3 ci/thin_cost.py
+
+lib: kit
+	bindings/lib.sh
+
+install: lib
+	@test -n "$(PREFIX)" || { echo "Say where to: make install PREFIX=.." >&2; exit 1; }
+	cd crates/scrypt_tool && rt run -- key 0 1 1 1 "" > /dev/null < /dev/null
+	bindings/install.sh "$(PREFIX)"
+
+callers: lib
+	bindings/callers.sh
 
 bench: kit
 	cd crates/scrypt_c && rt lib > /dev/null

@@ -17,7 +17,7 @@ import tempfile
 
 COUNTER = "crates/scrypt_kernel/proofs/cores/CoreCount/"
 BY_HAND = [COUNTER + it + "/Proof.antt" for it in ["after_core", "after_lanes_core", "new"]]
-NEW_COUNTS = {"crates/scrypt/src/derivation.rt": 1}
+NEW_COUNTS = {"crates/scrypt/src/derivation.rt": 1, "crates/scrypt_c/src/keys.rt": 1}
 
 
 def edited(crate, edit):

@@ -88,6 +88,13 @@ fn mcf_hashing_and_verifying(rt: HostRuntime) -> Result<(), Fail> {
         ended(&made, Error::OutOfMemory, true)
     })?;
     assert_eq!(rt; hashing, 4);
+    // The room of a longer key is taken with the text, and none after the derivation.
+    let long = Scrypt::from(Params::new_with_output_len(4, 1, 1, 64)?);
+    let hashing = failing_allocations(alloc, &[101, chunks, table, scratch], || {
+        let made: Result<mcf::PasswordHash, Error> = long.hash_password_with_salt(alloc, b"", b"");
+        ended(&made, Error::OutOfMemory, true)
+    })?;
+    assert_eq!(rt; hashing, 4);
     let hash = mcf::PasswordHash::new(alloc, EMPTY_PASSWORD_HASH)?;
     let verifying = failing_allocations(alloc, &[32, chunks, table, scratch], || {
         let verdict = hasher.verify_password(alloc, b"", &hash.as_password_hash_ref());

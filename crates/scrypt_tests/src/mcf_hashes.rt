@@ -2,7 +2,7 @@
 
 use crate::texts::changed;
 use crate::vectors::{
-    EMPTY_PASSWORD_HASH, LIBXCRYPT_HASH, LIBXCRYPT_SALT, LIBXCRYPT_SALT_LETTERS, PLAIN_SALT_HASH,
+    EMPTY_PASSWORD_HASH, EMPTY_PASSWORD_HASH_10, EMPTY_PASSWORD_HASH_64, LIBXCRYPT_HASH_10, LIBXCRYPT_HASH, LIBXCRYPT_SALT, LIBXCRYPT_SALT_LETTERS, PLAIN_SALT_HASH,
 };
 use hex::FromHex;
 use password_hash::mcf::{self, Base64};
@@ -204,10 +204,28 @@ fn made_hashes_of_the_empty_password(rt: HostRuntime) -> Result<(), Fail> {
         alloc, b"", b"",
     )?;
     assert_eq!(rt; by_itself.as_str(), EMPTY_PASSWORD_HASH);
-    // The length in the parameters is ignored.
-    let sized = Params::new_with_output_len(4, 1, 1, 64)?;
-    let by_sized: PasswordHash = Scrypt::new().hash_password_with_params(alloc, b"", b"", sized)?;
-    assert_eq!(rt; by_sized.as_str(), EMPTY_PASSWORD_HASH);
+    Ok(())
+}
+
+#[test]
+fn made_hashes_by_length(rt: HostRuntime) -> Result<(), Fail> {
+    let alloc = rt.alloc();
+    let salt = hex::decode(alloc, LIBXCRYPT_SALT)?;
+    let salt = salt.as_slice();
+    let long = b"pleaseletmein".as_slice();
+    for (log_n, r, password, salt, len, made, reason) in [
+        (4, 1, b"".as_slice(), b"".as_slice(), 64, EMPTY_PASSWORD_HASH_64, "the greatest length"),
+        (4, 1, b"".as_slice(), b"".as_slice(), 32, EMPTY_PASSWORD_HASH, "the usual length"),
+        (4, 1, b"".as_slice(), b"".as_slice(), 10, EMPTY_PASSWORD_HASH_10, "the least length"),
+        (14, 32, long, salt, 10, LIBXCRYPT_HASH_10, "a shorter key of libxcrypt's hash"),
+    ] {
+        let params = Params::new_with_output_len(log_n, r, 1, len)?;
+        let hash: PasswordHash = Scrypt::new().hash_password_with_params(
+            alloc, password, salt, params,
+        )?;
+        assert_eq!(rt; hash.as_str(), made, "{reason}");
+        assert_eq!(rt; verdict(alloc, made, password)?, Ok(()), "{reason}");
+    }
     Ok(())
 }
 

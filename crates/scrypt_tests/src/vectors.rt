@@ -95,3 +95,14 @@ pub const PLAIN_SALT_HASH: &str =
 
 // Of the empty password and the empty salt; the key is the first half of RFC 7914's first.
 pub const EMPTY_PASSWORD_HASH: &str = "$7$2/..../....$rNxJWVHNv/mCNcgE/f6/L4zO6Fos5c2uTzhyzoisI62";
+
+// The same with the whole key, and with its first 10 bytes.
+pub const EMPTY_PASSWORD_HASH_64: &str = concat!(
+    "$7$2/..../....$",
+    "rNxJWVHNv/mCNcgE/f6/L4zO6Fos5c2uTzhyzoisI62zEPEbhb.Gs9XOpdn16zl3cDBsvvG1qUmnp6C1s2RW4.",
+);
+
+pub const EMPTY_PASSWORD_HASH_10: &str = "$7$2/..../....$rNxJWVHNv/mCN.";
+
+// libxcrypt's hash with the first 10 bytes of the key.
+pub const LIBXCRYPT_HASH_10: &str = "$7$CU..../....Mq4YHD2syxYT.MsH1Ek0n1$JyHIxez0DOwm01";

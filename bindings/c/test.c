@@ -1,0 +1,202 @@
+/* Calls the library from C and from C++: RFC 7914's keys, both formats, and every refusal. */
+#include "scrypt_c.h"
+
+#include <stdio.h>
+#include <stdlib.h>
+#include <string.h>
+
+static int failed = 0;
+
+static void check(int holds, const char *what) {
+  if (!holds) {
+    fprintf(stderr, "failed: %s\n", what);
+    failed = 1;
+  }
+}
+
+static const uint8_t *b(const char *text) { return (const uint8_t *)text; }
+
+static void hex_of(const uint8_t *bytes, size_t n, char *hex) {
+  size_t i;
+  for (i = 0; i < n; i++) sprintf(hex + 2 * i, "%02x", bytes[i]);
+}
+
+/* RFC 7914, section 12. */
+static const struct {
+  const char *password, *salt;
+  uint8_t log_n;
+  uint32_t r, p;
+  const char *key;
+} VECTORS[] = {
+    {"", "", 4, 1, 1,
+     "77d6576238657b203b19ca42c18a0497f16b4844e3074ae8dfdffa3fede21442"
+     "fcd0069ded0948f8326a753a0fc81f17e8d3e0fb2e0d3628cf35e20c38d18906"},
+    {"password", "NaCl", 10, 8, 16,
+     "fdbabe1c9d3472007856e7190d01e9fe7c6ad7cbc8237830e77376634b373162"
+     "2eaf30d92e22a3886ff109279d9830dac727afb94a83ee6d8360cbdfa2cc0640"},
+    {"pleaseletmein", "SodiumChloride", 14, 8, 1,
+     "7023bdcb3afd7348461c06cd81fd38ebfda8fbba904f8e3ea9b543f6545da1f2"
+     "d5432955613f0fcf62d49705242a9af9e61e85dc0d651e40dfcf017b45575887"},
+    {"pleaseletmein", "SodiumChloride", 20, 8, 1,
+     "2101cb9b6a511aaeaddbbe09cf70f881ec568d574a2ffd4dabe5ee9820adaa47"
+     "8e56fd8f4ba5d09ffa1c6d927c40f4c337304049e8a952fbcbf45c6fa77a41a4"},
+};
+
+/* The key of vector i in memory of this program, with a table that keeps one row in 2^s. */
+static void keys_in_lent_memory(size_t i, uint8_t s) {
+  uint8_t key[64];
+  char hex[129];
+  size_t chunks_len, table_len, scratch_len;
+  uint8_t *chunks;
+  uint32_t *table, *scratch;
+  const char *password = VECTORS[i].password, *salt = VECTORS[i].salt;
+  uint8_t log_n = VECTORS[i].log_n;
+  uint32_t r = VECTORS[i].r, p = VECTORS[i].p;
+  check(scrypt_buffer_lens(log_n, r, p, s, &chunks_len, &table_len, &scratch_len) == SCRYPT_DONE, "lens");
+  check(chunks_len == (size_t)128 * r * p, "chunks");
+  check(table_len == ((size_t)32 * r << (log_n - s)), "table");
+  check(scratch_len == (s == 0 ? (size_t)64 : 96) * r, "scratch");
+  chunks = (uint8_t *)malloc(chunks_len);
+  table = (uint32_t *)malloc(4 * table_len);
+  scratch = (uint32_t *)malloc(4 * scratch_len);
+  check(scrypt_kdf_thin(b(password), strlen(password), b(salt), strlen(salt), log_n, r, p, s, key, 64, chunks,
+                        chunks_len, table, table_len, scratch, scratch_len) == SCRYPT_DONE, "thin");
+  hex_of(key, 64, hex);
+  check(strcmp(hex, VECTORS[i].key) == 0, "key with a thin table");
+  if (s == 0) {
+    memset(key, 0, sizeof key);
+    check(scrypt_kdf_with_buffers(b(password), strlen(password), b(salt), strlen(salt), log_n, r, p, key, 64,
+                                  chunks, chunks_len, table, table_len, scratch, scratch_len) == SCRYPT_DONE,
+          "with buffers");
+    hex_of(key, 64, hex);
+    check(strcmp(hex, VECTORS[i].key) == 0, "key in lent memory");
+  }
+  memset(key, 7, sizeof key);
+  memset(chunks, 7, chunks_len);
+  check(scrypt_kdf_thin(b(""), 0, b(""), 0, log_n, r, p, s, key, 64, chunks, chunks_len, table, table_len - 1,
+                        scratch, scratch_len) == SCRYPT_BUFFER_SIZE, "a short table");
+  check(scrypt_kdf_with_buffers(b(""), 0, b(""), 0, log_n, r, p, key, 64, chunks, chunks_len - 1, table,
+                                table_len, scratch, scratch_len) == SCRYPT_BUFFER_SIZE, "short chunks");
+  check(scrypt_kdf_thin(b(""), 0, b(""), 0, log_n, r, p, s, key, 0, chunks, chunks_len, table, table_len,
+                        scratch, scratch_len) == SCRYPT_INVALID_OUTPUT_LEN, "no output");
+  check(scrypt_kdf_thin(b(""), 0, b(""), 0, log_n, r, p, (uint8_t)(log_n + 1), key, 64, chunks, chunks_len,
+                        table, table_len, scratch, scratch_len) == SCRYPT_INVALID_PARAMS, "s above log_n");
+  check(key[0] == 7 && key[63] == 7 && chunks[0] == 7, "a refusal leaves output and buffers");
+  free(chunks);
+  free(table);
+  free(scratch);
+}
+
+static void keys(void) {
+  size_t i;
+  uint8_t key[64];
+  char hex[129];
+  for (i = 0; i < sizeof VECTORS / sizeof VECTORS[0]; i++) {
+    check(scrypt_derive(VECTORS[i].password, strlen(VECTORS[i].password), VECTORS[i].salt,
+                        strlen(VECTORS[i].salt), VECTORS[i].log_n, VECTORS[i].r, VECTORS[i].p, key, 64) ==
+              SCRYPT_DONE, "derive");
+    hex_of(key, 64, hex);
+    check(strcmp(hex, VECTORS[i].key) == 0, "key of RFC 7914");
+  }
+  check(scrypt_derive(NULL, 0, NULL, 0, 4, 1, 1, key, 64) == SCRYPT_DONE, "NULL with length 0");
+  hex_of(key, 64, hex);
+  check(strcmp(hex, VECTORS[0].key) == 0, "key of NULL with length 0");
+  for (i = 0; i < 3; i++) keys_in_lent_memory(0, (uint8_t)i);
+  keys_in_lent_memory(1, 0);
+  keys_in_lent_memory(2, 3);
+}
+
+static void refusals_of_keys(void) {
+  uint8_t key[4] = {1, 2, 3, 4};
+  size_t chunks = 1, table = 2, scratch = 3;
+  check(scrypt_derive("", 0, "", 0, 57, 1, 1, key, 4) == SCRYPT_INVALID_PARAMS, "log_n of 57");
+  check(scrypt_derive("", 0, "", 0, 4, 0, 1, key, 4) == SCRYPT_INVALID_PARAMS, "r of 0");
+  check(scrypt_derive("", 0, "", 0, 4, 1, 1, key, 0) == SCRYPT_INVALID_OUTPUT_LEN, "no output");
+  check(scrypt_derive("", 0, "", 0, 56, 1, 1, key, 4) == SCRYPT_OUT_OF_MEMORY, "a table of 2^63 bytes");
+  check(key[0] == 1 && key[3] == 4, "a refusal leaves the output");
+  check(scrypt_buffer_lens(4, 1, 1, 5, &chunks, &table, &scratch) == SCRYPT_INVALID_PARAMS, "s above log_n");
+  check(chunks == 1 && table == 2 && scratch == 3, "a refusal leaves the lengths");
+}
+
+static int verify(const char *password, const char *text) {
+  return scrypt_verify(b(password), strlen(password), text, strlen(text));
+}
+
+static int rehash(const char *text, uint8_t log_n) {
+  return scrypt_needs_rehash(text, strlen(text), log_n, 8, 1, 32);
+}
+
+static void made_text(const char *text, int mcf) {
+  char room[SCRYPT_PHC_CAPACITY];
+  size_t len = 1000, n = strlen(text);
+  memset(room, '!', sizeof room);
+  check((mcf ? scrypt_hash_mcf : scrypt_hash_phc)(b("pw"), 2, b("saltsalt"), 8, 4, 8, 1, 32, room, n - 1, &len) ==
+            SCRYPT_BUFFER_SIZE, "no room");
+  check(len == n && room[0] == '!', "the length that is needed");
+  len = 1000;
+  check((mcf ? scrypt_hash_mcf : scrypt_hash_phc)(b("pw"), 2, b("saltsalt"), 8, 4, 8, 1, 32, room, n, &len) ==
+            SCRYPT_DONE, "just room");
+  check(len == n && memcmp(room, text, n) == 0 && room[n] == '!', "the text, and the rest of the room");
+}
+
+static void hashes(void) {
+  char phc[SCRYPT_PHC_CAPACITY], mcf[SCRYPT_MCF_CAPACITY(8)];
+  size_t len = 77;
+  check(scrypt_hash_phc_z("pw", 2, "saltsalt", 8, 4, 8, 1, 32, phc, sizeof phc) == SCRYPT_DONE, "phc");
+  check(scrypt_hash_mcf_z("pw", 2, "saltsalt", 8, 4, 8, 1, 32, mcf, sizeof mcf) == SCRYPT_DONE, "mcf");
+  check(strncmp(phc, "$scrypt$ln=4,r=8,p=1$c2FsdHNhbHQ$", 33) == 0, "the front of a PHC text");
+  check(strncmp(mcf, "$7$26..../....", 14) == 0, "the front of a $7$ text");
+  made_text(phc, 0);
+  made_text(mcf, 1);
+  check(verify("pw", phc) == SCRYPT_DONE && verify("pw", mcf) == SCRYPT_DONE, "the password");
+  check(verify("pw ", phc) == SCRYPT_NO && verify("", mcf) == SCRYPT_NO, "another password");
+  check(rehash(phc, 4) == SCRYPT_DONE && rehash(mcf, 4) == SCRYPT_DONE, "as wanted");
+  check(rehash(phc, 5) == SCRYPT_NO && rehash(mcf, 5) == SCRYPT_NO, "weaker");
+  check(rehash(phc, 57) == SCRYPT_INVALID_PARAMS, "unaccepted numbers");
+  check(scrypt_needs_rehash(phc, strlen(phc), 4, 8, 1, 9) == SCRYPT_INVALID_PARAMS, "a key of 9 bytes");
+  check(scrypt_hash_phc(b(""), 0, b(""), 0, 4, 8, 1, 32, phc, sizeof phc, &len) == SCRYPT_SALT_INVALID, "no salt");
+  check(scrypt_hash_phc(b(""), 0, b("s"), 1, 4, 8, 1, 65, phc, sizeof phc, &len) == SCRYPT_INVALID_PARAMS, "key_len");
+  check(scrypt_hash_mcf(b(""), 0, b(""), 0, 4, 8, 0, 32, mcf, sizeof mcf, &len) == SCRYPT_INVALID_PARAMS, "p of 0");
+  check(scrypt_hash_mcf(b(""), 0, b(""), 0, 56, 1, 1, 32, mcf, sizeof mcf, &len) == SCRYPT_OUT_OF_MEMORY, "memory");
+  check(len == 77 && mcf[0] == '$', "a refusal leaves the text and its length");
+}
+
+static void refusals_of_texts(void) {
+  static const struct {
+    const char *text;
+    int status;
+  } REFUSED[] = {
+      {"", SCRYPT_ENCODING_INVALID},
+      {"$7", SCRYPT_ENCODING_INVALID},
+      {"$7$", SCRYPT_ENCODING_INVALID},
+      {"$scrypt$ln=4\xff", SCRYPT_ENCODING_INVALID},
+      {"$7$26..../....s\xc3\xa4lt$......................", SCRYPT_ENCODING_INVALID},
+      {"$argon2$c2FsdHNhbHQ$AAAAAAAAAAAAAAAAAAAA", SCRYPT_ALGORITHM},
+      {"$scrypt$v=1$ln=4$c2FsdHNhbHQ$AAAAAAAAAAAAAAAAAAAA", SCRYPT_VERSION},
+      {"$scrypt$ln=256$c2FsdHNhbHQ$AAAAAAAAAAAAAAAAAAAA", SCRYPT_PARAM_INVALID},
+      {"$scrypt$r=x$c2FsdHNhbHQ$AAAAAAAAAAAAAAAAAAAA", SCRYPT_PARAM_INVALID},
+      {"$scrypt$ln=57$c2FsdHNhbHQ$AAAAAAAAAAAAAAAAAAAA", SCRYPT_PARAMS_INVALID},
+      {"$scrypt$q=1$c2FsdHNhbHQ$AAAAAAAAAAAAAAAAAAAA", SCRYPT_PARAMS_INVALID},
+      {"$7$z6..../....salt$......................", SCRYPT_PARAMS_INVALID},
+      {"$7$26..../....salt$", SCRYPT_OUTPUT_SIZE},
+      {"$scrypt$ln=4,r=8,p=1", SCRYPT_NO},
+  };
+  size_t i;
+  for (i = 0; i < sizeof REFUSED / sizeof REFUSED[0]; i++) {
+    check(verify("", REFUSED[i].text) == REFUSED[i].status, REFUSED[i].text);
+    check(rehash(REFUSED[i].text, 4) == REFUSED[i].status, REFUSED[i].text);
+  }
+  check(verify("", "$scrypt$ln=56,r=1,p=1$c2FsdHNhbHQ$AAAAAAAAAAAAAAAAAAAA") == SCRYPT_OUT_OF_MEMORY, "memory");
+}
+
+int main(void) {
+  int status;
+  keys();
+  refusals_of_keys();
+  hashes();
+  refusals_of_texts();
+  for (status = SCRYPT_DONE; status <= SCRYPT_BUFFER_SIZE; status++)
+    check(strcmp(scrypt_status_text(status), "unknown status") != 0, "the words of a status");
+  check(strcmp(scrypt_status_text(13), "unknown status") == 0, "no status");
+  return failed;
+}

@@ -1,0 +1,40 @@
+#!/bin/sh
+# Calls the libraries of build/lib from C and C++, by each compiler that is here, and from Python, and checks
+# which names they export. Says what is not installed, and fails where a caller fails.
+set -eu
+cd "$(dirname "$0")/.."
+lib=build/lib
+room=$(mktemp -d)
+trap 'rm -rf "$room"' EXIT
+
+has() {
+  command -v "$1" > /dev/null && return
+  echo "$1 is not installed: its callers were not run"
+  return 1
+}
+
+# Compiles the test by the command that is given, against the static library and against the shared one.
+calls() {
+  "$@" -O2 -Wall -Wextra -Werror -pedantic -I$lib bindings/c/test.c -o "$room/static" -x none $lib/libscrypt_c.a
+  "$room/static"
+  "$@" -O2 -Wall -Wextra -Werror -pedantic -I$lib bindings/c/test.c -o "$room/shared" -x none -L$lib -lscrypt_c
+  LD_LIBRARY_PATH=$lib "$room/shared"
+  echo "called from C by: $*"
+}
+
+nm -D --defined-only $lib/libscrypt_c.so | awk '{ print $3 }' | sort > "$room/shared_names"
+nm -g --defined-only $lib/libscrypt_c.a | awk 'NF == 3 { print $3 }' | sort > "$room/static_names"
+diff bindings/c/symbols "$room/shared_names"
+diff bindings/c/symbols "$room/static_names"
+echo "exported: the documented names, and no other"
+
+for compiler in gcc clang; do
+  if has $compiler; then calls $compiler -std=c99; fi
+done
+for compiler in g++ clang++; do
+  if has $compiler; then calls $compiler -std=c++11 -x c++; fi
+done
+if has python3; then
+  SCRYPT_C_LIBRARY=$PWD/$lib/libscrypt_c.so python3 -B bindings/python/test_scrypt_c.py
+  echo "called from Python"
+fi

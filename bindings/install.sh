@@ -1,0 +1,12 @@
+#!/bin/sh
+# Puts the libraries of build/lib, the header, the pkg-config file and the program below the folder PREFIX.
+set -eu
+cd "$(dirname "$0")/.."
+prefix=$1
+mkdir -p "$prefix/bin" "$prefix/include" "$prefix/lib/pkgconfig"
+prefix=$(cd "$prefix" && pwd)
+cp build/lib/libscrypt_c.a build/lib/libscrypt_c.so "$prefix/lib/"
+cp bindings/c/scrypt_c.h "$prefix/include/"
+sed -e "s|@LIB@|$prefix/lib|" -e "s|@INCLUDE@|$prefix/include|" bindings/c/scrypt_c.pc.in \
+  > "$prefix/lib/pkgconfig/scrypt_c.pc"
+cp crates/scrypt_tool/out/scrypt_tool "$prefix/bin/"

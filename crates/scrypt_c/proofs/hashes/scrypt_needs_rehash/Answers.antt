@@ -1,0 +1,17 @@
+use Rattle.scrypt_c.specs.Made.{wanted}
+use Rattle.std.proofs.Common.{refl, rules}
+use Rattle.scrypt_c.proofs.TextFacts.{mcf_rehash, no_hash_rehash}
+use Rattle.scrypt_c.proofs.hashes.scrypt_needs_rehash.Goals as goal
+
+pub returns-in-None-clause-told : goal.returns-in-None-clause-told
+returns-in-None-clause-told c known =
+    no_hash_rehash (wanted c.args.log_n c.args.r c.args.p c.args.key_len) c.args.text.now (c.in-None.ensures.none refl)
+
+pub returns-in-Some-Mcf-clause-told : goal.returns-in-Some-Mcf-clause-told
+returns-in-Some-Mcf-clause-told c known =
+    let is = rw c.in-Some-Mcf.field-0-is at c.in-Some-Mcf.ensures.found in
+    let out = c.needs_rehash in
+    let told = mcf_rehash (wanted c.args.log_n c.args.r c.args.p c.args.key_len) c.args.text.now out.result is.0 is.1 is.2
+    (rw is.3 at out.ensures.ok)
+    (rw (is.3, c.new_with_params-wanted.ensures, c.in-Ok.ensures.value) at out.ensures.weak) (rw is.3 at out.ensures.err) in
+    search rules

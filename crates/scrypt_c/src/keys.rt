@@ -1,0 +1,187 @@
+//! Keys, in memory that is allocated, and in memory that the caller lends.
+
+ghost use Rattle.std.specs.Prelude.{◌≡◌, ◌≢◌, ◌⊎◌, ◌↔◌, pos, length, None, IsSome, IfSome};
+ghost use Rattle.scrypt.specs.Accepted.{AreAccepted, IsOutputLen};
+ghost use Rattle.scrypt.specs.Key.{derived_key};
+ghost use Rattle.scrypt_c.specs.Buffers.{AreBuffers, IsSpacing};
+
+use crate::statuses::{BUFFER_SIZE, DONE, INVALID_OUTPUT_LEN, INVALID_PARAMS, OUT_OF_MEMORY};
+use scrypt::{
+    BufferLens, CoreCount, DeriveError, InvalidOutputLen, Params, output_len_ok, scrypt,
+    scrypt_thin, scrypt_with_buffers,
+};
+use std::alloc::Global;
+
+/// Writes the scrypt key of `password` and `salt` to `output` (RFC 7914, section 6).
+///
+/// `DONE`, or the first of these: `INVALID_PARAMS` unless `log_n`, `r` and `p` are accepted,
+/// `INVALID_OUTPUT_LEN` unless the output has 1 to 137438953440 bytes, and `OUT_OF_MEMORY` if an
+/// allocation fails. A refusal leaves the output as it was.
+#[unsafe(no_mangle)]
+pub extern "C" fn scrypt_kdf(
+    alloc: Global,
+    password: &[u8],
+    salt: &[u8],
+    log_n: u8,
+    r: u32,
+    p: u32,
+    output: &mut [u8],
+) -> i32
+    ensures value { result ≡ DONE → output.new
+        ≡ derived_key password.now salt.now log_n r p (length output.old) }
+    ensures params { (result ≡ INVALID_PARAMS) ↔ (¬ AreAccepted log_n r p) }
+    ensures length { (result ≡ INVALID_OUTPUT_LEN)
+        ↔ (AreAccepted log_n r p × ¬ IsOutputLen (length output.old)) }
+    ensures status { (result ≡ DONE) ⊎ (result ≡ INVALID_PARAMS) ⊎ (result ≡ INVALID_OUTPUT_LEN)
+        ⊎ (result ≡ OUT_OF_MEMORY) }
+    ensures refused { result ≢ DONE → output.new ≡ output.old }
+{
+    let Ok(params) = Params::new(log_n, r, p) else {
+        return INVALID_PARAMS;
+    };
+    match scrypt(alloc, password, salt, &params, output) {
+        Ok(()) => DONE,
+        Err(DeriveError::InvalidOutputLen) => INVALID_OUTPUT_LEN,
+        Err(DeriveError::OutOfMemory) => OUT_OF_MEMORY,
+    }
+}
+
+/// Writes the lengths of the buffers that a derivation with these numbers works on: those of
+/// `scrypt_kdf_with_buffers` where `s` is 0, and those of `scrypt_kdf_thin` with this `s`. The chunks
+/// are counted in bytes, and the table and the scratch in words of 4 bytes.
+///
+/// `DONE`, or `INVALID_PARAMS` unless `log_n`, `r` and `p` are accepted and `s` is at most `log_n`. A
+/// refusal leaves the three as they were.
+#[unsafe(no_mangle)]
+pub extern "C" fn scrypt_buffer_lens(
+    log_n: u8,
+    r: u32,
+    p: u32,
+    s: u8,
+    chunks: &mut usize,
+    table: &mut usize,
+    scratch: &mut usize,
+) -> i32
+    ensures done { (result ≡ DONE) ↔ (AreAccepted log_n r p × IsSpacing log_n s) }
+    ensures lens { result ≡ DONE → AreBuffers log_n r p s chunks.new table.new scratch.new }
+    ensures status { (result ≡ DONE) ⊎ (result ≡ INVALID_PARAMS) }
+    ensures refused { result ≢ DONE →
+        (chunks.new ≡ chunks.old) × (table.new ≡ table.old) × (scratch.new ≡ scratch.old) }
+{
+    let Some((_, lens)) = params_and_lens(log_n, r, p, s) else {
+        return INVALID_PARAMS;
+    };
+    *chunks = lens.chunks;
+    *table = lens.table;
+    *scratch = lens.scratch;
+    DONE
+}
+
+/// Does what `scrypt_kdf` does, in memory that the caller lends, and allocates nothing.
+///
+/// `DONE`, or the first of these: `INVALID_PARAMS`, `INVALID_OUTPUT_LEN`, and `BUFFER_SIZE` unless the
+/// three buffers have the lengths of `scrypt_buffer_lens` with `s` of 0. What they hold before the call
+/// does not matter, and what they hold after it is unspecified. A refusal leaves them and the output
+/// as they were.
+#[unsafe(no_mangle)]
+pub extern "C" fn scrypt_kdf_with_buffers(
+    password: &[u8],
+    salt: &[u8],
+    log_n: u8,
+    r: u32,
+    p: u32,
+    output: &mut [u8],
+    chunks: &mut [u8],
+    table: &mut [u32],
+    scratch: &mut [u32],
+) -> i32
+    ensures value { result ≡ DONE → output.new
+        ≡ derived_key password.now salt.now log_n r p (length output.old) }
+    ensures params { (result ≡ INVALID_PARAMS) ↔ (¬ AreAccepted log_n r p) }
+    ensures length { (result ≡ INVALID_OUTPUT_LEN)
+        ↔ (AreAccepted log_n r p × ¬ IsOutputLen (length output.old)) }
+    ensures buffers { (result ≡ BUFFER_SIZE) ↔ (AreAccepted log_n r p × IsOutputLen (length output.old)
+        × ¬ AreBuffers log_n r p 0 (length chunks.old) (length table.old) (length scratch.old)) }
+    ensures status { (result ≡ DONE) ⊎ (result ≡ INVALID_PARAMS) ⊎ (result ≡ INVALID_OUTPUT_LEN)
+        ⊎ (result ≡ BUFFER_SIZE) }
+    ensures refused { result ≢ DONE → output.new ≡ output.old }
+    ensures lent { result ≢ DONE →
+        (chunks.new ≡ chunks.old) × (table.new ≡ table.old) × (scratch.new ≡ scratch.old) }
+{
+    scrypt_kdf_thin(
+        password, salt, log_n, r, p, 0, output, chunks, table, scratch,
+    )
+}
+
+/// Does what `scrypt_kdf_with_buffers` does, with a table that keeps one row in `2^s`: it has `2^s` times
+/// fewer words, and any other row is mixed anew where it is needed.
+///
+/// `DONE`, or the first of these: `INVALID_PARAMS`, also where `s` is above `log_n`,
+/// `INVALID_OUTPUT_LEN`, and `BUFFER_SIZE` unless the three buffers have the lengths of
+/// `scrypt_buffer_lens` with this `s`. A refusal leaves them and the output as they were.
+#[unsafe(no_mangle)]
+pub extern "C" fn scrypt_kdf_thin(
+    password: &[u8],
+    salt: &[u8],
+    log_n: u8,
+    r: u32,
+    p: u32,
+    s: u8,
+    output: &mut [u8],
+    chunks: &mut [u8],
+    table: &mut [u32],
+    scratch: &mut [u32],
+) -> i32
+    ensures value { result ≡ DONE → output.new
+        ≡ derived_key password.now salt.now log_n r p (length output.old) }
+    ensures params { (result ≡ INVALID_PARAMS) ↔ (¬ (AreAccepted log_n r p × IsSpacing log_n s)) }
+    ensures length { (result ≡ INVALID_OUTPUT_LEN)
+        ↔ (AreAccepted log_n r p × IsSpacing log_n s × ¬ IsOutputLen (length output.old)) }
+    ensures buffers { (result ≡ BUFFER_SIZE)
+        ↔ (AreAccepted log_n r p × IsSpacing log_n s × IsOutputLen (length output.old)
+        × ¬ AreBuffers log_n r p s (length chunks.old) (length table.old) (length scratch.old)) }
+    ensures status { (result ≡ DONE) ⊎ (result ≡ INVALID_PARAMS) ⊎ (result ≡ INVALID_OUTPUT_LEN)
+        ⊎ (result ≡ BUFFER_SIZE) }
+    ensures refused { result ≢ DONE → output.new ≡ output.old }
+    ensures lent { result ≢ DONE →
+        (chunks.new ≡ chunks.old) × (table.new ≡ table.old) × (scratch.new ≡ scratch.old) }
+{
+    let Some((params, lens)) = params_and_lens(log_n, r, p, s) else {
+        return INVALID_PARAMS;
+    };
+    if !output_len_ok(output.len()) {
+        return INVALID_OUTPUT_LEN;
+    }
+    if chunks.len() != lens.chunks || table.len() != lens.table || scratch.len() != lens.scratch {
+        return BUFFER_SIZE;
+    }
+    let mut cores = CoreCount::new();
+    let derived = if s == 0 {
+        scrypt_with_buffers(
+            password, salt, &params, chunks, table, scratch, output, &mut cores,
+        )
+    } else {
+        scrypt_thin(
+            password, salt, &params, s, chunks, table, scratch, output, &mut cores,
+        )
+    };
+    match derived {
+        Ok(()) => DONE,
+        Err(InvalidOutputLen) => INVALID_OUTPUT_LEN,
+    }
+}
+
+// The parameters of these numbers, and the lengths of their buffers, where the numbers are accepted.
+fn params_and_lens(log_n: u8, r: u32, p: u32, s: u8) -> Option<(Params, BufferLens)>
+    ensures exact { IsSome result ↔ (AreAccepted log_n r p × IsSpacing log_n s) }
+    ensures params { IfSome result (λ both. both.0
+        ≡ record { log_n = log_n; r = r; p = p; output_len = None }) }
+    ensures lens { IfSome result (λ both. AreBuffers log_n r p s both.1.chunks both.1.table both.1.scratch) }
+{
+    let params = Params::new(log_n, r, p).ok()?;
+    let thin = BufferLens::thin(&params, s)?;
+    if s == 0 {
+        return Some((params, BufferLens::of(&params)));
+    }
+    Some((params, thin))
+}
