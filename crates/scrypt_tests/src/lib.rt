@@ -31,6 +31,8 @@ mod phc_mutations;
 #[cfg(test)]
 mod primitives;
 #[cfg(test)]
+mod rehashing;
+#[cfg(test)]
 mod romix;
 #[cfg(test)]
 mod texts;

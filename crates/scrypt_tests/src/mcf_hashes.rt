@@ -2,7 +2,8 @@
 
 use crate::texts::changed;
 use crate::vectors::{
-    EMPTY_PASSWORD_HASH, EMPTY_PASSWORD_HASH_10, EMPTY_PASSWORD_HASH_64, LIBXCRYPT_HASH_10, LIBXCRYPT_HASH, LIBXCRYPT_SALT, LIBXCRYPT_SALT_LETTERS, PLAIN_SALT_HASH,
+    EMPTY_PASSWORD_HASH, EMPTY_PASSWORD_HASH_10, EMPTY_PASSWORD_HASH_64, LIBXCRYPT_HASH,
+    LIBXCRYPT_HASH_10, LIBXCRYPT_SALT, LIBXCRYPT_SALT_LETTERS, PLAIN_SALT_HASH,
 };
 use hex::FromHex;
 use password_hash::mcf::{self, Base64};
@@ -210,14 +211,45 @@ fn made_hashes_of_the_empty_password(rt: HostRuntime) -> Result<(), Fail> {
 #[test]
 fn made_hashes_by_length(rt: HostRuntime) -> Result<(), Fail> {
     let alloc = rt.alloc();
-    let salt = hex::decode(alloc, LIBXCRYPT_SALT)?;
-    let salt = salt.as_slice();
+    let salt = <[u8; 16]>::from_hex(LIBXCRYPT_SALT)?;
     let long = b"pleaseletmein".as_slice();
     for (log_n, r, password, salt, len, made, reason) in [
-        (4, 1, b"".as_slice(), b"".as_slice(), 64, EMPTY_PASSWORD_HASH_64, "the greatest length"),
-        (4, 1, b"".as_slice(), b"".as_slice(), 32, EMPTY_PASSWORD_HASH, "the usual length"),
-        (4, 1, b"".as_slice(), b"".as_slice(), 10, EMPTY_PASSWORD_HASH_10, "the least length"),
-        (14, 32, long, salt, 10, LIBXCRYPT_HASH_10, "a shorter key of libxcrypt's hash"),
+        (
+            4,
+            1,
+            b"".as_slice(),
+            b"".as_slice(),
+            64,
+            EMPTY_PASSWORD_HASH_64,
+            "the greatest length",
+        ),
+        (
+            4,
+            1,
+            b"".as_slice(),
+            b"".as_slice(),
+            32,
+            EMPTY_PASSWORD_HASH,
+            "the usual length",
+        ),
+        (
+            4,
+            1,
+            b"".as_slice(),
+            b"".as_slice(),
+            10,
+            EMPTY_PASSWORD_HASH_10,
+            "the least length",
+        ),
+        (
+            14,
+            32,
+            long,
+            salt.as_slice(),
+            10,
+            LIBXCRYPT_HASH_10,
+            "a shorter key of libxcrypt's hash",
+        ),
     ] {
         let params = Params::new_with_output_len(log_n, r, 1, len)?;
         let hash: PasswordHash = Scrypt::new().hash_password_with_params(

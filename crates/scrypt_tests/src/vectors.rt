@@ -80,6 +80,9 @@ pub const PASSLIB_HASH: &str =
 pub const RFC_KEY_3_HASH: &str =
     "$scrypt$ln=14,r=8,p=1$U29kaXVtQ2hsb3JpZGU$cCO9yzr9c0hGHAbNgf046/2o+7qQT44+qbVD9lRdofI";
 
+// The same with the first 10 bytes of the key.
+pub const RFC_KEY_3_SHORT_HASH: &str = "$scrypt$ln=14,r=8,p=1$U29kaXVtQ2hsb3JpZGU$cCO9yzr9c0hGHA";
+
 // By libxcrypt, of the password `pleaseletmein`.
 pub const LIBXCRYPT_HASH: &str =
     "$7$CU..../....Mq4YHD2syxYT.MsH1Ek0n1$JyHIxez0DOwm0r6.kAIohc8UFBOLU4xX8a1wGBpLrw7";
