@@ -36,6 +36,14 @@ done
 for compiler in g++ clang++; do
   if has $compiler; then calls $compiler -std=c++11 -x c++; fi
 done
+if has gcc; then
+  for test in test threads; do
+    gcc -g -fsanitize=address,undefined -fno-sanitize-recover=all -Wall -Wextra -I$lib bindings/c/$test.c \
+      -o "$room/checked" $lib/libscrypt_c.a -lpthread
+    "$room/checked"
+  done
+  echo "called from four threads, and by the test, under AddressSanitizer"
+fi
 if has python3; then
   SCRYPT_C_LIBRARY=$PWD/$lib/libscrypt_c.so python3 -B bindings/python/test_scrypt_c.py
   echo "called from Python"
