@@ -5,7 +5,7 @@ cd "$(dirname "$0")/.."
 prefix=$1
 mkdir -p "$prefix/bin" "$prefix/include" "$prefix/lib/pkgconfig"
 prefix=$(cd "$prefix" && pwd)
-cp build/lib/libscrypt_c.a build/lib/libscrypt_c.so "$prefix/lib/"
+cp build/lib/libscrypt_c.a build/lib/libscrypt_c.so build/lib/libscrypt_drop_in.so "$prefix/lib/"
 cp bindings/c/scrypt_c.h "$prefix/include/"
 sed -e "s|@LIB@|$prefix/lib|" -e "s|@INCLUDE@|$prefix/include|" bindings/c/scrypt_c.pc.in \
   > "$prefix/lib/pkgconfig/scrypt_c.pc"

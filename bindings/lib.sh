@@ -23,5 +23,8 @@ objcopy --keep-global-symbols=bindings/c/symbols "$parts/all.o" "$parts/scrypt_c
 ar rcs "$out/libscrypt_c.a" "$parts/scrypt_c.o"
 $CC -shared -Wl,-soname,libscrypt_c.so -o "$out/libscrypt_c.so" "$parts/scrypt_c.o"
 cp bindings/c/scrypt_c.h "$out/"
+# The names of other libraries, in a library of their own.
+$CC -O2 -Wall -Wextra -fPIC -shared -fvisibility=hidden -Wl,--exclude-libs,ALL -Ibindings/c \
+  -o "$out/libscrypt_drop_in.so" bindings/drop_in/drop_in.c "$out/libscrypt_c.a"
 sed -e "s|@LIB@|$PWD/$out|" -e "s|@INCLUDE@|$PWD/$out|" bindings/c/scrypt_c.pc.in > "$out/scrypt_c.pc"
 rm -r "$parts"

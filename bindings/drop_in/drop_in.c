@@ -1,0 +1,133 @@
+/* The names of other libraries, over this one: scrypt of libscrypt-kdf and of libscrypt, and libsodium's
+ * crypto_pwhash_scryptsalsa208sha256 with its own limits and its own choice of N, r and p. Not proved. */
+#define _GNU_SOURCE
+#include "scrypt_c.h"
+
+#include <errno.h>
+#include <string.h>
+#include <sys/random.h>
+
+#define API __attribute__((visibility("default")))
+
+enum { SALT_LEN = 32, KEY_LEN = 32, TEXT_LEN = 101, LEAST_OUTPUT = 16 };
+
+static int refused(int why) {
+  errno = why;
+  return -1;
+}
+
+/* The logarithm of a power of two, or 255 for any other number. */
+static uint8_t log_of(uint64_t n) {
+  uint8_t log_n = 0;
+  if (n == 0 || (n & (n - 1)) != 0) return 255;
+  while (n > 1) {
+    n >>= 1;
+    log_n++;
+  }
+  return log_n;
+}
+
+static int derived(int status) {
+  switch (status) {
+    case SCRYPT_DONE: return 0;
+    case SCRYPT_OUT_OF_MEMORY: return refused(ENOMEM);
+    default: return refused(EINVAL);
+  }
+}
+
+static int derive(const uint8_t *password, size_t password_len, const uint8_t *salt, size_t salt_len,
+                  uint64_t n, uint32_t r, uint32_t p, uint8_t *output, size_t output_len) {
+  if ((uint64_t)r * p >= (uint64_t)1 << 30) return refused(EFBIG);
+  if (n < 2 || (n & (n - 1)) != 0) return refused(EINVAL);
+  return derived(scrypt_derive(password, password_len, salt, salt_len, log_of(n), r, p, output, output_len));
+}
+
+/* Of libscrypt-kdf. */
+API int crypto_scrypt(const uint8_t *password, size_t password_len, const uint8_t *salt, size_t salt_len,
+                      uint64_t n, uint32_t r, uint32_t p, uint8_t *output, size_t output_len) {
+  return derive(password, password_len, salt, salt_len, n, r, p, output, output_len);
+}
+
+/* Of libscrypt. */
+API int libscrypt_scrypt(const uint8_t *password, size_t password_len, const uint8_t *salt, size_t salt_len,
+                         uint64_t n, uint32_t r, uint32_t p, uint8_t *output, size_t output_len) {
+  return derive(password, password_len, salt, salt_len, n, r, p, output, output_len);
+}
+
+/* The rest is of libsodium. */
+
+/* N, r and p for limits of work and of memory: r is 8, N is as large as both limits let it be, and p takes
+ * the work that is left. */
+static void choose(unsigned long long work, size_t memory, uint8_t *log_n, uint32_t *r, uint32_t *p) {
+  uint64_t most_rows, most_rp;
+  if (work < 32768) work = 32768;
+  *r = 8;
+  most_rows = work < memory / 32 ? work / (*r * 4) : memory / ((size_t)*r * 128);
+  for (*log_n = 1; *log_n < 63; *log_n += 1) {
+    if ((uint64_t)1 << *log_n > most_rows / 2) break;
+  }
+  *p = 1;
+  if (work < memory / 32) return;
+  most_rp = (work / 4) / ((uint64_t)1 << *log_n);
+  if (most_rp > 0x3fffffff) most_rp = 0x3fffffff;
+  *p = (uint32_t)most_rp / *r;
+}
+
+API int crypto_pwhash_scryptsalsa208sha256_ll(const uint8_t *password, size_t password_len, const uint8_t *salt,
+                                              size_t salt_len, uint64_t n, uint32_t r, uint32_t p,
+                                              uint8_t *output, size_t output_len) {
+  return derive(password, password_len, salt, salt_len, n, r, p, output, output_len);
+}
+
+API int crypto_pwhash_scryptsalsa208sha256(unsigned char *output, unsigned long long output_len,
+                                           const char *password, unsigned long long password_len,
+                                           const unsigned char *salt, unsigned long long work, size_t memory) {
+  uint8_t log_n;
+  uint32_t r, p;
+  memset(output, 0, (size_t)output_len);
+  if (output_len > 0x1fffffffe0ULL) return refused(EFBIG);
+  if (output_len < LEAST_OUTPUT || (const void *)output == (const void *)password) return refused(EINVAL);
+  choose(work, memory, &log_n, &r, &p);
+  return derived(scrypt_derive(password, (size_t)password_len, salt, SALT_LEN, log_n, r, p, output,
+                               (size_t)output_len));
+}
+
+API int crypto_pwhash_scryptsalsa208sha256_str(char text[TEXT_LEN + 1], const char *password,
+                                               unsigned long long password_len, unsigned long long work,
+                                               size_t memory) {
+  uint8_t log_n, salt[SALT_LEN];
+  uint32_t r, p;
+  memset(text, 0, TEXT_LEN + 1);
+  choose(work, memory, &log_n, &r, &p);
+  if (getrandom(salt, sizeof salt, 0) != (ssize_t)sizeof salt) return refused(EIO);
+  return derived(scrypt_hash_mcf_z(password, (size_t)password_len, salt, sizeof salt, log_n, r, p, KEY_LEN, text,
+                                   TEXT_LEN + 1));
+}
+
+API int crypto_pwhash_scryptsalsa208sha256_str_verify(const char text[TEXT_LEN + 1], const char *password,
+                                                      unsigned long long password_len) {
+  if (strnlen(text, TEXT_LEN + 1) != TEXT_LEN || strncmp(text, "$7$", 3) != 0) return -1;
+  if (scrypt_verify(scrypt_bytes(password), (size_t)password_len, text, TEXT_LEN) != SCRYPT_DONE) return -1;
+  return 0;
+}
+
+/* The letters of a number, the lowest first. */
+static void put_letters(char *to, int count, uint32_t number) {
+  static const char letters[] = "./0123456789ABCDEFGHIJKLMNOPQRSTUVWXYZabcdefghijklmnopqrstuvwxyz";
+  int i;
+  for (i = 0; i < count; i++) to[i] = letters[number >> (6 * i) & 63];
+}
+
+/* Whether the costs of the text are others than these limits ask for, greater ones too. */
+API int crypto_pwhash_scryptsalsa208sha256_str_needs_rehash(const char text[TEXT_LEN + 1],
+                                                            unsigned long long work, size_t memory) {
+  char costs[14] = {'$', '7', '$'};
+  uint8_t log_n;
+  uint32_t r, p;
+  if (strnlen(text, TEXT_LEN + 1) != TEXT_LEN || strncmp(text, "$7$", 3) != 0) return refused(EINVAL);
+  choose(work, memory, &log_n, &r, &p);
+  put_letters(costs + 3, 1, log_n);
+  put_letters(costs + 4, 5, r);
+  put_letters(costs + 9, 5, p);
+  return memcmp(text, costs, sizeof costs) != 0;
+}
