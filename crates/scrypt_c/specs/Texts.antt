@@ -1,7 +1,7 @@
 -- The texts of hashes, as the calls take them: any bytes.
 use Rattle.std.specs.Prelude.{◌≡◌, ℕ, ℤ, pos, ◌==◌, ◌&&◌, ◌||◌, Bool, true, false, List, length, slice_index, Option, Some, ⊤}
 use Rattle.std.specs.Str.{IsAscii}
-use Rattle.password_hash.specs.Mcf.{IsModular}
+use Rattle.password_hash.specs.Mcf.{IsMcf}
 use Rattle.password_hash.specs.Phc.{IsHashText}
 use Rattle.password_hash.specs.Refusal.{Refusal, BadEncoding}
 use Rattle.password_hash.specs.declared.phc.hash.PasswordHash.{PasswordHash}
@@ -12,14 +12,14 @@ use Rattle.scrypt.specs.Rehashing.{IsReadable, IsWeaker}
 use Rattle.scrypt_c.specs.Statuses.{refusal_status, verdict_status}
 
 -- the text is `$7` or begins with `$7$`: it is read as a `$7$` text, and any other as a PHC text
-unfoldable pub is_seven_text : List ℕ → Bool
-is_seven_text text = slice_index text 0 == 36 && slice_index text 1 == 55
+unfoldable pub is_mcf_text : List ℕ → Bool
+is_mcf_text text = slice_index text 0 == 36 && slice_index text 1 == 55
     && (length text == 2 || slice_index text 2 == 36)
 
 -- the text is ASCII and that of a hash of its format, of which this is so
 pub data IsTextOf (OfMcf : List ℕ → Type 0) (OfPhc : PasswordHash → Type 0) (text : List ℕ) : Type 0 where
-  mcf : IsAscii text → is_seven_text text ≡ true → IsModular text → OfMcf text → IsTextOf OfMcf OfPhc text
-  phc : {hash : PasswordHash} → IsAscii text → is_seven_text text ≡ false → IsHashText text hash → OfPhc hash
+  mcf : IsAscii text → is_mcf_text text ≡ true → IsMcf text → OfMcf text → IsTextOf OfMcf OfPhc text
+  phc : {hash : PasswordHash} → IsAscii text → is_mcf_text text ≡ false → IsHashText text hash → OfPhc hash
       → IsTextOf OfMcf OfPhc text
 
 -- the text is that of a hash

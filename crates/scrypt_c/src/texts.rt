@@ -1,7 +1,7 @@
 // The texts of hashes: which format one has, and where a made one is put.
 
 ghost use Rattle.std.specs.Prelude.{◌≡◌, ◌≢◌, ◌↔◌, ◌⊎◌, ◌≤◌, ◌++◌, drop, length, IfSome, IsNone};
-ghost use Rattle.scrypt_c.specs.Texts.{IsText, IsTextOf, is_seven_text};
+ghost use Rattle.scrypt_c.specs.Texts.{IsText, IsTextOf, is_mcf_text};
 ghost use Rattle.scrypt_c.specs.Read.{IsRead};
 
 use crate::statuses::{BUFFER_SIZE, DONE};
@@ -23,20 +23,20 @@ pub fn read(text: &[u8]) -> Option<Hash<'_>>
     if !text.is_ascii() {
         return None;
     }
-    let is_seven = is_seven_text(text);
+    let is_mcf = is_mcf_text(text);
     let Ok(text) = std::str::from_utf8(text) else {
         unreachable!();
     };
-    if is_seven {
+    if is_mcf {
         return Some(Hash::Mcf(mcf::PasswordHashRef::new(text).ok()?));
     }
     Some(Hash::Phc(phc::PasswordHash::new(text).ok()?))
 }
 
 // Whether this is `$7` or begins with `$7$`: it is read as a `$7$` text, and any other as a PHC text.
-#[tactic(auto, unfolding(crate::specs::Texts::is_seven_text))]
-fn is_seven_text(text: &[u8]) -> bool
-    ensures { result ≡ is_seven_text text.now }
+#[tactic(auto, unfolding(crate::specs::Texts::is_mcf_text))]
+fn is_mcf_text(text: &[u8]) -> bool
+    ensures { result ≡ is_mcf_text text.now }
 {
     matches!(text, [b'$', b'7'] | [b'$', b'7', b'$', ..])
 }

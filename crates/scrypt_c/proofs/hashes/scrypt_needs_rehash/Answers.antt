@@ -13,5 +13,5 @@ returns-in-Some-Mcf-clause-told c known =
     let out = c.needs_rehash in
     let told = mcf_rehash (wanted c.args.log_n c.args.r c.args.p c.args.key_len) c.args.text.now out.result is.0 is.1 is.2
     (rw is.3 at out.ensures.ok)
-    (rw (is.3, c.new_with_params-wanted.ensures, c.in-Ok.ensures.value) at out.ensures.weak) (rw is.3 at out.ensures.err) in
+    (rw (is.3, c.new_with_params-wanted.ensures.value, c.in-Ok.ensures.value) at out.ensures.weak) (rw is.3 at out.ensures.err) in
     search rules
