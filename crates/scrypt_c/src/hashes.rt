@@ -110,7 +110,7 @@ pub extern "C" fn scrypt_hash_mcf(
 #[unsafe(no_mangle)]
 #[tactic(auto, using(crate::proofs::TextFacts::no_hash_verified, crate::proofs::TextFacts::mcf_verified, crate::proofs::TextFacts::phc_verified))]
 pub extern "C" fn scrypt_verify(alloc: Global, password: &[u8], text: &[u8]) -> i32
-    ensures { VerifyTells password.now text.now result }
+    ensures told { VerifyTells password.now text.now result }
 {
     let verifier = Scrypt::new();
     match read(text) {

@@ -7,7 +7,7 @@ const ALPHABET: [u8; 64] = *b"./0123456789ABCDEFGHIJKLMNOPQRSTUVWXYZabcdefghijkl
 
 /// The letter of a value, which has to be below 64.
 pub fn letter(value: u32) -> u8
-    requires { value < 64 }
+    requires small { value < 64 }
     ensures value { result ≡ letter value }
 {
     ALPHABET[value as usize]
@@ -28,7 +28,7 @@ pub fn value(byte: u8) -> Option<u8>
 /// The number that at most five letters say, their values as digits to base 64 with the lowest first,
 /// or `None` where a byte is no letter.
 pub fn number(letters: &[u8]) -> Option<u32>
-    requires { length letters.now ≤ 5 }
+    requires short { length letters.now ≤ 5 }
     ensures value { result ≡ number_of letters.now }
 {
     let mut number = 0;

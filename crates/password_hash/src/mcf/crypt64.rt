@@ -54,7 +54,7 @@ impl Base64 {
 
     /// The number of letters of `n` bytes.
     pub fn encoded_len(self, n: usize) -> usize
-        requires { n < 2 ^ 63 }
+        requires small { n < 2 ^ 63 }
         ensures len { result ≡ encoded_len n }
         ensures letters { (bytes : List ℕ) → length bytes ≡ n → length (crypt64_of bytes) ≡ result }
     {

@@ -3,11 +3,11 @@ use Rattle.scrypt_c.proofs.TextFacts.{no_hash_verified, phc_verified}
 use Rattle.scrypt_c.proofs.hashes.scrypt_verify.Goals as goal
 
 pub returns-in-None : goal.returns-in-None
-returns-in-None c = no_hash_verified c.args.password.now c.args.text.now (c.in-None.ensures.none refl)
+returns-in-None c = record { told = no_hash_verified c.args.password.now c.args.text.now (c.in-None.ensures.none refl) }
 
 pub returns-in-Some-Phc : goal.returns-in-Some-Phc
 returns-in-Some-Phc c =
     let is = rw c.in-Some-Phc.field-0-is at c.in-Some-Phc.ensures.found in
     let out = c.verify_password-in-Some-Phc in
     let told = phc_verified c.args.password.now c.args.text.now _ out.result is.0 is.1 is.2 out.ensures.ok out.ensures.err in
-    search rules
+    record { told = search rules }
