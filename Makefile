@@ -1,7 +1,7 @@
 # On a machine with the Rattle kit, two commands do everything:
 #   make run    proves and builds the program, and prints the first key of RFC 7914, section 12
-#   make test   is the whole gate: what must not compile, every proof from nothing, every edit that
-#               the prover must refuse, every test and every program
+#   make test   is the whole gate: the names in the documents, what must not compile, every proof from
+#               nothing, the edits that the prover must refuse, every test and every program
 # And besides the gate:
 #   make wrong-bodies tries the rest of the edits that the prover must refuse
 #   make oracle compares the program with independent implementations on random input, and with a
@@ -19,6 +19,8 @@ run: kit
 	cd crates/scrypt_tool && rt run -- key 4 1 1 64 ""
 
 test: kit
+	python3 ci/test_docs.py
+	python3 ci/docs.py
 	python3 ci/must_not_compile.py
 	rt ci
 

@@ -1,0 +1,127 @@
+#!/usr/bin/env python3
+"""Compares the documents with the sources, and refuses what does not fit.
+
+Refused are: a name in docs/*.md or README.md that no source has; a clause of a public function that
+has no name; and a public function that docs/PROMISES.md does not name.
+
+A name is what stands between backquotes and is a path (`mcf::Base64`, `Params::{log_n, n}`), a word
+with an underscore (`scrypt_ro_mix`), a call (`new()`), or a file of the repository; in the tables of
+PROMISES it is every word between backquotes. What belongs to others is listed below.
+"""
+
+import glob
+import re
+import sys
+
+DOCS = ["README.md", *sorted(glob.glob("docs/*.md"))]
+PROMISES = "docs/PROMISES.md"
+
+# Names of other programs and libraries, and words of texts and commands.
+OTHERS = set("""
+crypto_scrypt crypt_r libscrypt_scrypt crypto_pwhash_scryptsalsa208sha256 pbkdf2_hmac scrypt_kdf_mapped
+needs_update must_use new_unwrap crypto_pwhash_scryptsalsa208sha256_str rand_core getrandom password_hash_rs check_password generate_password_hash std core alloc
+thread_rng gensalt_rn crypt_gensalt_rn password_verify EVP_PBE_scrypt fmt io env slice option result string str vec
+""".split())
+
+
+def read(path):
+    with open(path, encoding="utf-8") as file:
+        return file.read()
+
+
+def sources(suffix):
+    return [it for it in glob.glob(f"crates/*/**/*.{suffix}", recursive=True) if "/out/" not in it]
+
+
+def known_names():
+    """Every word that the sources have, which is what a name may consist of."""
+    names = set()
+    for path in sources("rt") + sources("antt"):
+        names.update(re.findall(r"[A-Za-z_][A-Za-z0-9_']*", read(path)))
+        names.update(re.split(r"[/.]", path))
+    return names
+
+
+def expanded(name):
+    """The paths of `a::{b, c}`."""
+    found = re.fullmatch(r"(.*)\{(.*)\}(.*)", name)
+    if not found:
+        return [name]
+    before, choices, after = found.groups()
+    return [before + it.strip() + after for it in choices.split(",")]
+
+
+def words_of(name):
+    """The words of a name, or none where it isn't one."""
+    bare = re.sub(r"\(\)$|<[^<>]*>", "", name)
+    if re.fullmatch(r"[A-Za-z_][\w']*(::(\{[\w, :]*\}|[\w']+))+", bare):
+        return [word for path in expanded(bare) for word in path.split("::")]
+    if re.fullmatch(r"[a-z0-9]+(_[a-z0-9]+)+", bare) or re.fullmatch(r"[a-z_]+\(\)", name):
+        return [bare]
+    return []
+
+
+def unknown_names(path, text, names, everything):
+    """What is named in a document and stands nowhere; in a table of promises every word is a name."""
+    for number, line in enumerate(text.splitlines(), 1):
+        strict = path == PROMISES and line.startswith("|")
+        for name in re.findall(r"`([^`]+)`", line):
+            file = re.fullmatch(r"(crates|docs|ci|bench|bindings)/[\w./-]+", name)
+            if file and "NAME" not in name and not glob.glob(name):
+                yield f"{path}:{number}: no file {name}"
+            words = words_of(name)
+            if strict and re.fullmatch(r"[A-Za-z_]\w*", name):
+                words = [name]
+            for word in words:
+                if word not in names and word not in OTHERS and word not in everything:
+                    yield f"{path}:{number}: no source has the name {word}, of {name}"
+
+
+def public_functions(text):
+    """Each public function of a source: its name, its line, and its clauses."""
+    for found in re.finditer(r"^( *)pub (?:const |unsafe |extern \"C\" )*fn (\w+)(.*?)^\1[{}]", text, re.M | re.S):
+        yield found.group(2), text[: found.start()].count("\n") + 1, found.group(3)
+
+
+def own_sources():
+    """The sources of the libraries, and of the program the one function that is its promise."""
+    others = ("/scrypt_tests/", "/tests", "/verdicts/", "/scrypt_c/src/texts.rt")
+    found = [it for it in sources("rt") if not any(other in it for other in others)]
+    return [it for it in found if "/scrypt_tool/" not in it or it.endswith("/run.rt")]
+
+
+def unnamed_clauses(path, text):
+    for name, line, clauses in public_functions(text):
+        if re.search(r"^\s*(ensures|requires) \{", clauses, re.M):
+            yield f"{path}:{line}: a clause of the public function {name} has no name"
+
+
+def promised_names(text):
+    return {word for name in re.findall(r"`([^`]+)`", text) for it in expanded(name) for word in re.findall(r"\w+", it)}
+
+
+def unpromised(path, text, promised):
+    for name, line, _ in public_functions(text):
+        if name not in promised:
+            yield f"{path}:{line}: PROMISES does not name the public function {name}"
+
+
+def complaints(documents, code, names):
+    """Everything that is refused in these documents and sources, which are texts by their paths."""
+    everything = set(re.findall(r"^([\w-]+):", read("Makefile"), re.M))
+    for path, text in documents.items():
+        yield from unknown_names(path, text, names, everything)
+    promised = promised_names(documents[PROMISES])
+    for path, text in code.items():
+        yield from unnamed_clauses(path, text)
+        yield from unpromised(path, text, promised)
+
+
+def main():
+    found = list(complaints({it: read(it) for it in DOCS}, {it: read(it) for it in own_sources()}, known_names()))
+    print("\n".join(found) or "docs: every name stands in the sources, and every public function is promised")
+    sys.exit(1 if found else 0)
+
+
+if __name__ == "__main__":
+    main()

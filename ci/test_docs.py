@@ -1,0 +1,41 @@
+#!/usr/bin/env python3
+"""Shows that docs.py refuses what it is there to refuse, and nothing else."""
+
+import sys
+
+import docs
+
+PLAIN = "`Params::{log_n, n}` of `scrypt_counted`.\n"
+PROMISED = "| promise | function | clause |\n| exact | `scrypt_counted`, `Params::log_n` | `value` |\n"
+SOURCE = "pub fn scrypt_counted(x: u8)\n    ensures value { x }\n{\n    x\n}\n"
+
+# What is changed in the document, the promises or the source; and what has to be said of it, if anything.
+ROWS = [
+    ("nothing is changed", PLAIN, PROMISED, SOURCE, None),
+    ("a function that is gone", PLAIN.replace("scrypt_counted", "scrypt_numbered"), PROMISED, SOURCE, "scrypt_numbered"),
+    ("a part of a group that is gone", PLAIN.replace("log_n, n", "log_n, rounds"), PROMISED, SOURCE, "rounds"),
+    ("a clause that is gone", PLAIN, PROMISED.replace("`value`", "`worth`"), SOURCE, "worth"),
+    ("a file that is gone", PLAIN + "`docs/NOTHING.md`\n", PROMISED, SOURCE, "docs/NOTHING.md"),
+    ("a clause without a name", PLAIN, PROMISED, SOURCE.replace("ensures value {", "ensures {"), "has no name"),
+    ("a condition without a name", PLAIN, PROMISED, SOURCE.replace("    ensures", "    requires { x }\n    ensures"), "has no name"),
+    ("a function without a promise", PLAIN, PROMISED, SOURCE.replace("scrypt_counted", "other"), "does not name"),
+    ("a private function without a promise", PLAIN, PROMISED, SOURCE + SOURCE.replace("pub fn scrypt_counted", "fn other"), None),
+]
+
+
+def main():
+    names = {"Params", "log_n", "n", "scrypt_counted", "value"}
+    failed = 0
+    for reason, plain, promised, source, wanted in ROWS:
+        documents = {"docs/PLAIN.md": plain, docs.PROMISES: promised}
+        found = list(docs.complaints(documents, {"src/lib.rt": source}, names))
+        right = not found if wanted is None else any(wanted in it for it in found)
+        if not right:
+            print(f"docs.py, {reason}: said {found}")
+            failed += 1
+    print(f"docs.py: {len(ROWS) - failed} of {len(ROWS)} cases as they should be")
+    sys.exit(1 if failed else 0)
+
+
+if __name__ == "__main__":
+    main()
