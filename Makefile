@@ -4,6 +4,7 @@
 #               nothing, the edits that the prover must refuse, every test and every program
 # And besides the gate:
 #   make wrong-bodies tries the rest of the edits that the prover must refuse
+#   make refusals lists the wrong bodies that are refused for no false goal (some 20 seconds for each)
 #   make oracle compares the program with independent implementations on random input, and with a
 #               reader in plain Python on hostile hashes
 #   make lib    builds the libraries for C into build/lib, and make install PREFIX=.. puts them in place
@@ -13,7 +14,7 @@
 #               and WORKERS="--callgrind" counts instructions
 #   make compare-worker WORKER=PATH  compares 10,000 keys with those of such a program
 
-.PHONY: run test wrong-bodies oracle lib install callers bench compare-worker kit
+.PHONY: run test wrong-bodies refusals oracle lib install callers bench compare-worker kit
 
 run: kit
 	cd crates/scrypt_tool && rt run -- key 4 1 1 64 ""
@@ -26,6 +27,9 @@ test: kit
 
 wrong-bodies: kit
 	python3 ci/wrong_bodies.py
+
+refusals: kit
+	python3 ci/refusals.py
 
 oracle: kit
 	cd crates/scrypt_tool && rt run -- key 0 1 1 1 "" > /dev/null < /dev/null

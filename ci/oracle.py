@@ -188,6 +188,23 @@ def crypt_hashes(program, rng):
     return tally("hashes of crypt(3)", agree)
 
 
+def hash_lengths(program, rng):
+    """Hashes of both formats hold the key of each length, as hashlib derives it."""
+    agree = []
+    for length in range(10, 65):
+        password, salt = some_bytes(rng, 40), rng.randbytes(rng.randrange(1, 40))
+        log_n, r, p = rng.randrange(1, 9), rng.choice((1, 2, 8)), rng.randrange(1, 4)
+        words = [str(log_n), str(r), str(p), salt.hex(), str(length)]
+        phc = phc_text(salt, expected_key(password, salt, log_n, r, p, length), log_n, r, p)
+        letters = crypt64.letters(salt)
+        key = expected_key(password, letters.encode(), log_n, r, p, length)
+        mcf = crypt64.costs(log_n, r, p) + letters + "$" + crypt64.letters(key)
+        for form, text in (("phc", phc), ("mcf", mcf)):
+            agree.append(run(program, ["hash", form, *words], password)[1] == text.encode() + b"\n")
+            agree.append(verified(program, text, password))
+    return tally("hashes with keys of 10 to 64 bytes", agree)
+
+
 def mkpasswd_hashes(program, _rng):
     """A hash of mkpasswd is verified here."""
     if not shutil.which("mkpasswd"):
@@ -278,6 +295,7 @@ PARTS = [
     crypt_letters,
     crypt_letters_passlib,
     crypt_hashes,
+    hash_lengths,
     mkpasswd_hashes,
     sodium_hashes,
 ]

@@ -11,7 +11,7 @@ type Case = (&'static str, &'static str, u8, &'static str);
 
 // The first hash is passlib's, the second one's key is that of RFC 7914, section 12, and the `$7$` hashes
 // are libxcrypt's.
-const ANSWERS: [Case; 14] = [
+const ANSWERS: [Case; 16] = [
     (
         "hash phc 16 8 1 68cd79ef5debdd7b2fc5b8b7d65aabd5",
         "password",
@@ -62,6 +62,19 @@ const ANSWERS: [Case; 14] = [
         "pleaseletmein",
         0,
         "$7$CU..../....Mq4YHD2syxYT.MsH1Ek0n1$JyHIxez0DOwm0r6.kAIohc8UFBOLU4xX8a1wGBpLrw7\n",
+    ),
+    // A last word names the key's length.
+    (
+        "hash mcf 4 1 1  64",
+        "",
+        0,
+        "$7$2/..../....$rNxJWVHNv/mCNcgE/f6/L4zO6Fos5c2uTzhyzoisI62zEPEbhb.Gs9XOpdn16zl3cDBsvvG1qUmnp6C1s2RW4.\n",
+    ),
+    (
+        "hash phc 14 8 1 536f6469756d43686c6f72696465 10",
+        "pleaseletmein",
+        0,
+        "$scrypt$ln=14,r=8,p=1$U29kaXVtQ2hsb3JpZGU$cCO9yzr9c0hGHA\n",
     ),
     (
         "verify $7$2/..../....$rNxJWVHNv/mCNcgE/f6/L4zO6Fos5c2uTzhyzoisI62",

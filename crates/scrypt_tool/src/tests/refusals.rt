@@ -31,7 +31,7 @@ fn refused(rt: &impl Abort, alloc: Global, line: &str, fault: &str) -> Result<()
 }
 
 // A line of words, and its fault line.
-const REFUSALS: [(&str, &str); 19] = [
+const REFUSALS: [(&str, &str); 23] = [
     ("key 04 1 1 64 ", USAGE),
     ("key 4 1 1 64 0", SALT),
     ("key 4 1 1 64 0g", SALT),
@@ -47,6 +47,10 @@ const REFUSALS: [(&str, &str); 19] = [
     ("hash phc 57 1 1 00", PARAMS),
     ("hash mcf 4 1 1 0", SALT),
     ("hash mcf 57 1 1 ", PARAMS),
+    ("hash mcf 4 1 1  9", PARAMS),
+    ("hash mcf 4 1 1  65", PARAMS),
+    ("hash phc 4 1 1 00 9", PARAMS),
+    ("hash phc 4 1 1 00 18446744073709551615", PARAMS),
     ("verify ", ENCODING),
     ("verify $scrypt$", ENCODING),
     ("verify $8$a", ENCODING),
@@ -62,13 +66,15 @@ fn each_refusal(rt: HostRuntime) -> Result<(), Fail> {
 }
 
 // The first thing that is wrong is printed.
-const SEVERAL_WRONG: [(&str, &str); 6] = [
+const SEVERAL_WRONG: [(&str, &str); 8] = [
     ("key 4 1 1 00 0", USAGE),
     ("key 4 0 0 0 0", SALT),
     ("key 4 0 1 0 ", PARAMS),
     ("key 4 1 1 0 00", LENGTH),
     ("hash phc 4 0 00 0", USAGE),
     ("hash phc 4 0 1 0", SALT),
+    ("hash mcf 4 1 1 0 9", SALT),
+    ("hash mcf 4 1 1 0 09", USAGE),
 ];
 
 #[test]
@@ -80,7 +86,7 @@ fn first_of_several_refusals(rt: HostRuntime) -> Result<(), Fail> {
 }
 
 // A number below its bound is read, and then refused as a parameter or as a length.
-const NUMBERS: [(&str, &str); 17] = [
+const NUMBERS: [(&str, &str); 18] = [
     ("key 255 1 1 64 ", PARAMS),
     ("key 256 1 1 64 ", USAGE),
     ("key 4 4294967295 1 64 ", PARAMS),
@@ -89,6 +95,7 @@ const NUMBERS: [(&str, &str); 17] = [
     ("key 4 1 4294967296 64 ", USAGE),
     ("key 4 1 1 18446744073709551615 ", LENGTH),
     ("key 4 1 1 18446744073709551616 ", USAGE),
+    ("hash mcf 4 1 1  18446744073709551616", USAGE),
     ("key +4 1 1 64 ", USAGE),
     ("key -4 1 1 64 ", USAGE),
     ("key 00 1 1 64 ", USAGE),
@@ -109,7 +116,7 @@ fn numbers_at_their_bounds(rt: HostRuntime) -> Result<(), Fail> {
 }
 
 // Words that are not those of a command.
-const NO_COMMANDS: [&str; 14] = [
+const NO_COMMANDS: [&str; 15] = [
     "",
     "key",
     "key 4 1 1 64",
@@ -122,6 +129,7 @@ const NO_COMMANDS: [&str; 14] = [
     "hash PHC 4 1 1 00",
     "hash mcf 4 1 1",
     "hash md5 4 1 1 00",
+    "hash mcf 4 1 1 00 32 32",
     "verify",
     "verify $scrypt $scrypt",
 ];
