@@ -46,7 +46,8 @@ def thin_call(path):
 
     def call(log_n, r, p, s):
         key = ctypes.create_string_buffer(LENGTH)
-        lens = 128 * r * p, 32 * r << (log_n - s), 96 * r
+        # The whole table takes the scratch of a plain derivation.
+        lens = 128 * r * p, 32 * r << (log_n - s), (96 if s else 64) * r
         chunks = ctypes.create_string_buffer(lens[0])
         table, scratch = (word * lens[1])(), (word * lens[2])()
         lent = [key, LENGTH, chunks, lens[0], table, lens[1], scratch, lens[2]]
