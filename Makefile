@@ -12,9 +12,10 @@
 #   make bench  measures the library and the program against other implementations on this machine.
 #               Other programs join by WORKERS="--worker NAME=PATH ..", as bench/bench.py describes,
 #               and WORKERS="--callgrind" counts instructions
+#   make thin   measures the key by smaller tables, and draws docs/thin.svg
 #   make compare-worker WORKER=PATH  compares 10,000 keys with those of such a program
 
-.PHONY: run test wrong-bodies refusals oracle lib install callers bench compare-worker kit
+.PHONY: run test wrong-bodies refusals oracle lib install callers bench thin compare-worker kit
 
 run: kit
 	cd crates/scrypt_tool && rt run -- key 4 1 1 64 ""
@@ -54,6 +55,9 @@ bench: kit
 	cd crates/scrypt_tool && rt run -- key 0 1 1 1 "" > /dev/null < /dev/null
 	python3 bench/bench.py crates/scrypt_c/out/libscrypt_c.a crates/scrypt_tool/out/scrypt_tool \
 	  --picture docs/speed.svg $(WORKERS)
+
+thin: lib
+	python3 bench/thin.py build/lib/libscrypt_c.so 2 docs/thin.svg
 
 compare-worker: kit
 	cd crates/scrypt_tool && rt run -- key 0 1 1 1 "" > /dev/null < /dev/null
