@@ -97,8 +97,8 @@ def drawn(results):
         return x, y
 
     lines = [
-        '<svg xmlns="http://www.w3.org/2000/svg" width="620" height="380" font-family="sans-serif" font-size="12">',
-        '<rect width="620" height="380" fill="white"/>',
+        '<svg xmlns="http://www.w3.org/2000/svg" width="680" height="380" font-family="sans-serif" font-size="12">',
+        '<rect width="680" height="380" fill="white"/>',
         '<text x="310" y="370" text-anchor="middle">memory of the table in MiB</text>',
         '<text x="70" y="20">time in seconds</text>',
     ]
