@@ -1,4 +1,5 @@
-// Calls whose allocations fail in turn.
+//! For tests: calls whose allocations fail in turn.
+#![tactic(auto)]
 
 use std::alloc::{AllocError, Global};
 use std::test::Fail;
