@@ -3,7 +3,7 @@
 use crate::mcf_hashes;
 use crate::texts::{changed, followed_by};
 use crate::vectors::{EMPTY_PASSWORD_HASH, LIBXCRYPT_HASH};
-use failing_allocations::{Ended, failing_allocations};
+use failing_allocations::{CallEnd, failing_allocations};
 use password_hash::mcf::{self, Base64};
 use password_hash::{Error, PasswordHasher, PasswordVerifier, phc};
 use scrypt::{CoreCount, DeriveError, Kdf, Params, Scrypt, kdf, scrypt, scrypt_counted};
@@ -18,11 +18,11 @@ fn ended<T, E: PartialEq + Drop>(
     answer: &Result<T, E>,
     out_of_memory: E,
     unchanged: bool,
-) -> Ended {
+) -> CallEnd {
     match answer {
-        Ok(_) => Ended::Done,
-        Err(refused) if unchanged && *refused == out_of_memory => Ended::OutOfMemory,
-        Err(_) => Ended::Otherwise,
+        Ok(_) => CallEnd::Done,
+        Err(refused) if unchanged && *refused == out_of_memory => CallEnd::OutOfMemory,
+        Err(_) => CallEnd::Otherwise,
     }
 }
 
@@ -174,7 +174,7 @@ fn fields_that_are_pushed(rt: HostRuntime) -> Result<(), Fail> {
                 let pushed = hash.push_str(field.as_str());
                 ended(&pushed, memory, is_id_alone(&hash, id.as_str()))
             }
-            Err(_) => Ended::OutOfMemory,
+            Err(_) => CallEnd::OutOfMemory,
         }
     })?;
     assert_eq!(rt; push_str, 2);
@@ -195,7 +195,7 @@ fn bytes_that_are_pushed(rt: HostRuntime) -> Result<(), Fail> {
                 let pushed = hash.push_base64(&bytes, Base64::Crypt);
                 ended(&pushed, memory, is_id_alone(&hash, id.as_str()))
             }
-            Err(_) => Ended::OutOfMemory,
+            Err(_) => CallEnd::OutOfMemory,
         }
     })?;
     assert_eq!(rt; push_base64, 3);
@@ -215,9 +215,9 @@ fn needs_no_memory(alloc: Global, text: &str, wanted: Result<(), Error>) -> Resu
             Err(_) => Err(Error::EncodingInvalid),
         };
         if verdict == wanted {
-            Ended::Done
+            CallEnd::Done
         } else {
-            Ended::Otherwise
+            CallEnd::Otherwise
         }
     })?;
     Ok(allocations == 0)
@@ -267,9 +267,9 @@ fn phc_refusals_without_memory(rt: HostRuntime) -> Result<(), Fail> {
                 Err(refused) => Err(refused),
             };
             if verdict == Err(wanted) {
-                Ended::Done
+                CallEnd::Done
             } else {
-                Ended::Otherwise
+                CallEnd::Otherwise
             }
         })?;
         assert_eq!(rt; allocations, 0, "{text}");
