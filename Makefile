@@ -8,7 +8,8 @@
 #   make oracle compares the program with independent implementations on random input, and with a
 #               reader in plain Python on hostile hashes
 #   make lib    builds the libraries for C into build/lib, and make install PREFIX=.. puts them in place
-#   make callers calls them from each language of bindings/ that is installed here
+#   make callers calls them from each language of bindings/ that is installed here, and from programs that
+#               know the names of libsodium and libscrypt-kdf
 #   make bench  measures the library and the program against other implementations on this machine.
 #               Other programs join by WORKERS="--worker NAME=PATH ..", as bench/bench.py describes,
 #               and WORKERS="--callgrind" counts instructions
@@ -42,8 +43,9 @@ oracle: kit
 lib: kit
 	bindings/lib.sh
 
-install: lib
+install: kit
 	@test -n "$(PREFIX)" || { echo "Say where to: make install PREFIX=.." >&2; exit 1; }
+	bindings/lib.sh
 	cd crates/scrypt_tool && rt run -- key 0 1 1 1 "" > /dev/null < /dev/null
 	bindings/install.sh "$(PREFIX)"
 
