@@ -52,10 +52,9 @@ install: kit
 callers: lib
 	bindings/callers.sh
 
-bench: kit
-	cd crates/scrypt_c && rt lib > /dev/null
+bench: lib
 	cd crates/scrypt_tool && rt run -- key 0 1 1 1 "" > /dev/null < /dev/null
-	python3 bench/bench.py crates/scrypt_c/out/libscrypt_c.a crates/scrypt_tool/out/scrypt_tool \
+	python3 bench/bench.py build/lib/libscrypt_c.so crates/scrypt_tool/out/scrypt_tool \
 	  --picture docs/speed.svg $(WORKERS)
 
 thin: lib
