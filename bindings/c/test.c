@@ -102,6 +102,9 @@ static void keys(int small) {
   check(scrypt_derive(NULL, 0, NULL, 0, 4, 1, 1, key, 64) == SCRYPT_DONE, "NULL with length 0");
   hex_of(key, 64, hex);
   check(strcmp(hex, VECTORS[0].key) == 0, "key of NULL with length 0");
+  check(scrypt_kdf_mapped(b("pleaseletmein"), 13, b("SodiumChloride"), 14, 14, 8, 1, key, 64) == SCRYPT_DONE, "mapped");
+  hex_of(key, 64, hex);
+  check(strcmp(hex, VECTORS[2].key) == 0, "key in mapped memory");
   for (i = 0; i < 3; i++) keys_in_lent_memory(0, (uint8_t)i);
   keys_in_lent_memory(1, 0);
   keys_in_lent_memory(2, 3);
