@@ -4,9 +4,10 @@
 #               nothing, the edits that the prover must refuse, every test and every program
 # And besides the gate:
 #   make wrong-bodies tries the rest of the edits that the prover must refuse
+#   make refused-by-tests tries wrong bodies that no clause can refuse, and that the tests have to (minutes for each)
 #   make refusals lists the wrong bodies that are refused for no false goal (some 20 seconds for each)
 #   make oracle compares the program with independent implementations on random input, and with a
-#               reader in plain Python on hostile hashes
+#               reader in plain Python on hostile hashes, and refuses each of its allocations
 #   make lib    builds the libraries for C into build/lib, and make install PREFIX=.. puts them in place
 #   make callers calls them from each language of bindings/ that is installed here, and from programs that
 #               know the names of libsodium and libscrypt-kdf
@@ -16,7 +17,7 @@
 #   make thin   measures the key by smaller tables, and draws docs/thin.svg
 #   make compare-worker WORKER=PATH  compares 10,000 keys with those of such a program
 
-.PHONY: run test wrong-bodies refusals oracle lib install callers bench thin compare-worker kit
+.PHONY: run test wrong-bodies refused-by-tests refusals oracle lib install callers bench thin compare-worker kit
 
 run: kit
 	cd crates/scrypt_tool && rt run -- key 4 1 1 64 ""
@@ -24,11 +25,15 @@ run: kit
 test: kit
 	python3 ci/test_docs.py
 	python3 ci/docs.py
+	python3 ci/data_path.py
 	python3 ci/must_not_compile.py
 	rt ci
 
 wrong-bodies: kit
 	python3 ci/wrong_bodies.py
+
+refused-by-tests: kit
+	python3 ci/refused_by_tests.py
 
 refusals: kit
 	python3 ci/refusals.py
@@ -36,6 +41,7 @@ refusals: kit
 oracle: kit
 	cd crates/scrypt_tool && rt run -- key 0 1 1 1 "" > /dev/null < /dev/null
 	python3 ci/oracle.py crates/scrypt_tool/out/scrypt_tool
+	python3 ci/allocations.py crates/scrypt_tool/out/scrypt_tool
 	cd crates/verdicts && rt run < stdin > /dev/null
 	python3 ci/hostile.py crates/verdicts/out/verdicts
 	python3 ci/thin_cost.py

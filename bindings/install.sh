@@ -1,6 +1,6 @@
 #!/bin/sh
-# Puts the libraries of build/lib, the header, the pkg-config file, the program and its man page below the
-# folder PREFIX.
+# Puts the libraries of build/lib, the header, the pkg-config file, the program, its man page and its completions
+# for bash, zsh and fish below the folder PREFIX.
 set -eu
 cd "$(dirname "$0")/.."
 prefix=$1
@@ -12,3 +12,4 @@ sed -e "s|@LIB@|$prefix/lib|" -e "s|@INCLUDE@|$prefix/include|" bindings/c/scryp
   > "$prefix/lib/pkgconfig/scrypt_c.pc"
 cp crates/scrypt_tool/out/scrypt_tool "$prefix/bin/"
 cp docs/scrypt_tool.1 "$prefix/share/man/man1/"
+python3 bindings/completions.py "$prefix"

@@ -2,7 +2,8 @@
 """Compares the documents with the sources, and refuses what does not fit.
 
 Refused are: a name in docs/*.md or README.md that no source has; a clause of a public function that
-has no name; and a public function that docs/PROMISES.md does not name.
+has no name; a public function that docs/PROMISES.md does not name; and a row of docs/PROOFS.md on a module
+of proofs that differs from the comment on that module in its crate's proofs/Lib.antt.
 
 A name is what stands between backquotes and is a path (`mcf::Base64`, `Params::{log_n, n}`), a word
 with an underscore (`scrypt_ro_mix`), a call (`new()`), or a file of the repository; in the tables of
@@ -15,6 +16,7 @@ import sys
 
 DOCS = ["README.md", *sorted(glob.glob("docs/*.md"))]
 PROMISES = "docs/PROMISES.md"
+PROOFS = "docs/PROOFS.md"
 
 # Names of other programs and libraries, and words of texts and commands.
 OTHERS = set("""
@@ -85,7 +87,7 @@ def public_functions(text):
 
 def own_sources():
     """The sources of the libraries, and of the program the one function that is its promise."""
-    others = ("/scrypt_tests/", "/tests", "/verdicts/", "/scrypt_c/src/texts.rt")
+    others = ("/scrypt_tests/", "/failing_allocations/", "/tests", "/verdicts/", "/scrypt_c/src/texts.rt")
     found = [it for it in sources("rt") if not any(other in it for other in others)]
     return [it for it in found if "/scrypt_tool/" not in it or it.endswith("/run.rt")]
 
@@ -106,6 +108,35 @@ def unpromised(path, text, promised):
             yield f"{path}:{line}: PROMISES does not name the public function {name}"
 
 
+def rows_of(text):
+    """Of each folder that docs/PROOFS.md has a table of, its modules and what they show."""
+    rows = {}
+    folder = None
+    for line in text.splitlines():
+        heading = re.match(r"`(crates/\w+/proofs)`", line)
+        row = re.fullmatch(r"\| `(\w+)` \| (.*) \|", line)
+        if heading:
+            folder = heading.group(1) + "/Lib.antt"
+        elif row and folder:
+            rows.setdefault(folder, {})[row.group(1)] = row.group(2)
+    return rows
+
+
+def modules_of(text):
+    """The modules that a Lib.antt has, each with the comment on it."""
+    return dict(reversed(it) for it in re.findall(r"^(?:-- (.*)\n)?pub mod (\w+)", text, re.M))
+
+
+def other_modules(documents, libs):
+    """Where docs/PROOFS.md and the proofs' own lists of modules differ."""
+    rows = rows_of(documents.get(PROOFS, ""))
+    for path, text in libs.items():
+        mine, theirs = rows.get(path, {}), modules_of(text)
+        for name in sorted(mine.keys() | theirs.keys()):
+            if mine.get(name) != theirs.get(name):
+                yield f"{path}: {PROOFS} has another line on {name}, or none"
+
+
 def complaints(documents, code, names):
     """Everything that is refused in these documents and sources, which are texts by their paths."""
     everything = set(re.findall(r"^([\w-]+):", read("Makefile"), re.M))
@@ -118,7 +149,9 @@ def complaints(documents, code, names):
 
 
 def main():
-    found = list(complaints({it: read(it) for it in DOCS}, {it: read(it) for it in own_sources()}, known_names()))
+    documents = {it: read(it) for it in DOCS}
+    found = list(complaints(documents, {it: read(it) for it in own_sources()}, known_names()))
+    found += other_modules(documents, {it: read(it) for it in glob.glob("crates/*/proofs/Lib.antt")})
     print("\n".join(found) or "docs: every name stands in the sources, and every public function is promised")
     sys.exit(1 if found else 0)
 

@@ -22,6 +22,29 @@ ROWS = [
     ("a private function without a promise", PLAIN, PROMISED, SOURCE + SOURCE.replace("pub fn scrypt_counted", "fn other"), None),
 ]
 
+TABLE = "`crates/a/proofs`, the first:\n\n| `OneFacts` | Facts on one. |\n| `TwoFacts` | Facts on two. |\n"
+LIB = "-- Facts on one.\npub mod OneFacts\n-- Facts on two.\npub mod TwoFacts\n"
+
+# What is changed in the table of modules or in their list, and the module that has to be named, if any.
+MODULES = [
+    ("nothing is changed", TABLE, LIB, None),
+    ("another line", TABLE, LIB.replace("on two", "on three"), "TwoFacts"),
+    ("no line", TABLE, LIB.replace("-- Facts on one.\n", ""), "OneFacts"),
+    ("a module without a row", TABLE, LIB + "-- Facts on more.\npub mod MoreFacts\n", "MoreFacts"),
+    ("a row without a module", TABLE + "| `GoneFacts` | Facts. |\n", LIB, "GoneFacts"),
+]
+
+
+def modules_failed():
+    """How many rows on the tables of modules aren't as they should be."""
+    failed = 0
+    for reason, table, lib, wanted in MODULES:
+        found = list(docs.other_modules({docs.PROOFS: table}, {"crates/a/proofs/Lib.antt": lib}))
+        if [wanted] * (wanted is not None) != [it.split()[-3].strip(",") for it in found]:
+            print(f"docs.py, {reason}: said {found}")
+            failed += 1
+    return failed
+
 
 def main():
     names = {"Params", "log_n", "n", "scrypt_counted", "value"}
@@ -33,7 +56,9 @@ def main():
         if not right:
             print(f"docs.py, {reason}: said {found}")
             failed += 1
-    print(f"docs.py: {len(ROWS) - failed} of {len(ROWS)} cases as they should be")
+    failed += modules_failed()
+    cases = len(ROWS) + len(MODULES)
+    print(f"docs.py: {cases - failed} of {cases} cases as they should be")
     sys.exit(1 if failed else 0)
 
 

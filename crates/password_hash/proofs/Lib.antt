@@ -1,16 +1,32 @@
+-- Bytes in a fixed number of places.
 pub mod StoredFacts
+-- Texts of letters.
 pub mod IdentifierFacts
+-- Pairs and their text.
 pub mod PairsFacts
+-- One more pair at the end, and the pairs of a text in turn.
 pub mod ParamsFacts
+-- Base64 of at most 64 bytes, and its letters.
 pub mod Base64Facts
+-- Decimal digits.
 pub mod DecimalFacts
+-- Texts of parts, each after a `$`.
 pub mod PartsFacts
+-- The parts of a PHC text.
 pub mod PhcPartsFacts
+-- A hash and the parts of its text.
 pub mod HashFacts
+-- The alphabet's table: each letter has its value, and no other byte has one.
 pub mod AlphabetFacts
+-- What follows from the definitions of crypt Base64.
 pub mod Crypt64Facts
+-- Bytes and letters by groups: how many there are, and what a group says.
 pub mod GroupFacts
+-- What follows from the definition of MCF texts: each has one id and one list of fields, and texts put together by parts are MCF texts.
 pub mod McfFacts
+-- A text has at most one reading.
 pub mod OneReading
+-- Tests of the definitions of texts that compute, and what each shows.
 pub mod TextTests
+-- Texts, read and printed by the definitions alone, so that a wrong letter, order or bound in a definition does not check.
 pub mod StandardFacts

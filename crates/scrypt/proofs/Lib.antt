@@ -1,15 +1,30 @@
+-- Bounds on accepted parameters.
 pub mod AcceptedFacts
+-- Facts on the chunks of B, which are mixed one after another.
 pub mod KeyFacts
+-- Facts on the cores of a derivation.
 pub mod CostFacts
+-- Facts on the derived key by a table that keeps some rows.
 pub mod ThinKeyFacts
+-- Facts on the chunks of B, mixed one after another in any order.
 pub mod ChunkFacts
+-- The standard's own vector of a derived key, computed by the definitions, so that a wrong step or constant in a definition does not check.
 pub mod StandardFacts
+-- Verifying has one verdict, in every format whose hashes are read in one way.
 pub mod VerdictFacts
+-- A hash that is whole is weaker than wanted where its own costs and key are, and a made one is not.
 pub mod RehashFacts
+-- Facts on costs as PHC parameters.
 pub mod PhcCostsFacts
+-- Facts on costs as they are read from PHC parameters: they have no length, and one reading alone.
 pub mod PhcReadingFacts
+-- Facts on PHC hashes of scrypt.
 pub mod PhcHashFacts
+-- Facts on five-letter numbers and on the costs with which a field begins.
 pub mod McfCostsFacts
+-- Facts on `$7$` hashes: a text says one hash or is refused, and says it as it was written.
 pub mod McfHashFacts
+-- A `$7$` text is refused for one thing.
 pub mod McfRefusalFacts
+-- The text that hashing writes is that of the hash.
 pub mod McfTextFacts

@@ -1,11 +1,22 @@
+-- Facts on lists of words.
 pub mod WordFacts
+-- Facts on a list that is cut into parts of s elements each.
 pub mod PartFacts
+-- Facts on words whose blocks are permuted.
 pub mod OrderFacts
+-- Facts on vectors of four lanes, and on a block in diagonal order as four of them.
 pub mod LaneFacts
+-- Facts on the Salsa20/8 core.
 pub mod SalsaFacts
+-- Facts on scryptBlockMix.
 pub mod BlockMixFacts
+-- Facts on the number that the last block's bytes write.
 pub mod IntegerifyFacts
+-- Facts on scryptROMix.
 pub mod RoMixFacts
+-- Facts on the walk over a table that keeps some rows, or all of them.
 pub mod WalkFacts
+-- Facts on HMAC and PBKDF2.
 pub mod Pbkdf2Facts
+-- The standards' own vectors, computed by the definitions, so that a wrong step or constant in a definition does not check.
 pub mod StandardFacts

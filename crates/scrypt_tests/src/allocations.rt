@@ -1,9 +1,9 @@
 // Each allocation of a call fails in turn, and the exact number of them is asserted.
 
 use crate::mcf_hashes;
-use crate::memory::{Ended, failing_allocations};
 use crate::texts::{changed, followed_by};
 use crate::vectors::{EMPTY_PASSWORD_HASH, LIBXCRYPT_HASH};
+use failing_allocations::{CallEnd, failing_allocations};
 use password_hash::mcf::{self, Base64};
 use password_hash::{Error, PasswordHasher, PasswordVerifier, phc};
 use scrypt::{CoreCount, DeriveError, Kdf, Params, Scrypt, kdf, scrypt, scrypt_counted};
@@ -18,11 +18,11 @@ fn ended<T, E: PartialEq + Drop>(
     answer: &Result<T, E>,
     out_of_memory: E,
     unchanged: bool,
-) -> Ended {
+) -> CallEnd {
     match answer {
-        Ok(_) => Ended::Done,
-        Err(refused) if unchanged && *refused == out_of_memory => Ended::OutOfMemory,
-        Err(_) => Ended::Otherwise,
+        Ok(_) => CallEnd::Done,
+        Err(refused) if unchanged && *refused == out_of_memory => CallEnd::OutOfMemory,
+        Err(_) => CallEnd::Otherwise,
     }
 }
 
@@ -172,13 +172,39 @@ fn fields_that_are_pushed(rt: HostRuntime) -> Result<(), Fail> {
         match mcf::PasswordHash::from_id(alloc, id.as_str()) {
             Ok(mut hash) => {
                 let pushed = hash.push_str(field.as_str());
-                ended(&pushed, memory, hash.as_str().len() == LETTERS)
+                ended(&pushed, memory, is_id_alone(&hash, id.as_str()))
             }
-            Err(_) => Ended::OutOfMemory,
+            Err(_) => CallEnd::OutOfMemory,
         }
     })?;
     assert_eq!(rt; push_str, 2);
     Ok(())
+}
+
+// As above; the letters of the bytes take an allocation of their own, before the text grows.
+#[test]
+fn bytes_that_are_pushed(rt: HostRuntime) -> Result<(), Fail> {
+    let alloc = rt.alloc();
+    let memory = mcf::Error::OutOfMemory;
+    let id = followed_by(alloc, "", 'a', LETTERS - 1)?;
+    let bytes = vec![in alloc; 0xffu8; 2 * BYTES]?;
+    let sizes = [LETTERS, 2 * LETTERS, 3 * LETTERS + 1];
+    let push_base64 = failing_allocations(alloc, &sizes, || {
+        match mcf::PasswordHash::from_id(alloc, id.as_str()) {
+            Ok(mut hash) => {
+                let pushed = hash.push_base64(&bytes, Base64::Crypt);
+                ended(&pushed, memory, is_id_alone(&hash, id.as_str()))
+            }
+            Err(_) => CallEnd::OutOfMemory,
+        }
+    })?;
+    assert_eq!(rt; push_base64, 3);
+    Ok(())
+}
+
+// Whether the text is `$` and this id.
+fn is_id_alone(hash: &mcf::PasswordHash, id: &str) -> bool {
+    hash.as_str().len() == LETTERS && hash.id() == id
 }
 
 // Whether the verdict is this one, although every allocation fails.
@@ -189,9 +215,9 @@ fn needs_no_memory(alloc: Global, text: &str, wanted: Result<(), Error>) -> Resu
             Err(_) => Err(Error::EncodingInvalid),
         };
         if verdict == wanted {
-            Ended::Done
+            CallEnd::Done
         } else {
-            Ended::Otherwise
+            CallEnd::Otherwise
         }
     })?;
     Ok(allocations == 0)
@@ -201,12 +227,25 @@ fn needs_no_memory(alloc: Global, text: &str, wanted: Result<(), Error>) -> Resu
 fn refusals_without_memory(rt: HostRuntime) -> Result<(), Fail> {
     let alloc = rt.alloc();
     for (old, new, reason, answer) in mcf_hashes::CHANGES {
-        if answer != Err(Error::PasswordInvalid) {
+        if is_refused_before_memory(answer) {
             let text = changed(alloc, LIBXCRYPT_HASH, old, new)?;
             assert!(rt; needs_no_memory(alloc, text.as_str(), answer)?, "{reason}");
         }
     }
+    for (text, reason, answer) in mcf_hashes::SHORT_TEXTS {
+        if is_refused_before_memory(answer) {
+            assert!(rt; needs_no_memory(alloc, text, answer)?, "{reason}");
+        }
+    }
     Ok(())
+}
+
+// Whether a verdict comes before any memory is taken.
+fn is_refused_before_memory(verdict: Result<(), Error>) -> bool {
+    match verdict {
+        Ok(()) | Err(Error::PasswordInvalid | Error::OutOfMemory) => false,
+        Err(_) => true,
+    }
 }
 
 // PHC texts that are refused before the key is derived.
@@ -228,9 +267,9 @@ fn phc_refusals_without_memory(rt: HostRuntime) -> Result<(), Fail> {
                 Err(refused) => Err(refused),
             };
             if verdict == Err(wanted) {
-                Ended::Done
+                CallEnd::Done
             } else {
-                Ended::Otherwise
+                CallEnd::Otherwise
             }
         })?;
         assert_eq!(rt; allocations, 0, "{text}");

@@ -21,8 +21,6 @@ mod mcf_costs;
 #[cfg(test)]
 mod mcf_hashes;
 #[cfg(test)]
-mod memory;
-#[cfg(test)]
 mod parameters;
 #[cfg(test)]
 mod phc_hashes;

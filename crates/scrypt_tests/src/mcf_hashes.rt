@@ -103,7 +103,7 @@ const CHANGES_OF_THE_EMPTY_PASSWORD: [(&str, &str, &str, Result<(), Error>); 2] 
 ];
 
 // Texts with a short key, each with its reason and the verdict on the empty password.
-const SHORT_TEXTS: [(&str, &str, Result<(), Error>); 12] = [
+pub const SHORT_TEXTS: [(&str, &str, Result<(), Error>); 12] = [
     ("$7$2/..../....$r/", "a key of one byte", Ok(())),
     (
         "$7$2/..../....$s/",

@@ -1,5 +1,6 @@
 // The whole program over readers and writers of its own.
 
+mod allocations;
 mod fault_lines;
 mod hashes;
 mod keys;
@@ -93,11 +94,16 @@ fn run_over<R: Read, W: Write, F: Write>(
     output: &mut W,
     faults: &mut F,
 ) -> Result<Ended, Fail> {
+    Ok(run(alloc, &words_of(alloc, line)?, reader, output, faults))
+}
+
+// The words of a line, between single blanks.
+fn words_of(alloc: Global, line: &str) -> Result<Vec<String>, Fail> {
     let mut words = Vec::new(alloc);
     for word in line.split(' ') {
         words.push(String::from_str(alloc, word)?)?;
     }
-    Ok(run(alloc, &words, reader, output, faults))
+    Ok(words)
 }
 
 const DONE: Ended = Ended {

@@ -1,4 +1,5 @@
-// Calls whose allocations fail in turn.
+//! For tests: calls whose allocations fail in turn.
+#![tactic(auto)]
 
 use std::alloc::{AllocError, Global};
 use std::test::Fail;
@@ -8,7 +9,7 @@ const BLOCKS: usize = 100_000;
 
 /// How a call ended whose allocations fail.
 #[derive(Clone, Copy, Debug, PartialEq, Eq)]
-pub enum Ended {
+pub enum CallEnd {
     Done,
     OutOfMemory,
     Otherwise,
@@ -44,7 +45,7 @@ fn take_all(alloc: Global) -> Result<Vec<Vec<u8>>, AllocError> {
 /// The number of allocations of a call, whose sizes these are: it ends out of memory if the process has
 /// room for fewer of them, and is done as soon as it has room for all. The room is made by holding
 /// every block that the process can have, but for the first ones of these sizes.
-pub fn failing_allocations<F: Fn() -> Ended>(
+pub fn failing_allocations<F: Fn() -> CallEnd>(
     alloc: Global,
     sizes: &[usize],
     call: F,
@@ -59,9 +60,9 @@ pub fn failing_allocations<F: Fn() -> Ended>(
         drop(rest);
         drop(room);
         match ended {
-            Ended::Done => return Ok(allowed),
-            Ended::OutOfMemory => {}
-            Ended::Otherwise => return Err("a failed allocation gave another answer".into()),
+            CallEnd::Done => return Ok(allowed),
+            CallEnd::OutOfMemory => {}
+            CallEnd::Otherwise => return Err("a failed allocation gave another answer".into()),
         }
     }
     Err("more allocations than sizes".into())

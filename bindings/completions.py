@@ -1,0 +1,128 @@
+#!/usr/bin/env python3
+"""Writes the program's completions for bash, zsh and fish, from its usage line alone.
+
+usage: completions.py PREFIX      writes them below PREFIX/share, where the shells look for them
+       completions.py --test      writes them to a folder of their own, and completes words by each shell that is here
+"""
+
+import os
+import re
+import shutil
+import subprocess
+import sys
+import tempfile
+
+SOURCE = os.path.join(os.path.dirname(os.path.abspath(__file__)), "../crates/scrypt_tool/src/fault.rt")
+
+BASH = """# Completes the words of scrypt_tool, which its usage line names.
+_scrypt_tool() {{
+  local word=${{COMP_WORDS[COMP_CWORD]}} choices=""
+  case $COMP_CWORD:${{COMP_WORDS[1]}} in
+    1:*) choices="{commands}" ;;
+{cases}
+  esac
+  COMPREPLY=($(compgen -W "$choices" -- "$word"))
+}}
+complete -F _scrypt_tool scrypt_tool
+"""
+
+ZSH = """#compdef scrypt_tool
+# Completes the words of scrypt_tool, which its usage line names.
+case $CURRENT:$words[2] in
+  2:*) compadd {commands} ;;
+{cases}
+esac
+"""
+
+FISH = """# Completes the words of scrypt_tool, which its usage line names.
+complete -c scrypt_tool -f
+complete -c scrypt_tool -f -n 'test (count (commandline -opc)) -eq 1' -a '{commands}'
+{cases}
+"""
+
+
+def commands():
+    """Of each command its words: each is a name of a value, or the choices that it has."""
+    with open(SOURCE, encoding="utf-8") as source:
+        line = re.search(r"usage: ([^\\\"]+)", source.read()).group(1)
+    return {name: words for name, *words in (it.split() for it in line.split(" | "))}
+
+
+def choices():
+    """The place of each word that is one of several, from 1 for the command: (command, place, choices)."""
+    for name, words in commands().items():
+        for place, word in enumerate(words, 2):
+            if word.islower():
+                yield name, place, word.split("|")
+
+
+def written(prefix):
+    """Writes the three files, and gives their paths."""
+    names = " ".join(commands())
+    bash = "\n".join(f'    {place}:{name}) choices="{" ".join(of)}" ;;' for name, place, of in choices())
+    zsh = "\n".join(f"  {place + 1}:{name}) compadd {' '.join(of)} ;;" for name, place, of in choices())
+    fish = "\n".join(
+        f"complete -c scrypt_tool -f -n 'test (count (commandline -opc)) -eq {place};"
+        f" and __fish_seen_subcommand_from {name}' -a '{' '.join(of)}'"
+        for name, place, of in choices()
+    )
+    paths = []
+    for place, text in [
+        ("bash-completion/completions/scrypt_tool", BASH.format(commands=names, cases=bash)),
+        ("zsh/site-functions/_scrypt_tool", ZSH.format(commands=names, cases=zsh)),
+        ("fish/vendor_completions.d/scrypt_tool.fish", FISH.format(commands=names, cases=fish)),
+    ]:
+        path = os.path.join(prefix, "share", place)
+        os.makedirs(os.path.dirname(path), exist_ok=True)
+        with open(path, "w", encoding="utf-8") as file:
+            file.write(text)
+        paths.append(path)
+    return paths
+
+
+# what stands before the cursor, and the words that are offered
+LINES = [
+    ("scrypt_tool ", {"hash", "key", "rehash", "verify"}),
+    ("scrypt_tool ha", {"hash"}),
+    ("scrypt_tool hash ", {"mcf", "phc"}),
+    ("scrypt_tool rehash p", {"phc"}),
+    ("scrypt_tool key ", set()),
+]
+
+
+def by_bash(path, line):
+    words = line.split(" ")
+    script = f'. "{path}"; COMP_WORDS=("$@"); COMP_CWORD=$(($# - 1)); _scrypt_tool; printf "%s\\n" "${{COMPREPLY[@]}}"'
+    return subprocess.run(["bash", "-c", script, "bash", *words], capture_output=True, text=True).stdout
+
+
+def by_fish(path, line):
+    script = f'source "{path}"; complete -C "{line}"'
+    return subprocess.run(["fish", "--no-config", "-c", script], capture_output=True, text=True).stdout
+
+
+def test():
+    """Whether each shell that is here offers those words."""
+    failed = 0
+    with tempfile.TemporaryDirectory() as prefix:
+        bash, zsh, fish = written(prefix)
+        for shell, path, offers in [("bash", bash, by_bash), ("fish", fish, by_fish)]:
+            if not shutil.which(shell):
+                print(f"{shell} is not installed: its completions were not tried")
+                continue
+            for line, wanted in LINES:
+                offered = set(offers(path, line).split())
+                failed += offered != wanted
+                print(f"{shell}: {line!r} offers {sorted(offered)}{'' if offered == wanted else ', WRONG'}")
+        if shutil.which("zsh"):
+            failed += subprocess.run(["zsh", "-n", zsh]).returncode != 0
+            print("zsh reads its completions")
+        else:
+            print("zsh is not installed: its completions were not read")
+    sys.exit(1 if failed else 0)
+
+
+if __name__ == "__main__":
+    if sys.argv[1] == "--test":
+        test()
+    written(sys.argv[1])
