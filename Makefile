@@ -9,7 +9,8 @@
 #   make oracle compares the program with independent implementations on random input, and with a
 #               reader in plain Python on hostile hashes, and refuses each of its allocations
 #   make lib    builds the libraries for C into build/lib, and make install PREFIX=.. puts them in place
-#   make callers calls them from each language of bindings/ that is installed here
+#   make callers calls them from each language of bindings/ that is installed here, and from programs that
+#               know the names of libsodium and libscrypt-kdf
 #   make bench  measures the library and the program against other implementations on this machine.
 #               Other programs join by WORKERS="--worker NAME=PATH ..", as bench/bench.py describes,
 #               and WORKERS="--callgrind" counts instructions
@@ -48,18 +49,18 @@ oracle: kit
 lib: kit
 	bindings/lib.sh
 
-install: lib
+install: kit
 	@test -n "$(PREFIX)" || { echo "Say where to: make install PREFIX=.." >&2; exit 1; }
+	bindings/lib.sh
 	cd crates/scrypt_tool && rt run -- key 0 1 1 1 "" > /dev/null < /dev/null
 	bindings/install.sh "$(PREFIX)"
 
 callers: lib
 	bindings/callers.sh
 
-bench: kit
-	cd crates/scrypt_c && rt lib > /dev/null
+bench: lib
 	cd crates/scrypt_tool && rt run -- key 0 1 1 1 "" > /dev/null < /dev/null
-	python3 bench/bench.py crates/scrypt_c/out/libscrypt_c.a crates/scrypt_tool/out/scrypt_tool \
+	python3 bench/bench.py build/lib/libscrypt_c.so crates/scrypt_tool/out/scrypt_tool \
 	  --picture docs/speed.svg $(WORKERS)
 
 thin: lib

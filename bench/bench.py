@@ -1,14 +1,15 @@
 #!/usr/bin/env python3
 """Compares this library and its program with other implementations of scrypt on this machine.
 
-usage: bench.py ARCHIVE PROGRAM [--worker NAME=PATH].. [--runs 15] [--cpu N] [--costs 14,8,1:17,8,1]
+usage: bench.py LIBRARY PROGRAM [--worker NAME=PATH].. [--runs 15] [--cpu N] [--costs 14,8,1:17,8,1]
                 [--picture FILE] [--callgrind]
 
-All libraries are called in one process: this one as libscrypt_c.a (ARCHIVE), which cc links into a
-shared library, libxcrypt, libsodium, libscrypt-kdf, and hashlib, which is OpenSSL's. What isn't
-installed is named and left out. Each round calls every one of them once, in a new random order, on
-one processor (--cpu, the last if not given); the least and the median of the rounds are printed as
-tables in Markdown. An implementation that is refused, or whose key isn't OpenSSL's, has no figure.
+All libraries are called in one process: this one (LIBRARY, which is libscrypt_c.so) by scrypt_kdf, and by
+scrypt_kdf_mapped under the name "mapped"; libxcrypt, libsodium, libscrypt-kdf, and hashlib, which is
+OpenSSL's. What isn't installed is named and left out. Each round calls every one of them once, in a new
+random order, on one processor (--cpu, the last if not given); the least and the median of the rounds are
+printed as tables in Markdown. An implementation that is refused, or whose key isn't OpenSSL's, has no
+figure.
 
 Each call takes its table and gives it back, so the pages of memory that it touches for the first
 time are part of its time. Everything is measured twice, the second time with
@@ -32,13 +33,11 @@ import json
 import os
 import subprocess
 import sys
-import tempfile
 
 import instructions
 import picture
 import program
 import tables
-from libraries import shared
 
 COSTS = "10,8,16:14,8,1:17,8,1:20,8,1:14,32,1"
 GROWTH = ":".join(f"{log_n},8,1" for log_n in (10, 12, 14, 15, 16, 17, 18, 20))
@@ -78,7 +77,7 @@ def compare(library, args):
 
 def arguments():
     parser = argparse.ArgumentParser(usage=__doc__.split("usage: ")[1])
-    parser.add_argument("archive")
+    parser.add_argument("library")
     parser.add_argument("program")
     parser.add_argument("--worker", action="append", default=[])
     parser.add_argument("--runs", type=int, default=15)
@@ -92,13 +91,12 @@ def arguments():
 def main():
     args = arguments()
     os.sched_setaffinity(0, {args.cpu})
-    with tempfile.TemporaryDirectory() as folder:
-        library = shared(args.archive, folder)
-        if args.callgrind:
-            instructions.show(lambda costs: command(library, 1, costs, []), args.worker)
-            return
-        print(tables.machine(args), flush=True)
-        compare(library, args)
+    library = os.path.abspath(args.library)
+    if args.callgrind:
+        instructions.show(lambda costs: command(library, 1, costs, []), args.worker)
+        return
+    print(tables.machine(args), flush=True)
+    compare(library, args)
     program.show(args.program, args.costs.split(":"), args.runs)
 
 

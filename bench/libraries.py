@@ -4,7 +4,6 @@ import ctypes
 import ctypes.util
 import hashlib
 import os
-import subprocess
 import sys
 import time
 
@@ -13,7 +12,7 @@ from worker import Refused
 sys.path.insert(0, os.path.join(os.path.dirname(os.path.abspath(__file__)), "..", "ci"))
 import crypt64
 
-OURS, OPENSSL = "this library", "OpenSSL"
+OURS, MAPPED, OPENSSL = "this library", "mapped", "OpenSSL"
 
 SIZE, WORD, DATA = ctypes.c_size_t, ctypes.c_uint32, ctypes.c_char_p
 
@@ -34,16 +33,6 @@ class InProcess:
         return time.perf_counter_ns() - start, key
 
 
-def shared(archive, folder):
-    """The static library as a shared one in `folder`, linked by cc with the kit's allocator."""
-    made = os.path.join(folder, "libscrypt_bench.so")
-    page = subprocess.check_output(["rt", "doc"], text=True).strip()
-    allocator = os.path.join(os.path.dirname(page), "c", "liblibc_c.a")
-    whole = ["-Wl,--whole-archive", archive, "-Wl,--no-whole-archive", allocator]
-    subprocess.run([os.environ.get("CC", "cc"), "-shared", "-o", made, *whole], check=True)
-    return made
-
-
 def filled(length, name, call):
     """The bytes that `call` writes to a buffer of this length."""
     key = ctypes.create_string_buffer(length)
@@ -54,15 +43,19 @@ def filled(length, name, call):
 
 
 def ours(path):
-    """The library of this repository."""
-    derive = ctypes.CDLL(path).scrypt_kdf
-    derive.argtypes = [DATA, SIZE, DATA, SIZE, ctypes.c_uint8, WORD, WORD, DATA, SIZE]
+    """The library of this repository: the call that allocates, and the one that maps memory with huge pages."""
+    library = ctypes.CDLL(path)
 
-    def call(password, salt, log_n, r, p, length):
-        texts = password, len(password), salt, len(salt)
-        return filled(length, OURS, lambda key: derive(*texts, log_n, r, p, key, length))
+    def implementation(name, derive):
+        derive.argtypes = [DATA, SIZE, DATA, SIZE, ctypes.c_uint8, WORD, WORD, DATA, SIZE]
 
-    return InProcess(OURS, call)
+        def call(password, salt, log_n, r, p, length):
+            texts = password, len(password), salt, len(salt)
+            return filled(length, name, lambda key: derive(*texts, log_n, r, p, key, length))
+
+        return InProcess(name, call)
+
+    return [implementation(OURS, library.scrypt_kdf), implementation(MAPPED, library.scrypt_kdf_mapped)]
 
 
 def openssl():

@@ -69,7 +69,7 @@ def reference(calls):
 def everything(library, workers):
     """This library, the workers, and what is installed here."""
     named = [worker.split("=", 1) for worker in workers]
-    return [ours(library), *[Worker(*one) for one in named], *libraries(), openssl()]
+    return [*ours(library), *[Worker(*one) for one in named], *libraries(), openssl()]
 
 
 def costs_of(text):

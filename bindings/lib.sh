@@ -20,8 +20,10 @@ done
 # One object, of which the documented names alone are seen from outside.
 ld -r -o "$parts/all.o" "$parts"/*/*.o
 objcopy --keep-global-symbols=bindings/c/symbols "$parts/all.o" "$parts/scrypt_c.o"
-ar rcs "$out/libscrypt_c.a" "$parts/scrypt_c.o"
-$CC -shared -Wl,-soname,libscrypt_c.so -o "$out/libscrypt_c.so" "$parts/scrypt_c.o"
+# The one call that is written in C and not proved.
+$CC -std=c99 -O2 -Wall -Wextra -pedantic -fPIC -Ibindings/c -c -o "$parts/mapped.o" bindings/c/mapped.c
+ar rcs "$out/libscrypt_c.a" "$parts/scrypt_c.o" "$parts/mapped.o"
+$CC -shared -Wl,-soname,libscrypt_c.so -o "$out/libscrypt_c.so" "$parts/scrypt_c.o" "$parts/mapped.o"
 cp bindings/c/scrypt_c.h "$out/"
 # The names of other libraries, in a library of their own.
 $CC -O2 -Wall -Wextra -fPIC -shared -fvisibility=hidden -Wl,--exclude-libs,ALL -Ibindings/c \

@@ -1,4 +1,4 @@
-/* scrypt (RFC 7914) and its password hashes, by a library whose calls are proved.
+/* scrypt (RFC 7914) and its password hashes, by a library whose calls are proved, but for scrypt_kdf_mapped.
  *
  * Sizes are in bytes unless words are named; a word has 4 bytes. A pointer whose length is 0 is not
  * read, but must not be NULL: the helpers at the end take NULL with length 0. No output overlaps an
@@ -60,6 +60,13 @@ int scrypt_kdf_thin(const uint8_t *password, size_t password_len, const uint8_t 
                     size_t salt_len, uint8_t log_n, uint32_t r, uint32_t p, uint8_t s,
                     uint8_t *output, size_t output_len, uint8_t *chunks, size_t chunks_len,
                     uint32_t *table, size_t table_len, uint32_t *scratch, size_t scratch_len);
+
+/* The same key as scrypt_kdf's, in memory that is mapped for this call alone, with huge pages if the system has
+ * them: faster than scrypt_kdf where the table is large. Not proved: written in C, it maps the buffers, calls
+ * scrypt_kdf_with_buffers and unmaps them. A password or a salt of length 0 may be NULL.
+ * INVALID_PARAMS, INVALID_OUTPUT_LEN, and OUT_OF_MEMORY if the memory cannot be mapped. */
+int scrypt_kdf_mapped(const uint8_t *password, size_t password_len, const uint8_t *salt, size_t salt_len,
+                      uint8_t log_n, uint32_t r, uint32_t p, uint8_t *output, size_t output_len);
 
 /* Room that is enough for each PHC text, and for each $7$ text of a salt of so many bytes. */
 #define SCRYPT_PHC_CAPACITY 256

@@ -1,4 +1,5 @@
-/* Calls the library from C and from C++: RFC 7914's keys, both formats, and every refusal. */
+/* Calls the library from C and from C++: RFC 7914's keys, both formats, and every refusal. With the word small it
+ * leaves out the key of 1 GiB. */
 #include "scrypt_c.h"
 
 #include <stdio.h>
@@ -87,11 +88,11 @@ static void keys_in_lent_memory(size_t i, uint8_t s) {
   free(scratch);
 }
 
-static void keys(void) {
-  size_t i;
+static void keys(int small) {
+  size_t i, count = sizeof VECTORS / sizeof VECTORS[0] - (small ? 1 : 0);
   uint8_t key[64];
   char hex[129];
-  for (i = 0; i < sizeof VECTORS / sizeof VECTORS[0]; i++) {
+  for (i = 0; i < count; i++) {
     check(scrypt_derive(VECTORS[i].password, strlen(VECTORS[i].password), VECTORS[i].salt,
                         strlen(VECTORS[i].salt), VECTORS[i].log_n, VECTORS[i].r, VECTORS[i].p, key, 64) ==
               SCRYPT_DONE, "derive");
@@ -101,6 +102,9 @@ static void keys(void) {
   check(scrypt_derive(NULL, 0, NULL, 0, 4, 1, 1, key, 64) == SCRYPT_DONE, "NULL with length 0");
   hex_of(key, 64, hex);
   check(strcmp(hex, VECTORS[0].key) == 0, "key of NULL with length 0");
+  check(scrypt_kdf_mapped(b("pleaseletmein"), 13, b("SodiumChloride"), 14, 14, 8, 1, key, 64) == SCRYPT_DONE, "mapped");
+  hex_of(key, 64, hex);
+  check(strcmp(hex, VECTORS[2].key) == 0, "key in mapped memory");
   for (i = 0; i < 3; i++) keys_in_lent_memory(0, (uint8_t)i);
   keys_in_lent_memory(1, 0);
   keys_in_lent_memory(2, 3);
@@ -189,9 +193,9 @@ static void refusals_of_texts(void) {
   check(verify("", "$scrypt$ln=56,r=1,p=1$c2FsdHNhbHQ$AAAAAAAAAAAAAAAAAAAA") == SCRYPT_OUT_OF_MEMORY, "memory");
 }
 
-int main(void) {
+int main(int argc, char **argv) {
   int status;
-  keys();
+  keys(argc > 1 && strcmp(argv[1], "small") == 0);
   refusals_of_keys();
   hashes();
   refusals_of_texts();

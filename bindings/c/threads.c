@@ -1,5 +1,5 @@
 /* Calls the library from four threads at once, which it has no state for: each derives a key of RFC 7914, in
- * memory of the library and in memory of its own, and makes and verifies hashes. */
+ * memory of the library and in memory of its own, another key in mapped memory, and makes and verifies hashes. */
 #include "scrypt_c.h"
 
 #include <pthread.h>
@@ -10,7 +10,7 @@ static const uint8_t BEGINNING[4] = {0xfd, 0xba, 0xbe, 0x1c};
 
 /* Answers NULL where all is well. */
 static void *work(void *none) {
-  uint8_t key[64];
+  uint8_t key[64], other[64];
   char phc[SCRYPT_PHC_CAPACITY], mcf[SCRYPT_MCF_CAPACITY(4)];
   size_t chunks_len, table_len, scratch_len;
   uint8_t *chunks;
@@ -33,6 +33,10 @@ static void *work(void *none) {
     free(table);
     free(scratch);
     if (status != SCRYPT_DONE || memcmp(key, BEGINNING, 4) != 0) return wrong;
+    if (scrypt_derive("pw", 2, "salt", 4, 11, 8, 1, key, 64) != SCRYPT_DONE) return wrong;
+    if (scrypt_kdf_mapped((const uint8_t *)"pw", 2, (const uint8_t *)"salt", 4, 11, 8, 1, other, 64) != SCRYPT_DONE)
+      return wrong;
+    if (memcmp(key, other, 64) != 0) return wrong;
     if (scrypt_hash_phc_z("pw", 2, "salt", 4, 8, 8, 1, 32, phc, sizeof phc) != SCRYPT_DONE) return wrong;
     if (scrypt_hash_mcf_z("pw", 2, "salt", 4, 8, 8, 1, 32, mcf, sizeof mcf) != SCRYPT_DONE) return wrong;
     if (scrypt_verify((const uint8_t *)"pw", 2, phc, strlen(phc)) != SCRYPT_DONE) return wrong;

@@ -4,22 +4,24 @@
 #include "scrypt_c.h"
 
 #include <errno.h>
+#include <stdlib.h>
 #include <string.h>
 #include <sys/random.h>
 
 #define API __attribute__((visibility("default")))
 
-enum { SALT_LEN = 32, KEY_LEN = 32, TEXT_LEN = 101, LEAST_OUTPUT = 16 };
+enum { SALT_LEN = 32, KEY_LEN = 32, TEXT_LEN = 101, KEY_AT = 58, LEAST_OUTPUT = 16, MOST_LOG_N = 31 };
+
+#define MOST_OUTPUT 137438953440u
 
 static int refused(int why) {
   errno = why;
   return -1;
 }
 
-/* The logarithm of a power of two, or 255 for any other number. */
+/* The logarithm of a power of two. */
 static uint8_t log_of(uint64_t n) {
   uint8_t log_n = 0;
-  if (n == 0 || (n & (n - 1)) != 0) return 255;
   while (n > 1) {
     n >>= 1;
     log_n++;
@@ -27,31 +29,51 @@ static uint8_t log_of(uint64_t n) {
   return log_n;
 }
 
-static int derived(int status) {
-  switch (status) {
-    case SCRYPT_DONE: return 0;
-    case SCRYPT_OUT_OF_MEMORY: return refused(ENOMEM);
-    default: return refused(EINVAL);
-  }
+static int overlap(const uint8_t *a, size_t a_len, const uint8_t *b, size_t b_len) {
+  return a_len > 0 && b_len > 0 && (uintptr_t)a < (uintptr_t)b + b_len && (uintptr_t)b < (uintptr_t)a + a_len;
 }
 
-static int derive(const uint8_t *password, size_t password_len, const uint8_t *salt, size_t salt_len,
-                  uint64_t n, uint32_t r, uint32_t p, uint8_t *output, size_t output_len) {
-  if ((uint64_t)r * p >= (uint64_t)1 << 30) return refused(EFBIG);
+/* The key where the numbers are within the limits of these libraries, which take an output of 0 bytes, and one that
+ * overlaps the password or the salt. */
+static int derive_key(const uint8_t *password, size_t password_len, const uint8_t *salt, size_t salt_len,
+                      uint8_t log_n, uint32_t r, uint32_t p, uint8_t *output, size_t output_len) {
+  uint8_t one_byte;
+  int status;
+  if (overlap(password, password_len, output, output_len) || overlap(salt, salt_len, output, output_len)) {
+    uint8_t *apart = malloc(output_len);
+    if (apart == NULL) return SCRYPT_OUT_OF_MEMORY;
+    status = scrypt_kdf_mapped(password, password_len, salt, salt_len, log_n, r, p, apart, output_len);
+    if (status == SCRYPT_DONE) memcpy(output, apart, output_len);
+    explicit_bzero(apart, output_len);
+    free(apart);
+    return status;
+  }
+  if (output_len == 0) return scrypt_kdf_mapped(password, password_len, salt, salt_len, log_n, r, p, &one_byte, 1);
+  return scrypt_kdf_mapped(password, password_len, salt, salt_len, log_n, r, p, output, output_len);
+}
+
+static int derive(const uint8_t *password, size_t password_len, const uint8_t *salt, size_t salt_len, uint64_t n,
+                  uint64_t most_n, uint32_t r, uint32_t p, uint8_t *output, size_t output_len) {
+  if (output_len > MOST_OUTPUT || (uint64_t)r * p >= (uint64_t)1 << 30) return refused(EFBIG);
+  if (r == 0 || p == 0) return refused(EINVAL);
+  if (n > most_n) return refused(EFBIG);
   if (n < 2 || (n & (n - 1)) != 0) return refused(EINVAL);
-  return derived(scrypt_derive(password, password_len, salt, salt_len, log_of(n), r, p, output, output_len));
+  /* What is refused now is a table that no memory holds. */
+  if (derive_key(password, password_len, salt, salt_len, log_of(n), r, p, output, output_len) != SCRYPT_DONE)
+    return refused(ENOMEM);
+  return 0;
 }
 
 /* Of libscrypt-kdf. */
 API int crypto_scrypt(const uint8_t *password, size_t password_len, const uint8_t *salt, size_t salt_len,
                       uint64_t n, uint32_t r, uint32_t p, uint8_t *output, size_t output_len) {
-  return derive(password, password_len, salt, salt_len, n, r, p, output, output_len);
+  return derive(password, password_len, salt, salt_len, n, UINT64_MAX, r, p, output, output_len);
 }
 
 /* Of libscrypt. */
 API int libscrypt_scrypt(const uint8_t *password, size_t password_len, const uint8_t *salt, size_t salt_len,
                          uint64_t n, uint32_t r, uint32_t p, uint8_t *output, size_t output_len) {
-  return derive(password, password_len, salt, salt_len, n, r, p, output, output_len);
+  return derive(password, password_len, salt, salt_len, n, UINT64_MAX, r, p, output, output_len);
 }
 
 /* The rest is of libsodium. */
@@ -76,7 +98,7 @@ static void choose(unsigned long long work, size_t memory, uint8_t *log_n, uint3
 API int crypto_pwhash_scryptsalsa208sha256_ll(const uint8_t *password, size_t password_len, const uint8_t *salt,
                                               size_t salt_len, uint64_t n, uint32_t r, uint32_t p,
                                               uint8_t *output, size_t output_len) {
-  return derive(password, password_len, salt, salt_len, n, r, p, output, output_len);
+  return derive(password, password_len, salt, salt_len, n, UINT32_MAX, r, p, output, output_len);
 }
 
 API int crypto_pwhash_scryptsalsa208sha256(unsigned char *output, unsigned long long output_len,
@@ -84,38 +106,52 @@ API int crypto_pwhash_scryptsalsa208sha256(unsigned char *output, unsigned long 
                                            const unsigned char *salt, unsigned long long work, size_t memory) {
   uint8_t log_n;
   uint32_t r, p;
+  if (output_len > MOST_OUTPUT) return refused(EFBIG);
   memset(output, 0, (size_t)output_len);
-  if (output_len > 0x1fffffffe0ULL) return refused(EFBIG);
   if (output_len < LEAST_OUTPUT || (const void *)output == (const void *)password) return refused(EINVAL);
   choose(work, memory, &log_n, &r, &p);
-  return derived(scrypt_derive(password, (size_t)password_len, salt, SALT_LEN, log_n, r, p, output,
-                               (size_t)output_len));
+  return derive((const uint8_t *)password, (size_t)password_len, salt, SALT_LEN, (uint64_t)1 << log_n, UINT32_MAX, r,
+                p, output, (size_t)output_len);
+}
+
+/* The letters of $7$ texts, each with the value of its place. */
+static const char LETTERS[] = "./0123456789ABCDEFGHIJKLMNOPQRSTUVWXYZabcdefghijklmnopqrstuvwxyz";
+
+static void put_letters(char *to, int count, uint32_t number) {
+  int i;
+  for (i = 0; i < count; i++) to[i] = LETTERS[number >> (6 * i) & 63];
+}
+
+/* The text has the length of those of .._str, and eleven letters for its costs. */
+static int has_costs(const char *text) {
+  return strnlen(text, TEXT_LEN + 1) == TEXT_LEN && strncmp(text, "$7$", 3) == 0 && strspn(text + 3, LETTERS) >= 11;
 }
 
 API int crypto_pwhash_scryptsalsa208sha256_str(char text[TEXT_LEN + 1], const char *password,
                                                unsigned long long password_len, unsigned long long work,
                                                size_t memory) {
   uint8_t log_n, salt[SALT_LEN];
+  char made[TEXT_LEN + 1];
   uint32_t r, p;
   memset(text, 0, TEXT_LEN + 1);
   choose(work, memory, &log_n, &r, &p);
+  if (log_n > MOST_LOG_N) return refused(EINVAL);
   if (getrandom(salt, sizeof salt, 0) != (ssize_t)sizeof salt) return refused(EIO);
-  return derived(scrypt_hash_mcf_z(password, (size_t)password_len, salt, sizeof salt, log_n, r, p, KEY_LEN, text,
-                                   TEXT_LEN + 1));
+  if (scrypt_hash_mcf_z(password, (size_t)password_len, salt, sizeof salt, log_n, r, p, KEY_LEN, made, sizeof made) !=
+      SCRYPT_DONE)
+    return refused(EINVAL); /* for want of memory too, as libsodium does */
+  memcpy(text, made, sizeof made);
+  return 0;
 }
 
 API int crypto_pwhash_scryptsalsa208sha256_str_verify(const char text[TEXT_LEN + 1], const char *password,
                                                       unsigned long long password_len) {
-  if (strnlen(text, TEXT_LEN + 1) != TEXT_LEN || strncmp(text, "$7$", 3) != 0) return -1;
+  ptrdiff_t log_n;
+  if (!has_costs(text) || text[KEY_AT - 1] != '$') return -1;
+  log_n = strchr(LETTERS, text[3]) - LETTERS;
+  if (log_n == 0 || log_n > MOST_LOG_N) return -1;
   if (scrypt_verify(scrypt_bytes(password), (size_t)password_len, text, TEXT_LEN) != SCRYPT_DONE) return -1;
   return 0;
-}
-
-/* The letters of a number, the lowest first. */
-static void put_letters(char *to, int count, uint32_t number) {
-  static const char letters[] = "./0123456789ABCDEFGHIJKLMNOPQRSTUVWXYZabcdefghijklmnopqrstuvwxyz";
-  int i;
-  for (i = 0; i < count; i++) to[i] = letters[number >> (6 * i) & 63];
 }
 
 /* Whether the costs of the text are others than these limits ask for, greater ones too. */
@@ -124,7 +160,7 @@ API int crypto_pwhash_scryptsalsa208sha256_str_needs_rehash(const char text[TEXT
   char costs[14] = {'$', '7', '$'};
   uint8_t log_n;
   uint32_t r, p;
-  if (strnlen(text, TEXT_LEN + 1) != TEXT_LEN || strncmp(text, "$7$", 3) != 0) return refused(EINVAL);
+  if (!has_costs(text)) return refused(EINVAL);
   choose(work, memory, &log_n, &r, &p);
   put_letters(costs + 3, 1, log_n);
   put_letters(costs + 4, 5, r);

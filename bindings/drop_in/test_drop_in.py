@@ -1,69 +1,211 @@
-"""Compares the drop-in names of the library that is given with hashlib, and with libsodium where it is here."""
+"""Compares the drop-in names of the library that is given with hashlib, and with the libraries whose names they are,
+where those are here. The answers in the tables are theirs.
+"""
 
 import ctypes
 import ctypes.util
+import errno
 import hashlib
+import random
 import sys
 
-ours = ctypes.CDLL(sys.argv[1], use_errno=True)
-name = ctypes.util.find_library("sodium")
-theirs = ctypes.CDLL(name, use_errno=True) if name else None
-PWHASH = "crypto_pwhash_scryptsalsa208sha256"
 P, Z, U64, U32 = ctypes.c_char_p, ctypes.c_size_t, ctypes.c_uint64, ctypes.c_uint32
-BY_COSTS = [P, Z, P, Z, U64, U32, U32, P, Z]
-LIMITS = [(0, 1 << 24), (32768, 1 << 16), (524288, 1 << 24), (1 << 20, 1 << 22), (1 << 21, 1 << 26), (1 << 20, 0)]
+PWHASH = "crypto_pwhash_scryptsalsa208sha256"
+LETTERS = "./0123456789ABCDEFGHIJKLMNOPQRSTUVWXYZabcdefghijklmnopqrstuvwxyz"
+MANY = 1 << 32
+
+
+def loaded(name):
+    path = ctypes.util.find_library(name)
+    return ctypes.CDLL(path, use_errno=True) if path else None
+
+
+ours = ctypes.CDLL(sys.argv[1], use_errno=True)
+sodium = loaded("sodium")
+BY_COSTS = {"crypto_scrypt": loaded("scrypt-kdf"), "libscrypt_scrypt": loaded("scrypt"), PWHASH + "_ll": sodium}
 
 
 def call(library, name, types, *args):
+    """The answer, and the name of the error, if it is -1."""
     function = getattr(library, name)
     function.argtypes = types
-    return function(*args)
+    ctypes.set_errno(0)
+    answer = function(*args)
+    return answer if answer != -1 else errno.errorcode.get(ctypes.get_errno(), "")
+
+
+def both(theirs):
+    return [it for it in (ours, theirs) if it]
+
+
+# Why, n, r, p, the length of the output, and the answer; libsodium's, where it is another.
+REFUSED = [
+    ("no row", 0, 1, 1, 8, "EINVAL"),
+    ("one row", 1, 1, 1, 8, "EINVAL"),
+    ("no power of two", 3, 1, 1, 8, "EINVAL"),
+    ("r of 0", 16, 0, 1, 8, "EINVAL"),
+    ("p of 0", 16, 1, 0, 8, "EINVAL"),
+    ("r of 0 beside a great n", MANY << 8, 0, 1, 8, "EINVAL"),
+    ("r * p of 2^30", 16, 1 << 15, 1 << 15, 8, "EFBIG"),
+    ("r * p of 2^62", 16, 1 << 31, 1 << 31, 8, "EFBIG"),
+    ("r * p of 2^30 and no power of two", 3, 1 << 15, 1 << 15, 8, "EFBIG"),
+    ("an output of 2^37 bytes", 16, 1, 1, 1 << 37, "EFBIG"),
+    ("a table of 2^60 bytes", MANY << 18, 8, 1, 8, "ENOMEM", "EFBIG"),
+    ("a table of 2^64 bytes", MANY << 25, 1, 1, 8, "ENOMEM", "EFBIG"),
+    ("2^63 rows", 1 << 63, 1, 1, 8, "ENOMEM", "EFBIG"),
+    ("nearly 2^63 rows", (1 << 63) - 1, 1, 1, 8, "EINVAL", "EFBIG"),
+    ("no output, and no power of two", 3, 1, 1, 0, "EINVAL"),
+    ("no output", 16, 1, 1, 0, 0),
+]
 
 
 def by_costs(library, name, password, salt, n, r, p, length):
-    out = ctypes.create_string_buffer(length)
-    answer = call(library, name, BY_COSTS, password, len(password), salt, len(salt), n, r, p, out, length)
-    return answer, out.raw
+    out = ctypes.create_string_buffer(b"\7" * max(64, length if length < 1 << 20 else 0))
+    types = [P, Z, P, Z, U64, U32, U32, P, Z]
+    answer = call(library, name, types, password, len(password), salt, len(salt), n, r, p, out, length)
+    return answer, out.raw[:-1]
 
 
-for name in ("crypto_scrypt", "libscrypt_scrypt", PWHASH + "_ll"):
-    for password, salt, n, r, p, length in [(b"pw", b"salt", 16, 1, 1, 64), (b"", b"", 1024, 8, 3, 20)]:
-        key = hashlib.scrypt(password, salt=salt, n=n, r=r, p=p, dklen=length)
-        assert by_costs(ours, name, password, salt, n, r, p, length) == (0, key), name
-    for n, r, p in [(0, 1, 1), (1, 1, 1), (3, 1, 1), (16, 0, 1), (16, 1, 0), (16, 1 << 15, 1 << 15)]:
-        assert by_costs(ours, name, b"", b"", n, r, p, 8)[0] == -1, (name, n, r, p)
+def keys():
+    for name, theirs in BY_COSTS.items():
+        for library in both(theirs):
+            for password, salt, n, r, p, length in [(b"pw", b"salt", 16, 1, 1, 64), (b"", b"", 1024, 8, 3, 20)]:
+                key = hashlib.scrypt(password, salt=salt, n=n, r=r, p=p, dklen=length)
+                answer = by_costs(library, name, password, salt, n, r, p, length)
+                assert answer == (0, key + b"\7" * (64 - length)), name
+            for why, n, r, p, length, *wanted in REFUSED:
+                wanted = wanted[-1 if name.startswith(PWHASH) else 0]
+                assert by_costs(library, name, b"", b"", n, r, p, length) == (wanted, b"\7" * 64), (name, why)
 
 
-def by_limits(library, work, memory, length=40):
-    out = ctypes.create_string_buffer(length)
-    types = [P, U64, P, U64, P, U64, Z]
-    return call(library, PWHASH, types, out, length, b"pw", 2, b"s" * 32, work, memory), out.raw
+def overlapping():
+    """An output that begins in the password, in the salt, or in neither."""
+    for name, theirs in BY_COSTS.items():
+        for library in both(theirs):
+            for place in (0, 3, 8, 15, 16):
+                room = ctypes.create_string_buffer(bytes(range(48)), 48)
+                at = ctypes.addressof(room)
+                key = hashlib.scrypt(bytes(range(8)), salt=bytes(range(8, 16)), n=16, r=1, p=1, dklen=32)
+                types = [ctypes.c_void_p, Z, ctypes.c_void_p, Z, U64, U32, U32, ctypes.c_void_p, Z]
+                assert call(library, name, types, at, 8, at + 8, 8, 16, 1, 1, at + place, 32) == 0
+                assert room.raw[place : place + 32] == key, (name, place)
 
 
-def made(library, work, memory):
-    text = ctypes.create_string_buffer(102)
-    assert call(library, PWHASH + "_str", [P, P, U64, U64, Z], text, b"pw", 2, work, memory) == 0
-    return text.value
+def chosen(work, memory):
+    """log_n and p for libsodium's limits, with r of 8, as its documentation and its answers have them."""
+    work = max(work, 32768)
+    few = work < memory // 32
+    most = work // 32 if few else memory // 1024
+    log_n = next((it for it in range(1, 63) if 1 << it > most // 2), 63)
+    return log_n, 1 if few else min(work // 4 >> log_n, 0x3FFFFFFF) // 8
+
+
+def five(number):
+    return "".join(LETTERS[number >> 6 * it & 63] for it in range(5))
+
+
+def letters(data):
+    text = ""
+    for at in range(0, len(data), 3):
+        group = int.from_bytes(data[at : at + 3], "little")
+        text += "".join(LETTERS[group >> 6 * it & 63] for it in range(len(data[at : at + 3]) + 1))
+    return text
+
+
+def text_of(log_n, r, p, salt=b"s" * 43, key_len=32, password=b"pw"):
+    key = hashlib.scrypt(password, salt=salt, n=1 << log_n, r=r, p=p, dklen=key_len) if log_n < 16 else b"k" * key_len
+    return f"$7${LETTERS[log_n]}{five(r)}{five(p)}".encode() + salt + b"$" + letters(key).encode()
 
 
 def verified(library, text, password):
-    return call(library, PWHASH + "_str_verify", [P, P, U64], text, password, len(password))
+    return call(library, PWHASH + "_str_verify", [P, P, U64], text, password, len(password)) == 0
 
 
 def rehashed(library, text, work, memory):
     return call(library, PWHASH + "_str_needs_rehash", [P, U64, Z], text, work, memory)
 
 
-for work, memory in LIMITS[:5]:
-    text = made(ours, work, memory)
-    assert len(text) == 101 and verified(ours, text, b"pw") == 0 and verified(ours, text, b"PW") == -1
-    if theirs:
-        assert by_limits(ours, work, memory) == by_limits(theirs, work, memory), (work, memory)
-        assert verified(theirs, text, b"pw") == 0 and verified(theirs, text, b"PW") == -1
-        text = made(theirs, work, memory)
-        assert verified(ours, text, b"pw") == 0 and verified(ours, text, b"PW") == -1
-        for work, memory in LIMITS:
-            assert rehashed(ours, text, work, memory) == rehashed(theirs, text, work, memory), (work, memory)
-for text in (b"", b"$7$", b"$scrypt$" + b"a" * 93):
-    assert verified(ours, text, b"") == -1 and rehashed(ours, text, 0, 0) == -1
-print("drop-in names: as hashlib" + (" and as libsodium" if theirs else "; libsodium is not installed"))
+def choices():
+    """What is chosen for limits of each size."""
+    drawn = random.Random(7914)
+    for _ in range(3000):
+        work, memory = drawn.getrandbits(drawn.randint(0, 64)), drawn.getrandbits(drawn.randint(0, 64))
+        log_n, p = chosen(work, memory)
+        for library in both(sodium):
+            front = f"$7${LETTERS[log_n]}{five(8)}{five(p)}"
+            assert rehashed(library, front.ljust(101, "s").encode(), work, memory) == 0, (work, memory)
+            for other in (f"$7${LETTERS[log_n - 1]}{five(8)}{five(p)}", f"$7${LETTERS[log_n]}{five(8)}{five(p + 1)}"):
+                assert rehashed(library, other.ljust(101, "s").encode(), work, memory) == 1, (work, memory)
+
+
+def by_limits(library, work, memory, length=40):
+    out = ctypes.create_string_buffer(b"\7" * length, length)
+    types = [P, U64, P, U64, P, U64, Z]
+    return call(library, PWHASH, types, out, length, b"pw", 2, b"s" * 32, work, memory), out.raw
+
+
+def limits():
+    for work, memory in [(0, 1 << 24), (32768, 1 << 16), (524288, 1 << 24), (1 << 20, 1 << 22), (1 << 21, 1 << 26)]:
+        log_n, p = chosen(work, memory)
+        key = hashlib.scrypt(b"pw", salt=b"s" * 32, n=1 << log_n, r=8, p=p, dklen=40, maxmem=1 << 30)
+        for library in both(sodium):
+            assert by_limits(library, work, memory) == (0, key), (work, memory)
+            text = ctypes.create_string_buffer(b"\7" * 102, 102)
+            assert call(library, PWHASH + "_str", [P, P, U64, U64, Z], text, b"pw", 2, work, memory) == 0
+            assert len(text.value) == 101 and text.value[:14] == text_of(log_n, 8, p)[:14], (work, memory)
+            for other in both(sodium):
+                assert verified(other, text.value, b"pw") and not verified(other, text.value, b"PW")
+    for library in both(sodium):
+        assert by_limits(library, 0, 1 << 20, 16)[0] == 0
+        assert by_limits(library, 0, 1 << 20, 15) == ("EINVAL", b"\0" * 15), "15 bytes; the output is cleared"
+        assert by_limits(library, MANY << 20, MANY << 20) == ("EFBIG", b"\0" * 40), "too many rows"
+        text = ctypes.create_string_buffer(b"\7" * 102, 102)
+        answer = call(library, PWHASH + "_str", [P, P, U64, U64, Z], text, b"pw", 2, MANY << 20, MANY << 20)
+        assert (answer, text.raw) == ("EINVAL", b"\0" * 102), "too many rows; the text is cleared"
+    # libsodium 1.0.18 clears the password with the output, and takes what is left for the password.
+    same = ctypes.create_string_buffer(b"p" * 16, 16)
+    assert call(ours, PWHASH, [P, U64, P, U64, P, U64, Z], same, 16, same, 16, b"s" * 32, 0, 0) == "EINVAL"
+
+
+GOOD = text_of(10, 8, 1)
+# Why, the text, whether it verifies, and what the check whether it needs a new hash answers for (32768, 2^20).
+TEXTS = [
+    ("a text of libsodium's", GOOD, True, 0),
+    ("other costs", text_of(9, 3, 5), True, 1),
+    ("an empty text", b"", False, "EINVAL"),
+    ("a byte too few", GOOD[:-1], False, "EINVAL"),
+    ("a byte too many", GOOD + b".", False, "EINVAL"),
+    ("another scheme", b"$8$" + GOOD[3:], False, "EINVAL"),
+    ("log_n is no letter", GOOD[:3] + b"!" + GOOD[4:], False, "EINVAL"),
+    ("a letter of r is none", GOOD[:6] + b"!" + GOOD[7:], False, "EINVAL"),
+    ("a letter of p is none", GOOD[:13] + b"$" + GOOD[14:], False, "EINVAL"),
+    ("a letter of the key is none", GOOD[:-1] + b"!", False, 0),
+    ("another key", GOOD[:-2] + b".." if GOOD[-2:] != b".." else GOOD[:-2] + b"//", False, 0),
+    ("N of 1", b"$7$." + GOOD[4:], False, 1),
+    ("N of 2^32", b"$7$U" + GOOD[4:], False, 1),
+    ("r of 0", GOOD[:4] + five(0).encode() + GOOD[9:], False, 1),
+    ("a longer key and a shorter salt", text_of(10, 8, 1, b"s" * 42, 33), False, 0),
+    ("a shorter key and a longer salt", text_of(10, 8, 1, b"s" * 44, 31), False, 0),
+    ("no dollar", GOOD.replace(b"s$", b"ss"), False, 0),
+]
+
+
+def texts():
+    for why, text, verdict, needed in TEXTS:
+        for library in both(sodium):
+            assert verified(library, text, b"pw") == verdict, why
+            assert rehashed(library, text, 32768, 1 << 20) == needed, why
+    # Salts that libsodium takes and never makes: its own are letters alone.
+    for why, salt in [("a dollar", b"s" * 20 + b"$" + b"s" * 22), ("not ASCII", b"\xff" * 43)]:
+        assert not verified(ours, text_of(10, 8, 1, salt), b"pw"), why
+        assert not sodium or verified(sodium, text_of(10, 8, 1, salt), b"pw"), why
+
+
+for test in (keys, overlapping, choices, limits, texts):
+    test()
+for name, theirs, package in [
+    (PWHASH, sodium, "libsodium23"),
+    ("crypto_scrypt", BY_COSTS["crypto_scrypt"], "libscrypt-kdf1"),
+    ("libscrypt_scrypt", BY_COSTS["libscrypt_scrypt"], "libscrypt0"),
+]:
+    print(f"{name}: as hashlib" + (", and as its own library" if theirs else f"; {package} is not installed"))

@@ -18,7 +18,7 @@ _lib = ctypes.CDLL(os.environ.get("SCRYPT_C_LIBRARY", "libscrypt_c.so"))
 _bytes = [ctypes.c_char_p, ctypes.c_size_t]
 _costs = [ctypes.c_uint8, ctypes.c_uint32, ctypes.c_uint32]
 _made = [ctypes.c_size_t, ctypes.c_char_p, ctypes.c_size_t, ctypes.POINTER(ctypes.c_size_t)]
-_lib.scrypt_kdf.argtypes = [*_bytes, *_bytes, *_costs, *_bytes]
+_lib.scrypt_kdf_mapped.argtypes = [*_bytes, *_bytes, *_costs, *_bytes]
 _lib.scrypt_hash_phc.argtypes = [*_bytes, *_bytes, *_costs, *_made]
 _lib.scrypt_hash_mcf.argtypes = [*_bytes, *_bytes, *_costs, *_made]
 _lib.scrypt_verify.argtypes = [*_bytes, *_bytes]
@@ -72,7 +72,7 @@ def scrypt(password: bytes, *, salt: bytes, n: int, r: int, p: int, dklen: int =
         raise Refused("InvalidOutputLen")
     password, salt = bytes(password), bytes(salt)
     key = ctypes.create_string_buffer(dklen)
-    _done(_lib.scrypt_kdf(password, len(password), salt, len(salt), *costs, key, dklen))
+    _done(_lib.scrypt_kdf_mapped(password, len(password), salt, len(salt), *costs, key, dklen))
     return key.raw
 
 

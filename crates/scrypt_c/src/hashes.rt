@@ -1,11 +1,12 @@
 //! Hashes: making their texts, and verifying passwords by them.
 
-ghost use Rattle.std.specs.Prelude.{◌≡◌, ◌≢◌, ◌⊎◌, ◌↔◌, pos, length};
+ghost use Rattle.std.specs.Prelude.{◌≡◌, ◌≢◌, ◌⊎◌, ◌↔◌, Option, pos, length};
+ghost use Rattle.password_hash.specs.Refusal.{Refusal};
 ghost use Rattle.scrypt.specs.Accepted.{AreAccepted, IsStoredLen};
 ghost use Rattle.scrypt.specs.PhcHash.{IsSaltLen};
 ghost use Rattle.scrypt_c.specs.Made.{IsPut, IsTooLong, MadeMcfText, MadePhcText, wanted};
-ghost use Rattle.scrypt_c.specs.Statuses.{rehash_status, verified_status};
-ghost use Rattle.scrypt_c.specs.Texts.{RehashTells, VerifyTells};
+ghost use Rattle.scrypt_c.specs.Statuses.{rehash_status, verdict_status, verified_status};
+ghost use Rattle.scrypt_c.specs.Texts.{IsWholeText, RehashTells, Verdict, VerifyTells};
 
 use crate::statuses::{
     BUFFER_SIZE, DONE, ENCODING_INVALID, INVALID_PARAMS, NO, OUT_OF_MEMORY, SALT_INVALID, status_of,
@@ -111,6 +112,8 @@ pub extern "C" fn scrypt_hash_mcf(
 #[tactic(auto, using(crate::proofs::TextFacts::no_hash_verified, crate::proofs::TextFacts::mcf_verified, crate::proofs::TextFacts::phc_verified))]
 pub extern "C" fn scrypt_verify(alloc: Global, password: &[u8], text: &[u8]) -> i32
     ensures told { VerifyTells password.now text.now result }
+    ensures exact { (verdict : Option Refusal) → Verdict password.now text.now verdict
+        → (result ≡ verdict_status verdict) ⊎ ((result ≡ OUT_OF_MEMORY) × IsWholeText text.now) }
 {
     let verifier = Scrypt::new();
     match read(text) {

@@ -1,0 +1,3 @@
+module nilomafy/scrypt
+
+go 1.19
