@@ -2,3 +2,4 @@
 #![tactic(auto)]
 
 pub mod key_file;
+pub mod login;

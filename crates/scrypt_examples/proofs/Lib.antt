@@ -1,0 +1,2 @@
+-- Facts on logging in.
+pub mod LoginFacts

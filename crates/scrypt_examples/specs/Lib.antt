@@ -1,0 +1,4 @@
+-- PHC texts, by the hashes that are read from them
+pub mod PhcText
+-- enrolling and logging in
+pub mod Login

@@ -1,0 +1,106 @@
+//! Logins: users are enrolled, let in by their passwords, and their hashes made anew when they have become weak.
+
+ghost use Rattle.std.specs.Prelude.{◌≡◌, ◌⊎◌, ◌↔◌, None, IsOk, IsSome, IsTrue, IfErr, IfOk, IfSome, length, string_bytes};
+ghost use Rattle.password_hash.specs.Refusal.{refusal};
+ghost use Rattle.password_hash.specs.declared.error.Error.TheVariants.{OutOfMemory};
+ghost use Rattle.scrypt.specs.Accepted.{AreAccepted};
+ghost use Rattle.scrypt.specs.PhcHash.{IsSaltLen};
+ghost use Rattle.scrypt_examples.specs.PhcText.{AcceptsText, IsRefusedText, IsWeakerText};
+ghost use Rattle.scrypt_examples.specs.Login.{AreWanted, IsEnrolled, lets_in, new_text};
+
+use password_hash::{Error, PasswordHasher, PasswordVerifier, RehashCheck, Result};
+use scrypt::laws::{made_hashes_are_accepted, rehashing_converges, texts_have_one_reading};
+use scrypt::phc::PasswordHash;
+use scrypt::{InvalidParams, Params, Scrypt};
+use std::alloc::Global;
+
+/// What a login comes to.
+#[derive(Drop)]
+pub enum Login {
+    /// The password is not that of the stored text.
+    Refused,
+    /// The password is that of the stored text.
+    In,
+    /// The password is that of the stored text, which is weak: this text is to be stored in its place.
+    InWithNewText(String),
+}
+
+/// Enrolls users and logs them in, with the parameters that are wanted by now.
+#[derive(Clone, Copy)]
+pub struct Logins {
+    wanted: Scrypt,
+    pub ghost are_wanted: { AreWanted wanted },
+}
+
+impl Logins {
+    /// Logins that want these parameters.
+    ///
+    /// Returns `InvalidParams` if they are not accepted.
+    pub fn new(log_n: u8, r: u32, p: u32) -> std::result::Result<Logins, InvalidParams>
+        ensures accepted { IsOk result ↔ AreAccepted log_n r p }
+        ensures value { IfOk result (λ logins.
+            logins.wanted ≡ record { log_n = log_n; r = r; p = p; output_len = None }) }
+    {
+        let wanted = Scrypt::new_with_params(Params::new(log_n, r, p)?);
+        Ok(Logins { wanted })
+    }
+
+    /// The text to store for a new user. The salt is drawn at random.
+    ///
+    /// Returns `OutOfMemory` if an allocation fails.
+    pub fn enroll(&self, alloc: Global, password: &[u8], salt: [u8; 16]) -> Result<String>
+        ensures enrolled { IfOk result (λ text.
+            IsEnrolled self.now.wanted password.now salt (string_bytes text)) }
+        ensures err { IfErr result (λ e. e ≡ OutOfMemory) }
+    {
+        self.text_of(alloc, password, &salt)
+    }
+
+    // The text of the hash of a password and a salt.
+    fn text_of(&self, alloc: Global, password: &[u8], salt: &[u8]) -> Result<String>
+        requires { IsSaltLen (length salt.now) }
+        ensures enrolled { IfOk result (λ text.
+            IsEnrolled self.now.wanted password.now salt.now (string_bytes text)) }
+        ensures err { IfErr result (λ e. e ≡ OutOfMemory) }
+    {
+        made_hashes_are_accepted();
+        texts_have_one_reading();
+        rehashing_converges();
+        let hash: PasswordHash = self.wanted.hash_password_with_salt(alloc, password, salt)?;
+        Ok(hash.to_string(alloc)?)
+    }
+
+    /// Logs a user in by the stored text. The salt is drawn at random, for a new text.
+    ///
+    /// Returns what reading the text refuses, and `OutOfMemory` if an allocation fails.
+    pub fn log_in(
+        &self,
+        alloc: Global,
+        stored: &str,
+        password: &[u8],
+        salt: [u8; 16],
+    ) -> Result<Login>
+        ensures accepted { IfOk result (λ login. IsTrue (lets_in login) ↔ AcceptsText password.now stored.now) }
+        ensures weaker { IfOk result (λ login. IsSome (new_text login)
+            ↔ (AcceptsText password.now stored.now × IsWeakerText self.now.wanted stored.now)) }
+        ensures enrolled { IfOk result (λ login.
+            IfSome (new_text login) (IsEnrolled self.now.wanted password.now salt)) }
+        ensures err { IfErr result (λ e. (e ≡ OutOfMemory) ⊎ IsRefusedText stored.now (refusal e)) }
+    {
+        rehashing_converges();
+        let hash = PasswordHash::new(stored)?;
+        if let Err(error) = self.wanted.verify_password(alloc, password, &hash) {
+            return match error {
+                Error::PasswordInvalid => Ok(Login::Refused),
+                _ => Err(error),
+            };
+        }
+        if !self.wanted.needs_rehash(&hash)? {
+            return Ok(Login::In);
+        }
+        Ok(Login::InWithNewText(self.enroll(alloc, password, salt)?))
+    }
+}
+
+#[cfg(test)]
+mod tests;

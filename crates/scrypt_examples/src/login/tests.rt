@@ -1,0 +1,138 @@
+// Logins by texts that hashlib's keys were put into, as passlib writes them.
+
+use super::{Login, Logins};
+use password_hash::Error;
+use scrypt::InvalidParams;
+use std::test::Fail;
+
+// Of the password `correct horse` and the salt 0, 1 .. 15, at (4, 1, 1); the last has a key of 16 bytes.
+const STORED: &str =
+    "$scrypt$ln=4,r=1,p=1$AAECAwQFBgcICQoLDA0ODw$GImgYqZBp+6CyTBan5R5E2D0OV9K8vsB41xdKb8+3xQ";
+
+const SHORT_KEY: &str = "$scrypt$ln=4,r=1,p=1$AAECAwQFBgcICQoLDA0ODw$GImgYqZBp+6CyTBan5R5Ew";
+
+// Of the same password and the salt below, at (4, 1, 1), (5, 1, 1) and (4, 2, 1).
+const NEW: &str =
+    "$scrypt$ln=4,r=1,p=1$ZGVmZ2hpamtsbW5vcHFycw$jdoIFJE+GqhpKAqcYiumVC2C9bccDCDeW4O74ncue24";
+
+const NEW_5_1_1: &str =
+    "$scrypt$ln=5,r=1,p=1$ZGVmZ2hpamtsbW5vcHFycw$OromUfMnCoS41U/suYVBCxLjKKTLt7+RjC+5dPPs2qA";
+
+const NEW_4_2_1: &str =
+    "$scrypt$ln=4,r=2,p=1$ZGVmZ2hpamtsbW5vcHFycw$tM3GexLBEWeDNxpmDma+YC4NrAW8j/3qplZu3clgWPY";
+
+const SALT: &[u8; 16] = b"defghijklmnopqrs";
+
+#[test]
+fn enrolled_user(rt: HostRuntime) -> Result<(), Fail> {
+    let logins = Logins::new(4, 1, 1)?;
+    let text = logins.enroll(rt.alloc(), b"correct horse", *SALT)?;
+    assert_eq!(rt; text.as_str(), NEW);
+    Ok(())
+}
+
+#[test]
+fn logins(rt: HostRuntime) -> Result<(), Fail> {
+    let alloc = rt.alloc();
+    for (stored, password, log_n, r, is_in, new, reason) in [
+        (STORED, "correct horse", 4, 1, true, None, "as wanted"),
+        (
+            STORED,
+            "correct horse",
+            3,
+            1,
+            true,
+            None,
+            "stronger than wanted",
+        ),
+        (
+            STORED,
+            "correct horse",
+            5,
+            1,
+            true,
+            Some(NEW_5_1_1),
+            "log_n is below",
+        ),
+        (
+            STORED,
+            "correct horse",
+            4,
+            2,
+            true,
+            Some(NEW_4_2_1),
+            "r is below",
+        ),
+        (
+            SHORT_KEY,
+            "correct horse",
+            4,
+            1,
+            true,
+            Some(NEW),
+            "the key is short",
+        ),
+        (STORED, "wrong horse", 4, 1, false, None, "another password"),
+        (
+            STORED,
+            "wrong horse",
+            5,
+            1,
+            false,
+            None,
+            "another password, and weak",
+        ),
+        (STORED, "", 4, 1, false, None, "no password"),
+        (
+            "$scrypt$ln=4,r=1,p=1$AAECAwQFBgcICQoLDA0ODw",
+            "",
+            4,
+            1,
+            false,
+            None,
+            "there is no key",
+        ),
+    ] {
+        let login = Logins::new(log_n, r, 1)?.log_in(alloc, stored, password.as_bytes(), *SALT)?;
+        assert_eq!(rt; !matches!(login, Login::Refused), is_in, "{reason}");
+        let text = match &login {
+            Login::InWithNewText(text) => Some(text.as_str()),
+            _ => None,
+        };
+        assert_eq!(rt; text, new, "{reason}");
+    }
+    Ok(())
+}
+
+#[test]
+fn texts_that_are_refused(rt: HostRuntime) -> Result<(), Fail> {
+    for (stored, refused, reason) in [
+        ("", Error::EncodingInvalid, "no text"),
+        ("$7$2/..../....", Error::EncodingInvalid, "a `$7$` text"),
+        ("$argon2id$ln=4$aA", Error::Algorithm, "another algorithm"),
+        (
+            "$scrypt$v=1$ln=4$aA$AAAAAAAAAAAAAA",
+            Error::Version,
+            "a version",
+        ),
+        (
+            "$scrypt$ln=x$aA$AAAAAAAAAAAAAA",
+            Error::ParamInvalid { name: "ln" },
+            "no decimal",
+        ),
+        (
+            "$scrypt$ln=56,r=1,p=1$aA$AAAAAAAAAAAAAA",
+            Error::OutOfMemory,
+            "a table that no machine has",
+        ),
+    ] {
+        let login = Logins::new(4, 1, 1)?.log_in(rt.alloc(), stored, b"", *SALT);
+        assert!(rt; login.err() == Some(refused), "{reason}");
+    }
+    Ok(())
+}
+
+#[test]
+fn parameters_that_are_refused(rt: HostRuntime) {
+    assert_eq!(rt; Logins::new(4, 0, 1).err(), Some(InvalidParams));
+}
