@@ -1,2 +1,1 @@
--- Facts on logging in.
-pub mod LoginFacts
+pub mod RefusalFacts

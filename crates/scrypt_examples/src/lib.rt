@@ -1,5 +1,9 @@
 //! Examples of the library: what README shows, with contracts as users of the library would write them.
+//! They are proved from the library's public clauses, its laws among them.
 #![tactic(auto)]
 
+pub mod hash;
 pub mod key_file;
 pub mod login;
+#[cfg(test)]
+mod vectors;

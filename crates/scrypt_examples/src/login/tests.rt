@@ -1,32 +1,15 @@
-// Logins by texts that hashlib's keys were put into, as passlib writes them.
+// Logins by stored texts.
 
 use super::{Login, Logins};
+use crate::vectors::{NEW, NEW_4_2_1, NEW_5_1_1, SALT, SHORT_KEY, STORED};
 use password_hash::Error;
 use scrypt::InvalidParams;
 use std::test::Fail;
 
-// Of the password `correct horse` and the salt 0, 1 .. 15, at (4, 1, 1); the last has a key of 16 bytes.
-const STORED: &str =
-    "$scrypt$ln=4,r=1,p=1$AAECAwQFBgcICQoLDA0ODw$GImgYqZBp+6CyTBan5R5E2D0OV9K8vsB41xdKb8+3xQ";
-
-const SHORT_KEY: &str = "$scrypt$ln=4,r=1,p=1$AAECAwQFBgcICQoLDA0ODw$GImgYqZBp+6CyTBan5R5Ew";
-
-// Of the same password and the salt below, at (4, 1, 1), (5, 1, 1) and (4, 2, 1).
-const NEW: &str =
-    "$scrypt$ln=4,r=1,p=1$ZGVmZ2hpamtsbW5vcHFycw$jdoIFJE+GqhpKAqcYiumVC2C9bccDCDeW4O74ncue24";
-
-const NEW_5_1_1: &str =
-    "$scrypt$ln=5,r=1,p=1$ZGVmZ2hpamtsbW5vcHFycw$OromUfMnCoS41U/suYVBCxLjKKTLt7+RjC+5dPPs2qA";
-
-const NEW_4_2_1: &str =
-    "$scrypt$ln=4,r=2,p=1$ZGVmZ2hpamtsbW5vcHFycw$tM3GexLBEWeDNxpmDma+YC4NrAW8j/3qplZu3clgWPY";
-
-const SALT: &[u8; 16] = b"defghijklmnopqrs";
-
 #[test]
 fn enrolled_user(rt: HostRuntime) -> Result<(), Fail> {
     let logins = Logins::new(4, 1, 1)?;
-    let text = logins.enroll(rt.alloc(), b"correct horse", *SALT)?;
+    let text = logins.enroll(rt.alloc(), b"correct horse", SALT)?;
     assert_eq!(rt; text.as_str(), NEW);
     Ok(())
 }
@@ -93,7 +76,7 @@ fn logins(rt: HostRuntime) -> Result<(), Fail> {
             "there is no key",
         ),
     ] {
-        let login = Logins::new(log_n, r, 1)?.log_in(alloc, stored, password.as_bytes(), *SALT)?;
+        let login = Logins::new(log_n, r, 1)?.log_in(alloc, stored, password.as_bytes(), SALT)?;
         assert_eq!(rt; !matches!(login, Login::Refused), is_in, "{reason}");
         let text = match &login {
             Login::InWithNewText(text) => Some(text.as_str()),
@@ -126,7 +109,7 @@ fn texts_that_are_refused(rt: HostRuntime) -> Result<(), Fail> {
             "a table that no machine has",
         ),
     ] {
-        let login = Logins::new(4, 1, 1)?.log_in(rt.alloc(), stored, b"", *SALT);
+        let login = Logins::new(4, 1, 1)?.log_in(rt.alloc(), stored, b"", SALT);
         assert!(rt; login.err() == Some(refused), "{reason}");
     }
     Ok(())

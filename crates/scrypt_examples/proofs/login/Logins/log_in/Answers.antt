@@ -1,6 +1,6 @@
 use Rattle.std.proofs.Common.{inr}
 use Rattle.std.proofs.lemmas.Result.{err_from_is_err_and}
-use Rattle.scrypt_examples.proofs.LoginFacts.{refused_error}
+use Rattle.scrypt_examples.proofs.RefusalFacts.{other_error}
 use Rattle.scrypt_examples.specs.PhcText.{no_hash}
 use Rattle.scrypt_examples.proofs.login.Logins.log_in.Goals as goal
 
@@ -11,7 +11,7 @@ returns-in_err-hash-clause-err c =
 
 pub returns-in_default-error-clause-err : goal.returns-in_default-error-clause-err
 returns-in_default-error-clause-err c =
-    refused_error _ _ _ _ c.in_ok-hash.ensures.ok c.in-Err.ensures.err c.in_default-error.not-PasswordInvalid
+    other_error _ _ _ _ c.in_ok-hash.ensures.ok c.in-Err.ensures.err c.in_default-error.not-PasswordInvalid
 
 pub returns-in_err-needs_rehash-clause-err : goal.returns-in_err-needs_rehash-clause-err
 returns-in_err-needs_rehash-clause-err c =

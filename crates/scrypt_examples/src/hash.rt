@@ -1,0 +1,35 @@
+//! A hash of a password: its text is made, and verified later.
+
+ghost use Rattle.std.specs.Prelude.{◌≡◌, ◌⊎◌, IfErr, IfOk, OnOk, string_bytes};
+ghost use Rattle.password_hash.specs.Refusal.{refusal};
+ghost use Rattle.password_hash.specs.declared.error.Error.TheVariants.{OutOfMemory, PasswordInvalid};
+ghost use Rattle.scrypt.specs.Accepted.{recommended_parameters};
+ghost use Rattle.scrypt_examples.specs.PhcText.{AcceptsText, IsMadeText, IsRefusedText};
+
+use password_hash::{PasswordHasher, PasswordVerifier, Result};
+use scrypt::Scrypt;
+use scrypt::phc::PasswordHash;
+use std::alloc::Global;
+
+/// The text to store: `$scrypt$ln=17,r=8,p=1$..`. The salt is drawn at random.
+pub fn stored_text(alloc: Global, password: &[u8], salt: [u8; 16]) -> Result<String>
+    ensures made { IfOk result (λ text.
+        IsMadeText recommended_parameters password.now salt (string_bytes text)) }
+    ensures err { IfErr result (λ e. e ≡ OutOfMemory) }
+{
+    let hash: PasswordHash = Scrypt::new().hash_password(alloc, password, salt)?;
+    Ok(hash.to_string(alloc)?)
+}
+
+/// Ok if the password is that of the stored text, and `PasswordInvalid` if it is not.
+pub fn verify(alloc: Global, stored: &str, password: &[u8]) -> Result<()>
+    ensures accepted { OnOk result (AcceptsText password.now stored.now) }
+    ensures wrong { IfErr result (λ e. e ≡ PasswordInvalid → ¬ AcceptsText password.now stored.now) }
+    ensures err { IfErr result (λ e. (e ≡ OutOfMemory) ⊎ (e ≡ PasswordInvalid) ⊎ IsRefusedText stored.now (refusal e)) }
+{
+    let hash = PasswordHash::new(stored)?;
+    Scrypt::new().verify_password(alloc, password, &hash)
+}
+
+#[cfg(test)]
+mod tests;
