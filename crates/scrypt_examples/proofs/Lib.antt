@@ -1,1 +1,2 @@
 pub mod RefusalFacts
+pub mod EitherFacts

@@ -2,3 +2,5 @@
 pub mod PhcText
 -- enrolling and logging in
 pub mod Login
+-- texts of either format
+pub mod EitherText
