@@ -1,7 +1,7 @@
 # On a machine with the Rattle kit, two commands do everything:
 #   make run    proves and builds the program, and prints the first key of RFC 7914, section 12
-#   make test   is the whole gate: the names in the documents, what must not compile, every proof from
-#               nothing, the edits that the prover must refuse, every test and every program
+#   make test   is the whole gate: the names and the examples in the documents, what must not compile, every
+#               proof from nothing, the edits that the prover must refuse, every test and every program
 # And besides the gate:
 #   make wrong-bodies tries the rest of the edits that the prover must refuse
 #   make refused-by-tests tries wrong bodies that no clause can refuse, and that the tests have to (minutes for each)
@@ -26,6 +26,8 @@ test: kit
 	python3 ci/test_docs.py
 	python3 ci/docs.py
 	python3 ci/data_path.py
+	python3 ci/test_examples.py
+	python3 ci/examples.py
 	python3 ci/must_not_compile.py
 	rt ci
 
