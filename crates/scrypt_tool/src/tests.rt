@@ -19,7 +19,7 @@ const FIRST_KEY: &str =
     "77d6576238657b203b19ca42c18a0497f16b4844e3074ae8dfdffa3fede21442fcd0069ded0948f8326a753a0fc81f17e8d3e0fb2e0d3628cf35e20c38d18906\n";
 
 const USAGE: &str =
-    "usage: key LOG_N R P LEN SALT_HEX | hash phc|mcf LOG_N R P SALT_HEX [LEN] | verify HASH\n";
+    "usage: key LOG_N R P LEN SALT_HEX | hash phc|mcf LOG_N R P SALT_HEX [LEN] | verify HASH | rehash phc|mcf LOG_N R P LEN SALT_HEX HASH\n";
 
 // A command line, its status on the password `password`, and the line that it writes. The key is that of
 // Python's hashlib, and the `$7$` text is libxcrypt's.
