@@ -188,6 +188,77 @@ def crypt_hashes(program, rng):
     return tally("hashes of crypt(3)", agree)
 
 
+def mcf_text(password, salt, log_n, r, p, length):
+    """The text of a `$7$` hash. The salt of its key is the salt's letters."""
+    letters = crypt64.letters(salt)
+    key = expected_key(password, letters.encode(), log_n, r, p, length)
+    return crypt64.costs(log_n, r, p) + letters + "$" + crypt64.letters(key)
+
+
+def hash_of(form, password, salt, costs):
+    """The text of a hash with log_n, r, p and the length of the key, in the format of that name."""
+    if form == "mcf":
+        return mcf_text(password, salt, *costs)
+    return phc_text(salt, expected_key(password, salt, *costs), *costs[:3])
+
+
+def some_costs(rng):
+    """log_n, r, p and the length of a key, so few of each that two are often equal."""
+    return rng.randrange(3, 6), rng.randrange(1, 4), rng.randrange(1, 4), rng.choice((16, 31, 32, 33))
+
+
+def rehashes(program, rng):
+    """The command `rehash` on random pairs of stored and wanted costs, by the definition in plain Python."""
+    agree = []
+    for _ in range(300):
+        stored, wanted = some_costs(rng), some_costs(rng)
+        has, form = rng.choice(("phc", "mcf")), rng.choice(("phc", "mcf"))
+        password, salt = some_bytes(rng, 40), some_bytes(rng, 20)
+        text = hash_of(has, password, some_bytes(rng, 20) + b"!", stored)
+        weaker, right = reference.is_weaker(stored, wanted), rng.randrange(5) > 0
+        if not right:
+            answer = 1, b"no\n", b""
+        elif not weaker:
+            answer = 0, b"ok\n", b""
+        elif form == "phc" and not salt:
+            answer = 2, b"", b"hash refused: SaltInvalid\n"
+        else:
+            answer = 0, hash_of(form, password, salt, wanted).encode() + b"\n", b""
+        words = ["rehash", form, *map(str, wanted), salt.hex(), text]
+        got = run(program, words, password if right else password + b"x")
+        agree.append(matches(got, answer, (words, password.hex())))
+    return tally("rehashes by the definition in plain Python", agree)
+
+
+def rehashes_passlib(program, rng):
+    """passlib tells the same hashes to be weaker, and makes the same new ones.
+
+    The two agree on log_n, and on keys of 32 bytes, the only ones that passlib has. An r or p that isn't the wanted
+    one is enough for passlib, and here it has to be below. So where none of the three is below, and r or p is above,
+    passlib makes a hash anew that is kept here.
+    """
+    try:
+        from passlib.hash import scrypt
+    except ImportError:
+        return skipped("passlib")
+    agree = []
+    for _ in range(100):
+        (*stored, _), (*wanted, _) = some_costs(rng), some_costs(rng)
+        password, salt = some_bytes(rng, 40), some_bytes(rng, 20) + b"!"
+        costs = dict(rounds=stored[0], block_size=stored[1], parallelism=stored[2])
+        text = scrypt.using(salt=b"stored", **costs).hash(password)
+        wants = dict(block_size=wanted[1], parallelism=wanted[2])
+        handler = scrypt.using(salt=salt, min_rounds=wanted[0], default_rounds=wanted[0], **wants)
+        kept_here = not reference.is_weaker(stored, wanted)
+        above = kept_here and stored[1:] != wanted[1:]
+        agree.append(handler.needs_update(text) == (above or not kept_here))
+        answer = "ok" if kept_here else handler.hash(password)
+        words = ["rehash", "phc", *map(str, wanted), "32", salt.hex(), text]
+        agree.append(matches(run(program, words, password), (0, answer.encode() + b"\n", b""), words))
+        agree.append(kept_here or not handler.needs_update(answer))
+    return tally("rehashes of passlib", agree)
+
+
 def hash_lengths(program, rng):
     """Hashes of both formats hold the key of each length, as hashlib derives it."""
     agree = []
@@ -195,11 +266,8 @@ def hash_lengths(program, rng):
         password, salt = some_bytes(rng, 40), rng.randbytes(rng.randrange(1, 40))
         log_n, r, p = rng.randrange(1, 9), rng.choice((1, 2, 8)), rng.randrange(1, 4)
         words = [str(log_n), str(r), str(p), salt.hex(), str(length)]
-        phc = phc_text(salt, expected_key(password, salt, log_n, r, p, length), log_n, r, p)
-        letters = crypt64.letters(salt)
-        key = expected_key(password, letters.encode(), log_n, r, p, length)
-        mcf = crypt64.costs(log_n, r, p) + letters + "$" + crypt64.letters(key)
-        for form, text in (("phc", phc), ("mcf", mcf)):
+        for form in ("phc", "mcf"):
+            text = hash_of(form, password, salt, (log_n, r, p, length))
             agree.append(run(program, ["hash", form, *words], password)[1] == text.encode() + b"\n")
             agree.append(verified(program, text, password))
     return tally("hashes with keys of 10 to 64 bytes", agree)
@@ -241,6 +309,7 @@ STREAM_COMMANDS = [
     ["hash", "mcf", "4", "1", "1", ""],
     ["verify", phc_text(b"\0", reference.scrypt(b"", b"\0", 4, 1, 1, 32), 4, 1, 1)],
     ["verify", "$7$2/..../....$rNxJWVHNv/mCNcgE/f6/L4zO6Fos5c2uTzhyzoisI62"],
+    ["rehash", "phc", "5", "1", "1", "32", "00", "$7$2/..../....$rNxJWVHNv/mCNcgE/f6/L4zO6Fos5c2uTzhyzoisI62"],
 ]
 
 # a stream that fails, as the shell opens it, the fault line, and why it is here
@@ -296,6 +365,8 @@ PARTS = [
     crypt_letters_passlib,
     crypt_hashes,
     hash_lengths,
+    rehashes,
+    rehashes_passlib,
     mkpasswd_hashes,
     sodium_hashes,
 ]

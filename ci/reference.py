@@ -1,6 +1,7 @@
 """scrypt (RFC 7914) in plain Python, written from the standard, for what OpenSSL refuses.
 
-It is slow, and takes N = 1 and N from 2^(16*r) too.
+It is slow, and takes N = 1 and N from 2^(16*r) too. And which hashes are weaker than wanted, as docs/DECISIONS.md
+says it.
 """
 
 import hashlib
@@ -68,6 +69,11 @@ def scrypt(password, salt, log_n, r, p, length):
     for words in chunks_of(password, salt, r, p):
         mixed += struct.pack(f"<{len(words)}I", *ro_mix(words, 1 << log_n))
     return hashlib.pbkdf2_hmac("sha256", password, mixed, 1, length)
+
+
+def is_weaker(stored, wanted):
+    """Whether log_n, r, p or the length of the key is below the wanted one; one of the four is enough."""
+    return any(has < wants for has, wants in zip(stored, wanted))
 
 
 def thin_ro_mix(words, n, s):

@@ -1,4 +1,4 @@
--- The words of each command: five after `key`, five or six after `hash`, and one after `verify`.
+-- The words of each command: five after `key`, five or six after `hash`, one after `verify`, seven after `rehash`.
 pub mod WordsFacts
 -- Faults and the refusals that they report.
 pub mod FaultFacts

@@ -1,10 +1,11 @@
 -- The outcome of a run.
-use Rattle.std.proofs.Common.{◌≡◌, ◌≤◌, ◌⊎◌, ◌∙◌, ℕ, List, [], Option, Some, None, inl, inr, refl, sym, arith, append-nil}
+use Rattle.std.proofs.Common.{◌≡◌, ◌≤◌, ◌⊎◌, ◌∙◌, ◌↔◌, ℕ, Bool, false, List, [], Option, Some, None, inl, inr, refl, sym, arith, append-nil}
 use Rattle.std.specs.Io.KnownBytes.{Appends}
+use Rattle.std.specs.Prelude.{IsTrue}
 use Rattle.scrypt_tool.proofs.CommandFacts.{refused_status}
 use Rattle.scrypt_tool.specs.Command.{AreRefused}
 use Rattle.scrypt_tool.specs.Fault.{fault_line, status_of}
-use Rattle.scrypt_tool.specs.Outcome.{AppendsAnswer, IsInputRefused, Outcome, OutcomeIs, answer_of, refusal_of}
+use Rattle.scrypt_tool.specs.Outcome.{AppendsAnswer, IsAnswer, IsInputRefused, Outcome, OutcomeIs, answer_of, refusal_of}
 use Rattle.scrypt_tool.specs.Outcome.HasOutcome.{answered, input_refused, words_refused}
 use Rattle.scrypt_tool.specs.declared.fault.Fault.{Fault}
 use Rattle.scrypt_tool.specs.declared.fault.Fault.TheVariants.{InputFailed, OutOfMemory, OutputFailed}
@@ -86,6 +87,31 @@ pub refused_end : (words : List (List ℕ)) (fault : Fault) (status : ℕ) → s
     → AreRefused words fault ⊎ (fault ≡ OutOfMemory) → (status ≡ 2) ⊎ (status ≡ 3)
 refused_end words fault status is (inl h) = inl (is ∙ refused_status _ _ h)
 refused_end words fault status is (inr h) = inr (rw h at is)
+
+-- words that are refused and memory that is not available end with neither an answer nor status 4
+not_ended : (status : ℕ) (failed : Bool) → (status ≡ 2) ⊎ (status ≡ 3) → IsAnswer status ⊎ ((status ≡ 4) × (failed ≡ false)) → ⊥
+not_ended status failed (inl two) (inl (inl zero)) = absurd (omega arith)
+not_ended status failed (inl two) (inl (inr one)) = absurd (omega arith)
+not_ended status failed (inl two) (inr (four, other)) = absurd (omega arith)
+not_ended status failed (inr three) (inl (inl zero)) = absurd (omega arith)
+not_ended status failed (inr three) (inl (inr one)) = absurd (omega arith)
+not_ended status failed (inr three) (inr (four, other)) = absurd (omega arith)
+
+not_answered : (status : ℕ) → status ≡ 4 → IsAnswer status → ⊥
+not_answered status four (inl zero) = absurd (omega arith)
+not_answered status four (inr one) = absurd (omega arith)
+
+-- the input was read whole before a failed output
+pub end_read : (words : List (List ℕ)) (known : Option (List ℕ)) (fault : Fault) (Read : Type 0) (status : ℕ) (failed : Bool)
+    → status ≡ status_of fault → IsTrue failed ↔ (fault ≡ InputFailed) → Ends words known Read fault
+    → IsAnswer status ⊎ ((status ≡ 4) × (failed ≡ false)) → Read
+end_read words known fault Read status failed is told (inl h) ended =
+    absurd (not_ended status failed (inl (is ∙ refused_status words fault h)) ended)
+end_read words known fault Read status failed is told (inr (inl h)) ended = h.1
+end_read words known fault Read status failed is told (inr (inr (inl h))) ended = absurd (not_ended status failed (inr (rw h at is)) ended)
+end_read words known fault Read status failed is told (inr (inr (inr (inl h)))) (inl answer) = absurd (not_answered status (rw h at is) answer)
+end_read words known fault Read status failed is told (inr (inr (inr (inl h)))) (inr (four, other)) = let yes = told.1 h in absurd cc
+end_read words known fault Read status failed is told (inr (inr (inr (inr h)))) ended = h.1
 
 -- an end with status 2 that is not by refused words comes after the whole input
 pub read_before_refusal : (words : List (List ℕ)) (known : Option (List ℕ)) (fault : Fault) (Read : Type 0) (status : ℕ)

@@ -1,8 +1,13 @@
 -- What verifying answers and refuses, for both formats.
-use Rattle.std.proofs.Common.{◌≡◌, ◌≢◌, ◌⊎◌, ℕ, List, ◌∙◌, inl, inr, refl, sym, Option, None, Some}
-use Rattle.std.specs.Prelude.{Result, IfErr, IfSome}
-use Rattle.password_hash.specs.Refusal.{Refusal, NoMemory, WrongPassword}
+use Rattle.std.proofs.Common.{◌≡◌, ◌≢◌, ◌⊎◌, ℕ, Bool, List, ◌∙◌, inl, inr, refl, sym, Option, None, Some, Ok, Err}
+use Rattle.std.specs.Prelude.{Result, IfErr, IfSome, IsOk}
+use Rattle.password_hash.specs.Refusal.{Refusal, NoMemory, WrongPassword, refusal}
+use Rattle.password_hash.specs.declared.error.Error.{Error}
 use Rattle.password_hash.specs.declared.phc.hash.PasswordHash.{PasswordHash}
+use Rattle.scrypt.proofs.McfHashFacts.{not_both as mcf_not_both, whole_once as mcf_whole_once}
+use Rattle.scrypt.proofs.McfRefusalFacts.{refused_once as mcf_refused_once}
+use Rattle.scrypt.proofs.PhcHashFacts.{not_both as phc_not_both, refused_once as phc_refused_once, whole_once as phc_whole_once}
+use Rattle.scrypt.proofs.VerdictFacts.{verdict_once}
 use Rattle.scrypt.specs.Accepted.{Parameters}
 use Rattle.scrypt.specs.McfCosts.{ReadsField, accepted as field_accepted, malformed, not_accepted as field_not_accepted}
 use Rattle.scrypt.specs.McfHash.{ReadIsRefused as McfIsRefused, bad_costs, bad_key, bad_key_len, no_field, no_key, other_id, third_field}
@@ -10,7 +15,7 @@ use Rattle.scrypt.specs.PhcCosts.{Reads, accepted, not_accepted, ln, ln_refused,
 use Rattle.scrypt.specs.PhcHash.{ReadIsRefused as PhcIsRefused, algorithm, version, costs, missing}
 use Rattle.scrypt.specs.Verifying.{by_verdict, for_memory, refused, right, wrong}
 use Rattle.scrypt_tool.specs.Fault.{NamesCost}
-use Rattle.scrypt_tool.specs.StoredHash.{Accepts, IsRefused, RefusesToVerify, Verdict}
+use Rattle.scrypt_tool.specs.StoredHash.{Accepts, IsReadableHash, IsRefused, IsRehashDue, IsWhole, RefusesToVerify, Verdict}
 use Rattle.scrypt_tool.specs.declared.stored_hash.StoredHash.{StoredHash}
 use Rattle.scrypt_tool.specs.declared.stored_hash.StoredHash.TheVariants.{Phc, Mcf}
 
@@ -84,3 +89,29 @@ wrong_verdict hash password why h is = elim (refused_verdict hash password why h
   | inl memory ↦ absurd (not_wrong_memory (sym memory ∙ is))
   | inr verdict ↦ rw is at verdict
 ]
+
+-- a hash on which a password is right can be read
+pub right_readable : (hash : StoredHash) (password : List ℕ) → Verdict hash password None → IsReadableHash hash
+right_readable hash password (right whole key) = (_, _, _, whole)
+
+-- and its check gives an answer
+pub readable_answers : (hash : StoredHash) (out : Result Bool Error) → IsReadableHash hash
+    → IfErr out (λ e. IsRefused hash (refusal e)) → IsOk out
+readable_answers hash (Ok weaker) readable refuses = refl
+readable_answers (Phc hash) (Err e) (c, salt, key, whole) refuses = absurd (phc_not_both refuses whole)
+readable_answers (Mcf hash) (Err e) (c, salt, key, whole) refuses = absurd (mcf_not_both refuses whole)
+
+-- a password has one verdict on a hash
+pub hash_verdict_once : (hash : StoredHash) (password : List ℕ) (one other : Option Refusal)
+    → Verdict hash password one → Verdict hash password other → one ≡ other
+hash_verdict_once (Phc hash) password one other v v' =
+    verdict_once {IsWhole = IsWhole (Phc hash)} {IsRefused = IsRefused (Phc hash)} (λ _ _ _ _ _ _. phc_whole_once) (λ _ _. phc_refused_once)
+    (λ _ _ _ _. phc_not_both) v v'
+hash_verdict_once (Mcf hash) password one other v v' =
+    verdict_once {IsWhole = IsWhole (Mcf hash)} {IsRefused = IsRefused (Mcf hash)} (λ _ _ _ _ _ _. mcf_whole_once) (λ _ _. mcf_refused_once)
+    (λ _ _ _ _. mcf_not_both) v v'
+
+-- no new hash is due for a wrong password
+pub wrong_not_due : (hash : StoredHash) (password : List ℕ) (wanted : Parameters)
+    → Verdict hash password (Some WrongPassword) → ¬ IsRehashDue hash password wanted
+wrong_not_due hash password wanted v due = let same = hash_verdict_once hash password _ _ v due.0 in absurd cc

@@ -1,8 +1,8 @@
--- The words of each command: five after `key`, five or six after `hash`, and one after `verify`.
+-- The words of each command: five after `key`, five or six after `hash`, one after `verify`, seven after `rehash`.
 use Rattle.std.proofs.Common.{◌≡◌, ◌≢◌, ◌^◌, ℕ, Bool, List, [], ◌∷◌, None, Option, Some, length, get_or, arith, map, refl, bytes_eq, codes, false, true}
 use Rattle.std.proofs.lemmas.Slice.Eq.{bytes_eq-Decides}
 use Rattle.password_hash.specs.Decimal.{decimal_below}
-use Rattle.scrypt_tool.specs.Words.{MakeWords, VerifyWords, format_of, hash_words, key_words, named_hash_words, numbers_of, verify_words, words_of}
+use Rattle.scrypt_tool.specs.Words.{MakeWords, RehashWords, VerifyWords, format_of, hash_words, key_words, named_hash_words, numbers_of, rehash_words, verify_words, words_of}
 use Rattle.scrypt_tool.specs.declared.words.Format.{Format}
 use Rattle.scrypt_tool.specs.declared.words.Numbers.{Numbers}
 use Rattle.scrypt_tool.specs.declared.words.Product.TheVariants.{Key, Hash}
@@ -93,6 +93,32 @@ pub hash_words_found_with_len : (format log_n r p salt_hex len_word : List ℕ) 
 unfolding hash_words
 hash_words_found_with_len format log_n r p salt_hex len_word numbers len h i = rw h (rw i refl)
 
+-- the words of `rehash` without a format
+pub no_new_format : (format log_n r p len salt_hex text : List ℕ) → format_of format ≡ None
+    → rehash_words (format ∷ log_n ∷ r ∷ p ∷ len ∷ salt_hex ∷ text ∷ []) ≡ None
+unfolding rehash_words
+no_new_format format log_n r p len salt_hex text h = rw h refl
+
+-- the words of `rehash` without numbers
+pub no_new_numbers : (format log_n r p len salt_hex text : List ℕ) (named : Format) → format_of format ≡ Some named
+    → numbers_of log_n r p ≡ None → rehash_words (format ∷ log_n ∷ r ∷ p ∷ len ∷ salt_hex ∷ text ∷ []) ≡ None
+unfolding rehash_words
+no_new_numbers format log_n r p len salt_hex text named h i = rw h (rw i refl)
+
+-- the words of `rehash` without a length
+pub no_new_len : (format log_n r p len salt_hex text : List ℕ) (named : Format) (numbers : Numbers)
+    → format_of format ≡ Some named → numbers_of log_n r p ≡ Some numbers → decimal_below (2 ^ 64) len ≡ None
+    → rehash_words (format ∷ log_n ∷ r ∷ p ∷ len ∷ salt_hex ∷ text ∷ []) ≡ None
+unfolding rehash_words
+no_new_len format log_n r p len salt_hex text named numbers h i j = rw h (rw i (rw j refl))
+
+-- the words of `rehash`
+pub rehash_words_found : (format log_n r p len_word salt_hex text : List ℕ) (named : Format) (numbers : Numbers) (len : ℕ)
+    → format_of format ≡ Some named → numbers_of log_n r p ≡ Some numbers → decimal_below (2 ^ 64) len_word ≡ Some len
+    → rehash_words (format ∷ log_n ∷ r ∷ p ∷ len_word ∷ salt_hex ∷ text ∷ []) ≡ Some (RehashWords named numbers len salt_hex text)
+unfolding rehash_words
+rehash_words_found format log_n r p len_word salt_hex text named numbers len h i j = rw h (rw i (rw j refl))
+
 -- a test that is not met
 not_true : (met : Bool) → (met ≡ true → ⊥) → met ≡ false
 not_true true h = absurd (h refl)
@@ -145,6 +171,25 @@ pub are_six : {A : Type 0} (text : A → List ℕ) (words : List A) (a b c d e f
 are_six text words a b c d e f n h0 h1 h2 h3 h4 h5 t0 t1 t2 t3 t4 t5 =
     rw (six words a b c d e f n h0 h1 h2 h3 h4 h5, t0, t1, t2, t3, t4, t5) refl
 
+-- a list of seven elements is these seven
+seven : {A : Type 0} (xs : List A) (a b c d e f g : A) → length xs ≡ 7
+    → a ≡ get_or xs 0 a → b ≡ get_or xs 1 b → c ≡ get_or xs 2 c
+    → d ≡ get_or xs 3 d → e ≡ get_or xs 4 e → f ≡ get_or xs 5 f → g ≡ get_or xs 6 g
+    → xs ≡ a ∷ b ∷ c ∷ d ∷ e ∷ f ∷ g ∷ []
+seven [] a b c d e f g n h0 h1 h2 h3 h4 h5 h6 = absurd (omega arith)
+seven (x0 ∷ xs) a b c d e f g n h0 h1 h2 h3 h4 h5 h6 =
+    rw (six xs b c d e f g (omega (arith, n)) h1 h2 h3 h4 h5 h6, h0) refl
+
+-- the texts of seven words
+pub are_seven : {A : Type 0} (text : A → List ℕ) (words : List A) (a b c d e f g : A) {ta tb tc td te tf tg : List ℕ}
+    → length words ≡ 7
+    → a ≡ get_or words 0 a → b ≡ get_or words 1 b → c ≡ get_or words 2 c
+    → d ≡ get_or words 3 d → e ≡ get_or words 4 e → f ≡ get_or words 5 f → g ≡ get_or words 6 g
+    → ta ≡ text a → tb ≡ text b → tc ≡ text c → td ≡ text d → te ≡ text e → tf ≡ text f → tg ≡ text g
+    → map text words ≡ ta ∷ tb ∷ tc ∷ td ∷ te ∷ tf ∷ tg ∷ []
+are_seven text words a b c d e f g n h0 h1 h2 h3 h4 h5 h6 t0 t1 t2 t3 t4 t5 t6 =
+    rw (seven words a b c d e f g n h0 h1 h2 h3 h4 h5 h6, t0, t1, t2, t3, t4, t5, t6) refl
+
 -- words that are not five are not those of `key`
 pub not_key_words : {A : Type 0} (text : A → List ℕ) (words : List A) → length words ≢ 5 → key_words (map text words) ≡ None
 unfolding key_words
@@ -184,6 +229,20 @@ not_verify_words text [] n = refl
 not_verify_words text (x0 ∷ []) n = absurd (n refl)
 not_verify_words text (x0 ∷ x1 ∷ xs) n = refl
 
+-- words that are not seven are not those of `rehash`
+pub not_rehash_words : {A : Type 0} (text : A → List ℕ) (words : List A) → length words ≢ 7
+    → rehash_words (map text words) ≡ None
+unfolding rehash_words
+not_rehash_words text [] n = refl
+not_rehash_words text (x0 ∷ []) n = refl
+not_rehash_words text (x0 ∷ x1 ∷ []) n = refl
+not_rehash_words text (x0 ∷ x1 ∷ x2 ∷ []) n = refl
+not_rehash_words text (x0 ∷ x1 ∷ x2 ∷ x3 ∷ []) n = refl
+not_rehash_words text (x0 ∷ x1 ∷ x2 ∷ x3 ∷ x4 ∷ []) n = refl
+not_rehash_words text (x0 ∷ x1 ∷ x2 ∷ x3 ∷ x4 ∷ x5 ∷ []) n = refl
+not_rehash_words text (x0 ∷ x1 ∷ x2 ∷ x3 ∷ x4 ∷ x5 ∷ x6 ∷ []) n = absurd (n refl)
+not_rehash_words text (x0 ∷ x1 ∷ x2 ∷ x3 ∷ x4 ∷ x5 ∷ x6 ∷ x7 ∷ xs) n = refl
+
 -- a command's name, and the words after it
 pub after_key : (words rest : List (List ℕ)) (name : List ℕ) → words ≡ name ∷ rest → name ≡ codes "key"
     → words_of words ≡ key_words rest
@@ -200,15 +259,21 @@ pub after_verify : (words rest : List (List ℕ)) (name : List ℕ) → words �
 unfolding words_of
 after_verify words rest name are is = rw (are, is) refl
 
+pub after_rehash : (words rest : List (List ℕ)) (name : List ℕ) → words ≡ name ∷ rest → name ≡ codes "rehash"
+    → words_of words ≡ rehash_words rest
+unfolding words_of
+after_rehash words rest name are is = rw (are, is) refl
+
 -- a text that is not this one
 other : (text name : List ℕ) → text ≢ name → bytes_eq text name ≡ false
 other text name h = not_true (bytes_eq text name) (λ same. h ((bytes_eq-Decides text name).0 same))
 
 -- no command has another name
 pub no_name : (name : List ℕ) (words : List (List ℕ)) → name ≢ codes "key" → name ≢ codes "hash" → name ≢ codes "verify"
-    → words_of (name ∷ words) ≡ None
+    → name ≢ codes "rehash" → words_of (name ∷ words) ≡ None
 unfolding words_of
-no_name name words h i j = rw (other name (codes "key") h, other name (codes "hash") i, other name (codes "verify") j) refl
+no_name name words h i j k =
+    rw (other name (codes "key") h, other name (codes "hash") i, other name (codes "verify") j, other name (codes "rehash") k) refl
 
 -- no format has another name
 pub no_format_named : (word : List ℕ) → word ≢ codes "phc" → word ≢ codes "mcf" → format_of word ≡ None

@@ -1,15 +1,18 @@
 -- What the words ask for. They are read in this order, and the first thing that is wrong refuses them:
 -- the words and the numbers, the salt, the parameters, the length of the key, the text of a hash.
-use Rattle.std.specs.Prelude.{◌≡◌, ℕ, List, None, Ok, Option, IfSome, IsErr, IsOk, IsSomeAnd, MatchOption, ⊤}
+use Rattle.std.specs.Prelude.{◌≡◌, ℕ, List, None, Ok, Option, Some, Vec, IfSome, IsErr, IsOk, IsSomeAnd, MatchOption, ⊤}
+use Rattle.std.specs.Global.{Global}
 use Rattle.hex.specs.Hex.{decode_of}
 use Rattle.scrypt.specs.Accepted.{AreAccepted, IsOutputLen, IsStoredLen, Parameters}
 use Rattle.scrypt_tool.specs.StoredHash.{IsHashOf, IsHashText}
-use Rattle.scrypt_tool.specs.Words.{CommandWords, MakeWords, VerifyWords, words_of}
+use Rattle.scrypt_tool.specs.declared.stored_hash.StoredHash.{StoredHash}
+use Rattle.scrypt_tool.specs.Words.{CommandWords, MakeWords, RehashWords, VerifyWords, words_of}
 use Rattle.scrypt_tool.specs.declared.command.Command.{Command}
-use Rattle.scrypt_tool.specs.declared.command.Command.TheVariants.{Make, Verify}
+use Rattle.scrypt_tool.specs.declared.command.Command.TheVariants.{Make, Rehash, Verify}
 use Rattle.scrypt_tool.specs.declared.fault.Fault.{Fault}
 use Rattle.scrypt_tool.specs.declared.fault.Fault.TheVariants.{Usage, SaltNotHex, InvalidParams, InvalidOutputLen, HashRefused}
 use Rattle.scrypt_tool.specs.declared.fault.HashFault.TheVariants.{EncodingInvalid}
+use Rattle.scrypt_tool.specs.declared.words.Format.{Format}
 use Rattle.scrypt_tool.specs.declared.words.Numbers.{Numbers}
 use Rattle.scrypt_tool.specs.declared.words.Product.{Product}
 use Rattle.scrypt_tool.specs.declared.words.Product.TheVariants.{Key, Hash}
@@ -33,6 +36,16 @@ pub record AreSaltAndParams (product : Product) (numbers : Numbers) (salt_hex sa
   pub accepted : AreParamsAccepted product numbers
   pub params_are : params ≡ params_of product numbers
 
+-- the salt or the parameters are refused, and the salt first
+pub data IsSaltOrParamsRefused (product : Product) (numbers : Numbers) (salt_hex : List ℕ) : Fault → Type 0 where
+  bad_salt : IsErr (decode_of salt_hex) → IsSaltOrParamsRefused product numbers salt_hex SaltNotHex
+  bad_params : IsOk (decode_of salt_hex) → ¬ AreParamsAccepted product numbers
+      → IsSaltOrParamsRefused product numbers salt_hex InvalidParams
+
+-- neither of them is
+abbrev pub HasSaltAndParams : Product → Numbers → List ℕ → Type 0
+HasSaltAndParams product numbers salt_hex = IsOk (decode_of salt_hex) × AreParamsAccepted product numbers
+
 -- a key of that length can be derived; a hash has an allowed length of its own
 abbrev pub HasAllowedLen : Product → Type 0
 HasAllowedLen (Key len) = IsOutputLen len
@@ -42,25 +55,33 @@ HasAllowedLen (Hash format len) = ⊤
 abbrev pub IsPossible : Command → Type 0
 IsPossible (Make product params salt) = HasAllowedLen product
 IsPossible (Verify hash) = ⊤
+IsPossible (Rehash format params salt hash) = ⊤
 
 -- these words mean this command
-abbrev pub Means : CommandWords → Command → Type 0
-Means (MakeWords named numbers salt_hex) (Make product params salt) =
-    AreSaltAndParams named numbers salt_hex salt.items params × (product ≡ named) × HasAllowedLen named
-Means (VerifyWords text) (Verify hash) = IsHashOf text hash
-Means words command = ⊥
+pub data Means : CommandWords → Command → Type 0 where
+  to_make : {product : Product} {numbers : Numbers} {salt_hex : List ℕ} {params : Parameters} {salt : Vec ℕ Global}
+      → AreSaltAndParams product numbers salt_hex salt.items params → HasAllowedLen product
+      → Means (MakeWords product numbers salt_hex) (Make product params salt)
+  to_verify : {text : List ℕ} {hash : StoredHash} → IsHashOf text hash → Means (VerifyWords text) (Verify hash)
+  to_rehash : {format : Format} {numbers : Numbers} {len : ℕ} {salt_hex text : List ℕ} {params : Parameters}
+      {salt : Vec ℕ Global} {hash : StoredHash}
+      → AreSaltAndParams (Hash format (Some len)) numbers salt_hex salt.items params → IsHashOf text hash
+      → Means (RehashWords format numbers len salt_hex text) (Rehash format params salt hash)
 
 -- these words are refused, and this is the first thing that is wrong with them
 pub data IsRefused : CommandWords → Fault → Type 0 where
-  bad_salt : {product : Product} {numbers : Numbers} {salt_hex : List ℕ}
-      → IsErr (decode_of salt_hex) → IsRefused (MakeWords product numbers salt_hex) SaltNotHex
-  bad_params : {product : Product} {numbers : Numbers} {salt_hex : List ℕ}
-      → IsOk (decode_of salt_hex) → ¬ AreParamsAccepted product numbers
-      → IsRefused (MakeWords product numbers salt_hex) InvalidParams
+  not_made : {product : Product} {numbers : Numbers} {salt_hex : List ℕ} {fault : Fault}
+      → IsSaltOrParamsRefused product numbers salt_hex fault → IsRefused (MakeWords product numbers salt_hex) fault
   bad_len : {product : Product} {numbers : Numbers} {salt_hex : List ℕ}
-      → IsOk (decode_of salt_hex) → AreParamsAccepted product numbers → ¬ HasAllowedLen product
+      → HasSaltAndParams product numbers salt_hex → ¬ HasAllowedLen product
       → IsRefused (MakeWords product numbers salt_hex) InvalidOutputLen
   bad_hash : {text : List ℕ} → ¬ IsHashText text → IsRefused (VerifyWords text) (HashRefused EncodingInvalid)
+  not_remade : {format : Format} {numbers : Numbers} {len : ℕ} {salt_hex text : List ℕ} {fault : Fault}
+      → IsSaltOrParamsRefused (Hash format (Some len)) numbers salt_hex fault
+      → IsRefused (RehashWords format numbers len salt_hex text) fault
+  bad_old_hash : {format : Format} {numbers : Numbers} {len : ℕ} {salt_hex text : List ℕ}
+      → HasSaltAndParams (Hash format (Some len)) numbers salt_hex → ¬ IsHashText text
+      → IsRefused (RehashWords format numbers len salt_hex text) (HashRefused EncodingInvalid)
 
 -- the words after the program's name ask for this command
 abbrev pub AskFor : List (List ℕ) → Command → Type 0

@@ -34,7 +34,7 @@ hash_fault_line Version = codes "hash refused: Version\n"
 -- the fault line, with its newline
 abbrev pub fault_line : Fault → List ℕ
 fault_line Usage =
-    codes "usage: key LOG_N R P LEN SALT_HEX | hash phc|mcf LOG_N R P SALT_HEX [LEN] | verify HASH\n"
+    codes "usage: key LOG_N R P LEN SALT_HEX | hash phc|mcf LOG_N R P SALT_HEX [LEN] | verify HASH | rehash phc|mcf LOG_N R P LEN SALT_HEX HASH\n"
 fault_line SaltNotHex = codes "salt is not hexadecimal\n"
 fault_line InvalidParams = codes "invalid scrypt parameters\n"
 fault_line InvalidOutputLen = codes "invalid output buffer length\n"

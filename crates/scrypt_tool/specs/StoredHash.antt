@@ -1,5 +1,5 @@
--- The hash that a password is verified against, of either format.
-use Rattle.std.specs.Prelude.{◌≡◌, ℕ, ◌==◌, ◌&&◌, ◌||◌, Bool, false, true, MatchBool, List, length, slice_index, Option, Some}
+-- The hash that a password is verified against, and that may be made anew, of either format.
+use Rattle.std.specs.Prelude.{◌≡◌, ℕ, ◌==◌, ◌&&◌, ◌||◌, Bool, false, true, MatchBool, List, length, slice_index, Option, None, Some}
 use Rattle.password_hash.specs.Mcf.{IsMcf}
 use Rattle.password_hash.specs.McfViews.{hash_text}
 use Rattle.password_hash.specs.Phc.{IsHashText as IsPhcText}
@@ -8,6 +8,7 @@ use Rattle.password_hash.specs.declared.phc.hash.PasswordHash.{PasswordHash}
 use Rattle.scrypt.specs.Accepted.{Parameters}
 use Rattle.scrypt.specs.McfHash.{IsWhole as IsMcfWhole, ReadIsRefused as McfIsRefused}
 use Rattle.scrypt.specs.PhcHash.{IsWhole as IsPhcWhole, ReadIsRefused as PhcIsRefused}
+use Rattle.scrypt.specs.Rehashing.{IsReadable, IsWeaker}
 use Rattle.scrypt.specs.Verifying.{IsAccepted, IsRefusedBy, VerdictOf}
 use Rattle.scrypt_tool.specs.Fault.{IsHashFault}
 use Rattle.scrypt_tool.specs.declared.fault.Fault.{Fault}
@@ -53,3 +54,15 @@ Verdict hash password verdict = VerdictOf (IsWhole hash) (IsRefused hash) passwo
 -- verifying refuses the hash
 abbrev pub IsVerdictFault : StoredHash → List ℕ → Fault → Type 0
 IsVerdictFault hash password fault = IsHashFault (λ why. Verdict hash password (Some why)) fault
+
+-- some costs, a salt and a key can be read from the hash
+abbrev pub IsReadableHash : StoredHash → Type 0
+IsReadableHash hash = IsReadable (IsWhole hash)
+
+-- the hash is weaker than these parameters
+abbrev pub IsWeakerThan : StoredHash → Parameters → Type 0
+IsWeakerThan hash wanted = IsWeaker (IsWhole hash) wanted
+
+-- a new hash with these parameters is due: the password is right, and the hash is weaker
+abbrev pub IsRehashDue : StoredHash → List ℕ → Parameters → Type 0
+IsRehashDue hash password wanted = Verdict hash password None × IsWeakerThan hash wanted

@@ -1,5 +1,6 @@
 -- The words of each command, with their numbers read.
-use Rattle.std.specs.Prelude.{ℕ, ◌^◌, bytes_eq, if◌then◌else◌, List, [], ◌∷◌, codes, Option, Some, None, option_and_then}
+use Rattle.std.specs.Prelude.{ℕ, ◌^◌, bytes_eq, if◌then◌else◌, List, [], ◌∷◌, codes, map, Option, Some, None, option_and_then, String, string_bytes}
+use Rattle.std.specs.Global.{Global}
 use Rattle.password_hash.specs.Decimal.{decimal_below}
 use Rattle.scrypt_tool.specs.declared.words.Format.{Format}
 use Rattle.scrypt_tool.specs.declared.words.Format.TheVariants.{Phc, Mcf}
@@ -7,17 +8,23 @@ use Rattle.scrypt_tool.specs.declared.words.Numbers.{Numbers}
 use Rattle.scrypt_tool.specs.declared.words.Product.{Product}
 use Rattle.scrypt_tool.specs.declared.words.Product.TheVariants.{Key, Hash}
 use Rattle.scrypt_tool.specs.declared.words.Words.{Words}
-use Rattle.scrypt_tool.specs.declared.words.Words.TheVariants.{Make, Verify}
+use Rattle.scrypt_tool.specs.declared.words.Words.TheVariants.{Make, Rehash, Verify}
 
 -- the words of a command: the digits of a salt and the text of a hash are not read yet
 pub data CommandWords : Type 0 where
   MakeWords : (product : Product) (numbers : Numbers) (salt_hex : List ℕ) → CommandWords
   VerifyWords : (text : List ℕ) → CommandWords
+  RehashWords : (format : Format) (numbers : Numbers) (len : ℕ) (salt_hex text : List ℕ) → CommandWords
 
 -- what contracts see of words that are borrowed
 abbrev pub words_view : Words → CommandWords
 words_view (Make product numbers salt_hex) = MakeWords product numbers salt_hex.now
 words_view (Verify text) = VerifyWords text.now
+words_view (Rehash format numbers len salt_hex text) = RehashWords format numbers len salt_hex.now text.now
+
+-- the texts of words
+abbrev pub texts_of : List (String Global) → List (List ℕ)
+texts_of words = map string_bytes words
 
 -- the second step, if the first gave a value
 infixl 10 ◌>>=◌
@@ -69,6 +76,15 @@ unfoldable pub verify_words : List (List ℕ) → Option CommandWords
 verify_words (text ∷ []) = Some (VerifyWords text)
 verify_words words = None
 
+-- after `rehash`: phc|mcf LOG_N R P LEN SALT_HEX HASH, with LEN below 2 ^ 64
+unfoldable pub rehash_words : List (List ℕ) → Option CommandWords
+rehash_words (format ∷ log_n ∷ r ∷ p ∷ len ∷ salt_hex ∷ text ∷ []) = do
+  format ← format_of format
+  numbers ← numbers_of log_n r p
+  len ← decimal_below (2 ^ 64) len
+  Some (RehashWords format numbers len salt_hex text)
+rehash_words words = None
+
 -- the words of a command, after the program's name
 unfoldable pub words_of : List (List ℕ) → Option CommandWords
 words_of [] = None
@@ -76,4 +92,5 @@ words_of (name ∷ words) =
     if bytes_eq name (codes "key") then key_words words
     else if bytes_eq name (codes "hash") then hash_words words
     else if bytes_eq name (codes "verify") then verify_words words
+    else if bytes_eq name (codes "rehash") then rehash_words words
     else None

@@ -1,6 +1,6 @@
 // The line that answers a command.
 
-ghost use Rattle.std.specs.Prelude.{◌≡◌, ◌⊎◌, ◌++◌, IfOk, IfErr, None, codes, string_bytes};
+ghost use Rattle.std.specs.Prelude.{◌≡◌, ◌⊎◌, ◌++◌, IfOk, IfErr, None, codes, if◌then◌else◌, string_bytes};
 ghost use Rattle.hex.specs.Hex.{encode_lower};
 ghost use Rattle.scrypt.specs.Accepted.{IsOutputLen};
 ghost use Rattle.scrypt.specs.KeyOfParams.{key_by};
@@ -8,7 +8,7 @@ ghost use Rattle.scrypt.specs.PhcHash.{HashIsRefused};
 ghost use Rattle.scrypt.specs.McfHash.{IsMadeHash as IsMadeMcf};
 ghost use Rattle.scrypt_tool.specs.Command.{HasAllowedLen, IsPossible};
 ghost use Rattle.scrypt_tool.specs.Fault.{IsHashFault};
-ghost use Rattle.scrypt_tool.specs.Outcome.{Gives, IsMadePhcText, IsMadeText, IsSaltRefused, Refuses};
+ghost use Rattle.scrypt_tool.specs.Outcome.{Gives, IsHashSaltRefused, IsMadeHashText, IsMadePhcText, IsMadeText, IsSaltRefused, Refuses};
 ghost use Rattle.scrypt_tool.specs.declared.fault.Fault.TheVariants.{OutOfMemory};
 
 use crate::command::Command;
@@ -29,6 +29,7 @@ impl<'a> Command<'a> {
     /// Answers the command on this input.
     ///
     /// Returns `HashRefused` if hashing or verifying refuses, and `OutOfMemory`.
+    #[tactic(auto, using(crate::proofs::VerdictFacts::right_readable, crate::proofs::VerdictFacts::wrong_not_due))]
     pub fn answer(&self, alloc: Global, input: &[u8]) -> Result<Answer, Fault>
         requires { IsPossible self.now }
         ensures ok { IfOk result (λ answer.
@@ -42,11 +43,18 @@ impl<'a> Command<'a> {
                 params,
                 salt,
             } => on_a_line(0, make(alloc, input, salt, params, product)?),
-            Command::Verify { hash } => {
-                if hash.verify(alloc, input)? {
-                    on_a_line(0, String::from_str(alloc, "ok")?)
+            Command::Verify { hash } => verdict(alloc, hash.verify(alloc, input)?),
+            Command::Rehash {
+                format,
+                params,
+                salt,
+                hash,
+            } => {
+                let right = hash.verify(alloc, input)?;
+                if right && hash.is_weaker(params) {
+                    on_a_line(0, make_hash(alloc, input, salt, params, *format)?)
                 } else {
-                    on_a_line(1, String::from_str(alloc, "no")?)
+                    verdict(alloc, right)
                 }
             }
         }
@@ -68,14 +76,25 @@ fn make(
 {
     match product {
         Product::Key { len } => key(alloc, password, salt, params, *len),
-        Product::Hash {
-            format: Format::Phc,
-            ..
-        } => phc_hash(alloc, password, salt, params),
-        Product::Hash {
-            format: Format::Mcf,
-            ..
-        } => mcf_hash(alloc, password, salt, params),
+        Product::Hash { format, .. } => make_hash(alloc, password, salt, params, *format),
+    }
+}
+
+// The text of the hash of this format that these parameters make.
+fn make_hash(
+    alloc: Global,
+    password: &[u8],
+    salt: &[u8],
+    params: &Params,
+    format: Format,
+) -> Result<String, Fault>
+    ensures ok { IfOk result (λ text.
+        IsMadeHashText format params.now salt.now password.now (string_bytes text)) }
+    ensures err { IfErr result (λ fault. (fault ≡ OutOfMemory) ⊎ IsHashSaltRefused format salt.now fault) }
+{
+    match format {
+        Format::Phc => phc_hash(alloc, password, salt, params),
+        Format::Mcf => mcf_hash(alloc, password, salt, params),
     }
 }
 
@@ -125,6 +144,20 @@ fn mcf_hash(alloc: Global, password: &[u8], salt: &[u8], params: &Params) -> Res
     match made {
         Ok(hash) => Ok(String::from_str(alloc, hash.as_str())?),
         Err(error) => Err(Fault::of(error).unwrap()),
+    }
+}
+
+// The line of a verdict on a password.
+fn verdict(alloc: Global, right: bool) -> Result<Answer, Fault>
+    ensures status { IfOk result (λ answer. answer.status ≡ (if right then 0 else 1)) }
+    ensures line { IfOk result (λ answer.
+        string_bytes answer.line ≡ (if right then codes "ok\n" else codes "no\n")) }
+    ensures err { IfErr result (λ fault. fault ≡ OutOfMemory) }
+{
+    if right {
+        on_a_line(0, String::from_str(alloc, "ok")?)
+    } else {
+        on_a_line(1, String::from_str(alloc, "no")?)
     }
 }
 

@@ -1,14 +1,14 @@
 // What the words ask for.
 
-ghost use Rattle.std.specs.Prelude.{◌≡◌, ◌⊎◌, IfOk, IfErr, IsErr, IsOk, IsTrue, Ok, ◌↔◌, map, string_bytes};
+ghost use Rattle.std.specs.Prelude.{◌≡◌, ◌⊎◌, IfOk, IfErr, IsErr, IsOk, IsTrue, Ok, ◌↔◌};
 ghost use Rattle.hex.specs.Hex.{decode_of};
-ghost use Rattle.scrypt_tool.specs.Command.{AreParamsAccepted, AreRefused, AskFor, HasAllowedLen, IsRefused, Means, params_of};
-ghost use Rattle.scrypt_tool.specs.Words.{MakeWords, VerifyWords};
+ghost use Rattle.scrypt_tool.specs.Command.{AreParamsAccepted, AreRefused, AreSaltAndParams, AskFor, HasAllowedLen, IsRefused, IsSaltOrParamsRefused, Means, params_of};
+ghost use Rattle.scrypt_tool.specs.Words.{MakeWords, RehashWords, VerifyWords, texts_of};
 ghost use Rattle.scrypt_tool.specs.declared.fault.Fault.TheVariants.{OutOfMemory, SaltNotHex};
 
 use crate::fault::{Fault, HashFault};
 use crate::stored_hash::StoredHash;
-use crate::words::{Numbers, Product, Words};
+use crate::words::{Format, Numbers, Product, Words};
 use hex::FromHexError;
 use scrypt::{InvalidParams, Params, output_len_ok};
 use std::alloc::Global;
@@ -26,6 +26,14 @@ pub enum Command<'a> {
     Verify {
         hash: StoredHash<'a>,
     },
+    /// The verdict on the password, or a new hash of this format if the password is right and the old hash
+    /// is weaker than these parameters.
+    Rehash {
+        format: Format,
+        params: Params,
+        salt: Vec<u8>,
+        hash: StoredHash<'a>,
+    },
 }
 
 impl<'a> Command<'a> {
@@ -35,9 +43,9 @@ impl<'a> Command<'a> {
     /// `InvalidOutputLen`, and `HashRefused` by `EncodingInvalid`. Returns `OutOfMemory` if the memory
     /// for the salt is not available.
     pub fn read(alloc: Global, words: &'a [String]) -> Result<Command<'a>, Fault>
-        ensures ok { IfOk result (AskFor (map string_bytes words.now)) }
+        ensures ok { IfOk result (AskFor (texts_of words.now)) }
         ensures err { IfErr result (λ fault.
-            (fault ≡ OutOfMemory) ⊎ AreRefused (map string_bytes words.now) fault) }
+            (fault ≡ OutOfMemory) ⊎ AreRefused (texts_of words.now) fault) }
     {
         let Some(words) = Words::read(words) else {
             return Err(Fault::Usage);
@@ -49,6 +57,13 @@ impl<'a> Command<'a> {
                 salt_hex,
             } => read_make(alloc, product, numbers, salt_hex),
             Words::Verify { text } => read_verify(text),
+            Words::Rehash {
+                format,
+                numbers,
+                len,
+                salt_hex,
+                text,
+            } => read_rehash(alloc, format, numbers, len, salt_hex, text),
         }
     }
 }
@@ -64,8 +79,7 @@ fn read_make<'a>(
     ensures err { IfErr result (λ fault.
         (fault ≡ OutOfMemory) ⊎ IsRefused (MakeWords product numbers salt_hex.now) fault) }
 {
-    let salt = read_salt(alloc, salt_hex)?;
-    let params = read_params(product, numbers)?;
+    let (salt, params) = read_salt_and_params(alloc, product, numbers, salt_hex)?;
     if !has_allowed_len(product) {
         return Err(Fault::InvalidOutputLen);
     }
@@ -74,6 +88,22 @@ fn read_make<'a>(
         params,
         salt,
     })
+}
+
+// The salt and then the parameters of the product.
+fn read_salt_and_params(
+    alloc: Global,
+    product: Product,
+    numbers: Numbers,
+    salt_hex: &str,
+) -> Result<(Vec<u8>, Params), Fault>
+    ensures ok { IfOk result (λ read. AreSaltAndParams product numbers salt_hex.now read.0.items read.1) }
+    ensures err { IfErr result (λ fault.
+        (fault ≡ OutOfMemory) ⊎ IsSaltOrParamsRefused product numbers salt_hex.now fault) }
+{
+    let salt = read_salt(alloc, salt_hex)?;
+    let params = read_params(product, numbers)?;
+    Ok((salt, params))
 }
 
 // The parameters of the product, which hold the length that is named for a hash.
@@ -105,6 +135,36 @@ fn read_verify<'a>(text: &'a str) -> Result<Command<'a>, Fault>
 {
     match StoredHash::read(text) {
         Some(hash) => Ok(Command::Verify { hash }),
+        None => Err(Fault::HashRefused(HashFault::EncodingInvalid)),
+    }
+}
+
+// The command that makes the hash of this text anew, from the numbers, the length and the digits of the
+// salt that the new one is to have.
+fn read_rehash<'a>(
+    alloc: Global,
+    format: Format,
+    numbers: Numbers,
+    len: usize,
+    salt_hex: &str,
+    text: &'a str,
+) -> Result<Command<'a>, Fault>
+    ensures ok { IfOk result (Means (RehashWords format numbers len salt_hex.now text.now)) }
+    ensures err { IfErr result (λ fault. (fault ≡ OutOfMemory)
+        ⊎ IsRefused (RehashWords format numbers len salt_hex.now text.now) fault) }
+{
+    let product = Product::Hash {
+        format,
+        len: Some(len),
+    };
+    let (salt, params) = read_salt_and_params(alloc, product, numbers, salt_hex)?;
+    match StoredHash::read(text) {
+        Some(hash) => Ok(Command::Rehash {
+            format,
+            params,
+            salt,
+            hash,
+        }),
         None => Err(Fault::HashRefused(HashFault::EncodingInvalid)),
     }
 }

@@ -96,7 +96,7 @@ impl Fault {
     {
         match self {
             Fault::Usage => {
-                "usage: key LOG_N R P LEN SALT_HEX | hash phc|mcf LOG_N R P SALT_HEX [LEN] | verify HASH\n"
+                "usage: key LOG_N R P LEN SALT_HEX | hash phc|mcf LOG_N R P SALT_HEX [LEN] | verify HASH | rehash phc|mcf LOG_N R P LEN SALT_HEX HASH\n"
             }
             Fault::SaltNotHex => "salt is not hexadecimal\n",
             Fault::InvalidParams => "invalid scrypt parameters\n",

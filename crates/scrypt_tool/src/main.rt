@@ -1,13 +1,16 @@
-//! The program: derives scrypt keys, makes password hashes and verifies them, from the command line.
+//! The program: derives scrypt keys, makes password hashes, verifies them and makes weak ones anew, from the
+//! command line.
 //!
 //! ```text
 //! scrypt_tool key LOG_N R P LEN SALT_HEX < password
-//! scrypt_tool hash phc|mcf LOG_N R P SALT_HEX < password
+//! scrypt_tool hash phc|mcf LOG_N R P SALT_HEX [LEN] < password
 //! scrypt_tool verify HASH < password
+//! scrypt_tool rehash phc|mcf LOG_N R P LEN SALT_HEX HASH < password
 //! ```
 //!
 //! The password is every byte of the standard input; no newline is cut off. The key is written in
-//! lower-case hexadecimal, the hash as its text, and the verdict as `ok` or `no` with status 0 or 1.
+//! lower-case hexadecimal, the hash as its text, and the verdict as `ok` or `no` with status 0 or 1. In place
+//! of `ok`, `rehash` writes a new hash if the old one is weaker than wanted.
 #![tactic(auto)]
 
 mod answer;

@@ -1,10 +1,11 @@
 // The program over any reader and any two writers.
 
-ghost use Rattle.std.specs.Prelude.{◌≡◌, ◌⊎◌, ◌↔◌, ◌≤◌, IsTrue, IfOk, IfErr, IfSome, IsErrAnd, OnOk, if◌then◌else◌, false, map, string_bytes};
+ghost use Rattle.std.specs.Prelude.{◌≡◌, ◌⊎◌, ◌↔◌, ◌≤◌, IsTrue, IfOk, IfErr, IfSome, IsErrAnd, OnOk, if◌then◌else◌, false, true};
 ghost use Rattle.std.specs.Io.KnownBytes.{Appends, IsAtEnd, Keeps};
 ghost use Rattle.scrypt_tool.specs.Command.{AreRefused};
 ghost use Rattle.scrypt_tool.specs.Fault.{fault_line, status_of};
-ghost use Rattle.scrypt_tool.specs.Outcome.{AppendsAnswer, IsAnswer, IsInputRefused, OutcomeIs};
+ghost use Rattle.scrypt_tool.specs.Outcome.{AppendsAnswer, IsAnswer, IsInputRefused, OutcomeIs, Prints};
+ghost use Rattle.scrypt_tool.specs.Words.{texts_of};
 ghost use Rattle.scrypt_tool.specs.declared.fault.Fault.{Fault};
 ghost use Rattle.scrypt_tool.specs.declared.fault.Fault.TheVariants.{InputFailed, OutOfMemory, OutputFailed};
 
@@ -40,39 +41,31 @@ pub fn run<R: Read, W: Write, F: Write>(
     faults: &mut F,
 ) -> Ended
     ensures status { (result.status ≡ 3) ⊎ (result.status ≡ 4) ⊎ OutcomeIs
-        (map string_bytes words.now) (R.remaining reader.old) (λ outcome. result.status ≡ outcome.status) }
-    ensures line { IsAnswer result.status →
-        OutcomeIs (map string_bytes words.now) (R.remaining reader.old) (λ outcome. (result.status ≡ outcome.status)
-        × Appends (W.contents writer.old) (W.contents writer.new) outcome.line) }
-    ensures fault { result.status ≤ 2 → IsTrue result.fault_told →
-        OutcomeIs (map string_bytes words.now) (R.remaining reader.old) (λ outcome. (result.status ≡ outcome.status)
-        × Appends (F.contents faults.old) (F.contents faults.new) outcome.fault) }
+        (texts_of words.now) (R.remaining reader.old) (λ outcome. result.status ≡ outcome.status) }
+    ensures line { IsAnswer result.status → Prints (texts_of words.now) (R.remaining reader.old) result.status
+        (λ outcome. outcome.line) (W.contents writer.old) (W.contents writer.new) }
+    ensures fault { result.status ≤ 2 → IsTrue result.fault_told → Prints (texts_of words.now) (R.remaining reader.old)
+        result.status (λ outcome. outcome.fault) (F.contents faults.old) (F.contents faults.new) }
     ensures out_of_memory { result.status ≡ 3 → IsTrue result.fault_told →
         Appends (F.contents faults.old) (F.contents faults.new) (fault_line OutOfMemory) }
-    ensures failed { result.status ≡ 4 → IsTrue result.fault_told →
-        Appends (F.contents faults.old) (F.contents faults.new)
+    ensures failed { result.status ≡ 4 → IsTrue result.fault_told → Appends (F.contents faults.old) (F.contents faults.new)
         (fault_line (if result.input_failed then InputFailed else OutputFailed)) }
     ensures input_failed { IsTrue result.input_failed → result.status ≡ 4 }
     ensures nothing { (result.status ≡ 2) ⊎ (result.status ≡ 3) ⊎ IsTrue result.input_failed →
         Keeps (W.contents writer.old) (W.contents writer.new) }
     // With every reader, whether its bytes are known or not.
-    ensures refused { (fault : Fault) → AreRefused (map string_bytes words.now) fault →
-        (result.status ≡ 2) ⊎ (result.status ≡ 3) }
-    ensures unread { (fault : Fault) → AreRefused (map string_bytes words.now) fault →
+    ensures refused { (fault : Fault) → AreRefused (texts_of words.now) fault → (result.status ≡ 2) ⊎ (result.status ≡ 3) }
+    ensures unread { (fault : Fault) → AreRefused (texts_of words.now) fault →
         Keeps (R.remaining reader.old) (R.remaining reader.new) }
     ensures read_before_refusal { result.status ≡ 2 →
-        ((fault : Fault) → ¬ AreRefused (map string_bytes words.now) fault) → IsAtEnd (R.remaining reader.new) }
+        ((fault : Fault) → ¬ AreRefused (texts_of words.now) fault) → IsAtEnd (R.remaining reader.new) }
     ensures read { IsAnswer result.status ⊎ ((result.status ≡ 4) × (result.input_failed ≡ false)) →
         IsAtEnd (R.remaining reader.new) }
     ensures done { IsAnswer result.status → IsTrue result.fault_told }
     ensures no_fault { IsAnswer result.status → Keeps (F.contents faults.old) (F.contents faults.new) }
 {
     match answer(alloc, words, reader, writer) {
-        Ok(status) => Ended {
-            status,
-            input_failed: false,
-            fault_told: true,
-        },
+        Ok(status) => answered(status),
         Err(fault) => end(fault, faults),
     }
 }
@@ -84,18 +77,18 @@ fn answer<R: Read, W: Write>(
     reader: &mut R,
     writer: &mut W,
 ) -> Result<u8, Fault>
-    ensures line { IfOk result (AppendsAnswer (map string_bytes words.now) (R.remaining reader.old)
+    ensures line { IfOk result (AppendsAnswer (texts_of words.now) (R.remaining reader.old)
         (W.contents writer.old) (W.contents writer.new)) }
     ensures ok { IfOk result IsAnswer }
     ensures read { OnOk result (IsAtEnd (R.remaining reader.new)) }
-    ensures err { IfErr result (λ fault. AreRefused (map string_bytes words.now) fault
-        ⊎ (IsInputRefused (map string_bytes words.now) (R.remaining reader.old) fault × IsAtEnd (R.remaining reader.new))
+    ensures err { IfErr result (λ fault. AreRefused (texts_of words.now) fault
+        ⊎ (IsInputRefused (texts_of words.now) (R.remaining reader.old) fault × IsAtEnd (R.remaining reader.new))
         ⊎ (fault ≡ OutOfMemory) ⊎ (fault ≡ InputFailed)
         ⊎ ((fault ≡ OutputFailed) × IsAtEnd (R.remaining reader.new))) }
     ensures nothing { IfErr result (λ fault. (fault ≡ OutputFailed)
         ⊎ Keeps (W.contents writer.old) (W.contents writer.new)) }
-    ensures refused { (refusal : Fault) → AreRefused (map string_bytes words.now) refusal →
-        IsErrAnd result (λ fault. AreRefused (map string_bytes words.now) fault ⊎ (fault ≡ OutOfMemory))
+    ensures refused { (refusal : Fault) → AreRefused (texts_of words.now) refusal →
+        IsErrAnd result (λ fault. AreRefused (texts_of words.now) fault ⊎ (fault ≡ OutOfMemory))
         × Keeps (R.remaining reader.old) (R.remaining reader.new) }
 {
     let command = Command::read(alloc, words)?;
@@ -134,6 +127,18 @@ fn write_line<W: Write>(writer: &mut W, line: &str) -> Result<(), Fault>
         return Err(Fault::OutputFailed);
     }
     Ok(())
+}
+
+// Ends the run with this status, after its line was written.
+fn answered(status: u8) -> Ended
+    ensures status { result.status ≡ status }
+    ensures no_fault { (result.input_failed ≡ false) × (result.fault_told ≡ true) }
+{
+    Ended {
+        status,
+        input_failed: false,
+        fault_told: true,
+    }
 }
 
 // Ends the run with this fault, and writes its line.

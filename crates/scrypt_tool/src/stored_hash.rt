@@ -1,13 +1,13 @@
-// The hash that a password is verified against, of either format.
+// The hash that a password is verified against, and that may be made anew, of either format.
 
-ghost use Rattle.std.specs.Prelude.{◌≡◌, ◌⊎◌, None, Some, IfErr, IfOk, IfNone, IfSome, OnOk, if◌then◌else◌};
+ghost use Rattle.std.specs.Prelude.{◌≡◌, ◌⊎◌, ◌↔◌, None, Some, IfErr, IfOk, IfNone, IfSome, IsTrue, OnOk, if◌then◌else◌};
 ghost use Rattle.password_hash.specs.Refusal.{WrongPassword, refusal};
-ghost use Rattle.scrypt_tool.specs.StoredHash.{Accepts, IsHashOf, IsHashText, IsVerdictFault, RefusesToVerify, Verdict, is_mcf_word};
+ghost use Rattle.scrypt_tool.specs.StoredHash.{Accepts, IsHashOf, IsHashText, IsReadableHash, IsRefused, IsVerdictFault, IsWeakerThan, RefusesToVerify, Verdict, is_mcf_word};
 ghost use Rattle.scrypt_tool.specs.declared.fault.Fault.TheVariants.{OutOfMemory};
 
 use crate::fault::Fault;
-use password_hash::{PasswordVerifier, mcf, phc};
-use scrypt::Scrypt;
+use password_hash::{PasswordVerifier, RehashCheck, mcf, phc};
+use scrypt::{Params, Scrypt};
 use std::alloc::Global;
 
 /// A hash of either format. A `$7$` text is borrowed from its word.
@@ -49,6 +49,28 @@ impl<'a> StoredHash<'a> {
                 Some(fault) => Err(fault),
                 None => Ok(false),
             },
+        }
+    }
+
+    /// Whether the hash is weaker than these parameters.
+    ///
+    /// This is asked of a hash that a password was verified against, which can be read.
+    pub fn is_weaker(&self, wanted: &Params) -> bool
+        requires { IsReadableHash self.now }
+        ensures value { IsTrue result ↔ IsWeakerThan self.now wanted.now }
+    {
+        self.needs_rehash(*wanted).unwrap()
+    }
+
+    // Asks the library's check for the format.
+    fn needs_rehash(&self, wanted: Params) -> password_hash::Result<bool>
+        ensures ok { IfOk result (λ weaker. IsTrue weaker ↔ IsWeakerThan self.now wanted) }
+        ensures err { IfErr result (λ e. IsRefused self.now (refusal e)) }
+    {
+        let wanted = Scrypt::new_with_params(wanted);
+        match self {
+            StoredHash::Phc(hash) => wanted.needs_rehash(hash),
+            StoredHash::Mcf(hash) => wanted.needs_rehash(hash),
         }
     }
 

@@ -6,25 +6,27 @@ mod hashes;
 mod keys;
 mod readers;
 mod refusals;
+mod rehash;
 mod streams;
 mod writers;
 
 use crate::run::{Ended, run};
 use std::alloc::Global;
 use std::io::{Read, Write};
+use std::process::Abort;
 use std::test::Fail;
-use streams::Page;
+use streams::{Input, Page};
 
 // The first key of RFC 7914, section 12, and a newline.
 const FIRST_KEY: &str =
     "77d6576238657b203b19ca42c18a0497f16b4844e3074ae8dfdffa3fede21442fcd0069ded0948f8326a753a0fc81f17e8d3e0fb2e0d3628cf35e20c38d18906\n";
 
 const USAGE: &str =
-    "usage: key LOG_N R P LEN SALT_HEX | hash phc|mcf LOG_N R P SALT_HEX [LEN] | verify HASH\n";
+    "usage: key LOG_N R P LEN SALT_HEX | hash phc|mcf LOG_N R P SALT_HEX [LEN] | verify HASH | rehash phc|mcf LOG_N R P LEN SALT_HEX HASH\n";
 
 // A command line, its status on the password `password`, and the line that it writes. The key is that of
 // Python's hashlib, and the `$7$` text is libxcrypt's.
-const COMMANDS: [(&str, u8, &str); 7] = [
+const COMMANDS: [(&str, u8, &str); 10] = [
     (
         "key 4 1 1 32 4e61436c",
         0,
@@ -57,6 +59,21 @@ const COMMANDS: [(&str, u8, &str); 7] = [
     ),
     (
         "verify $7$2/..../....$rNxJWVHNv/mCNcgE/f6/L4zO6Fos5c2uTzhyzoisI62",
+        1,
+        "no\n",
+    ),
+    (
+        "rehash phc 5 1 1 32 4e61436c $7$2/..../....C3qEg/$oOSIli7m/kDufp3GXHdJ7lqr3hzIyIJUYr4iTamAqDA",
+        0,
+        "$scrypt$ln=5,r=1,p=1$TmFDbA$HxxPTsHZtP5EtByLhzMFjQIpZtxfampm43heDluSagY\n",
+    ),
+    (
+        "rehash mcf 4 1 1 32 4e61436c $scrypt$ln=4,r=1,p=1$TmFDbA$rsa3SD7SbgiAK0H0AyCGoOiGvnrEj8/ZL/DO+BCXUvQ",
+        0,
+        "ok\n",
+    ),
+    (
+        "rehash mcf 5 1 1 32 4e61436c $7$2/..../....$rNxJWVHNv/mCNcgE/f6/L4zO6Fos5c2uTzhyzoisI62",
         1,
         "no\n",
     ),
@@ -104,6 +121,28 @@ fn words_of(alloc: Global, line: &str) -> Result<Vec<String>, Fail> {
         words.push(String::from_str(alloc, word)?)?;
     }
     Ok(words)
+}
+
+// Runs a command line on a password, whose line goes to the output with status 0 or 1, and else to the
+// faults.
+fn prints(
+    rt: &impl Abort,
+    alloc: Global,
+    line: &str,
+    password: &str,
+    (status, written): (u8, &str),
+) -> Result<(), Fail> {
+    let mut input = Input::new(password.as_bytes(), usize::MAX);
+    let printed = run_line(alloc, line, &mut input, Page::new(), Page::new())?;
+    assert_eq!(rt; printed.ended, Ended { status, ..DONE }, "{line}");
+    let (output, fault) = if status < 2 {
+        (written, "")
+    } else {
+        ("", written)
+    };
+    assert_eq!(rt; printed.output.text(), output.as_bytes(), "{line}");
+    assert_eq!(rt; printed.faults.text(), fault.as_bytes(), "{line}");
+    Ok(())
 }
 
 const DONE: Ended = Ended {

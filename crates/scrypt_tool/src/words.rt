@@ -1,7 +1,7 @@
 // The words of a command, with their numbers read.
 
 ghost use Rattle.std.specs.Prelude.{◌≡◌, map, option_map, string_bytes};
-ghost use Rattle.scrypt_tool.specs.Words.{format_of, hash_words, key_words, named_hash_words, numbers_of, verify_words, words_of, words_view};
+ghost use Rattle.scrypt_tool.specs.Words.{format_of, hash_words, key_words, named_hash_words, numbers_of, rehash_words, verify_words, words_of, words_view};
 
 use password_hash::decimal::read_decimal;
 
@@ -16,6 +16,14 @@ pub enum Words<'a> {
     },
     /// `verify HASH`
     Verify {
+        text: &'a str,
+    },
+    /// `rehash phc|mcf LOG_N R P LEN SALT_HEX HASH`
+    Rehash {
+        format: Format,
+        numbers: Numbers,
+        len: usize,
+        salt_hex: &'a str,
         text: &'a str,
     },
 }
@@ -59,6 +67,7 @@ impl<'a> Words<'a> {
             "key" => read_key(words),
             "hash" => read_hash(words),
             "verify" => read_verify(words),
+            "rehash" => read_rehash(words),
             _ => None,
         }
     }
@@ -123,6 +132,25 @@ fn read_verify<'a>(words: &'a [String]) -> Option<Words<'a>>
         return None;
     };
     Some(Words::Verify {
+        text: text.as_str(),
+    })
+}
+
+// Reads phc|mcf LOG_N R P LEN SALT_HEX HASH.
+fn read_rehash<'a>(words: &'a [String]) -> Option<Words<'a>>
+    ensures { option_map words_view result ≡ rehash_words (map string_bytes words.now) }
+{
+    let [format, log_n, r, p, len, salt_hex, text] = words else {
+        return None;
+    };
+    let format = read_format(format.as_str())?;
+    let numbers = read_numbers(log_n.as_str(), r.as_str(), p.as_str())?;
+    let len = read_decimal(len.as_str())?;
+    Some(Words::Rehash {
+        format,
+        numbers,
+        len,
+        salt_hex: salt_hex.as_str(),
         text: text.as_str(),
     })
 }

@@ -8,7 +8,7 @@ use std::test::Fail;
 
 // A command line, the reader's bytes before it fails if it does, the status, the fault line, and the
 // reason for the row.
-const FAULTS: [(&str, Option<&[u8]>, u8, &str, &str); 5] = [
+const FAULTS: [(&str, Option<&[u8]>, u8, &str, &str); 6] = [
     (
         "key 4 1 1 0 ",
         None,
@@ -29,6 +29,13 @@ const FAULTS: [(&str, Option<&[u8]>, u8, &str, &str); 5] = [
         2,
         "hash refused: EncodingInvalid\n",
         "verifying that refuses",
+    ),
+    (
+        "rehash phc 5 1 1 32  $7$2/..../....$rNxJWVHNv/mCNcgE/f6/L4zO6Fos5c2uTzhyzoisI62",
+        None,
+        2,
+        "hash refused: SaltInvalid\n",
+        "a new hash that is refused",
     ),
     (
         "key 56 1 1 32 ",

@@ -1,8 +1,6 @@
 // Hashes that are made and verified.
 
-use super::run_line;
-use super::streams::{Input, Page};
-use crate::run::Ended;
+use super::prints;
 use std::test::Fail;
 
 // A command line, its input, the status, and the line that is written: to the output with status 0
@@ -195,21 +193,7 @@ const REFUSALS: [Case; 15] = [
 #[test]
 fn answers_and_refusals(rt: HostRuntime) -> Result<(), Fail> {
     for (line, password, status, written) in ANSWERS.into_iter().chain(REFUSALS) {
-        let mut input = Input::new(password.as_bytes(), usize::MAX);
-        let printed = run_line(rt.alloc(), line, &mut input, Page::new(), Page::new())?;
-        let ended = Ended {
-            status,
-            input_failed: false,
-            fault_told: true,
-        };
-        assert_eq!(rt; printed.ended, ended, "{line}");
-        let (output, fault) = if status < 2 {
-            (written, "")
-        } else {
-            ("", written)
-        };
-        assert_eq!(rt; printed.output.text(), output.as_bytes(), "{line}");
-        assert_eq!(rt; printed.faults.text(), fault.as_bytes(), "{line}");
+        prints(&rt, rt.alloc(), line, password, (status, written))?;
     }
     Ok(())
 }

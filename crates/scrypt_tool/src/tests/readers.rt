@@ -83,7 +83,7 @@ fn slow_streams(rt: HostRuntime) -> Result<(), Fail> {
 }
 
 // A command line over a reader that fails at once, its status and fault line, and the reason.
-const ORDERS: [(&str, u8, &str, &str); 6] = [
+const ORDERS: [(&str, u8, &str, &str); 9] = [
     (
         "verify $scrypt$",
         2,
@@ -119,6 +119,24 @@ const ORDERS: [(&str, u8, &str, &str); 6] = [
         4,
         "input failed\n",
         "the length of a salt is looked at after the input",
+    ),
+    (
+        "rehash phc 4 1 1 32  $scrypt$",
+        2,
+        "hash refused: EncodingInvalid\n",
+        "the text of the old hash is read before the input",
+    ),
+    (
+        "rehash phc 4 1 1 32  $argon2id",
+        4,
+        "input failed\n",
+        "its algorithm is looked at after the input",
+    ),
+    (
+        "rehash phc 5 1 1 32  $7$2/..../....$rNxJWVHNv/mCNcgE/f6/L4zO6Fos5c2uTzhyzoisI62",
+        4,
+        "input failed\n",
+        "the length of a new salt is looked at after the input",
     ),
 ];
 

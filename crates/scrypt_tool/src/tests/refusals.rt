@@ -31,7 +31,7 @@ fn refused(rt: &impl Abort, alloc: Global, line: &str, fault: &str) -> Result<()
 }
 
 // A line of words, and its fault line.
-const REFUSALS: [(&str, &str); 23] = [
+const REFUSALS: [(&str, &str); 31] = [
     ("key 04 1 1 64 ", USAGE),
     ("key 4 1 1 64 0", SALT),
     ("key 4 1 1 64 0g", SALT),
@@ -55,6 +55,14 @@ const REFUSALS: [(&str, &str); 23] = [
     ("verify $scrypt$", ENCODING),
     ("verify $8$a", ENCODING),
     ("verify $scrypt$ln=4,ln=4", ENCODING),
+    ("rehash phc 04 1 1 32 00 $scrypt", USAGE),
+    ("rehash phc 4 1 1 32 0 $scrypt", SALT),
+    ("rehash phc 57 1 1 32 00 $scrypt", PARAMS),
+    ("rehash phc 4 0 1 32 00 $scrypt", PARAMS),
+    ("rehash mcf 4 1 1 9 00 $scrypt", PARAMS),
+    ("rehash mcf 4 1 1 65 00 $scrypt", PARAMS),
+    ("rehash mcf 4 1 1 32 00 $8$a", ENCODING),
+    ("rehash mcf 4 1 1 32 00 ", ENCODING),
 ];
 
 #[test]
@@ -66,7 +74,7 @@ fn each_refusal(rt: HostRuntime) -> Result<(), Fail> {
 }
 
 // The first thing that is wrong is printed.
-const SEVERAL_WRONG: [(&str, &str); 8] = [
+const SEVERAL_WRONG: [(&str, &str); 11] = [
     ("key 4 1 1 00 0", USAGE),
     ("key 4 0 0 0 0", SALT),
     ("key 4 0 1 0 ", PARAMS),
@@ -75,6 +83,9 @@ const SEVERAL_WRONG: [(&str, &str); 8] = [
     ("hash phc 4 0 1 0", SALT),
     ("hash mcf 4 1 1 0 9", SALT),
     ("hash mcf 4 1 1 0 09", USAGE),
+    ("rehash phc 4 0 1 09 0 $8$a", USAGE),
+    ("rehash phc 4 0 1 9 0 $8$a", SALT),
+    ("rehash phc 4 1 1 9 00 $8$a", PARAMS),
 ];
 
 #[test]
@@ -86,7 +97,7 @@ fn first_of_several_refusals(rt: HostRuntime) -> Result<(), Fail> {
 }
 
 // A number below its bound is read, and then refused as a parameter or as a length.
-const NUMBERS: [(&str, &str); 18] = [
+const NUMBERS: [(&str, &str); 20] = [
     ("key 255 1 1 64 ", PARAMS),
     ("key 256 1 1 64 ", USAGE),
     ("key 4 4294967295 1 64 ", PARAMS),
@@ -96,6 +107,8 @@ const NUMBERS: [(&str, &str); 18] = [
     ("key 4 1 1 18446744073709551615 ", LENGTH),
     ("key 4 1 1 18446744073709551616 ", USAGE),
     ("hash mcf 4 1 1  18446744073709551616", USAGE),
+    ("rehash mcf 4 1 1 18446744073709551615  $scrypt", PARAMS),
+    ("rehash mcf 4 1 1 18446744073709551616  $scrypt", USAGE),
     ("key +4 1 1 64 ", USAGE),
     ("key -4 1 1 64 ", USAGE),
     ("key 00 1 1 64 ", USAGE),
@@ -116,7 +129,7 @@ fn numbers_at_their_bounds(rt: HostRuntime) -> Result<(), Fail> {
 }
 
 // Words that are not those of a command.
-const NO_COMMANDS: [&str; 15] = [
+const NO_COMMANDS: [&str; 21] = [
     "",
     "key",
     "key 4 1 1 64",
@@ -132,6 +145,12 @@ const NO_COMMANDS: [&str; 15] = [
     "hash mcf 4 1 1 00 32 32",
     "verify",
     "verify $scrypt $scrypt",
+    "rehash",
+    "rehash $scrypt",
+    "rehash phc 4 1 1 00 $scrypt",
+    "rehash md5 4 1 1 32 00 $scrypt",
+    "rehash 4 1 1 32 00 $scrypt",
+    "rehash phc 4 1 1 32 00 $scrypt $scrypt",
 ];
 
 #[test]
@@ -143,12 +162,15 @@ fn words_of_no_command(rt: HostRuntime) -> Result<(), Fail> {
 }
 
 // The tables of these parameters would have 2^63 bytes.
-const LARGE: [&str; 5] = [
+const LARGE: [&str; 8] = [
     "key 56 1 1 32 ",
     "hash phc 56 1 1 00",
     "hash mcf 56 1 1 00",
     "verify $scrypt$ln=56,r=1,p=1$aA$AAAAAAAAAAAAAA",
     "verify $7$s/..../....$r/",
+    "rehash mcf 4 1 1 32  $7$s/..../....$r/",
+    "rehash phc 56 1 1 32 00 $7$2/..../....$rNxJWVHNv/mCNcgE/f6/L4zO6Fos5c2uTzhyzoisI62",
+    "rehash mcf 56 1 1 32  $7$2/..../....$rNxJWVHNv/mCNcgE/f6/L4zO6Fos5c2uTzhyzoisI62",
 ];
 
 #[test]

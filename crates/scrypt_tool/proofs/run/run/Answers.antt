@@ -1,15 +1,15 @@
 use Rattle.std.proofs.Common.{inr}
-use Rattle.scrypt_tool.proofs.OutcomeFacts.{answer_fault, answer_line, answer_status, end_fault, end_status, read_before_refusal, refused_end}
+use Rattle.scrypt_tool.proofs.OutcomeFacts.{answer_fault, answer_line, answer_status, end_fault, end_read, end_status, read_before_refusal, refused_end}
 use Rattle.scrypt_tool.proofs.run.run.Goals as goal
 
 pub returns-in-Ok-clause-status : goal.returns-in-Ok-clause-status
-returns-in-Ok-clause-status g c = inr (inr (answer_status _ _ _ _ _ c.in-Ok.ensures.line))
+returns-in-Ok-clause-status g c = inr (inr (rw c.answered.ensures.status (answer_status _ _ _ _ _ c.in-Ok.ensures.line)))
 
 pub returns-in-Ok-clause-line : goal.returns-in-Ok-clause-line
-returns-in-Ok-clause-line g c = λ answered. answer_line _ _ _ _ _ c.in-Ok.ensures.line
+returns-in-Ok-clause-line g c = λ answered. rw c.answered.ensures.status (answer_line _ _ _ _ _ c.in-Ok.ensures.line)
 
 pub returns-in-Ok-clause-fault : goal.returns-in-Ok-clause-fault
-returns-in-Ok-clause-fault g c = λ low told. answer_fault _ _ _ _ _ _ c.in-Ok.ensures.line
+returns-in-Ok-clause-fault g c = λ low told. rw c.answered.ensures.status (answer_fault _ _ _ _ _ _ c.in-Ok.ensures.line)
 
 pub returns-in-Err-clause-status : goal.returns-in-Err-clause-status
 returns-in-Err-clause-status g c = end_status _ _ _ _ _ c.end.ensures.status c.in-Err.ensures.err
@@ -28,3 +28,6 @@ returns-in-Err-clause-unread g c = λ fault h. (c.in-Err.ensures.refused fault h
 pub returns-in-Err-clause-read_before_refusal : goal.returns-in-Err-clause-read_before_refusal
 returns-in-Err-clause-read_before_refusal g c =
     λ two none. read_before_refusal _ _ _ _ _ c.end.ensures.status c.in-Err.ensures.err two none
+
+pub returns-in-Err-clause-read : goal.returns-in-Err-clause-read
+returns-in-Err-clause-read g c = end_read _ _ _ _ _ _ c.end.ensures.status c.end.ensures.failed c.in-Err.ensures.err

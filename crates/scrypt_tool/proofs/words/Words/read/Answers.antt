@@ -1,5 +1,5 @@
 use Rattle.std.proofs.Common.{◌∙◌, ap, map, string_bytes, sym}
-use Rattle.scrypt_tool.proofs.WordsFacts.{after_hash, after_key, after_verify, no_name, no_words}
+use Rattle.scrypt_tool.proofs.WordsFacts.{after_hash, after_key, after_rehash, after_verify, no_name, no_words}
 use Rattle.scrypt_tool.proofs.words.Words.read.Goals as goal
 
 pub returns-in_err-name : goal.returns-in_err-name
@@ -25,8 +25,14 @@ returns-in-verify c = record {
       (sym c.as_str.ensures.value ∙ c.in-verify.is));
 }
 
+pub returns-in-rehash : goal.returns-in-rehash
+returns-in-rehash c = record {
+  value = c.read_rehash.ensures ∙ sym (after_rehash _ _ _ (ap (map string_bytes) c.in_ok-name.ensures.cases.0)
+      (sym c.as_str.ensures.value ∙ c.in-rehash.is));
+}
+
 pub returns-in_default : goal.returns-in_default
 returns-in_default c = record {
   value = rw (c.in_ok-name.ensures.cases.0, sym c.as_str.ensures.value)
-      (sym (no_name _ _ c.in_default.not-key c.in_default.not-hash c.in_default.not-verify));
+      (sym (no_name _ _ c.in_default.not-key c.in_default.not-hash c.in_default.not-verify c.in_default.not-rehash));
 }
