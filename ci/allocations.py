@@ -33,6 +33,11 @@ RUNS = [
     (f"verify {MCF}", b"another", 1, 7),
     # the input grows by doubling, from the first 1,024 bytes on
     (f"verify {PHC}", b"a" * 5000, 1, 9),
+    # the verdict, and then a new hash if there is one
+    (f"rehash phc 5 1 1 32 4e61436c {MCF}", b"password", 0, 13),
+    (f"rehash mcf 5 1 1 32 4e61436c {PHC}", b"password", 0, 11),
+    (f"rehash mcf 4 1 1 32 4e61436c {PHC}", b"password", 0, 7),
+    (f"rehash mcf 5 1 1 32 4e61436c {MCF}", b"another", 1, 8),
     # refused before the input, some with the salt in memory
     ("key 4 1 1", b"password", 2, 0),
     ("key 4 1 1 32 4", b"password", 2, 0),

@@ -7,9 +7,10 @@ use failing_allocations::{CallEnd, failing_allocations};
 use std::test::Fail;
 
 // What each line of COMMANDS allocates, in bytes, up to the derivation and with it: the salt, the
-// input, the key or the text, and then the chunks, the table and the scratch. The line is written
-// into memory that the derivation gave back, so those allocations can't fail here.
-const ALLOCATIONS: [&[usize]; 7] = [
+// input, the key or the text, and then the chunks, the table and the scratch; a new hash of twice the
+// cost has a larger table. What comes after a derivation and is no larger than what it gave back can't
+// fail here: the line, and the other buffers of a second derivation.
+const ALLOCATIONS: [&[usize]; 10] = [
     &[4, 8, 32, 128, 2048, 256],
     &[4, 8, 128, 2048, 256],
     &[4, 8, 64, 128, 2048, 256],
@@ -17,6 +18,9 @@ const ALLOCATIONS: [&[usize]; 7] = [
     &[8, 32, 128, 2048, 256],
     &[8, 128, 2048, 256],
     &[8, 32, 128, 2048, 256],
+    &[4, 8, 32, 128, 2048, 256, 4096],
+    &[4, 8, 128, 2048, 256],
+    &[4, 8, 32, 128, 2048, 256],
 ];
 
 #[test]
