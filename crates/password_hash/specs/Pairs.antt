@@ -1,8 +1,7 @@
 -- The parameters of a hash: pairs of a name and a value.
 use Rattle.std.specs.Prelude.{◌≡◌, ◌≢◌, ℕ, ◌≤◌, ◌==◌, ◌&&◌, Bool, nat_eq, List, [], ◌∷◌, ◌++◌, length, map, codes, All, AllPairs}
 use Rattle.std.specs.List.{join_with_byte, slice_split, before_first, after_first}
-use Rattle.std.specs.Cmp.{IsEquivalence, on_equiv, and_equiv}
-use Rattle.std.specs.Cmp.Lexicographic.{pointwise, lists_equiv, nat_list_eq_equiv}
+use Rattle.std.specs.Cmp.Lexicographic.{pointwise}
 use Rattle.password_hash.specs.Letters.{IsIdentifier, IsValue}
 
 -- a name, which is an identifier and is not `v`, and a value
@@ -28,11 +27,6 @@ pub record ArePairs (pairs : List (List ℕ × List ℕ)) : Type 0 where
 -- whether two pairs are equal
 abbrev pub pair_eq : List ℕ × List ℕ → List ℕ × List ℕ → Bool
 pair_eq first second = pointwise nat_eq first.0 second.0 && pointwise nat_eq first.1 second.1
-
--- the test of pairs is an equivalence
-pub pairs_eq_equiv : IsEquivalence (pointwise pair_eq)
-pairs_eq_equiv =
-    lists_equiv (and_equiv (on_equiv (λ (pair : List ℕ × List ℕ). pair.0) nat_list_eq_equiv) (on_equiv (λ (pair : List ℕ × List ℕ). pair.1) nat_list_eq_equiv))
 
 -- the text with one more pair at its end
 abbrev pub with_pair : List ℕ → List ℕ × List ℕ → List ℕ

@@ -1,9 +1,9 @@
 //! The parameters of a hash.
 ghost use Rattle.std.specs.Prelude.{◌≡◌, ◌≢◌, ◌↔◌, ◌≤◌, ◌∷◌, ◌++◌, ℕ, List, [], length, All, Contains, decimal, true, IsOk, Ok, IfOk, IfErr, IfSome, IfNone, OnOk, OnErr};
-ghost use Rattle.std.specs.Cmp.{partial_equiv_from_equiv};
-ghost use Rattle.std.specs.Cmp.Lexicographic.{pointwise};
+ghost use Rattle.std.specs.Cmp.{and_equiv, on_equiv, partial_equiv_from_equiv};
+ghost use Rattle.std.specs.Cmp.Lexicographic.{lists_equiv, nat_list_eq_equiv, pointwise};
 ghost use Rattle.password_hash.specs.Letters.{IsValue};
-ghost use Rattle.password_hash.specs.Pairs.{ArePairs, IsPair, pair_eq, pairs_eq_equiv, pairs_text, with_pair};
+ghost use Rattle.password_hash.specs.Pairs.{ArePairs, IsPair, pair_eq, pairs_text, with_pair};
 ghost use Rattle.password_hash.specs.Value.{value_text};
 ghost use Rattle.password_hash.specs.declared.error.Error.TheVariants.{ParamsInvalid};
 
@@ -127,7 +127,9 @@ impl ParamsString {
 impl PartialEq for ParamsString {
     ghost eq = { pointwise pair_eq };
 
-    ghost laws = { partial_equiv_from_equiv pairs_eq_equiv };
+    ghost laws = { partial_equiv_from_equiv (lists_equiv (and_equiv
+        (on_equiv (λ (pair : List ℕ × List ℕ). pair.0) nat_list_eq_equiv)
+        (on_equiv (λ (pair : List ℕ × List ℕ). pair.1) nat_list_eq_equiv))) };
 
     fn eq(&self, other: &ParamsString) -> bool {
         self.as_str() == other.as_str()
@@ -135,7 +137,9 @@ impl PartialEq for ParamsString {
 }
 
 impl Eq for ParamsString {
-    ghost laws = { pairs_eq_equiv };
+    ghost laws = { lists_equiv (and_equiv
+        (on_equiv (λ (pair : List ℕ × List ℕ). pair.0) nat_list_eq_equiv)
+        (on_equiv (λ (pair : List ℕ × List ℕ). pair.1) nat_list_eq_equiv)) };
 }
 
 /// Appends a pair to the text of others. Returns `ParamsInvalid`, and changes nothing, if there is
