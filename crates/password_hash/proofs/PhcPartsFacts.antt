@@ -4,9 +4,9 @@ use Rattle.std.specs.Prelude.{All, Option, None, Some, decimal}
 use Rattle.std.specs.List.{AllByRecursion as ByRecursion}
 use Rattle.std.specs.List.{slice_split, join_with_byte}
 use Rattle.std.proofs.lemmas.List.{append_assoc, append-nil, length-append, get_or_at}
-use Rattle.std.proofs.lemmas.List.Splits.{join_with_byte-slice_split, slice_split_at, slice_split_none, length-slice_split}
-use Rattle.std.proofs.lemmas.Bool.{ne_eqb, eq-eqb, false≢true}
-use Rattle.std.proofs.lemmas.List.Elements.{All-from_get_or, All-head, All-get_or, All-from_recursion}
+use Rattle.std.proofs.lemmas.List.Splits.{join_with_byte-slice_split, slice_split_none, length-slice_split}
+use Rattle.std.proofs.lemmas.Bool.{eq-eqb, false≢true}
+use Rattle.std.proofs.lemmas.List.Elements.{All-head, All-get_or, All-from_recursion}
 use Rattle.base64.specs.Rfc4648.{encode_symbols}
 use Rattle.base64.specs.GeneralPurpose.{IsBytes}
 use Rattle.base64.specs.Engines.{standard_no_pad}
@@ -16,7 +16,7 @@ use Rattle.password_hash.specs.Phc.{base64, version_part, params_part, IsSalt, I
 use Rattle.password_hash.specs.Decimal.{IsDecimal}
 use Rattle.password_hash.specs.PhcParts.{IsVersion, LackVersion, LackEquals}
 use Rattle.password_hash.proofs.DecimalFacts.{decimal_of, IsDecimal-decimal}
-use Rattle.password_hash.proofs.PairsFacts.{Lacks, letters_lack, slice_split-join}
+use Rattle.password_hash.proofs.PairsFacts.{Lacks, letters_lack}
 
 -- the symbols of six bits of a table
 symbols_hold : (P : ℕ → Type 0) (t : List ℕ) → ((v : ℕ) → v < 64 → P (slice_index t v)) → (m : List ℕ) → IsBytes m → ByRecursion P (encode_symbols t m)

@@ -1,4 +1,4 @@
--- Crypt Base64: bytes as the letters of crypt(5).
+-- Crypt Base64: the encoding of bytes in the letters of crypt(5).
 use Rattle.std.specs.Prelude.{◌≡◌, ◌==◌, ℕ, zero, suc, ◌+◌, ◌*◌, ◌/◌, ◌%◌, ◌<◌, List, [], ◌∷◌, ◌++◌, Option, Some, None, All, codes, position, slice_index}
 
 -- the alphabet: the letter of each value from 0 to 63
@@ -13,7 +13,8 @@ letter value = slice_index alphabet value
 unfoldable pub letter_value : ℕ → Option ℕ
 letter_value byte = position (λ other. other == byte) alphabet
 
--- so many letters of a number: its lowest digits to base 64, the lowest first; higher ones are cut off
+-- so many letters of a number: its lowest digits in base 64, the lowest first; higher ones are
+-- dropped
 unfoldable pub letters_of : ℕ → ℕ → List ℕ
 letters_of zero number = []
 letters_of (suc count) number = letter (number % 64) ∷ letters_of count (number / 64)
@@ -23,7 +24,7 @@ abbrev pub with_digit : Option ℕ → Option ℕ → Option ℕ
 with_digit (Some value) (Some above) = Some (value + 64 * above)
 with_digit value above = None
 
--- the number that letters say: their values as digits to base 64, the lowest first
+-- the number that letters encode: their values are its digits in base 64, the lowest first
 unfoldable pub number_of : List ℕ → Option ℕ
 number_of [] = Some 0
 number_of (first ∷ letters) = with_digit (letter_value first) (number_of letters)
@@ -48,7 +49,7 @@ IsCrypt64 letters = (bytes : List ℕ) × Crypt64 bytes letters
 abbrev pub encoded_len : ℕ → ℕ
 encoded_len n = (4 * n + 2) / 3
 
--- these letters encode just these bytes followed by what the rest encodes
+-- these letters encode these bytes followed by what the rest encodes, and nothing else
 pub record Begins (letters bytes rest : List ℕ) : Type 0 where
   pub forth : (more : List ℕ) → Crypt64 more rest → Crypt64 (bytes ++ more) letters
   pub back : (all : List ℕ) → Crypt64 all letters

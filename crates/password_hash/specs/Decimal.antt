@@ -4,7 +4,7 @@ use Rattle.std.specs.Result.{result_ok}
 use Rattle.std.specs.Str.{all_ascii_digits}
 use Rattle.std.specs.Str.Parse.{AllDigits, digits_value}
 
--- one or more digits, the first no zero unless it is the only one, of a number below 2 ^ 32
+-- one or more digits, the first not a zero unless it is the only one, of a number below 2 ^ 32
 pub record IsDecimal (text : List ℕ) (number : ℕ) : Type 0 where
   pub some : 0 < length text
   pub digits : AllDigits 10 text
@@ -17,7 +17,7 @@ unfoldable pub has_plus_or_leading_zero : List ℕ → Bool
 has_plus_or_leading_zero text =
     slice_index text 0 == 43 || (slice_index text 0 == 48 && nat_lt 1 (length text))
 
--- one or more digits, the first no zero unless it is the only one
+-- one or more digits, the first not a zero unless it is the only one
 abbrev pub is_decimal : List ℕ → Bool
 is_decimal text = nat_lt 0 (length text) && all_ascii_digits text && not (has_plus_or_leading_zero text)
 

@@ -1,8 +1,7 @@
 -- The parameters of a hash: pairs of a name and a value.
 use Rattle.std.specs.Prelude.{◌≡◌, ◌≢◌, ℕ, ◌≤◌, ◌==◌, ◌&&◌, Bool, nat_eq, List, [], ◌∷◌, ◌++◌, length, map, codes, All, AllPairs}
 use Rattle.std.specs.List.{join_with_byte, slice_split, before_first, after_first}
-use Rattle.std.specs.Cmp.{IsEquivalence, on_equiv, and_equiv}
-use Rattle.std.specs.Cmp.Lexicographic.{pointwise, lists_equiv, nat_list_eq_equiv}
+use Rattle.std.specs.Cmp.Lexicographic.{pointwise}
 use Rattle.password_hash.specs.Letters.{IsIdentifier, IsValue}
 
 -- a name, which is an identifier and is not `v`, and a value
@@ -19,31 +18,26 @@ pair_text pair = pair.0 ++ (codes "=" ++ pair.1)
 abbrev pub pairs_text : List (List ℕ × List ℕ) → List ℕ
 pairs_text pairs = join_with_byte 44 (map pair_text pairs)
 
--- the parameters of one hash: no name stands twice, and the text has at most 127 bytes
+-- the parameters of one hash: no name occurs twice, and the text has at most 127 bytes
 pub record ArePairs (pairs : List (List ℕ × List ℕ)) : Type 0 where
   pub each : All IsPair pairs
   pub once : AllPairs (λ first second. first.0 ≢ second.0) pairs
   pub short : length (pairs_text pairs) ≤ 127
 
--- the test of two pairs
+-- whether two pairs are equal
 abbrev pub pair_eq : List ℕ × List ℕ → List ℕ × List ℕ → Bool
 pair_eq first second = pointwise nat_eq first.0 second.0 && pointwise nat_eq first.1 second.1
-
--- the test of pairs is an equivalence
-pub pairs_eq_equiv : IsEquivalence (pointwise pair_eq)
-pairs_eq_equiv =
-    lists_equiv (and_equiv (on_equiv (λ (pair : List ℕ × List ℕ). pair.0) nat_list_eq_equiv) (on_equiv (λ (pair : List ℕ × List ℕ). pair.1) nat_list_eq_equiv))
 
 -- the text with one more pair at its end
 abbrev pub with_pair : List ℕ → List ℕ × List ℕ → List ℕ
 with_pair [] pair = pair_text pair
 with_pair (byte ∷ text) pair = (byte ∷ text) ++ (codes "," ++ pair_text pair)
 
--- what stands before and after the first `=`
+-- the text before the first `=`, and the text after it
 abbrev pub pair_of : List ℕ → List ℕ × List ℕ
 pair_of text = (before_first (λ b. b == 61) text, after_first (λ b. b == 61) text)
 
--- the pairs of a text that is kept in place of them
+-- the pairs that a text encodes
 abbrev pub pairs_of : List ℕ → List (List ℕ × List ℕ)
 pairs_of [] = []
 pairs_of (byte ∷ text) = map pair_of (slice_split (λ b. b == 44) (byte ∷ text))

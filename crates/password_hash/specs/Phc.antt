@@ -1,5 +1,5 @@
 -- A hash in the PHC string format.
-use Rattle.std.specs.Prelude.{◌≡◌, ℕ, ◌^◌, ◌<◌, ◌≤◌, List, [], ◌∷◌, ◌++◌, length, codes, decimal, Option, None, Some, IfSome, OnSome, IsSome}
+use Rattle.std.specs.Prelude.{◌≡◌, ℕ, ◌^◌, ◌<◌, List, [], ◌∷◌, ◌++◌, codes, decimal, Option, None, Some, IfSome, OnSome, IsSome}
 use Rattle.base64.specs.Engines.{standard_no_pad}
 use Rattle.base64.specs.GeneralPurpose.{encode_of}
 use Rattle.password_hash.specs.Letters.{IsIdentifier}
@@ -17,7 +17,7 @@ abbrev pub version_part : Option ℕ → List (List ℕ)
 version_part None = []
 version_part (Some version) = (codes "v=" ++ decimal version) ∷ []
 
--- the parameters, where there are some
+-- the parameters, if there are any
 abbrev pub params_part : List (List ℕ × List ℕ) → List (List ℕ)
 params_part [] = []
 params_part (pair ∷ pairs) = pairs_text (pair ∷ pairs) ∷ []
@@ -27,7 +27,7 @@ abbrev pub key_part : Option (List ℕ) → List (List ℕ)
 key_part None = []
 key_part (Some key) = base64 key ∷ []
 
--- the salt in Base64, and the key behind it: without a salt there is no key
+-- the salt in Base64, and the key after it: without a salt there is no key
 abbrev pub salt_and_key_parts : Option (List ℕ) → Option (List ℕ) → List (List ℕ)
 salt_and_key_parts None key = []
 salt_and_key_parts (Some salt) key = base64 salt ∷ key_part key

@@ -15,13 +15,13 @@ LackVersion parts = All (λ part. (rest : List ℕ) → part ≢ codes "v=" ++ r
 abbrev pub LackEquals : List (List ℕ) → Type 0
 LackEquals parts = All (λ part. All (λ b. (b == 61) ≡ false) part) parts
 
--- what was read is allowed and stands at the front, and what is left stands behind it
+-- what was read is allowed and is at the front of the parts, and what is left is after it
 abbrev pub Takes : {A : Type 0} → (A → List (List ℕ)) → (A → Type 0) → List (List ℕ)
     → A × Option (Bor (List ℕ)) → Type 0
 Takes shown IsAllowed parts read =
     (parts ≡ shown read.0 ++ parts_left read.1) × IsAllowed read.0
 
--- what is allowed and stands at the front, with others behind it, was read
+-- if something allowed is at the front of the parts, with others after it, then it was read
 abbrev pub TakesOnly : {A : Type 0} → (A → List (List ℕ)) → (A → Type 0)
     → (List (List ℕ) → Type 0) → List (List ℕ) → Option (A × Option (Bor (List ℕ))) → Type 0
 TakesOnly {A} shown IsAllowed AreOthers parts result =

@@ -1,4 +1,4 @@
--- An error by what it says: the name in it is a list of bytes, wherever it lies in memory.
+-- An error by its value: the name in it is a list of bytes, wherever it is in memory.
 use Rattle.std.specs.Prelude.{ℕ, List}
 use Rattle.password_hash.specs.declared.error.Error.{Error}
 use Rattle.password_hash.specs.declared.error.Error.TheVariants.{Algorithm, EncodingInvalid, OutputSize, ParamInvalid, ParamsInvalid, PasswordInvalid, SaltInvalid, Version, OutOfMemory}
@@ -15,7 +15,7 @@ pub data Refusal : Type 0 where
   BadVersion : Refusal
   NoMemory : Refusal
 
--- what an error says
+-- the value of an error
 abbrev pub refusal : Error → Refusal
 refusal Algorithm = BadAlgorithm
 refusal EncodingInvalid = BadEncoding

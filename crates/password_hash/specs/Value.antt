@@ -1,4 +1,4 @@
--- What a `Value` and an item of `Pairs` show.
+-- What contracts see of a `Value` and of an item of `Pairs`.
 use Rattle.std.specs.Prelude.{ℕ, List}
 use Rattle.password_hash.specs.declared.phc.ident.Ident.{Ident}
 use Rattle.password_hash.specs.declared.phc.value.Value.{Value}

@@ -4,7 +4,10 @@ ghost use Rattle.password_hash.specs.Decimal.{DecimalGives, has_plus_or_leading_
 
 use std::str::FromStr;
 
-/// Reads a number: digits alone, no leading zero except in `0` itself, below the type's bound.
+/// Parses a number as `N` does, but without a plus sign and without a leading zero.
+///
+/// Returns `None` if `text` begins with `+`, or with a `0` that is not its only character, or if
+/// `N` does not parse it.
 pub fn read_decimal<N: FromStr>(text: &str) -> Option<N>
 where
     N::Err: Drop,
@@ -16,7 +19,8 @@ where
     text.parse().ok()
 }
 
-/// Whether a plus comes first, or a zero that is not the only digit: `parse` would take both.
+/// Returns whether `text` begins with a plus, or with a zero that is not its only digit: `parse`
+/// accepts both.
 #[tactic(auto, unfolding(crate::specs::Decimal::has_plus_or_leading_zero))]
 fn has_plus_or_leading_zero(text: &[u8]) -> bool
     ensures { result ≡ has_plus_or_leading_zero text.now }

@@ -1,43 +1,43 @@
-//! What hashing, verifying and reading a hash text refuse by.
+//! The errors of making, parsing and verifying password hashes.
 use std::alloc::AllocError;
 
 /// The version of an algorithm.
 pub type Version = u32;
 
-/// A result of this crate.
+/// The result type of this crate.
 pub type Result<T> = std::result::Result<T, Error>;
 
-/// Why a password hash was not made, read or accepted.
+/// An error from making, parsing or verifying a password hash.
 #[derive(Clone, Copy, Debug, PartialEq, Eq, thiserror::Error)]
 pub enum Error {
-    /// The hash names another algorithm.
+    /// The algorithm is not supported.
     #[error("unsupported algorithm")]
     Algorithm,
-    /// The text is not written as its format asks.
+    /// The text is not in the expected format.
     #[error("invalid encoding")]
     EncodingInvalid,
-    /// The length of the key is not an allowed one.
+    /// The length of the key is out of range.
     #[error("invalid key length")]
     OutputSize,
-    /// The value of the named parameter is not an allowed one.
+    /// The value of the named parameter is invalid.
     #[error("invalid parameter {name}")]
     ParamInvalid {
         /// The name of the parameter.
         name: &'static str,
     },
-    /// The parameters together are not allowed ones.
+    /// The parameters as a whole are invalid.
     #[error("invalid parameters")]
     ParamsInvalid,
-    /// The password is not the one of the hash.
+    /// The password does not match the hash.
     #[error("wrong password")]
     PasswordInvalid,
-    /// The length of the salt is not an allowed one.
+    /// The length of the salt is out of range.
     #[error("invalid salt length")]
     SaltInvalid,
-    /// The hash names a version that is not supported.
+    /// The version of the algorithm is not supported.
     #[error("unsupported version")]
     Version,
-    /// A request for memory was refused.
+    /// An allocation failed.
     #[error("out of memory")]
     OutOfMemory,
 }

@@ -1,20 +1,20 @@
-//! Functions from a password and a salt to a key.
+//! Key derivation functions, from a password and a salt to a key.
 ghost use Rattle.std.specs.Prelude.{◌≡◌, List, ℕ, OnOk, OnErr, IfErr, length};
 
 use std::alloc::{AllocError, Global};
 
-/// Why no key was derived.
+/// An error from deriving a key.
 #[derive(Clone, Copy, Debug, PartialEq, Eq, thiserror::Error)]
 pub enum Error {
-    /// No key of this length can be derived.
+    /// A key of this length cannot be derived.
     #[error("refused key length")]
     Refused,
-    /// A request for memory was refused.
+    /// An allocation failed.
     #[error("out of memory")]
     OutOfMemory,
 }
 
-/// A result of deriving a key.
+/// The result type of deriving a key.
 pub type Result<T> = std::result::Result<T, Error>;
 
 impl From<AllocError> for Error {
@@ -28,17 +28,19 @@ impl From<AllocError> for Error {
     }
 }
 
-/// A function from a password and a salt to a key of the wanted length.
+/// A key derivation function, from a password and a salt to a key of the requested length.
 pub trait Kdf {
     ghost use Rattle.password_hash.specs.declared.kdf.Error.{Error};
 
     // The key that a password and a salt give.
     ghost derives: { Self → List ℕ → List ℕ → List ℕ → Type 0 };
 
-    // When a key of a length is refused, and by which error.
+    // Which error a refused length gives.
     ghost refuses: { Self → List ℕ → List ℕ → ℕ → Error → Type 0 };
 
-    /// Derives a key of `out.len()` bytes. A refusal leaves `out` as it was.
+    /// Derives a key of `out.len()` bytes from `password` and `salt`, and writes it to `out`.
+    ///
+    /// On an error `out` is unchanged.
     fn derive_key(&self, alloc: Global, password: &[u8], salt: &[u8], out: &mut [u8]) -> Result<()>
         ensures ok { OnOk result (derives self.now password.now salt.now out.new) }
         ensures err { IfErr result
@@ -46,7 +48,7 @@ pub trait Kdf {
         ensures unchanged { OnErr result (out.new ≡ out.old) };
 }
 
-/// A function that is made for passwords, and so takes long on purpose.
+/// A key derivation function for passwords, which is slow on purpose.
 pub trait Pbkdf: Kdf {}
 
 #[cfg(test)]

@@ -1,4 +1,5 @@
-//! MCF texts of crypt(5), as `$7$..`, and the Base64 of their fields.
+//! Texts in the modular crypt format (MCF) of crypt(5), such as `$7$..`, and the Base64 of their
+//! fields.
 ghost use Rattle.std.specs.Prelude.{◌≡◌};
 ghost use Rattle.password_hash.specs.declared.mcf.Error.TheVariants.{OutOfMemory};
 
@@ -20,18 +21,18 @@ pub use hash::PasswordHash;
 pub use hash_ref::PasswordHashRef;
 use std::alloc::AllocError;
 
-/// Why an MCF text or a field of one is refused.
+/// An error from reading or writing an MCF text or one of its fields.
 #[derive(Clone, Copy, Debug, PartialEq, Eq, thiserror::Error)]
 pub enum Error {
-    /// The text is not of the form that is read.
+    /// The text is not in the expected format, or the output is too short for it.
     #[error("invalid encoding")]
     EncodingInvalid,
-    /// Memory ran out.
+    /// An allocation failed.
     #[error("out of memory")]
     OutOfMemory,
 }
 
-/// What reads or writes MCF texts returns.
+/// The result type of reading and writing MCF texts.
 pub type Result<T> = std::result::Result<T, Error>;
 
 impl From<AllocError> for Error {

@@ -1,4 +1,4 @@
-//! What makes password hashes and what verifies them.
+//! The traits of making and verifying password hashes.
 ghost use Rattle.std.specs.Prelude.{◌≡◌, ◌↔◌, List, ℕ, Option, None, IfOk, IfErr, IsTrue, OnOk};
 ghost use Rattle.std.specs.Option.{option_map};
 ghost use Rattle.password_hash.specs.Refusal.{Refusal, refusal, WrongPassword};
@@ -6,20 +6,20 @@ ghost use Rattle.password_hash.specs.Refusal.{Refusal, refusal, WrongPassword};
 use crate::{Result, Version};
 use std::alloc::Global;
 
-/// Makes password hashes of the kind `H`.
+/// Makes password hashes of type `H`.
 pub trait PasswordHasher<H> {
     // The hash that a password and a salt give.
     ghost hashes: { Self → List ℕ → List ℕ → H → Type 0 };
 
-    // What a password and a salt are refused by.
+    // Which error a refused password and salt give.
     ghost refuses: { Self → List ℕ → List ℕ → Refusal → Type 0 };
 
-    /// Hashes the password with this salt.
+    /// Hashes `password` with `salt`.
     fn hash_password_with_salt(&self, alloc: Global, password: &[u8], salt: &[u8]) -> Result<H>
         ensures ok { IfOk result (λ h. hashes self.now password.now salt.now h) }
         ensures err { IfErr result (λ e. refuses self.now password.now salt.now (refusal e)) };
 
-    /// Hashes the password with sixteen bytes as salt, which the caller has drawn at random.
+    /// Hashes `password` with a salt of 16 bytes, which the caller has drawn at random.
     fn hash_password(&self, alloc: Global, password: &[u8], drawn: [u8; 16]) -> Result<H>
         ensures ok { IfOk result (λ h. hashes self.now password.now drawn h) }
         ensures err { IfErr result (λ e. refuses self.now password.now drawn (refusal e)) }
@@ -28,8 +28,8 @@ pub trait PasswordHasher<H> {
     }
 }
 
-/// Makes password hashes of the kind `H` with the algorithm, version and parameters that the
-/// caller names.
+/// Makes password hashes of type `H` with an algorithm, a version and parameters that the caller
+/// chooses.
 pub trait CustomizedPasswordHasher<H> {
     /// The parameters of the algorithm.
     type Params;
@@ -37,11 +37,11 @@ pub trait CustomizedPasswordHasher<H> {
     // The hash that a password, a salt, an algorithm, a version and parameters give.
     ghost customizes: { Self → List ℕ → List ℕ → Option (List ℕ) → Option ℕ → Self.Params → H → Type 0 };
 
-    // What these are refused by.
+    // Which error these give if they are refused.
     ghost refuses: { Self → List ℕ → List ℕ → Option (List ℕ) → Option ℕ → Self.Params → Refusal → Type 0 };
 
-    /// Hashes the password with this salt. An algorithm or a version that is `None` is the usual
-    /// one.
+    /// Hashes `password` with `salt` and `params`, by the algorithm `alg_id` in the version
+    /// `version`. `None` means the default one.
     fn hash_password_customized(
         &self,
         alloc: Global,
@@ -56,7 +56,7 @@ pub trait CustomizedPasswordHasher<H> {
         ensures err { IfErr result (λ e. refuses self.now password.now salt.now
             (option_map (λ s. s.now) alg_id.entry) version params (refusal e)) };
 
-    /// Hashes the password with this salt and these parameters, by the usual algorithm and version.
+    /// Hashes `password` with `salt` and `params`, by the default algorithm and version.
     fn hash_password_with_params(
         &self,
         alloc: Global,
@@ -71,24 +71,24 @@ pub trait CustomizedPasswordHasher<H> {
     }
 }
 
-/// Verifies passwords against hashes of the kind `H`.
+/// Verifies passwords against hashes of type `H`.
 pub trait PasswordVerifier<H> {
     // The password is that of the hash.
     ghost accepts: { List ℕ → H → Type 0 };
 
-    // What verifying is refused by.
+    // Which error a failed verification gives.
     ghost refuses: { List ℕ → H → Refusal → Type 0 };
 
-    /// Verifies the password. `Ok` is answered only where it is that of the hash, and
-    /// `PasswordInvalid` only where it is not.
+    /// Verifies `password` against `hash`. Returns `Ok` only if it is the password of the hash, and
+    /// `PasswordInvalid` only if it is not.
     fn verify_password(&self, alloc: Global, password: &[u8], hash: &H) -> Result<()>
         ensures ok { OnOk result (accepts password.now hash.now) }
         ensures wrong { IfErr result (λ e. refusal e ≡ WrongPassword → ¬ accepts password.now hash.now) }
         ensures err { IfErr result (λ e. refuses password.now hash.now (refusal e)) };
 }
 
-/// Tells which hashes of the kind `H` are weaker than this value's own parameters ask for, so that a
-/// login service makes them anew while it has the password.
+/// Checks whether hashes of type `H` are weaker than the parameters of this value. A login service
+/// can then make a weak hash anew while it has the password.
 pub trait RehashCheck<H> {
     // The hash can be read.
     ghost readable: { H → Type 0 };
@@ -96,10 +96,10 @@ pub trait RehashCheck<H> {
     // The hash can be read, and is weaker than wanted.
     ghost weaker: { Self → H → Type 0 };
 
-    // What a hash that can't be read is refused by.
+    // Which error a hash that cannot be read gives.
     ghost refuses: { H → Refusal → Type 0 };
 
-    /// Whether the hash is weaker than wanted. Takes no memory.
+    /// Returns whether `hash` is weaker than wanted. Does not allocate.
     fn needs_rehash(&self, hash: &H) -> Result<bool>
         ensures ok { OnOk result (readable hash.now) }
         ensures weak { IfOk result (λ weak. IsTrue weak ↔ weaker self.now hash.now) }

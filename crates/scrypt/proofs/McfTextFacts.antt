@@ -1,6 +1,6 @@
 -- The text that hashing writes is that of the hash.
 use Rattle.std.proofs.Common.{◌≡◌, ◌≢◌, ◌∙◌, ℕ, zero, suc, ◌+◌, ◌-◌, ◌^◌, ◌%◌, ◌<◌, ◌≤◌, List, [], ◌∷◌, ◌++◌, length, take, drop, set, Some, Ok, refl, sym, ap, subst, arith, lit<, append_assoc, length-append, length-drop}
-use Rattle.std.specs.Prelude.{All, IfSome, IsTrue, codes, unwrap_or}
+use Rattle.std.specs.Prelude.{All, IfSome, codes, unwrap_or}
 use Rattle.std.specs.Str.{IsAscii}
 use Rattle.std.proofs.lemmas.List.{append-nil, drop_all, drop_at, take_at, drop-drop}
 use Rattle.std.proofs.lemmas.List.Elements.{All-nil, All-cons, All-append, All-from_get_or, All-head, All-tail, All-weaker}

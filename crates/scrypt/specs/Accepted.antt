@@ -1,10 +1,10 @@
--- Which parameters and which output lengths are accepted, over whole numbers without a greatest
--- value. The bound on p of RFC 7914, section 2, is that on r * p. Of its bounds on N, above 1 and
--- below 2 ^ (128 * r / 8), neither is asked for; in their place 128 * r * N stays below 2 ^ 64.
+-- Which parameters and which output lengths are accepted, computed in unbounded integers. The bound
+-- on p of RFC 7914, section 2, is that on r * p. Of its bounds on N, above 1 and below
+-- 2 ^ (128 * r / 8), neither is required; instead 128 * r * N is below 2 ^ 64.
 use Rattle.std.specs.Prelude.{ℕ, ◌<◌, ◌≤◌, ◌*◌, ◌^◌, ◌&&◌, Bool, nat_eq, Option, None}
 use Rattle.std.specs.Option.{option_eq}
 
--- the parameters of a derivation, and perhaps the length of a key that is stored with them
+-- the parameters of a derivation, and optionally the length of a stored key
 pub record Parameters : Type 0 where
   pub log_n : ℕ
   pub r : ℕ
@@ -24,15 +24,15 @@ AreAccepted log_n r p =
 abbrev pub IsOutputLen : ℕ → Type 0
 IsOutputLen n = (1 ≤ n) × (n ≤ 137438953440)
 
--- a key of this many bytes can stand in a PHC text
+-- a PHC text can have a key of this many bytes
 abbrev pub IsStoredLen : ℕ → Type 0
 IsStoredLen n = (10 ≤ n) × (n ≤ 64)
 
--- the parameters that are taken where none are given: N of 2 ^ 17, r of 8, p of 1, and no length
+-- the default parameters: N of 2 ^ 17, r of 8, p of 1, and no length
 abbrev pub recommended_parameters : Parameters
 recommended_parameters = record { log_n = 17; r = 8; p = 1; output_len = None }
 
--- the test of parameters: the optional length, log_n, r and p
+-- whether two parameters are equal: the optional length, log_n, r and p
 abbrev pub parameters_eq : Parameters → Parameters → Bool
 parameters_eq a b =
     (option_eq nat_eq a.output_len b.output_len && nat_eq a.log_n b.log_n)

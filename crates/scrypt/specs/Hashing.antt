@@ -1,9 +1,9 @@
--- What making a hash comes to, in every format.
+-- Making a hash, in every format.
 use Rattle.std.specs.Prelude.{◌≡◌, ℕ, List, Option, None, IsSome, IfSome, unwrap_or}
 use Rattle.password_hash.specs.Refusal.{Refusal, BadAlgorithm, BadSalt, BadVersion, NoMemory}
 use Rattle.scrypt.specs.Accepted.{Parameters}
 
--- the length of the key that hashing with these parameters makes: 32 where none was given
+-- the length of the key that hashing with these parameters makes: 32 if none was given
 abbrev pub made_len : Parameters → ℕ
 made_len c = unwrap_or c.output_len 32
 
@@ -11,8 +11,8 @@ made_len c = unwrap_or c.output_len 32
 abbrev pub IsNamedOrNone : List ℕ → Option (List ℕ) → Type 0
 IsNamedOrNone name alg_id = IfSome alg_id (λ id. id ≡ name)
 
--- What hashing is refused by: the algorithm, then the version, then the salt where the format takes no
--- such salt, and at last memory.
+-- The errors of hashing: the algorithm, then the version, then the salt if the format does not
+-- allow it, and last a failed allocation.
 pub data HashingIsRefused (name : List ℕ) (SaltFits : Type 0) (alg_id : Option (List ℕ)) (version : Option ℕ)
     : Refusal → Type 0 where
   by_algorithm : ¬ IsNamedOrNone name alg_id → HashingIsRefused name SaltFits alg_id version BadAlgorithm

@@ -24,15 +24,15 @@ pub mod Cost
 pub mod ErrorText
 -- the key of parameters, as a `Kdf` gives it
 pub mod KeyOfParams
--- what making a hash is refused by, in every format
+-- the errors of making a hash, in every format
 pub mod Hashing
--- what verifying a password comes to, in every format
+-- the verdict of verifying a password, in every format
 pub mod Verifying
 -- costs read from PHC parameters
 pub mod PhcCosts
 -- PHC hashes that are made, and those that are whole
 pub mod PhcHash
--- what the conversions between parameters and PHC values answer
+-- the results of the conversions between parameters and PHC values
 pub mod PhcConversions
 -- five-letter numbers, and the costs of a `$7$` text
 pub mod McfCosts

@@ -4,13 +4,13 @@ use Rattle.password_hash.specs.Crypt64.{letter, letter_value, letters_of, number
 use Rattle.password_hash.specs.Refusal.{Refusal, BadEncoding, BadParams}
 use Rattle.scrypt.specs.Accepted.{AreAccepted, Parameters}
 
--- the five-letter number at the front of a text, the lowest letter first: none where there are fewer
--- letters, or one of the five is no letter
+-- the five-letter number at the front of a text, the lowest letter first: none if there are fewer
+-- than five bytes, or one of the five is not a letter
 abbrev pub five_letter_number : List ℕ → Option ℕ
 five_letter_number text = if nat_lt (length text) 5 then None else number_of (take 5 text)
 
--- What the first eleven bytes of a field say: log_n by one letter, and r and p by five letters each. A
--- first byte below 128 that is no letter says 255.
+-- The first eleven bytes of a field encode log_n in one letter, and r and p in five letters each. A
+-- first byte below 128 that is not a letter reads as 255.
 pub record SaysCosts (field : List ℕ) (log_n r p : ℕ) : Type 0 where
   pub first_byte : slice_index field 0 < 128
   pub log_n_is : unwrap_or (letter_value (slice_index field 0)) 255 ≡ log_n
@@ -21,12 +21,12 @@ pub record SaysCosts (field : List ℕ) (log_n r p : ℕ) : Type 0 where
 abbrev pub costs_letters : ℕ → ℕ → ℕ → List ℕ
 costs_letters log_n r p = letter log_n ∷ (letters_of 5 r ++ letters_of 5 p)
 
--- what stands before the salt in the text of these costs
+-- the text before the salt, for these costs
 abbrev pub costs_text : Parameters → List ℕ
 costs_text c = codes "$7$" ++ costs_letters c.log_n c.r c.p
 
--- The costs that a field says, and the salt, which is the rest of it, or what the field is refused by:
--- first that it says no numbers, and then that the numbers are not accepted.
+-- The costs that a field encodes, and the salt, which is the rest of it, or the error: first that
+-- the field encodes no numbers, and then that the numbers are not accepted.
 pub data ReadsField (field : List ℕ) : Result (Parameters × List ℕ) Refusal → Type 0 where
   malformed : ((log_n r p : ℕ) → ¬ SaysCosts field log_n r p) → ReadsField field (Err BadEncoding)
   not_accepted : {log_n r p : ℕ} → SaysCosts field log_n r p → ¬ AreAccepted log_n r p

@@ -1,4 +1,4 @@
--- `$7$` hashes: what their texts say, which are made, and which passwords they accept.
+-- `$7$` hashes: how their texts are read, which are made, and which passwords they accept.
 use Rattle.std.specs.Prelude.{◌≢◌, ℕ, List, [], ◌∷◌, length, codes, Option, Ok, Err, ⊤}
 use Rattle.password_hash.specs.Crypt64.{Crypt64, IsCrypt64, crypt64_of}
 use Rattle.password_hash.specs.Mcf.{IsMcfText}
@@ -14,23 +14,24 @@ use Rattle.scrypt.specs.Verifying.{IsAccepted, IsRefusedBy, VerdictOf}
 abbrev pub mcf_id : List ℕ
 mcf_id = codes "7"
 
--- The text has the id `7`, its first field says these costs and this salt, and these fields are behind it.
+-- The text has the id `7`, its first field encodes these costs and this salt, and these fields are
+-- after it.
 pub record HasCosts (text : List ℕ) (c : Parameters) (salt : List ℕ) (behind : List (List ℕ)) : Type 0 where
   pub field : List ℕ
   pub parts : IsMcfText text mcf_id (field ∷ behind)
   pub costs : ReadsField field (Ok (c, salt))
 
--- the text of a whole `$7$` hash: two fields, of which the first says costs and salt, and the second is a
--- key of an accepted output length, in crypt Base64
+-- the text of a whole `$7$` hash: two fields, of which the first encodes costs and salt, and the
+-- second is a key of an accepted output length, in crypt Base64
 pub record IsWhole (text : List ℕ) (c : Parameters) (salt key : List ℕ) : Type 0 where
   pub letters : List ℕ
   pub has_costs : HasCosts text c salt (letters ∷ [])
   pub key_is : Crypt64 key letters
   pub key_len : IsOutputLen (length key)
 
--- What a text is refused by before memory, the first in this order: another id, no field, what the first field
--- is refused by, no second field, a second field that is not crypt Base64, a third field, and a key whose
--- length is no accepted output length.
+-- The errors of reading a text, in this order: another id, no field, the errors of the first field,
+-- no second field, a second field that is not crypt Base64, a third field, and a key whose length
+-- is not an accepted output length.
 pub data ReadIsRefused (text : List ℕ) : Refusal → Type 0 where
   other_id : {id : List ℕ} {fields : List (List ℕ)} → IsMcfText text id fields → id ≢ mcf_id
       → ReadIsRefused text BadAlgorithm
@@ -45,8 +46,8 @@ pub data ReadIsRefused (text : List ℕ) : Refusal → Type 0 where
   bad_key_len : {c : Parameters} {salt letters key : List ℕ} → HasCosts text c salt (letters ∷ []) → Crypt64 key letters
       → ¬ IsOutputLen (length key) → ReadIsRefused text BadOutputSize
 
--- the text is the hash that these parameters make of a password and a salt: the derivation's salt is the
--- letters of the salt, as they stand in the text
+-- the text is the hash that these parameters make of a password and a salt: the salt of the
+-- derivation is the letters of the salt in the text
 abbrev pub IsMadeHash : Parameters → List ℕ → List ℕ → List ℕ → Type 0
 IsMadeHash c password salt text =
     IsWhole text (without_len c) (crypt64_of salt) (key_by c password (crypt64_of salt) (made_len c))
@@ -55,7 +56,7 @@ IsMadeHash c password salt text =
 abbrev pub IsMcfOrNone : Option (List ℕ) → Type 0
 IsMcfOrNone = IsNamedOrNone mcf_id
 
--- what hashing is refused by: every salt fits
+-- the errors of hashing: every salt fits
 abbrev pub HashIsRefused : Option (List ℕ) → Option ℕ → Refusal → Type 0
 HashIsRefused = HashingIsRefused mcf_id ⊤
 
@@ -63,10 +64,10 @@ HashIsRefused = HashingIsRefused mcf_id ⊤
 abbrev pub Accepts : List ℕ → List ℕ → Type 0
 Accepts password text = IsAccepted (IsWhole text) password
 
--- what verifying comes to where memory is there
+-- the verdict of verifying, if no allocation fails
 abbrev pub Verdict : List ℕ → List ℕ → Option Refusal → Type 0
 Verdict password text = VerdictOf (IsWhole text) (ReadIsRefused text) password
 
--- what verifying is refused by
+-- the errors of verifying
 abbrev pub VerifyIsRefused : List ℕ → List ℕ → Refusal → Type 0
 VerifyIsRefused password text = IsRefusedBy (IsWhole text) (ReadIsRefused text) password

@@ -1,4 +1,4 @@
--- What the conversions between parameters and PHC values answer.
+-- The results of the conversions between parameters and PHC values.
 use Rattle.std.specs.Prelude.{◌≡◌, ℕ, List, length, ◌⊎◌, Option, None, Some, IsSome, Result, Ok, Err}
 use Rattle.password_hash.specs.Refusal.{BadVersion, refusal}
 use Rattle.password_hash.specs.declared.error.Error.{Error}
@@ -6,17 +6,17 @@ use Rattle.password_hash.specs.declared.phc.hash.PasswordHash.{PasswordHash}
 use Rattle.scrypt.specs.Accepted.{Parameters, without_len}
 use Rattle.scrypt.specs.PhcCosts.{ReadsCosts, written_pairs}
 
--- the costs that are read, or what they are refused by
+-- the costs that are read, or the error
 abbrev pub AnswersCosts : List (List ℕ × List ℕ) → Result Parameters Error → Type 0
 AnswersCosts pairs (Ok c) = ReadsCosts pairs (Ok c)
 AnswersCosts pairs (Err e) = ReadsCosts pairs (Err (refusal e))
 
--- the length of a hash's key, or 32 where it has none
+-- the length of a hash's key, or 32 if it has no key
 abbrev pub stored_len : Option (List ℕ) → ℕ
 stored_len None = 32
 stored_len (Some key) = length key
 
--- the costs of a hash with the length of its key, or the version, or what its costs are refused by
+-- the costs of a hash with the length of its key, or the error of its version or of its costs
 abbrev pub AnswersHashCosts : PasswordHash → Result Parameters Error → Type 0
 AnswersHashCosts hash (Ok c) =
     (hash.version ≡ None) × ReadsCosts hash.params (Ok (without_len c)) × (c.output_len ≡ Some (stored_len hash.hash))

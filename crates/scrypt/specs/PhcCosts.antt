@@ -4,9 +4,9 @@ use Rattle.password_hash.specs.Decimal.{IsDecimal}
 use Rattle.password_hash.specs.Refusal.{Refusal, BadParam, BadParams}
 use Rattle.scrypt.specs.Accepted.{AreAccepted, Parameters}
 
--- The pairs are taken in order over log_n, r and p as they are so far, and the first pair that is
--- refused decides. `ln` is a decimal of at most 255, `r` and `p` are decimals, and no other name is
--- taken. At the end the numbers have to be accepted.
+-- The pairs are read in order and replace log_n, r and p, and the first pair that is refused gives
+-- the error. `ln` is a decimal of at most 255, `r` and `p` are decimals, and any other name is
+-- refused. At the end the numbers have to be accepted.
 pub data Reads : ℕ → ℕ → ℕ → List (List ℕ × List ℕ) → Result Parameters Refusal → Type 0 where
   accepted : {log_n r p : ℕ} → AreAccepted log_n r p
       → Reads log_n r p [] (Ok (record { log_n = log_n; r = r; p = p; output_len = None }))

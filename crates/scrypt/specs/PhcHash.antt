@@ -29,7 +29,7 @@ pub record IsMadeHash (c : Parameters) (password salt : List ℕ) (hash : Passwo
 abbrev pub IsScryptOrNone : Option (List ℕ) → Type 0
 IsScryptOrNone = IsNamedOrNone scrypt_id
 
--- what hashing is refused by
+-- the errors of hashing
 abbrev pub HashIsRefused : List ℕ → Option (List ℕ) → Option ℕ → Refusal → Type 0
 HashIsRefused salt = HashingIsRefused scrypt_id (IsSaltLen (length salt))
 
@@ -45,8 +45,8 @@ pub record IsWhole (hash : PasswordHash) (c : Parameters) (salt key : List ℕ) 
   pub salt_is : hash.salt ≡ Some salt
   pub key_is : hash.hash ≡ Some key
 
--- What reading a hash is refused by, the first in this order: another algorithm, a version, what its
--- parameters are refused by, and that the salt or the key is missing.
+-- The errors of reading a hash, in this order: another algorithm, a version, the errors of its
+-- parameters, and a missing salt or key.
 pub data ReadIsRefused (hash : PasswordHash) : Refusal → Type 0 where
   algorithm : hash.algorithm ≢ scrypt_id → ReadIsRefused hash BadAlgorithm
   version : hash.algorithm ≡ scrypt_id → IsSome hash.version → ReadIsRefused hash BadVersion
@@ -59,10 +59,10 @@ pub data ReadIsRefused (hash : PasswordHash) : Refusal → Type 0 where
 abbrev pub Accepts : List ℕ → PasswordHash → Type 0
 Accepts password hash = IsAccepted (IsWhole hash) password
 
--- what verifying comes to where memory is there
+-- the verdict of verifying, if no allocation fails
 abbrev pub Verdict : List ℕ → PasswordHash → Option Refusal → Type 0
 Verdict password hash = VerdictOf (IsWhole hash) (ReadIsRefused hash) password
 
--- what verifying is refused by
+-- the errors of verifying
 abbrev pub VerifyIsRefused : List ℕ → PasswordHash → Refusal → Type 0
 VerifyIsRefused password hash = IsRefusedBy (IsWhole hash) (ReadIsRefused hash) password

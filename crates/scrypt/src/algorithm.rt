@@ -1,4 +1,4 @@
-// scrypt as a value with parameters, which derives keys, makes hashes and verifies passwords.
+// scrypt as a value with parameters: it derives keys, makes hashes and verifies passwords.
 
 ghost use Rattle.std.specs.Prelude.{◌≡◌, ℕ, List, length};
 ghost use Rattle.scrypt.specs.Accepted.{IsOutputLen, Parameters, recommended_parameters};
@@ -11,8 +11,8 @@ use std::marker::Model;
 
 /// scrypt as a password hashing function, with parameters of its own.
 ///
-/// It derives keys and makes hashes with these parameters. A verifier never uses them: it takes
-/// those of the hash.
+/// It derives keys and makes hashes with these parameters. Verifying never uses them: it takes the
+/// parameters of the hash.
 #[derive(Clone, Copy, Debug, Default, PartialEq)]
 pub struct Scrypt {
     params: Params,
@@ -29,21 +29,21 @@ impl Model for Scrypt {
 }
 
 impl Scrypt {
-    /// scrypt with the recommended parameters.
+    /// Creates a value with the recommended parameters.
     pub fn new() -> Scrypt
         ensures value { result ≡ recommended_parameters }
     {
         Scrypt::new_with_params(Params::RECOMMENDED)
     }
 
-    /// scrypt with these parameters.
+    /// Creates a value with these parameters.
     pub fn new_with_params(params: Params) -> Scrypt
         ensures value { result ≡ params }
     {
         Scrypt { params }
     }
 
-    /// The parameters that this value hashes with.
+    /// Returns the parameters that this value hashes with.
     pub(crate) fn params(&self) -> Params
         ensures { result ≡ self.now }
     {
@@ -64,11 +64,11 @@ impl Kdf for Scrypt {
 
     ghost refuses = { λ scrypt password salt len e. KeyIsRefused len e };
 
-    /// Derives the scrypt key of `out.len()` bytes with this value's own parameters
-    /// (RFC 7914, section 6).
+    /// Derives the scrypt key of `out.len()` bytes with this value's parameters, and writes it to
+    /// `out` (RFC 7914, section 6).
     ///
-    /// Answers `Refused` exactly where `out` does not have 1 to 137438953440 bytes, and else
-    /// `OutOfMemory` where a buffer could not be had. A refusal leaves `out` as it was.
+    /// Returns `Refused` exactly if `out` does not have 1 to 137438953440 bytes, and otherwise
+    /// `OutOfMemory` if an allocation fails. On an error `out` is unchanged.
     fn derive_key(
         &self,
         alloc: Global,

@@ -18,7 +18,8 @@ use std::alloc::Global;
 /// The greatest length of an output in bytes, `(2^32 - 1) * 32` (RFC 7914, section 6: `dkLen`).
 const MAX_OUTPUT_LEN: usize = 137_438_953_440;
 
-/// Whether an output of `len` bytes can be derived: exactly for 1 to 137438953440.
+/// Returns whether an output of `len` bytes can be derived: `len` is from 1 to 137438953440
+/// (RFC 7914, section 6).
 pub fn output_len_ok(len: usize) -> bool
     ensures exact { IsTrue result ↔ IsOutputLen len }
 {
@@ -28,16 +29,17 @@ pub fn output_len_ok(len: usize) -> bool
 /// The lengths of the buffers that a derivation works on.
 #[derive(Clone, Copy, Debug, PartialEq, Eq)]
 pub struct BufferLens {
-    /// bytes of the chunks: `128 * r * p`
+    /// The length of the chunks in bytes: `128 * r * p`.
     pub chunks: usize,
-    /// words of the table: `32 * r * N`
+    /// The length of the table in words: `32 * r * N`.
     pub table: usize,
-    /// words of the scratch: `64 * r`
+    /// The length of the scratch in words: `64 * r`.
     pub scratch: usize,
 }
 
 impl BufferLens {
-    /// The lengths that these parameters ask for.
+    /// Returns the lengths for [`scrypt_with_buffers`](crate::scrypt_with_buffers) with these
+    /// parameters.
     #[tactic(auto, using(crate::proofs::AcceptedFacts::small_chunks, crate::proofs::AcceptedFacts::small_table))]
     pub fn of(params: &Params) -> BufferLens
         ensures chunks { result.chunks ≡ chunks_bytes params.now.r params.now.p }
@@ -53,9 +55,9 @@ impl BufferLens {
         }
     }
 
-    /// The lengths for [`scrypt_thin`](crate::scrypt_thin) with a table that keeps one row in `2^s`:
-    /// the table has `32 * r * 2^(log_n - s)` words, and the scratch `96 * r`. `None` if `s` is above
-    /// `log_n`.
+    /// Returns the lengths for [`scrypt_thin`](crate::scrypt_thin) with a table that keeps one row
+    /// in `2^s`: the table has `32 * r * 2^(log_n - s)` words, and the scratch `96 * r`. Returns
+    /// `None` if `s` is above `log_n`.
     pub fn thin(params: &Params, s: u8) -> Option<BufferLens>
         ensures exact { IsSome result ↔ (s ≤ params.now.log_n) }
         ensures chunks { IfSome result (λ lens. lens.chunks ≡ chunks_bytes params.now.r params.now.p) }
@@ -76,10 +78,12 @@ impl BufferLens {
 
 /// Writes the scrypt key of `password` and `salt` to `output` (RFC 7914, section 6).
 ///
-/// Refuses `InvalidOutputLen` exactly where the output does not have 1 to 137438953440 bytes, and
-/// else `OutOfMemory` where one of its three buffers could not be had: the chunks, the table and
-/// the scratch of [`BufferLens::of`], in this order and before the first core. A refusal leaves
-/// the output as it was. The length that `params` may hold is not looked at.
+/// Allocates three buffers of the lengths of [`BufferLens::of`]: the chunks, the table and the
+/// scratch, in this order and before the first core. A length of a stored key in `params` is
+/// ignored.
+///
+/// Returns `InvalidOutputLen` exactly if `output` does not have 1 to 137438953440 bytes, and
+/// otherwise `OutOfMemory` if an allocation fails. On an error `output` is unchanged.
 pub fn scrypt(
     alloc: Global,
     password: &[u8],
@@ -98,7 +102,7 @@ pub fn scrypt(
 
 /// Does what [`scrypt`] does, and counts the `4 * N * r * p` Salsa20/8 cores.
 ///
-/// A refusal leaves the count as it was too.
+/// On an error the count is unchanged too.
 #[tactic(auto, using(crate::proofs::CostFacts::whole_table_cost))]
 pub fn scrypt_counted(
     alloc: Global,
@@ -140,12 +144,15 @@ pub fn scrypt_counted(
     Ok(())
 }
 
-/// Writes the scrypt key of `password` and `salt` to `output`, in memory that the caller lends.
+/// Writes the scrypt key of `password` and `salt` to `output`, in memory that the caller lends
+/// (RFC 7914, section 6).
 ///
-/// The buffers have the lengths of [`BufferLens::of`] these parameters: `chunks` in bytes, `table`
-/// and `scratch` in words. What they hold before the call does not matter, and nothing is said of
-/// what they hold after it. Refuses `InvalidOutputLen` exactly where the output does not have 1 to
-/// 137438953440 bytes, and then changes nothing. Takes no memory.
+/// The buffers have the lengths of [`BufferLens::of`]: `chunks` in bytes, `table` and `scratch` in
+/// words. It does not matter what they hold before the call, and what they hold after it is
+/// unspecified. `cores` counts the `4 * N * r * p` cores. Does not allocate.
+///
+/// Returns `InvalidOutputLen`, and changes nothing, exactly if `output` does not have 1 to
+/// 137438953440 bytes.
 #[tactic(auto, using(crate::proofs::CostFacts::whole_table_cost))]
 pub fn scrypt_with_buffers(
     password: &[u8],
@@ -183,16 +190,19 @@ pub fn scrypt_with_buffers(
     Ok(())
 }
 
-/// Writes the scrypt key of `password` and `salt` to `output`, with a smaller table.
+/// Writes the scrypt key of `password` and `salt` to `output`, with a smaller table
+/// (RFC 7914, section 6).
 ///
-/// The table keeps each row whose number is a multiple of `2^s`, and any other row is mixed anew where
-/// it is needed. So the table has `2^s` times fewer words, and there are more than `4 * N * r * p`
-/// cores: `cores` counts them. The buffers have the lengths of [`BufferLens::thin`], and `s` is at most
-/// `log_n`. It does not matter what the buffers hold before the call, and what they hold after it is
-/// unspecified.
+/// The table keeps each row whose number is a multiple of `2^s`, and any other row is mixed anew
+/// whenever it is needed. So the table has `2^s` times fewer words, and there may be more than
+/// `4 * N * r * p` cores: `cores` counts them. Does not allocate.
 ///
-/// `InvalidOutputLen`, which changes nothing, unless the output has 1 to 137438953440 bytes. Nothing is
-/// allocated.
+/// The buffers have the lengths of [`BufferLens::thin`]: `chunks` in bytes, `table` and `scratch` in
+/// words. `s` is at most `log_n`. It does not matter what the buffers hold before the call, and what
+/// they hold after it is unspecified.
+///
+/// Returns `InvalidOutputLen`, and changes nothing, exactly if `output` does not have 1 to
+/// 137438953440 bytes.
 #[tactic(auto, using(crate::proofs::AcceptedFacts::small_log_n))]
 pub fn scrypt_thin(
     password: &[u8],

@@ -1,4 +1,4 @@
-//! What a derivation and its parameters are refused for.
+//! The errors of a derivation and of its parameters.
 
 ghost use Rattle.std.specs.Prelude.{◌≡◌, Some, codes};
 ghost use Rattle.scrypt.specs.ErrorText.{derive_error_text};
@@ -10,7 +10,7 @@ use std::alloc::AllocError;
 use std::error::Error;
 use std::fmt;
 
-/// The output has no byte, or more than 137438953440 bytes (RFC 7914, section 6: `dkLen`).
+/// The output is empty, or has more than 137438953440 bytes (RFC 7914, section 6: `dkLen`).
 #[derive(Clone, Copy, Debug, PartialEq, Eq)]
 pub struct InvalidOutputLen;
 
@@ -24,7 +24,7 @@ impl fmt::Display for InvalidOutputLen {
 
 impl Error for InvalidOutputLen {}
 
-/// The numbers are not accepted parameters, or the key's length is not one that is stored.
+/// The parameters are not accepted, or the length of a stored key is not 10 to 64 bytes.
 #[derive(Clone, Copy, Debug, PartialEq, Eq)]
 pub struct InvalidParams;
 
@@ -38,12 +38,12 @@ impl fmt::Display for InvalidParams {
 
 impl Error for InvalidParams {}
 
-/// Why no key was derived.
+/// An error from deriving a key.
 #[derive(Clone, Copy, Debug, PartialEq, Eq)]
 pub enum DeriveError {
-    /// The output has no byte, or more than 137438953440 bytes.
+    /// The output is empty, or has more than 137438953440 bytes.
     InvalidOutputLen,
-    /// A buffer could not be had.
+    /// An allocation failed.
     OutOfMemory,
 }
 

@@ -1,4 +1,4 @@
-//! Laws of the definitions. Each function does nothing when it runs: its contract is the law.
+//! Laws of the definitions. Each function does nothing at run time: its contract is the law.
 
 ghost use Rattle.std.specs.Prelude.{◌≡◌, ◌↔◌, ℕ, ◌-◌, ◌*◌, ◌%◌, ◌^◌, ◌<◌, ◌≤◌, List, [], ◌∷◌, ◌++◌, length, take, Option, Result, Ok, IfSome, IsSome, Some, All};
 ghost use Rattle.sha2.specs.Sha256.{sha256};
@@ -25,16 +25,14 @@ ghost use Rattle.scrypt.specs.PhcCosts.{ReadsCosts, written_pairs};
 ghost use Rattle.scrypt.specs.PhcHash.{Accepts, IsMadeHash, IsWhole, ReadIsRefused, Verdict};
 ghost use Rattle.scrypt.specs.Rehashing.{IsWeaker};
 
-/// A shorter key is the beginning of a longer one, of any two lengths. Key files rely on it, which ask
-/// for more bytes later and find the first ones as they were.
+/// A shorter key is the beginning of a longer one, for any two lengths.
 pub fn shorter_key_is_prefix()
     ensures prefix { (password salt : List ℕ) (log_n r p m n : ℕ) → m ≤ n
         → derived_key password salt log_n r p m ≡ take m (derived_key password salt log_n r p n) }
 {}
 
-/// A password shorter than 64 bytes and the same with a zero byte after it have equal keys, and so
-/// have a password longer than 64 bytes and its SHA-256 digest: credential stores rely on it to know
-/// which other passwords they accept.
+/// A password shorter than 64 bytes has the same key as this password with a zero byte after it,
+/// and a password longer than 64 bytes has the same key as its SHA-256 digest.
 pub fn zero_byte_and_digest_passwords_collide()
     ensures zero_byte { (password salt : List ℕ) (log_n r p n : ℕ) → length password < 64
         → derived_key (password ++ 0 ∷ []) salt log_n r p n ≡ derived_key password salt log_n r p n }
@@ -42,24 +40,22 @@ pub fn zero_byte_and_digest_passwords_collide()
         → derived_key (sha256 password) salt log_n r p n ≡ derived_key password salt log_n r p n }
 {}
 
-/// The chunks may be mixed one after another in any order that names each once: migration tools rely
-/// on it, whose keys come from programs that take the chunks in another order.
+/// The chunks may be mixed one after another in any order that names each of them once.
 pub fn chunks_in_any_order()
     ensures same { (b order : List ℕ) (log_n r p : ℕ) → 0 < r → length b ≡ p * (128 * r) → NamesEachOnce p order
         → mixed_in_order log_n r b order ≡ mixed_chunks b log_n r p }
 {}
 
-/// Costs that are written as PHC parameters are read back as the same `log_n`, `r` and `p`, and in no
-/// other way: migration tools rely on it, which write hashes with costs of their own.
+/// Costs that are written as PHC parameters are read back as the same `log_n`, `r` and `p`, and in
+/// no other way.
 pub fn written_costs_read_back()
     ensures read { (c : Parameters) → AreAccepted c.log_n c.r c.p → ReadsCosts (written_pairs c) (Ok (without_len c)) }
     ensures only { (c : Parameters) (out : Result Parameters Refusal) → AreAccepted c.log_n c.r c.p
         → ReadsCosts (written_pairs c) out → out ≡ Ok (without_len c) }
 {}
 
-/// A PHC text, a modular text, a `$7$` text and a text of crypt Base64 each have at most one reading,
-/// and each reading has at most one text: migration tools rely on it, which compare hashes by their
-/// texts.
+/// A PHC text, an MCF text, a `$7$` text and a text of crypt Base64 each have at most one reading,
+/// and each reading has at most one text.
 pub fn texts_have_one_reading()
     ensures phc_reading { (text : List ℕ) (one other : PasswordHash) → IsHashText text one → IsHashText text other
         → one ≡ other }
@@ -79,10 +75,9 @@ pub fn texts_have_one_reading()
     ensures crypt64_text { (bytes one other : List ℕ) → Crypt64 bytes one → Crypt64 bytes other → one ≡ other }
 {}
 
-/// The hash that hashing makes of accepted parameters, a password and a salt accepts that password: a
-/// PHC hash, which also has a text and accepts it too as it is read back from there, and a `$7$` text,
-/// which is the letters of the costs, of the salt and of the key. Credential stores rely on it, which
-/// keep the text.
+/// A hash made from a password with accepted parameters verifies against that password. A PHC hash
+/// does so also after it has been printed and parsed. A `$7$` text consists of the letters of the
+/// costs, of the salt and of the key.
 pub fn made_hashes_are_accepted()
     ensures phc { (c : Parameters) (password salt : List ℕ) (hash : PasswordHash) → AreAccepted c.log_n c.r c.p
         → IsMadeHash c password salt hash → Accepts password hash }
@@ -99,8 +94,7 @@ pub fn made_hashes_are_accepted()
         ++ dollar ∷ crypt64_of (key_by c password (crypt64_of salt) (made_len c)))) }
 {}
 
-/// Verifying a hash comes to one verdict, whether the hash is a PHC hash or a `$7$` text: login services
-/// rely on it, which answer the same to the same password.
+/// Verifying a password against a PHC hash or a `$7$` text has only one verdict.
 pub fn verdicts_are_one()
     ensures phc { (password : List ℕ) (hash : PasswordHash) (one other : Option Refusal) → Verdict password hash one
         → Verdict password hash other → one ≡ other }
@@ -108,9 +102,8 @@ pub fn verdicts_are_one()
         → McfVerdict password text other → one ≡ other }
 {}
 
-/// A hash that accepts a password can be read, so that asking whether it is weaker than wanted is then
-/// never refused; and a hash that was made with the wanted parameters is not weaker than they ask for:
-/// login services rely on both, which make a hash anew once.
+/// A hash that accepts a password can be read, so checking whether it is weaker than wanted returns
+/// no error. A hash that was made with the wanted parameters is not weaker than wanted.
 pub fn rehashing_converges()
     ensures phc_readable { (password : List ℕ) (hash : PasswordHash) (why : Refusal) → Accepts password hash
         → ¬ ReadIsRefused hash why }
@@ -122,8 +115,8 @@ pub fn rehashing_converges()
         → ¬ IsWeaker (IsMcfWhole text) c }
 {}
 
-/// Numbers below 2^30 and their five letters undo each other, every five letters say a number, and
-/// accepted `r` and `p` are below 2^30: migration tools rely on it, which write costs into `$7$` texts.
+/// Numbers below 2^30 and their five letters determine each other, any five letters encode a
+/// number, and accepted `r` and `p` are below 2^30.
 pub fn five_letters_are_inverse()
     ensures read_back { (number : ℕ) → number < 2 ^ 30 → five_letter_number (letters_of 5 number) ≡ Some number }
     ensures written_back { (letters : List ℕ) (number : ℕ) → length letters ≡ 5 → five_letter_number letters ≡ Some number
@@ -133,41 +126,39 @@ pub fn five_letters_are_inverse()
     ensures accepted { (log_n r p : ℕ) → AreAccepted log_n r p → (r < 2 ^ 30) × (p < 2 ^ 30) }
 {}
 
-/// The eleven letters with which `$7$` texts write accepted costs are equal exactly where `log_n`, `r`
-/// and `p` are: migration tools rely on it, which tell costs by the beginning of a text.
+/// The eleven letters that encode accepted costs in `$7$` texts are equal exactly if `log_n`, `r`
+/// and `p` are.
 pub fn costs_prefix_is_injective()
     ensures injective { (log_n r p other_log_n other_r other_p : ℕ) → AreAccepted log_n r p → AreAccepted other_log_n other_r other_p
         → (costs_letters log_n r p ≡ costs_letters other_log_n other_r other_p)
         ↔ ((log_n ≡ other_log_n) × (r ≡ other_r) × (p ≡ other_p)) }
 {}
 
-/// A table that keeps fewer rows gives the same key, at every `s`: machines with less memory than the
-/// stored costs ask for rely on it.
+/// A table that keeps one row in `2^s` gives the same key, for every `s`.
 #[tactic(auto, using(crate::proofs::ThinKeyFacts::thin_key_is))]
 pub fn thin_key_is_the_key()
     ensures same { (password salt : List ℕ) (log_n r p s n : ℕ)
         → thin_key password salt log_n r p s n ≡ derived_key password salt log_n r p n }
 {}
 
-/// With a table that keeps one row in `2^s`, each of the `N` steps of the walk mixes at most `2^s - 1`
-/// rows anew: whoever chooses `s` relies on it for the greatest cost.
+/// With a table that keeps one row in `2^s`, the `N` steps of the walk together mix at most
+/// `N * (2^s - 1)` rows anew.
 #[tactic(auto, using(crate::proofs::ThinKeyFacts::extra_rows_at_most))]
 pub fn extra_rows_are_bounded()
     ensures bound { (b : List ℕ) (log_n s : ℕ) → extra_rows b log_n s (2 ^ log_n) ≤ 2 ^ log_n * (2 ^ s - 1) }
 {}
 
-/// The diagonal order and the standard order undo each other on all whole blocks, and the two
-/// tables of places are inverse: the lanes rely on it, since what is proved of words in diagonal order
-/// then covers every input.
+/// The diagonal order and the standard order are inverse to each other on whole blocks, and so are
+/// the two tables of places. So what is proved of words in diagonal order covers every input.
 pub fn diagonal_order_undone()
     ensures undone { (x : List ℕ) → length x % 16 ≡ 0 → standard_order (diagonal_order x) ≡ x }
     ensures redone { (x : List ℕ) → length x % 16 ≡ 0 → diagonal_order (standard_order x) ≡ x }
     ensures tables { AreInverse pivot inverse_pivot }
 {}
 
-/// The block mix of words in diagonal order, with the core in diagonal order in place of the core,
-/// is the block mix in diagonal order: the lanes rely on it. What a block mix by a core is, is tied
-/// down twice: the standard's is one by the standard's core, and no core has two.
+/// The block mix of words in diagonal order, by the core in diagonal order, is the block mix in
+/// diagonal order. Two more clauses check the definition of a block mix by a core: the standard's
+/// block mix is one by the standard's core, and each core has at most one.
 pub fn block_mix_in_diagonal_order()
     ensures mixed { (b : List ℕ) → 0 < length b → length b % 32 ≡ 0
         → IsBlockMixBy diagonal_core (diagonal_order b) (diagonal_order (block_mix b)) }

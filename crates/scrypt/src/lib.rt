@@ -8,8 +8,8 @@
 //! scrypt(alloc, b"pleaseletmein", b"SodiumChloride", &params, &mut key)?;
 //! ```
 //!
-//! After `Ok` the output is exactly the standard's key. The definitions that the contracts cite
-//! stand in `specs/`, one file a section of a standard.
+//! After `Ok` the output is exactly the standard's key. The definitions that the contracts cite are
+//! in `specs/`, one file for each section of a standard.
 #![tactic(auto)]
 
 mod algorithm;

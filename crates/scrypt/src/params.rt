@@ -1,4 +1,4 @@
-// Which numbers a derivation takes.
+// The parameters of a derivation.
 
 ghost use Rattle.std.specs.Prelude.{◌≡◌, ◌↔◌, ◌+◌, ◌*◌, ◌^◌, ◌<◌, ◌≤◌, IsOk, IfOk, IfSome, IsTrue, None, Some};
 ghost use Rattle.scrypt.specs.Accepted.{AreAccepted, IsStoredLen, Parameters, parameters_eq, recommended_parameters};
@@ -36,7 +36,7 @@ impl Model for Params {
 }
 
 impl Params {
-    /// The recommended logarithm of the work factor.
+    /// The recommended logarithm of the work factor to base 2.
     pub const RECOMMENDED_LOG_N: u8 = 17;
 
     /// The recommended block size.
@@ -56,11 +56,12 @@ impl Params {
         output_len: None,
     };
 
-    /// Accepts the numbers exactly where, over whole numbers without a greatest value,
-    /// `r > 0`, `p > 0`, `128 * r * 2^log_n < 2^64` and `r * p < 2^30`; else `InvalidParams`.
+    /// Creates parameters, with no length of a stored key.
     ///
-    /// So `log_n` is at most 56. As in the Rust crate and unlike RFC 7914, section 2, `log_n` may
-    /// be 0, and may be `16 * r` or more.
+    /// Accepts exactly the numbers with `r > 0`, `p > 0`, `128 * r * 2^log_n < 2^64` and
+    /// `r * p < 2^30`, computed in unbounded integers, and returns `InvalidParams` for all others.
+    /// So `log_n` is at most 56. As in the Rust crate and unlike RFC 7914, section 2, `log_n` may be
+    /// 0, and may be `16 * r` or more.
     pub fn new(log_n: u8, r: u32, p: u32) -> Result<Params, InvalidParams>
         ensures accepted { IsOk result ↔ AreAccepted log_n r p }
         ensures value { IfOk result (λ made. made ≡ record { log_n = log_n; r = r; p = p; output_len = None }) }
@@ -76,8 +77,9 @@ impl Params {
         })
     }
 
-    /// Accepts the numbers as [`Params::new`] does, together with the length of a key that is
-    /// stored, exactly where it is 10 to 64 bytes; else `InvalidParams`.
+    /// Creates parameters with `len`, the length of a stored key in bytes.
+    ///
+    /// Returns `InvalidParams` exactly if [`Params::new`] does or `len` is not from 10 to 64.
     pub fn new_with_output_len(
         log_n: u8,
         r: u32,
@@ -98,7 +100,7 @@ impl Params {
         })
     }
 
-    /// The recommended parameters.
+    /// Returns the recommended parameters.
     #[deprecated]
     pub fn recommended() -> Params
         ensures value { result ≡ recommended_parameters }
@@ -106,7 +108,7 @@ impl Params {
         Params::RECOMMENDED
     }
 
-    /// The same numbers, with this length of a key that is stored.
+    /// Returns the same parameters with `len` as the length of a stored key.
     pub(crate) fn with_output_len(self, len: usize) -> Params
         requires { IsStoredLen len }
         ensures { result ≡ record self { output_len = Some len } }
@@ -119,7 +121,7 @@ impl Params {
         }
     }
 
-    /// The length of a key that is stored, if one was given: 10 to 64 bytes.
+    /// Returns the length of a stored key, 10 to 64 bytes, if one was given.
     pub(crate) fn output_len(&self) -> Option<usize>
         ensures value { result ≡ self.now.output_len }
         ensures stored { IfSome result IsStoredLen }
@@ -127,7 +129,7 @@ impl Params {
         self.output_len
     }
 
-    /// The logarithm of the work factor `N` to base 2, at most 56.
+    /// Returns the logarithm of the work factor `N` to base 2, at most 56.
     #[tactic(auto, using(crate::proofs::AcceptedFacts::small_log_n))]
     pub fn log_n(&self) -> u8
         ensures value { result ≡ self.now.log_n }
@@ -136,7 +138,7 @@ impl Params {
         self.log_n
     }
 
-    /// The work factor `N = 2^log_n`.
+    /// Returns the work factor `N = 2^log_n`.
     #[tactic(auto, using(crate::proofs::AcceptedFacts::small_log_n))]
     pub fn n(&self) -> u64
         ensures value { result ≡ 2 ^ self.now.log_n }
@@ -144,7 +146,8 @@ impl Params {
         1 << self.log_n
     }
 
-    /// The block size `r`, at least 1: a chunk and a row of the table have `128 * r` bytes.
+    /// Returns the block size `r`, at least 1: a chunk and a row of the table have `128 * r` bytes
+    /// each.
     pub fn r(&self) -> u32
         ensures value { result ≡ self.now.r }
         ensures some { 0 < result }
@@ -153,7 +156,7 @@ impl Params {
         self.r
     }
 
-    /// The parallelization `p`, at least 1: the number of chunks that are mixed.
+    /// Returns the parallelization `p`, at least 1: the number of chunks that are mixed.
     pub fn p(&self) -> u32
         ensures value { result ≡ self.now.p }
         ensures some { 0 < result }
@@ -170,7 +173,7 @@ impl PartialEq for Params {
         (and_equiv (on_equiv (λ (c : Parameters). c.output_len) (options_equiv nat_eq_equiv)) (on_equiv (λ (c : Parameters). c.log_n) nat_eq_equiv))
         (and_equiv (on_equiv (λ (c : Parameters). c.r) nat_eq_equiv) (on_equiv (λ (c : Parameters). c.p) nat_eq_equiv))) };
 
-    /// Whether the four are equal: the optional length, `log_n`, `r` and `p`.
+    /// Returns whether the four are equal: the optional length, `log_n`, `r` and `p`.
     #[tactic(auto, using(crate::proofs::AcceptedFacts::parameters_decided))]
     fn eq(&self, other: &Params) -> bool
         ensures told { result ≡ parameters_eq self.now other.now }
@@ -201,7 +204,7 @@ fn are_accepted(log_n: u8, r: u32, p: u32) -> bool
     is_table_small(log_n, r) && u64::from(r) * u64::from(p) < 1 << 30
 }
 
-// Whether a table has fewer than 2^64 bytes: 128 * r * 2^log_n, without its factor 2^7.
+// Returns whether a table has fewer than 2^64 bytes: 128 * r * 2^log_n, without its factor 2^7.
 fn is_table_small(log_n: u8, r: u32) -> bool
     requires { log_n ≤ 56 }
     ensures { IsTrue result ↔ (r * 2 ^ log_n < 2 ^ 57) }

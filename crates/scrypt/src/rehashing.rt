@@ -19,10 +19,11 @@ impl RehashCheck<phc::PasswordHash> for Scrypt {
 
     ghost refuses = { λ hash why. ReadIsRefused hash why };
 
-    /// Whether `log_n`, `r`, `p` or the length of the key is below that of this value's own parameters,
-    /// whose key has 32 bytes where they have no length; one of the four is enough.
+    /// Returns whether `log_n`, `r`, `p` or the length of the key is below that of this value's
+    /// parameters, which ask for a key of 32 bytes if they have no length. One of the four is
+    /// enough.
     ///
-    /// Refuses what verifying refuses before it asks for memory, in the same order.
+    /// Returns the same errors as verifying does before it allocates, in the same order.
     fn needs_rehash(&self, hash: &phc::PasswordHash) -> Result<bool> {
         match phc_reading::read(hash) {
             Ok(stored) => Ok(is_below(&self.params(), &stored.params, stored.key.len())),
@@ -38,10 +39,11 @@ impl<'a> RehashCheck<mcf::PasswordHashRef<'a>> for Scrypt {
 
     ghost refuses = { λ hash why. McfReadIsRefused (hash_text hash) why };
 
-    /// Whether `log_n`, `r`, `p` or the length of the key is below that of this value's own parameters,
-    /// whose key has 32 bytes where they have no length; one of the four is enough.
+    /// Returns whether `log_n`, `r`, `p` or the length of the key is below that of this value's
+    /// parameters, which ask for a key of 32 bytes if they have no length. One of the four is
+    /// enough.
     ///
-    /// Refuses what verifying refuses before it asks for memory, in the same order.
+    /// Returns the same errors as verifying does before it allocates, in the same order.
     fn needs_rehash(&self, hash: &mcf::PasswordHashRef<'a>) -> Result<bool> {
         match mcf_reading::read(hash) {
             Ok(stored) => Ok(is_below(&self.params(), &stored.params, stored.key_len)),
@@ -57,13 +59,13 @@ impl RehashCheck<mcf::PasswordHash> for Scrypt {
 
     ghost refuses = { λ hash why. McfReadIsRefused hash why };
 
-    /// Tells of the text what it tells of the borrowed text.
+    /// Returns what it returns for the borrowed text.
     fn needs_rehash(&self, hash: &mcf::PasswordHash) -> Result<bool> {
         self.needs_rehash(&hash.as_password_hash_ref())
     }
 }
 
-// Whether one of the four is below the wanted one.
+// Returns whether one of the four is below the wanted one.
 fn is_below(wanted: &Params, stored: &Params, key_len: usize) -> bool
     ensures { IsTrue result ↔ IsBelow wanted.now stored.now key_len }
 {

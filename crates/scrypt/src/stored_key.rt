@@ -1,4 +1,4 @@
-// The key that hashing stores, and the one that verifying compares with a stored one.
+// The key that hashing stores, and the key that verifying compares with a stored one.
 
 ghost use Rattle.std.specs.Prelude.{◌≡◌, length, IfErr, IfOk, OnOk};
 ghost use Rattle.password_hash.specs.declared.error.Error.TheVariants.{OutOfMemory};
@@ -11,7 +11,7 @@ use password_hash::phc::Output;
 use password_hash::{Error, Result};
 use std::alloc::Global;
 
-/// The length of the key that hashing with these parameters makes.
+/// Returns the length in bytes of the key that hashing with these parameters makes.
 pub(crate) fn made_len(params: &Params) -> usize
     ensures value { result ≡ made_len params.now }
     ensures stored { IsStoredLen result }
@@ -22,8 +22,10 @@ pub(crate) fn made_len(params: &Params) -> usize
     }
 }
 
-/// The derived key of `len` bytes, 10 to 64. It stands in an array, so that the three buffers of
-/// the derivation are all that memory is asked for.
+/// Derives a key of `len` bytes, 10 to 64. The key is in an array, so that only the three buffers
+/// of the derivation are allocated.
+///
+/// Returns `OutOfMemory` if an allocation fails.
 pub(crate) fn short_key(
     alloc: Global,
     password: &[u8],
@@ -44,7 +46,9 @@ pub(crate) fn short_key(
     Ok(key)
 }
 
-/// The derived key of `len` bytes, for which memory is asked first.
+/// Derives a key of `len` bytes, and allocates it before the buffers of the derivation.
+///
+/// Returns `OutOfMemory` if an allocation fails.
 pub(crate) fn long_key(
     alloc: Global,
     password: &[u8],
@@ -61,7 +65,7 @@ pub(crate) fn long_key(
     Ok(key)
 }
 
-// Derives a key of an accepted length, for which nothing but memory can be refused.
+// Derives a key of an accepted length, which can only fail for memory.
 fn derive(
     alloc: Global,
     password: &[u8],

@@ -1,4 +1,4 @@
--- What a key and the text that was hashed with it so far are worth.
+-- What the state of HMAC holds: a key, and the text hashed with it so far.
 use Rattle.std.specs.Prelude.{ℕ, List, ◌++◌, bit_xor, map}
 use Rattle.sha2.specs.Hashers.{Holds256}
 use Rattle.scrypt_kernel.specs.Hmac.{padded_key}

@@ -1,5 +1,5 @@
--- What one scryptROMix costs: calls of the Salsa20/8 core, as the standard's steps with a table V make
--- them, and memory. A word has 4 bytes.
+-- What one scryptROMix costs: calls of the Salsa20/8 core, as the standard's steps with a table V
+-- make them, and memory. A word has 4 bytes.
 use Rattle.std.specs.Prelude.{◌≡◌, ℕ, ◌-◌, ◌*◌, ◌/◌, ◌%◌, ◌^◌, ◌<◌, ◌≤◌}
 
 -- the cores of one scryptROMix: 2 * N block mixes of 2 * r cores each
@@ -24,14 +24,14 @@ pub record AreBytesOfB (b log_n : ℕ) : Type 0 where
   pub whole : b % 128 ≡ 0
   pub small : log_n ≤ 56
 
--- the lengths that one scryptROMix works on: the bytes of B, and the words of the table v and of the
--- scratch t
+-- the lengths that one scryptROMix works on: the bytes of B, and the words of the table v and of
+-- the scratch t
 pub record AreRoMixLens (log_n b v t : ℕ) : Type 0 where
   pub input : AreBytesOfB b log_n
   pub table : v ≡ table_words log_n (b / 128)
   pub scratch : t ≡ scratch_words (b / 128)
 
--- and with a table that keeps one row in 2 ^ s
+-- the same lengths with a table that keeps one row in 2 ^ s
 pub record AreThinLens (log_n s b v t : ℕ) : Type 0 where
   pub input : AreBytesOfB b log_n
   pub spacing : s ≤ log_n

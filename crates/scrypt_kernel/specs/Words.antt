@@ -18,7 +18,7 @@ add_words x y = zip2 add32 x y
 abbrev pub xor_words : List ℕ → List ℕ → List ℕ
 xor_words x y = zip2 bit_xor x y
 
--- the number that bytes write in little-endian order: the sum of byte i times 256 ^ i
+-- the number that bytes encode in little-endian order: the sum of byte i times 256 ^ i
 abbrev pub le_number : List ℕ → ℕ
 le_number [] = 0
 le_number (b ∷ bs) = b + 256 * le_number bs
@@ -27,7 +27,7 @@ le_number (b ∷ bs) = b + 256 * le_number bs
 abbrev pub part : ℕ → List ℕ → ℕ → List ℕ
 part s x k = take s (drop (k * s) x)
 
--- the words that bytes write, four bytes each in little-endian order
+-- the words that bytes encode, four bytes each in little-endian order
 abbrev pub words_of : List ℕ → List ℕ
 words_of b = map (λ i. le_number (part 4 b i)) (range_with_len 0 (length b / 4))
 

@@ -34,8 +34,8 @@ impl<'a> Input for &'a [u32] {
     }
 }
 
-// The exclusive or of two lists of the same length. It is taken as the block mix reads it, and is
-// never in memory as a whole.
+// The exclusive or of two lists of the same length. It is computed as the block mix reads it, and
+// is never in memory as a whole.
 #[derive(Clone, Copy)]
 pub(crate) struct Xor<'a> {
     pub(crate) x: &'a [u32],

@@ -13,8 +13,8 @@ use std::marker::Model;
 
 /// How many Salsa20/8 cores were run: all of them, and those of the lanes.
 ///
-/// Contracts see two numbers without an upper bound. At run time a count has no bytes, and no running
-/// program reads it.
+/// Contracts see two numbers without an upper bound. At run time a count has no bytes, and no
+/// running program reads it.
 #[derive(Drop)]
 pub struct CoreCount {
     seal: (),
@@ -27,7 +27,7 @@ impl Model for CoreCount {
 }
 
 impl CoreCount {
-    /// A count of no core.
+    /// Creates a count of zero.
     pub fn new() -> CoreCount
         ensures none { (result.all ≡ 0) × (result.lanes ≡ 0) }
     {

@@ -6,10 +6,10 @@ ghost use Rattle.scrypt_kernel.specs.HmacState.{HoldsText};
 
 use sha2::{Digest, Sha256};
 
-/// HMAC-SHA-256 of `text` followed by `tail`, with the key `key` (RFC 2104, section 2).
+/// Returns the HMAC-SHA-256 of `text` followed by `tail`, with the key `key` (RFC 2104, section 2).
 ///
-/// Each may have any length, and the two parts of the text are never joined in memory. A key of more
-/// than 64 bytes is replaced by its digest.
+/// Each slice may have any length, and the two parts of the text are never joined in memory. A key
+/// of more than 64 bytes is replaced by its digest.
 pub fn hmac_sha256(key: &[u8], text: &[u8], tail: &[u8]) -> [u8; 32]
     ensures value { result ≡ hmac_sha256 key.now (text.now ++ tail.now) }
 {
@@ -18,7 +18,8 @@ pub fn hmac_sha256(key: &[u8], text: &[u8], tail: &[u8]) -> [u8; 32]
     hmac.finish(tail)
 }
 
-// A key, and a text that was hashed with it so far. Texts that begin with it need not hash it again.
+// A key, and the text hashed with it so far. `finish` leaves it as it is, so that texts with the same
+// beginning hash it once.
 #[derive(Drop)]
 pub(crate) struct Hmac {
     inner: Sha256,
@@ -26,7 +27,7 @@ pub(crate) struct Hmac {
 }
 
 impl Hmac {
-    // The key, and no text.
+    // Creates a state with this key and an empty text.
     pub(crate) fn new(key: &[u8]) -> Hmac
         ensures { HoldsText result key.now [] }
     {
@@ -46,7 +47,7 @@ impl Hmac {
         self.inner.update(more);
     }
 
-    // HMAC of the text followed by `tail`.
+    // Returns HMAC of the text followed by `tail`.
     pub(crate) fn finish(&self, tail: &[u8]) -> [u8; 32]
         ensures { (secret text : List ℕ) → HoldsText self.now secret text
             → result ≡ hmac_sha256 secret (text ++ tail.now) }
@@ -59,7 +60,7 @@ impl Hmac {
     }
 }
 
-// The key in a block of 64 bytes: as it is, or its digest if it is longer, with zeros after it.
+// Returns the key in a block of 64 bytes: the key, or its digest if it is longer, and then zeros.
 fn padded_key(key: &[u8]) -> [u8; 64]
     ensures { result ≡ padded_key key.now }
 {
@@ -73,7 +74,7 @@ fn padded_key(key: &[u8]) -> [u8; 64]
     padded
 }
 
-// Each byte of the key's block with this mask, which is the byte of ipad or of opad.
+// Returns each byte of the key's block xor `mask`, which is the byte of ipad or of opad.
 fn masked(block: &[u8; 64], mask: u8) -> [u8; 64]
     ensures { result ≡ map (bit_xor mask) block.now }
 {

@@ -18,7 +18,7 @@ pub trait Memory {
     // how many words there is room for
     ghost room: { Self → ℕ };
 
-    /// The words of the rows.
+    /// Returns the words of the rows.
     fn words(&self) -> &[u32]
         ensures value { result.now ≡ words self.now };
 
@@ -27,15 +27,15 @@ pub trait Memory {
         ensures words { words self.new ≡ [] }
         ensures room { room self.old ≤ room self.new };
 
-    /// Adds a row.
+    /// Appends a row.
     fn append(&mut self, row: &[u32])
         requires { length (words self.old) + length row.now ≤ room self.old }
         ensures words { words self.new ≡ words self.old ++ row.now }
         ensures room { room self.old ≤ room self.new };
 
-    /// Adds the block mix of row `i`, the last one, as row `i + 1`, and counts its cores.
+    /// Appends the block mix of row `i`, the last one, as row `i + 1`, and counts its cores.
     ///
-    /// A row has the length of `spare`, whose words are lost.
+    /// A row has `spare.len()` words. What `spare` holds after the call is unspecified.
     fn add_mix<O: Order>(&mut self, i: usize, spare: &mut [u32], cores: &mut CoreCount)
         requires some { 0 < length spare.old }
         requires whole { length spare.old % 32 ≡ 0 }
@@ -60,7 +60,7 @@ pub struct Lent<'a> {
 impl<'a> Lent<'a> {
     ghost use Rattle.scrypt_kernel.specs.Memory.{lent_room, lent_words};
 
-    /// This memory, with no row in it.
+    /// Creates a store in `memory`, with no rows.
     pub fn new(memory: &'a mut [u32]) -> Lent<'a>
         ensures empty { lent_words result ≡ [] }
         ensures room { lent_room result ≡ length memory.old }
@@ -104,7 +104,7 @@ impl<'a> Memory for Lent<'a> {
     }
 }
 
-/// A vector that grows within its capacity, so that no pass over its memory writes zeros first.
+/// A vector that grows within its capacity, so that its memory is not filled with zeros first.
 impl Memory for Vec<u32> {
     ghost words = { λ rows. rows.items };
 

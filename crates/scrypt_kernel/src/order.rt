@@ -31,7 +31,7 @@ pub trait Order {
         requires { length x.old % 16 ≡ 0 }
         ensures value { x.new ≡ permuted inverse_pivot x.old };
 
-    /// Integerify modulo `2^log_n` (RFC 7914, section 5, step 3).
+    /// Returns Integerify modulo `2^log_n` (RFC 7914, section 5, step 3).
     fn integerify(x: &[u32], log_n: u8) -> usize
         requires some { 0 < length x.now }
         requires whole { length x.now % 16 ≡ 0 }
@@ -48,7 +48,7 @@ pub trait Order {
     ghost inverse: { AreInverse pivot inverse_pivot };
 }
 
-// The low `log_n` bits of the number that begins with these two words, in little-endian order.
+// Returns the low `log_n` bits of the little-endian number that begins with these two words.
 #[inline(always)]
 fn low_bits(first: u32, second: u32, log_n: u8) -> usize
     requires { log_n ≤ 56 }

@@ -5,7 +5,7 @@ ghost use Rattle.scrypt_kernel.specs.Pbkdf2.{pbkdf2};
 
 use crate::hmac::Hmac;
 
-/// Fills `out` with the key that PBKDF2 derives from `password` and `salt` by one iteration
+/// Fills `out` with the key that PBKDF2 derives from `password` and `salt` in one iteration
 /// (RFC 8018, section 5.2).
 ///
 /// `out` has at most 137438953440 bytes, which is `(2^32 - 1) * 32`, and may be empty.

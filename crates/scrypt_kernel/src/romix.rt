@@ -18,8 +18,8 @@ use crate::table::{Table, Whole};
 use crate::thin::Thin;
 use crate::words::{read_words, write_words};
 
-/// Replaces the bytes of `b` by their scryptROMix, and counts its `4 * N * r` cores, all of which are
-/// of the lanes (RFC 7914, section 5).
+/// Replaces the bytes of `b` by their scryptROMix, and counts its `4 * N * r` cores, all of them as
+/// cores of the lanes (RFC 7914, section 5).
 ///
 /// `b` has `128 * r` bytes with `r` at least 1, the table `v` has `32 * r * N` words, the scratch
 /// `t` has `64 * r` words, and `log_n` is at most 56. It does not matter what `v` and `t` hold
@@ -36,12 +36,12 @@ pub fn scrypt_ro_mix(b: &mut [u8], v: &mut [u32], t: &mut [u32], log_n: u8, core
 }
 
 /// Does what [`scrypt_ro_mix`] does, with a table that keeps each row whose number is a multiple of
-/// `2^s`. Any other row is mixed anew, from the kept row below it, wherever the walk needs it: to have
-/// row `j` takes `j mod 2^s` block mixes of `2 * r` cores each, beyond the `4 * N * r` cores.
+/// `2^s`. Any other row is mixed anew, from the kept row below it, whenever the walk needs it: row
+/// `j` takes `j mod 2^s` block mixes of `2 * r` cores each, in addition to the `4 * N * r` cores.
 ///
-/// `b` has `128 * r` bytes with `r` at least 1, the table `v` has `32 * r * 2^(log_n - s)` words, the
-/// scratch `t` has `96 * r` words, `log_n` is at most 56, and `s` at most `log_n`. It does not matter
-/// what `v` and `t` hold before the call, and what they hold after it is unspecified.
+/// `b` has `128 * r` bytes with `r` at least 1, the table `v` has `32 * r * 2^(log_n - s)` words,
+/// the scratch `t` has `96 * r` words, `log_n` is at most 56, and `s` at most `log_n`. It does not
+/// matter what `v` and `t` hold before the call, and what they hold after it is unspecified.
 pub fn thin_ro_mix(
     b: &mut [u8],
     v: &mut [u32],
@@ -62,8 +62,10 @@ pub fn thin_ro_mix(
     ro_mix::<Diagonal, Thin<'_>>(b, &mut table, t, log_n, cores);
 }
 
-/// Does what [`scrypt_ro_mix`] does, by block mixes on words in standard order: no core is one of the
-/// lanes.
+/// Does what [`scrypt_ro_mix`] does, with block mixes on words in standard order: no core is
+/// counted as one of the lanes.
+///
+/// The lengths are those of [`scrypt_ro_mix`].
 #[tactic(auto, using(crate::proofs::WalkFacts::whole_cost))]
 pub fn plain_ro_mix(b: &mut [u8], v: &mut [u32], t: &mut [u32], log_n: u8, cores: &mut CoreCount)
     requires lens { AreRoMixLens log_n (length b.old) (length v.old) (length t.old) }
@@ -75,10 +77,11 @@ pub fn plain_ro_mix(b: &mut [u8], v: &mut [u32], t: &mut [u32], log_n: u8, cores
     ro_mix::<Standard, Whole<Lent<'_>>>(b, &mut table, t, log_n, cores);
 }
 
-/// Replaces the bytes of `b` by their scryptROMix, over words in the order `O` and in any table, and
+/// Replaces the bytes of `b` by their scryptROMix, with words in the order `O` and any table, and
 /// counts its cores: `4 * N * r`, and `2 * r` more for each row that the table mixes anew.
 ///
-/// The lengths are those of [`scrypt_ro_mix`], but that the table has room for the rows that it keeps.
+/// The lengths are those of [`scrypt_ro_mix`], except that the table has room for the rows that it
+/// keeps.
 pub fn ro_mix<O: Order, T: Table>(
     b: &mut [u8],
     table: &mut T,
@@ -111,8 +114,8 @@ pub fn ro_mix<O: Order, T: Table>(
     write_words(x, b);
 }
 
-// Step 3. X is in `x` before it and after it, and the steps write it to `y` and to `x` in turn, so that
-// none copies it.
+// Step 3. X is in `x` before it and after it, and the steps write it to `y` and to `x` in turn, so
+// that none copies it.
 fn walk<O: Order, T: Table>(
     x: &mut [u32],
     table: &mut T,

@@ -13,7 +13,7 @@ use crate::memory::Memory;
 use crate::order::Order;
 use crate::words::{lanes, part, put_lanes};
 
-/// The rows of V, of which a table may keep only some.
+/// A table for the rows of V, which may keep only some of them.
 pub trait Table {
     // it keeps each row whose number is a multiple of 2 ^ spacing
     ghost spacing: { Self → ℕ };
@@ -26,7 +26,7 @@ pub trait Table {
 
     /// Step 2: for i = 0 to N - 1 do V[i] = X, X = scryptBlockMix (X).
     ///
-    /// X is `x` in the order `O`. The words of `y` are lost.
+    /// X is `x` in the order `O`. What `y` holds after the call is unspecified.
     fn fill<O: Order>(&mut self, x: &mut [u32], y: &mut [u32], log_n: u8, cores: &mut CoreCount)
         requires some { 0 < length x.old }
         requires whole { length x.old % 32 ≡ 0 }
@@ -105,12 +105,13 @@ impl<M: Memory + Drop> Table for Whole<M> {
     }
 }
 
-// Reads four words of each of the first eight blocks of a row and of the last one, which the block mix
-// takes first. The row is at a random place of a table that is larger than the caches, and the core of
-// one block has to end before that of the next begins: without these reads, which wait for nothing,
-// each block would be waited for in turn. Measured at (17, 8, 1), they save 5 to 15 per cent; reading
-// ahead the blocks after the eighth, which the processor fetches by itself, saves nothing more.
-// The first four words of `spare` are lost: a result that nobody uses would not be computed.
+// Reads four words of each of the first eight blocks of a row and of the last one, which the block
+// mix takes first. The row is at a random place of a table that is larger than the caches, and the
+// core of one block has to end before that of the next begins: without these reads, which wait for
+// nothing, each block would be waited for in turn. Measured at (17, 8, 1), they save 5 to 15 per
+// cent; reading ahead the blocks after the eighth, which the processor fetches by itself, saves
+// nothing more. The first four words of `spare` are overwritten: a result that is not used would
+// not be computed.
 #[inline(always)]
 fn load_ahead(row: &[u32], spare: &mut [u32])
     requires some { 16 ≤ length row.now }

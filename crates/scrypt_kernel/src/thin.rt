@@ -14,8 +14,8 @@ use crate::order::Order;
 use crate::table::Table;
 use crate::words::part;
 
-/// A table that keeps each row whose number is a multiple of `2^s`. A missing row is mixed again from
-/// the kept row below it.
+/// A table that keeps each row whose number is a multiple of `2^s`. A missing row is mixed again
+/// from the kept row below it.
 #[derive(Drop)]
 pub struct Thin<'a> {
     rows: Lent<'a>,
@@ -28,8 +28,8 @@ impl<'a> Thin<'a> {
     ghost use Rattle.scrypt_kernel.specs.Memory.{lent_room};
     ghost use Rattle.scrypt_kernel.specs.ThinTable.{thin_has_room, thin_kept, thin_spacing};
 
-    /// A table with no row yet: `memory` is for the rows that it keeps, and `spare` for one row that is
-    /// mixed anew.
+    /// Creates a table with no rows: `memory` is for the rows that it keeps, and `spare` for one
+    /// row that is mixed anew. `s` is at most 56.
     pub fn new(memory: &'a mut [u32], spare: &'a mut [u32], s: u8) -> Thin<'a>
         requires small { s ≤ 56 }
         ensures spacing { thin_spacing result ≡ s }
@@ -71,7 +71,7 @@ impl<'a> Table for Thin<'a> {
     }
 }
 
-// Step 2, where `rows` keeps each row whose number is a multiple of `2^s`.
+// Step 2 for `rows` that keep each row whose number is a multiple of `2^s`.
 fn fill_some<O: Order, M: Memory>(
     rows: &mut M,
     s: u8,
@@ -129,7 +129,7 @@ fn mix_with_row_after<O: Order>(
     mix::<O, Xor<'_>>(&Xor { x, y: spare }, y, cores);
 }
 
-// Makes of a row the row that is `n` rows after it. The words of `y` are lost.
+// Replaces a row by the row `n` rows after it. What `y` holds after the call is unspecified.
 fn advance<O: Order>(x: &mut [u32], y: &mut [u32], n: usize, cores: &mut CoreCount)
     requires some { 0 < length x.old }
     requires whole { length x.old % 32 ≡ 0 }

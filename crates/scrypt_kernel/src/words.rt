@@ -37,7 +37,7 @@ pub(crate) fn add_words(x: &mut [u32], y: &[u32])
     }
 }
 
-/// Part `k` of `x`, which is cut into parts of `s` words.
+/// Returns part `k` of `x`, which is cut into parts of `s` words.
 #[inline(always)]
 pub(crate) fn part(x: &[u32], s: usize, k: usize) -> &[u32]
     requires { k * s + s ≤ length x.now }
@@ -47,7 +47,7 @@ pub(crate) fn part(x: &[u32], s: usize, k: usize) -> &[u32]
     &x[k * s..k * s + s]
 }
 
-/// Block `k` of `x`.
+/// Returns block `k` of `x`.
 #[inline(always)]
 pub(crate) fn block_at(x: &[u32], k: usize) -> [u32; 16]
     requires { 16 * k + 16 ≤ length x.now }
@@ -72,7 +72,7 @@ pub(crate) fn put_block(x: &mut [u32], k: usize, from: &[u32; 16])
     }
 }
 
-/// The exclusive or of two blocks.
+/// Returns the exclusive or of two blocks.
 #[inline(always)]
 pub(crate) fn xor_blocks(x: &[u32; 16], y: &[u32; 16]) -> [u32; 16]
     ensures { result ≡ xor_words x.now y.now }
@@ -84,7 +84,7 @@ pub(crate) fn xor_blocks(x: &[u32; 16], y: &[u32; 16]) -> [u32; 16]
     words
 }
 
-/// Part `k` of `x`, which is cut into parts of four words, as the lanes of a vector.
+/// Returns part `k` of `x`, which is cut into parts of four words, as the lanes of a vector.
 #[inline(always)]
 pub(crate) fn lanes(x: &[u32], k: usize) -> u32x4
     requires { 4 * k + 4 ≤ length x.now }

@@ -1,11 +1,11 @@
-//! The letters of crypt(5), each of which says six bits.
+//! The 64 letters of crypt(5), each of which encodes six bits.
 ghost use Rattle.std.specs.Prelude.{◌≡◌, ◌<◌, ◌≤◌, length};
 ghost use Rattle.password_hash.specs.Crypt64.{letter, letter_value, number_of};
 
 /// The letter of each value from 0 to 63.
 const ALPHABET: [u8; 64] = *b"./0123456789ABCDEFGHIJKLMNOPQRSTUVWXYZabcdefghijklmnopqrstuvwxyz";
 
-/// The letter of a value, which has to be below 64.
+/// Returns the letter of a value below 64.
 pub fn letter(value: u32) -> u8
     requires small { value < 64 }
     ensures value { result ≡ letter value }
@@ -13,7 +13,7 @@ pub fn letter(value: u32) -> u8
     ALPHABET[value as usize]
 }
 
-/// The value of a letter, or `None` where the byte is no letter.
+/// Returns the value of a letter, from 0 to 63, or `None` if the byte is not a letter of crypt(5).
 pub fn value(byte: u8) -> Option<u8>
     ensures value { result ≡ letter_value byte }
 {
@@ -25,8 +25,8 @@ pub fn value(byte: u8) -> Option<u8>
     }
 }
 
-/// The number that at most five letters say, their values as digits to base 64 with the lowest first,
-/// or `None` where a byte is no letter.
+/// Returns the number that at most five letters encode in base 64, the lowest digit first, or
+/// `None` if a byte is not a letter of crypt(5).
 pub fn number(letters: &[u8]) -> Option<u32>
     requires short { length letters.now ≤ 5 }
     ensures value { result ≡ number_of letters.now }

@@ -1,4 +1,4 @@
-//! Crypt Base64: bytes as the letters of crypt(5), low bits first.
+//! Crypt Base64: the encoding of bytes in the letters of crypt(5), low bits first.
 ghost use Rattle.std.specs.Prelude.{◌≡◌, ◌↔◌, ℕ, ◌+◌, ◌^◌, ◌<◌, ◌≤◌, List, ◌++◌, length, drop, IsTrue, IsOk, IfOk, OnOk, IfErr, OnErr, IsErrOf, MatchOption, string_bytes};
 ghost use Rattle.password_hash.specs.Crypt64.{Crypt64, IsCrypt64, crypt64_of, encoded_len};
 
@@ -7,17 +7,17 @@ use super::letters::Letters;
 use super::{Error, Result};
 use std::alloc::Global;
 
-/// A kind of Base64.
+/// A Base64 encoding.
 #[derive(Clone, Copy, Debug, PartialEq, Eq)]
 pub enum Base64 {
-    /// That of crypt(5): the letters `./0-9A-Za-z`, the low bits first, and no padding.
+    /// The encoding of crypt(5): the letters `./0-9A-Za-z`, low bits first, without padding.
     Crypt,
 }
 
 impl Base64 {
-    /// The letters of `bytes`.
+    /// Encodes `bytes` as a string.
     ///
-    /// `OutOfMemory` where memory ran out.
+    /// Returns `OutOfMemory` if the allocation fails.
     pub fn encode_string(self, alloc: Global, bytes: &[u8]) -> Result<String>
         ensures ok { IfOk result (λ text. string_bytes text ≡ crypt64_of bytes.now) }
         ensures err { IfErr result (λ e. e ≡ Error.OutOfMemory) }
@@ -30,11 +30,11 @@ impl Base64 {
         Ok(text)
     }
 
-    /// The bytes of `letters`.
+    /// Decodes `letters` to bytes.
     ///
-    /// `EncodingInvalid` where no bytes have these letters: one of them is not in the alphabet, one
-    /// stands alone at the end, or bits stand above the last byte. Then no memory was asked for.
-    /// `OutOfMemory` where memory ran out.
+    /// Returns `EncodingInvalid`, without allocating, if `letters` are not an encoding: one of them
+    /// is not in the alphabet, the last group has only one letter, or bits above the last byte are
+    /// set. Returns `OutOfMemory` if the allocation fails.
     pub fn decode_vec(self, alloc: Global, letters: &str) -> Result<Vec<u8>>
         ensures ok { IfOk result (λ bytes. Crypt64 bytes.items letters.now) }
         ensures invalid { IsErrOf result Error.EncodingInvalid ↔ (¬ IsCrypt64 letters.now) }
@@ -45,14 +45,14 @@ impl Base64 {
             return Err(Error::EncodingInvalid);
         };
         let mut bytes = Vec::with_capacity(alloc, len)?;
-        while let Some((group, behind)) = Group::split_first(rest) {
+        while let Some((group, after)) = Group::split_first(rest) {
             bytes.extend_from_slice(group.as_bytes())?;
-            rest = behind;
+            rest = after;
         }
         Ok(bytes)
     }
 
-    /// The number of letters of `n` bytes.
+    /// Returns how many letters encode `n` bytes, for `n` below 2^63.
     pub fn encoded_len(self, n: usize) -> usize
         requires small { n < 2 ^ 63 }
         ensures len { result ≡ encoded_len n }
@@ -61,10 +61,10 @@ impl Base64 {
         n + n.div_ceil(3)
     }
 
-    /// Writes the letters of `bytes` at the front of `out`, and answers their number. The places
-    /// behind them stay as they were.
+    /// Writes the letters that encode `bytes` to the front of `out`, and returns how many there
+    /// are. The bytes of `out` after them are unchanged.
     ///
-    /// `EncodingInvalid` exactly where `out` is too short. Then nothing is written.
+    /// Returns `EncodingInvalid` exactly if `out` is too short, and leaves it unchanged.
     pub fn encode_slice(self, bytes: &[u8], out: &mut [u8]) -> Result<usize>
         ensures exact { IsOk result ↔ (length (crypt64_of bytes.now) ≤ length out.old) }
         ensures ok { IfOk result (λ len. len ≡ length (crypt64_of bytes.now)) }
@@ -86,21 +86,21 @@ impl Base64 {
     }
 }
 
-/// The number of bytes that letters encode, or `None` where no bytes have these letters.
+/// Returns the number of bytes that `letters` encode, or `None` if they are not an encoding.
 pub(super) fn decoded_len(letters: &[u8]) -> Option<usize>
     ensures { MatchOption result (¬ IsCrypt64 letters.now)
         (λ n. (bytes : List ℕ) × Crypt64 bytes letters.now × (length bytes ≡ n)) }
 {
     let mut len = 0;
     let mut rest = letters;
-    while let Some((group, behind)) = Group::split_first(rest) {
+    while let Some((group, after)) = Group::split_first(rest) {
         len += group.as_bytes().len();
-        rest = behind;
+        rest = after;
     }
     if rest.is_empty() { Some(len) } else { None }
 }
 
-/// Whether these are the letters of these bytes. It looks at every byte.
+/// Returns whether `letters` encode `bytes`. Every byte is compared, also after a difference.
 pub(super) fn is_encoding(letters: &[u8], bytes: &[u8]) -> bool
     ensures { IsTrue result ↔ Crypt64 bytes.now letters.now }
 {

@@ -6,7 +6,7 @@ use super::crypt64::{Base64, decoded_len, is_encoding};
 use super::{Error, Result};
 use std::alloc::Global;
 
-/// A field of an MCF text: any text without `$`, also the empty one.
+/// A field of an MCF text: any text without `$`, possibly empty.
 #[derive(Clone, Copy, Debug)]
 pub struct Field<'a> {
     pub(super) text: &'a str,
@@ -15,17 +15,17 @@ pub struct Field<'a> {
 impl<'a> Field<'a> {
     ghost use Rattle.password_hash.specs.McfViews.{field_text};
 
-    /// The text of the field.
+    /// Returns the text of the field.
     pub fn as_str(&self) -> &'a str
         ensures value { result.now ≡ field_text self.now }
     {
         self.text
     }
 
-    /// The bytes of which the field has the letters.
+    /// Decodes the field as Base64.
     ///
-    /// `EncodingInvalid` where no bytes have these letters. Then no memory was asked for.
-    /// `OutOfMemory` where memory ran out.
+    /// Returns `EncodingInvalid`, without allocating, if the field is not an encoding, and
+    /// `OutOfMemory` if the allocation fails.
     pub fn decode_base64(&self, alloc: Global, encoding: Base64) -> Result<Vec<u8>>
         ensures ok { IfOk result (λ bytes. Crypt64 bytes.items (field_text self.now)) }
         ensures invalid { IsErrOf result Error.EncodingInvalid ↔ (¬ IsCrypt64 (field_text self.now)) }
@@ -34,8 +34,8 @@ impl<'a> Field<'a> {
         encoding.decode_vec(alloc, self.text)
     }
 
-    /// The number of bytes of which the field has the letters in crypt Base64, or `None` where no
-    /// bytes have them. It takes no memory.
+    /// Returns the number of bytes that the field encodes in crypt Base64, or `None` if it is not
+    /// an encoding. Does not allocate.
     pub fn base64_len(&self) -> Option<usize>
         ensures value { MatchOption result (¬ IsCrypt64 (field_text self.now))
             (λ n. (bytes : List ℕ) × Crypt64 bytes (field_text self.now) × (length bytes ≡ n)) }
@@ -43,8 +43,8 @@ impl<'a> Field<'a> {
         decoded_len(self.text.as_bytes())
     }
 
-    /// Whether the field has the letters of these bytes in crypt Base64. It looks at every byte, and
-    /// takes no memory.
+    /// Returns whether the field encodes `bytes` in crypt Base64. Every byte is compared, also
+    /// after a difference. Does not allocate.
     pub fn base64_matches(&self, bytes: &[u8]) -> bool
         ensures exact { IsTrue result ↔ Crypt64 bytes.now (field_text self.now) }
     {

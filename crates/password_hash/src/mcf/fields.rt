@@ -5,10 +5,10 @@ ghost use Rattle.password_hash.specs.Mcf.{IsField};
 use super::field::Field;
 use crate::parts::first_part;
 
-/// The fields of an MCF text, in order.
+/// An iterator over the fields of an MCF text, in order.
 #[derive(Debug, Drop)]
 pub struct Fields<'a> {
-    /// What stands behind the next dollar, if there is one.
+    /// The text after the next `$`, or `None` after the last field.
     pub(super) left: Option<&'a str>,
 }
 
@@ -29,7 +29,7 @@ impl<'a> Iterator for Fields<'a> {
     }
 }
 
-/// Whether this may be a field.
+/// Returns whether `text` can be a field, which has no `$`.
 pub(super) fn is_field(text: &str) -> bool
     ensures { IsTrue result ↔ IsField text.now }
 {

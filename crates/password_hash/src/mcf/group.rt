@@ -1,10 +1,10 @@
-//! From letters to bytes.
+//! Decoding of letters, one group of at most four at a time.
 ghost use Rattle.std.specs.Prelude.{◌≡◌, ℕ, ◌+◌, ◌<◌, ◌≤◌, List, [], length, take, MatchOption, IfSome};
 ghost use Rattle.password_hash.specs.Crypt64.{Crypt64, Begins};
 
 use super::alphabet::number;
 
-/// The bytes of two, three or four letters: the first `len` of `bytes`.
+/// The bytes that two, three or four letters encode: the first `len` of `bytes`.
 #[derive(Clone, Copy)]
 pub(super) struct Group {
     bytes: [u8; 4],
@@ -13,8 +13,8 @@ pub(super) struct Group {
 }
 
 impl Group {
-    /// The bytes of the first four letters, or of fewer at the end, and the letters behind. `None`
-    /// where no bytes have these letters, and at the end.
+    /// Decodes the first four letters, or fewer at the end, and returns their bytes and the letters
+    /// after them. Returns `None` if there are no letters, or if these are not an encoding.
     pub(super) fn split_first(letters: &[u8]) -> Option<(Group, &[u8])>
         ensures split { MatchOption result
             ((bytes : List ℕ) → Crypt64 bytes letters.now → bytes ≡ [])
@@ -25,7 +25,7 @@ impl Group {
         let (group, rest) = letters.split_at(letters.len().min(4));
         let len = group.len().saturating_sub(1);
         let number = number(group)?;
-        // One letter alone says nothing, and no bit may stand above the last byte.
+        // A single letter encodes no byte, and no bit above the last byte may be set.
         if len == 0 || number >> (8 * len) != 0 {
             return None;
         }
@@ -33,7 +33,7 @@ impl Group {
         Some((Group { bytes, len }, rest))
     }
 
-    /// The bytes.
+    /// Returns the bytes.
     pub(super) fn as_bytes(&self) -> &[u8]
         ensures { result.now ≡ take self.now.len self.now.bytes }
     {

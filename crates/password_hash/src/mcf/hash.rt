@@ -13,7 +13,7 @@ use super::{Error, Result};
 use std::alloc::Global;
 use std::marker::Model;
 
-/// An MCF text: `$`, an id, and any number of fields, each behind a `$`.
+/// An MCF text: `$`, an id, and any number of fields, each after a `$`.
 #[derive(Debug, Drop)]
 pub struct PasswordHash {
     text: String,
@@ -33,7 +33,7 @@ impl Model for PasswordHash {
 impl PasswordHash {
     ghost use Rattle.password_hash.specs.McfViews.{hash_text, fields_left};
 
-    /// Keeps the text where it is an MCF text, and else hands it back. It takes no memory.
+    /// Takes `text` as an MCF text, or returns it as the error if it is not one. Does not allocate.
     pub fn from_string(text: String) -> std::result::Result<PasswordHash, String>
         ensures exact { IsOk result ↔ IsMcf (string_bytes text) }
         ensures value { MatchResult result (λ hash. hash ≡ string_bytes text) (λ back. back ≡ text) }
@@ -46,8 +46,8 @@ impl PasswordHash {
 
     /// Copies an MCF text.
     ///
-    /// `EncodingInvalid` where it is none. Then no memory was asked for. `OutOfMemory` where memory
-    /// ran out.
+    /// Returns `EncodingInvalid`, without allocating, if `text` is not an MCF text, and
+    /// `OutOfMemory` if the allocation fails.
     pub fn new(alloc: Global, text: &str) -> Result<PasswordHash>
         ensures ok { IfOk result (λ hash. hash ≡ text.now) }
         ensures accepted { OnOk result (IsMcf text.now) }
@@ -61,10 +61,10 @@ impl PasswordHash {
         Ok(PasswordHash { text })
     }
 
-    /// A text with this id and no field.
+    /// Creates a text with this id and no fields.
     ///
-    /// `EncodingInvalid` unless the id is one or more of `a-z0-9-`. Then no memory was asked for.
-    /// `OutOfMemory` where memory ran out.
+    /// Returns `EncodingInvalid`, without allocating, unless `id` is one or more of `a-z0-9-`, and
+    /// `OutOfMemory` if the allocation fails.
     pub fn from_id(alloc: Global, id: &str) -> Result<PasswordHash>
         ensures ok { IfOk result (λ hash. hash ≡ dollar ∷ id.now) }
         ensures accepted { OnOk result (IsId id.now) }
@@ -80,10 +80,10 @@ impl PasswordHash {
         Ok(PasswordHash { text })
     }
 
-    /// Appends `$` and a field. An error leaves the text as it was.
+    /// Appends `$` and a field. On an error the text is unchanged.
     ///
-    /// `EncodingInvalid` where the field has a `$`. Then no memory was asked for. `OutOfMemory` where
-    /// memory ran out.
+    /// Returns `EncodingInvalid`, without allocating, if `field` has a `$`, and `OutOfMemory` if
+    /// the allocation fails.
     pub fn push_str(&mut self, field: &str) -> Result<()>
         ensures ok { OnOk result (self.new ≡ self.old ++ dollar ∷ field.now) }
         ensures accepted { OnOk result (IsField field.now) }
@@ -94,16 +94,16 @@ impl PasswordHash {
         if !is_field(field) {
             return Err(Error::EncodingInvalid);
         }
-        // Room for both is taken first, so that nothing is written where it is refused.
+        // Room for both is reserved first, so that nothing is written if the allocation fails.
         self.text.reserve(field.len().saturating_add(1))?;
         self.text.push('$')?;
         self.text.push_str(field)?;
         Ok(())
     }
 
-    /// Appends `$` and the letters of these bytes. An error leaves the text as it was.
+    /// Appends `$` and the Base64 of `bytes`. On an error the text is unchanged.
     ///
-    /// `OutOfMemory` where memory ran out.
+    /// Returns `OutOfMemory` if an allocation fails.
     pub fn push_base64(&mut self, bytes: &[u8], encoding: Base64) -> Result<()>
         ensures ok { OnOk result (self.new ≡ self.old ++ dollar ∷ crypt64_of bytes.now) }
         ensures err { IfErr result (λ e. e ≡ Error.OutOfMemory) }
@@ -114,14 +114,14 @@ impl PasswordHash {
         self.push_str(letters.as_str())
     }
 
-    /// The whole text.
+    /// Returns the whole text.
     pub fn as_str(&self) -> &str
         ensures value { result.now ≡ self.now }
     {
         self.text.as_str()
     }
 
-    /// The id: one or more of `a-z0-9-`.
+    /// Returns the id: one or more of `a-z0-9-`.
     pub fn id(&self) -> &str
         ensures value { result.now ≡ id_of self.now }
         ensures reading { IsMcfText self.now result.now (fields_of self.now) }
@@ -129,7 +129,7 @@ impl PasswordHash {
         self.as_password_hash_ref().id()
     }
 
-    /// The fields, in order.
+    /// Returns an iterator over the fields, in order.
     pub fn fields(&self) -> Fields<'_>
         ensures value { fields_left result ≡ fields_of self.now }
         ensures reading { IsMcfText self.now (id_of self.now) (fields_left result) }
@@ -137,7 +137,7 @@ impl PasswordHash {
         self.as_password_hash_ref().fields()
     }
 
-    /// The same text, borrowed.
+    /// Borrows the same text.
     pub fn as_password_hash_ref(&self) -> PasswordHashRef<'_>
         ensures value { hash_text result ≡ self.now }
     {

@@ -8,7 +8,7 @@ use super::{Error, Result};
 use crate::letters::are_identifier_letters;
 use crate::parts::first_part;
 
-/// An MCF text that is borrowed: `$`, an id, and any number of fields, each behind a `$`.
+/// A borrowed MCF text: `$`, an id, and any number of fields, each after a `$`.
 #[derive(Clone, Copy, Debug)]
 pub struct PasswordHashRef<'a> {
     pub(super) text: &'a str,
@@ -18,9 +18,9 @@ pub struct PasswordHashRef<'a> {
 impl<'a> PasswordHashRef<'a> {
     ghost use Rattle.password_hash.specs.McfViews.{hash_text, fields_left};
 
-    /// Borrows an MCF text.
+    /// Borrows an MCF text. Does not allocate.
     ///
-    /// `EncodingInvalid` where it is none. It takes no memory.
+    /// Returns `EncodingInvalid` if `text` is not an MCF text.
     pub fn new(text: &'a str) -> Result<PasswordHashRef<'a>>
         ensures exact { IsOk result ↔ IsMcf text.now }
         ensures ok { IfOk result (λ hash. hash_text hash ≡ text.now) }
@@ -32,14 +32,14 @@ impl<'a> PasswordHashRef<'a> {
         Ok(PasswordHashRef { text })
     }
 
-    /// The whole text.
+    /// Returns the whole text.
     pub fn as_str(&self) -> &'a str
         ensures value { result.now ≡ hash_text self.now }
     {
         self.text
     }
 
-    /// The id: one or more of `a-z0-9-`.
+    /// Returns the id: one or more of `a-z0-9-`.
     pub fn id(&self) -> &'a str
         ensures value { result.now ≡ id_of (hash_text self.now) }
         ensures reading { IsMcfText (hash_text self.now) result.now (fields_of (hash_text self.now)) }
@@ -47,7 +47,7 @@ impl<'a> PasswordHashRef<'a> {
         split_id(self.text).unwrap().0
     }
 
-    /// The fields, in order.
+    /// Returns an iterator over the fields, in order.
     pub fn fields(&self) -> Fields<'a>
         ensures value { fields_left result ≡ fields_of (hash_text self.now) }
         ensures reading { IsMcfText (hash_text self.now) (id_of (hash_text self.now)) (fields_left result) }
@@ -58,7 +58,7 @@ impl<'a> PasswordHashRef<'a> {
     }
 }
 
-/// The id of a text that begins with a dollar, and what stands behind the next dollar.
+/// Returns the id of a text that begins with `$`, and the text after the next `$`, if there is one.
 fn split_id(text: &str) -> Option<(&str, Option<&str>)>
     ensures { MatchOption result ((rest : List ℕ) → text.now ≢ dollar ∷ rest)
         (λ split. parts_of text.now ≡ [] ∷ split.0.now ∷ parts_left split.1) }
@@ -67,7 +67,7 @@ fn split_id(text: &str) -> Option<(&str, Option<&str>)>
     Some(first_part(rest))
 }
 
-/// Whether this is an MCF text.
+/// Returns whether `text` is an MCF text.
 pub(super) fn is_mcf(text: &str) -> bool
     ensures { IsTrue result ↔ IsMcf text.now }
 {
@@ -77,7 +77,7 @@ pub(super) fn is_mcf(text: &str) -> bool
     }
 }
 
-/// Whether this is an id.
+/// Returns whether `text` is an id: one or more of `a-z0-9-`.
 pub(super) fn is_id(text: &str) -> bool
     ensures { IsTrue result ↔ IsId text.now }
 {

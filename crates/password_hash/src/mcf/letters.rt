@@ -1,22 +1,22 @@
-//! From bytes to letters.
+//! Encoding of bytes, one group of at most three at a time.
 ghost use Rattle.std.specs.Prelude.{◌≡◌, ◌<◌, ◌++◌, [], MatchOption, IfSome};
 ghost use Rattle.std.specs.Iterator.{YieldsFirst, item_count};
 ghost use Rattle.password_hash.specs.Crypt64.{letters_of, crypt64_of};
 
 use super::alphabet::letter;
 
-/// The letters of bytes, in order.
+/// An iterator over the letters that encode some bytes, in order.
 #[derive(Clone, Copy)]
 pub(super) struct Letters<'a> {
-    /// How many letters the group at hand has yet to give, and the number that they say.
+    /// Letters of this group still to be yielded, and their value.
     pending: usize,
     number: u32,
-    /// The bytes behind the group.
+    /// The bytes after this group.
     bytes: &'a [u8],
 }
 
 impl<'a> Letters<'a> {
-    /// The letters of these bytes.
+    /// Creates an iterator over the letters that encode `bytes`.
     #[tactic(auto, unfolding(crate::specs::Crypt64::letters_of))]
     pub(super) fn new(bytes: &'a [u8]) -> Letters<'a>
         ensures { letters_of result.pending result.number ++ crypt64_of result.bytes.now
@@ -29,7 +29,8 @@ impl<'a> Letters<'a> {
         }
     }
 
-    /// The letters of the first three bytes, or of the last one or two, and then of the others.
+    /// Starts the group of the first three bytes, or of the last one or two. Returns `None` if
+    /// there are no bytes.
     fn of_first_group(bytes: &'a [u8]) -> Option<Letters<'a>>
         ensures some { MatchOption result (bytes.now ≡ []) (λ letters. 0 < letters.pending) }
         ensures same { IfSome result (λ letters. crypt64_of bytes.now

@@ -1,4 +1,4 @@
-//! What no clause says: vectors from outside, that calls succeed, and the derives.
+//! What no contract states: vectors from other programs, that calls succeed, and the derives.
 
 mod crypt64;
 mod texts;

@@ -1,4 +1,4 @@
-//! Salts and keys as letters: Base64 of RFC 4648, section 4, without padding.
+//! The encoding of salts and keys: Base64 (RFC 4648, section 4) without padding.
 ghost use Rattle.std.specs.Prelude.{◌≡◌, ℕ, List, Some, IfSome};
 ghost use Rattle.password_hash.specs.Phc.{base64};
 ghost use Rattle.password_hash.specs.Stored.{AreBytesFromTo};
@@ -6,7 +6,8 @@ ghost use Rattle.password_hash.specs.Stored.{AreBytesFromTo};
 use crate::phc::short_bytes::ShortBytes;
 use base64::engine::general_purpose::STANDARD_NO_PAD;
 
-/// The bytes that these are the letters of, from `LEAST` to 64 of them.
+/// Decodes `letters` to `LEAST` to 64 bytes. Returns `None` if they are not an encoding, or one of
+/// fewer or more bytes.
 pub(super) fn decode<const LEAST: usize>(letters: &str) -> Option<ShortBytes<LEAST, 64>>
     ensures letters { IfSome result (λ bytes. letters.now ≡ base64 bytes) }
     ensures bytes { IfSome result (AreBytesFromTo LEAST 64) }

@@ -1,4 +1,4 @@
-//! A password hash as one text.
+//! A password hash in the PHC string format.
 ghost use Rattle.std.specs.Prelude.{◌≡◌, ◌++◌, Some, IfSome, Ok, IfOk, IfErr, codes};
 ghost use Rattle.std.specs.Fmt.{DisplaysOnOk};
 ghost use Rattle.password_hash.specs.Parts.{parts_text};
@@ -16,7 +16,7 @@ use std::fmt;
 
 /// A password hash: `$algorithm$v=version$name=value,name=value$salt$key`.
 ///
-/// All parts but the algorithm may be missing, and a key is printed only behind a salt.
+/// Every part but the algorithm is optional, and a key is printed only after a salt.
 #[derive(Debug, PartialEq, Eq, Drop)]
 pub struct PasswordHash {
     /// The name of the algorithm.
@@ -27,14 +27,16 @@ pub struct PasswordHash {
     pub params: ParamsString,
     /// The salt.
     pub salt: Option<Salt>,
-    /// The key that the algorithm gave for the password and the salt.
+    /// The key that the algorithm derived from the password and the salt.
     pub hash: Option<Output>,
 }
 
 impl PasswordHash {
-    /// The hash of a text: `EncodingInvalid` unless `$` and the algorithm come first, then the
-    /// version, the parameters, the salt and behind it the key, each in its own form behind a `$`
-    /// or missing. A hash is printed as it was read.
+    /// Parses a password hash: `$` and the algorithm, then the version, the parameters, the salt
+    /// and the key in this order. Each part after the algorithm follows a `$` and is optional, but
+    /// there is no key without a salt. The hash is printed as the same text.
+    ///
+    /// Returns `EncodingInvalid` if `text` does not have this form.
     pub fn new(text: &str) -> Result<PasswordHash>
         ensures ok { IfOk result (IsHashText text.now) }
         ensures only { (hash : PasswordHash) → IsHashText text.now hash → result ≡ Ok hash }
@@ -48,7 +50,7 @@ impl PasswordHash {
     }
 }
 
-/// The hash of a text, where it has the form of one.
+/// Parses a password hash. Returns `None` if `text` is not one.
 fn read(text: &str) -> Option<PasswordHash>
     ensures found { IfSome result (IsHashText text.now) }
     ensures only { (hash : PasswordHash) → IsHashText text.now hash → result ≡ Some hash }
@@ -85,7 +87,7 @@ impl fmt::Display for PasswordHash {
     }
 }
 
-/// Writes the version, where there is one.
+/// Writes the version, if there is one.
 fn write_version<W: fmt::Write>(version: Option<Version>, f: &mut fmt::Formatter<W>) -> fmt::Result
     ensures { DisplaysOnOk W.write_str_gives f.old result
         (Some (parts_text (version_part version))) f.new }
@@ -96,7 +98,7 @@ fn write_version<W: fmt::Write>(version: Option<Version>, f: &mut fmt::Formatter
     }
 }
 
-/// Writes the parameters, where there are some.
+/// Writes the parameters, if there are any.
 fn write_params<W: fmt::Write>(params: &ParamsString, f: &mut fmt::Formatter<W>) -> fmt::Result
     ensures { DisplaysOnOk W.write_str_gives f.old result
         (Some (parts_text (params_part params.now))) f.new }
@@ -108,7 +110,7 @@ fn write_params<W: fmt::Write>(params: &ParamsString, f: &mut fmt::Formatter<W>)
     write!(f, "${text}")
 }
 
-/// Writes the salt, where there is one, and behind it the key, where there is one.
+/// Writes the salt, if there is one, and after it the key, if there is one.
 fn write_salt_and_key<W: fmt::Write>(
     salt: &Option<Salt>,
     key: &Option<Output>,
@@ -127,7 +129,7 @@ fn write_salt_and_key<W: fmt::Write>(
     }
 }
 
-/// Writes a `$` and the Base64 letters of these bytes.
+/// Writes `$` and the Base64 of `bytes`.
 fn write_letters<W: fmt::Write>(bytes: &[u8], f: &mut fmt::Formatter<W>) -> fmt::Result
     ensures { DisplaysOnOk W.write_str_gives f.old result
         (Some (codes "$" ++ base64 bytes.now)) f.new }

@@ -29,7 +29,7 @@ impl Model for Ident {
 }
 
 impl Ident {
-    /// `scrypt`
+    /// The identifier `scrypt`.
     pub const SCRYPT: Ident = Ident {
         bytes: ShortBytes {
             places: [
@@ -40,7 +40,9 @@ impl Ident {
         },
     };
 
-    /// The identifier that is written so: `EncodingInvalid` unless 1 to 32 of `a-z0-9-`.
+    /// Creates an identifier from its text.
+    ///
+    /// Returns `EncodingInvalid` unless `text` is 1 to 32 of the letters `a-z0-9-`.
     pub fn new(text: &str) -> Result<Ident>
         ensures exact { IsOk result ↔ IsIdentifier text.now }
         ensures value { IfOk result (λ ident. ident ≡ text.now) }
@@ -52,7 +54,7 @@ impl Ident {
         }
     }
 
-    /// The letters.
+    /// Returns the identifier as text.
     pub fn as_str(&self) -> &str
         ensures value { result.now ≡ self.now }
         ensures identifier { IsIdentifier result.now }

@@ -6,7 +6,7 @@ use crate::phc::short_bytes::ShortBytes;
 use crate::{Error, Result};
 use std::marker::Model;
 
-/// A key of 10 to 64 bytes. Equality looks at every byte.
+/// A key of 10 to 64 bytes. Equality compares every byte, also after a difference.
 #[derive(Clone, Copy, Debug, PartialEq, Eq)]
 pub struct Output {
     pub(super) bytes: ShortBytes<10, 64>,
@@ -23,13 +23,15 @@ impl Model for Output {
 }
 
 impl Output {
-    /// The least number of bytes.
+    /// The least length of a key in bytes.
     pub const MIN_LENGTH: usize = 10;
 
-    /// The greatest number of bytes.
+    /// The greatest length of a key in bytes.
     pub const MAX_LENGTH: usize = 64;
 
-    /// A copy of this key, of 10 to 64 bytes. Any other length is `OutputSize`.
+    /// Copies a key of 10 to 64 bytes.
+    ///
+    /// Returns `OutputSize` if `key` has any other length.
     pub fn new(key: &[u8]) -> Result<Output>
         ensures exact { IsOk result ↔ ((10 ≤ length key.now) × (length key.now ≤ 64)) }
         ensures value { IfOk result (λ output. output ≡ key.now) }
@@ -41,7 +43,7 @@ impl Output {
         }
     }
 
-    /// The number of bytes, 10 to 64.
+    /// Returns the length of the key in bytes, from 10 to 64.
     pub fn len(&self) -> usize
         ensures value { result ≡ length self.now }
         ensures least { 10 ≤ result }
@@ -50,7 +52,7 @@ impl Output {
         self.bytes.len()
     }
 
-    /// The bytes.
+    /// Returns the bytes of the key.
     pub fn as_bytes(&self) -> &[u8]
         ensures value { result.now ≡ self.now }
         ensures least { 10 ≤ length result.now }

@@ -1,4 +1,4 @@
-//! The pairs of parameters, one after the other.
+//! Iteration over the parameters of a hash.
 ghost use Rattle.std.specs.Prelude.{◌≡◌, ◌<◌, ◌==◌};
 ghost use Rattle.std.specs.Iterator.{YieldsFirstBy, item_count};
 ghost use Rattle.std.specs.List.{before_first, after_first};
@@ -7,7 +7,7 @@ ghost use Rattle.password_hash.specs.Value.{item_pair};
 use crate::phc::{Ident, Value};
 use std::marker::Model;
 
-/// The names and values of a `ParamsString`, in their order.
+/// An iterator over the names and values of a `ParamsString`, in order.
 #[derive(Drop)]
 pub struct Pairs<'a> {
     pub(super) left: &'a str,
@@ -46,7 +46,8 @@ impl<'a> Iterator for Pairs<'a> {
     }
 }
 
-/// What stands before the first separator, and what behind it.
+/// Returns the text before the first separator, and the text after it. Without a separator these
+/// are the whole text and an empty one.
 pub(super) fn cut(text: &str, separator: char) -> (&str, &str)
     requires { separator < 128 }
     ensures before { result.0.now ≡ before_first (λ b. b == separator) text.now }

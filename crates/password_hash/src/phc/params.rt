@@ -1,9 +1,9 @@
 //! The parameters of a hash.
 ghost use Rattle.std.specs.Prelude.{◌≡◌, ◌≢◌, ◌↔◌, ◌≤◌, ◌∷◌, ◌++◌, ℕ, List, [], length, All, Contains, decimal, true, IsOk, Ok, IfOk, IfErr, IfSome, IfNone, OnOk, OnErr};
-ghost use Rattle.std.specs.Cmp.{partial_equiv_from_equiv};
-ghost use Rattle.std.specs.Cmp.Lexicographic.{pointwise};
+ghost use Rattle.std.specs.Cmp.{and_equiv, on_equiv, partial_equiv_from_equiv};
+ghost use Rattle.std.specs.Cmp.Lexicographic.{lists_equiv, nat_list_eq_equiv, pointwise};
 ghost use Rattle.password_hash.specs.Letters.{IsValue};
-ghost use Rattle.password_hash.specs.Pairs.{ArePairs, IsPair, pair_eq, pairs_eq_equiv, pairs_text, with_pair};
+ghost use Rattle.password_hash.specs.Pairs.{ArePairs, IsPair, pair_eq, pairs_text, with_pair};
 ghost use Rattle.password_hash.specs.Value.{value_text};
 ghost use Rattle.password_hash.specs.declared.error.Error.TheVariants.{ParamsInvalid};
 
@@ -15,10 +15,10 @@ use arrayvec::ArrayString;
 use itoa::Buffer;
 use std::marker::Model;
 
-/// The parameters of a hash: pairs of a name and a value, in their order.
+/// The parameters of a hash: pairs of a name and a value, in order.
 ///
-/// A name is an identifier other than `v` and stands once. The text `name=value,name=value`
-/// has at most 127 bytes.
+/// A name is an identifier other than `v`, and no name occurs twice. The text
+/// `name=value,name=value` has at most 127 bytes.
 #[derive(Debug, Drop)]
 pub struct ParamsString {
     text: ArrayString<127>,
@@ -36,7 +36,7 @@ impl Model for ParamsString {
 }
 
 impl ParamsString {
-    /// No parameters.
+    /// Creates an empty list of parameters.
     pub fn new() -> ParamsString
         ensures value { result ≡ [] }
     {
@@ -45,7 +45,7 @@ impl ParamsString {
         }
     }
 
-    /// The text of the parameters, at most 127 bytes. It is empty where there are none.
+    /// Returns the text of the parameters, at most 127 bytes. It is empty if there are none.
     pub fn as_str(&self) -> &str
         ensures value { result.now ≡ pairs_text self.now }
         ensures pairs { ArePairs self.now }
@@ -53,7 +53,10 @@ impl ParamsString {
         self.text.as_str()
     }
 
-    /// The parameters of a text: `ParamsInvalid` unless it is empty or the text of parameters.
+    /// Parses the text of parameters, which is empty if there are none.
+    ///
+    /// Returns `ParamsInvalid` if a name or a value is invalid, if a name occurs twice, or if
+    /// `text` has more than 127 bytes.
     pub fn parse(text: &str) -> Result<ParamsString>
         ensures text { IfOk result (λ params. text.now ≡ pairs_text params) }
         ensures pairs { IfOk result ArePairs }
@@ -72,9 +75,10 @@ impl ParamsString {
         Ok(params)
     }
 
-    /// Puts the name and the decimal digits of the value last. `ParamsInvalid`, which changes
-    /// nothing, where the name is no identifier, is `v` or is there already, or where the text
-    /// would pass 127 bytes.
+    /// Appends a parameter whose value is a number in decimal digits.
+    ///
+    /// Returns `ParamsInvalid`, and changes nothing, if `name` is not an identifier, is `v` or is
+    /// the name of another parameter, or if the text would have more than 127 bytes.
     pub fn add_decimal(&mut self, name: &str, value: u32) -> Result<()>
         ensures exact { IsOk result ↔ ArePairs (self.old ++ (name.now, decimal value) ∷ []) }
         ensures ok { OnOk result (self.new ≡ self.old ++ (name.now, decimal value) ∷ []) }
@@ -84,7 +88,7 @@ impl ParamsString {
         self.add(name, Buffer::new().format(value))
     }
 
-    /// The names and values, in their order.
+    /// Returns an iterator over the names and values, in order.
     pub fn iter(&self) -> Pairs<'_>
         ensures value { result ≡ self.now }
     {
@@ -93,7 +97,7 @@ impl ParamsString {
         }
     }
 
-    /// The value of this name, where it is there.
+    /// Returns the value of the parameter `name`, or `None` if there is no such parameter.
     pub fn get(&self, name: &str) -> Option<Value<'_>>
         ensures found { IfSome result (λ value. Contains self.now (name.now, value_text value)) }
         ensures none { IfNone result (All (λ pair. pair.0 ≢ name.now) self.now) }
@@ -106,7 +110,7 @@ impl ParamsString {
         None
     }
 
-    /// Puts a pair last. `ParamsInvalid`, where these would be no parameters, changes nothing.
+    /// Appends a pair. On `ParamsInvalid` nothing changes.
     fn add(&mut self, name: &str, value: &str) -> Result<()>
         ensures exact { IsOk result ↔ ArePairs (self.old ++ (name.now, value.now) ∷ []) }
         ensures ok { OnOk result (self.new ≡ self.old ++ (name.now, value.now) ∷ []) }
@@ -123,7 +127,9 @@ impl ParamsString {
 impl PartialEq for ParamsString {
     ghost eq = { pointwise pair_eq };
 
-    ghost laws = { partial_equiv_from_equiv pairs_eq_equiv };
+    ghost laws = { partial_equiv_from_equiv (lists_equiv (and_equiv
+        (on_equiv (λ (pair : List ℕ × List ℕ). pair.0) nat_list_eq_equiv)
+        (on_equiv (λ (pair : List ℕ × List ℕ). pair.1) nat_list_eq_equiv))) };
 
     fn eq(&self, other: &ParamsString) -> bool {
         self.as_str() == other.as_str()
@@ -131,10 +137,13 @@ impl PartialEq for ParamsString {
 }
 
 impl Eq for ParamsString {
-    ghost laws = { pairs_eq_equiv };
+    ghost laws = { lists_equiv (and_equiv
+        (on_equiv (λ (pair : List ℕ × List ℕ). pair.0) nat_list_eq_equiv)
+        (on_equiv (λ (pair : List ℕ × List ℕ). pair.1) nat_list_eq_equiv)) };
 }
 
-/// Puts a pair behind the text of others. `ParamsInvalid`, where there is no room, changes nothing.
+/// Appends a pair to the text of others. Returns `ParamsInvalid`, and changes nothing, if there is
+/// no room.
 fn push_pair(text: &mut ArrayString<127>, name: &str, value: &str) -> Result<()>
     ensures exact { IsOk result
         ↔ (length (with_pair text.old.bytes (name.now, value.now)) ≤ 127) }
@@ -157,14 +166,14 @@ fn push_pair(text: &mut ArrayString<127>, name: &str, value: &str) -> Result<()>
     Ok(())
 }
 
-/// Whether these are the name and the value of a parameter.
+/// Returns whether these are the name and the value of a parameter.
 fn is_pair(name: &str, value: &str) -> bool
     ensures { (result ≡ true) ↔ IsPair (name.now, value.now) }
 {
     name != "v" && Ident::new(name).is_ok() && is_value(value)
 }
 
-/// Whether this is one or more of the letters of a value.
+/// Returns whether `text` is a value: one or more of `a-zA-Z0-9/+.-`.
 fn is_value(text: &str) -> bool
     ensures { (result ≡ true) ↔ IsValue text.now }
 {

@@ -1,6 +1,7 @@
-//! The parts of a PHC text, taken one by one from what is left of it.
+//! The parts of a PHC text, read one after another.
 //!
-//! What is left is the text behind the last `$` that was passed, or nothing behind the last part.
+//! Each function takes what is left of the text: all that follows the `$` after the parts already
+//! read, or `None` after the last part. `None` as its result means that the text is not a PHC text.
 ghost use Rattle.std.specs.Prelude.{◌≡◌, ℕ, List, Option, Some, IfSome};
 ghost use Rattle.password_hash.specs.Pairs.{ArePairs};
 ghost use Rattle.password_hash.specs.Parts.{parts_left};
@@ -13,7 +14,7 @@ use crate::parts::first_part;
 use crate::phc::encoding::decode;
 use crate::phc::{Output, ParamsString, Salt};
 
-/// The version, where a part `v=` comes next, and what is left behind it.
+/// Returns the version, if the next part begins with `v=`, and what is left of the text after it.
 pub(super) fn take_version(left: Option<&str>) -> Option<(Option<Version>, Option<&str>)>
     ensures found { IfSome result (Takes version_part IsVersion (parts_left left.entry)) }
     ensures only { TakesOnly version_part IsVersion LackVersion (parts_left left.entry) result }
@@ -21,15 +22,15 @@ pub(super) fn take_version(left: Option<&str>) -> Option<(Option<Version>, Optio
     let Some(text) = left else {
         return Some((None, None));
     };
-    let (part, behind) = first_part(text);
+    let (part, after) = first_part(text);
     let Some(digits) = part.strip_prefix("v=") else {
         return Some((None, left));
     };
     let version = read_decimal(digits)?;
-    Some((Some(version), behind))
+    Some((Some(version), after))
 }
 
-/// The parameters, where a part with a `=` comes next, and what is left behind them.
+/// Returns the parameters, if the next part has a `=`, and what is left of the text after them.
 pub(super) fn take_params(left: Option<&str>) -> Option<(ParamsString, Option<&str>)>
     ensures found { IfSome result (Takes params_part ArePairs (parts_left left.entry)) }
     ensures only { TakesOnly params_part ArePairs LackEquals (parts_left left.entry) result }
@@ -37,17 +38,18 @@ pub(super) fn take_params(left: Option<&str>) -> Option<(ParamsString, Option<&s
     let Some(text) = left else {
         return Some((ParamsString::new(), None));
     };
-    let (part, behind) = first_part(text);
+    let (part, after) = first_part(text);
     if !part.contains('=') {
         return Some((ParamsString::new(), left));
     }
     let Ok(params) = ParamsString::parse(part) else {
         return None;
     };
-    Some((params, behind))
+    Some((params, after))
 }
 
-/// The salt, and the key behind it, where there are such parts. Nothing may be left behind them.
+/// Returns the salt and the key after it, each if there is one. They are the last parts of the
+/// text.
 pub(super) fn take_salt_and_key(left: Option<&str>) -> Option<(Option<Salt>, Option<Output>)>
     ensures found { IfSome result (λ read. IsSaltAndKey (parts_left left.entry) read.0 read.1) }
     ensures only { (salt key : Option (List ℕ)) →

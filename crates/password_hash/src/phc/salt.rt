@@ -23,7 +23,9 @@ impl Model for Salt {
 }
 
 impl Salt {
-    /// A copy of this salt, of 1 to 64 bytes. Any other length is `SaltInvalid`.
+    /// Copies a salt of 1 to 64 bytes.
+    ///
+    /// Returns `SaltInvalid` if `salt` has any other length.
     pub fn new(salt: &[u8]) -> Result<Salt>
         ensures exact { IsOk result ↔ ((1 ≤ length salt.now) × (length salt.now ≤ 64)) }
         ensures value { IfOk result (λ made. made ≡ salt.now) }
@@ -35,7 +37,7 @@ impl Salt {
         }
     }
 
-    /// The bytes, 1 to 64 of them.
+    /// Returns the bytes of the salt, 1 to 64 of them.
     pub fn as_bytes(&self) -> &[u8]
         ensures value { result.now ≡ self.now }
         ensures least { 1 ≤ length result.now }

@@ -32,7 +32,7 @@ impl<const LEAST: usize, const MOST: usize> Model for ShortBytes<LEAST, MOST> {
 }
 
 impl<const LEAST: usize, const MOST: usize> ShortBytes<LEAST, MOST> {
-    /// A copy of these bytes, if their length is within the bounds.
+    /// Copies `bytes`. Returns `None` if their number is out of bounds.
     pub(crate) fn new(bytes: &[u8]) -> Option<ShortBytes<LEAST, MOST>>
         ensures exact { IsSome result ↔ ((LEAST ≤ length bytes.now) × (length bytes.now ≤ MOST)) }
         ensures value { IfSome result (λ made. made ≡ bytes.now) }
@@ -46,7 +46,7 @@ impl<const LEAST: usize, const MOST: usize> ShortBytes<LEAST, MOST> {
         Some(ShortBytes { places, len })
     }
 
-    /// The number of bytes.
+    /// Returns the number of bytes.
     pub(crate) fn len(&self) -> usize
         ensures value { result ≡ length self.now }
         ensures least { LEAST ≤ result }
@@ -55,7 +55,7 @@ impl<const LEAST: usize, const MOST: usize> ShortBytes<LEAST, MOST> {
         self.len
     }
 
-    /// The bytes.
+    /// Returns the bytes.
     pub(crate) fn as_bytes(&self) -> &[u8]
         ensures value { result.now ≡ self.now }
         ensures least { LEAST ≤ length result.now }
@@ -80,7 +80,7 @@ impl<const LEAST: usize, const MOST: usize> Eq for ShortBytes<LEAST, MOST> {
     ghost laws = { nat_list_eq_equiv };
 }
 
-/// Whether these are the same bytes. Every byte is looked at.
+/// Returns whether these are the same bytes. Every byte is compared, also after a difference.
 #[tactic(auto, using(crate::proofs::StoredFacts::same_bytes))]
 fn are_same(a: &[u8], b: &[u8]) -> bool
     ensures { (result ≡ true) ↔ (a.now ≡ b.now) }

@@ -18,7 +18,7 @@ const TOO_LONG_PARAMS: &str =
 /// The first ten bytes of the third key of RFC 7914, section 12.
 const SHORT_KEY: [u8; 10] = [0x70, 0x23, 0xbd, 0xcb, 0x3a, 0xfd, 0x73, 0x48, 0x46, 0x1c];
 
-/// Texts of hashes, each of which is read and printed as it stands.
+/// Texts of hashes, each of which is parsed and printed as the same text.
 const TEXTS: [&str; 9] = [
     "$scrypt",
     "$scrypt$v=0",

@@ -14,15 +14,17 @@ pub struct Value<'a> {
 }
 
 impl<'a> Value<'a> {
-    /// The letters.
+    /// Returns the value as text.
     pub fn as_str(&self) -> &'a str
         ensures value { result.now ≡ value_text self.now }
     {
         self.text
     }
 
-    /// The number that is written in decimal digits: `EncodingInvalid` unless there are digits
-    /// alone, none of them a leading zero but for `0` itself, of a number below 2^32.
+    /// Returns the value as a number.
+    ///
+    /// Returns `EncodingInvalid` unless it is a number below 2^32 in decimal digits, without a
+    /// leading zero except in `0` itself.
     pub fn decimal(&self) -> Result<u32>
         ensures ok { IfOk result (IsDecimal (value_text self.now)) }
         ensures only { (n : ℕ) → IsDecimal (value_text self.now) n → result ≡ Ok n }

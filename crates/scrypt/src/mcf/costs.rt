@@ -1,4 +1,4 @@
-// The costs and the salt that the first field of a `$7$` text says.
+// Reading the costs and the salt of a `$7$` text.
 
 ghost use Rattle.std.specs.Prelude.{◌≡◌, Ok, Err, IfOk, IfErr};
 ghost use Rattle.password_hash.specs.Refusal.{refusal};
@@ -9,13 +9,14 @@ use crate::mcf::five_letters::decode64_uint32;
 use password_hash::mcf::alphabet::value;
 use password_hash::{Error, Result};
 
-/// The parameters and the salt of the first field of a `$7$` text: one letter of `log_n`, five
-/// letters of `r`, five letters of `p`, and then the salt, which is the rest of the text as it stands.
-/// The parameters have no length.
+/// Reads the parameters and the salt from the first field of a `$7$` text: one letter of `log_n`,
+/// five letters of `r`, five letters of `p`, and then the salt, which is the rest of `text`, not
+/// decoded. The parameters have no length of a stored key.
 ///
-/// `EncodingInvalid` where the text is empty, its first byte is from 128, or `r` or `p` has fewer than
-/// five bytes or one that is no letter. `ParamsInvalid` where the numbers are not accepted; a first
-/// byte below 128 that is no letter counts as 255.
+/// Returns `EncodingInvalid` if `text` is empty, if its first byte is 128 or above, or if `r` or
+/// `p` has fewer than five bytes or a byte outside the alphabet. Otherwise returns `ParamsInvalid`
+/// if [`Params::new`] does not accept the numbers. A first byte below 128 that is outside the
+/// alphabet reads as `log_n` 255, so the error is `ParamsInvalid`, not `EncodingInvalid`.
 pub fn decode_params_and_salt(text: &str) -> Result<(Params, &[u8])>
     ensures ok { IfOk result (λ read. ReadsField text.now (Ok (read.0, read.1.now))) }
     ensures err { IfErr result (λ e. ReadsField text.now (Err (refusal e))) }

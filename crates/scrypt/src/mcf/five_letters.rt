@@ -1,4 +1,4 @@
-// Numbers below 2^30 as five letters of crypt(5), the lowest digit to base 64 first.
+// Numbers below 2^30 as five letters of crypt(5), the lowest digit in base 64 first.
 
 ghost use Rattle.std.specs.Prelude.{◌≡◌, ◌↔◌, ◌≤◌, ◌%◌, ◌^◌, ◌++◌, None, Some, length, drop, IsOk, IfOk, IfErr, OnErr, OnOk};
 ghost use Rattle.password_hash.specs.Crypt64.{letters_of};
@@ -8,9 +8,11 @@ ghost use Rattle.scrypt.specs.McfCosts.{five_letter_number};
 use password_hash::mcf::alphabet::{letter, number};
 use password_hash::{Error, Result};
 
-/// The number that the first five bytes of `letters` say. Bytes behind them are not looked at.
+/// Returns the number, below 2^30, that the first five bytes of `letters` encode. Bytes after them
+/// are ignored.
 ///
-/// `EncodingInvalid` exactly where there are fewer than five, or one of the five is no letter.
+/// Returns `EncodingInvalid` exactly if there are fewer than five bytes, or one of the five is not
+/// a letter of crypt(5).
 pub fn decode64_uint32(letters: &[u8]) -> Result<u32>
     ensures ok { IfOk result (λ n. five_letter_number letters.now ≡ Some n) }
     ensures none { OnErr result (five_letter_number letters.now ≡ None) }
@@ -25,10 +27,10 @@ pub fn decode64_uint32(letters: &[u8]) -> Result<u32>
     }
 }
 
-/// Writes the five letters of `number` modulo 2^30 into the first five places of `out`. The places
-/// behind them stay as they were.
+/// Writes the five letters of `number` modulo 2^30 to the first five bytes of `out`. The bytes
+/// after them are unchanged.
 ///
-/// `EncodingInvalid` exactly where there are fewer than five places. Then nothing is written.
+/// Returns `EncodingInvalid` exactly if `out` has fewer than five bytes, and leaves it unchanged.
 pub fn encode64_uint32(out: &mut [u8], number: u32) -> Result<()>
     ensures exact { IsOk result ↔ (5 ≤ length out.old) }
     ensures written { OnOk result (out.new ≡ letters_of 5 number ++ drop 5 out.old) }
@@ -43,7 +45,7 @@ pub fn encode64_uint32(out: &mut [u8], number: u32) -> Result<()>
     Ok(())
 }
 
-/// The five letters of a number modulo 2^30.
+/// Returns the five letters of a number modulo 2^30.
 pub(super) fn five_letters(number: u32) -> [u8; 5]
     ensures { result ≡ letters_of 5 number }
 {

@@ -21,7 +21,7 @@ use password_hash::mcf::{Base64, PasswordHash};
 use password_hash::{CustomizedPasswordHasher, Error, PasswordHasher, Result, Version};
 use std::alloc::Global;
 
-// How many bytes stand before the salt: `$7$` and the eleven letters of the costs.
+// The number of bytes before the salt: `$7$` and the eleven letters of the costs.
 const COSTS_LEN: usize = 14;
 
 impl PasswordHasher<PasswordHash> for Scrypt {
@@ -29,7 +29,7 @@ impl PasswordHasher<PasswordHash> for Scrypt {
 
     ghost refuses = { λ scrypt password salt why. HashIsRefused None None why };
 
-    /// Hashes the password with this value's own parameters.
+    /// Hashes the password with this value's parameters.
     fn hash_password_with_salt(
         &self,
         alloc: Global,
@@ -48,12 +48,14 @@ impl CustomizedPasswordHasher<PasswordHash> for Scrypt {
 
     ghost refuses = { λ _ password salt id version params why. HashIsRefused id version why };
 
-    /// Hashes the password with these parameters; the key has their length, or 32 bytes. The
-    /// derivation's salt is the crypt Base64 of the salt, as it stands in the text.
+    /// Hashes the password with `params`. The key has the length in `params`, or 32 bytes if there
+    /// is none. The salt of the derivation is the crypt Base64 of `salt`, as in the text.
     ///
-    /// Refuses in this order: `Algorithm` where one is named that is not `7`, `Version` where one is
-    /// named, and `OutOfMemory`. Memory is asked for the whole text first, then for the three buffers of
-    /// the derivation, and all before the first core.
+    /// Allocates the whole text first, then the three buffers of the derivation, and all of them
+    /// before the first core.
+    ///
+    /// Returns the first of these errors: `Algorithm` if `alg_id` is given and not `7`, `Version`
+    /// if `version` is given, and `OutOfMemory` if an allocation fails.
     fn hash_password_customized(
         &self,
         alloc: Global,
@@ -73,7 +75,7 @@ impl CustomizedPasswordHasher<PasswordHash> for Scrypt {
     }
 }
 
-// Whether no algorithm but `7` is named.
+// Returns whether no algorithm but `7` is named.
 fn is_mcf_or_none(alg_id: Option<&str>) -> bool
     ensures { IsTrue result ↔ IsMcfOrNone (option_map (λ s. s.now) alg_id.entry) }
 {
@@ -83,13 +85,13 @@ fn is_mcf_or_none(alg_id: Option<&str>) -> bool
     }
 }
 
-// The hash of a password and a salt.
+// Hashes a password with a salt.
 fn hash_of(alloc: Global, password: &[u8], salt: &[u8], params: &Params) -> Result<PasswordHash>
     ensures value { IfOk result (IsMadeHash params.now password.now salt.now) }
     ensures memory { IfErr result (λ e. e ≡ OutOfMemory) }
 {
     let key_at = COSTS_LEN + Base64::Crypt.encoded_len(salt.len());
-    // The room of the whole text is taken before the buffers of the derivation.
+    // The whole text is allocated before the buffers of the derivation.
     let len = key_at + 1 + Base64::Crypt.encoded_len(made_len(params));
     let mut text = vec![in alloc; 0u8; len]?;
     match write_text(alloc, password, salt, params, key_at, &mut text) {
@@ -98,7 +100,7 @@ fn hash_of(alloc: Global, password: &[u8], salt: &[u8], params: &Params) -> Resu
     }
 }
 
-// Writes the text of the hash, in which `$` and the key stand from `key_at` on. Behind the derivation
+// Writes the text of the hash, in which `$` and the key begin at `key_at`. After the derivation
 // nothing can fail.
 fn write_text(
     alloc: Global,
@@ -137,7 +139,7 @@ fn write_costs_and_salt(out: &mut [u8], params: &Params, salt: &[u8])
     };
 }
 
-// `$7$` and the eleven letters of the costs.
+// Returns `$7$` and the eleven letters of the costs.
 fn costs_of(params: &Params) -> [u8; COSTS_LEN]
     ensures value { result ≡ costs_text params.now }
     ensures accepted { AreAccepted params.now.log_n params.now.r params.now.p }
@@ -149,7 +151,7 @@ fn costs_of(params: &Params) -> [u8; COSTS_LEN]
     letters
 }
 
-// Writes `$` and the letters of the key, which fill the room.
+// Writes `$` and the letters of the key, which fill `out`.
 fn write_key(out: &mut [u8], key: &[u8])
     requires { length out.old ≡ 1 + length (crypt64_of key.now) }
     ensures written { out.new ≡ dollar ∷ crypt64_of key.now }
@@ -161,7 +163,7 @@ fn write_key(out: &mut [u8], key: &[u8])
     };
 }
 
-// The hash of which this is the text.
+// Returns the hash with this text.
 fn hash_of_text(text: Vec<u8>) -> PasswordHash
     requires ascii { IsAscii text.items }
     requires modular { IsMcf text.items }

@@ -1,4 +1,4 @@
-// What a `$7$` text says.
+// Reading `$7$` hashes.
 
 ghost use Rattle.std.specs.Prelude.{◌≡◌, ◌↔◌, ℕ, List, length, IfOk, IfErr, IsTrue};
 ghost use Rattle.password_hash.specs.Crypt64.{Crypt64};
@@ -12,8 +12,8 @@ use crate::{Params, output_len_ok};
 use password_hash::mcf::{Field, PasswordHashRef};
 use password_hash::{Error, Result};
 
-/// The costs, the salt and the key of a hash. Nothing is copied: the salt is a part of the text, and
-/// the key stands as its letters.
+/// The costs, the salt and the key of a hash. Nothing is copied: the salt and the key are parts of
+/// the text, and the key is not decoded.
 #[derive(Clone, Copy)]
 pub(crate) struct Stored<'a> {
     pub(crate) params: Params,
@@ -25,10 +25,10 @@ pub(crate) struct Stored<'a> {
 
 /// Reads a text.
 ///
-/// Refuses in this order: `Algorithm` where the id is not `7`, `EncodingInvalid` where there is no
-/// field, what reading the first field refuses, `EncodingInvalid` where there is no second field, it
-/// is not crypt Base64 or there is a third field, and `OutputSize` where the key has a length that
-/// can't be derived.
+/// Returns the first of these errors: `Algorithm` if the id is not `7`, `EncodingInvalid` if there
+/// is no field, the errors of reading the first field, `EncodingInvalid` if there is no second
+/// field, if it is not crypt Base64 or if there is a third field, and `OutputSize` if a key of this
+/// length cannot be derived.
 pub(crate) fn read<'a>(hash: &PasswordHashRef<'a>) -> Result<Stored<'a>>
     ensures ok { IfOk result (λ stored. (key : List ℕ) × Crypt64 key (field_text stored.key) × (length key ≡ stored.key_len)
         × IsWhole (hash_text hash.now) stored.params stored.salt.now key) }
@@ -66,7 +66,7 @@ pub(crate) fn read<'a>(hash: &PasswordHashRef<'a>) -> Result<Stored<'a>>
     })
 }
 
-/// Whether this is the id of `$7$` texts.
+/// Returns whether `id` is the id of `$7$` texts.
 pub(super) fn is_mcf(id: &str) -> bool
     ensures { IsTrue result ↔ (id.now ≡ mcf_id) }
 {

@@ -15,15 +15,15 @@ impl<'a> PasswordVerifier<PasswordHashRef<'a>> for Scrypt {
 
     ghost refuses = { λ password hash why. VerifyIsRefused password (hash_text hash) why };
 
-    /// Verifies the password by the costs, the salt and the key's length of the hash, and never by
-    /// this value's own parameters. The salt is handed on as it stands in the text, and the key is
-    /// compared with its letters there.
+    /// Verifies the password with the costs, the salt and the length of the key of the hash, and
+    /// never with this value's parameters. The salt is passed to the derivation as the bytes of the
+    /// text, not decoded, and the key is compared with its letters in the text.
     ///
-    /// Refuses in this order: `Algorithm` where the id is not `7`; `EncodingInvalid` where there is no
-    /// field; what `decode_params_and_salt` refuses of the first field; `EncodingInvalid` where there is
-    /// no second field, where it is not crypt Base64, or where there is a third field; `OutputSize`
-    /// where the key has no byte or more than 137438953440; `OutOfMemory`; and `PasswordInvalid` where
-    /// the key differs.
+    /// Returns the first of these errors: `Algorithm` if the id is not `7`; `EncodingInvalid` if
+    /// there is no field; the errors of `decode_params_and_salt` for the first field;
+    /// `EncodingInvalid` if there is no second field, if it is not crypt Base64, or if there is a
+    /// third field; `OutputSize` if the key is empty or has more than 137438953440 bytes;
+    /// `OutOfMemory` if an allocation fails; and `PasswordInvalid` if the keys differ.
     fn verify_password(
         &self,
         alloc: Global,
@@ -51,7 +51,7 @@ impl PasswordVerifier<PasswordHash> for Scrypt {
 
     ghost refuses = { λ password hash why. VerifyIsRefused password hash why };
 
-    /// Verifies the password as it does by the borrowed text.
+    /// Verifies the password as it does for the borrowed text.
     fn verify_password(&self, alloc: Global, password: &[u8], hash: &PasswordHash) -> Result<()> {
         self.verify_password(alloc, password, &hash.as_password_hash_ref())
     }

@@ -1,4 +1,4 @@
-// Parameters from PHC parameters and hashes, and back.
+// Conversions between parameters and the PHC format.
 
 ghost use Rattle.std.specs.Prelude.{◌≡◌, ◌<◌, ◌≤◌, ℕ, codes, IfOk, IfErr, unwrap_or};
 ghost use Rattle.password_hash.specs.Decimal.{IsDecimal};
@@ -17,16 +17,19 @@ impl TryFrom<&ParamsString> for Params {
 
     ghost try_from_gives = { λ text answer. AnswersCosts text.now answer };
 
-    /// Reads the costs. They begin as the recommended ones, and the first pair that is refused
-    /// decides: `ParamInvalid` of `ln` where it is no decimal of at most 255, of `r` or `p` where
-    /// it is no decimal, and `ParamsInvalid` for any other name. At the end numbers that are not
-    /// accepted are `ParamsInvalid`. The length of the key stays open.
+    /// Reads the costs `ln`, `r` and `p`. A missing one has its recommended value, and the result
+    /// has no length of a stored key.
+    ///
+    /// Returns the error of the first pair that has one: `ParamInvalid` with the name, if `ln` is
+    /// not a decimal of at most 255 or `r` or `p` is not a decimal, and `ParamsInvalid` for any
+    /// other name. Otherwise returns `ParamsInvalid` if [`Params::new`] does not accept the
+    /// numbers.
     fn try_from(text: &ParamsString) -> Result<Params> {
         costs_of(text)
     }
 }
 
-// The costs that these parameters of a hash are read as.
+// Reads the costs in the parameters of a hash.
 fn costs_of(text: &ParamsString) -> Result<Params>
     ensures { AnswersCosts text.now result }
 {
@@ -47,7 +50,7 @@ fn costs_of(text: &ParamsString) -> Result<Params>
     }
 }
 
-// The value of `ln`, a decimal of at most 255.
+// Returns the value of `ln`, a decimal of at most 255.
 fn log_n_of(value: Value<'_>) -> Result<u8>
     ensures ok { IfOk result (IsDecimal (value_text value.entry)) }
     ensures small { IfOk result (λ n. n ≤ 255) }
@@ -64,7 +67,7 @@ fn log_n_of(value: Value<'_>) -> Result<u8>
     }
 }
 
-// The value of a parameter, a decimal.
+// Returns the value of a parameter, a decimal.
 fn number_of(value: Value<'_>, name: &'static str) -> Result<u32>
     ensures ok { IfOk result (IsDecimal (value_text value.entry)) }
     ensures refused { IfErr result (λ e. refusal e ≡ BadParam name.now) }
@@ -81,10 +84,11 @@ impl TryFrom<&PasswordHash> for Params {
 
     ghost try_from_gives = { λ hash answer. AnswersHashCosts hash.now answer };
 
-    /// Reads the costs of a hash, with the length of its key, or 32 where it has none.
+    /// Reads the costs of a hash, with the length of its key, or 32 if it has no key. The algorithm
+    /// is ignored.
     ///
-    /// Refuses `Version` where there is a version, and then what reading the parameters refuses.
-    /// The algorithm is not looked at.
+    /// Returns `Version` if the hash has a version, and otherwise the errors of reading its
+    /// parameters.
     fn try_from(hash: &PasswordHash) -> Result<Params> {
         if hash.version.is_some() {
             return Err(Error::Version);
@@ -96,7 +100,7 @@ impl TryFrom<&PasswordHash> for Params {
     }
 }
 
-// The length of a hash's key, or 32 where it has none.
+// Returns the length of a hash's key in bytes, or 32 if it has no key.
 fn stored_len(hash: &PasswordHash) -> usize
     ensures value { result ≡ stored_len hash.now.hash }
     ensures stored { IsStoredLen result }
@@ -112,7 +116,7 @@ impl TryFrom<&Params> for ParamsString {
 
     ghost try_from_gives = { λ params answer. Writes params.now answer };
 
-    /// Writes the costs as `ln=..,r=..,p=..` in decimals, which is always `Ok`.
+    /// Writes the costs as `ln=..,r=..,p=..` in decimal digits. Never returns an error.
     fn try_from(params: &Params) -> Result<ParamsString> {
         Ok(written(params))
     }
@@ -123,13 +127,13 @@ impl TryFrom<Params> for ParamsString {
 
     ghost try_from_gives = { λ params answer. Writes params answer };
 
-    /// Writes the costs as `ln=..,r=..,p=..` in decimals, which is always `Ok`.
+    /// Writes the costs as `ln=..,r=..,p=..` in decimal digits. Never returns an error.
     fn try_from(params: Params) -> Result<ParamsString> {
         Ok(written(&params))
     }
 }
 
-// The costs as parameters of a hash.
+// Writes the costs as parameters of a hash.
 pub(super) fn written(params: &Params) -> ParamsString
     ensures { result ≡ written_pairs params.now }
 {

@@ -17,7 +17,7 @@ impl PasswordHasher<PasswordHash> for Scrypt {
 
     ghost refuses = { λ scrypt password salt why. HashIsRefused salt None None why };
 
-    /// Hashes the password with this value's own parameters.
+    /// Hashes the password with this value's parameters.
     fn hash_password_with_salt(
         &self,
         alloc: Global,
@@ -36,10 +36,12 @@ impl CustomizedPasswordHasher<PasswordHash> for Scrypt {
 
     ghost refuses = { λ _ password salt id version params why. HashIsRefused salt id version why };
 
-    /// Hashes the password with these parameters; the key has their length, or 32 bytes.
+    /// Hashes the password with `params`. The key has the length in `params`, or 32 bytes if there
+    /// is none.
     ///
-    /// Refuses in this order: `Algorithm` where one is named that is not `scrypt`, `Version` where
-    /// one is named, `SaltInvalid` where the salt does not have 1 to 64 bytes, and `OutOfMemory`.
+    /// Returns the first of these errors: `Algorithm` if `alg_id` is given and not `scrypt`,
+    /// `Version` if `version` is given, `SaltInvalid` if `salt` does not have 1 to 64 bytes, and
+    /// `OutOfMemory` if an allocation fails.
     fn hash_password_customized(
         &self,
         alloc: Global,
@@ -71,7 +73,7 @@ impl CustomizedPasswordHasher<PasswordHash> for Scrypt {
     }
 }
 
-// Whether no algorithm but scrypt is named.
+// Returns whether no algorithm but scrypt is named.
 fn is_scrypt_or_none(alg_id: Option<&str>) -> bool
     ensures { IsTrue result ↔ IsScryptOrNone (option_map (λ s. s.now) alg_id.entry) }
 {

@@ -1,4 +1,4 @@
-// What a PHC hash of scrypt holds.
+// Reading PHC hashes.
 
 ghost use Rattle.std.specs.Prelude.{◌≡◌, ◌↔◌, IfErr, IfOk, IsTrue};
 ghost use Rattle.password_hash.specs.Refusal.{refusal};
@@ -10,7 +10,7 @@ use crate::phc::ALG_ID;
 use password_hash::phc::{Ident, Output, PasswordHash};
 use password_hash::{Error, Result};
 
-/// The costs, the salt and the key of a hash, of which nothing is copied.
+/// The costs, the salt and the key of a hash. The salt and the key are borrowed from it.
 #[derive(Clone, Copy)]
 pub(crate) struct Stored<'a> {
     pub(crate) params: Params,
@@ -20,8 +20,9 @@ pub(crate) struct Stored<'a> {
 
 /// Reads a hash.
 ///
-/// Refuses in this order: `Algorithm` where it is not `scrypt`, `Version` where there is one, what
-/// reading the parameters refuses, and `PasswordInvalid` where salt or key is missing.
+/// Returns the first of these errors: `Algorithm` if the algorithm is not `scrypt`, `Version` if
+/// there is a version, the errors of reading the parameters, and `PasswordInvalid` if the salt or
+/// the key is missing.
 pub(crate) fn read(hash: &PasswordHash) -> Result<Stored<'_>>
     ensures ok { IfOk result (λ stored. IsWhole hash.now (without_len stored.params) stored.salt.now stored.key.now) }
     ensures err { IfErr result (λ e. ReadIsRefused hash.now (refusal e)) }
@@ -46,7 +47,7 @@ pub(crate) fn read(hash: &PasswordHash) -> Result<Stored<'_>>
     })
 }
 
-// Whether this is the name of scrypt.
+// Returns whether `id` is the name of scrypt.
 fn is_scrypt(id: &Ident) -> bool
     ensures { IsTrue result ↔ (id.now ≡ scrypt_id) }
 {

@@ -15,12 +15,14 @@ impl PasswordVerifier<PasswordHash> for Scrypt {
 
     ghost refuses = { λ password hash why. VerifyIsRefused password hash why };
 
-    /// Verifies the password by the costs, the salt and the key's length of the hash, and never by
-    /// this value's own parameters. All bytes of the two keys are compared.
+    /// Verifies the password with the costs, the salt and the length of the key of the hash, and
+    /// never with this value's parameters. Every byte of the two keys is compared, also after a
+    /// difference.
     ///
-    /// Refuses in this order: `Algorithm` where it is not `scrypt`, `Version` where there is one,
-    /// what reading the parameters refuses, `PasswordInvalid` where salt or key is missing,
-    /// `OutOfMemory`, and `PasswordInvalid` where the key differs.
+    /// Returns the first of these errors: `Algorithm` if the algorithm is not `scrypt`, `Version`
+    /// if there is a version, the errors of reading the parameters, `PasswordInvalid` if the salt
+    /// or the key is missing, `OutOfMemory` if an allocation fails, and `PasswordInvalid` if the
+    /// keys differ.
     fn verify_password(&self, alloc: Global, password: &[u8], hash: &PasswordHash) -> Result<()> {
         let stored = match read(hash) {
             Ok(stored) => stored,
@@ -38,7 +40,7 @@ impl PasswordVerifier<PasswordHash> for Scrypt {
     }
 }
 
-// Whether these are the same bytes; each byte is looked at.
+// Returns whether these are the same bytes. Every byte is compared, also after a difference.
 fn are_equal(key: &Output, stored: &Output) -> bool
     ensures { IsTrue result ↔ (stored.now ≡ key.now) }
 {

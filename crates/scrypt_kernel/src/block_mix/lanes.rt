@@ -11,9 +11,9 @@ use crate::order::diagonal::Diagonal;
 pub use crate::order::diagonal::{shuffle_in, shuffle_out};
 
 /// Writes the block mix of `input` to `output`, both in diagonal order, and counts its `2 * r`
-/// cores, all of which are of the lanes (RFC 7914, section 4).
+/// cores, all of them as cores of the lanes (RFC 7914, section 4).
 ///
-/// Both have `32 * r` words, which are `2 * r` blocks of 16, with `r` at least 1.
+/// `input` and `output` have `32 * r` words each, that is `2 * r` blocks of 16. `r` is at least 1.
 #[inline(always)]
 pub fn scrypt_block_mix(input: &[u32], output: &mut [u32], cores: &mut CoreCount)
     requires same { length input.now ≡ length output.old }

@@ -31,7 +31,7 @@ pub const INVERSE_PIVOT_ABCD: [usize; 16] = [
     12, 9, 6, 3, //
 ];
 
-/// Proves that the two tables undo each other. It does nothing when it runs.
+/// Proves that the two tables are inverse to each other. Does nothing at run time.
 pub fn pivots_are_inverse()
     ensures inverse { AreInverse PIVOT_ABCD INVERSE_PIVOT_ABCD }
     ensures places { PIVOT_ABCD ≡ pivot }
@@ -89,8 +89,8 @@ pub fn shuffle_out(x: &mut [u32])
     permute(x, &INVERSE_PIVOT_ABCD);
 }
 
-/// Integerify modulo `2^log_n` of words in diagonal order, in which words 0 and 1 of the last block
-/// are at its places 0 and 13 (RFC 7914, section 5, step 3).
+/// Returns Integerify modulo `2^log_n` of words in diagonal order, in which words 0 and 1 of the
+/// last block are at its places 0 and 13 (RFC 7914, section 5, step 3).
 ///
 /// The length of `x` is a positive multiple of 16, and `log_n` is at most 56.
 #[inline(always)]
@@ -107,7 +107,7 @@ pub fn integerify_diagonal(x: &[u32], log_n: u8) -> usize
     low_bits(x[at], x[at + 13], log_n)
 }
 
-// Puts at place `i` of each block the word from place `pivot[i]`.
+// Moves the word at place `pivot[i]` of each block to place `i`.
 fn permute(x: &mut [u32], pivot: &[usize; 16])
     requires whole { length x.old % 16 ≡ 0 }
     requires places { IsTrue (list_all (λ j. nat_lt j 16) pivot.now) }
@@ -118,7 +118,7 @@ fn permute(x: &mut [u32], pivot: &[usize; 16])
     }
 }
 
-// Permutes block `k` alone.
+// Permutes block `k` only.
 fn permute_block(x: &mut [u32], k: usize, pivot: &[usize; 16])
     requires inside { 16 * k + 16 ≤ length x.old }
     requires places { IsTrue (list_all (λ j. nat_lt j 16) pivot.now) }

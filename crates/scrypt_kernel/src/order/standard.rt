@@ -35,8 +35,8 @@ impl Order for Standard {
     ghost inverse = { record { places = refl; inverse_places = refl; undone = refl; redone = refl } };
 }
 
-/// Integerify modulo `2^log_n`: the low `log_n` bits of the last block of `x`, read as a number in
-/// little-endian order (RFC 7914, section 5, step 3).
+/// Returns Integerify modulo `2^log_n`: the low `log_n` bits of the last block of `x`, read as a
+/// number in little-endian order (RFC 7914, section 5, step 3).
 ///
 /// The length of `x` is a positive multiple of 16, and `log_n` is at most 56.
 #[inline(always)]

@@ -1,6 +1,5 @@
-use Rattle.std.proofs.Common.{◌≡◌, ◌≤◌, length, take, sym, ap, ◌∙◌, arith, length-take-le}
+use Rattle.std.proofs.Common.{◌≡◌, length, take, sym, ap, ◌∙◌, arith, length-take-le}
 use Rattle.base64.specs.GeneralPurpose.{IsBytes}
-use Rattle.password_hash.specs.Stored.{AreBytesFromTo}
 use Rattle.password_hash.proofs.Base64Facts.{IsRead, is_read, refused, base64_injective}
 use Rattle.password_hash.proofs.phc.encoding.decode.Given.{Over}
 use Rattle.password_hash.proofs.phc.encoding.decode.Goals as goal

@@ -25,5 +25,5 @@ returns-clause-ok c =
     let no_version : c.args.version ≡ None = search rules in
     IfOk-weaker c.hash_of.result (λ hash. IsMadeHash c.args.params c.args.password.now c.args.salt.now hash)
     (λ hash. IsMcfOrNone (option_map (λ s. s.now) c.args.alg_id) × (c.args.version ≡ None)
-        × IsMadeHash c.args.params c.args.password.now c.args.salt.now hash)
+    × IsMadeHash c.args.params c.args.password.now c.args.salt.now hash)
     (λ _ made. (named, no_version, made)) c.hash_of.ensures.value
