@@ -15,6 +15,8 @@ mod kdf;
 #[cfg(test)]
 mod lanes;
 #[cfg(test)]
+mod long_passwords;
+#[cfg(test)]
 mod mcf_base64;
 #[cfg(test)]
 mod mcf_costs;

@@ -32,7 +32,7 @@ impl<'a> PasswordVerifier<PasswordHashRef<'a>> for Scrypt {
     ) -> Result<()> {
         let stored = match read(hash) {
             Ok(stored) => stored,
-            Err(refused) => return Err(refused),
+            Err(malformed) => return Err(malformed),
         };
         let len = stored.key_len;
         let key = match long_key(alloc, password, stored.salt, &stored.params, len) {
