@@ -153,13 +153,7 @@ six : {A : Type 0} (xs : List A) (a b c d e f : A) → length xs ≡ 6
     → d ≡ get_or xs 3 d → e ≡ get_or xs 4 e → f ≡ get_or xs 5 f
     → xs ≡ a ∷ b ∷ c ∷ d ∷ e ∷ f ∷ []
 six [] a b c d e f n h0 h1 h2 h3 h4 h5 = absurd (omega arith)
-six (x0 ∷ []) a b c d e f n h0 h1 h2 h3 h4 h5 = absurd (omega arith)
-six (x0 ∷ x1 ∷ []) a b c d e f n h0 h1 h2 h3 h4 h5 = absurd (omega arith)
-six (x0 ∷ x1 ∷ x2 ∷ []) a b c d e f n h0 h1 h2 h3 h4 h5 = absurd (omega arith)
-six (x0 ∷ x1 ∷ x2 ∷ x3 ∷ []) a b c d e f n h0 h1 h2 h3 h4 h5 = absurd (omega arith)
-six (x0 ∷ x1 ∷ x2 ∷ x3 ∷ x4 ∷ []) a b c d e f n h0 h1 h2 h3 h4 h5 = absurd (omega arith)
-six (x0 ∷ x1 ∷ x2 ∷ x3 ∷ x4 ∷ x5 ∷ []) a b c d e f n h0 h1 h2 h3 h4 h5 = cc
-six (x0 ∷ x1 ∷ x2 ∷ x3 ∷ x4 ∷ x5 ∷ x6 ∷ xs) a b c d e f n h0 h1 h2 h3 h4 h5 = absurd (omega arith)
+six (x0 ∷ xs) a b c d e f n h0 h1 h2 h3 h4 h5 = rw (five xs b c d e f (omega (arith, n)) h1 h2 h3 h4 h5, h0) refl
 
 -- the texts of six words
 pub are_six : {A : Type 0} (text : A → List ℕ) (words : List A) (a b c d e f : A) {ta tb tc td te tf : List ℕ}
