@@ -4,7 +4,7 @@ import hashlib
 
 ALPHABET = "./0123456789ABCDEFGHIJKLMNOPQRSTUVWXYZabcdefghijklmnopqrstuvwxyz"
 
-# the `$7$` hashes in the tests, each behind its password
+# the `$7$` hashes in the tests, each after its password
 HASHES = [
     ("pleaseletmein", "$7$CU..../....Mq4YHD2syxYT.MsH1Ek0n1$JyHIxez0DOwm0r6.kAIohc8UFBOLU4xX8a1wGBpLrw7"),
     ("pleaseletmein", "$7$C6..../....SodiumChloride$kBGj9fHznVYFQMEn/qDCfrDevf9YDtcDdKvEqHJLV8D"),
@@ -69,7 +69,7 @@ def strings():
 
 
 def all_letters():
-    """The digest of the letters of all strings, a newline behind each, and how many there are."""
+    """The digest of the letters of all strings, a newline after each, and how many there are."""
     digest, count = hashlib.sha256(), 0
     for data in strings():
         digest.update(letters(data).encode() + b"\n")

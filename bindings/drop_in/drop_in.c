@@ -139,7 +139,7 @@ API int crypto_pwhash_scryptsalsa208sha256_str(char text[TEXT_LEN + 1], const ch
   if (getrandom(salt, sizeof salt, 0) != (ssize_t)sizeof salt) return refused(EIO);
   if (scrypt_hash_mcf_z(password, (size_t)password_len, salt, sizeof salt, log_n, r, p, KEY_LEN, made, sizeof made) !=
       SCRYPT_DONE)
-    return refused(EINVAL); /* for want of memory too, as libsodium does */
+    return refused(EINVAL); /* if memory ran out too, as libsodium does */
   memcpy(text, made, sizeof made);
   return 0;
 }

@@ -89,7 +89,7 @@ crypt64_of-three (a ∷ b ∷ c ∷ bytes) number some is =
     let count : length (a ∷ b ∷ c ∷ bytes) - 3 ≡ length bytes = omega arith in
     rw (same, count, take-length bytes) refl
 
--- the first letter of a number, and those behind it
+-- the first letter of a number, and those after it
 pub letters_of-first : (count number : ℕ) (rest : List ℕ) → 0 < count
     → letters_of count number ++ rest ≡ letter (number % 64) ∷ (letters_of (count - 1) (number / 64) ++ rest)
 unfolding letters_of
@@ -174,10 +174,10 @@ pub letter-is_plain : (done left left' bytes : List ℕ) (x : ℕ) → done ++ l
 letter-is_plain done left left' bytes x same next =
     all_middle IsPlain done left' x (subst (All IsPlain) (sym same ∙ ap (λ more. done ++ more) next) (crypt64_of-plain bytes))
 
--- a write behind what is done
-pub set-behind : (done old : List ℕ) (len x : ℕ) → length done ≡ len → len < length old
+-- a write after what is done
+pub set-after : (done old : List ℕ) (len x : ℕ) → length done ≡ len → len < length old
     → set (done ++ drop len old) len x ≡ (done ++ (x ∷ [])) ++ drop (len + 1) old
-set-behind done old len x count inside =
+set-after done old len x count inside =
     rw (add-one, drop-cons old len 0, ← count) (set_middle done (get_or old (length done) 0) x (drop (suc (length done)) old))
   where
     set_middle : (done : List ℕ) (y x : ℕ) (rest : List ℕ) → set (done ++ (y ∷ rest)) (length done) x ≡ (done ++ (x ∷ [])) ++ rest

@@ -149,7 +149,7 @@ pub no_bytes : (bytes letters : List ℕ) → Crypt64 bytes letters → bytes �
 unfolding crypt64_of
 no_bytes bytes letters is none = is.encoding ∙ ap crypt64_of none
 
--- letters cut behind the fourth, or at their end
+-- letters cut after the fourth, or at their end
 pub record IsCut (letters group rest : List ℕ) : Type 0 where
   pub whole : letters ≡ group ++ rest
   pub most : length group ≤ 4
@@ -164,7 +164,7 @@ pub record SaysFirst (all group rest front tail : List ℕ) : Type 0 where
   pub front_bytes : AreBytes front
   pub tail_bytes : AreBytes tail
   pub read : number_of group ≡ Some (le_number front)
-  pub behind : rest ≡ crypt64_of tail
+  pub after : rest ≡ crypt64_of tail
 
 -- both cuts are at one place, since each is full or at the end
 same_count : (letters bytes rest tail : ℕ) → letters + rest ≡ suc bytes + tail → (letters < 4 → rest ≡ 0) → (bytes < 3 → tail ≡ 0)
@@ -222,7 +222,7 @@ says_first (byte ∷ bytes) letters group rest cut is =
         front_bytes = front_bytes;
         tail_bytes = tail_bytes;
         read = ap number_of parts.0 ∙ number_of-letters_of (suc (length front)) (le_number front) (omega arith);
-        behind = parts.1;
+        after = parts.1;
       },
     )
 
@@ -289,15 +289,15 @@ begins_with_group letters group rest number len cut read is_len some none =
             let number_is : number ≡ le_number found.0 = cc in
             let len_is : len ≡ length found.0 = omega (arith, said.count) in
             let front_is : front ≡ found.0 = rw (number_is, len_is) (to_le_bytes-le_number found.0 said.front_bytes said.most) in
-            (found.1, rw front_is said.joined, record { are_bytes = said.tail_bytes; encoding = said.behind })
+            (found.1, rw front_is said.joined, record { are_bytes = said.tail_bytes; encoding = said.after })
       ];
     }
 
 -- letters that are read group by group
 
-pub begins-more : (letters bytes rest front behind : List ℕ) → Begins letters bytes rest → Begins rest front behind
-    → Begins letters (bytes ++ front) behind
-begins-more letters bytes rest front behind first second = record {
+pub begins-more : (letters bytes rest front after : List ℕ) → Begins letters bytes rest → Begins rest front after
+    → Begins letters (bytes ++ front) after
+begins-more letters bytes rest front after first second = record {
   forth = λ more is. rw append_assoc (first.forth (front ++ more) (second.forth more is));
   back = λ all is.
       let outer = first.back all is in

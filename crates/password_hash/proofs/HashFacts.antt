@@ -81,39 +81,39 @@ lacking_no_version parts h = λ k d below rest e.
     false≢true (sym (All-get_or (λ b. (b == 61) ≡ false) (codes "v=" ++ rest) 1 0 (omega arith) equals))
 
 -- the parts of a text that is read as a hash
-pub record HasParts (part : List ℕ) (behind : List (List ℕ)) (hash : PasswordHash) : Type 0 where
+pub record HasParts (part : List ℕ) (after : List (List ℕ)) (hash : PasswordHash) : Type 0 where
   pub algorithm : part ≡ hash.algorithm
-  pub version_first : behind ≡ version_part hash.version ++ (params_part hash.params ++ salt_and_key_parts hash.salt hash.hash)
+  pub version_first : after ≡ version_part hash.version ++ (params_part hash.params ++ salt_and_key_parts hash.salt hash.hash)
   pub lack_version : LackVersion (params_part hash.params ++ salt_and_key_parts hash.salt hash.hash)
   pub lack_equals : LackEquals (salt_and_key_parts hash.salt hash.hash)
   pub salt_and_key : IsSaltAndKey (salt_and_key_parts hash.salt hash.hash) hash.salt hash.hash
 
-pub parts_of_hash : (text rest part : List ℕ) (behind : List (List ℕ)) (hash : PasswordHash) → IsHashText text hash → text ≡ 36 ∷ rest → slice_split (λ b. b == 36) rest ≡ part ∷ behind → HasParts part behind hash
-parts_of_hash text rest part behind hash h begins split =
+pub parts_of_hash : (text rest part : List ℕ) (after : List (List ℕ)) (hash : PasswordHash) → IsHashText text hash → text ≡ 36 ∷ rest → slice_split (λ b. b == 36) rest ≡ part ∷ after → HasParts part after hash
+parts_of_hash text rest part after hash h begins split =
     let parts = parts_of-parts_text rest hash.algorithm (version_part hash.version ++ (params_part hash.params ++ salt_and_key_parts hash.salt hash.hash)) (parts_lack text hash h) (sym begins ∙ h.whole) in
     let both = sym split ∙ parts in
     let first : part ≡ hash.algorithm = cc in
-    let left : behind ≡ version_part hash.version ++ (params_part hash.params ++ salt_and_key_parts hash.salt hash.hash) = cc in
+    let left : after ≡ version_part hash.version ++ (params_part hash.params ++ salt_and_key_parts hash.salt hash.hash) = cc in
     let no_equals = equals_lack hash.salt hash.hash h.salt h.key in
     record {
       algorithm = first;
       version_first = left;
       lack_version = All-append LacksVersion (params_part hash.params) (salt_and_key_parts hash.salt hash.hash) (params_no_version hash.params h.params) (lacking_no_version (salt_and_key_parts hash.salt hash.hash) no_equals);
       lack_equals = no_equals;
-      salt_and_key = record { whole = refl; salt_bytes = h.salt; key_bytes = h.key; key_behind_salt = h.key_behind_salt };
+      salt_and_key = record { whole = refl; salt_bytes = h.salt; key_bytes = h.key; key_after_salt = h.key_after_salt };
     }
 
 -- a text that has the parts of a hash is read as it
-pub hash_of_parts : (text rest : List ℕ) (hash : PasswordHash) (behind from_params from_salt : List (List ℕ)) → text ≡ 36 ∷ rest → slice_split (λ b. b == 36) rest ≡ hash.algorithm ∷ behind → IsIdentifier hash.algorithm → behind ≡ version_part hash.version ++ from_params → IsVersion hash.version → from_params ≡ params_part hash.params ++ from_salt → ArePairs hash.params → IsSaltAndKey from_salt hash.salt hash.hash → IsHashText text hash
-hash_of_parts text rest hash behind from_params from_salt begins split algorithm version_first version params_next params salt_and_key =
-    let parts : behind ≡ version_part hash.version ++ (params_part hash.params ++ salt_and_key_parts hash.salt hash.hash) =
+pub hash_of_parts : (text rest : List ℕ) (hash : PasswordHash) (after from_params from_salt : List (List ℕ)) → text ≡ 36 ∷ rest → slice_split (λ b. b == 36) rest ≡ hash.algorithm ∷ after → IsIdentifier hash.algorithm → after ≡ version_part hash.version ++ from_params → IsVersion hash.version → from_params ≡ params_part hash.params ++ from_salt → ArePairs hash.params → IsSaltAndKey from_salt hash.salt hash.hash → IsHashText text hash
+hash_of_parts text rest hash after from_params from_salt begins split algorithm version_first version params_next params salt_and_key =
+    let parts : after ≡ version_part hash.version ++ (params_part hash.params ++ salt_and_key_parts hash.salt hash.hash) =
     version_first ∙ ap (λ left. version_part hash.version ++ left) (params_next ∙ ap (λ left. params_part hash.params ++ left) salt_and_key.whole) in
     record {
-      whole = begins ∙ parts_text-parts_of rest hash.algorithm behind split ∙ ap (λ left. parts_text (hash.algorithm ∷ left)) parts;
+      whole = begins ∙ parts_text-parts_of rest hash.algorithm after split ∙ ap (λ left. parts_text (hash.algorithm ∷ left)) parts;
       algorithm = algorithm;
       version = version;
       params = params;
       salt = salt_and_key.salt_bytes;
       key = salt_and_key.key_bytes;
-      key_behind_salt = salt_and_key.key_behind_salt;
+      key_after_salt = salt_and_key.key_after_salt;
     }

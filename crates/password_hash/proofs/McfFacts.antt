@@ -85,7 +85,7 @@ IsMcfText-read text is =
     let one = IsMcfText-one text is.0 is.1 is.2 in
     rw (one.0, one.1) is.2
 
--- an id alone is an MCF text, and a field behind a dollar is one field more
+-- an id alone is an MCF text, and a field after a dollar is one field more
 pub IsMcfText-id : (id : List ℕ) → IsId id → IsMcfText (dollar ∷ id) id []
 IsMcfText-id id is = record {
   is_id = is;

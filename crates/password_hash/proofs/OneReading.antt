@@ -77,13 +77,13 @@ same_salt_and_key (Some a) (Some b) k l ha hb hk hl ka lb e =
 pub one_reading : (text : List ℕ) (a b : PasswordHash) → IsHashText text a → IsHashText text b → a ≡ b
 one_reading text a b ha hb =
     let rest : List ℕ = drop 1 (hash_text a) in
-    let behind = version_part a.version ++ (params_part a.params ++ salt_and_key_parts a.salt a.hash) in
-    let split : slice_split (λ c. c == 36) rest ≡ hash_parts a = parts_of-parts_text rest a.algorithm behind (parts_lack text a ha) refl in
-    let of_a = parts_of_hash text rest a.algorithm behind a ha ha.whole split in
-    let of_b = parts_of_hash text rest a.algorithm behind b hb ha.whole split in
+    let after = version_part a.version ++ (params_part a.params ++ salt_and_key_parts a.salt a.hash) in
+    let split : slice_split (λ c. c == 36) rest ≡ hash_parts a = parts_of-parts_text rest a.algorithm after (parts_lack text a ha) refl in
+    let of_a = parts_of_hash text rest a.algorithm after a ha ha.whole split in
+    let of_b = parts_of_hash text rest a.algorithm after b hb ha.whole split in
     let version = same_version a.version b.version (params_part a.params ++ salt_and_key_parts a.salt a.hash) (params_part b.params ++ salt_and_key_parts b.salt b.hash) ha.version hb.version of_a.lack_version of_b.lack_version of_b.version_first in
     let params = same_params a.params b.params (salt_and_key_parts a.salt a.hash) (salt_and_key_parts b.salt b.hash) ha.params hb.params of_a.lack_equals of_b.lack_equals version.1 in
-    let both = same_salt_and_key a.salt b.salt a.hash b.hash ha.salt hb.salt ha.key hb.key ha.key_behind_salt hb.key_behind_salt params.1 in
+    let both = same_salt_and_key a.salt b.salt a.hash b.hash ha.salt hb.salt ha.key hb.key ha.key_after_salt hb.key_after_salt params.1 in
     λ i. record { algorithm = of_b.algorithm i; version = version.0 i; params = params.0 i; salt = both.0 i; hash = both.1 i }
 
 -- one text is the encoding of one list of bytes

@@ -29,7 +29,7 @@ letters_lack p c is_none (x ∷ xs) h =
     let parts = list_all_parts p x xs h in
     All-cons (λ b. (b == c) ≡ false) x xs (ne_eqb x c (other_letter p c x is_none parts.0)) (letters_lack p c is_none xs parts.1)
 
--- the first c stands behind bytes that lack it
+-- the first c stands after bytes that lack it
 pub position_at : (c : ℕ) (xs ys : List ℕ) → Lacks c xs → position_or_len (λ b. b == c) (xs ++ (c ∷ ys)) ≡ length xs
 position_at c xs ys none =
     position_or_len_is (λ b. b == c) (xs ++ (c ∷ ys)) (length xs) 0
@@ -123,7 +123,7 @@ kept_as_text text pairs e h =
 pub before_first_none : (c : ℕ) (xs : List ℕ) → Lacks c xs → before_first (λ b. b == c) xs ≡ xs
 before_first_none c xs none = rw (position_none c xs none) (take_all (length xs) xs (omega arith))
 
--- and nothing stands behind
+-- and nothing stands after
 pub after_first_none : (c : ℕ) (xs : List ℕ) → Lacks c xs → after_first (λ b. b == c) xs ≡ []
 after_first_none c xs none = rw (position_none c xs none) (drop_all (length xs + 1) xs (omega arith))
 
@@ -171,7 +171,7 @@ first_pair_of (pair ∷ next ∷ pairs) text h e some =
     let others = kept_as_text rest (next ∷ pairs) refl (ArePairs-tail pair (next ∷ pairs) h) in
     rw (← e, before, after) (record { head = all ∙ rw (same, others.1) refl; name = name_of pair is_pair same; others = others.0 })
 
--- what stands before and behind the first `,` of a text of pairs
+-- what stands before and after the first `,` of a text of pairs
 pub first_pair : (text pair rest : List ℕ) → IsPairsText text → 0 < length text → pair ≡ before_first (λ b. b == 44) text → rest ≡ after_first (λ b. b == 44) text → IsFirstPair text pair rest
 first_pair text pair rest h some before after =
     rw (before, after) (first_pair_of (pairs_of text) text h.pairs h.whole some)

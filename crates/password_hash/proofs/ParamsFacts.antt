@@ -77,7 +77,7 @@ ArePairs-front xs ys h =
 pub ArePairs-take : (n : ℕ) (pairs : List (List ℕ × List ℕ)) → ArePairs pairs → ArePairs (take n pairs)
 ArePairs-take n pairs h = ArePairs-front (take n pairs) (drop n pairs) (rw (take-append-drop n pairs) h)
 
--- what is kept after a pair was put behind others, or there was no room
+-- what is kept after a pair was put after others, or there was no room
 pub record IsAdded {E : Type 0} (r : Result (Unit {0}) E) (pairs : List (List ℕ × List ℕ)) (pair : List ℕ × List ℕ) (text : List ℕ) : Type 0 where
   pub kept : IsPairsText text
   pub exact : IsOk r ↔ ArePairs (pairs ++ pair ∷ [])
@@ -104,7 +104,7 @@ added (Err e) pairs pair old new h view is_pair others exact ok unchanged =
       unchanged = rw unchanged view;
     }
 
--- a piece with something behind its first `=` is the text of its pair
+-- a piece with something after its first `=` is the text of its pair
 pub pair_text-pair_of : (piece : List ℕ) → 0 < length (after_first (λ b. b == 61) piece) → pair_text (pair_of piece) ≡ piece
 pair_text-pair_of piece some =
     let at : ℕ = position_or_len (λ b. b == 61) piece in

@@ -52,25 +52,25 @@ abbrev pub LacksVersion : List ℕ → Type 0
 LacksVersion part = (rest : List ℕ) → part ≢ codes "v=" ++ rest
 
 -- the version that a part with `v=` has
-pub record HasVersion (digits : List ℕ) (behind : List (List ℕ)) (version : Option ℕ) (others : List (List ℕ)) : Type 0 where
+pub record HasVersion (digits : List ℕ) (after : List (List ℕ)) (version : Option ℕ) (others : List (List ℕ)) : Type 0 where
   pub number : ℕ
   pub is_version : version ≡ Some number
   pub is_decimal : IsDecimal digits number
-  pub left : behind ≡ others
+  pub left : after ≡ others
 
-pub version_next : (digits : List ℕ) (behind : List (List ℕ)) (version : Option ℕ) (others : List (List ℕ)) → IsVersion version → LackVersion others → (codes "v=" ++ digits) ∷ behind ≡ version_part version ++ others → HasVersion digits behind version others
-version_next digits behind None others h none e =
-    let heads = All-head LacksVersion (codes "v=" ++ digits) behind (subst (All LacksVersion) (sym e) none) in
+pub version_next : (digits : List ℕ) (after : List (List ℕ)) (version : Option ℕ) (others : List (List ℕ)) → IsVersion version → LackVersion others → (codes "v=" ++ digits) ∷ after ≡ version_part version ++ others → HasVersion digits after version others
+version_next digits after None others h none e =
+    let heads = All-head LacksVersion (codes "v=" ++ digits) after (subst (All LacksVersion) (sym e) none) in
     absurd (heads digits refl)
-version_next digits behind (Some number) others h none e =
+version_next digits after (Some number) others h none e =
     let same : digits ≡ decimal number = cc in
-    let left : behind ≡ others = cc in
+    let left : after ≡ others = cc in
     record { number = number; is_version = refl; is_decimal = rw same (IsDecimal-decimal number h); left = left }
 
 -- what is read of a part with `v=`
-pub version_read : (parts : List (List ℕ)) (part digits : List ℕ) (behind : List (List ℕ)) (number : ℕ) → parts ≡ part ∷ behind → part ≡ codes "v=" ++ digits → IsDecimal digits number → (parts ≡ (codes "v=" ++ decimal number) ∷ behind) × (number < 2 ^ 32)
-version_read parts part digits behind number e is h =
-    (e ∙ ap (λ first. first ∷ behind) (is ∙ ap (λ rest. codes "v=" ++ rest) (decimal_of digits number h)), h.small)
+pub version_read : (parts : List (List ℕ)) (part digits : List ℕ) (after : List (List ℕ)) (number : ℕ) → parts ≡ part ∷ after → part ≡ codes "v=" ++ digits → IsDecimal digits number → (parts ≡ (codes "v=" ++ decimal number) ∷ after) × (number < 2 ^ 32)
+version_read parts part digits after number e is h =
+    (e ∙ ap (λ first. first ∷ after) (is ∙ ap (λ rest. codes "v=" ++ rest) (decimal_of digits number h)), h.small)
 
 -- the text of parameters has a `=`
 pub equals_of_pairs : (pair : List ℕ × List ℕ) (pairs : List (List ℕ × List ℕ)) → (rest : List ℕ) × (pairs_text (pair ∷ pairs) ≡ pair.0 ++ (61 ∷ rest))
@@ -79,9 +79,9 @@ equals_of_pairs pair (next ∷ pairs) =
     (pair.1 ++ (44 ∷ pairs_text (next ∷ pairs)), append_assoc pair.0 (61 ∷ pair.1) (44 ∷ pairs_text (next ∷ pairs)))
 
 -- a part without `=` is no text of parameters
-pub no_params : (part : List ℕ) (behind : List (List ℕ)) (params : List (List ℕ × List ℕ)) (others : List (List ℕ)) → ((k : ℕ) → k < length part → get_or part k 0 ≢ 61) → part ∷ behind ≡ params_part params ++ others → params ≡ []
-no_params part behind [] others none e = refl
-no_params part behind (pair ∷ params) others none e =
+pub no_params : (part : List ℕ) (after : List (List ℕ)) (params : List (List ℕ × List ℕ)) (others : List (List ℕ)) → ((k : ℕ) → k < length part → get_or part k 0 ≢ 61) → part ∷ after ≡ params_part params ++ others → params ≡ []
+no_params part after [] others none e = refl
+no_params part after (pair ∷ params) others none e =
     let text : part ≡ pairs_text (pair ∷ params) = cc in
     let equals = equals_of_pairs pair params in
     let whole = text ∙ equals.1 in
@@ -89,14 +89,14 @@ no_params part behind (pair ∷ params) others none e =
     absurd (none (length pair.0) within (rw whole (get_or_at pair.0 61 equals.0 0 (length pair.0) refl)))
 
 -- a part with a `=` is the text of the parameters
-pub params_next : (part : List ℕ) (behind : List (List ℕ)) (params : List (List ℕ × List ℕ)) (others : List (List ℕ)) → (k : ℕ) → k < length part → get_or part k 0 ≡ 61 → LackEquals others → part ∷ behind ≡ params_part params ++ others → (part ≡ pairs_text params) × (behind ≡ others)
-params_next part behind [] others k below equals none e =
-    let lacks = All-head (Lacks 61) part behind (subst (All (Lacks 61)) (sym e) none) in
+pub params_next : (part : List ℕ) (after : List (List ℕ)) (params : List (List ℕ × List ℕ)) (others : List (List ℕ)) → (k : ℕ) → k < length part → get_or part k 0 ≡ 61 → LackEquals others → part ∷ after ≡ params_part params ++ others → (part ≡ pairs_text params) × (after ≡ others)
+params_next part after [] others k below equals none e =
+    let lacks = All-head (Lacks 61) part after (subst (All (Lacks 61)) (sym e) none) in
     let other = All-get_or (λ b. (b == 61) ≡ false) part k 0 below lacks in
     absurd (false≢true (sym other ∙ eq-eqb (get_or part k 0) 61 equals))
-params_next part behind (pair ∷ params) others k below equals none e =
+params_next part after (pair ∷ params) others k below equals none e =
     let text : part ≡ pairs_text (pair ∷ params) = cc in
-    let left : behind ≡ others = cc in
+    let left : after ≡ others = cc in
     (text, left)
 
 -- the salt and the key of two parts
@@ -142,5 +142,5 @@ salt_and_key_read parts part letters salt key e is_salt salt_allowed is_key key_
       whole = e ∙ rw (alone, is_salt, is_key) refl;
       salt_bytes = salt_allowed;
       key_bytes = key_allowed;
-      key_behind_salt = refl;
+      key_after_salt = refl;
     }

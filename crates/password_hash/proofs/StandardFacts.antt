@@ -103,10 +103,10 @@ key_not_printed = refl
 no_dollar_refused : (text : List ℕ) → ((rest : List ℕ) → text ≢ 36 ∷ rest) → (hash : PasswordHash) → ¬ IsHashText text hash
 no_dollar_refused text other hash is = other _ is.whole
 
-algorithm_refused : (rest part : List ℕ) (behind : List (List ℕ)) → parts_of rest ≡ part ∷ behind → is_identifier part ≡ false
+algorithm_refused : (rest part : List ℕ) (after : List (List ℕ)) → parts_of rest ≡ part ∷ after → is_identifier part ≡ false
     → (hash : PasswordHash) → ¬ IsHashText (36 ∷ rest) hash
-algorithm_refused rest part behind split other hash is =
-    let parts = parts_of_hash (36 ∷ rest) rest part behind hash is refl split in
+algorithm_refused rest part after split other hash is =
+    let parts = parts_of_hash (36 ∷ rest) rest part after hash is refl split in
     false≢true (sym other ∙ ap is_identifier parts.algorithm ∙ algorithm_shown hash.algorithm is.algorithm)
 
 pub empty_text_refused : (hash : PasswordHash) → ¬ IsHashText [] hash

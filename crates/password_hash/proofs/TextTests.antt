@@ -101,28 +101,28 @@ pub if_some_shown : {X : Type 0} → (p : X → Bool) (P : X → Type 0) → ((x
 if_some_shown p P each None h = tt
 if_some_shown p P each (Some x) h = each x h
 
-abbrev pub key_behind_salt : Option (List ℕ) → Option (List ℕ) → Bool
-key_behind_salt key None = not (is_some key)
-key_behind_salt key (Some salt) = true
+abbrev pub key_after_salt : Option (List ℕ) → Option (List ℕ) → Bool
+key_after_salt key None = not (is_some key)
+key_after_salt key (Some salt) = true
 
-pub key_behind_salt_shown : (key salt : Option (List ℕ)) → key_behind_salt key salt ≡ true → OnSome key (IsSome salt)
-key_behind_salt_shown None salt h = tt
-key_behind_salt_shown (Some key) None h = absurd (false≢true h)
-key_behind_salt_shown (Some key) (Some salt) h = refl
+pub key_after_salt_shown : (key salt : Option (List ℕ)) → key_after_salt key salt ≡ true → OnSome key (IsSome salt)
+key_after_salt_shown None salt h = tt
+key_after_salt_shown (Some key) None h = absurd (false≢true h)
+key_after_salt_shown (Some key) (Some salt) h = refl
 
 -- the text is read as this hash, and printed of it
 pub reads : (text : List ℕ) (hash : PasswordHash) → text ≡ hash_text hash
     → is_identifier hash.algorithm ≡ true → if_some (λ n. nat_lt n 4294967296) hash.version ≡ true → are_pairs hash.params ≡ true
-    → if_some (within 1 64) hash.salt ≡ true → if_some (within 10 64) hash.hash ≡ true → key_behind_salt hash.hash hash.salt ≡ true
+    → if_some (within 1 64) hash.salt ≡ true → if_some (within 10 64) hash.hash ≡ true → key_after_salt hash.hash hash.salt ≡ true
     → IsHashText text hash
-reads text hash whole algorithm version params salt key behind = record {
+reads text hash whole algorithm version params salt key after = record {
   whole = whole;
   algorithm = identifier_shown hash.algorithm algorithm;
   version = if_some_shown (λ n. nat_lt n 4294967296) (λ n. n < 2 ^ 32) (λ n h. ltb-true n 4294967296 h) hash.version version;
   params = pairs_shown hash.params params;
   salt = if_some_shown (within 1 64) (AreBytesFromTo 1 64) (within_shown 1 64) hash.salt salt;
   key = if_some_shown (within 10 64) (AreBytesFromTo 10 64) (within_shown 10 64) hash.hash key;
-  key_behind_salt = key_behind_salt_shown hash.hash hash.salt behind;
+  key_after_salt = key_after_salt_shown hash.hash hash.salt after;
 }
 
 pub and_shown : (x y : Bool) → x ≡ true → y ≡ true → x && y ≡ true

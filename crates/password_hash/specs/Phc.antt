@@ -55,7 +55,7 @@ pub record IsSaltAndKey (parts : List (List ℕ)) (salt key : Option (List ℕ))
   pub whole : parts ≡ salt_and_key_parts salt key
   pub salt_bytes : IfSome salt IsSalt
   pub key_bytes : IfSome key IsKey
-  pub key_behind_salt : OnSome key (IsSome salt)
+  pub key_after_salt : OnSome key (IsSome salt)
 
 -- the text is read as this hash
 pub record IsHashText (text : List ℕ) (hash : PasswordHash) : Type 0 where
@@ -65,4 +65,4 @@ pub record IsHashText (text : List ℕ) (hash : PasswordHash) : Type 0 where
   pub params : ArePairs hash.params
   pub salt : IfSome hash.salt IsSalt
   pub key : IfSome hash.hash IsKey
-  pub key_behind_salt : OnSome hash.hash (IsSome hash.salt)
+  pub key_after_salt : OnSome hash.hash (IsSome hash.salt)

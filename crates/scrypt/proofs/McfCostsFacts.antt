@@ -103,9 +103,9 @@ costs_letters-once log_n r p other_log_n other_r other_p fits other_fits same =
     let small = small_costs log_n r p fits in
     let other_small = small_costs other_log_n other_r other_p other_fits in
     let first : letter log_n ≡ letter other_log_n = cc in
-    let behind : letters_of 5 r ++ letters_of 5 p ≡ letters_of 5 other_r ++ letters_of 5 other_p = cc in
+    let after : letters_of 5 r ++ letters_of 5 p ≡ letters_of 5 other_r ++ letters_of 5 other_p = cc in
     let parts = append_parts (letters_of 5 r) (letters_of 5 p) (letters_of 5 other_r) (letters_of 5 other_p)
-    (length-letters_of 5 r ∙ sym (length-letters_of 5 other_r)) behind in (
+    (length-letters_of 5 r ∙ sym (length-letters_of 5 other_r)) after in (
       letter-once log_n other_log_n (omega (arith, small.0)) (omega (arith, other_small.0)) first,
       five_letters-once r other_r small.1 other_small.1 parts.0,
       five_letters-once p other_p small.2 other_small.2 parts.1,

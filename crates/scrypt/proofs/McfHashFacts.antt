@@ -49,10 +49,10 @@ field_once (accepted says good) (accepted says' good') =
     let same = says_once says says' in
     rw (same.0, same.1, same.2) refl
 
--- the first field and those behind it are one, and so are the costs and the salt
-costs_once : {text : List ℕ} {c c' : Parameters} {salt salt' : List ℕ} {behind behind' : List (List ℕ)}
-    → HasCosts text c salt behind → HasCosts text c' salt' behind' → (c ≡ c') × (salt ≡ salt') × (behind ≡ behind')
-costs_once {text} {c} {c'} {salt} {salt'} {behind} {behind'} first second =
+-- the first field and those after it are one, and so are the costs and the salt
+costs_once : {text : List ℕ} {c c' : Parameters} {salt salt' : List ℕ} {after after' : List (List ℕ)}
+    → HasCosts text c salt after → HasCosts text c' salt' after' → (c ≡ c') × (salt ≡ salt') × (after ≡ after')
+costs_once {text} {c} {c'} {salt} {salt'} {after} {after'} first second =
     let fields = (fields_once first.parts second.parts).1 in
     let field : first.field ≡ second.field = cc in
     let same = field_once (subst (λ f. ReadsField f (Ok (c, salt))) field first.costs) second.costs in
@@ -64,7 +64,7 @@ pub whole_once : {text : List ℕ} {c c' : Parameters} {salt salt' key key' : Li
     → (c ≡ c') × (salt ≡ salt') × (key ≡ key')
 whole_once {key = key} {key' = key'} first second =
     let costs = costs_once first.has_costs second.has_costs in
-    let behind = costs.2 in
+    let after = costs.2 in
     let letters : first.letters ≡ second.letters = cc in
     (costs.0, costs.1, Crypt64-one second.letters key key' (subst (λ l. Crypt64 key l) letters first.key_is) second.key_is)
 
@@ -72,19 +72,19 @@ whole_once {key = key} {key' = key'} first second =
 pub not_both : {text : List ℕ} {why : Refusal} {c : Parameters} {salt key : List ℕ} → ReadIsRefused text why → IsWhole text c salt key → ⊥
 not_both (other_id parts other) h = other (fields_once parts h.has_costs.parts).0
 not_both (no_field parts) h = let fields = (fields_once parts h.has_costs.parts).1 in cc
-not_both (bad_costs {field} {behind} {why} parts refused) h =
+not_both (bad_costs {field} {after} {why} parts refused) h =
     let fields = (fields_once parts h.has_costs.parts).1 in
     let same : field ≡ h.has_costs.field = cc in
     let out = field_once (subst (λ f. ReadsField f (Err why)) same refused) h.has_costs.costs in
     cc
-not_both (no_key costs) h = let behind = (costs_once costs h.has_costs).2 in cc
+not_both (no_key costs) h = let after = (costs_once costs h.has_costs).2 in cc
 not_both {key = key} (bad_key {letters = letters} costs none) h =
-    let behind = (costs_once costs h.has_costs).2 in
+    let after = (costs_once costs h.has_costs).2 in
     let same : letters ≡ h.letters = cc in
     none (key, rw same h.key_is)
-not_both (third_field costs good) h = let behind = (costs_once costs h.has_costs).2 in cc
+not_both (third_field costs good) h = let after = (costs_once costs h.has_costs).2 in cc
 not_both {key = key} (bad_key_len {letters = letters} {key = other} costs is none) h =
-    let behind = (costs_once costs h.has_costs).2 in
+    let after = (costs_once costs h.has_costs).2 in
     let same : letters ≡ h.letters = cc in
     let keys = Crypt64-one h.letters other key (subst (λ l. Crypt64 other l) same is) h.key_is in
     none (rw keys h.key_len)

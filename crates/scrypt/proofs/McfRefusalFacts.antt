@@ -8,19 +8,19 @@ use Rattle.scrypt.specs.McfCosts.{ReadsField}
 use Rattle.scrypt.specs.McfHash.{mcf_id, ReadIsRefused, other_id, no_field, bad_costs, no_key, bad_key, third_field, bad_key_len}
 use Rattle.scrypt.proofs.McfHashFacts.{field_once, fields_once}
 
--- What the second field and those behind it are refused by, and what all are: the first field decides first.
+-- What the second field and those after it are refused by, and what all are: the first field decides first.
 
 abbrev KeyIsRefused : List (List ℕ) → Refusal → Type 0
 KeyIsRefused [] why = why ≡ BadEncoding
 KeyIsRefused (letters ∷ []) why =
     ((¬ IsCrypt64 letters) × (why ≡ BadEncoding))
     ⊎ ((key : List ℕ) × Crypt64 key letters × (¬ IsOutputLen (length key)) × (why ≡ BadOutputSize))
-KeyIsRefused (letters ∷ third ∷ behind) why = why ≡ BadEncoding
+KeyIsRefused (letters ∷ third ∷ after) why = why ≡ BadEncoding
 
 abbrev FieldsAreRefused : List (List ℕ) → Refusal → Type 0
 FieldsAreRefused [] why = why ≡ BadEncoding
-FieldsAreRefused (field ∷ behind) why =
-    ReadsField field (Err why) ⊎ ((out : Parameters × List ℕ) × ReadsField field (Ok out) × KeyIsRefused behind why)
+FieldsAreRefused (field ∷ after) why =
+    ReadsField field (Err why) ⊎ ((out : Parameters × List ℕ) × ReadsField field (Ok out) × KeyIsRefused after why)
 
 -- the reason that a text with the id `7` is refused for
 fields_refused : {text : List ℕ} {why : Refusal} → ReadIsRefused text why
@@ -28,31 +28,31 @@ fields_refused : {text : List ℕ} {why : Refusal} → ReadIsRefused text why
     ⊎ ((fields : List (List ℕ)) × IsMcfText text mcf_id fields × FieldsAreRefused fields why)
 fields_refused (other_id parts other) = inl (refl, λ fields parts'. other (fields_once parts parts').0)
 fields_refused (no_field parts) = inr ([], parts, refl)
-fields_refused (bad_costs {field} {behind} parts why) = inr (field ∷ behind, parts, inl why)
+fields_refused (bad_costs {field} {after} parts why) = inr (field ∷ after, parts, inl why)
 fields_refused (no_key costs) = inr (costs.field ∷ [], costs.parts, inr (_, costs.costs, refl))
-fields_refused (bad_key {letters = letters} {behind = []} costs none) =
+fields_refused (bad_key {letters = letters} {after = []} costs none) =
     inr (costs.field ∷ letters ∷ [], costs.parts, inr (_, costs.costs, inl (none, refl)))
-fields_refused (bad_key {letters = letters} {behind = third ∷ behind} costs none) =
-    inr (costs.field ∷ letters ∷ third ∷ behind, costs.parts, inr (_, costs.costs, refl))
-fields_refused (third_field {letters = letters} {third = third} {behind = behind} costs good) =
-    inr (costs.field ∷ letters ∷ third ∷ behind, costs.parts, inr (_, costs.costs, refl))
+fields_refused (bad_key {letters = letters} {after = third ∷ after} costs none) =
+    inr (costs.field ∷ letters ∷ third ∷ after, costs.parts, inr (_, costs.costs, refl))
+fields_refused (third_field {letters = letters} {third = third} {after = after} costs good) =
+    inr (costs.field ∷ letters ∷ third ∷ after, costs.parts, inr (_, costs.costs, refl))
 fields_refused (bad_key_len {letters = letters} {key = key} costs is none) =
     inr (costs.field ∷ letters ∷ [], costs.parts, inr (_, costs.costs, inr (key, is, none, refl)))
 
-key_refused_once : (behind : List (List ℕ)) {why why' : Refusal} → KeyIsRefused behind why → KeyIsRefused behind why' → why ≡ why'
+key_refused_once : (after : List (List ℕ)) {why why' : Refusal} → KeyIsRefused after why → KeyIsRefused after why' → why ≡ why'
 key_refused_once [] first second = first ∙ sym second
 key_refused_once (letters ∷ []) (inl first) (inl second) = first.1 ∙ sym second.1
 key_refused_once (letters ∷ []) (inl first) (inr second) = absurd (first.0 (second.0, second.1))
 key_refused_once (letters ∷ []) (inr first) (inl second) = absurd (second.0 (first.0, first.1))
 key_refused_once (letters ∷ []) (inr first) (inr second) = first.3 ∙ sym second.3
-key_refused_once (letters ∷ third ∷ behind) first second = first ∙ sym second
+key_refused_once (letters ∷ third ∷ after) first second = first ∙ sym second
 
 fields_refused_once : (fields : List (List ℕ)) {why why' : Refusal} → FieldsAreRefused fields why → FieldsAreRefused fields why' → why ≡ why'
 fields_refused_once [] first second = first ∙ sym second
-fields_refused_once (field ∷ behind) (inl first) (inl second) = let same = field_once first second in cc
-fields_refused_once (field ∷ behind) (inl first) (inr second) = let same = field_once first second.1 in absurd (cc)
-fields_refused_once (field ∷ behind) (inr first) (inl second) = let same = field_once first.1 second in absurd (cc)
-fields_refused_once (field ∷ behind) (inr first) (inr second) = key_refused_once behind first.2 second.2
+fields_refused_once (field ∷ after) (inl first) (inl second) = let same = field_once first second in cc
+fields_refused_once (field ∷ after) (inl first) (inr second) = let same = field_once first second.1 in absurd (cc)
+fields_refused_once (field ∷ after) (inr first) (inl second) = let same = field_once first.1 second in absurd (cc)
+fields_refused_once (field ∷ after) (inr first) (inr second) = key_refused_once after first.2 second.2
 
 -- a text is refused for one thing
 pub refused_once : {text : List ℕ} {why why' : Refusal} → ReadIsRefused text why → ReadIsRefused text why' → why ≡ why'

@@ -25,27 +25,27 @@ use Rattle.scrypt.proofs.McfCostsFacts.{five_letter_number-letters_of, to_the_en
 pub put_to_the_end : (place : ℕ) (text new : List ℕ) → place ≤ length text → put_mid place (length text - place) text new ≡ take place text ++ new
 put_to_the_end place text new inside =
     ap (λ rest. take place text ++ (new ++ rest)) (drop_all (length text - place) (drop place text) (omega (arith, length-drop place text)))
-    ∙ ap (λ behind. take place text ++ behind) (append-nil new)
+    ∙ ap (λ after. take place text ++ after) (append-nil new)
 
 -- letters that fill their room
 filled : (letters room : List ℕ) → length room ≤ length letters → letters ++ drop (length letters) room ≡ letters
 filled letters room full = ap (λ rest. letters ++ rest) (drop_all (length letters) room full) ∙ append-nil letters
 
--- a dollar, and behind it letters that fill the room
-pub put_behind_dollar : (out letters new : List ℕ) → length out ≡ 1 + length letters
+-- a dollar, and after it letters that fill the room
+pub put_after_dollar : (out letters new : List ℕ) → length out ≡ 1 + length letters
     → new ≡ letters ++ drop (length letters) (take (length (set out 0 dollar) - 1) (drop 1 (set out 0 dollar)))
     → put_mid 1 (length (set out 0 dollar) - 1) (set out 0 dollar) new ≡ dollar ∷ letters
-put_behind_dollar [] letters new count written = absurd (omega arith)
-put_behind_dollar (first ∷ out) letters new count written =
+put_after_dollar [] letters new count written = absurd (omega arith)
+put_after_dollar (first ∷ out) letters new count written =
     put_to_the_end 1 (dollar ∷ out) new (omega arith)
     ∙ ap (λ rest. dollar ∷ rest) (written ∙ ap (λ room. letters ++ drop (length letters) room) (to_the_end (dollar ∷ out) (dollar ∷ out) 1 refl)
     ∙ filled letters out (omega arith))
 
--- letters written behind the front of a text
-pub put_behind_front : (front text letters new : List ℕ) → length front ≡ 14 → 14 ≤ length text
+-- letters written after the front of a text
+pub put_after_front : (front text letters new : List ℕ) → length front ≡ 14 → 14 ≤ length text
     → new ≡ letters ++ drop (length letters) (take (length (front ++ drop 14 text) - 14) (drop 14 (front ++ drop 14 text)))
     → put_mid 14 (length (front ++ drop 14 text) - 14) (front ++ drop 14 text) new ≡ front ++ (letters ++ drop (14 + length letters) text)
-put_behind_front front text letters new count inside written =
+put_after_front front text letters new count inside written =
     let whole : 14 ≤ length (front ++ drop 14 text) = omega (arith, length-append front (drop 14 text), count) in
     put_to_the_end 14 (front ++ drop 14 text) new whole
     ∙ ap (λ z. z ++ new) (take_at front (drop 14 text) 14 count)
@@ -53,7 +53,7 @@ put_behind_front front text letters new count inside written =
     (to_the_end (front ++ drop 14 text) (front ++ drop 14 text) 14 refl ∙ drop_at front (drop 14 text) 14 count)
     ∙ ap (λ z. letters ++ z) (drop-drop (length letters) 14 text))
 
--- a place of a list of ASCII bytes, or behind it
+-- a place of a list of ASCII bytes, or after it
 ascii_by_index : (text : List ℕ) → All (λ byte. byte < 128) text → IsAscii text
 ascii_by_index [] each i = lit< tt
 ascii_by_index (byte ∷ text) each zero = All-head (λ b. b < 128) byte text each
@@ -144,9 +144,9 @@ text_ascii c salt key good =
     let plain = λ (letters : List ℕ) (each : All IsPlain letters). All-weaker IsPlain (λ byte. byte < 128) (λ byte is. is.0) letters each in
     let letters = costs_letters c.log_n c.r c.p in
     let key_part = All-cons (λ byte. byte < 128) dollar (crypt64_of key) (lit< tt) (plain (crypt64_of key) (crypt64_of-plain key)) in
-    let behind = All-append (λ byte. byte < 128) (crypt64_of salt) (dollar ∷ crypt64_of key) (plain (crypt64_of salt) (crypt64_of-plain salt)) key_part in
+    let after = All-append (λ byte. byte < 128) (crypt64_of salt) (dollar ∷ crypt64_of key) (plain (crypt64_of salt) (crypt64_of-plain salt)) key_part in
     let rest = letters ++ (crypt64_of salt ++ dollar ∷ crypt64_of key) in
-    let whole = All-append (λ byte. byte < 128) letters (crypt64_of salt ++ dollar ∷ crypt64_of key) (plain letters (plain_letters c.log_n c.r c.p (omega arith))) behind in
+    let whole = All-append (λ byte. byte < 128) letters (crypt64_of salt ++ dollar ∷ crypt64_of key) (plain letters (plain_letters c.log_n c.r c.p (omega arith))) after in
     ascii_by_index (36 ∷ 55 ∷ 36 ∷ rest)
     (All-cons (λ byte. byte < 128) 36 (55 ∷ 36 ∷ rest) (lit< tt)
     (All-cons (λ byte. byte < 128) 55 (36 ∷ rest) (lit< tt) (All-cons (λ byte. byte < 128) 36 rest (lit< tt) whole)))

@@ -102,5 +102,5 @@ made_is_text c password salt hash fits len salted made =
         enough = omega (arith, long, stored.0);
         fits = omega (arith, long, stored.1);
       });
-      key_behind_salt = rw (made.key_is, made.salt_is) refl;
+      key_after_salt = rw (made.key_is, made.salt_is) refl;
     }

@@ -16,9 +16,9 @@ mcf_id = codes "7"
 
 -- The text has the id `7`, its first field encodes these costs and this salt, and these fields are
 -- after it.
-pub record HasCosts (text : List ℕ) (c : Parameters) (salt : List ℕ) (behind : List (List ℕ)) : Type 0 where
+pub record HasCosts (text : List ℕ) (c : Parameters) (salt : List ℕ) (after : List (List ℕ)) : Type 0 where
   pub field : List ℕ
-  pub parts : IsMcfText text mcf_id (field ∷ behind)
+  pub parts : IsMcfText text mcf_id (field ∷ after)
   pub costs : ReadsField field (Ok (c, salt))
 
 -- the text of a whole `$7$` hash: two fields, of which the first encodes costs and salt, and the
@@ -36,13 +36,13 @@ pub data ReadIsRefused (text : List ℕ) : Refusal → Type 0 where
   other_id : {id : List ℕ} {fields : List (List ℕ)} → IsMcfText text id fields → id ≢ mcf_id
       → ReadIsRefused text BadAlgorithm
   no_field : IsMcfText text mcf_id [] → ReadIsRefused text BadEncoding
-  bad_costs : {field : List ℕ} {behind : List (List ℕ)} {why : Refusal} → IsMcfText text mcf_id (field ∷ behind)
+  bad_costs : {field : List ℕ} {after : List (List ℕ)} {why : Refusal} → IsMcfText text mcf_id (field ∷ after)
       → ReadsField field (Err why) → ReadIsRefused text why
   no_key : {c : Parameters} {salt : List ℕ} → HasCosts text c salt [] → ReadIsRefused text BadEncoding
-  bad_key : {c : Parameters} {salt letters : List ℕ} {behind : List (List ℕ)} → HasCosts text c salt (letters ∷ behind)
+  bad_key : {c : Parameters} {salt letters : List ℕ} {after : List (List ℕ)} → HasCosts text c salt (letters ∷ after)
       → ¬ IsCrypt64 letters → ReadIsRefused text BadEncoding
-  third_field : {c : Parameters} {salt letters third : List ℕ} {behind : List (List ℕ)}
-      → HasCosts text c salt (letters ∷ third ∷ behind) → IsCrypt64 letters → ReadIsRefused text BadEncoding
+  third_field : {c : Parameters} {salt letters third : List ℕ} {after : List (List ℕ)}
+      → HasCosts text c salt (letters ∷ third ∷ after) → IsCrypt64 letters → ReadIsRefused text BadEncoding
   bad_key_len : {c : Parameters} {salt letters key : List ℕ} → HasCosts text c salt (letters ∷ []) → Crypt64 key letters
       → ¬ IsOutputLen (length key) → ReadIsRefused text BadOutputSize
 

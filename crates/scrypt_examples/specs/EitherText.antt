@@ -20,7 +20,7 @@ IsMcfOf text fields = IsMcfText text mcf_id fields
 abbrev pub HasThese : List ℕ → Costs → Type 0
 HasThese text (Phc c) = (hash : PasswordHash) × IsHashText text hash × IsOfCosts hash (without_len c)
     × (c.output_len ≡ Some (stored_len hash.hash))
-HasThese text (Mcf c) = (salt : List ℕ) × (behind : List (List ℕ)) × HasCosts text c salt behind
+HasThese text (Mcf c) = (salt : List ℕ) × (after : List (List ℕ)) × HasCosts text c salt after
 
 -- the text is that of a hash that accepts the password
 pub data AcceptsEither (password text : List ℕ) : Type 0 where

@@ -58,9 +58,9 @@ pub(super) fn take_salt_and_key(left: Option<&str>) -> Option<(Option<Salt>, Opt
     let Some(text) = left else {
         return Some((None, None));
     };
-    let (part, behind) = first_part(text);
+    let (part, after) = first_part(text);
     let salt = decode(part)?;
-    let Some(letters) = behind else {
+    let Some(letters) = after else {
         return Some((Some(Salt { bytes: salt }), None));
     };
     // A `$` is not a letter of Base64, so a key is the last part.

@@ -2,7 +2,7 @@ use Rattle.std.proofs.Common.{◌≡◌, ◌+◌, ◌≤◌, ℕ, List, length}
 use Rattle.password_hash.specs.Crypt64.{Begins}
 use Rattle.password_hash.proofs.mcf.crypt64.decoded_len.Given as goal
 
--- so many bytes are behind, and there were at least as many letters
+-- so many bytes are after, and there were at least as many letters
 abbrev pub invariant-loop-group : goal.invariant-loop-group
 invariant-loop-group l = record {
   begins : (bytes : List ℕ) × Begins l.letters bytes l.rest × (length bytes ≡ l.len);

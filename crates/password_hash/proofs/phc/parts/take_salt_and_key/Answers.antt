@@ -3,30 +3,30 @@ use Rattle.std.specs.List.{slice_split}
 use Rattle.password_hash.specs.Parts.{parts_left}
 use Rattle.password_hash.proofs.PhcPartsFacts.{salt_and_key_next, salt_and_key_read}
 use Rattle.password_hash.proofs.phc.parts.take_salt_and_key.Goals as goal
-use Rattle.password_hash.proofs.phc.parts.take_salt_and_key.Goals.{In-Some-behind}
+use Rattle.password_hash.proofs.phc.parts.take_salt_and_key.Goals.{In-Some-after}
 
-front : (c : In-Some-behind) → parts_left c.args.left ≡ c.first_part.result.0.now ∷ slice_split (λ b. b == 36) c.in-Some-behind.letters.now
+front : (c : In-Some-after) → parts_left c.args.left ≡ c.first_part.result.0.now ∷ slice_split (λ b. b == 36) c.in-Some-after.letters.now
 front c =
-    ap parts_left c.in-Some.is ∙ c.first_part.ensures ∙ ap (λ left. c.first_part.result.0.now ∷ parts_left left) c.in-Some-behind.is
+    ap parts_left c.in-Some.is ∙ c.first_part.ensures ∙ ap (λ left. c.first_part.result.0.now ∷ parts_left left) c.in-Some-after.is
 
 pub returns-clause-found : goal.returns-clause-found
 returns-clause-found c =
-    let at = (goal.at.returns-clause-found c).In-Some-behind in
+    let at = (goal.at.returns-clause-found c).In-Some-after in
     let salt = c.in_ok-salt.ensures in
     let key = c.in_ok-key.ensures in
-    salt_and_key_read (parts_left c.args.left) c.first_part.result.0.now c.in-Some-behind.letters.now c.in_ok-salt.salt c.in_ok-key.key (front at) salt.letters salt.bytes key.letters key.bytes
+    salt_and_key_read (parts_left c.args.left) c.first_part.result.0.now c.in-Some-after.letters.now c.in_ok-salt.salt c.in_ok-key.key (front at) salt.letters salt.bytes key.letters key.bytes
 
 pub returns-in_err-key-clause-only : goal.returns-in_err-key-clause-only
 returns-in_err-key-clause-only c = λ salt key h.
-    let at = (goal.at.returns-in_err-key-clause-only c).In-Some-behind in
-    let next = salt_and_key_next c.first_part.result.0.now c.in-Some-behind.letters.now salt key (rw (front at) at h) in
+    let at = (goal.at.returns-in_err-key-clause-only c).In-Some-after in
+    let next = salt_and_key_next c.first_part.result.0.now c.in-Some-after.letters.now salt key (rw (front at) at h) in
     let read = c.in_err-key.ensures.only next.key_bytes next.key_allowed next.key_letters in
     cc
 
 pub returns-clause-only : goal.returns-clause-only
 returns-clause-only c = λ salt key h.
-    let at = (goal.at.returns-clause-only c).In-Some-behind in
-    let next = salt_and_key_next c.first_part.result.0.now c.in-Some-behind.letters.now salt key (rw (front at) at h) in
+    let at = (goal.at.returns-clause-only c).In-Some-after in
+    let next = salt_and_key_next c.first_part.result.0.now c.in-Some-after.letters.now salt key (rw (front at) at h) in
     let salt_read = c.in_ok-salt.ensures.only next.salt_bytes next.salt_allowed next.salt_letters in
     let key_read = c.in_ok-key.ensures.only next.key_bytes next.key_allowed next.key_letters in
     let is_salt = next.is_salt in

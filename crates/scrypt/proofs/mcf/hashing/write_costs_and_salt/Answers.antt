@@ -1,12 +1,12 @@
 use Rattle.std.proofs.Common.{◌+◌, ◌≡◌, ◌∙◌, ap, arith, length, drop, ◌++◌}
 use Rattle.std.proofs.lemmas.List.{length-take-le}
 use Rattle.password_hash.specs.Crypt64.{crypt64_of}
-use Rattle.scrypt.proofs.McfTextFacts.{put_behind_front}
+use Rattle.scrypt.proofs.McfTextFacts.{put_after_front}
 use Rattle.scrypt.proofs.mcf.hashing.write_costs_and_salt.Goals as goal
 
 pub returns-clause-written : goal.returns-clause-written
 returns-clause-written c =
     let letters = crypt64_of c.args.salt.now in
     let count : length c.copy_from_slice.new.self ≡ 14 = c.copy_from_slice.auto.self ∙ length-take-le 14 c.args.out.now (omega (arith, c.requires)) in
-    put_behind_front c.copy_from_slice.new.self c.args.out.now letters c.encode_slice.new.out count (omega (arith, c.requires)) c.in-Ok.ensures.written
+    put_after_front c.copy_from_slice.new.self c.args.out.now letters c.encode_slice.new.out count (omega (arith, c.requires)) c.in-Ok.ensures.written
     ∙ ap (λ front. front ++ (letters ++ drop (14 + length letters) c.args.out.now)) (c.copy_from_slice.ensures.after ∙ c.costs_of.ensures.value)

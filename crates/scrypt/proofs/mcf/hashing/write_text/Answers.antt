@@ -40,7 +40,7 @@ text_at c =
     let front = costs_text c.args.params.now in
     let letters = crypt64_of c.args.salt.now in
     put_to_the_end c.args.key_at text c.write_key.new.out (omega (arith, c.write_costs_and_salt.auto.out, c.requires.room))
-    ∙ ap₂ (λ before behind. before ++ behind)
+    ∙ ap₂ (λ before after. before ++ after)
     (ap (take c.args.key_at) c.write_costs_and_salt.ensures.written ∙ before_cut front letters _ c.args.key_at (count_text c.args.params.now) c.requires.key_at)
     c.write_key.ensures.written
     ∙ append_assoc front letters (dollar ∷ crypt64_of c.as_bytes.result.now)

@@ -27,7 +27,7 @@ costs_at c = record {
 -- whether there is another field
 
 another : (fields rest : Fields) (next : Option Field) → YieldsFirstBy field_text fields_left fields next rest → is_some next ≡ true
-    → (first : List ℕ) × (behind : List (List ℕ)) × (fields_left fields ≡ first ∷ behind)
+    → (first : List ℕ) × (after : List (List ℕ)) × (fields_left fields ≡ first ∷ after)
 another fields rest None steps some = absurd (false≢true some)
 another fields rest (Some field) steps some = (field_text field, fields_left rest, steps)
 

@@ -1,6 +1,6 @@
 use Rattle.std.proofs.Common.{◌<◌, ◌∙◌, ap, arith, ◌++◌, ◌∷◌, [], length, length-append, ◌+◌}
 use Rattle.password_hash.specs.Crypt64.{encoded_len}
-use Rattle.password_hash.proofs.Crypt64Facts.{letter_done, set-behind}
+use Rattle.password_hash.proofs.Crypt64Facts.{letter_done, set-after}
 use Rattle.password_hash.proofs.GroupFacts.{length-crypt64_of, letters-inside}
 use Rattle.password_hash.proofs.mcf.crypt64.Base64.encode_slice.Goals as goal
 use Rattle.password_hash.proofs.mcf.crypt64.Base64.encode_slice.Goals.{In-Some, then-out-n-via-then-out-n, then-out-n-via-else-out-n+then-out-n-2}
@@ -30,6 +30,6 @@ loop-letter-preserved c =
     let before = c.loop-letter.invariant in (
       before.0 ++ (c.in-Some.letter ∷ []),
       letter_done _ _ _ _ _ before.1 c.in-Some.ensures.steps,
-      rw before.2 (set-behind before.0 c.args.out.now c.loop-letter.len c.in-Some.letter before.3 (room c)),
+      rw before.2 (set-after before.0 c.args.out.now c.loop-letter.len c.in-Some.letter before.3 (room c)),
       length-append before.0 (c.in-Some.letter ∷ []) ∙ ap (λ n. n + 1) before.3,
     )

@@ -2,7 +2,7 @@ use Rattle.std.proofs.Common.{◌≡◌, ◌++◌, length, drop, ℕ, List}
 use Rattle.password_hash.specs.Crypt64.{letters_of, crypt64_of}
 use Rattle.password_hash.proofs.mcf.crypt64.Base64.encode_slice.Given as goal
 
--- the front holds the letters so far, and what is behind it is as it was
+-- the front holds the letters so far, and what is after it is as it was
 abbrev pub invariant-loop-letter : goal.invariant-loop-letter
 invariant-loop-letter l =
     let left = letters_of l.letter-iterator.pending l.letter-iterator.number ++ crypt64_of l.letter-iterator.bytes.now in
