@@ -126,7 +126,7 @@ fn ro_mixes_are_equal(rt: HostRuntime) -> Result<(), Fail> {
 }
 
 // What both ways make of the bytes 0, 1, 2, .., modulo 256, in buffers full of this word.
-fn both_ro_mixes(
+pub fn both_ro_mixes(
     alloc: Global,
     params: &Params,
     word: u32,
@@ -157,7 +157,7 @@ fn both_ro_mixes(
 }
 
 // Writes 0, 1, 2, .., modulo 256.
-fn count_up(bytes: &mut [u8]) {
+pub fn count_up(bytes: &mut [u8]) {
     let mut next = 0u8;
     for byte in bytes {
         *byte = next;

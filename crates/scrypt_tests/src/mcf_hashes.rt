@@ -5,9 +5,9 @@ use crate::vectors::{
     EMPTY_PASSWORD_HASH, EMPTY_PASSWORD_HASH_10, EMPTY_PASSWORD_HASH_64, LIBXCRYPT_HASH,
     LIBXCRYPT_HASH_10, LIBXCRYPT_SALT, LIBXCRYPT_SALT_LETTERS, PLAIN_SALT_HASH,
 };
-use hex::FromHex;
+use hex::{FromHex, decode};
 use password_hash::mcf::{self, Base64};
-use password_hash::{CustomizedPasswordHasher, Error, PasswordHasher, PasswordVerifier};
+use password_hash::{CustomizedPasswordHasher, Error, PasswordHasher, PasswordVerifier, Version};
 use scrypt::laws::made_hashes_are_accepted;
 use scrypt::mcf::{PasswordHash, PasswordHashRef};
 use scrypt::{Params, Scrypt};
@@ -208,55 +208,56 @@ fn made_hashes_of_the_empty_password(rt: HostRuntime) -> Result<(), Fail> {
     Ok(())
 }
 
+// The costs, the password, the salt in hexadecimal, the length of the key, the hash that is made, and the
+// reason for the row.
+type MadeHash = (
+    (u8, u32),
+    &'static [u8],
+    &'static str,
+    usize,
+    &'static str,
+    &'static str,
+);
+
+const MADE_HASHES: [MadeHash; 4] = [
+    (
+        (4, 1),
+        b"",
+        "",
+        64,
+        EMPTY_PASSWORD_HASH_64,
+        "the greatest length",
+    ),
+    ((4, 1), b"", "", 32, EMPTY_PASSWORD_HASH, "the usual length"),
+    (
+        (4, 1),
+        b"",
+        "",
+        10,
+        EMPTY_PASSWORD_HASH_10,
+        "the least length",
+    ),
+    (
+        (14, 32),
+        b"pleaseletmein",
+        LIBXCRYPT_SALT,
+        10,
+        LIBXCRYPT_HASH_10,
+        "a shorter key of libxcrypt's hash",
+    ),
+];
+
 #[test]
 fn made_hashes_by_length(rt: HostRuntime) -> Result<(), Fail> {
     let alloc = rt.alloc();
-    let salt = <[u8; 16]>::from_hex(LIBXCRYPT_SALT)?;
-    let long = b"pleaseletmein".as_slice();
-    for (log_n, r, password, salt, len, made, reason) in [
-        (
-            4,
-            1,
-            b"".as_slice(),
-            b"".as_slice(),
-            64,
-            EMPTY_PASSWORD_HASH_64,
-            "the greatest length",
-        ),
-        (
-            4,
-            1,
-            b"".as_slice(),
-            b"".as_slice(),
-            32,
-            EMPTY_PASSWORD_HASH,
-            "the usual length",
-        ),
-        (
-            4,
-            1,
-            b"".as_slice(),
-            b"".as_slice(),
-            10,
-            EMPTY_PASSWORD_HASH_10,
-            "the least length",
-        ),
-        (
-            14,
-            32,
-            long,
-            salt.as_slice(),
-            10,
-            LIBXCRYPT_HASH_10,
-            "a shorter key of libxcrypt's hash",
-        ),
-    ] {
+    for ((log_n, r), password, salt, len, wanted, reason) in MADE_HASHES {
+        let salt = decode(alloc, salt)?;
         let params = Params::new_with_output_len(log_n, r, 1, len)?;
-        let hash: PasswordHash = Scrypt::new().hash_password_with_params(
-            alloc, password, salt, params,
+        let made: PasswordHash = Scrypt::new().hash_password_with_params(
+            alloc, password, &salt, params,
         )?;
-        assert_eq!(rt; hash.as_str(), made, "{reason}");
-        assert_eq!(rt; verdict(alloc, made, password)?, Ok(()), "{reason}");
+        assert_eq!(rt; made.as_str(), wanted, "{reason}");
+        assert_eq!(rt; verdict(alloc, wanted, password)?, Ok(()), "{reason}");
     }
     Ok(())
 }
@@ -278,87 +279,95 @@ fn drawn_salts(rt: HostRuntime) -> Result<(), Fail> {
     Ok(())
 }
 
+// Names of the algorithm and its version, each with the error and its reason. The table would have 2^63
+// bytes, so accepted names are followed by a failed allocation.
+const REFUSALS_IN_ORDER: [(Option<&str>, Option<Version>, Error, &str); 6] = [
+    (
+        Some("scrypt"),
+        Some(0),
+        Error::Algorithm,
+        "the algorithm comes before the version",
+    ),
+    (Some(""), None, Error::Algorithm, "an empty identifier"),
+    (
+        Some("7"),
+        Some(0),
+        Error::Version,
+        "the version comes before memory",
+    ),
+    (None, Some(0), Error::Version, "no version is supported"),
+    (Some("7"), None, Error::OutOfMemory, "its own identifier"),
+    (None, None, Error::OutOfMemory, "no identifier"),
+];
+
 #[test]
 fn refusals_of_hashing_in_order(rt: HostRuntime) -> Result<(), Fail> {
-    let alloc = rt.alloc();
-    // Its table would have 2^63 bytes.
     let large = Params::new(56, 1, 1)?;
-    for (alg_id, version, refused, reason) in [
-        (
-            Some("scrypt"),
-            Some(0),
-            Error::Algorithm,
-            "the algorithm comes before the version",
-        ),
-        (Some(""), None, Error::Algorithm, "an empty identifier"),
-        (
-            Some("7"),
-            Some(0),
-            Error::Version,
-            "the version comes before memory",
-        ),
-        (None, Some(0), Error::Version, "no version is supported"),
-        (Some("7"), None, Error::OutOfMemory, "its own identifier"),
-        (None, None, Error::OutOfMemory, "no identifier"),
-    ] {
+    for (alg_id, version, refused, reason) in REFUSALS_IN_ORDER {
         let made: Result<PasswordHash, Error> = Scrypt::new().hash_password_customized(
-            alloc, b"", b"salt", alg_id, version, large,
+            rt.alloc(),
+            b"",
+            b"salt",
+            alg_id,
+            version,
+            large,
         );
         assert_eq!(rt; made, Err(refused), "{reason}");
     }
     Ok(())
 }
 
-// The costs are small and the salt is good, so nothing but the names can be refused.
+// Names of the algorithm and its version, each with the error and its reason. The costs are small and the
+// salt is good, so nothing but the names is refused.
+const REFUSED_NAMES: [(Option<&str>, Option<Version>, Error, &str); 5] = [
+    (
+        Some("argon2id"),
+        None,
+        Error::Algorithm,
+        "another algorithm",
+    ),
+    (
+        Some("scrypt"),
+        None,
+        Error::Algorithm,
+        "the identifier of PHC hashes",
+    ),
+    (
+        Some("7.a"),
+        None,
+        Error::Algorithm,
+        "the identifier and more",
+    ),
+    (
+        Some("7"),
+        Some(7),
+        Error::Version,
+        "no version is supported",
+    ),
+    (None, Some(0), Error::Version, "nor is version 0"),
+];
+
+// The hash of the empty password and salt by an algorithm and a version of these names.
+fn hash_by_name(
+    alloc: Global,
+    alg_id: Option<&str>,
+    version: Option<Version>,
+) -> Result<PasswordHash, Error> {
+    let Ok(params) = Params::new(4, 1, 1) else {
+        return Err(Error::ParamsInvalid);
+    };
+    Scrypt::new().hash_password_customized(alloc, b"", b"", alg_id, version, params)
+}
+
 #[test]
 fn names_of_the_algorithm(rt: HostRuntime) -> Result<(), Fail> {
     let alloc = rt.alloc();
-    for (alg_id, version, refused, reason) in [
-        (
-            Some("argon2id"),
-            None,
-            Error::Algorithm,
-            "another algorithm",
-        ),
-        (
-            Some("scrypt"),
-            None,
-            Error::Algorithm,
-            "the identifier of PHC hashes",
-        ),
-        (
-            Some("7.a"),
-            None,
-            Error::Algorithm,
-            "the identifier and more",
-        ),
-        (
-            Some("7"),
-            Some(7),
-            Error::Version,
-            "no version is supported",
-        ),
-        (None, Some(0), Error::Version, "nor is version 0"),
-    ] {
-        let made: Result<PasswordHash, Error> = Scrypt::new().hash_password_customized(
-            alloc,
-            b"",
-            b"",
-            alg_id,
-            version,
-            Params::new(4, 1, 1)?,
-        );
+    for (alg_id, version, refused, reason) in REFUSED_NAMES {
+        let made = hash_by_name(alloc, alg_id, version);
         assert_eq!(rt; made, Err(refused), "{reason}");
     }
     for alg_id in [Some("7"), None] {
-        let made: PasswordHash = Scrypt::new().hash_password_customized(
-            alloc,
-            b"",
-            b"",
-            alg_id,
-            None,
-            Params::new(4, 1, 1)?,
-        )?;
+        let made = hash_by_name(alloc, alg_id, None)?;
         assert_eq!(rt; made.as_str(), EMPTY_PASSWORD_HASH);
     }
     Ok(())

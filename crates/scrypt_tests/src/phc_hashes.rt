@@ -3,7 +3,7 @@
 use crate::texts::changed;
 use crate::vectors::{PASSLIB_HASH, RFC_KEY_3_HASH, RFC_KEY_3_SHORT_HASH};
 use password_hash::phc::ParamsString;
-use password_hash::{CustomizedPasswordHasher, Error, PasswordHasher, PasswordVerifier};
+use password_hash::{CustomizedPasswordHasher, Error, PasswordHasher, PasswordVerifier, Version};
 use scrypt::laws::made_hashes_are_accepted;
 use scrypt::phc::{ALG_ID, PasswordHash};
 use scrypt::{InvalidParams, Params, Scrypt};
@@ -145,77 +145,83 @@ fn made_hashes(rt: HostRuntime) -> Result<(), Fail> {
     Ok(())
 }
 
+// Names of the algorithm and its version, and the length of the salt, each with the error and its reason.
+const REFUSALS_IN_ORDER: [(Option<&str>, Option<Version>, usize, Error, &str); 5] = [
+    (
+        Some("argon2id"),
+        Some(0),
+        65,
+        Error::Algorithm,
+        "the algorithm comes before the version",
+    ),
+    (
+        Some("scrypt"),
+        Some(0),
+        65,
+        Error::Version,
+        "the version comes before the salt",
+    ),
+    (None, Some(0), 4, Error::Version, "no version is supported"),
+    (
+        Some("scrypt"),
+        None,
+        65,
+        Error::SaltInvalid,
+        "a salt has at most 64 bytes",
+    ),
+    (
+        None,
+        None,
+        0,
+        Error::SaltInvalid,
+        "a salt has at least one byte",
+    ),
+];
+
 #[test]
 fn refusals_of_hashing_in_order(rt: HostRuntime) -> Result<(), Fail> {
     let alloc = rt.alloc();
     let params = Params::new(4, 1, 1)?;
-    for (alg_id, version, salt_len, refused, reason) in [
-        (
-            Some("argon2id"),
-            Some(0),
-            65,
-            Error::Algorithm,
-            "the algorithm comes before the version",
-        ),
-        (
-            Some("scrypt"),
-            Some(0),
-            65,
-            Error::Version,
-            "the version comes before the salt",
-        ),
-        (None, Some(0), 4, Error::Version, "no version is supported"),
-        (
-            Some("scrypt"),
-            None,
-            65,
-            Error::SaltInvalid,
-            "a salt has at most 64 bytes",
-        ),
-        (
-            None,
-            None,
-            0,
-            Error::SaltInvalid,
-            "a salt has at least one byte",
-        ),
-    ] {
-        let salt = &[0u8; 65][..salt_len];
+    for (alg_id, version, salt_len, refused, reason) in REFUSALS_IN_ORDER {
+        let salt = vec![in alloc; 0u8; salt_len]?;
         let made: Result<PasswordHash, Error> = Scrypt::new().hash_password_customized(
-            alloc, b"", salt, alg_id, version, params,
+            alloc, b"", &salt, alg_id, version, params,
         );
         assert_eq!(rt; made, Err(refused), "{reason}");
     }
     Ok(())
 }
 
-// The costs are small and the salt is good, so nothing but the names can be refused.
+// Names of the algorithm and its version, each with the error and its reason. The costs are small and the
+// salt is good, so nothing but the names is refused.
+const REFUSED_NAMES: [(Option<&str>, Option<Version>, Error, &str); 4] = [
+    (
+        Some("argon2id"),
+        None,
+        Error::Algorithm,
+        "another algorithm",
+    ),
+    (
+        Some("7"),
+        None,
+        Error::Algorithm,
+        "the identifier of `$7$` hashes",
+    ),
+    (
+        Some("scrypt"),
+        Some(1),
+        Error::Version,
+        "no version is supported",
+    ),
+    (None, Some(0), Error::Version, "nor is version 0"),
+];
+
 #[test]
 fn names_of_the_algorithm(rt: HostRuntime) -> Result<(), Fail> {
     let alloc = rt.alloc();
     let params = Params::new(4, 1, 1)?;
     let hasher = Scrypt::new();
-    for (alg_id, version, refused, reason) in [
-        (
-            Some("argon2id"),
-            None,
-            Error::Algorithm,
-            "another algorithm",
-        ),
-        (
-            Some("7"),
-            None,
-            Error::Algorithm,
-            "the identifier of `$7$` hashes",
-        ),
-        (
-            Some("scrypt"),
-            Some(1),
-            Error::Version,
-            "no version is supported",
-        ),
-        (None, Some(0), Error::Version, "nor is version 0"),
-    ] {
+    for (alg_id, version, refused, reason) in REFUSED_NAMES {
         let made: Result<PasswordHash, Error> = hasher.hash_password_customized(
             alloc, b"", b"salt", alg_id, version, params,
         );

@@ -1,8 +1,9 @@
 // A smaller table: the same key, in less memory.
 
+use crate::lanes::{both_ro_mixes, count_up};
 use crate::vectors::{RFC_KEY_1, RFC_KEY_2};
 use hex::encode;
-use scrypt::romix::{scrypt_ro_mix, thin_ro_mix};
+use scrypt::romix::thin_ro_mix;
 use scrypt::{BufferLens, CoreCount, InvalidOutputLen, Params, scrypt_thin};
 use std::alloc::Global;
 use std::test::Fail;
@@ -26,7 +27,8 @@ fn thin_key(
     let mut chunks = vec![in alloc; fill; lens.chunks]?;
     let mut table = vec![in alloc; word; lens.table]?;
     let mut scratch = vec![in alloc; word; lens.scratch]?;
-    let mut output = [0u8; 64];
+    let mut key = [0u8; 64];
+    let mut cores = CoreCount::new();
     scrypt_thin(
         password,
         salt,
@@ -35,10 +37,10 @@ fn thin_key(
         &mut chunks,
         &mut table,
         &mut scratch,
-        &mut output,
-        &mut CoreCount::new(),
+        &mut key,
+        &mut cores,
     )?;
-    Ok(encode(alloc, output)?)
+    Ok(encode(alloc, key)?)
 }
 
 #[test]
@@ -104,33 +106,8 @@ fn a_refusal_changes_no_buffer(rt: HostRuntime) -> Result<(), Fail> {
     Ok(())
 }
 
-// Writes 0, 1, 2, .., modulo 256.
-fn count_up(bytes: &mut [u8]) {
-    let mut next = 0u8;
-    for byte in bytes {
-        *byte = next;
-        next = next.wrapping_add(1);
-    }
-}
-
-// The scryptROMix of the bytes 0, 1, 2, .. by the whole table.
-fn mixed(alloc: Global, params: &Params) -> Result<Vec<u8>, Fail> {
-    let lens = BufferLens::of(params);
-    let mut chunk = vec![in alloc; 0u8; 128 * params.r() as usize]?;
-    let mut table = vec![in alloc; 0u32; lens.table]?;
-    let mut scratch = vec![in alloc; 0u32; lens.scratch]?;
-    count_up(&mut chunk);
-    scrypt_ro_mix(
-        &mut chunk,
-        &mut table,
-        &mut scratch,
-        params.log_n(),
-        &mut CoreCount::new(),
-    );
-    Ok(chunk)
-}
-
-// The same by a table that keeps one row in 2^s, in buffers full of this word.
+// The scryptROMix of the bytes 0, 1, 2, .. by a table that keeps one row in 2^s, in buffers full of this
+// word.
 fn thinly_mixed(alloc: Global, params: &Params, s: u8, word: u32) -> Result<Vec<u8>, Fail> {
     let Some(lens) = BufferLens::thin(params, s) else {
         return Err("s is above log_n".into());
@@ -156,7 +133,7 @@ fn ro_mixes_by_every_table(rt: HostRuntime) -> Result<(), Fail> {
     for log_n in 0..=6 {
         for r in 1..=3 {
             let params = Params::new(log_n, r, 1)?;
-            let wanted = mixed(alloc, &params)?;
+            let (wanted, _) = both_ro_mixes(alloc, &params, 0)?;
             for s in 0..=log_n {
                 for fill in FILLS {
                     let word = u32::from_le_bytes([fill; 4]);
