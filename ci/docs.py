@@ -2,8 +2,12 @@
 """Compares the documents with the sources, and refuses what does not fit.
 
 Refused are: a name in docs/*.md or README.md that no source has; a clause of a public function that
-has no name; a public function that docs/PROMISES.md does not name; and a row of docs/PROOFS.md on a module
-of proofs that differs from the comment on that module in its crate's proofs/Lib.antt.
+has no name; a public function that docs/PROMISES.md does not name; a definition that a public clause cites
+and that docs/DEFINITIONS.md does not name beside its module; and a row of docs/PROOFS.md on a module of proofs
+that differs from the comment on that module in its crate's proofs/Lib.antt.
+
+A public clause is one of a public function or of a public trait, or a relation that an implementation of a
+trait gives. It cites what its file imports by `ghost use` from the specs of a crate.
 
 A name is what stands between backquotes and is a path (`mcf::Base64`, `Params::{log_n, n}`), a word
 with an underscore (`scrypt_ro_mix`), a call (`new()`), or a file of the repository; in the tables of
@@ -16,6 +20,7 @@ import sys
 
 DOCS = ["README.md", *sorted(glob.glob("docs/*.md"))]
 PROMISES = "docs/PROMISES.md"
+DEFINITIONS = "docs/DEFINITIONS.md"
 PROOFS = "docs/PROOFS.md"
 
 # Names of other programs and libraries, and words of texts and commands.
@@ -108,6 +113,49 @@ def unpromised(path, text, promised):
             yield f"{path}:{line}: PROMISES does not name the public function {name}"
 
 
+def declared_definitions(specs):
+    """The definitions that the specs of the crates declare, as pairs of a module and a name."""
+    found = set()
+    for path, text in specs.items():
+        module = re.search(r"(\w+)\.antt$", path).group(1)
+        names = re.findall(r"^(?:(?:abbrev|unfoldable) )?pub (?:(?:record|data) )?(\w+)", text, re.M)
+        found.update((module, name) for name in names if name not in ("mod", "use"))
+    return found
+
+
+def imports(text):
+    """What a source imports from specs: each word of it, with the module and the name that it stands for."""
+    found = {}
+    for module, names in re.findall(r"^ *ghost use Rattle\.\w+\.specs\.(\w+)\.\{([^}]*)\};", text, re.M):
+        for name, _, other in (it.strip().partition(" as ") for it in names.split(",")):
+            found[other or name] = (module, name)
+    return found
+
+
+def public_clauses(text):
+    """The texts of the public clauses of a source."""
+    heads = [head for _, _, head in public_functions(text)]
+    traits = re.findall(r"^pub trait (.*?)^\}", text, re.M | re.S)
+    relations = []
+    for trait, body in re.findall(r"^impl(?:<[^>]*>)? ([^\n{]*) for [^\n{]*\{(.*?)^\}", text, re.M | re.S):
+        if trait != "Model":
+            relations += re.findall(r"^    ghost (?!laws)\w+ = \{(.*?)\};", body, re.M | re.S)
+    clauses = [it.split("//")[0] for head in heads + traits for it in re.split(r"\b(?:ensures|requires|ghost)\b", head)[1:]]
+    return clauses + relations
+
+
+def undefined(code, specs, definitions):
+    """What a public clause cites and no line of docs/DEFINITIONS.md names together with its module."""
+    named = {(module, name) for line in definitions.splitlines() for name in re.findall(r"`(\w+)`", line)
+             for module in re.findall(r"\w+", re.sub(r"`[^`]*`", "", line))}
+    declared = declared_definitions(specs)
+    for path, text in code.items():
+        known = imports(text)
+        cited = {known[it] for clause in public_clauses(text) for it in re.findall(r"\w+", clause) if it in known}
+        for module, name in sorted((cited & declared) - named):
+            yield f"{path}: DEFINITIONS does not name the definition {name} of {module}"
+
+
 def rows_of(text):
     """Of each folder that docs/PROOFS.md has a table of, its modules and what they show."""
     rows = {}
@@ -151,8 +199,10 @@ def complaints(documents, code, names):
 def main():
     documents = {it: read(it) for it in DOCS}
     found = list(complaints(documents, {it: read(it) for it in own_sources()}, known_names()))
+    specs = {it: read(it) for it in glob.glob("crates/*/specs/*.antt")}
+    found += undefined({it: read(it) for it in own_sources()}, specs, documents[DEFINITIONS])
     found += other_modules(documents, {it: read(it) for it in glob.glob("crates/*/proofs/Lib.antt")})
-    print("\n".join(found) or "docs: every name stands in the sources, and every public function is promised")
+    print("\n".join(found) or "docs: every name is in the sources, every public function is promised, and what clauses cite is defined")
     sys.exit(1 if found else 0)
 
 

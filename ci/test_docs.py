@@ -35,6 +35,55 @@ MODULES = [
 ]
 
 
+SPECS = {"crates/a/specs/Key.antt": "pub record IsKey (k : ℕ) : Type 0 where\nabbrev pub key_of : ℕ → ℕ\nunfoldable pub other : ℕ\n"}
+CITING = """ghost use Rattle.a.specs.Key.{IsKey, key_of as short};
+ghost use Rattle.std.specs.List.{other};
+
+pub fn made(k: u8)
+    ensures key { IsKey k }
+{
+}
+
+fn helper(k: u8)
+    ensures { short k }
+{
+}
+"""
+IMPLEMENTED = """
+impl Kdf for Scrypt {
+    ghost derives = { λ k. short k };
+}
+"""
+DEFINED = "| key | `IsKey` (Key) |\n"
+
+# What is changed in the definitions or in the source that cites some; and the definition that has to be named, if any.
+DEFINITIONS = [
+    ("nothing is changed", DEFINED, CITING, None),
+    ("a definition without a row", "", CITING, "IsKey"),
+    ("a row that names another module", DEFINED.replace("(Key)", "(Hash)"), CITING, "IsKey"),
+    ("a row that names the module between backquotes alone", DEFINED.replace("(Key)", "`Key`"), CITING, "IsKey"),
+    ("a definition without a row that only private functions cite", "", CITING.replace("pub fn", "fn"), None),
+    ("another name for a definition in a public clause", DEFINED, CITING.replace("IsKey k", "short k"), "key_of"),
+    ("a condition of a public function", DEFINED, CITING.replace("    ensures key { IsKey", "    requires key { short"), "key_of"),
+    ("a clause of a public trait", DEFINED, CITING + "pub trait Kdf {\n    fn key(&self)\n        ensures ok { short k };\n}\n", "key_of"),
+    ("a relation of an implementation", DEFINED, CITING + IMPLEMENTED, "key_of"),
+    ("a model, whose invariant is no clause", DEFINED, CITING + IMPLEMENTED.replace("Kdf", "Model"), None),
+    ("a definition of a library", DEFINED, CITING.replace("IsKey k", "other"), None),
+    ("a variable that has the name of a definition", DEFINED, CITING.replace("IsKey k", "key_of"), None),
+]
+
+
+def definitions_failed():
+    """How many rows on definitions aren't as they should be."""
+    failed = 0
+    for reason, defined, source, wanted in DEFINITIONS:
+        found = list(docs.undefined({"src/lib.rt": source}, SPECS, defined))
+        if [wanted] * (wanted is not None) != [it.split()[-3] for it in found]:
+            print(f"docs.py, {reason}: said {found}")
+            failed += 1
+    return failed
+
+
 def modules_failed():
     """How many rows on the tables of modules aren't as they should be."""
     failed = 0
@@ -56,8 +105,8 @@ def main():
         if not right:
             print(f"docs.py, {reason}: said {found}")
             failed += 1
-    failed += modules_failed()
-    cases = len(ROWS) + len(MODULES)
+    failed += definitions_failed() + modules_failed()
+    cases = len(ROWS) + len(DEFINITIONS) + len(MODULES)
     print(f"docs.py: {cases - failed} of {cases} cases as they should be")
     sys.exit(1 if failed else 0)
 
