@@ -27,7 +27,7 @@ PROOFS = "docs/PROOFS.md"
 OTHERS = set("""
 crypto_scrypt crypt_r libscrypt_scrypt crypto_pwhash_scryptsalsa208sha256 pbkdf2_hmac scrypt_kdf_mapped
 needs_update must_use new_unwrap crypto_pwhash_scryptsalsa208sha256_str rand_core getrandom password_hash_rs check_password generate_password_hash std core alloc
-thread_rng gensalt_rn crypt_gensalt_rn password_verify EVP_PBE_scrypt fmt io env slice option result string str vec
+thread_rng salt_length maxmem_bytes gensalt_rn crypt_gensalt_rn password_verify EVP_PBE_scrypt fmt io env slice option result string str vec
 """.split())
 
 
