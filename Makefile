@@ -7,7 +7,8 @@
 #   make refused-by-tests tries wrong bodies that no clause can refuse, and that the tests have to (minutes for each)
 #   make refusals lists the wrong bodies that are refused for no false goal (some 20 seconds for each)
 #   make oracle compares the program with independent implementations on random input, and with a
-#               reader in plain Python on hostile hashes, and refuses each of its allocations
+#               reader in plain Python on hostile hashes, refuses each of its allocations, and tries
+#               docs/MIGRATION.md; WORKER=PATH is a program that calls the Rust crate
 #   make lib    builds the libraries for C into build/lib, and make install PREFIX=.. puts them in place
 #   make callers calls them from each language of bindings/ that is installed here, and from programs that
 #               know the names of libsodium and libscrypt-kdf
@@ -44,6 +45,7 @@ oracle: kit
 	cd crates/scrypt_tool && rt run -- key 0 1 1 1 "" > /dev/null < /dev/null
 	python3 ci/oracle.py crates/scrypt_tool/out/scrypt_tool
 	python3 ci/allocations.py crates/scrypt_tool/out/scrypt_tool
+	python3 ci/migration.py crates/scrypt_tool/out/scrypt_tool $(if $(WORKER),--worker $(WORKER))
 	cd crates/verdicts && rt run < stdin > /dev/null
 	python3 ci/hostile.py crates/verdicts/out/verdicts
 	python3 ci/thin_cost.py
