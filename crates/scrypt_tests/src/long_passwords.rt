@@ -49,10 +49,18 @@ fn long_passwords(rt: HostRuntime) -> Result<(), Fail> {
         let password = password.as_bytes();
         let made: phc::PasswordHash = hasher.hash_password_with_salt(alloc, password, b"NaCl")?;
         assert_eq!(rt; made.to_string(alloc)?.as_str(), phc_text, "{reason}");
-        assert_eq!(rt; hasher.verify_password(alloc, password, &made), Ok(()), "{reason}");
+        assert_eq!(rt;
+            hasher.verify_password(alloc, password, &made),
+            Ok(()),
+            "{reason}"
+        );
         let made: mcf::PasswordHash = hasher.hash_password_with_salt(alloc, password, b"NaCl")?;
         assert_eq!(rt; made.as_str(), mcf_text, "{reason}");
-        assert_eq!(rt; hasher.verify_password(alloc, password, &made), Ok(()), "{reason}");
+        assert_eq!(rt;
+            hasher.verify_password(alloc, password, &made),
+            Ok(()),
+            "{reason}"
+        );
     }
     Ok(())
 }

@@ -5,4 +5,4 @@ pub unwrap-requires : goal.unwrap-requires
 unwrap-requires c = readable_answers _ _ c.requires c.needs_rehash.ensures.err
 
 pub returns : goal.returns
-returns c = record { value = rw c.unwrap.ensures at c.needs_rehash.ensures.ok; }
+returns c = record { value = rw c.unwrap.ensures at c.needs_rehash.ensures.ok }
