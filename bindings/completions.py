@@ -80,7 +80,7 @@ def written(prefix):
     return paths
 
 
-# what stands before the cursor, and the words that are offered
+# what is before the cursor, and the words that are offered
 LINES = [
     ("scrypt_tool ", {"hash", "key", "rehash", "verify"}),
     ("scrypt_tool ha", {"hash"}),

@@ -11,7 +11,7 @@ CC=${CC:-cc}
 (cd crates/scrypt_c && rt lib)
 rm -rf "$out"
 mkdir -p "$parts"
-# The kit's few lines that call malloc and free stand in an archive of their own.
+# The kit's few lines that call malloc and free are in an archive of their own.
 for archive in "$PWD/crates/scrypt_c/out/libscrypt_c.a" "$kit/c/liblibc_c.a"; do
   part=$parts/$(basename "$archive" .a)
   mkdir "$part"

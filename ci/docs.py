@@ -9,7 +9,7 @@ that differs from the comment on that module in its crate's proofs/Lib.antt.
 A public clause is one of a public function or of a public trait, or a relation that an implementation of a
 trait gives. It cites what its file imports by `ghost use` from the specs of a crate.
 
-A name is what stands between backquotes and is a path (`mcf::Base64`, `Params::{log_n, n}`), a word
+A name is what is between backquotes and is a path (`mcf::Base64`, `Params::{log_n, n}`), a word
 with an underscore (`scrypt_ro_mix`), a call (`new()`), or a file of the repository; in the tables of
 PROMISES it is every word between backquotes. What belongs to others is listed below.
 """
@@ -69,7 +69,7 @@ def words_of(name):
 
 
 def unknown_names(path, text, names, everything):
-    """What is named in a document and stands nowhere; in a table of promises every word is a name."""
+    """What is named in a document and is nowhere; in a table of promises every word is a name."""
     for number, line in enumerate(text.splitlines(), 1):
         strict = path == PROMISES and line.startswith("|")
         for name in re.findall(r"`([^`]+)`", line):

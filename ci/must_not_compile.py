@@ -35,7 +35,7 @@ def edited(crate, edit):
                 with open(path, encoding="utf-8") as file:
                     text = file.read()
                 if text.count(old) != 1:
-                    sys.exit(f"{edit}: the old text doesn't stand there once: {old}")
+                    sys.exit(f"{edit}: the old text doesn't occur there once: {old}")
                 before.setdefault(path, text)
                 with open(path, "w", encoding="utf-8") as file:
                     file.write(text.replace(old, rest))

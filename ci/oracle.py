@@ -28,7 +28,7 @@ MUTATIONS = "crates/scrypt_tests/src/phc_mutations.rt"
 # where the letters that this repository writes are pinned
 LETTERS = "crates/scrypt_tests/src/mcf_base64.rt"
 
-# where the `$7$` hashes of the tests stand
+# where the `$7$` hashes of the tests are
 HASHES = "crates/scrypt_tests/src/vectors.rt"
 
 
@@ -231,7 +231,7 @@ def rehashes(program, rng):
 
 
 def rehashes_passlib(program, rng):
-    """passlib tells the same hashes to be weaker, and makes the same new ones.
+    """passlib finds the same hashes weaker, and makes the same new ones.
 
     The two agree on log_n, and on keys of 32 bytes, the only ones that passlib has. An r or p that isn't the wanted
     one is enough for passlib, and here it has to be below. So where none of the three is below, and r or p is above,

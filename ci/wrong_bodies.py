@@ -1,8 +1,8 @@
 #!/usr/bin/env python3
 """Tries the wrong bodies of crates/NAME/wrong-bodies/, which the prover has to refuse.
 
-They have the form of the edits in must-fail/, and stand beside the most telling ones, which the gate
-tries. On a copy of the repository they take the place of those, and `rt must-fail` tries them.
+They have the form of the edits in must-fail/, the most telling ones, which the gate tries. On a copy
+of the repository they take the place of those, and `rt must-fail` tries them.
 
 usage: wrong_bodies.py [NAME..]    the crates, or all that have such a folder
 """

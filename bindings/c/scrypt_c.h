@@ -18,7 +18,7 @@ extern "C" {
 #endif
 
 /* What the calls answer. A call that answers anything but SCRYPT_DONE leaves its outputs unchanged,
- * but for the length that SCRYPT_BUFFER_SIZE tells. */
+ * but for the length that SCRYPT_BUFFER_SIZE writes. */
 enum scrypt_status {
   SCRYPT_DONE = 0,               /* done, or yes */
   SCRYPT_NO = 1,                 /* another password, or weaker than wanted */

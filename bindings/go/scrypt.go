@@ -104,7 +104,7 @@ func made(password, salt []byte, params Params, mcf bool) (string, error) {
 	return string(text[:length]), nil
 }
 
-// Verify tells whether the password is that of the hash, in either format. A hash without salt or key has none.
+// Verify reports whether the password is that of the hash, in either format. A hash without salt or key has none.
 // The errors are those from ErrOutOfMemory on, but for ErrSaltInvalid.
 func Verify(password []byte, text string) (bool, error) {
 	raw := []byte(text)
@@ -115,7 +115,7 @@ func Verify(password []byte, text string) (bool, error) {
 	return status == C.SCRYPT_DONE, nil
 }
 
-// NeedsRehash tells whether the hash is weaker than one that would be made with these parameters.
+// NeedsRehash reports whether the hash is weaker than one that would be made with these parameters.
 // The errors are ErrInvalidParams and those of Verify but ErrOutOfMemory.
 func NeedsRehash(text string, wanted Params) (bool, error) {
 	raw := []byte(text)

@@ -101,8 +101,8 @@ pub extern "C" fn scrypt_hash_mcf(
     }
 }
 
-/// Verifies the password by the text of a hash, with the costs, the salt and the key's length that stand
-/// in the text. All bytes of the two keys are compared.
+/// Verifies the password by the text of a hash, with the costs, the salt and the key's length in the
+/// text. All bytes of the two keys are compared.
 ///
 /// `DONE` where the password is that of the hash, and `NO` where it is not, as where the hash has no salt
 /// or no key. A text that is `$7` or begins with `$7$` is read as a `$7$` text, and any other as a PHC

@@ -33,7 +33,7 @@ pub const OUTPUT_SIZE: i32 = 7;
 /// The value of a parameter in the text is not an allowed one.
 pub const PARAM_INVALID: i32 = 8;
 
-/// The parameters in the text are not allowed ones together, or another one stands there.
+/// The parameters in the text are not allowed ones together, or there is another one.
 pub const PARAMS_INVALID: i32 = 9;
 
 /// The length of the salt is not an allowed one.

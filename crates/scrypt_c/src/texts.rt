@@ -41,7 +41,7 @@ fn is_mcf_text(text: &[u8]) -> bool
     matches!(text, [b'$', b'7'] | [b'$', b'7', b'$', ..])
 }
 
-/// Puts a made text at the front of the caller's, where there is room for it, and tells its length.
+/// Puts a made text at the front of the caller's, if there is room for it, and writes its length.
 pub fn put(made: &str, text: &mut [u8], text_len: &mut usize) -> i32
     ensures done { (result ≡ DONE) ↔ (length made.now ≤ length text.old) }
     ensures status { (result ≡ DONE) ⊎ (result ≡ BUFFER_SIZE) }
