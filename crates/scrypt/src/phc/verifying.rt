@@ -26,7 +26,7 @@ impl PasswordVerifier<PasswordHash> for Scrypt {
     fn verify_password(&self, alloc: Global, password: &[u8], hash: &PasswordHash) -> Result<()> {
         let stored = match read(hash) {
             Ok(stored) => stored,
-            Err(refused) => return Err(refused),
+            Err(malformed) => return Err(malformed),
         };
         let len = stored.key.len();
         let key = match short_key(alloc, password, stored.salt, &stored.params, len) {
