@@ -23,13 +23,13 @@ import reference
 CASES = 200
 
 # where the verdicts of this repository on mutations of PHC texts are pinned
-MUTATIONS = "crates/scrypt_tests/src/phc_mutations.rt"
+MUTATIONS = "crates/hash_tests/src/phc_mutations.rt"
 
 # where the letters that this repository writes are pinned
-LETTERS = "crates/scrypt_tests/src/mcf_base64.rt"
+LETTERS = "crates/hash_tests/src/mcf_base64.rt"
 
 # where the `$7$` hashes of the tests are
-HASHES = "crates/scrypt_tests/src/vectors.rt"
+HASHES = "crates/test_data/src/vectors.rt"
 
 
 def run(program, words, password):

@@ -1,13 +1,13 @@
 // The keys of RFC 7914, section 12, and what follows from them.
 
-use crate::vectors::{
-    DIGEST_OF_65, LONG_PASSWORD_KEY, RFC_KEY_1, RFC_KEY_2, RFC_KEY_3, SHORT_PASSWORD_KEY,
-};
 use hex::{FromHex, encode};
 use scrypt::laws::{shorter_key_is_prefix, zero_byte_and_digest_passwords_collide};
 use scrypt::{DeriveError, Params, output_len_ok, scrypt};
 use std::alloc::Global;
 use std::test::Fail;
+use test_data::vectors::{
+    DIGEST_OF_65, LONG_PASSWORD_KEY, RFC_KEY_1, RFC_KEY_2, RFC_KEY_3, SHORT_PASSWORD_KEY,
+};
 
 // The key of 64 bytes, in hexadecimal.
 fn key_of(
@@ -77,7 +77,7 @@ fn passwords_that_share_a_key(rt: HostRuntime) -> Result<(), Fail> {
 #[test]
 fn output_lengths_at_their_edges(rt: HostRuntime) {
     for (len, allowed, reason) in [
-        (0, false, "there is no empty key"),
+        (0, false, "an empty key is refused"),
         (1, true, "the shortest key"),
         (137_438_953_440, true, "the last block has number 2^32 - 1"),
         (137_438_953_441, false, "one byte of block 2^32"),

@@ -1,10 +1,10 @@
 // Keys by the trait `Kdf`.
 
-use crate::vectors::RFC_KEY_1;
 use hex::encode;
 use scrypt::{InvalidOutputLen, Kdf, Params, Pbkdf, Scrypt, kdf};
 use std::alloc::Global;
 use std::test::Fail;
+use test_data::vectors::RFC_KEY_1;
 
 // A key by any function made for passwords.
 fn key_by<K: Pbkdf>(alloc: Global, function: &K, out: &mut [u8]) -> kdf::Result<()> {

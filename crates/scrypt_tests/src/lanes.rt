@@ -1,7 +1,6 @@
 // The lanes: the diagonal order, the core and scryptBlockMix in it, and scryptROMix over them.
 
 use crate::primitives::words_of;
-use crate::vectors::{CORE_INPUT, CORE_OUTPUT};
 use scrypt::block_mix::lanes::{core, scrypt_block_mix, shuffle_in, shuffle_out};
 use scrypt::block_mix::pivot::{INVERSE_PIVOT_ABCD, PIVOT_ABCD, pivots_are_inverse};
 use scrypt::block_mix::plain;
@@ -9,6 +8,7 @@ use scrypt::romix::{integerify_diagonal, plain_ro_mix, scrypt_ro_mix};
 use scrypt::{BufferLens, CoreCount, Params};
 use std::alloc::{AllocError, Global};
 use std::test::Fail;
+use test_data::vectors::{CORE_INPUT, CORE_OUTPUT};
 
 #[test]
 fn shuffles_of_the_places(rt: HostRuntime) {

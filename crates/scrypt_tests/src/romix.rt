@@ -1,12 +1,12 @@
 // scryptBlockMix, scryptROMix and Integerify over words in standard order.
 
 use crate::primitives::words_of;
-use crate::vectors::{CORE_INPUT, CORE_OUTPUT, RO_MIX_INPUT, RO_MIX_OUTPUT};
 use hex::FromHex;
 use scrypt::CoreCount;
 use scrypt::block_mix::plain;
 use scrypt::romix::{integerify_plain, plain_ro_mix, scrypt_ro_mix};
 use std::test::Fail;
+use test_data::vectors::{CORE_INPUT, CORE_OUTPUT, RO_MIX_INPUT, RO_MIX_OUTPUT};
 
 #[test]
 fn block_mix_begins_with_the_core(rt: HostRuntime) -> Result<(), Fail> {

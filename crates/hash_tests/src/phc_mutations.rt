@@ -1,12 +1,12 @@
 // Every text that is one character away from a good PHC text, read here and by plain Python.
 
-use crate::vectors::PASSLIB_HASH;
 use hex::encode;
 use scrypt::phc::PasswordHash;
 use sha2::{Digest, Sha256};
 use std::alloc::Global;
 use std::str;
 use std::test::Fail;
+use test_data::vectors::PASSLIB_HASH;
 
 const TEXTS: [&str; 5] = [
     PASSLIB_HASH,

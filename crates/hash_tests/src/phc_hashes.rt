@@ -1,7 +1,5 @@
 // PHC hashes: made, printed, read and verified.
 
-use crate::texts::changed;
-use crate::vectors::{PASSLIB_HASH, RFC_KEY_3_HASH, RFC_KEY_3_SHORT_HASH};
 use password_hash::phc::ParamsString;
 use password_hash::{CustomizedPasswordHasher, Error, PasswordHasher, PasswordVerifier, Version};
 use scrypt::laws::made_hashes_are_accepted;
@@ -9,6 +7,8 @@ use scrypt::phc::{ALG_ID, PasswordHash};
 use scrypt::{InvalidParams, Params, Scrypt};
 use std::alloc::{AllocError, Global};
 use std::test::Fail;
+use test_data::texts::changed;
+use test_data::vectors::{PASSLIB_HASH, RFC_KEY_3_HASH, RFC_KEY_3_SHORT_HASH};
 
 // The verdict on this password.
 fn verdict(alloc: Global, text: &str, password: &[u8]) -> Result<(), Error> {

@@ -1,7 +1,5 @@
 // Beginnings of hashes, hashes with one character replaced, and very long texts.
 
-use crate::texts::followed_by;
-use crate::vectors::{EMPTY_PASSWORD_HASH, PASSLIB_HASH};
 use password_hash::mcf::alphabet::value;
 use password_hash::{Error, PasswordVerifier, mcf, phc};
 use scrypt::Scrypt;
@@ -9,6 +7,8 @@ use scrypt::laws::{texts_have_one_reading, verdicts_are_one};
 use std::alloc::Global;
 use std::str;
 use std::test::Fail;
+use test_data::texts::followed_by;
+use test_data::vectors::{EMPTY_PASSWORD_HASH, PASSLIB_HASH};
 
 // Where the key begins in the hash of the empty password.
 const KEY_AT: usize = 15;

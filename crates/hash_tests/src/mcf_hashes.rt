@@ -1,10 +1,5 @@
 // `$7$` hashes: made, read and verified.
 
-use crate::texts::changed;
-use crate::vectors::{
-    EMPTY_PASSWORD_HASH, EMPTY_PASSWORD_HASH_10, EMPTY_PASSWORD_HASH_64, LIBXCRYPT_HASH,
-    LIBXCRYPT_HASH_10, LIBXCRYPT_SALT, LIBXCRYPT_SALT_LETTERS, PLAIN_SALT_HASH,
-};
 use hex::{FromHex, decode};
 use password_hash::mcf::{self, Base64};
 use password_hash::{CustomizedPasswordHasher, Error, PasswordHasher, PasswordVerifier, Version};
@@ -13,6 +8,12 @@ use scrypt::mcf::{PasswordHash, PasswordHashRef};
 use scrypt::{Params, Scrypt};
 use std::alloc::Global;
 use std::test::Fail;
+use test_data::mcf_texts::{CHANGES, SHORT_TEXTS};
+use test_data::texts::changed;
+use test_data::vectors::{
+    EMPTY_PASSWORD_HASH, EMPTY_PASSWORD_HASH_10, EMPTY_PASSWORD_HASH_64, LIBXCRYPT_HASH,
+    LIBXCRYPT_HASH_10, LIBXCRYPT_SALT, LIBXCRYPT_SALT_LETTERS, PLAIN_SALT_HASH,
+};
 
 // The verdict on this password, by the borrowed text and by the owned one alike.
 pub fn verdict(alloc: Global, text: &str, password: &[u8]) -> Result<Result<(), Error>, Fail> {
@@ -39,49 +40,6 @@ fn hash_from_libxcrypt(rt: HostRuntime) -> Result<(), Fail> {
     Ok(())
 }
 
-// Changes of that hash, each with its reason and the verdict on `pleaseletmein`.
-pub const CHANGES: [(&str, &str, &str, Result<(), Error>); 9] = [
-    ("rw7", "rwD", "another key", Err(Error::PasswordInvalid)),
-    (
-        "rw7",
-        "rwE",
-        "spare bits of the key are set",
-        Err(Error::EncodingInvalid),
-    ),
-    (KEY_LETTERS, "", "the key is empty", Err(Error::OutputSize)),
-    (
-        "rw7",
-        "rw7$",
-        "a field after the key",
-        Err(Error::EncodingInvalid),
-    ),
-    (
-        KEY_FIELD,
-        "",
-        "no field for the key",
-        Err(Error::EncodingInvalid),
-    ),
-    ("$7$", "$8$", "another identifier", Err(Error::Algorithm)),
-    (
-        "$CU",
-        "$*U",
-        "log_n is outside the alphabet",
-        Err(Error::ParamsInvalid),
-    ),
-    ("CU", "t/", "log_n is 57", Err(Error::ParamsInvalid)),
-    (
-        LIBXCRYPT_SALT_LETTERS,
-        "",
-        "another salt",
-        Err(Error::PasswordInvalid),
-    ),
-];
-
-// The letters of the key, and its whole field.
-const KEY_LETTERS: &str = "JyHIxez0DOwm0r6.kAIohc8UFBOLU4xX8a1wGBpLrw7";
-
-const KEY_FIELD: &str = "$JyHIxez0DOwm0r6.kAIohc8UFBOLU4xX8a1wGBpLrw7";
-
 #[test]
 fn changes_of_a_hash(rt: HostRuntime) -> Result<(), Fail> {
     let alloc = rt.alloc();
@@ -100,54 +58,6 @@ fn changes_of_a_hash(rt: HostRuntime) -> Result<(), Fail> {
 const CHANGES_OF_THE_EMPTY_PASSWORD: [(&str, &str, &str, Result<(), Error>); 2] = [
     ("$2", "$2", "the hash itself", Ok(())),
     ("sI62", "sI62z", "a key of 33 bytes", Ok(())),
-];
-
-// Texts with a short key, each with its reason and the verdict on the empty password.
-pub const SHORT_TEXTS: [(&str, &str, Result<(), Error>); 12] = [
-    ("$7$2/..../....$r/", "a key of one byte", Ok(())),
-    (
-        "$7$2/..../....$s/",
-        "another key of one byte",
-        Err(Error::PasswordInvalid),
-    ),
-    ("$7", "no field", Err(Error::EncodingInvalid)),
-    ("$7$", "one empty field", Err(Error::EncodingInvalid)),
-    ("$7$$r/", "no costs", Err(Error::EncodingInvalid)),
-    (
-        "$7$\u{e9}/..../....$r/",
-        "log_n is not ASCII",
-        Err(Error::EncodingInvalid),
-    ),
-    (
-        "$7$*/..../....$r/",
-        "log_n is outside the alphabet",
-        Err(Error::ParamsInvalid),
-    ),
-    (
-        "$7$*/...$r/",
-        "r has four letters",
-        Err(Error::EncodingInvalid),
-    ),
-    (
-        "$7$t/..../....$r/",
-        "log_n is 57",
-        Err(Error::ParamsInvalid),
-    ),
-    (
-        "$7$t/..../....$$",
-        "the costs come before the key",
-        Err(Error::ParamsInvalid),
-    ),
-    (
-        "$7$2/..../....$$",
-        "the fields come before the key's length",
-        Err(Error::EncodingInvalid),
-    ),
-    (
-        "$7$s/..../....$r/",
-        "the table would have 2^63 bytes",
-        Err(Error::OutOfMemory),
-    ),
 ];
 
 #[test]

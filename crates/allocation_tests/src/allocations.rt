@@ -1,14 +1,14 @@
 // Each allocation of a call fails in turn, and the exact number of them is asserted.
 
-use crate::mcf_hashes;
-use crate::texts::{changed, followed_by};
-use crate::vectors::{EMPTY_PASSWORD_HASH, LIBXCRYPT_HASH};
 use failing_allocations::{CallEnd, failing_allocations};
 use password_hash::mcf::{self, Base64};
 use password_hash::{Error, PasswordHasher, PasswordVerifier, phc};
 use scrypt::{CoreCount, DeriveError, Kdf, Params, Scrypt, kdf, scrypt, scrypt_counted};
 use std::alloc::Global;
 use std::test::Fail;
+use test_data::mcf_texts::{CHANGES, SHORT_TEXTS};
+use test_data::texts::{changed, followed_by};
+use test_data::vectors::{EMPTY_PASSWORD_HASH, LIBXCRYPT_HASH};
 
 // The chunks, the table and the scratch at (4, 1, 1), in bytes.
 const BUFFERS: [usize; 3] = [128, 2048, 256];
@@ -226,13 +226,13 @@ fn needs_no_memory(alloc: Global, text: &str, wanted: Result<(), Error>) -> Resu
 #[test]
 fn refusals_without_memory(rt: HostRuntime) -> Result<(), Fail> {
     let alloc = rt.alloc();
-    for (old, new, reason, answer) in mcf_hashes::CHANGES {
+    for (old, new, reason, answer) in CHANGES {
         if is_refused_before_memory(answer) {
             let text = changed(alloc, LIBXCRYPT_HASH, old, new)?;
             assert!(rt; needs_no_memory(alloc, text.as_str(), answer)?, "{reason}");
         }
     }
-    for (text, reason, answer) in mcf_hashes::SHORT_TEXTS {
+    for (text, reason, answer) in SHORT_TEXTS {
         if is_refused_before_memory(answer) {
             assert!(rt; needs_no_memory(alloc, text, answer)?, "{reason}");
         }

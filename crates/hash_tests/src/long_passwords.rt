@@ -1,9 +1,9 @@
 // Passwords around the block of SHA-256, and far beyond it: no length is out of memory.
 
-use crate::texts::followed_by;
 use password_hash::{PasswordHasher, PasswordVerifier};
 use scrypt::{Params, Scrypt, mcf, phc};
 use std::test::Fail;
+use test_data::texts::followed_by;
 
 // How many times `a` the password is, its PHC text and its `$7$` text for the salt `NaCl`, by Python's
 // hashlib, and the reason for the row.
