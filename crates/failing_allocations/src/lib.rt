@@ -1,6 +1,8 @@
 //! For tests: calls whose allocations fail in turn.
 #![tactic(auto)]
 
+ghost use Rattle.std.specs.Prelude.{◌≤◌, IfOk, length};
+
 use std::alloc::{AllocError, Global};
 use std::test::Fail;
 
@@ -50,7 +52,8 @@ pub fn failing_allocations<F: Fn() -> CallEnd>(
     sizes: &[usize],
     call: F,
 ) -> Result<usize, Fail>
-    requires { F.IsAlwaysCallable call }
+    requires callable { F.IsAlwaysCallable call }
+    ensures bound { IfOk result (λ n. n ≤ length sizes.now) }
 {
     for allowed in 0..=sizes.len() {
         let mut room = take_each(alloc, sizes)?;
