@@ -15,7 +15,7 @@ use Rattle.scrypt_c.specs.Statuses.{verdict_status}
 use Rattle.scrypt_c.specs.Texts.{IsText, IsTextOf, IsWholeText, Verdict, VerifyTells, by_verdict, for_memory, mcf, of_hash, of_no_hash, phc}
 
 -- the text of a hash of which something is so is that of a hash
-is_text : {OfMcf : List ℕ → Type 0} {OfPhc : PasswordHash → Type 0} {text : List ℕ} → IsTextOf OfMcf OfPhc text → IsText text
+pub is_text : {OfMcf : List ℕ → Type 0} {OfPhc : PasswordHash → Type 0} {text : List ℕ} → IsTextOf OfMcf OfPhc text → IsText text
 is_text (mcf ascii seven modular of) = mcf ascii seven modular tt
 is_text (phc ascii seven is of) = phc ascii seven is tt
 

@@ -1,6 +1,6 @@
 //! Hashes: making their texts, and verifying passwords by them.
 
-ghost use Rattle.std.specs.Prelude.{◌≡◌, ◌≢◌, ◌⊎◌, ◌↔◌, Option, pos, length};
+ghost use Rattle.std.specs.Prelude.{◌≡◌, ◌≢◌, ◌⊎◌, ◌↔◌, Option, ℤ, pos, length};
 ghost use Rattle.password_hash.specs.Refusal.{Refusal};
 ghost use Rattle.scrypt.specs.Accepted.{AreAccepted, IsStoredLen};
 ghost use Rattle.scrypt.specs.PhcHash.{IsSaltLen};
@@ -130,10 +130,11 @@ pub extern "C" fn scrypt_verify(alloc: Global, password: &[u8], text: &[u8]) -> 
 /// `INVALID_PARAMS` unless `log_n`, `r` and `p` are accepted and the key has 10 to 64 bytes, or what
 /// `scrypt_verify` refuses before it asks for memory, in the same order. Nothing is allocated.
 #[unsafe(no_mangle)]
-#[tactic(auto, using(crate::proofs::TextFacts::no_hash_rehash, crate::proofs::TextFacts::mcf_rehash, crate::proofs::TextFacts::phc_rehash))]
 pub extern "C" fn scrypt_needs_rehash(text: &[u8], log_n: u8, r: u32, p: u32, key_len: usize) -> i32
     ensures params { (result ≡ INVALID_PARAMS) ↔ (¬ (AreAccepted log_n r p × IsStoredLen key_len)) }
     ensures told { result ≢ INVALID_PARAMS → RehashTells (wanted log_n r p key_len) text.now result }
+    ensures exact { result ≢ INVALID_PARAMS → (status : ℤ) → RehashTells (wanted log_n r p key_len) text.now status
+        → result ≡ status }
 {
     let Ok(params) = Params::new_with_output_len(log_n, r, p, key_len) else {
         return INVALID_PARAMS;
