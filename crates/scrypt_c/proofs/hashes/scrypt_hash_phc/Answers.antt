@@ -1,0 +1,9 @@
+use Rattle.std.proofs.Common.{◌∙◌, ◌++◌, ap, drop, sym, rules}
+use Rattle.scrypt_c.proofs.hashes.scrypt_hash_phc.Goals as goal
+
+pub returns-in-Ok-to_string-clause-made : goal.returns-in-Ok-to_string-clause-made
+returns-in-Ok-to_string-clause-made c done =
+    let put = c.put.ensures in
+    let made = rw (c.new_with_params-hasher.ensures.value, c.in-Ok.ensures.value) at c.in-Ok-made.ensures.ok in
+    let written = put.written (search rules) ∙ ap (λ n. c.as_str.result.now ++ drop n c.args.text.now) (sym put.len) in
+    (c.as_str.result.now, (c.in-Ok-made.hash, made, c.as_str.ensures.value ∙ c.in-Ok-to_string.ensures.ok), put.len, written)
