@@ -5,6 +5,42 @@ use crate::vectors::{RECOMMENDED, SALT, SHORT_KEY, STORED};
 use password_hash::Error;
 use std::test::Fail;
 
+// A stored text, a password, the verdict, and the reason for the row.
+const VERDICTS: [(&str, &str, Result<(), Error>, &str); 7] = [
+    (STORED, "correct horse", Ok(()), "the password"),
+    (
+        SHORT_KEY,
+        "correct horse",
+        Ok(()),
+        "the password, by a short key",
+    ),
+    (
+        STORED,
+        "wrong horse",
+        Err(Error::PasswordInvalid),
+        "another password",
+    ),
+    (
+        "$scrypt$ln=4,r=1,p=1$aA",
+        "",
+        Err(Error::PasswordInvalid),
+        "the key is missing",
+    ),
+    ("scrypt", "", Err(Error::EncodingInvalid), "no PHC text"),
+    (
+        "$argon2id$ln=4$aA",
+        "",
+        Err(Error::Algorithm),
+        "another algorithm",
+    ),
+    (
+        "$scrypt$ln=56,r=1,p=1$aA$AAAAAAAAAAAAAA",
+        "",
+        Err(Error::OutOfMemory),
+        "a table that no machine has",
+    ),
+];
+
 #[test]
 fn text_of_the_recommended_parameters(rt: HostRuntime) -> Result<(), Fail> {
     let text = stored_text(rt.alloc(), b"correct horse", SALT)?;
@@ -14,40 +50,7 @@ fn text_of_the_recommended_parameters(rt: HostRuntime) -> Result<(), Fail> {
 
 #[test]
 fn verdicts(rt: HostRuntime) {
-    for (stored, password, verdict, reason) in [
-        (STORED, "correct horse", Ok(()), "the password"),
-        (
-            SHORT_KEY,
-            "correct horse",
-            Ok(()),
-            "the password, by a short key",
-        ),
-        (
-            STORED,
-            "wrong horse",
-            Err(Error::PasswordInvalid),
-            "another password",
-        ),
-        (
-            "$scrypt$ln=4,r=1,p=1$aA",
-            "",
-            Err(Error::PasswordInvalid),
-            "there is no key",
-        ),
-        ("scrypt", "", Err(Error::EncodingInvalid), "no PHC text"),
-        (
-            "$argon2id$ln=4$aA",
-            "",
-            Err(Error::Algorithm),
-            "another algorithm",
-        ),
-        (
-            "$scrypt$ln=56,r=1,p=1$aA$AAAAAAAAAAAAAA",
-            "",
-            Err(Error::OutOfMemory),
-            "a table that no machine has",
-        ),
-    ] {
+    for (stored, password, verdict, reason) in VERDICTS {
         assert_eq!(rt;
             verify(rt.alloc(), stored, password.as_bytes()),
             verdict,

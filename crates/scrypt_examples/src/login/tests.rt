@@ -6,6 +6,68 @@ use password_hash::Error;
 use scrypt::InvalidParams;
 use std::test::Fail;
 
+// A stored text, a password, log_n and r as wanted, whether the user is in, the new text, and the reason
+// for the row.
+const LOGINS: [(&str, &str, u8, u32, bool, Option<&str>, &str); 9] = [
+    (STORED, "correct horse", 4, 1, true, None, "as wanted"),
+    (
+        STORED,
+        "correct horse",
+        3,
+        1,
+        true,
+        None,
+        "stronger than wanted",
+    ),
+    (
+        STORED,
+        "correct horse",
+        5,
+        1,
+        true,
+        Some(NEW_5_1_1),
+        "log_n is below",
+    ),
+    (
+        STORED,
+        "correct horse",
+        4,
+        2,
+        true,
+        Some(NEW_4_2_1),
+        "r is below",
+    ),
+    (
+        SHORT_KEY,
+        "correct horse",
+        4,
+        1,
+        true,
+        Some(NEW),
+        "the key is short",
+    ),
+    (STORED, "wrong horse", 4, 1, false, None, "another password"),
+    (
+        STORED,
+        "wrong horse",
+        5,
+        1,
+        false,
+        None,
+        "another password, and weak",
+    ),
+    (STORED, "", 4, 1, false, None, "no password"),
+    (
+        "$scrypt$ln=4,r=1,p=1$AAECAwQFBgcICQoLDA0ODw",
+        "",
+        4,
+        1,
+        false,
+        None,
+        "the key is missing",
+    ),
+];
+
 #[test]
 fn enrolled_user(rt: HostRuntime) -> Result<(), Fail> {
     let logins = Logins::new(4, 1, 1)?;
@@ -17,65 +79,7 @@ fn enrolled_user(rt: HostRuntime) -> Result<(), Fail> {
 #[test]
 fn logins(rt: HostRuntime) -> Result<(), Fail> {
     let alloc = rt.alloc();
-    for (stored, password, log_n, r, is_in, new, reason) in [
-        (STORED, "correct horse", 4, 1, true, None, "as wanted"),
-        (
-            STORED,
-            "correct horse",
-            3,
-            1,
-            true,
-            None,
-            "stronger than wanted",
-        ),
-        (
-            STORED,
-            "correct horse",
-            5,
-            1,
-            true,
-            Some(NEW_5_1_1),
-            "log_n is below",
-        ),
-        (
-            STORED,
-            "correct horse",
-            4,
-            2,
-            true,
-            Some(NEW_4_2_1),
-            "r is below",
-        ),
-        (
-            SHORT_KEY,
-            "correct horse",
-            4,
-            1,
-            true,
-            Some(NEW),
-            "the key is short",
-        ),
-        (STORED, "wrong horse", 4, 1, false, None, "another password"),
-        (
-            STORED,
-            "wrong horse",
-            5,
-            1,
-            false,
-            None,
-            "another password, and weak",
-        ),
-        (STORED, "", 4, 1, false, None, "no password"),
-        (
-            "$scrypt$ln=4,r=1,p=1$AAECAwQFBgcICQoLDA0ODw",
-            "",
-            4,
-            1,
-            false,
-            None,
-            "there is no key",
-        ),
-    ] {
+    for (stored, password, log_n, r, is_in, new, reason) in LOGINS {
         let login = Logins::new(log_n, r, 1)?.log_in(alloc, stored, password.as_bytes(), SALT)?;
         assert_eq!(rt; !matches!(login, Login::Refused), is_in, "{reason}");
         let text = match &login {

@@ -7,6 +7,49 @@ use password_hash::Error;
 use scrypt::Params;
 use std::test::Fail;
 
+// A text, a password, log_n as wanted, the new text, and the reason for the row.
+const REWRITTEN: [(&str, &str, u8, Result<&str, Error>, &str); 9] = [
+    (MCF, "correct horse", 4, Ok(NEW), "a `$7$` text"),
+    (
+        MCF,
+        "correct horse",
+        5,
+        Ok(NEW_5_1_1),
+        "a `$7$` text, to other costs",
+    ),
+    (STORED, "correct horse", 5, Ok(NEW_5_1_1), "a PHC text"),
+    (STORED, "correct horse", 4, Ok(NEW), "to another salt"),
+    (
+        MCF,
+        "wrong horse",
+        4,
+        Err(Error::PasswordInvalid),
+        "another password",
+    ),
+    (STORED, "", 4, Err(Error::PasswordInvalid), "no password"),
+    (
+        "$7$2/..../....saltsalt",
+        "",
+        4,
+        Err(Error::EncodingInvalid),
+        "no key",
+    ),
+    (
+        "$8$2/..../....saltsalt",
+        "",
+        4,
+        Err(Error::EncodingInvalid),
+        "neither format",
+    ),
+    (
+        "$scrypt$ln=4,r=1,p=1$aA",
+        "",
+        4,
+        Err(Error::PasswordInvalid),
+        "a PHC text without a key",
+    ),
+];
+
 #[test]
 fn costs_of_texts(rt: HostRuntime) -> Result<(), Fail> {
     for (text, len, reason) in [
@@ -52,47 +95,7 @@ fn texts_that_are_refused(rt: HostRuntime) {
 
 #[test]
 fn rewritten_texts(rt: HostRuntime) -> Result<(), Fail> {
-    for (text, password, log_n, new, reason) in [
-        (MCF, "correct horse", 4, Ok(NEW), "a `$7$` text"),
-        (
-            MCF,
-            "correct horse",
-            5,
-            Ok(NEW_5_1_1),
-            "a `$7$` text, to other costs",
-        ),
-        (STORED, "correct horse", 5, Ok(NEW_5_1_1), "a PHC text"),
-        (STORED, "correct horse", 4, Ok(NEW), "to another salt"),
-        (
-            MCF,
-            "wrong horse",
-            4,
-            Err(Error::PasswordInvalid),
-            "another password",
-        ),
-        (STORED, "", 4, Err(Error::PasswordInvalid), "no password"),
-        (
-            "$7$2/..../....saltsalt",
-            "",
-            4,
-            Err(Error::EncodingInvalid),
-            "no key",
-        ),
-        (
-            "$8$2/..../....saltsalt",
-            "",
-            4,
-            Err(Error::EncodingInvalid),
-            "neither format",
-        ),
-        (
-            "$scrypt$ln=4,r=1,p=1$aA",
-            "",
-            4,
-            Err(Error::PasswordInvalid),
-            "a PHC text without a key",
-        ),
-    ] {
+    for (text, password, log_n, new, reason) in REWRITTEN {
         let wanted = Logins::new(log_n, 1, 1)?;
         let told = rewrite(rt.alloc(), &wanted, text, password.as_bytes(), SALT);
         let told = match &told {
