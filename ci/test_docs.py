@@ -67,7 +67,7 @@ DEFINITIONS = [
     ("a condition of a public function", DEFINED, CITING.replace("    ensures key { IsKey", "    requires key { short"), "key_of"),
     ("a clause of a public trait", DEFINED, CITING + "pub trait Kdf {\n    fn key(&self)\n        ensures ok { short k };\n}\n", "key_of"),
     ("a relation of an implementation", DEFINED, CITING + IMPLEMENTED, "key_of"),
-    ("a model, whose invariant is no clause", DEFINED, CITING + IMPLEMENTED.replace("Kdf", "Model"), None),
+    ("the invariant of a model, which needs no row", DEFINED, CITING + IMPLEMENTED.replace("Kdf", "Model"), None),
     ("a definition of a library", DEFINED, CITING.replace("IsKey k", "other"), None),
     ("a variable that has the name of a definition", DEFINED, CITING.replace("IsKey k", "key_of"), None),
 ]

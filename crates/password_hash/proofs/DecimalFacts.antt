@@ -54,7 +54,7 @@ is_digit_digit digit low high = grind (arith, nat_tests)
 is_value_letter_digit : (digit : ℕ) → 48 ≤ digit → digit ≤ 57 → IsTrue (is_value_letter digit)
 is_value_letter_digit digit low high = grind (arith, nat_tests)
 
--- a number in decimal digits lacks a byte that is no digit
+-- a number in decimal digits lacks a byte other than a digit
 pub decimal_lacks : (c : ℕ) → is_digit c ≡ false → (n : ℕ) → n < 2 ^ 32 → Lacks c (decimal n)
 decimal_lacks c other n small =
     letters_lack is_digit c other (decimal n) (digits_are_letters is_digit is_digit_digit (decimal n) (IsDecimal-decimal n small).digits)

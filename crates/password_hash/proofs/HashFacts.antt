@@ -15,7 +15,7 @@ use Rattle.password_hash.proofs.DecimalFacts.{decimal_lacks}
 use Rattle.password_hash.proofs.PartsFacts.{parts_of-parts_text, parts_text-parts_of}
 use Rattle.password_hash.proofs.PhcPartsFacts.{LacksVersion, base64_lacks, equals_of_pairs}
 
--- a row of pieces that lack a byte lacks it, unless it stands between them
+-- a row of pieces that lack a byte lacks it, unless it separates them
 join_lacks : (c separator : ℕ) → (separator == c) ≡ false → (pieces : List (List ℕ)) → All (Lacks c) pieces → Lacks c (join_with_byte separator pieces)
 join_lacks c separator other [] h = All-nil (λ b. (b == c) ≡ false)
 join_lacks c separator other (piece ∷ []) h = All-head (Lacks c) piece [] h

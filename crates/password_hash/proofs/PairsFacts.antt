@@ -22,14 +22,14 @@ Lacks c xs = All (λ b. (b == c) ≡ false) xs
 other_letter : (p : ℕ → Bool) (c x : ℕ) → p c ≡ false → IsTrue (p x) → x ≢ c
 other_letter p c x is_none is_one e = false≢true (sym is_none ∙ (rw e at is_one))
 
--- letters of a kind lack a byte that is none
+-- letters of a kind lack a byte of another kind
 pub letters_lack : (p : ℕ → Bool) (c : ℕ) → p c ≡ false → (xs : List ℕ) → IsTrue (list_all p xs) → Lacks c xs
 letters_lack p c is_none [] h = All-nil (λ b. (b == c) ≡ false)
 letters_lack p c is_none (x ∷ xs) h =
     let parts = list_all_parts p x xs h in
     All-cons (λ b. (b == c) ≡ false) x xs (ne_eqb x c (other_letter p c x is_none parts.0)) (letters_lack p c is_none xs parts.1)
 
--- the first c stands after bytes that lack it
+-- the first c comes after bytes that lack it
 pub position_at : (c : ℕ) (xs ys : List ℕ) → Lacks c xs → position_or_len (λ b. b == c) (xs ++ (c ∷ ys)) ≡ length xs
 position_at c xs ys none =
     position_or_len_is (λ b. b == c) (xs ++ (c ∷ ys)) (length xs) 0
@@ -119,11 +119,11 @@ kept_as_text text pairs e h =
     let back : pairs_of text ≡ pairs = ap pairs_of e ∙ pairs_of-pairs_text pairs h.each in
     (record { pairs = rw back h; whole = ap pairs_text back ∙ sym e }, back)
 
--- a text that lacks c stands before the first c whole
+-- a text that lacks c is whole before the first c
 pub before_first_none : (c : ℕ) (xs : List ℕ) → Lacks c xs → before_first (λ b. b == c) xs ≡ xs
 before_first_none c xs none = rw (position_none c xs none) (take_all (length xs) xs (omega arith))
 
--- and nothing stands after
+-- and nothing comes after
 pub after_first_none : (c : ℕ) (xs : List ℕ) → Lacks c xs → after_first (λ b. b == c) xs ≡ []
 after_first_none c xs none = rw (position_none c xs none) (drop_all (length xs + 1) xs (omega arith))
 
@@ -171,7 +171,7 @@ first_pair_of (pair ∷ next ∷ pairs) text h e some =
     let others = kept_as_text rest (next ∷ pairs) refl (ArePairs-tail pair (next ∷ pairs) h) in
     rw (← e, before, after) (record { head = all ∙ rw (same, others.1) refl; name = name_of pair is_pair same; others = others.0 })
 
--- what stands before and after the first `,` of a text of pairs
+-- what comes before and after the first `,` of a text of pairs
 pub first_pair : (text pair rest : List ℕ) → IsPairsText text → 0 < length text → pair ≡ before_first (λ b. b == 44) text → rest ≡ after_first (λ b. b == 44) text → IsFirstPair text pair rest
 first_pair text pair rest h some before after =
     rw (before, after) (first_pair_of (pairs_of text) text h.pairs h.whole some)

@@ -39,7 +39,7 @@ symbols_hold P t each (a ∷ b ∷ c ∷ m) h =
 abbrev is_base64_letter : ℕ → Bool
 is_base64_letter b = is_lowercase b || is_uppercase b || is_digit b || (b == 43) || (b == 47)
 
--- Base64 lacks a byte that is none of its letters
+-- Base64 lacks a byte outside its alphabet
 pub base64_lacks : (c : ℕ) → is_base64_letter c ≡ false → (bytes : List ℕ) → IsBytes bytes → Lacks c (base64 bytes)
 base64_lacks c other bytes h =
     let table : List ℕ = standard_no_pad.encode_table in

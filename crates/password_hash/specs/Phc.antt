@@ -27,7 +27,7 @@ abbrev pub key_part : Option (List ℕ) → List (List ℕ)
 key_part None = []
 key_part (Some key) = base64 key ∷ []
 
--- the salt in Base64, and the key after it: without a salt there is no key
+-- the salt in Base64, and the key after it; a key without a salt is not written
 abbrev pub salt_and_key_parts : Option (List ℕ) → Option (List ℕ) → List (List ℕ)
 salt_and_key_parts None key = []
 salt_and_key_parts (Some salt) key = base64 salt ∷ key_part key

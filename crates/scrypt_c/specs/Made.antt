@@ -18,7 +18,7 @@ MadePhcText c password salt made = (hash : PasswordHash) × IsMadeHash c passwor
 abbrev pub MadeMcfText : Parameters → List ℕ → List ℕ → List ℕ → Type 0
 MadeMcfText = IsMadeMcf
 
--- such a text stands at the front of the caller's, whose rest is as it was, and this is its length
+-- such a text begins the caller's, whose rest is as it was, and this is its length
 abbrev pub IsPut : (List ℕ → Type 0) → List ℕ → List ℕ → ℕ → Type 0
 IsPut IsMade old new len = (made : List ℕ) × IsMade made × (len ≡ length made) × (new ≡ made ++ drop len old)
 

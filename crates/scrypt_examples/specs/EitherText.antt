@@ -16,7 +16,7 @@ use Rattle.scrypt_examples.specs.declared.migration.Costs.TheVariants.{Mcf, Phc}
 abbrev pub IsMcfOf : List ℕ → List (List ℕ) → Type 0
 IsMcfOf text fields = IsMcfText text mcf_id fields
 
--- the text is of this format and has these costs; those of a PHC text have the length of its key, or 32 if there is none
+-- the text is of this format and has these costs; those of a PHC text have the length of its key, or 32 without a key
 abbrev pub HasThese : List ℕ → Costs → Type 0
 HasThese text (Phc c) = (hash : PasswordHash) × IsHashText text hash × IsOfCosts hash (without_len c)
     × (c.output_len ≡ Some (stored_len hash.hash))

@@ -175,7 +175,7 @@ product_salt_allowed : (product : Product) (c : Parameters) (salt password text 
 product_salt_allowed (Key len) c salt password text fault made h = h
 product_salt_allowed (Hash format len) c salt password text fault made h = made_salt_allowed format c salt password text fault made h
 
--- a verdict that is printed is no fault
+-- a run that prints its verdict has no fault to print
 verdict_not_refused : (hash : StoredHash) (password : List ℕ) (verdict : Option Refusal) (fault : Fault)
     → (verdict ≡ None) ⊎ (verdict ≡ Some WrongPassword) → Verdict hash password verdict → IsVerdictFault hash password fault → ⊥
 verdict_not_refused hash password verdict fault is v h =

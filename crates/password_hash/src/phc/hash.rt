@@ -34,7 +34,7 @@ pub struct PasswordHash {
 impl PasswordHash {
     /// Parses a password hash: `$` and the algorithm, then the version, the parameters, the salt
     /// and the key in this order. Each part after the algorithm follows a `$` and is optional, but
-    /// there is no key without a salt. The hash is printed as the same text.
+    /// a key needs a salt. The hash is printed as the same text.
     ///
     /// Returns `EncodingInvalid` if `text` does not have this form.
     pub fn new(text: &str) -> Result<PasswordHash>

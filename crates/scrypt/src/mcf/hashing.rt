@@ -48,8 +48,8 @@ impl CustomizedPasswordHasher<PasswordHash> for Scrypt {
 
     ghost refuses = { λ _ password salt id version params why. HashIsRefused id version why };
 
-    /// Hashes the password with `params`. The key has the length in `params`, or 32 bytes if there
-    /// is none. The salt of the derivation is the crypt Base64 of `salt`, as in the text.
+    /// Hashes the password with `params`. The key has the length in `params`, or 32 bytes if
+    /// `params` has no length. The salt of the derivation is the crypt Base64 of `salt`, as in the text.
     ///
     /// Allocates the whole text first, then the three buffers of the derivation, and all of them
     /// before the first core.

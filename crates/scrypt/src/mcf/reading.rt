@@ -25,10 +25,10 @@ pub(crate) struct Stored<'a> {
 
 /// Reads a text.
 ///
-/// Returns the first of these errors: `Algorithm` if the id is not `7`, `EncodingInvalid` if there
-/// is no field, the errors of reading the first field, `EncodingInvalid` if there is no second
-/// field, if it is not crypt Base64 or if there is a third field, and `OutputSize` if a key of this
-/// length cannot be derived.
+/// Returns the first of these errors: `Algorithm` if the id is not `7`, `EncodingInvalid` if the
+/// first field is missing, the errors of reading the first field, `EncodingInvalid` if the second
+/// field is missing, if it is not crypt Base64 or if a third field follows, and `OutputSize` if a
+/// key of this length cannot be derived.
 pub(crate) fn read<'a>(hash: &PasswordHashRef<'a>) -> Result<Stored<'a>>
     ensures ok { IfOk result (λ stored. (key : List ℕ) × Crypt64 key (field_text stored.key) × (length key ≡ stored.key_len)
         × IsWhole (hash_text hash.now) stored.params stored.salt.now key) }

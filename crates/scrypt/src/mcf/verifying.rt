@@ -20,9 +20,9 @@ impl<'a> PasswordVerifier<PasswordHashRef<'a>> for Scrypt {
     /// text, not decoded, and the key is compared with its letters in the text.
     ///
     /// Returns the first of these errors: `Algorithm` if the id is not `7`; `EncodingInvalid` if
-    /// there is no field; the errors of `decode_params_and_salt` for the first field;
-    /// `EncodingInvalid` if there is no second field, if it is not crypt Base64, or if there is a
-    /// third field; `OutputSize` if the key is empty or has more than 137438953440 bytes;
+    /// the first field is missing; the errors of `decode_params_and_salt` for the first field;
+    /// `EncodingInvalid` if the second field is missing, if it is not crypt Base64, or if a third
+    /// field follows; `OutputSize` if the key is empty or has more than 137438953440 bytes;
     /// `OutOfMemory` if an allocation fails; and `PasswordInvalid` if the keys differ.
     fn verify_password(
         &self,

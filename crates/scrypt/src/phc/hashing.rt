@@ -36,8 +36,8 @@ impl CustomizedPasswordHasher<PasswordHash> for Scrypt {
 
     ghost refuses = { λ _ password salt id version params why. HashIsRefused salt id version why };
 
-    /// Hashes the password with `params`. The key has the length in `params`, or 32 bytes if there
-    /// is none.
+    /// Hashes the password with `params`. The key has the length in `params`, or 32 bytes if
+    /// `params` has no length.
     ///
     /// Returns the first of these errors: `Algorithm` if `alg_id` is given and not `scrypt`,
     /// `Version` if `version` is given, `SaltInvalid` if `salt` does not have 1 to 64 bytes, and

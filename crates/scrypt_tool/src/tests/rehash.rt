@@ -183,7 +183,7 @@ const ROWS: [(&str, &str, u8, &str, &str); 28] = [
         "password",
         2,
         "hash refused: ParamInvalid ln\n",
-        "a cost that is no number of its kind",
+        "a cost that is too large for its type",
     ),
     (
         "rehash phc 4 1 1 32 00 $scrypt$ln=57",
