@@ -1,21 +1,11 @@
 /* Calls the library from C and from C++: RFC 7914's keys, both formats, and every refusal. With the word small it
  * leaves out the key of 1 GiB. */
+#include "check.h"
 #include "scrypt_c.h"
 
 #include <stdio.h>
 #include <stdlib.h>
 #include <string.h>
-
-static int failed = 0;
-
-static void check(int holds, const char *what) {
-  if (!holds) {
-    fprintf(stderr, "failed: %s\n", what);
-    failed = 1;
-  }
-}
-
-static const uint8_t *b(const char *text) { return (const uint8_t *)text; }
 
 static void hex_of(const uint8_t *bytes, size_t n, char *hex) {
   size_t i;

@@ -1,6 +1,7 @@
 /* Calls scrypt_kdf_mapped: RFC 7914's keys, keys beside those of scrypt_kdf, each refusal, and a mapping that the
  * system refuses. */
 #define _DEFAULT_SOURCE
+#include "check.h"
 #include "scrypt_c.h"
 
 #include <stdio.h>
@@ -8,17 +9,6 @@
 #include <sys/resource.h>
 #include <sys/wait.h>
 #include <unistd.h>
-
-static int failed = 0;
-
-static void check(int holds, const char *what) {
-  if (!holds) {
-    fprintf(stderr, "failed: %s\n", what);
-    failed = 1;
-  }
-}
-
-static const uint8_t *b(const char *text) { return (const uint8_t *)text; }
 
 static void keys_of_the_rfc(void) {
   static const struct {
