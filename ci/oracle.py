@@ -29,7 +29,7 @@ MUTATIONS = "crates/hash_tests/src/phc_mutations.rt"
 LETTERS = "crates/hash_tests/src/mcf_base64.rt"
 
 # where the `$7$` hashes of the tests are
-HASHES = "crates/test_data/src/vectors.rt"
+HASHES = "crates/test_support/src/vectors.rt"
 
 
 def run(program, words, password):

@@ -1,14 +1,14 @@
 // Each allocation of a call fails in turn, and the exact number of them is asserted.
 
-use failing_allocations::{CallEnd, failing_allocations};
 use password_hash::mcf::{self, Base64};
 use password_hash::{Error, PasswordHasher, PasswordVerifier, phc};
 use scrypt::{CoreCount, DeriveError, Kdf, Params, Scrypt, kdf, scrypt, scrypt_counted};
 use std::alloc::Global;
 use std::test::Fail;
-use test_data::mcf_texts::{CHANGES, SHORT_TEXTS};
-use test_data::texts::{changed, followed_by};
-use test_data::vectors::{EMPTY_PASSWORD_HASH, LIBXCRYPT_HASH};
+use test_support::failing_allocations::{CallEnd, failing_allocations};
+use test_support::mcf_texts::{CHANGES, SHORT_TEXTS};
+use test_support::texts::{changed, followed_by};
+use test_support::vectors::{EMPTY_PASSWORD_HASH, LIBXCRYPT_HASH};
 
 // The chunks, the table and the scratch at (4, 1, 1), in bytes.
 const BUFFERS: [usize; 3] = [128, 2048, 256];

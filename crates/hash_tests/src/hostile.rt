@@ -7,8 +7,8 @@ use scrypt::laws::{texts_have_one_reading, verdicts_are_one};
 use std::alloc::Global;
 use std::str;
 use std::test::Fail;
-use test_data::texts::followed_by;
-use test_data::vectors::{EMPTY_PASSWORD_HASH, PASSLIB_HASH};
+use test_support::texts::followed_by;
+use test_support::vectors::{EMPTY_PASSWORD_HASH, PASSLIB_HASH};
 
 // Where the key begins in the hash of the empty password.
 const KEY_AT: usize = 15;

@@ -3,7 +3,7 @@
 use password_hash::{PasswordHasher, PasswordVerifier};
 use scrypt::{Params, Scrypt, mcf, phc};
 use std::test::Fail;
-use test_data::texts::followed_by;
+use test_support::texts::followed_by;
 
 // How many times `a` the password is, its PHC text and its `$7$` text for the salt `NaCl`, by Python's
 // hashlib, and the reason for the row.

@@ -8,9 +8,9 @@ use scrypt::mcf::{PasswordHash, PasswordHashRef};
 use scrypt::{Params, Scrypt};
 use std::alloc::Global;
 use std::test::Fail;
-use test_data::mcf_texts::{CHANGES, SHORT_TEXTS};
-use test_data::texts::changed;
-use test_data::vectors::{
+use test_support::mcf_texts::{CHANGES, SHORT_TEXTS};
+use test_support::texts::changed;
+use test_support::vectors::{
     EMPTY_PASSWORD_HASH, EMPTY_PASSWORD_HASH_10, EMPTY_PASSWORD_HASH_64, LIBXCRYPT_HASH,
     LIBXCRYPT_HASH_10, LIBXCRYPT_SALT, LIBXCRYPT_SALT_LETTERS, PLAIN_SALT_HASH,
 };

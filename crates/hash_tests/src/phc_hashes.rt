@@ -7,8 +7,8 @@ use scrypt::phc::{ALG_ID, PasswordHash};
 use scrypt::{InvalidParams, Params, Scrypt};
 use std::alloc::{AllocError, Global};
 use std::test::Fail;
-use test_data::texts::changed;
-use test_data::vectors::{PASSLIB_HASH, RFC_KEY_3_HASH, RFC_KEY_3_SHORT_HASH};
+use test_support::texts::changed;
+use test_support::vectors::{PASSLIB_HASH, RFC_KEY_3_HASH, RFC_KEY_3_SHORT_HASH};
 
 // The verdict on this password.
 fn verdict(alloc: Global, text: &str, password: &[u8]) -> Result<(), Error> {

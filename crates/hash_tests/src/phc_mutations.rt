@@ -6,7 +6,7 @@ use sha2::{Digest, Sha256};
 use std::alloc::Global;
 use std::str;
 use std::test::Fail;
-use test_data::vectors::PASSLIB_HASH;
+use test_support::vectors::PASSLIB_HASH;
 
 const TEXTS: [&str; 5] = [
     PASSLIB_HASH,

@@ -4,7 +4,9 @@ use password_hash::{Error, RehashCheck, mcf, phc};
 use scrypt::laws::rehashing_converges;
 use scrypt::{Params, Scrypt};
 use std::test::Fail;
-use test_data::vectors::{EMPTY_PASSWORD_HASH, LIBXCRYPT_HASH, PASSLIB_HASH, RFC_KEY_3_SHORT_HASH};
+use test_support::vectors::{
+    EMPTY_PASSWORD_HASH, LIBXCRYPT_HASH, PASSLIB_HASH, RFC_KEY_3_SHORT_HASH,
+};
 
 // Wanted parameters: log_n, r, p and the optional length of the key.
 type Wanted = (u8, u32, u32, Option<usize>);

@@ -52,6 +52,3 @@ impl From<AllocError> for Error {
         Error::OutOfMemory
     }
 }
-
-#[cfg(test)]
-mod tests;

@@ -50,6 +50,3 @@ pub trait Kdf {
 
 /// A key derivation function for passwords, which is slow on purpose.
 pub trait Pbkdf: Kdf {}
-
-#[cfg(test)]
-mod tests;

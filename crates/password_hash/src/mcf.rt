@@ -11,8 +11,6 @@ mod group;
 mod hash;
 mod hash_ref;
 mod letters;
-#[cfg(test)]
-mod tests;
 
 pub use crypt64::Base64;
 pub use field::Field;

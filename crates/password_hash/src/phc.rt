@@ -8,8 +8,6 @@ mod params;
 mod parts;
 mod salt;
 mod short_bytes;
-#[cfg(test)]
-mod tests;
 mod value;
 
 pub use hash::PasswordHash;

@@ -6,7 +6,7 @@ ghost use Rattle.scrypt.specs.Cost.{chunks_bytes, scratch_words, table_words};
 use hex::encode;
 use scrypt::{CoreCount, InvalidOutputLen, Params, scrypt_counted, scrypt_with_buffers};
 use std::test::Fail;
-use test_data::vectors::RFC_KEY_1;
+use test_support::vectors::RFC_KEY_1;
 
 // Derives a key of the empty password and the empty salt.
 fn derive(

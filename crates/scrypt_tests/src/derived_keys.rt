@@ -5,7 +5,7 @@ use scrypt::laws::{shorter_key_is_prefix, zero_byte_and_digest_passwords_collide
 use scrypt::{DeriveError, Params, output_len_ok, scrypt};
 use std::alloc::Global;
 use std::test::Fail;
-use test_data::vectors::{
+use test_support::vectors::{
     DIGEST_OF_65, LONG_PASSWORD_KEY, RFC_KEY_1, RFC_KEY_2, RFC_KEY_3, SHORT_PASSWORD_KEY,
 };
 

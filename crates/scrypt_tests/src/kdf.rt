@@ -4,7 +4,7 @@ use hex::encode;
 use scrypt::{InvalidOutputLen, Kdf, Params, Pbkdf, Scrypt, kdf};
 use std::alloc::Global;
 use std::test::Fail;
-use test_data::vectors::RFC_KEY_1;
+use test_support::vectors::RFC_KEY_1;
 
 // A key by any function made for passwords.
 fn key_by<K: Pbkdf>(alloc: Global, function: &K, out: &mut [u8]) -> kdf::Result<()> {

@@ -8,7 +8,7 @@ use scrypt::romix::{integerify_diagonal, plain_ro_mix, scrypt_ro_mix};
 use scrypt::{BufferLens, CoreCount, Params};
 use std::alloc::{AllocError, Global};
 use std::test::Fail;
-use test_data::vectors::{CORE_INPUT, CORE_OUTPUT};
+use test_support::vectors::{CORE_INPUT, CORE_OUTPUT};
 
 #[test]
 fn shuffles_of_the_places(rt: HostRuntime) {

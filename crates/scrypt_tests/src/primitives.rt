@@ -5,7 +5,7 @@ use scrypt::hmac::hmac_sha256;
 use scrypt::pbkdf2::pbkdf2_one;
 use scrypt::{CoreCount, salsa};
 use std::test::Fail;
-use test_data::vectors::{CORE_INPUT, CORE_OUTPUT, HMAC_BY_LONG_KEY, HMAC_OF_JEFE, PBKDF2_KEY};
+use test_support::vectors::{CORE_INPUT, CORE_OUTPUT, HMAC_BY_LONG_KEY, HMAC_OF_JEFE, PBKDF2_KEY};
 
 /// The words of 64 bytes in hexadecimal.
 pub fn words_of(text: &str) -> Result<[u32; 16], Fail> {

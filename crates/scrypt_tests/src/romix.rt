@@ -6,7 +6,7 @@ use scrypt::CoreCount;
 use scrypt::block_mix::plain;
 use scrypt::romix::{integerify_plain, plain_ro_mix, scrypt_ro_mix};
 use std::test::Fail;
-use test_data::vectors::{CORE_INPUT, CORE_OUTPUT, RO_MIX_INPUT, RO_MIX_OUTPUT};
+use test_support::vectors::{CORE_INPUT, CORE_OUTPUT, RO_MIX_INPUT, RO_MIX_OUTPUT};
 
 #[test]
 fn block_mix_begins_with_the_core(rt: HostRuntime) -> Result<(), Fail> {

@@ -6,7 +6,7 @@ use scrypt::romix::thin_ro_mix;
 use scrypt::{BufferLens, CoreCount, InvalidOutputLen, Params, scrypt_thin};
 use std::alloc::Global;
 use std::test::Fail;
-use test_data::vectors::{RFC_KEY_1, RFC_KEY_2};
+use test_support::vectors::{RFC_KEY_1, RFC_KEY_2};
 
 // What the buffers hold before the call.
 const FILLS: [u8; 2] = [0, 0xff];

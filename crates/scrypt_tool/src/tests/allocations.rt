@@ -3,8 +3,8 @@
 use super::streams::Page;
 use super::{COMMANDS, words_of};
 use crate::run::run;
-use failing_allocations::{CallEnd, failing_allocations};
 use std::test::Fail;
+use test_support::failing_allocations::{CallEnd, failing_allocations};
 
 // What each line of COMMANDS allocates, in bytes, up to the derivation and with it: the salt, the
 // input, the key or the text, and then the chunks, the table and the scratch; a new hash of twice the

@@ -1,4 +1,6 @@
-use super::super::{Base64, Error, Fields, PasswordHash, PasswordHashRef};
+// Modular texts: their ids and fields, and what is pushed to them.
+
+use password_hash::mcf::{Base64, Error, Fields, PasswordHash, PasswordHashRef};
 use std::test::Fail;
 
 fn count_of(fields: Fields<'_>) -> usize {

@@ -1,9 +1,11 @@
-//! Each error once.
-use super::*;
+// Each error once.
+
+use password_hash::Error;
+use std::alloc::AllocError;
 use std::test::Fail;
 
 #[test]
-fn errors_are_copied_compared_and_shown(rt: HostRuntime) -> std::result::Result<(), Fail> {
+fn errors_are_copied_compared_and_shown(rt: HostRuntime) -> Result<(), Fail> {
     let alloc = rt.alloc();
     for (error, name, text) in [
         (Error::Algorithm, "Algorithm", "unsupported algorithm"),

@@ -1,5 +1,5 @@
 use Rattle.std.proofs.Common.{arith}
-use Rattle.failing_allocations.proofs.failing_allocations.Goals as goal
+use Rattle.test_support.proofs.failing_allocations.failing_allocations.Goals as goal
 
 pub returns-in-Done : goal.returns-in-Done
 returns-in-Done g c =

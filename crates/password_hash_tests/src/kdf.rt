@@ -1,10 +1,12 @@
-//! Each error once, and a derivation through the bound.
+// Each error once, and a derivation through the bound.
+
 ghost use Rattle.std.specs.Prelude.{◌≡◌, OnErr};
 
-use super::*;
+use password_hash::kdf::{Error, Kdf, Pbkdf, Result};
+use std::alloc::{AllocError, Global};
 use std::test::Fail;
 
-/// A key of zero bytes, of at most four of them.
+// A key of zero bytes, of at most four of them.
 struct Zeros;
 
 impl Kdf for Zeros {

@@ -1,24 +1,25 @@
-//! Texts from the format, and each value once.
-use super::*;
-use crate::Error;
+// Texts of PHC hashes, and each value once.
+
+use password_hash::Error;
+use password_hash::phc::{Ident, Output, ParamsString, PasswordHash, Salt, Value};
 use std::test::Fail;
 
-/// `passlib`'s hash of `password`, with the parameters (16, 8, 1).
+// `passlib`'s hash of `password`, with the parameters (16, 8, 1).
 const PASSLIB_HASH: &str =
     "$scrypt$ln=16,r=8,p=1$aM15713r3Xsvxbi31lqr1Q$nFNh2CVHVjNldFVKDHDlm4CbdRSCdEBsjjJxD+iCs5E";
 
-/// The longest text of parameters: 127 bytes.
+// The longest text of parameters: 127 bytes.
 const LONGEST_PARAMS: &str =
     "x=00000000000000000000000000000000000000000000000000000000000000000000000000000000000000000000000000000000000000000000000000000";
 
-/// One byte more.
+// One byte more.
 const TOO_LONG_PARAMS: &str =
     "x=000000000000000000000000000000000000000000000000000000000000000000000000000000000000000000000000000000000000000000000000000000";
 
-/// The first ten bytes of the third key of RFC 7914, section 12.
+// The first ten bytes of the third key of RFC 7914, section 12.
 const SHORT_KEY: [u8; 10] = [0x70, 0x23, 0xbd, 0xcb, 0x3a, 0xfd, 0x73, 0x48, 0x46, 0x1c];
 
-/// Texts of hashes, each of which is parsed and printed as the same text.
+// Texts of hashes, each of which is parsed and printed as the same text.
 const TEXTS: [&str; 9] = [
     "$scrypt",
     "$scrypt$v=0",
@@ -31,7 +32,7 @@ const TEXTS: [&str; 9] = [
     PASSLIB_HASH,
 ];
 
-/// Texts of no hash.
+// Texts of no hash.
 const OTHER_TEXTS: [&str; 26] = [
     // no algorithm
     "",
@@ -100,7 +101,7 @@ fn parts_of_a_text(rt: HostRuntime) -> Result<(), Fail> {
     Ok(())
 }
 
-/// A salt, a key, and the text of a hash that has them.
+// A salt, a key, and the text of a hash that has them.
 const SALTS_AND_KEYS: [(&[u8], &[u8], &str); 3] = [
     (
         &[
@@ -200,7 +201,7 @@ fn decimals(rt: HostRuntime) -> Result<(), Fail> {
     Ok(())
 }
 
-fn first_decimal(params: &ParamsString) -> crate::Result<u32> {
+fn first_decimal(params: &ParamsString) -> password_hash::Result<u32> {
     match params.get("x") {
         Some(value) => value.decimal(),
         None => Err(Error::ParamsInvalid),

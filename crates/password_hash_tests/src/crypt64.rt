@@ -1,12 +1,14 @@
-use super::super::{Base64, Error, PasswordHashRef};
+// The letters of crypt Base64, beside those of libxcrypt.
+
+use password_hash::mcf::{Base64, Error, PasswordHashRef};
 use std::alloc::Global;
 use std::test::Fail;
 
-/// The letters of the bytes 11, 48, 85, .., 64 of them, each 37 more than the one before.
+// The letters of the bytes 11, 48, 85, .., 64 of them, each 37 more than the one before.
 const LETTERS_64: &str =
     "9.HJux7ldvkAMpbc5nS2qg3UZewvIYXL1WOnmT/DVNseELj4zEKWiCByR6oNA4fpv1GFex6hNvz66paYrmR.a.";
 
-/// The same of the first 63, 62 and 61 bytes.
+// The same of the first 63, 62 and 61 bytes.
 const LETTERS_63: &str =
     "9.HJux7ldvkAMpbc5nS2qg3UZewvIYXL1WOnmT/DVNseELj4zEKWiCByR6oNA4fpv1GFex6hNvz66paYrmR.";
 
@@ -16,18 +18,18 @@ const LETTERS_62: &str =
 const LETTERS_61: &str =
     "9.HJux7ldvkAMpbc5nS2qg3UZewvIYXL1WOnmT/DVNseELj4zEKWiCByR6oNA4fpv1GFex6hNvz66paYr0";
 
-/// A salt that libxcrypt writes.
+// A salt that libxcrypt writes.
 const SALT: [u8; 16] = [
     0x98, 0x6d, 0x90, 0xd3, 0x43, 0xe0, 0x7e, 0x4f, 0x7e, 0x00, 0x86, 0x4f, 0x03, 0x04, 0x0b, 0xf3,
 ];
 
-/// The first 32 bytes of the first key in RFC 7914.
+// The first 32 bytes of the first key in RFC 7914.
 const KEY: [u8; 32] = [
     0x77, 0xd6, 0x57, 0x62, 0x38, 0x65, 0x7b, 0x20, 0x3b, 0x19, 0xca, 0x42, 0xc1, 0x8a, 0x04, 0x97,
     0xf1, 0x6b, 0x48, 0x44, 0xe3, 0x07, 0x4a, 0xe8, 0xdf, 0xdf, 0xfa, 0x3f, 0xed, 0xe2, 0x14, 0x42,
 ];
 
-/// Whether these bytes have these letters by each of the calls that read or write them.
+// Whether these bytes have these letters by each of the calls that read or write them.
 fn agree(alloc: Global, bytes: &[u8], letters: &str) -> Result<bool, Fail> {
     let written = Base64::Crypt.encode_string(alloc, bytes)?;
     let read = Base64::Crypt.decode_vec(alloc, letters)?;

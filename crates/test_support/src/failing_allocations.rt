@@ -1,5 +1,4 @@
-//! For tests: calls whose allocations fail in turn.
-#![tactic(auto)]
+// Calls whose allocations fail in turn.
 
 ghost use Rattle.std.specs.Prelude.{◌≤◌, IfOk, length};
 

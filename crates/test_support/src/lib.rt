@@ -1,0 +1,8 @@
+//! For tests: vectors of the standards and of other implementations, texts that are made of them, and allocations that
+//! fail.
+#![tactic(auto)]
+
+pub mod failing_allocations;
+pub mod mcf_texts;
+pub mod texts;
+pub mod vectors;
