@@ -7,7 +7,7 @@ use std::alloc::Global;
 use std::test::Fail;
 use test_support::failing_allocations::{CallEnd, failing_allocations};
 use test_support::mcf_texts::{CHANGES, SHORT_TEXTS};
-use test_support::texts::{changed, followed_by};
+use test_support::texts::changed;
 use test_support::vectors::{EMPTY_PASSWORD_HASH, LIBXCRYPT_HASH};
 
 // The chunks, the table and the scratch at (4, 1, 1), in bytes.
@@ -117,12 +117,12 @@ const BYTES: usize = 1500;
 fn modular_texts(rt: HostRuntime) -> Result<(), Fail> {
     let alloc = rt.alloc();
     let memory = mcf::Error::OutOfMemory;
-    let text = followed_by(alloc, "$", 'a', LETTERS)?;
+    let text = format!(in alloc; "${}", "a".repeat(alloc, LETTERS)?)?;
     let new = failing_allocations(alloc, &[LETTERS + 1], || {
         ended(&mcf::PasswordHash::new(alloc, text.as_str()), memory, true)
     })?;
     assert_eq!(rt; new, 1);
-    let id = followed_by(alloc, "", 'a', LETTERS)?;
+    let id = "a".repeat(alloc, LETTERS)?;
     let from_id = failing_allocations(alloc, &[LETTERS + 1], || {
         ended(
             &mcf::PasswordHash::from_id(alloc, id.as_str()),
@@ -143,7 +143,7 @@ fn letters_and_bytes(rt: HostRuntime) -> Result<(), Fail> {
         ended(&Base64::Crypt.encode_string(alloc, &bytes), memory, true)
     })?;
     assert_eq!(rt; encoding, 1);
-    let text = followed_by(alloc, "$7$", 'z', LETTERS)?;
+    let text = format!(in alloc; "$7${}", "z".repeat(alloc, LETTERS)?)?;
     for field in mcf::PasswordHashRef::new(text.as_str())?.fields() {
         let decoding = failing_allocations(alloc, &[BYTES], || {
             ended(
@@ -166,8 +166,8 @@ fn letters_and_bytes(rt: HostRuntime) -> Result<(), Fail> {
 fn fields_that_are_pushed(rt: HostRuntime) -> Result<(), Fail> {
     let alloc = rt.alloc();
     let memory = mcf::Error::OutOfMemory;
-    let id = followed_by(alloc, "", 'a', LETTERS - 1)?;
-    let field = followed_by(alloc, "", 'a', 2 * LETTERS)?;
+    let id = "a".repeat(alloc, LETTERS - 1)?;
+    let field = "a".repeat(alloc, 2 * LETTERS)?;
     let push_str = failing_allocations(alloc, &[LETTERS, 3 * LETTERS + 1], || {
         match mcf::PasswordHash::from_id(alloc, id.as_str()) {
             Ok(mut hash) => {
@@ -186,7 +186,7 @@ fn fields_that_are_pushed(rt: HostRuntime) -> Result<(), Fail> {
 fn bytes_that_are_pushed(rt: HostRuntime) -> Result<(), Fail> {
     let alloc = rt.alloc();
     let memory = mcf::Error::OutOfMemory;
-    let id = followed_by(alloc, "", 'a', LETTERS - 1)?;
+    let id = "a".repeat(alloc, LETTERS - 1)?;
     let bytes = vec![in alloc; 0xffu8; 2 * BYTES]?;
     let sizes = [LETTERS, 2 * LETTERS, 3 * LETTERS + 1];
     let push_base64 = failing_allocations(alloc, &sizes, || {

@@ -7,7 +7,6 @@ use scrypt::laws::{texts_have_one_reading, verdicts_are_one};
 use std::alloc::Global;
 use std::str;
 use std::test::Fail;
-use test_support::texts::followed_by;
 use test_support::vectors::{EMPTY_PASSWORD_HASH, PASSLIB_HASH};
 
 // Where the key begins in the hash of the empty password.
@@ -137,9 +136,9 @@ fn each_character_of_a_key_replaced(rt: HostRuntime) -> Result<(), Fail> {
 fn a_million_characters(rt: HostRuntime) -> Result<(), Fail> {
     let alloc = rt.alloc();
     let front = EMPTY_PASSWORD_HASH.get(..KEY_AT).unwrap_or("");
-    let key = followed_by(alloc, front, '.', 1_000_000)?;
+    let key = format!(in alloc; "{front}{}", ".".repeat(alloc, 1_000_000)?)?;
     assert_eq!(rt; verdict(alloc, key.as_str())?, Err(Error::PasswordInvalid));
-    let fields = followed_by(alloc, "$7", '$', 1_000_000)?;
+    let fields = format!(in alloc; "$7{}", "$".repeat(alloc, 1_000_000)?)?;
     assert_eq!(rt;
         verdict(alloc, fields.as_str())?,
         Err(Error::EncodingInvalid)

@@ -3,7 +3,6 @@
 use password_hash::{PasswordHasher, PasswordVerifier};
 use scrypt::{Params, Scrypt, mcf, phc};
 use std::test::Fail;
-use test_support::texts::followed_by;
 
 // How many times `a` the password is, its PHC text and its `$7$` text for the salt `NaCl`, by Python's
 // hashlib, and the reason for the row.
@@ -45,7 +44,7 @@ fn long_passwords(rt: HostRuntime) -> Result<(), Fail> {
     let alloc = rt.alloc();
     let hasher = Scrypt::new_with_params(Params::new(4, 1, 1)?);
     for (length, phc_text, mcf_text, reason) in ROWS {
-        let password = followed_by(alloc, "", 'a', length)?;
+        let password = "a".repeat(alloc, length)?;
         let password = password.as_bytes();
         let made: phc::PasswordHash = hasher.hash_password_with_salt(alloc, password, b"NaCl")?;
         assert_eq!(rt; made.to_string(alloc)?.as_str(), phc_text, "{reason}");
