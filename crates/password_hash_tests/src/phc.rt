@@ -3,10 +3,7 @@
 use password_hash::Error;
 use password_hash::phc::{Ident, Output, ParamsString, PasswordHash, Salt, Value};
 use std::test::Fail;
-
-// `passlib`'s hash of `password`, with the parameters (16, 8, 1).
-const PASSLIB_HASH: &str =
-    "$scrypt$ln=16,r=8,p=1$aM15713r3Xsvxbi31lqr1Q$nFNh2CVHVjNldFVKDHDlm4CbdRSCdEBsjjJxD+iCs5E";
+use test_support::vectors::PASSLIB_HASH;
 
 // The longest text of parameters: 127 bytes.
 const LONGEST_PARAMS: &str =
