@@ -126,7 +126,7 @@ decimal_found text = elim (cases_Bool (is_decimal text && nat_lt (digits_value 1
   | inr other ↦ rw other tt
 ]
 
-decimal_only : (text : List ℕ) (n : ℕ) → IsDecimal text n → decimal_below (2 ^ 32) text ≡ Some n
+pub decimal_only : (text : List ℕ) (n : ℕ) → IsDecimal text n → decimal_below (2 ^ 32) text ≡ Some n
 unfolding decimal_below has_plus_or_leading_zero
 decimal_only text n h =
     let digits : all_ascii_digits text ≡ true = (numerals_by_value _ tells_all_ascii_digits).from text h.digits in

@@ -30,3 +30,5 @@ pub mod OneReading
 pub mod TextTests
 -- Texts, read and printed by the definitions alone, so that a wrong letter, order or bound in a definition does not check.
 pub mod StandardFacts
+-- Texts of no hash, each refused by a test that the text of every hash passes.
+pub mod RefusedTexts

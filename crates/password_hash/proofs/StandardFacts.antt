@@ -1,9 +1,9 @@
 -- Texts, read and printed by the definitions alone, so that a wrong letter, order or bound in a
 -- definition does not check.
-use Rattle.std.proofs.Common.{◌≡◌, ◌≢◌, ◌&&◌, ◌≤◌, ◌<◌, ℕ, true, false, nat_lt, List, [], ◌∷◌, length, map, take, codes, None, Some, refl, sym, ap, ◌∙◌, arith, lit<, lit≤}
+use Rattle.std.proofs.Common.{◌≡◌, ◌&&◌, ◌≤◌, ◌<◌, ℕ, true, false, nat_lt, List, [], ◌∷◌, length, map, take, codes, None, Some, refl, sym, ap, ◌∙◌, arith, lit<, lit≤}
 use Rattle.std.specs.Fmt.{digits}
 use Rattle.std.specs.List.{list_all}
-use Rattle.std.proofs.lemmas.Bool.{false≢true, ltb-true, lt-ltb}
+use Rattle.std.proofs.lemmas.Bool.{and_from, false≢true, ltb-true, lt-ltb}
 use Rattle.std.proofs.lemmas.List.{append-nil}
 use Rattle.base64.specs.Rfc4648.{encode_symbols}
 use Rattle.password_hash.specs.Crypt64.{letter, letter_value, letters_of, number_of, crypt64_of, Crypt64, IsCrypt64}
@@ -12,11 +12,9 @@ use Rattle.password_hash.specs.Letters.{is_identifier_letter}
 use Rattle.password_hash.specs.Mcf.{IsMcf, IsMcfText, id_of}
 use Rattle.password_hash.specs.Parts.{parts_of}
 use Rattle.password_hash.specs.Phc.{hash_text, IsHashText}
-use Rattle.password_hash.specs.declared.phc.hash.PasswordHash.{PasswordHash}
 use Rattle.password_hash.proofs.GroupFacts.{IsCut, no_bytes, refuses_no_number, refuses_lone, refuses_more_bits}
-use Rattle.password_hash.proofs.HashFacts.{parts_of_hash}
 use Rattle.password_hash.proofs.McfFacts.{IsMcfText-from_parts, IsMcfText-one}
-use Rattle.password_hash.proofs.TextTests.{is_byte, is_identifier, all_shown, and_shown, algorithm_shown, reads}
+use Rattle.password_hash.proofs.TextTests.{is_byte, all_shown, reads}
 
 -- PHC texts
 
@@ -97,32 +95,6 @@ longest_params_text = reads _ _ refl refl refl refl refl refl refl
 pub key_not_printed : hash_text (record { algorithm = codes "scrypt"; version = Some 2; params = (codes "b", codes "1") ∷ (codes "a", codes "2") ∷ []; salt = None; hash = Some sodium_key }) ≡ codes "$scrypt$v=2$b=1,a=2"
 unfolding digits
 key_not_printed = refl
-
--- a text without a `$` at its front, and one whose algorithm is not an identifier, are not read
-
-no_dollar_refused : (text : List ℕ) → ((rest : List ℕ) → text ≢ 36 ∷ rest) → (hash : PasswordHash) → ¬ IsHashText text hash
-no_dollar_refused text other hash is = other _ is.whole
-
-algorithm_refused : (rest part : List ℕ) (after : List (List ℕ)) → parts_of rest ≡ part ∷ after → is_identifier part ≡ false
-    → (hash : PasswordHash) → ¬ IsHashText (36 ∷ rest) hash
-algorithm_refused rest part after split other hash is =
-    let parts = parts_of_hash (36 ∷ rest) rest part after hash is refl split in
-    false≢true (sym other ∙ ap is_identifier parts.algorithm ∙ algorithm_shown hash.algorithm is.algorithm)
-
-pub empty_text_refused : (hash : PasswordHash) → ¬ IsHashText [] hash
-empty_text_refused = no_dollar_refused [] (λ rest e. cc)
-
-pub bare_algorithm_refused : (hash : PasswordHash) → ¬ IsHashText (codes "scrypt") hash
-bare_algorithm_refused = no_dollar_refused (codes "scrypt") (λ rest e. cc)
-
-pub lone_dollar_refused : (hash : PasswordHash) → ¬ IsHashText (codes "$") hash
-lone_dollar_refused = algorithm_refused [] [] [] refl refl
-
-pub capital_letter_refused : (hash : PasswordHash) → ¬ IsHashText (codes "$Scrypt") hash
-capital_letter_refused = algorithm_refused (codes "Scrypt") (codes "Scrypt") [] refl refl
-
-pub long_algorithm_refused : (hash : PasswordHash) → ¬ IsHashText (codes "$aaaaaaaaaaaaaaaaaaaaaaaaaaaaaaaaa") hash
-long_algorithm_refused = algorithm_refused (codes "aaaaaaaaaaaaaaaaaaaaaaaaaaaaaaaaa") (codes "aaaaaaaaaaaaaaaaaaaaaaaaaaaaaaaaa") [] refl refl
 
 -- decimals: the number, or `None` for a text that is not a decimal below 2 ^ 32
 pub decimals : map (decimal_below 4294967296) (codes "0" ∷ codes "7" ∷ codes "10" ∷ codes "4294967295" ∷ []) ≡ Some 0 ∷ Some 7 ∷ Some 10 ∷ Some 4294967295 ∷ []
@@ -239,7 +211,7 @@ mcf_refused : (text : List ℕ) → nat_lt 0 (length (id_of text)) && list_all i
 mcf_refused text other is =
     let one = (IsMcfText-one text is.0 is.1 is.2).0 in
     let id = is.2.is_id in
-    let good : nat_lt 0 (length is.0) && list_all is_identifier_letter is.0 ≡ true = and_shown (nat_lt 0 (length is.0)) (list_all is_identifier_letter is.0) (lt-ltb 0 (length is.0) id.0) id.1 in
+    let good : nat_lt 0 (length is.0) && list_all is_identifier_letter is.0 ≡ true = and_from (nat_lt 0 (length is.0)) (list_all is_identifier_letter is.0) (lt-ltb 0 (length is.0) id.0) id.1 in
     false≢true (sym other ∙ rw one good)
 
 pub mcf_fields : IsMcfText (codes "$7$a$$b") (codes "7") (codes "a" ∷ [] ∷ codes "b" ∷ [])
