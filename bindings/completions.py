@@ -12,7 +12,7 @@ import subprocess
 import sys
 import tempfile
 
-SOURCE = os.path.join(os.path.dirname(os.path.abspath(__file__)), "../crates/scrypt_tool/src/fault.rt")
+SOURCE = os.path.join(os.path.dirname(os.path.abspath(__file__)), "../crates/scrypt_commands/src/fault.rt")
 
 BASH = """# Completes the words of scrypt_tool, which its usage line names.
 _scrypt_tool() {{

@@ -91,10 +91,10 @@ def public_functions(text):
 
 
 def own_sources():
-    """The sources of the libraries, and of the program the one function that is its promise."""
+    """The sources of the libraries, and of the commands the one function that is their promise."""
     others = ("_tests/", "/test_support/", "/tests", "/verdicts/", "/scrypt_c/src/texts.rt")
     found = [it for it in sources("rt") if not any(other in it for other in others)]
-    return [it for it in found if "/scrypt_tool/" not in it or it.endswith("/run.rt")]
+    return [it for it in found if "/scrypt_commands/" not in it or it.endswith("/run.rt")]
 
 
 def unnamed_clauses(path, text):

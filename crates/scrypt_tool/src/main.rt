@@ -13,15 +13,7 @@
 //! of `ok`, `rehash` writes a new hash if the old one is weaker than wanted.
 #![tactic(auto)]
 
-mod answer;
-mod command;
-mod fault;
-mod run;
-mod stored_hash;
-#[cfg(test)]
-mod tests;
-mod words;
-
+use scrypt_commands::run::run;
 use std::process::ExitCode;
 use std::{env, io};
 
@@ -31,7 +23,7 @@ fn main(rt: HostRuntime) -> ExitCode {
         let _ = faults.write_all(b"the arguments can't be read\n");
         return ExitCode::from(3);
     };
-    let ended = run::run(
+    let ended = run(
         rt.alloc(),
         &words,
         &mut rt.stdin(),

@@ -1,5 +1,0 @@
-use Rattle.std.specs.Io.KnownBytes.{Consumes}
-use Rattle.scrypt_tool.proofs.run.read_all.Given as goal
-
-abbrev pub invariant-reads : goal.invariant-reads
-invariant-reads g l = Consumes (g.R.Read.remaining l.fn.reader) (g.R.Read.remaining l.reader) l.input.items
