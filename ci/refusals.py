@@ -28,10 +28,16 @@ STRONG = re.compile(r"it is not proved that|error: `[^`]+`: |error: .*(differ|do
 
 
 def reasons(crate):
-    """The lines of a check that say why it fails, and whether it does."""
+    """Whether a check fails, and the reasons that it prints."""
     ran = subprocess.run(["rt", "check"], cwd=crate, capture_output=True, text=True)
-    lines = (ran.stdout + ran.stderr).splitlines()
-    return ran.returncode != 0, [it for it in lines if STRONG.search(it) and not it.startswith("so far")]
+    told = []
+    for line in (ran.stdout + ran.stderr).splitlines():
+        # a reason goes on in the indented lines after it
+        if told and line.startswith("  "):
+            told[-1] += line
+        else:
+            told.append(line)
+    return ran.returncode != 0, [it for it in told if STRONG.search(it) and not it.startswith("so far")]
 
 
 def verdict(crate, edit):

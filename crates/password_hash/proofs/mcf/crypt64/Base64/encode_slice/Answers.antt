@@ -1,4 +1,4 @@
-use Rattle.std.proofs.Common.{◌<◌, ◌∙◌, ap, arith, ◌++◌, ◌∷◌, [], length, length-append, ◌+◌}
+use Rattle.std.proofs.Common.{◌<◌, ◌∙◌, ap, arith, rules, refl, ◌++◌, ◌∷◌, [], length, length-append, ◌+◌}
 use Rattle.password_hash.specs.Crypt64.{encoded_len}
 use Rattle.password_hash.proofs.Crypt64Facts.{letter_done, set-after}
 use Rattle.password_hash.proofs.GroupFacts.{length-crypt64_of, letters-inside}
@@ -13,6 +13,9 @@ returns-then-out-n-clause-exact c = (
     | then-out-n-via-else-out-n+then-out-n-2 w ↦ absurd (omega (arith, length-crypt64_of c.args.bytes.now, w.if-out-n.false, w.if-out-n-2.true, w.div_ceil.ensures))
   ],
 )
+
+pub loop-letter-init : goal.loop-letter-init
+loop-letter-init c = ([], search rules, refl, refl)
 
 -- there is a place for each letter
 room : (c : In-Some) → c.loop-letter.len < length c.args.out.now

@@ -19,3 +19,17 @@ pub returns-in-Err-clause-err : goal.returns-in-Err-clause-err
 returns-in-Err-clause-err c =
     rw c.in-Err.ensures.memory
     (by_memory (c.is_scrypt_or_none.ensures.0 (search rules)) (search rules) (c.in-Ok.ensures.exact.0 refl))
+
+pub returns-in-Ok-short_key-clause-ok : goal.returns-in-Ok-short_key-clause-ok
+returns-in-Ok-short_key-clause-ok c = (
+  c.is_scrypt_or_none.ensures.0 (search rules),
+  search rules,
+  record {
+    algorithm = refl;
+    version = refl;
+    params = c.written.ensures;
+    salt_len = search rules;
+    salt_is = search rules;
+    key_is = search rules;
+  },
+)
