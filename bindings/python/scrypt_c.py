@@ -53,6 +53,17 @@ def _done(status: int) -> None:
         raise Refused(_REFUSALS[status])
 
 
+def _raw(data: bytes) -> bytes:
+    """The bytes of a bytes-like object. `bytes` alone would take a number for a length."""
+    return memoryview(data).tobytes()
+
+
+def _raw_text(text: str) -> bytes:
+    if not isinstance(text, str):
+        raise TypeError(f"a hash is a str, not {type(text).__name__}")
+    return text.encode()
+
+
 def _costs_of(log_n: int, r: int, p: int) -> tuple[int, int, int]:
     """The three, if C's types hold them: ctypes would cut them off."""
     if not (0 <= log_n < 1 << 8 and 0 <= r < 1 << 32 and 0 <= p < 1 << 32):
@@ -70,7 +81,7 @@ def scrypt(password: bytes, *, salt: bytes, n: int, r: int, p: int, dklen: int =
     costs = _costs_of(n.bit_length() - 1, r, p)
     if not 1 <= dklen <= 137438953440:
         raise Refused("InvalidOutputLen")
-    password, salt = bytes(password), bytes(salt)
+    password, salt = _raw(password), _raw(salt)
     key = ctypes.create_string_buffer(dklen)
     _done(_lib.scrypt_kdf_mapped(password, len(password), salt, len(salt), *costs, key, dklen))
     return key.raw
@@ -93,7 +104,7 @@ def hash(
     costs = _costs_of(log_n, r, p)
     if not 10 <= key_len <= 64:
         raise Refused("InvalidParams")
-    password, salt = bytes(password), bytes(salt)
+    password, salt = _raw(password), _raw(salt)
     call = _lib.scrypt_hash_mcf if mcf else _lib.scrypt_hash_phc
     capacity = 256 + 2 * len(salt)
     text, text_len = ctypes.create_string_buffer(capacity), ctypes.c_size_t(0)
@@ -103,7 +114,7 @@ def hash(
 
 def verify(password: bytes, text: str) -> bool:
     """Whether the password is that of the hash, in either format."""
-    password, raw = bytes(password), text.encode()
+    password, raw = _raw(password), _raw_text(text)
     status = _lib.scrypt_verify(password, len(password), raw, len(raw))
     if status == _NO:
         return False
@@ -116,7 +127,7 @@ def needs_rehash(text: str, *, log_n: int = 17, r: int = 8, p: int = 1, key_len:
     costs = _costs_of(log_n, r, p)
     if not 10 <= key_len <= 64:
         raise Refused("InvalidParams")
-    raw = text.encode()
+    raw = _raw_text(text)
     status = _lib.scrypt_needs_rehash(raw, len(raw), *costs, key_len)
     if status == _NO:
         return True

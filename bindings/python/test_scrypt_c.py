@@ -56,6 +56,21 @@ class Calls(unittest.TestCase):
         with self.assertRaises(MemoryError):
             scrypt_c.scrypt(b"", salt=b"", n=1 << 56, r=1, p=1)
 
+    def test_types(self):
+        costs = {"n": 16, "r": 1, "p": 1}
+        for wrong in (5, "text", None):
+            with self.assertRaises(TypeError):
+                scrypt_c.scrypt(wrong, salt=b"", **costs)
+            with self.assertRaises(TypeError):
+                scrypt_c.hash(b"", salt=wrong, log_n=4)
+        for wrong in (b"$scrypt", None):
+            with self.assertRaises(TypeError):
+                scrypt_c.verify(b"", wrong)
+            with self.assertRaises(TypeError):
+                scrypt_c.needs_rehash(wrong)
+        key = scrypt_c.scrypt(b"a", salt=b"b", **costs)
+        self.assertEqual(scrypt_c.scrypt(bytearray(b"a"), salt=memoryview(b"b"), **costs), key)
+
     def test_refused_texts(self):
         for text, name in [
             ("", "EncodingInvalid"),
