@@ -18,10 +18,11 @@ import sys
 import tempfile
 import time
 
+import picture
+
 COSTS = [(17, 8, 1), (20, 8, 1)]
 SPACINGS = range(7)
 PASSWORD, SALT, LENGTH = b"pleaseletmein", b"SodiumChloride", 64
-COLOURS = ["#1f77b4", "#d62728"]
 
 
 def shared(path, folder):
@@ -98,19 +99,20 @@ def drawn(results):
 
     lines = [
         '<svg xmlns="http://www.w3.org/2000/svg" width="680" height="380" font-family="sans-serif" font-size="12">',
-        '<rect width="680" height="380" fill="white"/>',
-        '<text x="310" y="370" text-anchor="middle">memory of the table in MiB</text>',
-        '<text x="70" y="20">time in seconds</text>',
+        picture.style(),
+        '<rect class="ground" width="680" height="380"/>',
+        '<text x="310" y="370" text-anchor="middle">MiB of the table, by powers of two</text>',
+        '<text x="70" y="20">seconds, by powers of two; beside each point its MiB and its seconds</text>',
     ]
-    for (costs, rows), colour in zip(results.items(), COLOURS):
+    for number, (costs, rows) in enumerate(results.items()):
         places = [place(mib, taken) for _, mib, _, taken in rows]
         path = " ".join(f"{x:.0f},{y:.0f}" for x, y in places)
-        lines.append(f'<polyline points="{path}" fill="none" stroke="{colour}"/>')
+        lines.append(f'<polyline points="{path}" fill="none" class="c{number}"/>')
         for (x, y), (_, mib, _, taken) in zip(places, rows):
-            lines.append(f'<circle cx="{x:.0f}" cy="{y:.0f}" r="3" fill="{colour}"/>')
+            lines.append(f'<circle cx="{x:.0f}" cy="{y:.0f}" r="3" class="d{number}"/>')
             lines.append(f'<text x="{x + 5:.0f}" y="{y - 5:.0f}">{mib:g}, {taken:.2g}</text>')
         x, y = places[0]
-        lines.append(f'<text x="{x - 10:.0f}" y="{y + 18:.0f}" text-anchor="end" fill="{colour}">{costs}</text>')
+        lines.append(f'<text x="{x - 10:.0f}" y="{y + 18:.0f}" text-anchor="end" class="d{number}">{costs}</text>')
     return "\n".join([*lines, "</svg>", ""])
 
 
@@ -126,8 +128,8 @@ def main():
         for s, mib, cores, taken in rows:
             print(f"| {s} | {mib:g} | {cores:.3g} | {taken:.3f} |")
     if len(sys.argv) > 3:
-        with open(sys.argv[3], "w", encoding="utf-8") as picture:
-            picture.write(drawn(results))
+        with open(sys.argv[3], "w", encoding="utf-8") as file:
+            file.write(drawn(results))
 
 
 if __name__ == "__main__":
