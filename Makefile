@@ -21,7 +21,7 @@
 .PHONY: run test wrong-bodies refused-by-tests refusals oracle lib install callers bench thin compare-worker kit
 
 run: kit
-	cd crates/scrypt_tool && rt run -- key 4 1 1 64 ""
+	cd crates/scrypt_tool && rt run -- key 4 1 1 64 "" < /dev/null
 
 test: kit
 	python3 ci/test_docs.py
@@ -71,6 +71,7 @@ thin: lib
 	python3 bench/thin.py build/lib/libscrypt_c.so 2 docs/thin.svg
 
 compare-worker: kit
+	@test -n "$(WORKER)" || { echo "Say with what: make compare-worker WORKER=PATH" >&2; exit 1; }
 	cd crates/scrypt_tool && rt run -- key 0 1 1 1 "" > /dev/null < /dev/null
 	python3 ci/compare_worker.py crates/scrypt_tool/out/scrypt_tool $(WORKER)
 
