@@ -17,8 +17,13 @@
 #               and WORKERS="--callgrind" counts instructions
 #   make thin   measures the key by smaller tables, and draws docs/thin.svg
 #   make compare-worker WORKER=PATH  compares 10,000 keys with those of such a program
+#   make clean  removes what was built
 
-.PHONY: run test wrong-bodies refused-by-tests refusals oracle lib install callers bench thin compare-worker kit
+.PHONY: help run test wrong-bodies refused-by-tests refusals oracle lib install callers bench thin compare-worker \
+  clean kit
+
+help:
+	@sed -n '/^#/!q; s/^# \{0,1\}//p' Makefile
 
 run: kit
 	cd crates/scrypt_tool && rt run -- key 4 1 1 64 "" < /dev/null
@@ -74,6 +79,9 @@ compare-worker: kit
 	@test -n "$(WORKER)" || { echo "Say with what: make compare-worker WORKER=PATH" >&2; exit 1; }
 	cd crates/scrypt_tool && rt run -- key 0 1 1 1 "" > /dev/null < /dev/null
 	python3 ci/compare_worker.py crates/scrypt_tool/out/scrypt_tool $(WORKER)
+
+clean:
+	rm -rf build crates/*/out
 
 kit:
 	@command -v rt > /dev/null || { \
