@@ -28,3 +28,7 @@ pub mod McfHashFacts
 pub mod McfRefusalFacts
 -- The text that hashing writes is that of the hash.
 pub mod McfTextFacts
+-- Readings of texts that compute, and that they are the readings of the definitions.
+pub mod ReadingTests
+-- Texts of hashes, read by the definitions alone: the costs, the salt and the key of each, or its refusal.
+pub mod HashTexts
