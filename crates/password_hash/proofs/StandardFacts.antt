@@ -14,7 +14,7 @@ use Rattle.password_hash.specs.Parts.{parts_of}
 use Rattle.password_hash.specs.Phc.{hash_text, IsHashText}
 use Rattle.password_hash.proofs.GroupFacts.{IsCut, no_bytes, refuses_no_number, refuses_lone, refuses_more_bits}
 use Rattle.password_hash.proofs.McfFacts.{IsMcfText-from_parts, IsMcfText-one}
-use Rattle.password_hash.proofs.TextTests.{is_byte, all_shown, reads}
+use Rattle.password_hash.proofs.TextTests.{crypt64_shown, reads}
 
 -- PHC texts
 
@@ -108,9 +108,6 @@ unfolding decimal_below has_plus_or_leading_zero
 other_texts_are_no_decimals = refl
 
 -- crypt Base64: bytes and their letters
-
-crypt64_shown : (bytes letters : List ℕ) → letters ≡ crypt64_of bytes → list_all is_byte bytes ≡ true → Crypt64 bytes letters
-crypt64_shown bytes letters e h = record { are_bytes = all_shown is_byte (λ byte. byte < 256) (λ b. ltb-true b 256) bytes h; encoding = e }
 
 -- the bytes 11, 48, 85, .., each 37 more than the one before
 abbrev stepped : List ℕ

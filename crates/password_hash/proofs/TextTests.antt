@@ -9,11 +9,13 @@ use Rattle.std.proofs.lemmas.List.Elements.{All-nil, All-cons}
 use Rattle.std.proofs.lemmas.List.Kept.{AllPairs-cons}
 use Rattle.std.proofs.lemmas.Slice.Eq.{bytes_eq-Decides}
 use Rattle.base64.specs.GeneralPurpose.{IsBytes}
+use Rattle.password_hash.specs.Crypt64.{crypt64_of, Crypt64}
 use Rattle.password_hash.specs.Letters.{IsIdentifier, is_identifier_letter, is_value_letter}
 use Rattle.password_hash.specs.Pairs.{IsPair, ArePairs, pairs_text}
 use Rattle.password_hash.specs.Phc.{hash_text, IsHashText}
 use Rattle.password_hash.specs.Stored.{AreBytesFromTo}
 use Rattle.password_hash.specs.declared.phc.hash.PasswordHash.{PasswordHash}
+use Rattle.password_hash.proofs.Crypt64Facts.{AreBytes}
 
 abbrev pub is_byte : ℕ → Bool
 is_byte b = nat_lt b 256
@@ -67,6 +69,12 @@ all_shown p P each [] h = All-nil P
 all_shown p P each (x ∷ xs) h =
     let parts = and_parts (p x) (list_all p xs) h in
     All-cons P x xs (each x parts.0) (all_shown p P each xs parts.1)
+
+pub are_bytes_shown : (bytes : List ℕ) → list_all is_byte bytes ≡ true → AreBytes bytes
+are_bytes_shown bytes = all_shown is_byte (λ byte. byte < 256) (λ byte. ltb-true byte 256) bytes
+
+pub crypt64_shown : (bytes letters : List ℕ) → letters ≡ crypt64_of bytes → list_all is_byte bytes ≡ true → Crypt64 bytes letters
+crypt64_shown bytes letters e h = record { are_bytes = are_bytes_shown bytes h; encoding = e }
 
 abbrev Differ : List ℕ × List ℕ → List ℕ × List ℕ → Type 0
 Differ first second = first.0 ≢ second.0

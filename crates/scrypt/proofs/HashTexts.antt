@@ -10,7 +10,7 @@ use Rattle.password_hash.specs.Refusal.{Refusal, BadAlgorithm, BadEncoding, BadO
 use Rattle.password_hash.specs.declared.phc.hash.PasswordHash.{PasswordHash}
 use Rattle.password_hash.proofs.McfFacts.{IsMcfText-from_parts}
 use Rattle.password_hash.proofs.StandardFacts.{passlib_key, passlib_salt, passlib_text, sodium_key, sodium_text}
-use Rattle.password_hash.proofs.TextTests.{differ_shown, reads}
+use Rattle.password_hash.proofs.TextTests.{crypt64_shown, differ_shown, reads}
 use Rattle.scrypt.specs.Accepted.{Parameters}
 use Rattle.scrypt.specs.Key.{derived_key}
 use Rattle.scrypt.specs.McfCosts.{five_letter_number, ReadsField}
@@ -18,7 +18,7 @@ use Rattle.scrypt.specs.McfHash.{mcf_id, HasCosts, IsWhole, ReadIsRefused, Verdi
 use Rattle.scrypt.specs.PhcCosts.{ReadsCosts}
 use Rattle.scrypt.specs.PhcHash.{scrypt_id, IsWhole as PhcIsWhole, ReadIsRefused as PhcIsRefused, algorithm, version, costs, missing}
 use Rattle.scrypt.specs.Verifying.{for_memory, right, wrong}
-use Rattle.scrypt.proofs.ReadingTests.{rows_shown, parameters, read_field, field_reads, read_first, is_seven_refused, first_refused, with_costs, whole_shown, crypt64_shown, not_crypt64, read_costs, costs_read}
+use Rattle.scrypt.proofs.ReadingTests.{rows_shown, parameters, read_field, field_reads, read_first, is_seven_refused, first_refused, with_costs, whole_shown, not_crypt64, read_costs, costs_read}
 use Rattle.scrypt.proofs.KeyFacts.{key_prefix}
 use Rattle.scrypt.proofs.StandardFacts.{derived_key_vector, first_key}
 
@@ -70,7 +70,7 @@ pub fields_read : All (λ (row : List ℕ × Result (Parameters × List ℕ) Ref
 unfolding number_of letter_value
 fields_read = rows_shown read_field (λ out. out) ReadsField field_reads field_rows refl
 
--- a byte that is no letter, at each place of r and of p
+-- a byte outside the alphabet, at each place of r and of p
 abbrev replaced_rows : List (List ℕ × Result (Parameters × List ℕ) Refusal)
 replaced_rows =
     flat_map (λ byte. map (λ place. (set (codes "CU..../....") place byte, Err BadEncoding))

@@ -6,7 +6,7 @@ use Rattle.std.proofs.lemmas.Bool.{and_from, and_parts, cases_Bool, cases_lt, eq
 use Rattle.std.proofs.lemmas.List.{take-append-drop}
 use Rattle.std.proofs.lemmas.List.Elements.{All-nil, All-cons, All-drop}
 use Rattle.std.proofs.lemmas.Slice.Eq.{bytes_eq-Decides}
-use Rattle.password_hash.specs.Crypt64.{letter_value, letters_of, number_of, crypt64_of, Crypt64, IsCrypt64}
+use Rattle.password_hash.specs.Crypt64.{letter_value, letters_of, number_of, crypt64_of, IsCrypt64}
 use Rattle.password_hash.specs.Decimal.{IsDecimal}
 use Rattle.password_hash.specs.Mcf.{IsField, IsMcfText}
 use Rattle.password_hash.specs.Parts.{dollar, parts_of}
@@ -14,7 +14,7 @@ use Rattle.password_hash.specs.Refusal.{Refusal, BadEncoding, BadParam, BadParam
 use Rattle.password_hash.proofs.Crypt64Facts.{AreBytes, number_of-letters_of}
 use Rattle.password_hash.proofs.DecimalFacts.{IsDecimal-decimal, decimal_of}
 use Rattle.password_hash.proofs.McfFacts.{IsMcfText-from_parts}
-use Rattle.password_hash.proofs.TextTests.{is_byte, all_shown}
+use Rattle.password_hash.proofs.TextTests.{all_shown, are_bytes_shown, is_byte}
 use Rattle.scrypt.specs.Accepted.{AreAccepted, IsOutputLen, Parameters}
 use Rattle.scrypt.specs.McfCosts.{costs_text, five_letter_number, ReadsField, SaysCosts, malformed, not_accepted, accepted}
 use Rattle.scrypt.specs.McfHash.{mcf_id, HasCosts, IsWhole, ReadIsRefused, no_field, bad_costs}
@@ -152,9 +152,6 @@ with_costs text field after log_n r p salt split read =
 
 -- A key of a `$7$` text
 
-bytes_shown : (key : List ℕ) → list_all is_byte key ≡ true → AreBytes key
-bytes_shown key = all_shown is_byte (λ byte. byte < 256) (λ byte. ltb-true byte 256) key
-
 abbrev is_no_dollar : ℕ → Bool
 is_no_dollar byte = not (byte == dollar)
 
@@ -170,9 +167,6 @@ len_shown len h =
     let parts = and_parts (nat_le 1 len) (nat_le len 137438953440) h in
     (leb-true 1 len parts.0, leb-true len 137438953440 parts.1)
 
-pub crypt64_shown : (key letters : List ℕ) → letters ≡ crypt64_of key → list_all is_byte key ≡ true → Crypt64 key letters
-crypt64_shown key letters e h = record { are_bytes = bytes_shown key h; encoding = e }
-
 -- the text of a whole hash
 pub whole_shown : (text : List ℕ) (log_n r p : ℕ) (salt key : List ℕ)
     → text ≡ costs_text (parameters log_n r p) ++ (salt ++ dollar ∷ crypt64_of key) → are_accepted log_n r p ≡ true
@@ -180,7 +174,7 @@ pub whole_shown : (text : List ℕ) (log_n r p : ℕ) (salt key : List ℕ)
     → IsWhole text (parameters log_n r p) salt key
 whole_shown text log_n r p salt key written good plain bytes len =
     subst (λ t. IsWhole t (parameters log_n r p) salt key) (sym written)
-    (text_is (parameters log_n r p) salt key (accepted_shown log_n r p good) (field_shown salt plain) (bytes_shown key bytes)
+    (text_is (parameters log_n r p) salt key (accepted_shown log_n r p good) (field_shown salt plain) (are_bytes_shown key bytes)
     (len_shown (length key) len))
 
 -- a test that the letters of all bytes pass
