@@ -237,26 +237,15 @@ not_rehash_words text (x0 ∷ x1 ∷ x2 ∷ x3 ∷ x4 ∷ x5 ∷ []) n = refl
 not_rehash_words text (x0 ∷ x1 ∷ x2 ∷ x3 ∷ x4 ∷ x5 ∷ x6 ∷ []) n = absurd (n refl)
 not_rehash_words text (x0 ∷ x1 ∷ x2 ∷ x3 ∷ x4 ∷ x5 ∷ x6 ∷ x7 ∷ xs) n = refl
 
--- a command's name, and the words after it
-pub after_key : (words rest : List (List ℕ)) (name : List ℕ) → words ≡ name ∷ rest → name ≡ codes "key"
-    → words_of words ≡ key_words rest
+-- what the words are, by the command that the first of them names
+pub named : (words rest : List (List ℕ)) (name : List ℕ) → words ≡ name ∷ rest
+    → (name ≡ codes "key" → words_of words ≡ key_words rest)
+    × (name ≡ codes "hash" → words_of words ≡ hash_words rest)
+    × (name ≡ codes "verify" → words_of words ≡ verify_words rest)
+    × (name ≡ codes "rehash" → words_of words ≡ rehash_words rest)
 unfolding words_of
-after_key words rest name are is = rw (are, is) refl
-
-pub after_hash : (words rest : List (List ℕ)) (name : List ℕ) → words ≡ name ∷ rest → name ≡ codes "hash"
-    → words_of words ≡ hash_words rest
-unfolding words_of
-after_hash words rest name are is = rw (are, is) refl
-
-pub after_verify : (words rest : List (List ℕ)) (name : List ℕ) → words ≡ name ∷ rest → name ≡ codes "verify"
-    → words_of words ≡ verify_words rest
-unfolding words_of
-after_verify words rest name are is = rw (are, is) refl
-
-pub after_rehash : (words rest : List (List ℕ)) (name : List ℕ) → words ≡ name ∷ rest → name ≡ codes "rehash"
-    → words_of words ≡ rehash_words rest
-unfolding words_of
-after_rehash words rest name are is = rw (are, is) refl
+named words rest name are =
+    (λ is. rw (are, is) refl, λ is. rw (are, is) refl, λ is. rw (are, is) refl, λ is. rw (are, is) refl)
 
 -- a text that is not this one
 other : (text name : List ℕ) → text ≢ name → bytes_eq text name ≡ false

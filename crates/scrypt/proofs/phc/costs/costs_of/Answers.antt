@@ -6,9 +6,8 @@ use Rattle.scrypt.proofs.phc.costs.costs_of.Goals as goal
 pub returns-in_err-log_n-in-ln : goal.returns-in_err-log_n-in-ln
 returns-in_err-log_n-in-ln c =
     let out = err_from_is_err_and c.from_residual.result c.from_residual.ensures.1 in
-    let told = c.in_err-log_n-in-ln.ensures in
-    let name_is = sym c.as_str.ensures.value ∙ c.in-ln.is in
-    rw (out.1, out.2) (c.pairs.invariant _ (rw (c.in-Some.ensures.steps, told.refused) (ln_refused name_is told.large)))
+    rw (out.1, out.2) (c.pairs.invariant _ (rw (c.in-Some.ensures.steps, c.in_err-log_n-in-ln.ensures.refused)
+    (ln_refused (sym c.as_str.ensures.value ∙ c.in-ln.is) c.in_err-log_n-in-ln.ensures.large)))
 
 pub pairs-preserved-then-str_eq : goal.pairs-preserved-then-str_eq
 pairs-preserved-then-str_eq c out rest =
@@ -19,9 +18,8 @@ pairs-preserved-then-str_eq c out rest =
 pub returns-in_err-r-in-r : goal.returns-in_err-r-in-r
 returns-in_err-r-in-r c =
     let out = err_from_is_err_and c.from_residual-in_err-r-in-r.result c.from_residual-in_err-r-in-r.ensures.1 in
-    let told = c.in_err-r-in-r.ensures in
-    let name_is = sym c.as_str.ensures.value ∙ c.in-r.is in
-    rw (out.1, out.2) (c.pairs.invariant _ (rw (c.in-Some.ensures.steps, told.refused) (r_refused name_is told.no_decimal)))
+    rw (out.1, out.2) (c.pairs.invariant _ (rw (c.in-Some.ensures.steps, c.in_err-r-in-r.ensures.refused)
+    (r_refused (sym c.as_str.ensures.value ∙ c.in-r.is) c.in_err-r-in-r.ensures.no_decimal)))
 
 pub pairs-preserved-then-str_eq-2 : goal.pairs-preserved-then-str_eq-2
 pairs-preserved-then-str_eq-2 c out rest =
@@ -31,9 +29,8 @@ pairs-preserved-then-str_eq-2 c out rest =
 pub returns-in_err-p-in-p : goal.returns-in_err-p-in-p
 returns-in_err-p-in-p c =
     let out = err_from_is_err_and c.from_residual-in_err-p-in-p.result c.from_residual-in_err-p-in-p.ensures.1 in
-    let told = c.in_err-p-in-p.ensures in
-    let name_is = sym c.as_str.ensures.value ∙ c.in-p.is in
-    rw (out.1, out.2) (c.pairs.invariant _ (rw (c.in-Some.ensures.steps, told.refused) (p_refused name_is told.no_decimal)))
+    rw (out.1, out.2) (c.pairs.invariant _ (rw (c.in-Some.ensures.steps, c.in_err-p-in-p.ensures.refused)
+    (p_refused (sym c.as_str.ensures.value ∙ c.in-p.is) c.in_err-p-in-p.ensures.no_decimal)))
 
 pub pairs-preserved : goal.pairs-preserved
 pairs-preserved c out rest =
