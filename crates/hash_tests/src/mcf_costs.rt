@@ -1,6 +1,6 @@
 // Five-letter numbers, and the costs and the salt of a `$7$` text.
 
-use password_hash::Error;
+use password_hash::Error::{self, EncodingInvalid, ParamsInvalid};
 use scrypt::Params;
 use scrypt::mcf::{decode_params_and_salt, decode64_uint32, encode64_uint32};
 use std::test::Fail;
@@ -32,10 +32,7 @@ fn places_after_five_letters(rt: HostRuntime) {
     assert_eq!(rt; encode64_uint32(&mut out, 32), Ok(()));
     assert_eq!(rt; out, *b"U....--");
     let mut short = *b"----";
-    assert_eq!(rt;
-        encode64_uint32(&mut short, 32),
-        Err(Error::EncodingInvalid)
-    );
+    assert_eq!(rt; encode64_uint32(&mut short, 32), Err(EncodingInvalid));
     assert_eq!(rt; short, *b"----");
     assert_eq!(rt; decode64_uint32(b"U....$$"), Ok(32));
     for (letters, reason) in [
@@ -47,7 +44,7 @@ fn places_after_five_letters(rt: HostRuntime) {
     ] {
         assert_eq!(rt;
             decode64_uint32(letters.as_bytes()),
-            Err(Error::EncodingInvalid),
+            Err(EncodingInvalid),
             "{reason}"
         );
     }
@@ -67,43 +64,31 @@ const ACCEPTED: [(&str, (u8, u32, u32), &str); 5] = [
 ];
 
 const REFUSED: [(&str, Error, &str); 13] = [
-    ("", Error::EncodingInvalid, "no letter"),
-    ("C", Error::EncodingInvalid, "log_n alone"),
-    ("*U...", Error::EncodingInvalid, "r has four letters"),
-    ("CU..../...", Error::EncodingInvalid, "p has four letters"),
-    (
-        "\u{e9}U..../....",
-        Error::EncodingInvalid,
-        "log_n is not ASCII",
-    ),
+    ("", EncodingInvalid, "no letter"),
+    ("C", EncodingInvalid, "log_n alone"),
+    ("*U...", EncodingInvalid, "r has four letters"),
+    ("CU..../...", EncodingInvalid, "p has four letters"),
+    ("\u{e9}U..../....", EncodingInvalid, "log_n is not ASCII"),
     (
         "CU...\u{e9}/....",
-        Error::EncodingInvalid,
+        EncodingInvalid,
         "r ends in a letter that is not ASCII",
     ),
-    (
-        "*U..../...*",
-        Error::EncodingInvalid,
-        "p is refused before log_n",
-    ),
+    ("*U..../...*", EncodingInvalid, "p is refused before log_n"),
     (
         "*U..../....",
-        Error::ParamsInvalid,
+        ParamsInvalid,
         "log_n outside the alphabet reads as 255",
     ),
     (
         "\u{7f}U..../....",
-        Error::ParamsInvalid,
+        ParamsInvalid,
         "so does the last ASCII character",
     ),
-    ("C...../....", Error::ParamsInvalid, "r is 0"),
-    ("2U....zzzzz", Error::ParamsInvalid, "r * p is above 2^30"),
-    ("t/..../....", Error::ParamsInvalid, "log_n is 57"),
-    (
-        "zzzzzzzzzzz",
-        Error::ParamsInvalid,
-        "each number is the greatest",
-    ),
+    ("C...../....", ParamsInvalid, "r is 0"),
+    ("2U....zzzzz", ParamsInvalid, "r * p is above 2^30"),
+    ("t/..../....", ParamsInvalid, "log_n is 57"),
+    ("zzzzzzzzzzz", ParamsInvalid, "each number is the greatest"),
 ];
 
 // The error for the text, if it is refused.
@@ -136,7 +121,7 @@ fn each_letter_of_r_and_p_replaced(rt: HostRuntime) -> Result<(), Fail> {
             let mut letters = *b"CU..../....";
             letters[at] = byte;
             let text = std::str::from_utf8(&letters)?;
-            assert_eq!(rt; refusal(text), Some(Error::EncodingInvalid), "at {text}");
+            assert_eq!(rt; refusal(text), Some(EncodingInvalid), "at {text}");
         }
     }
     Ok(())

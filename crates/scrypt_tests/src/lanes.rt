@@ -4,7 +4,7 @@ use crate::primitives::words_of;
 use scrypt::block_mix::lanes::{core, scrypt_block_mix, shuffle_in, shuffle_out};
 use scrypt::block_mix::pivot::{INVERSE_PIVOT_ABCD, PIVOT_ABCD, pivots_are_inverse};
 use scrypt::block_mix::plain;
-use scrypt::romix::{integerify_diagonal, plain_ro_mix, scrypt_ro_mix};
+use scrypt::romix::{plain_ro_mix, scrypt_ro_mix};
 use scrypt::{BufferLens, CoreCount, Params};
 use std::alloc::{AllocError, Global};
 use std::test::Fail;
@@ -163,16 +163,4 @@ pub fn count_up(bytes: &mut [u8]) {
         *byte = next;
         next = next.wrapping_add(1);
     }
-}
-
-// No run reaches a log_n above 32, so the index beyond 32 bits is shown here alone.
-#[test]
-fn diagonal_integerify_beyond_32_bits(rt: HostRuntime) {
-    let mut x = [9u32; 32];
-    x[16] = 5;
-    x[29] = 3;
-    assert_eq!(rt; integerify_diagonal(&x, 0), 0);
-    assert_eq!(rt; integerify_diagonal(&x, 4), 5);
-    assert_eq!(rt; integerify_diagonal(&x, 33), 4_294_967_301);
-    assert_eq!(rt; integerify_diagonal(&x, 56), 12_884_901_893);
 }

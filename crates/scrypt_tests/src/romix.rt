@@ -4,7 +4,7 @@ use crate::primitives::words_of;
 use hex::FromHex;
 use scrypt::CoreCount;
 use scrypt::block_mix::plain;
-use scrypt::romix::{integerify_plain, plain_ro_mix, scrypt_ro_mix};
+use scrypt::romix::{integerify_diagonal, integerify_plain, plain_ro_mix, scrypt_ro_mix};
 use std::test::Fail;
 use test_support::vectors::{CORE_INPUT, CORE_OUTPUT, RO_MIX_INPUT, RO_MIX_OUTPUT};
 
@@ -42,14 +42,18 @@ fn ro_mix_of_zeros(rt: HostRuntime) {
     assert_eq!(rt; b, [0; 128]);
 }
 
-// No run reaches a log_n above 32, so the index beyond 32 bits is shown here alone.
+// Where the two orders have the second word of the last block. No run reaches a log_n above 32, so the index beyond 32
+// bits is shown here alone.
 #[test]
 fn integerify_beyond_32_bits(rt: HostRuntime) {
-    let mut x = [9u32; 32];
-    x[16] = 5;
-    x[17] = 3;
-    assert_eq!(rt; integerify_plain(&x, 0), 0);
-    assert_eq!(rt; integerify_plain(&x, 4), 5);
-    assert_eq!(rt; integerify_plain(&x, 33), 4_294_967_301);
-    assert_eq!(rt; integerify_plain(&x, 56), 12_884_901_893);
+    let mut plain = [9u32; 32];
+    plain[16] = 5;
+    plain[17] = 3;
+    let mut diagonal = [9u32; 32];
+    diagonal[16] = 5;
+    diagonal[29] = 3;
+    for (log_n, row) in [(0, 0), (4, 5), (33, 4_294_967_301), (56, 12_884_901_893)] {
+        assert_eq!(rt; integerify_plain(&plain, log_n), row);
+        assert_eq!(rt; integerify_diagonal(&diagonal, log_n), row);
+    }
 }
