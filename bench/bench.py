@@ -4,12 +4,11 @@
 usage: bench.py LIBRARY PROGRAM [--worker NAME=PATH].. [--runs 15] [--cpu N] [--costs 14,8,1:17,8,1]
                 [--picture FILE] [--callgrind]
 
-All libraries are called in one process: this one (LIBRARY, which is libscrypt_c.so) by scrypt_kdf, and by
-scrypt_kdf_mapped under the name "mapped"; libxcrypt, libsodium, libscrypt-kdf, and hashlib, which is
-OpenSSL's. What isn't installed is named and left out. Each round calls every one of them once, in a new
-random order, on one processor (--cpu, the last if not given); the least and the median of the rounds are
-printed as tables in Markdown. An implementation that is refused, or whose key isn't OpenSSL's, has no
-figure.
+All libraries are called in one process: this one (LIBRARY, which is libscrypt_c.so) by scrypt_kdf and by
+scrypt_kdf_mapped; libxcrypt, libsodium, libscrypt-kdf, and hashlib, which is OpenSSL's. What isn't
+installed is named and left out. Each round calls every one of them once, in a new random order, on one
+processor (--cpu, the last if not given); the least and the median of the rounds are printed as tables in
+Markdown. An implementation that is refused, or whose key isn't OpenSSL's, has no figure.
 
 Each call takes its table and gives it back, so the pages of memory that it touches for the first
 time are part of its time. Everything is measured twice, the second time with

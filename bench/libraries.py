@@ -12,7 +12,7 @@ from worker import Refused
 sys.path.insert(0, os.path.join(os.path.dirname(os.path.abspath(__file__)), "..", "ci"))
 import crypt64
 
-OURS, MAPPED, OPENSSL = "this library", "mapped", "OpenSSL"
+OURS, MAPPED, OPENSSL = "this library", "scrypt_kdf_mapped", "OpenSSL"
 
 SIZE, WORD, DATA = ctypes.c_size_t, ctypes.c_uint32, ctypes.c_char_p
 

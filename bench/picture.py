@@ -53,7 +53,7 @@ def text(x, y, words, more=""):
 
 def axes(log_ns, most):
     """Lines for each 20 nanoseconds, and the numbers on both sides."""
-    parts = [text(LEFT, 20, "nanoseconds for a Salsa20/8 core, r = 8, p = 1, pages of 4 KiB")]
+    parts = [text(LEFT, 20, "least nanoseconds for a Salsa20/8 core, r = 8, p = 1, pages of 4 KiB")]
     for nanoseconds in range(0, int(most) + 1, 20):
         y = y_of(nanoseconds, most)
         parts.append(f'<line class="grid" x1="{LEFT}" x2="{WIDTH - RIGHT}" y1="{y:.1f}" y2="{y:.1f}"/>')

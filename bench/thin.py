@@ -85,7 +85,7 @@ def measured(call, costs, runs):
 
 
 def drawn(results):
-    """The picture: time over memory, both by powers of two."""
+    """The picture: time over memory, both logarithmic."""
     from math import log2
 
     points = [(log2(mib), log2(taken)) for rows in results.values() for _, mib, _, taken in rows]
@@ -101,8 +101,8 @@ def drawn(results):
         '<svg xmlns="http://www.w3.org/2000/svg" width="680" height="380" font-family="sans-serif" font-size="12">',
         picture.style(),
         '<rect class="ground" width="680" height="380"/>',
-        '<text x="310" y="370" text-anchor="middle">MiB of the table, by powers of two</text>',
-        '<text x="70" y="20">seconds, by powers of two; beside each point its MiB and its seconds</text>',
+        '<text x="310" y="370" text-anchor="middle">MiB of the table, logarithmic</text>',
+        '<text x="70" y="20">seconds, logarithmic; beside each point its MiB and its seconds, at (log_n, r, p)</text>',
     ]
     for number, (costs, rows) in enumerate(results.items()):
         places = [place(mib, taken) for _, mib, _, taken in rows]

@@ -39,7 +39,7 @@ ROWS = [
             ("integerify_diagonal", "scrypt_kernel/src/order/diagonal.rt", "which row is next"),
             ("mix_with_row", "scrypt_kernel/src/table.rt", "xor with that row"),
             ("mix", "scrypt_kernel/src/block_mix.rt", "scryptBlockMix: 2r blocks"),
-            ("core", "scrypt_kernel/src/order/diagonal.rt", "Salsa20/8, four lanes"),
+            ("core", "scrypt_kernel/src/order/diagonal.rt", "Salsa20/8 of each block"),
         ],
     ),
     (
@@ -48,13 +48,13 @@ ROWS = [
             ("hash_password", "password_hash/src/traits.rt", "password, bytes for a salt"),
             ("made_len", "scrypt/src/stored_key.rt", "how long the key is"),
             ("short_key", "scrypt/src/stored_key.rt", "the key, as above"),
-            ("write_text", "scrypt/src/mcf/hashing.rt", "$7$, or to_string for PHC"),
+            ("write_text", "scrypt/src/mcf/hashing.rt", "for $7$; PHC: to_string"),
         ],
     ),
     (
         "A stored hash: verified, and asked whether it is weak",
         [
-            ("new", "password_hash/src/phc/hash.rt", "a text, or its refusal"),
+            ("new", "password_hash/src/phc/hash.rt", "PasswordHash of a text"),
             ("read", "scrypt/src/phc/reading.rt", "costs, salt and key"),
             ("verify_password", "scrypt/src/phc/verifying.rt", "the key anew, compared"),
             ("needs_rehash", "scrypt/src/rehashing.rt", "weaker than is wanted?"),
