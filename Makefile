@@ -9,7 +9,7 @@
 #   make oracle compares the program with independent implementations on random input, and with a
 #               reader in plain Python on hostile hashes, refuses each of its allocations, and tries
 #               docs/MIGRATION.md; WORKER=PATH is a program that calls the Rust crate
-#   make lib    builds the libraries for C into build/lib, and make install PREFIX=.. puts them in place
+#   make lib    builds the libraries for C into build/lib, and make install PREFIX=DIR puts them in place
 #   make callers calls them from each language of bindings/ that is installed here, and from programs that
 #               know the names of libsodium and libscrypt-kdf
 #   make bench  measures the library and the program against other implementations on this machine.
@@ -59,7 +59,7 @@ lib: kit
 	bindings/lib.sh
 
 install: kit
-	@test -n "$(PREFIX)" || { echo "Say where to: make install PREFIX=.." >&2; exit 1; }
+	@test -n "$(PREFIX)" || { echo "Say where to: make install PREFIX=DIR" >&2; exit 1; }
 	bindings/lib.sh
 	cd crates/scrypt_tool && rt run -- key 0 1 1 1 "" > /dev/null < /dev/null
 	bindings/install.sh "$(PREFIX)"
