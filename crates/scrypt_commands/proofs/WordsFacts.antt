@@ -238,13 +238,13 @@ not_rehash_words text (x0 ∷ x1 ∷ x2 ∷ x3 ∷ x4 ∷ x5 ∷ x6 ∷ []) n = 
 not_rehash_words text (x0 ∷ x1 ∷ x2 ∷ x3 ∷ x4 ∷ x5 ∷ x6 ∷ x7 ∷ xs) n = refl
 
 -- what the words are, by the command that the first of them names
-pub named : (words rest : List (List ℕ)) (name : List ℕ) → words ≡ name ∷ rest
+pub words_by_command : (words rest : List (List ℕ)) (name : List ℕ) → words ≡ name ∷ rest
     → (name ≡ codes "key" → words_of words ≡ key_words rest)
     × (name ≡ codes "hash" → words_of words ≡ hash_words rest)
     × (name ≡ codes "verify" → words_of words ≡ verify_words rest)
     × (name ≡ codes "rehash" → words_of words ≡ rehash_words rest)
 unfolding words_of
-named words rest name are =
+words_by_command words rest name are =
     (λ is. rw (are, is) refl, λ is. rw (are, is) refl, λ is. rw (are, is) refl, λ is. rw (are, is) refl)
 
 -- a text that is not this one

@@ -42,8 +42,8 @@ fn ro_mix_of_zeros(rt: HostRuntime) {
     assert_eq!(rt; b, [0; 128]);
 }
 
-// Where the two orders have the second word of the last block. No run reaches a log_n above 32, so the index beyond 32
-// bits is shown here alone.
+// The second word of the last block is at 17 in standard order, and at 29 in diagonal order. No run reaches a log_n
+// above 32, so the index beyond 32 bits is shown here alone.
 #[test]
 fn integerify_beyond_32_bits(rt: HostRuntime) {
     let mut plain = [9u32; 32];

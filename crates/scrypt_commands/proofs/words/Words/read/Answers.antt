@@ -1,5 +1,5 @@
 use Rattle.std.proofs.Common.{◌∙◌, ap, map, string_bytes, sym}
-use Rattle.scrypt_commands.proofs.WordsFacts.{named, no_name, no_words}
+use Rattle.scrypt_commands.proofs.WordsFacts.{no_name, no_words, words_by_command}
 use Rattle.scrypt_commands.proofs.words.Words.read.Goals as goal
 
 pub returns-in_err-name : goal.returns-in_err-name
@@ -9,22 +9,26 @@ returns-in_err-name c = record {
 
 pub returns-in-key : goal.returns-in-key
 returns-in-key c = record {
-  value = c.read_key.ensures ∙ sym ((named _ _ _ (ap (map string_bytes) c.in_ok-name.ensures.cases.0)).0 (sym c.as_str.ensures.value ∙ c.in-key.is));
+  value = c.read_key.ensures
+      ∙ sym ((words_by_command _ _ _ (ap (map string_bytes) c.in_ok-name.ensures.cases.0)).0 (sym c.as_str.ensures.value ∙ c.in-key.is));
 }
 
 pub returns-in-hash : goal.returns-in-hash
 returns-in-hash c = record {
-  value = c.read_hash.ensures ∙ sym ((named _ _ _ (ap (map string_bytes) c.in_ok-name.ensures.cases.0)).1 (sym c.as_str.ensures.value ∙ c.in-hash.is));
+  value = c.read_hash.ensures
+      ∙ sym ((words_by_command _ _ _ (ap (map string_bytes) c.in_ok-name.ensures.cases.0)).1 (sym c.as_str.ensures.value ∙ c.in-hash.is));
 }
 
 pub returns-in-verify : goal.returns-in-verify
 returns-in-verify c = record {
-  value = c.read_verify.ensures ∙ sym ((named _ _ _ (ap (map string_bytes) c.in_ok-name.ensures.cases.0)).2 (sym c.as_str.ensures.value ∙ c.in-verify.is));
+  value = c.read_verify.ensures
+      ∙ sym ((words_by_command _ _ _ (ap (map string_bytes) c.in_ok-name.ensures.cases.0)).2 (sym c.as_str.ensures.value ∙ c.in-verify.is));
 }
 
 pub returns-in-rehash : goal.returns-in-rehash
 returns-in-rehash c = record {
-  value = c.read_rehash.ensures ∙ sym ((named _ _ _ (ap (map string_bytes) c.in_ok-name.ensures.cases.0)).3 (sym c.as_str.ensures.value ∙ c.in-rehash.is));
+  value = c.read_rehash.ensures
+      ∙ sym ((words_by_command _ _ _ (ap (map string_bytes) c.in_ok-name.ensures.cases.0)).3 (sym c.as_str.ensures.value ∙ c.in-rehash.is));
 }
 
 pub returns-in_default : goal.returns-in_default
