@@ -103,7 +103,6 @@ pub fn scrypt(
 /// Does what [`scrypt`] does, and counts the `4 * N * r * p` Salsa20/8 cores.
 ///
 /// On an error the count is unchanged too.
-#[tactic(auto, using(crate::proofs::CostFacts::whole_table_cost))]
 pub fn scrypt_counted(
     alloc: Global,
     password: &[u8],
@@ -153,7 +152,6 @@ pub fn scrypt_counted(
 ///
 /// Returns `InvalidOutputLen`, and changes nothing, exactly if `output` does not have 1 to
 /// 137438953440 bytes.
-#[tactic(auto, using(crate::proofs::CostFacts::whole_table_cost))]
 pub fn scrypt_with_buffers(
     password: &[u8],
     salt: &[u8],

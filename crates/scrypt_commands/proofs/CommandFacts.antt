@@ -2,7 +2,7 @@
 use Rattle.std.proofs.Common.{◌≡◌, ◌⊎◌, ℕ, List, Option, Some, None, Result, Ok, Err, IsErr, IsOk, IsSomeAnd, MatchOption, inl, inr, refl}
 use Rattle.hex.specs.Hex.{decode_of}
 use Rattle.scrypt.specs.Accepted.{Parameters}
-use Rattle.scrypt_commands.specs.Command.{AreRefused, AreSaltAndParams, AskFor, HasSaltAndParams, IsRefused, IsSaltOrParamsRefused, Means, bad_hash, bad_len, bad_old_hash, bad_params, bad_salt, not_made, not_remade, to_make, to_rehash, to_verify}
+use Rattle.scrypt_commands.specs.Command.{AreRefused, AreSaltAndParams, AskFor, HasSaltAndParams, IsPossible, IsRefused, IsSaltOrParamsRefused, Means, bad_hash, bad_len, bad_old_hash, bad_params, bad_salt, not_made, not_remade, to_make, to_rehash, to_verify}
 use Rattle.scrypt_commands.specs.Fault.{status_of}
 use Rattle.scrypt_commands.specs.StoredHash.{IsHashOf, IsHashText}
 use Rattle.scrypt_commands.specs.Words.{CommandWords, MakeWords, RehashWords, words_of}
@@ -79,6 +79,20 @@ not_both_read (Some words) command fault asks h = not_both words command fault a
 pub asked_not_refused : (words : List (List ℕ)) (command : Command) (fault : Fault)
     → AskFor words command → AreRefused words fault → ⊥
 asked_not_refused words command fault asks h = not_both_read (words_of words) command fault asks h
+
+-- a command that words mean can be carried out
+meant_possible : (words : CommandWords) (command : Command) → Means words command → IsPossible command
+meant_possible words command (to_make read allowed) = allowed
+meant_possible words command (to_verify is) = tt
+meant_possible words command (to_rehash read is) = tt
+
+read_possible : (words : Option CommandWords) (command : Command)
+    → IsSomeAnd words (λ read. Means read command) → IsPossible command
+read_possible None command asks = absurd asks
+read_possible (Some words) command asks = meant_possible words command asks
+
+pub asked_possible : (words : List (List ℕ)) (command : Command) → AskFor words command → IsPossible command
+asked_possible words command asks = read_possible (words_of words) command asks
 
 -- the status of refused words is 2
 status_of_salt : (product : Product) (numbers : Numbers) (salt_hex : List ℕ) (fault : Fault)

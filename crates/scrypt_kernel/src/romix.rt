@@ -24,7 +24,6 @@ use crate::words::{read_words, write_words};
 /// `b` has `128 * r` bytes with `r` at least 1, the table `v` has `32 * r * N` words, the scratch
 /// `t` has `64 * r` words, and `log_n` is at most 56. It does not matter what `v` and `t` hold
 /// before the call, and what they hold after it is unspecified.
-#[tactic(auto, using(crate::proofs::WalkFacts::whole_cost))]
 pub fn scrypt_ro_mix(b: &mut [u8], v: &mut [u32], t: &mut [u32], log_n: u8, cores: &mut CoreCount)
     requires lens { AreRoMixLens log_n (length b.old) (length v.old) (length t.old) }
     ensures value { b.new ≡ bytes_of (ro_mix (words_of b.old) log_n) }

@@ -1,5 +1,8 @@
-use Rattle.scrypt_commands.proofs.CommandFacts.{asked_not_refused}
+use Rattle.scrypt_commands.proofs.CommandFacts.{asked_not_refused, asked_possible}
 use Rattle.scrypt_commands.proofs.run.answer.Goals as goal
+
+pub answer-requires : goal.answer-requires
+answer-requires g c = asked_possible _ _ c.in_ok-command.ensures.ok
 
 pub returns-in_err-input-clause-refused : goal.returns-in_err-input-clause-refused
 returns-in_err-input-clause-refused g c =

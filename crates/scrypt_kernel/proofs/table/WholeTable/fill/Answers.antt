@@ -1,5 +1,5 @@
-use Rattle.std.proofs.Common.{◌≡◌, ℕ, ◌+◌, ◌-◌, ◌*◌, ◌%◌, ◌^◌, ◌++◌, length, refl, sym, ap, ◌∙◌, arith, []}
-use Rattle.std.proofs.lemmas.Nat.{one_shl, pow_pos}
+use Rattle.std.proofs.Common.{◌≡◌, ℕ, ◌+◌, ◌-◌, ◌*◌, ◌%◌, ◌^◌, ◌≤◌, ◌++◌, length, refl, sym, ap, ◌∙◌, arith, []}
+use Rattle.std.proofs.lemmas.Nat.{mul-le, one_shl, pow_pos}
 use Rattle.scrypt_kernel.specs.RoMix.{row}
 use Rattle.scrypt_kernel.specs.Words.{part}
 use Rattle.scrypt_kernel.specs.Diagonal.{permuted}
@@ -42,6 +42,15 @@ rows-preserved g c =
       lanes = counted_lanes _ g.O.Order.lanes_of_core size _ i (i + 1) _ _ c.add_mix.ensures.lanes same c.rows.invariant.lanes refl;
     }
 
+pub add_mix-requires-clause-room : goal.add_mix-requires-clause-room
+add_mix-requires-clause-room g c =
+    let shifted = one_shl c.args.log_n 64 (omega arith) in
+    let all : c.args.log_n - 0 ≡ c.args.log_n = omega arith in
+    let low : c.rows.i + 2 ≤ 2 ^ c.args.log_n = omega (arith, shifted, c.rows-test.true) in
+    let rows : (c.rows.i + 2) * length c.rows.x ≤ 2 ^ (c.args.log_n - 0) * length c.args.x.now =
+    mul-le _ _ _ _ (rw all low) (omega (arith, c.rows.auto.x)) in
+    omega (arith, rows, c.requires.room, c.rows.invariant.room)
+
 pub returns-clause-last : goal.returns-clause-last
 returns-clause-last g c =
     let size = length c.args.x.now in
@@ -56,3 +65,15 @@ returns-clause-last g c =
     c.mix.ensures.value
     ∙ next_row_in g.O.Order.pivot g.O.Order.inverse_pivot g.met.O.Order.inverse b c.part-last.result.now i (omega arith) source
     ∙ ap (λ n. permuted g.O.Order.pivot (row b n)) whole
+
+pub returns-clause-all : goal.returns-clause-all
+returns-clause-all g c =
+    let shifted = one_shl c.args.log_n 64 (omega arith) in
+    let whole : 2 ^ c.args.log_n ≡ c.rows.i + 1 = omega (arith, shifted, pow_pos c.args.log_n) in
+    counted_all _ _ _ _ _ _ _ c.mix.ensures.all c.rows.auto.x c.rows.invariant.all whole
+
+pub returns-clause-lanes : goal.returns-clause-lanes
+returns-clause-lanes g c =
+    let shifted = one_shl c.args.log_n 64 (omega arith) in
+    let whole : 2 ^ c.args.log_n ≡ c.rows.i + 1 = omega (arith, shifted, pow_pos c.args.log_n) in
+    counted_lanes _ g.O.Order.lanes_of_core _ _ _ _ _ _ c.mix.ensures.lanes c.rows.auto.x c.rows.invariant.lanes whole
