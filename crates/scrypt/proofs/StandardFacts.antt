@@ -1,11 +1,11 @@
 -- The standard's own vector of a derived key, computed by the definitions, so that a wrong step or
 -- constant in a definition does not check.
-use Rattle.std.proofs.Common.{◌≡◌, ℕ, zero, suc, ◌+◌, ◌*◌, ◌%◌, ◌^◌, List, [], ◌∷◌, ◌++◌, refl, ap, ◌∙◌, add-zero, zero-add, arith}
+use Rattle.std.proofs.Common.{◌≡◌, ℕ, zero, suc, ◌+◌, ◌*◌, ◌%◌, ◌^◌, List, [], ◌∷◌, ◌++◌, codes, refl, ap, ◌∙◌, add-zero, zero-add, arith}
 use Rattle.sha2.specs.Sha256.{sha256, first_words, schedule, rounds, compress, hash_after, digest_bytes}
 use Rattle.scrypt_kernel.specs.Hmac.{hmac_sha256}
 use Rattle.scrypt_kernel.specs.Pbkdf2.{pbkdf2}
 use Rattle.scrypt_kernel.proofs.Pbkdf2Facts.{pbkdf2_by_blocks}
-use Rattle.scrypt_kernel.proofs.StandardFacts.{key_blocks, mixed_input, ro_mix_output, ro_mix_vector}
+use Rattle.scrypt_kernel.proofs.StandardFacts.{bytes, key_blocks, mixed_input, ro_mix_output, ro_mix_vector}
 use Rattle.scrypt_kernel.specs.Words.{words_of, xor_words}
 use Rattle.scrypt_kernel.specs.Salsa.{double_round, quarter_round, salsa20_8}
 use Rattle.scrypt_kernel.specs.BlockMix.{block_mix, chain}
@@ -16,10 +16,8 @@ use Rattle.scrypt.specs.Key.{derived_key, mixed_chunks}
 
 abbrev pub first_key : List ℕ
 first_key =
-    0x77 ∷ 0xd6 ∷ 0x57 ∷ 0x62 ∷ 0x38 ∷ 0x65 ∷ 0x7b ∷ 0x20 ∷ 0x3b ∷ 0x19 ∷ 0xca ∷ 0x42 ∷ 0xc1 ∷ 0x8a ∷ 0x04 ∷ 0x97
-    ∷ 0xf1 ∷ 0x6b ∷ 0x48 ∷ 0x44 ∷ 0xe3 ∷ 0x07 ∷ 0x4a ∷ 0xe8 ∷ 0xdf ∷ 0xdf ∷ 0xfa ∷ 0x3f ∷ 0xed ∷ 0xe2 ∷ 0x14 ∷ 0x42
-    ∷ 0xfc ∷ 0xd0 ∷ 0x06 ∷ 0x9d ∷ 0xed ∷ 0x09 ∷ 0x48 ∷ 0xf8 ∷ 0x32 ∷ 0x6a ∷ 0x75 ∷ 0x3a ∷ 0x0f ∷ 0xc8 ∷ 0x1f ∷ 0x17
-    ∷ 0xe8 ∷ 0xd3 ∷ 0xe0 ∷ 0xfb ∷ 0x2e ∷ 0x0d ∷ 0x36 ∷ 0x28 ∷ 0xcf ∷ 0x35 ∷ 0xe2 ∷ 0x0c ∷ 0x38 ∷ 0xd1 ∷ 0x89 ∷ 0x06 ∷ []
+    bytes (codes "77d6576238657b203b19ca42c18a0497f16b4844e3074ae8dfdffa3fede21442")
+    ++ bytes (codes "fcd0069ded0948f8326a753a0fc81f17e8d3e0fb2e0d3628cf35e20c38d18906")
 
 first_chunk : key_blocks [] [] 4 ≡ mixed_input
 unfolding hmac_sha256 sha256 first_words schedule rounds compress hash_after digest_bytes
