@@ -25,7 +25,11 @@
 help:
 	@sed -n '/^#/!q; s/^# \{0,1\}//p' Makefile
 
+# Neither of the two lowest crates uses the other, so they are proved side by side. Where the libraries are
+# built already, rt doesn't read all sources once more before it begins.
 run: kit
+	cd crates && { (cd password_hash && rt lib) & (cd scrypt_kernel && rt lib) && wait $$!; } \
+	  && (cd scrypt && rt lib) && (cd scrypt_commands && rt lib)
 	cd crates/scrypt_tool && rt run -- key 4 1 1 64 "" < /dev/null
 
 test: kit
