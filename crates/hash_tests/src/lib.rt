@@ -13,6 +13,8 @@ mod mcf_costs;
 #[cfg(test)]
 mod mcf_hashes;
 #[cfg(test)]
+mod names;
+#[cfg(test)]
 mod phc_hashes;
 #[cfg(test)]
 mod phc_mutations;

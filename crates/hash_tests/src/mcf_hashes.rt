@@ -227,62 +227,6 @@ fn refusals_of_hashing_in_order(rt: HostRuntime) -> Result<(), Fail> {
     Ok(())
 }
 
-// Names of the algorithm and its version, each with the error and its reason. The costs are small and the
-// salt is good, so nothing but the names is refused.
-const REFUSED_NAMES: [(Option<&str>, Option<Version>, Error, &str); 5] = [
-    (
-        Some("argon2id"),
-        None,
-        Error::Algorithm,
-        "another algorithm",
-    ),
-    (
-        Some("scrypt"),
-        None,
-        Error::Algorithm,
-        "the identifier of PHC hashes",
-    ),
-    (
-        Some("7.a"),
-        None,
-        Error::Algorithm,
-        "the identifier and more",
-    ),
-    (
-        Some("7"),
-        Some(7),
-        Error::Version,
-        "no version is supported",
-    ),
-    (None, Some(0), Error::Version, "nor is version 0"),
-];
-
-// The hash of the empty password and salt by an algorithm and a version of these names.
-fn hash_by_name(
-    alloc: Global,
-    alg_id: Option<&str>,
-    version: Option<Version>,
-) -> Result<PasswordHash, Error> {
-    let Ok(params) = Params::new(4, 1, 1) else {
-        return Err(Error::ParamsInvalid);
-    };
-    Scrypt::new().hash_password_customized(alloc, b"", b"", alg_id, version, params)
-}
-
-#[test]
-fn names_of_the_algorithm(rt: HostRuntime) -> Result<(), Fail> {
-    let alloc = rt.alloc();
-    for (alg_id, version, refused, reason) in REFUSED_NAMES {
-        let made = hash_by_name(alloc, alg_id, version);
-        assert_eq!(rt; made, Err(refused), "{reason}");
-    }
-    for alg_id in [Some("7"), None] {
-        let made = hash_by_name(alloc, alg_id, None)?;
-        assert_eq!(rt; made.as_str(), EMPTY_PASSWORD_HASH);
-    }
-    Ok(())
-}
-
 #[test]
 fn identifiers_without_a_dot(rt: HostRuntime) {
     let alloc = rt.alloc();

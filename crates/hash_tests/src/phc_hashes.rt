@@ -124,24 +124,23 @@ fn changes_of_a_hash(rt: HostRuntime) -> Result<(), Fail> {
 fn made_hashes(rt: HostRuntime) -> Result<(), Fail> {
     let alloc = rt.alloc();
     made_hashes_are_accepted();
-    let hasher = Scrypt::new();
-    let made: PasswordHash = hasher.hash_password_with_params(
-        alloc,
-        b"pleaseletmein",
-        b"SodiumChloride",
-        Params::new(14, 8, 1)?,
-    )?;
-    let text = made.to_string(alloc)?;
-    assert_eq!(rt; text.as_str(), RFC_KEY_3_HASH);
-    let short: PasswordHash = hasher.hash_password_with_params(
-        alloc,
-        b"pleaseletmein",
-        b"SodiumChloride",
-        Params::new_with_output_len(14, 8, 1, 10)?,
-    )?;
-    let text = short.to_string(alloc)?;
-    assert_eq!(rt; text.as_str(), RFC_KEY_3_SHORT_HASH);
-    assert_eq!(rt; verdict(alloc, text.as_str(), b"pleaseletmein"), Ok(()));
+    for (params, wanted) in [
+        (Params::new(14, 8, 1)?, RFC_KEY_3_HASH),
+        (
+            Params::new_with_output_len(14, 8, 1, 10)?,
+            RFC_KEY_3_SHORT_HASH,
+        ),
+    ] {
+        let made: PasswordHash = Scrypt::new().hash_password_with_params(
+            alloc,
+            b"pleaseletmein",
+            b"SodiumChloride",
+            params,
+        )?;
+        let text = made.to_string(alloc)?;
+        assert_eq!(rt; text.as_str(), wanted);
+        assert_eq!(rt; verdict(alloc, text.as_str(), b"pleaseletmein"), Ok(()));
+    }
     Ok(())
 }
 
@@ -188,51 +187,6 @@ fn refusals_of_hashing_in_order(rt: HostRuntime) -> Result<(), Fail> {
             alloc, b"", &salt, alg_id, version, params,
         );
         assert_eq!(rt; made, Err(refused), "{reason}");
-    }
-    Ok(())
-}
-
-// Names of the algorithm and its version, each with the error and its reason. The costs are small and the
-// salt is good, so nothing but the names is refused.
-const REFUSED_NAMES: [(Option<&str>, Option<Version>, Error, &str); 4] = [
-    (
-        Some("argon2id"),
-        None,
-        Error::Algorithm,
-        "another algorithm",
-    ),
-    (
-        Some("7"),
-        None,
-        Error::Algorithm,
-        "the identifier of `$7$` hashes",
-    ),
-    (
-        Some("scrypt"),
-        Some(1),
-        Error::Version,
-        "no version is supported",
-    ),
-    (None, Some(0), Error::Version, "nor is version 0"),
-];
-
-#[test]
-fn names_of_the_algorithm(rt: HostRuntime) -> Result<(), Fail> {
-    let alloc = rt.alloc();
-    let params = Params::new(4, 1, 1)?;
-    let hasher = Scrypt::new();
-    for (alg_id, version, refused, reason) in REFUSED_NAMES {
-        let made: Result<PasswordHash, Error> = hasher.hash_password_customized(
-            alloc, b"", b"salt", alg_id, version, params,
-        );
-        assert_eq!(rt; made, Err(refused), "{reason}");
-    }
-    let wanted: PasswordHash = hasher.hash_password_with_params(alloc, b"", b"salt", params)?;
-    for alg_id in [Some("scrypt"), None] {
-        let made: PasswordHash = hasher.hash_password_customized(
-            alloc, b"", b"salt", alg_id, None, params,
-        )?;
-        assert_eq!(rt; made, wanted);
     }
     Ok(())
 }
