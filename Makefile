@@ -25,12 +25,18 @@
 help:
 	@sed -n '/^#/!q; s/^# \{0,1\}//p' Makefile
 
-# Neither of the two lowest crates uses the other, so they are proved side by side. Where the libraries are
-# built already, rt doesn't read all sources once more before it begins.
 run: kit
-	cd crates && { (cd password_hash && rt lib) & (cd scrypt_kernel && rt lib) && wait $$!; } \
-	  && (cd scrypt && rt lib) && (cd scrypt_commands && rt lib)
+	$(MAKE) --no-print-directory -j2 proved-scrypt_commands
 	cd crates/scrypt_tool && rt run -- key 4 1 1 64 "" < /dev/null
+
+# The libraries below the program. Neither of the two lowest uses the other, so those are proved side by side.
+# Where all are built already, rt doesn't read all sources once more before it begins with the program.
+LIBRARIES = proved-password_hash proved-scrypt_kernel proved-scrypt proved-scrypt_commands
+.PHONY: $(LIBRARIES)
+$(LIBRARIES): proved-%:
+	cd crates/$* && rt lib
+proved-scrypt: proved-password_hash proved-scrypt_kernel
+proved-scrypt_commands: proved-scrypt
 
 test: kit
 	python3 ci/test_docs.py
