@@ -45,11 +45,8 @@ fn changes_of_a_hash(rt: HostRuntime) -> Result<(), Fail> {
     let alloc = rt.alloc();
     for (old, new, reason, answer) in CHANGES {
         let text = changed(alloc, LIBXCRYPT_HASH, old, new)?;
-        assert_eq!(rt;
-            verdict(alloc, text.as_str(), b"pleaseletmein")?,
-            answer,
-            "{reason}"
-        );
+        let found = verdict(alloc, text.as_str(), b"pleaseletmein")?;
+        assert_eq!(rt; found, answer, "{reason}");
     }
     Ok(())
 }
