@@ -1,5 +1,6 @@
 # On a machine with the Rattle kit, two commands do everything:
-#   make run    proves and builds the program, and prints the first key of RFC 7914, section 12
+#   make run    proves and builds the program, and prints the first key of RFC 7914, section 12. With memory for two
+#               checks, make -j2 run proves the two lowest crates side by side
 #   make test   is the whole gate: the names and the examples in the documents, what must not compile, every
 #               proof from nothing, the edits that the prover must refuse, every test and every program
 # And besides the gate:
@@ -25,15 +26,14 @@
 help:
 	@sed -n '/^#/!q; s/^# \{0,1\}//p' Makefile
 
-run: kit
-	$(MAKE) --no-print-directory -j2 proved-scrypt_commands
+run: proved-scrypt_commands
 	cd crates/scrypt_tool && rt run -- key 4 1 1 64 "" < /dev/null
 
-# The libraries below the program. Neither of the two lowest uses the other, so those are proved side by side.
-# Where all are built already, rt doesn't read all sources once more before it begins with the program.
+# The libraries below the program, each after those that it uses. Where all are built already, rt doesn't read all
+# sources once more before it begins with the program.
 LIBRARIES = proved-password_hash proved-scrypt_kernel proved-scrypt proved-scrypt_commands
 .PHONY: $(LIBRARIES)
-$(LIBRARIES): proved-%:
+$(LIBRARIES): proved-%: kit
 	cd crates/$* && rt lib
 proved-scrypt: proved-password_hash proved-scrypt_kernel
 proved-scrypt_commands: proved-scrypt
