@@ -17,18 +17,18 @@ type Row = (
     &'static str,
 );
 
-// The names, the error that a PHC hash of them gives and that of a `$7$` hash, if any, and the reason. The
-// costs are small and the salts are good, so nothing but the names is refused.
+// An identifier and a version, the error that a PHC hash of them gives and that of a `$7$` hash, if any, and
+// what the identifier or the version is. The costs are small and the salts are good, so nothing else is refused.
 const NAMES: [Row; 9] = [
     (None, None, None, None, "the format's own"),
     (Some("scrypt"), None, None, ALGORITHM, "that of PHC hashes"),
     (Some("7"), None, ALGORITHM, None, "that of `$7$` hashes"),
-    (Some("argon2id"), None, ALGORITHM, ALGORITHM, "of another"),
-    (Some("scrypt.a"), None, ALGORITHM, ALGORITHM, "and more"),
-    (Some("7.a"), None, ALGORITHM, ALGORITHM, "and more"),
-    (Some("scrypt"), Some(1), VERSION, ALGORITHM, "no version"),
-    (Some("7"), Some(7), ALGORITHM, VERSION, "no version"),
-    (None, Some(0), VERSION, VERSION, "not version 0 either"),
+    (Some("argon2id"), None, ALGORITHM, ALGORITHM, "another one"),
+    (Some("scrypt.a"), None, ALGORITHM, ALGORITHM, "a longer one"),
+    (Some("7.a"), None, ALGORITHM, ALGORITHM, "a longer one"),
+    (Some("scrypt"), Some(1), VERSION, ALGORITHM, "no version 1"),
+    (Some("7"), Some(7), ALGORITHM, VERSION, "no version 7"),
+    (None, Some(0), VERSION, VERSION, "no version 0"),
 ];
 
 // Whether this hash was made as wanted, or refused for this error.
@@ -48,13 +48,15 @@ fn names_of_the_algorithm(rt: HostRuntime) -> Result<(), Fail> {
     let alloc = rt.alloc();
     let params = Params::new(4, 1, 1)?;
     let hasher = Scrypt::new();
-    let phc: phc::PasswordHash = hasher.hash_password_with_params(alloc, b"", b"salt", params)?;
-    let mcf = mcf::PasswordHash::new(alloc, EMPTY_PASSWORD_HASH)?;
+    let phc_hash: phc::PasswordHash = hasher.hash_password_with_params(
+        alloc, b"", b"salt", params,
+    )?;
+    let mcf_hash = mcf::PasswordHash::new(alloc, EMPTY_PASSWORD_HASH)?;
     for (alg_id, version, phc_refusal, mcf_refusal, reason) in NAMES {
         let made = hasher.hash_password_customized(alloc, b"", b"salt", alg_id, version, params);
-        assert!(rt; is_as_wanted(made, &phc, phc_refusal), "PHC: {reason}");
+        assert!(rt; is_as_wanted(made, &phc_hash, phc_refusal), "PHC: {reason}");
         let made = hasher.hash_password_customized(alloc, b"", b"", alg_id, version, params);
-        assert!(rt; is_as_wanted(made, &mcf, mcf_refusal), "$7$: {reason}");
+        assert!(rt; is_as_wanted(made, &mcf_hash, mcf_refusal), "$7$: {reason}");
     }
     Ok(())
 }
