@@ -11,7 +11,7 @@ use Rattle.std.proofs.lemmas.Fmt.{decimal_digit, decimal_is_IsNumeral, first_dec
 use Rattle.std.proofs.lemmas.Str.Parse.{IsNumeralModel, numerals_by_value, parse_plain, tells_digits, tells_all_ascii_digits, digit_from_value}
 use Rattle.std.proofs.lemmas.Bool.Decides.{nat_tests}
 use Rattle.password_hash.specs.Letters.{is_digit, is_value_letter, IsValue}
-use Rattle.password_hash.specs.Decimal.{DecimalGives, IsDecimal, decimal_below, has_plus_or_leading_zero, is_decimal}
+use Rattle.password_hash.specs.Decimal.{DecimalGives, IsDecimal, UnsignedGives, decimal_below, has_plus_or_leading_zero, is_decimal}
 use Rattle.password_hash.proofs.PairsFacts.{Lacks, letters_lack}
 
 digits : IsNumeralModel (AllDigits 10) (digits_value 10)
@@ -96,11 +96,6 @@ answer_gives k parse_gives only text answer true h g = g ∙ sym (none_after_plu
 answer_gives k parse_gives only text answer false h (parsed, given, is) =
     is ∙ plain_gives (2 ^ k) text parsed h
     (parse_plain (numerals_by_value _ tells_all_ascii_digits) k text parsed (only text parsed given) (no_plus text h))
-
--- what `parse` gives for an unsigned type of k bits
-abbrev pub UnsignedGives : ℕ → List ℕ → Result ℕ ParseIntError → Type 0
-UnsignedGives k text r =
-    ParsesUnsigned k 10 text r × ExplainsUnsignedError 10 text r × HasUnsignedDigitsIfOk text r
 
 -- so a decimal of such a type is a decimal below 2 ^ k
 pub decimal_gives : (k : ℕ) (text : List ℕ) (answer : Option ℕ)

@@ -26,9 +26,9 @@ pub mod GroupFacts
 pub mod McfFacts
 -- A text has at most one reading.
 pub mod OneReading
+-- Facts on the letters of a piece of bytes: of whole groups of three bytes, or of all that are left.
+pub mod PieceFacts
 -- Tests of the definitions of texts that compute, and what each shows.
 pub mod TextTests
 -- Texts, read and printed by the definitions alone, so that a wrong letter, order or bound in a definition does not check.
 pub mod StandardFacts
--- Texts of no hash, each refused by a test that the text of every hash passes.
-pub mod RefusedTexts

@@ -1,10 +1,9 @@
 -- Tests of the definitions of texts that compute, and what each shows.
-use Rattle.std.proofs.Common.{◌≡◌, ◌≢◌, ◌&&◌, ◌^◌, ◌<◌, ℕ, zero, suc, Bool, true, not, nat_eq, nat_le, nat_lt, List, [], ◌∷◌, length, codes, Option, None, Some, get_or, refl, sym, ap, ◌∙◌, arith, inl, inr}
+use Rattle.std.proofs.Common.{◌≡◌, ◌≢◌, ◌&&◌, ◌^◌, ◌<◌, ℕ, zero, suc, Bool, true, not, nat_eq, nat_le, nat_lt, List, [], ◌∷◌, length, codes, Option, None, Some, refl, sym, ◌∙◌, arith}
 use Rattle.std.specs.Prelude.{All, AllPairs, IfSome, OnSome, IsSome, is_some}
 use Rattle.std.specs.Cmp.Lexicographic.{pointwise}
 use Rattle.std.specs.List.{list_all}
-use Rattle.std.proofs.lemmas.Bool.{and_from, and_parts, cases_Bool, false≢true, leb-true, le-leb, lt-ltb, ltb-true, not-true}
-use Rattle.std.proofs.lemmas.List.Sums.{list_all-from_AllPass}
+use Rattle.std.proofs.lemmas.Bool.{and_parts, false≢true, leb-true, ltb-true, not-true}
 use Rattle.std.proofs.lemmas.List.Elements.{All-nil, All-cons}
 use Rattle.std.proofs.lemmas.List.Kept.{AllPairs-cons}
 use Rattle.std.proofs.lemmas.Slice.Eq.{bytes_eq-Decides}
@@ -133,48 +132,3 @@ reads text hash whole algorithm version params salt key after = record {
   key = if_some_shown (within 10 64) (AreBytesFromTo 10 64) (within_shown 10 64) hash.hash key;
   key_after_salt = key_after_salt_shown hash.hash hash.salt after;
 }
-
--- what is tested passes its test
-
-bytes_pass : (xs : List ℕ) → IsBytes xs → list_all is_byte xs ≡ true
-bytes_pass [] h = refl
-bytes_pass (x ∷ xs) h = and_from (is_byte x) (list_all is_byte xs) (lt-ltb x 256 (h 0)) (bytes_pass xs (λ i. h (suc i)))
-
-pub within_passes : (least most : ℕ) (xs : List ℕ) → AreBytesFromTo least most xs → within least most xs ≡ true
-within_passes least most xs h =
-    and_from (nat_le least (length xs)) (nat_le (length xs) most && list_all is_byte xs) (le-leb least (length xs) h.enough)
-    (and_from (nat_le (length xs) most) (list_all is_byte xs) (le-leb (length xs) most h.fits) (bytes_pass xs h.are_bytes))
-
-pub identifier_passes : (xs : List ℕ) → IsIdentifier xs → is_identifier xs ≡ true
-identifier_passes xs h =
-    and_from (nat_le 1 (length xs)) (nat_le (length xs) 32 && list_all is_identifier_letter xs) (le-leb 1 (length xs) h.some)
-    (and_from (nat_le (length xs) 32) (list_all is_identifier_letter xs) (le-leb (length xs) 32 h.short) h.letters)
-
-differ_passes : (xs ys : List ℕ) → xs ≢ ys → differ xs ys ≡ true
-differ_passes xs ys other = elim (cases_Bool (pointwise nat_eq xs ys)) [
-  | inl same ↦ absurd (other ((bytes_eq-Decides xs ys).0 same))
-  | inr h ↦ ap not h
-]
-
-pair_passes : (pair : List ℕ × List ℕ) → IsPair pair → is_pair pair ≡ true
-pair_passes pair h =
-    let value = nat_le 1 (length pair.1) && list_all is_value_letter pair.1 in
-    and_from (is_identifier pair.0) (differ pair.0 (codes "v") && value) (identifier_passes pair.0 h.name)
-    (and_from (differ pair.0 (codes "v")) value (differ_passes pair.0 (codes "v") h.no_version)
-    (and_from (nat_le 1 (length pair.1)) (list_all is_value_letter pair.1) (le-leb 1 (length pair.1) h.value.some) h.value.letters))
-
-all_pass : {X : Type 0} → (p : X → Bool) (P : X → Type 0) → ((x : X) → P x → p x ≡ true) → (xs : List X) → All P xs → list_all p xs ≡ true
-all_pass p P each xs h = list_all-from_AllPass p xs (λ k d below. each (get_or xs k d) (h k d below))
-
-names_pass : (pairs : List (List ℕ × List ℕ)) → AllPairs Differ pairs → names_differ pairs ≡ true
-names_pass [] h = refl
-names_pass (pair ∷ pairs) h =
-    and_from (other_names pair pairs) (names_differ pairs)
-    (all_pass (λ (other : List ℕ × List ℕ). differ pair.0 other.0) (Differ pair) (λ other. differ_passes pair.0 other.0) pairs (λ k d below. h 0 (suc k) d (omega arith) (omega arith)))
-    (names_pass pairs (λ i j d before below. h (suc i) (suc j) d (omega arith) (omega arith)))
-
-pub pairs_pass : (pairs : List (List ℕ × List ℕ)) → ArePairs pairs → are_pairs pairs ≡ true
-pairs_pass pairs h =
-    let short = nat_le (length (pairs_text pairs)) 127 in
-    and_from (list_all is_pair pairs) (names_differ pairs && short) (all_pass is_pair IsPair pair_passes pairs h.each)
-    (and_from (names_differ pairs) short (names_pass pairs h.once) (le-leb (length (pairs_text pairs)) 127 h.short))

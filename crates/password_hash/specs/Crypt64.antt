@@ -1,5 +1,5 @@
 -- Crypt Base64: the encoding of bytes in the letters of crypt(5).
-use Rattle.std.specs.Prelude.{◌≡◌, ◌==◌, ℕ, zero, suc, ◌+◌, ◌*◌, ◌/◌, ◌%◌, ◌<◌, List, [], ◌∷◌, ◌++◌, Option, Some, None, All, codes, position, slice_index}
+use Rattle.std.specs.Prelude.{◌≡◌, ◌==◌, ℕ, zero, suc, ◌+◌, ◌*◌, ◌/◌, ◌%◌, ◌<◌, ◌≤◌, List, [], ◌∷◌, ◌++◌, Option, Some, None, All, codes, position, slice_index}
 
 -- the alphabet: the letter of each value from 0 to 63
 abbrev pub alphabet : List ℕ
@@ -48,6 +48,13 @@ IsCrypt64 letters = (bytes : List ℕ) × Crypt64 bytes letters
 -- the number of letters of n bytes: four for three bytes, rounded up
 abbrev pub encoded_len : ℕ → ℕ
 encoded_len n = (4 * n + 2) / 3
+
+-- n bytes from byte `at` on, of so many bytes in all, have letters of their own: they are whole
+-- groups of three, or reach the end
+pub record IsPiece (at n all : ℕ) : Type 0 where
+  pub begins : at % 3 ≡ 0
+  pub inside : at + n ≤ all
+  pub ends : at + n < all → n % 3 ≡ 0
 
 -- these letters encode these bytes followed by what the rest encodes, and nothing else
 pub record Begins (letters bytes rest : List ℕ) : Type 0 where

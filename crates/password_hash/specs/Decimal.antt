@@ -2,7 +2,8 @@
 use Rattle.std.specs.Prelude.{◌≡◌, ℕ, ◌^◌, ◌||◌, ◌&&◌, ◌==◌, ◌<◌, not, nat_lt, Bool, if◌then◌else◌, List, length, slice_index, Option, Some, None, Result, MatchBool}
 use Rattle.std.specs.Result.{result_ok}
 use Rattle.std.specs.Str.{all_ascii_digits}
-use Rattle.std.specs.Str.Parse.{AllDigits, digits_value}
+use Rattle.std.specs.Str.Parse.{AllDigits, ExplainsUnsignedError, HasUnsignedDigitsIfOk, ParsesUnsigned, digits_value}
+use Rattle.std.specs.declared.num.ParseIntError.{ParseIntError}
 
 -- one or more digits, the first not a zero unless it is the only one, of a number below 2 ^ 32
 pub record IsDecimal (text : List ℕ) (number : ℕ) : Type 0 where
@@ -31,3 +32,8 @@ decimal_below limit text =
 abbrev pub DecimalGives : {N E : Type 0} → (List ℕ → Result N E → Type 0) → List ℕ → Option N → Type 0
 DecimalGives {N} {E} parse_gives text answer = MatchBool (has_plus_or_leading_zero text) (answer ≡ None)
     ((parsed : Result N E) × parse_gives text parsed × (answer ≡ result_ok parsed))
+
+-- what `from_str` of an unsigned integer type of k bits gives
+abbrev pub UnsignedGives : ℕ → List ℕ → Result ℕ ParseIntError → Type 0
+UnsignedGives k text r =
+    ParsesUnsigned k 10 text r × ExplainsUnsignedError 10 text r × HasUnsignedDigitsIfOk text r

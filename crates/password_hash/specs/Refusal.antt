@@ -1,28 +1,28 @@
 -- An error by its value: the name in it is a list of bytes, wherever it is in memory.
 use Rattle.std.specs.Prelude.{ℕ, List}
 use Rattle.password_hash.specs.declared.error.Error.{Error}
-use Rattle.password_hash.specs.declared.error.Error.TheVariants.{Algorithm, EncodingInvalid, OutputSize, ParamInvalid, ParamsInvalid, PasswordInvalid, SaltInvalid, Version, OutOfMemory}
+use Rattle.password_hash.specs.declared.error.Error.TheVariants as error
 
 -- the errors, each under a name of its own
 pub data Refusal : Type 0 where
-  BadAlgorithm : Refusal
-  BadEncoding : Refusal
-  BadOutputSize : Refusal
-  BadParam : List ℕ → Refusal
-  BadParams : Refusal
-  WrongPassword : Refusal
-  BadSalt : Refusal
-  BadVersion : Refusal
-  NoMemory : Refusal
+  Algorithm : Refusal
+  EncodingInvalid : Refusal
+  OutputSize : Refusal
+  ParamInvalid : List ℕ → Refusal
+  ParamsInvalid : Refusal
+  PasswordInvalid : Refusal
+  SaltInvalid : Refusal
+  Version : Refusal
+  OutOfMemory : Refusal
 
 -- the value of an error
 abbrev pub refusal : Error → Refusal
-refusal Algorithm = BadAlgorithm
-refusal EncodingInvalid = BadEncoding
-refusal OutputSize = BadOutputSize
-refusal (ParamInvalid name) = BadParam name.now
-refusal ParamsInvalid = BadParams
-refusal PasswordInvalid = WrongPassword
-refusal SaltInvalid = BadSalt
-refusal Version = BadVersion
-refusal OutOfMemory = NoMemory
+refusal error.Algorithm = Algorithm
+refusal error.EncodingInvalid = EncodingInvalid
+refusal error.OutputSize = OutputSize
+refusal (error.ParamInvalid name) = ParamInvalid name.now
+refusal error.ParamsInvalid = ParamsInvalid
+refusal error.PasswordInvalid = PasswordInvalid
+refusal error.SaltInvalid = SaltInvalid
+refusal error.Version = Version
+refusal error.OutOfMemory = OutOfMemory

@@ -4,6 +4,7 @@
 pub mod decimal;
 mod error;
 pub mod kdf;
+pub mod laws;
 mod letters;
 pub mod mcf;
 mod parts;

@@ -1,7 +1,7 @@
 //! The traits of making and verifying password hashes.
 ghost use Rattle.std.specs.Prelude.{◌≡◌, ◌↔◌, List, ℕ, Option, None, IfOk, IfErr, IsTrue, OnOk};
 ghost use Rattle.std.specs.Option.{option_map};
-ghost use Rattle.password_hash.specs.Refusal.{Refusal, refusal, WrongPassword};
+ghost use Rattle.password_hash.specs.Refusal.{Refusal, refusal, PasswordInvalid};
 
 use crate::{Result, Version};
 use std::alloc::Global;
@@ -83,7 +83,7 @@ pub trait PasswordVerifier<H> {
     /// `PasswordInvalid` only if it is not.
     fn verify_password(&self, alloc: Global, password: &[u8], hash: &H) -> Result<()>
         ensures ok { OnOk result (accepts password.now hash.now) }
-        ensures wrong { IfErr result (λ e. refusal e ≡ WrongPassword → ¬ accepts password.now hash.now) }
+        ensures wrong { IfErr result (λ e. refusal e ≡ PasswordInvalid → ¬ accepts password.now hash.now) }
         ensures err { IfErr result (λ e. refuses password.now hash.now (refusal e)) };
 }
 

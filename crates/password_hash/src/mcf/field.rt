@@ -1,6 +1,6 @@
 //! One field of an MCF text.
-ghost use Rattle.std.specs.Prelude.{◌≡◌, ◌↔◌, ℕ, List, length, IsTrue, IfOk, IsErrOf, MatchOption};
-ghost use Rattle.password_hash.specs.Crypt64.{Crypt64, IsCrypt64};
+ghost use Rattle.std.specs.Prelude.{◌≡◌, ◌↔◌, ℕ, List, length, take, drop, IsTrue, IfOk, IsErrOf, MatchOption};
+ghost use Rattle.password_hash.specs.Crypt64.{Crypt64, IsCrypt64, IsPiece};
 
 use super::crypt64::{Base64, decoded_len, is_encoding};
 use super::{Error, Result};
@@ -49,5 +49,22 @@ impl<'a> Field<'a> {
         ensures exact { IsTrue result ↔ Crypt64 bytes.now (field_text self.now) }
     {
         is_encoding(self.text.as_bytes(), bytes)
+    }
+
+    /// Returns whether the field encodes `bytes` in crypt Base64 at byte `at` of all its bytes.
+    /// Every byte is compared, also after a difference. Does not allocate.
+    ///
+    /// The field is an encoding of at least `at + bytes.len()` bytes. `at` is a multiple of 3, and
+    /// so is `bytes.len()` unless `bytes` reach the end.
+    pub fn base64_matches_at(&self, at: usize, bytes: &[u8]) -> bool
+        requires piece { (all : List ℕ) × Crypt64 all (field_text self.now)
+            × IsPiece at (length bytes.now) (length all) }
+        ensures exact { (all : List ℕ) → Crypt64 all (field_text self.now)
+            → IsTrue result ↔ (bytes.now ≡ take (length bytes.now) (drop at all)) }
+    {
+        let letters = self.text.as_bytes();
+        let from = at / 3 * 4;
+        let len = Base64::Crypt.encoded_len(bytes.len());
+        is_encoding(&letters[from..from + len], bytes)
     }
 }

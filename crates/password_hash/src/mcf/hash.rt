@@ -121,6 +121,13 @@ impl PasswordHash {
         self.text.as_str()
     }
 
+    /// Returns the whole text, which is moved out of the hash and not copied.
+    pub fn into_string(self) -> String
+        ensures value { string_bytes result ≡ self }
+    {
+        self.text
+    }
+
     /// Returns the id: one or more of `a-z0-9-`.
     pub fn id(&self) -> &str
         ensures value { result.now ≡ id_of self.now }
@@ -144,6 +151,17 @@ impl PasswordHash {
         PasswordHashRef {
             text: self.text.as_str(),
         }
+    }
+}
+
+impl From<PasswordHash> for String {
+    ghost use Rattle.std.specs.Prelude.{◌≡◌, string_bytes};
+
+    ghost from_gives = { λ hash text. string_bytes text ≡ hash };
+
+    /// Returns the whole text, which is moved out of the hash and not copied.
+    fn from(hash: PasswordHash) -> String {
+        hash.into_string()
     }
 }
 

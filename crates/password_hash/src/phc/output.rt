@@ -1,8 +1,8 @@
 //! The key of a hash.
-ghost use Rattle.std.specs.Prelude.{◌≡◌, ◌↔◌, ◌≤◌, IsOk, IfOk, IfErr, length};
+ghost use Rattle.std.specs.Prelude.{◌≡◌, ◌↔◌, ◌+◌, ◌≤◌, IsOk, IsTrue, IfOk, IfErr, length, take, drop};
 ghost use Rattle.password_hash.specs.declared.error.Error.TheVariants.{OutputSize};
 
-use crate::phc::short_bytes::ShortBytes;
+use crate::phc::short_bytes::{ShortBytes, are_same};
 use crate::{Error, Result};
 use std::marker::Model;
 
@@ -59,5 +59,16 @@ impl Output {
         ensures greatest { length result.now ≤ 64 }
     {
         self.bytes.as_bytes()
+    }
+
+    /// Returns whether `bytes` are those of the key at byte `at`. Every byte is compared, also
+    /// after a difference.
+    ///
+    /// The key has at least `at + bytes.len()` bytes.
+    pub fn matches_at(&self, at: usize, bytes: &[u8]) -> bool
+        requires inside { at + length bytes.now ≤ length self.now }
+        ensures exact { IsTrue result ↔ (bytes.now ≡ take (length bytes.now) (drop at self.now)) }
+    {
+        are_same(bytes, &self.as_bytes()[at..at + bytes.len()])
     }
 }

@@ -5,7 +5,7 @@
 ghost use Rattle.std.specs.Prelude.{◌≡◌, ℕ, List, Option, Some, IfSome};
 ghost use Rattle.password_hash.specs.Pairs.{ArePairs};
 ghost use Rattle.password_hash.specs.Parts.{parts_left};
-ghost use Rattle.password_hash.specs.PhcParts.{IsVersion, LackEquals, LackVersion, Takes, TakesOnly};
+ghost use Rattle.password_hash.specs.PhcParts.{IsVersion, LackEquals, LackVersion, IsPrefix, IsOnlyPrefix};
 ghost use Rattle.password_hash.specs.Phc.{IsSaltAndKey, params_part, version_part};
 
 use crate::Version;
@@ -16,8 +16,8 @@ use crate::phc::{Output, ParamsString, Salt};
 
 /// Returns the version, if the next part begins with `v=`, and what is left of the text after it.
 pub(super) fn take_version(left: Option<&str>) -> Option<(Option<Version>, Option<&str>)>
-    ensures found { IfSome result (Takes version_part IsVersion (parts_left left.entry)) }
-    ensures only { TakesOnly version_part IsVersion LackVersion (parts_left left.entry) result }
+    ensures found { IfSome result (IsPrefix version_part IsVersion (parts_left left.entry)) }
+    ensures only { IsOnlyPrefix version_part IsVersion LackVersion (parts_left left.entry) result }
 {
     let Some(text) = left else {
         return Some((None, None));
@@ -32,8 +32,8 @@ pub(super) fn take_version(left: Option<&str>) -> Option<(Option<Version>, Optio
 
 /// Returns the parameters, if the next part has a `=`, and what is left of the text after them.
 pub(super) fn take_params(left: Option<&str>) -> Option<(ParamsString, Option<&str>)>
-    ensures found { IfSome result (Takes params_part ArePairs (parts_left left.entry)) }
-    ensures only { TakesOnly params_part ArePairs LackEquals (parts_left left.entry) result }
+    ensures found { IfSome result (IsPrefix params_part ArePairs (parts_left left.entry)) }
+    ensures only { IsOnlyPrefix params_part ArePairs LackEquals (parts_left left.entry) result }
 {
     let Some(text) = left else {
         return Some((ParamsString::new(), None));

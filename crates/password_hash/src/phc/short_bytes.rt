@@ -82,7 +82,7 @@ impl<const LEAST: usize, const MOST: usize> Eq for ShortBytes<LEAST, MOST> {
 
 /// Returns whether these are the same bytes. Every byte is compared, also after a difference.
 #[tactic(auto, using(crate::proofs::StoredFacts::same_bytes))]
-fn are_same(a: &[u8], b: &[u8]) -> bool
+pub(super) fn are_same(a: &[u8], b: &[u8]) -> bool
     ensures { (result ≡ true) ↔ (a.now ≡ b.now) }
 {
     let mut same = a.len() == b.len();

@@ -1,0 +1,10 @@
+//! Laws of the definitions. Each function does nothing at run time: its contract is the law.
+ghost use Rattle.std.specs.Prelude.{◌≡◌, ℕ, ◌^◌, List, Option};
+ghost use Rattle.password_hash.specs.Decimal.{DecimalGives, UnsignedGives, decimal_below};
+
+/// `read_decimal` for an unsigned integer type of this many bits returns the number of a decimal
+/// text, if it is below the type's bound, and `None` for every other text.
+pub fn decimals_are_read()
+    ensures gives { (bits : ℕ) (text : List ℕ) (answer : Option ℕ) → DecimalGives (UnsignedGives bits) text answer
+        → answer ≡ decimal_below (2 ^ bits) text }
+{}
