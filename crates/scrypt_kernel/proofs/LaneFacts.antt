@@ -8,7 +8,8 @@ use Rattle.std.proofs.lemmas.Nat.{mod-pow-add, mod_low, or_shifted, pow_pos, shl
 use Rattle.std.proofs.lemmas.Simd.{length-zip2}
 use Rattle.scrypt_kernel.specs.Words.{add32, part}
 use Rattle.scrypt_kernel.specs.Salsa.{double_round, quarter_round, salsa20_8}
-use Rattle.scrypt_kernel.specs.Diagonal.{diagonal_order, inverse_pivot, lanes_of, permuted, pivot, quarter_rounds, standard_order, turned}
+use Rattle.scrypt_kernel.specs.Diagonal.{diagonal_order, inverse_pivot, permuted, pivot, standard_order}
+use Rattle.scrypt_kernel.specs.Lanes.{lanes_of, quarter_rounds, turned}
 use Rattle.scrypt_kernel.proofs.WordFacts.{part-zip2}
 use Rattle.scrypt_kernel.proofs.PartFacts.{parts_all, parts_same}
 use Rattle.scrypt_kernel.proofs.OrderFacts.{diagonal_inverse, in_then_out, length-permuted, out_then_in, zip_in}

@@ -53,11 +53,6 @@ module _ (s k : ℕ) (x ys : List ℕ) (a n : ℕ) (at : a ≡ k * s) (size : n 
             ap (take s) (drop-put_mid a n x ys (j * s) (omega arith) (omega arith) (omega arith))
       ]
 
--- a list that was split in front of part k, with ys written there
-pub split_put : (a s : ℕ) (x front back ys : List ℕ) → front ≡ take a x → back ≡ drop a x
-    → front ++ (ys ++ drop s back) ≡ put_mid a s x ys
-split_put a s x front back ys is_front is_back = rw (is_front, is_back) refl
-
 -- the first part of a list that begins with it
 pub first_part : (s : ℕ) (xs ys : List ℕ) → length xs ≡ s → part s (xs ++ ys) 0 ≡ xs
 first_part s xs ys full =

@@ -12,7 +12,7 @@ use Rattle.std.proofs.lemmas.List.Elements.{All-append, All-cons, All-get_or, Al
 use Rattle.std.proofs.lemmas.List.{get_or_past}
 use borrow.Rule.Slice.PartMut.{put_mid}
 use Rattle.scrypt_kernel.specs.Hmac.{hmac_sha256, padded_key}
-use Rattle.scrypt_kernel.specs.Pbkdf2.{pbkdf2, pbkdf2_block, pbkdf2_byte}
+use Rattle.scrypt_kernel.specs.Pbkdf2.{pbkdf2, pbkdf2_block, pbkdf2_byte, pbkdf2_from}
 use Rattle.scrypt_kernel.specs.Words.{part}
 use Rattle.scrypt_kernel.proofs.PartFacts.{length-part, parts_all}
 
@@ -37,19 +37,34 @@ put_inside a n xs ys k low high room =
     let front : length (take a xs) ≡ a = length-take-le a xs room in
     get_or-append_right (take a xs) _ a k 0 front low ∙ get_or_append_left ys _ 0 (k - a) (omega arith)
 
--- byte k is in block k / 32
-pub byte_in_block : (password salt made cut : List ℕ) (i k size : ℕ)
+-- byte k after so many blocks is in block k / 32 after them
+pub byte_in_block : (password salt made cut : List ℕ) (skipped i k size : ℕ)
     → 32 * i ≤ k → k < 32 * (i + 1) → k - 32 * i < size
-    → made ≡ pbkdf2_block password salt (i + 1) → cut ≡ take size made
-    → get_or cut (k - 32 * i) 0 ≡ pbkdf2_byte password salt k
+    → made ≡ pbkdf2_block password salt (skipped + i + 1) → cut ≡ take size made
+    → get_or cut (k - 32 * i) 0 ≡ pbkdf2_byte password salt (32 * skipped + k)
 unfolding pbkdf2_byte
-byte_in_block password salt made cut i k size low high inside is_made is_cut =
-    let number : k / 32 ≡ i = omega arith in
-    let place : k % 32 ≡ k - 32 * i = omega arith in
+byte_in_block password salt made cut skipped i k size low high inside is_made is_cut =
+    let number : (32 * skipped + k) / 32 ≡ skipped + i = omega arith in
+    let place : (32 * skipped + k) % 32 ≡ k - 32 * i = omega arith in
     rw (number, place, is_cut, get_or-take, is_made) refl
 
 pub length-pbkdf2 : (password salt : List ℕ) (n : ℕ) → length (pbkdf2 password salt n) ≡ n
 length-pbkdf2 password salt n = length-map-range_with_len (pbkdf2_byte password salt) 0 n
+
+-- bytes that are written in two pieces, one after the other
+ranges_joined : (f : ℕ → ℕ) (a n more at : ℕ) → a + n ≡ at
+    → map f (range_with_len a n) ++ map f (range_with_len at more) ≡ map f (range_with_len a (n + more))
+ranges_joined f a zero more at is =
+    let here : at ≡ a = omega arith in
+    let count : zero + more ≡ more = omega arith in
+    rw (here, count) refl
+ranges_joined f a (suc n) more at is =
+    let count : suc n + more ≡ suc (n + more) = omega arith in
+    rw count (ap (λ rest. f a ∷ rest) (ranges_joined f (a + 1) n more at (omega arith)))
+
+pub pbkdf2-append : (password salt : List ℕ) (n more : ℕ)
+    → pbkdf2 password salt n ++ pbkdf2_from password salt n more ≡ pbkdf2 password salt (n + more)
+pbkdf2-append password salt n more = ranges_joined (pbkdf2_byte password salt) 0 n more n (omega arith)
 
 -- the bytes between 32 * i and 32 * (i + 1) are those of block i + 1
 part_of_pbkdf2 : (password salt : List ℕ) (n i : ℕ) → i < n

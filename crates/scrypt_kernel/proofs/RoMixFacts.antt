@@ -1,13 +1,12 @@
 -- Facts on scryptROMix.
-use Rattle.std.proofs.Common.{◌≡◌, ℕ, zero, suc, ◌<◌, ◌+◌, ◌*◌, ◌/◌, ◌%◌, ◌^◌, List, ◌++◌, length, bit_xor, refl, sym, ap, ap₂, ◌∙◌, arith, add-one, below_more, length-append}
-use Rattle.std.proofs.lemmas.Nat.{one_shl}
+use Rattle.std.proofs.Common.{◌≡◌, ℕ, zero, suc, ◌<◌, ◌+◌, ◌*◌, ◌/◌, ◌%◌, ◌^◌, List, ◌++◌, length, bit_xor, refl, sym, ap, ap₂, ◌∙◌, arith, add-one, add-zero, below_more, length-append}
 use Rattle.std.proofs.lemmas.Simd.{length-zip2}
 use Rattle.scrypt_kernel.specs.Words.{part, xor_words}
 use Rattle.scrypt_kernel.specs.BlockMix.{block_mix}
 use Rattle.scrypt_kernel.specs.RoMix.{integerify, ro_mix, row, walk}
 use Rattle.scrypt_kernel.specs.Diagonal.{AreInverse, permuted}
 use Rattle.scrypt_kernel.proofs.BlockMixFacts.{length-block_mix}
-use Rattle.scrypt_kernel.proofs.OrderFacts.{in_then_out, length-permuted, zip_in}
+use Rattle.scrypt_kernel.proofs.OrderFacts.{in_then_out, length-permuted, out_then_in, zip_in}
 use Rattle.scrypt_kernel.proofs.PartFacts.{length-part, part_append_front, part_append_last, parts_apart}
 
 -- the next row
@@ -15,97 +14,17 @@ pub row_more : (b : List ℕ) (i : ℕ) → row b (i + 1) ≡ block_mix (row b i
 unfolding row
 row_more b i = rw add-one refl
 
--- the cores of one more row or step
-pub more_cores : (a l m i n : ℕ) → n ≡ i + 1 → a + l * (i * m) + l * m ≡ a + l * (n * m)
-more_cores a l m i n is = rw is (omega arith)
+pub row_one : (b : List ℕ) → block_mix b ≡ row b 1
+unfolding row
+row_one b = refl
 
--- the count of the lanes' cores after one more step over s words
-pub counted_lanes : (a l s words i n before after : ℕ) → after ≡ before + l * (2 * (words / 32)) → words ≡ s
-    → before ≡ a + l * (i * (2 * (s / 32))) → n ≡ i + 1 → after ≡ a + l * (n * (2 * (s / 32)))
-counted_lanes a l s words i n before after step same until is =
-    step ∙ ap (λ w. before + l * (2 * (w / 32))) same ∙ ap (λ c. c + l * (2 * (s / 32))) until
-    ∙ more_cores a l (2 * (s / 32)) i n is
-
-more_of_all : (a m i n : ℕ) → n ≡ i + 1 → a + i * m + m ≡ a + n * m
-more_of_all a m i n is = rw is (omega arith)
-
--- and that of all cores
-pub counted_all : (a s words i n before after : ℕ) → after ≡ before + 2 * (words / 32) → words ≡ s
-    → before ≡ a + i * (2 * (s / 32)) → n ≡ i + 1 → after ≡ a + n * (2 * (s / 32))
-counted_all a s words i n before after step same until is =
-    step ∙ ap (λ w. before + 2 * (w / 32)) same ∙ ap (λ c. c + 2 * (s / 32)) until ∙ more_of_all a (2 * (s / 32)) i n is
-
--- pairs of steps and what is left make N steps
-pub all_steps : (log_n k n : ℕ) → log_n < 64 → n ≡ 1 * 2 ^ log_n % 2 ^ 64 → k ≡ n % 2 → 2 * (n / 2) + k ≡ 2 ^ log_n
-all_steps log_n k n small is rest =
-    let shifted = one_shl log_n 64 small in
-    omega (arith, shifted, is)
-
-sum_of_all : (a m i k n : ℕ) → 2 * i + k ≡ n → a + 2 * i * m + k * m ≡ a + n * m
-sum_of_all a m i k n whole = rw (← whole) (omega arith)
-
-sum_of_lanes : (a l m i k n : ℕ) → 2 * i + k ≡ n → a + l * (2 * i * m) + l * (k * m) ≡ a + l * (n * m)
-sum_of_lanes a l m i k n whole = rw (← whole) (omega arith)
-
--- the counts after all steps
-pub steps_all : (a s words i k n before after : ℕ) → after ≡ before + k * (2 * (words / 32)) → words ≡ s
-    → before ≡ a + 2 * i * (2 * (s / 32)) → 2 * i + k ≡ n → after ≡ a + n * (2 * (s / 32))
-steps_all a s words i k n before after rest same pairs whole =
-    rest ∙ ap (λ w. before + k * (2 * (w / 32))) same ∙ ap (λ c. c + k * (2 * (s / 32))) pairs
-    ∙ sum_of_all a (2 * (s / 32)) i k n whole
-
-pub steps_lanes : (a l s words i k n before after : ℕ) → after ≡ before + l * (k * (2 * (words / 32))) → words ≡ s
-    → before ≡ a + l * (2 * i * (2 * (s / 32))) → 2 * i + k ≡ n → after ≡ a + l * (n * (2 * (s / 32)))
-steps_lanes a l s words i k n before after rest same pairs whole =
-    rest ∙ ap (λ w. before + l * (k * (2 * (w / 32)))) same ∙ ap (λ c. c + l * (k * (2 * (s / 32)))) pairs
-    ∙ sum_of_lanes a l (2 * (s / 32)) i k n whole
-
--- the row after one that is in another order
-module _ (p q : List ℕ) (inverse : AreInverse p q) where
-  pub next_row_in : (b x : List ℕ) (i : ℕ) → length x % 16 ≡ 0 → x ≡ permuted p (row b i)
-      → permuted p (block_mix (permuted q x)) ≡ permuted p (row b (i + 1))
-  next_row_in b x i whole is =
-      let long : length (row b i) ≡ length x = sym (ap length is ∙ length-permuted p (row b i)) in
-      let standard : permuted q x ≡ row b i = ap (permuted q) is ∙ in_then_out p q inverse (row b i) (omega arith) in
-      ap (λ z. permuted p (block_mix z)) standard ∙ ap (permuted p) (sym (row_more b i))
-
-  -- the rows of a table, and one more that is the block mix of the last
-  pub more_rows : (b v v' : List ℕ) (s t i : ℕ) → 0 < s → s % 32 ≡ 0 → t ≡ s → length v ≡ (i + 1) * s
-      → ((k : ℕ) → k < i + 1 → part s v k ≡ permuted p (row b k))
-      → v' ≡ v ++ permuted p (block_mix (permuted q (part t v i)))
-      → (length v' ≡ (i + 1 + 1) * s) × ((k : ℕ) → k < i + 1 + 1 → part s v' k ≡ permuted p (row b k))
-  more_rows b v v' s t i some whole same long rows is =
-      let last = part s v i in
-      let next = permuted p (block_mix (permuted q last)) in
-      let added : v' ≡ v ++ next = is ∙ ap (λ n. v ++ permuted p (block_mix (permuted q (part n v i)))) same in
-      let row_long : length last ≡ s = length-part s i v (omega arith) in
-      let in_long : length (permuted q last) ≡ s = length-permuted q last ∙ row_long in
-      let next_long : length next ≡ s =
-      length-permuted p (block_mix (permuted q last)) ∙ length-block_mix (permuted q last) (omega arith) (omega arith) ∙ in_long in (
-        ap length added ∙ length-append v next ∙ omega arith,
-        below_more _ _
-            (λ k h. let apart = parts_apart s k (i + 1) h in
-            ap (λ z. part s z k) added ∙ part_append_front s k v next (omega (arith, long)) ∙ rows k h)
-            (ap (λ z. part s z (i + 1)) added ∙ part_append_last s (i + 1) v next long next_long
-            ∙ next_row_in b last i (omega arith) (rows i (omega arith))),
-      )
-
-  -- the step after one, which takes in row j
-  pub next_step_in : (b : List ℕ) (log_n k : ℕ) (x u : List ℕ) (j : ℕ) → length x % 16 ≡ 0 → length u ≡ length x
-      → x ≡ permuted p (walk b log_n k) → j ≡ integerify (permuted q x) % 2 ^ log_n → u ≡ permuted p (row b j)
-      → permuted p (block_mix (permuted q (xor_words x u))) ≡ permuted p (walk b log_n (k + 1))
-  unfolding walk
-  next_step_in b log_n k x u j whole same is names taken =
-      let w = walk b log_n k in
-      let long : length w ≡ length x = sym (ap length is ∙ length-permuted p w) in
-      let long_row : length (row b j) ≡ length x = sym (length-permuted p (row b j)) ∙ sym (ap length taken) ∙ same in
-      let standard : permuted q x ≡ w = ap (permuted q) is ∙ in_then_out p q inverse w (omega arith) in
-      let number : j ≡ integerify w % 2 ^ log_n = names ∙ ap (λ z. integerify z % 2 ^ log_n) standard in
-      let both : length (xor_words w (row b j)) ≡ length w = length-zip2 bit_xor w (row b j) (long ∙ sym long_row) in
-      let joined : permuted q (xor_words x u) ≡ xor_words w (row b j) =
-      ap (permuted q) (ap₂ xor_words is taken ∙ zip_in p q inverse bit_xor w (row b j) (long ∙ sym long_row) (omega arith))
-      ∙ in_then_out p q inverse (xor_words w (row b j)) (omega arith) in
-      ap (λ z. permuted p (block_mix z)) (joined ∙ ap (λ n. xor_words w (row b n)) number) ∙ rw add-one refl
+-- the rows after a row are rows
+pub row_after : (b : List ℕ) (i k : ℕ) → row (row b i) k ≡ row b (i + k)
+unfolding row
+row_after b i zero = ap (row b) (sym (add-zero i))
+row_after b i (suc k) =
+    let there : suc (i + k) ≡ i + suc k = omega arith in
+    ap block_mix (row_after b i k) ∙ ap (row b) there
 
 -- scryptROMix keeps the length of its input
 module _ (b : List ℕ) (some : 0 < length b) (whole : length b % 32 ≡ 0) where
@@ -127,3 +46,83 @@ module _ (b : List ℕ) (some : 0 < length b) (whole : length b % 32 ≡ 0) wher
   pub length-ro_mix : (log_n : ℕ) → length (ro_mix b log_n) ≡ length b
   unfolding ro_mix
   length-ro_mix log_n = length-walk log_n _
+
+-- the cores of one more row or step
+pub more_cores : (a l m i n : ℕ) → n ≡ i + 1 → a + l * (i * m) + l * m ≡ a + l * (n * m)
+more_cores a l m i n is = rw is (omega arith)
+
+-- the count of the lanes' cores after one more step over s words
+pub counted_lanes : (a l s words i n before after : ℕ) → after ≡ before + l * (2 * (words / 32)) → words ≡ s
+    → before ≡ a + l * (i * (2 * (s / 32))) → n ≡ i + 1 → after ≡ a + l * (n * (2 * (s / 32)))
+counted_lanes a l s words i n before after step same until is =
+    step ∙ ap (λ w. before + l * (2 * (w / 32))) same ∙ ap (λ c. c + l * (2 * (s / 32))) until
+    ∙ more_cores a l (2 * (s / 32)) i n is
+
+more_of_all : (a m i n : ℕ) → n ≡ i + 1 → a + i * m + m ≡ a + n * m
+more_of_all a m i n is = rw is (omega arith)
+
+-- and that of all cores
+pub counted_all : (a s words i n before after : ℕ) → after ≡ before + 2 * (words / 32) → words ≡ s
+    → before ≡ a + i * (2 * (s / 32)) → n ≡ i + 1 → after ≡ a + n * (2 * (s / 32))
+counted_all a s words i n before after step same until is =
+    step ∙ ap (λ w. before + 2 * (w / 32)) same ∙ ap (λ c. c + 2 * (s / 32)) until ∙ more_of_all a (2 * (s / 32)) i n is
+
+-- the row after one that is in another order
+module _ (p q : List ℕ) (inverse : AreInverse p q) where
+  -- which is row 0 of itself
+  pub row_zero_in : (x : List ℕ) → length x % 16 ≡ 0 → x ≡ permuted p (row (permuted q x) 0)
+  unfolding row
+  row_zero_in x whole = sym (out_then_in p q inverse x whole)
+
+  pub next_row_in : (b x : List ℕ) (i : ℕ) → length x % 16 ≡ 0 → x ≡ permuted p (row b i)
+      → permuted p (block_mix (permuted q x)) ≡ permuted p (row b (i + 1))
+  next_row_in b x i whole is =
+      let long : length (row b i) ≡ length x = sym (ap length is ∙ length-permuted p (row b i)) in
+      let standard : permuted q x ≡ row b i = ap (permuted q) is ∙ in_then_out p q inverse (row b i) (omega arith) in
+      ap (λ z. permuted p (block_mix z)) standard ∙ ap (permuted p) (sym (row_more b i))
+
+  -- and the row that is n rows after it
+  pub row_after_in : (b x : List ℕ) (i n : ℕ) → length x % 16 ≡ 0 → x ≡ permuted p (row b i)
+      → permuted p (row (permuted q x) n) ≡ permuted p (row b (i + n))
+  row_after_in b x i n whole is =
+      let long : length (row b i) ≡ length x = sym (ap length is ∙ length-permuted p (row b i)) in
+      let standard : permuted q x ≡ row b i = ap (permuted q) is ∙ in_then_out p q inverse (row b i) (omega arith) in
+      ap (λ z. permuted p (row z n)) standard ∙ ap (permuted p) (row_after b i n)
+
+  -- the rows of a table that keeps one row in t, and one more that is t rows after the last
+  pub more_rows : (b v v' : List ℕ) (s t i : ℕ) → 0 < s → s % 32 ≡ 0 → length v ≡ (i + 1) * s
+      → ((k : ℕ) → k < i + 1 → part s v k ≡ permuted p (row b (k * t)))
+      → v' ≡ v ++ permuted p (row (permuted q (part s v i)) t)
+      → (length v' ≡ (i + 1 + 1) * s) × ((k : ℕ) → k < i + 1 + 1 → part s v' k ≡ permuted p (row b (k * t)))
+  more_rows b v v' s t i some whole long rows added =
+      let last = part s v i in
+      let next = permuted p (row (permuted q last) t) in
+      let row_long : length last ≡ s = length-part s i v (omega arith) in
+      let in_long : length (permuted q last) ≡ s = length-permuted q last ∙ row_long in
+      let next_long : length next ≡ s =
+      length-permuted p (row (permuted q last) t) ∙ length-row (permuted q last) (omega arith) (omega arith) t ∙ in_long in
+      let there : i * t + t ≡ (i + 1) * t = omega arith in (
+        ap length added ∙ length-append v next ∙ omega arith,
+        below_more _ _
+            (λ k h. let apart = parts_apart s k (i + 1) h in
+            ap (λ z. part s z k) added ∙ part_append_front s k v next (omega (arith, long)) ∙ rows k h)
+            (ap (λ z. part s z (i + 1)) added ∙ part_append_last s (i + 1) v next long next_long
+            ∙ row_after_in b last (i * t) t (omega arith) (rows i (omega arith)) ∙ ap (λ n. permuted p (row b n)) there),
+      )
+
+  -- the step after one, which takes in row j
+  pub next_step_in : (b : List ℕ) (log_n k : ℕ) (x u : List ℕ) (j : ℕ) → length x % 16 ≡ 0 → length u ≡ length x
+      → x ≡ permuted p (walk b log_n k) → j ≡ integerify (permuted q x) % 2 ^ log_n → u ≡ permuted p (row b j)
+      → permuted p (block_mix (permuted q (xor_words x u))) ≡ permuted p (walk b log_n (k + 1))
+  unfolding walk
+  next_step_in b log_n k x u j whole same is names taken =
+      let w = walk b log_n k in
+      let long : length w ≡ length x = sym (ap length is ∙ length-permuted p w) in
+      let long_row : length (row b j) ≡ length x = sym (length-permuted p (row b j)) ∙ sym (ap length taken) ∙ same in
+      let standard : permuted q x ≡ w = ap (permuted q) is ∙ in_then_out p q inverse w (omega arith) in
+      let number : j ≡ integerify w % 2 ^ log_n = names ∙ ap (λ z. integerify z % 2 ^ log_n) standard in
+      let both : length (xor_words w (row b j)) ≡ length w = length-zip2 bit_xor w (row b j) (long ∙ sym long_row) in
+      let joined : permuted q (xor_words x u) ≡ xor_words w (row b j) =
+      ap (permuted q) (ap₂ xor_words is taken ∙ zip_in p q inverse bit_xor w (row b j) (long ∙ sym long_row) (omega arith))
+      ∙ in_then_out p q inverse (xor_words w (row b j)) (omega arith) in
+      ap (λ z. permuted p (block_mix z)) (joined ∙ ap (λ n. xor_words w (row b n)) number) ∙ rw add-one refl

@@ -1,6 +1,6 @@
 -- The standards' own vectors, computed by the definitions, so that a wrong step or constant in a
 -- definition does not check.
-use Rattle.std.proofs.Common.{◌≡◌, ℕ, List, [], ◌∷◌, ◌++◌, ◌+◌, ◌-◌, ◌*◌, if◌then◌else◌, nat_lt, codes, refl, ◌∙◌}
+use Rattle.std.proofs.Common.{◌≡◌, ℕ, List, [], ◌∷◌, ◌++◌, ◌+◌, ◌-◌, ◌*◌, ◌%◌, ◌^◌, if◌then◌else◌, nat_lt, codes, replicate, refl, ◌∙◌}
 use Rattle.std.specs.List.{flat_map, range_with_len}
 use Rattle.sha2.specs.Sha256.{sha256, first_words, schedule, rounds, compress, hash_after, digest_bytes}
 use Rattle.scrypt_kernel.specs.Words.{bytes_of, words_of}
@@ -8,7 +8,7 @@ use Rattle.scrypt_kernel.specs.Hmac.{hmac_sha256}
 use Rattle.scrypt_kernel.specs.Pbkdf2.{pbkdf2, pbkdf2_block}
 use Rattle.scrypt_kernel.specs.Salsa.{double_round, quarter_round, salsa20_8}
 use Rattle.scrypt_kernel.specs.BlockMix.{block_mix, chain}
-use Rattle.scrypt_kernel.specs.RoMix.{ro_mix, row, walk}
+use Rattle.scrypt_kernel.specs.RoMix.{integerify, ro_mix, row, walk}
 use Rattle.scrypt_kernel.proofs.Pbkdf2Facts.{pbkdf2_by_blocks}
 
 -- the number of a hexadecimal digit, `0` to `9` or `a` to `f`
@@ -29,6 +29,15 @@ jefe_output =
 pub hmac_vector : hmac_sha256 (codes "Jefe") (codes "what do ya want for nothing?") ≡ jefe_output
 unfolding hmac_sha256 sha256 first_words schedule rounds compress hash_after digest_bytes
 hmac_vector = refl
+
+abbrev long_key_output : List ℕ
+long_key_output =
+    bytes (codes "eb4692e2b460982c828a3865b886231f2d852425de8f1ff47831826c0059448a")
+
+-- a key of 65 bytes, one more than a block, by OpenSSL
+pub long_key_vector : hmac_sha256 (replicate 65 0xaa) (codes "what do ya want for nothing?") ≡ long_key_output
+unfolding hmac_sha256 sha256 first_words schedule rounds compress hash_after digest_bytes
+long_key_vector = refl
 
 abbrev core_input : List ℕ
 core_input =
@@ -75,6 +84,10 @@ ro_mix_output =
 pub ro_mix_vector : bytes_of (ro_mix (words_of mixed_input) 4) ≡ ro_mix_output
 unfolding ro_mix walk row block_mix chain salsa20_8 double_round quarter_round
 ro_mix_vector = refl
+
+-- Integerify has more than 32 bits: the words at places 0 and 1 of the last block are 5 and 3
+pub integerify_vector : integerify (replicate 16 7 ++ (5 ∷ 3 ∷ replicate 14 7)) % 2 ^ 33 ≡ 4294967301
+integerify_vector = refl
 
 -- n blocks of the key that PBKDF2 derives
 abbrev pub key_blocks : List ℕ → List ℕ → ℕ → List ℕ

@@ -1,14 +1,17 @@
 -- Facts on the walk over a table that keeps some rows, or all of them.
 use Rattle.std.proofs.Common.{◌≡◌, ℕ, zero, suc, ◌<◌, ◌≤◌, ◌+◌, ◌-◌, ◌*◌, ◌/◌, ◌%◌, ◌^◌, List, length, refl, sym, ap, ap₂, subst, ◌∙◌, arith, add-one}
 use Rattle.std.proofs.lemmas.Nat.{pow_pos, shr_below}
-use Rattle.std.proofs.Math.Nat.{mul-le-mul_right}
-use Rattle.scrypt_kernel.specs.Words.{part}
+use Rattle.std.proofs.Math.Nat.{div-mul-le_self, mul-le-mul_right}
+use Rattle.scrypt_kernel.specs.Words.{part, xor_words}
+use Rattle.scrypt_kernel.specs.BlockMix.{block_mix}
 use Rattle.scrypt_kernel.specs.RoMix.{integerify, row, walk}
 use Rattle.scrypt_kernel.specs.RoMixCost.{ro_mix_cost}
-use Rattle.scrypt_kernel.specs.Table.{AfterSteps, KeepsRows, StartsWalk, extra_rows, rows_anew, thin_ro_mix_cost}
+use Rattle.scrypt_kernel.specs.Table.{extra_rows, recomputed_rows, thin_ro_mix_cost}
+use Rattle.scrypt_kernel.specs.KeptRows.{AfterSteps, KeepsRows, StartsWalk}
 use Rattle.scrypt_kernel.specs.Diagonal.{AreInverse, permuted}
 use Rattle.scrypt_kernel.proofs.PartFacts.{length-part}
 use Rattle.scrypt_kernel.proofs.OrderFacts.{in_then_out, length-permuted}
+use Rattle.scrypt_kernel.proofs.RoMixFacts.{length-row, next_step_in, row_after_in}
 
 -- the kept row below row j
 pub kept_inside : (s log_n j size len : ℕ) → s ≤ log_n → j < 2 ^ log_n → len ≡ 2 ^ (log_n - s) * size
@@ -44,14 +47,33 @@ input_long p b log_n s size kept keeps long =
     let first : part size kept 0 ≡ permuted p b = keeps.each 0 some ∙ ap (λ i. permuted p (row b i)) none in
     sym (length-permuted p b) ∙ sym (ap length first) ∙ length-part size 0 kept room
 
--- the same rows, of the same size, in the same table
-keeps_same : (p b : List ℕ) (s t n size other : ℕ) (kept rows : List ℕ) → t ≡ s → other ≡ size → rows ≡ kept
-    → KeepsRows p b s size n kept → KeepsRows p b t other n rows
-keeps_same p b s t n size other kept rows spacing sizes same keeps =
-    let P : ℕ → Type 0 = λ i. KeepsRows p b i other n rows in
-    let keeps_there : KeepsRows p b s other n rows =
-    record { each = λ m h. ap₂ (λ i z. part i z m) sizes same ∙ keeps.each m h } in
-    subst P (sym spacing) keeps_there
+-- the row that is recomputed from the kept row below it
+pub row_from_kept : (p q : List ℕ) → AreInverse p q → (b x kept : List ℕ) (s size n j : ℕ) → size % 16 ≡ 0
+    → KeepsRows p b s size n kept → j < n → (j / 2 ^ s + 1) * size ≤ length kept → x ≡ part size kept (j / 2 ^ s)
+    → permuted p (row (permuted q x) (j % 2 ^ s)) ≡ permuted p (row b j)
+row_from_kept p q inverse b x kept s size n j whole keeps inside fits is =
+    let t : ℕ = 2 ^ s in
+    let below : j / t * t < n = omega (arith, div-mul-le_self j t, inside) in
+    let there : j / t * t + j % t ≡ j = omega arith in
+    let long : length x ≡ size = ap length is ∙ length-part size (j / t) kept (omega arith) in
+    row_after_in p q inverse b x (j / t * t) (j % t) (omega arith) (is ∙ keeps.each (j / t) below)
+    ∙ ap (λ i. permuted p (row b i)) there
+
+-- a row is missing only if rows are left out
+pub some_missing : (s j : ℕ) → (j % (1 * 2 ^ s % 2 ^ 64) ≡ 0 → ⊥) → 0 < s
+some_missing zero j missing = absurd (missing (omega arith))
+some_missing (suc s) j missing = omega arith
+
+-- the step after one, which takes in row j of a table
+pub step_with_row : (p q : List ℕ) → AreInverse p q → (b : List ℕ) (log_n s k : ℕ) (kept x u : List ℕ) (j : ℕ)
+    → 0 < length x → length x % 32 ≡ 0 → length kept ≡ 2 ^ (log_n - s) * length x → KeepsRows p b s (length x) (2 ^ log_n) kept
+    → x ≡ permuted p (walk b log_n k) → j ≡ integerify (permuted q x) % 2 ^ log_n → u ≡ permuted p (row b j)
+    → permuted p (block_mix (permuted q (xor_words x u))) ≡ permuted p (walk b log_n (k + 1))
+step_with_row p q inverse b log_n s k kept x u j some whole rows keeps is names taken =
+    let input : length b ≡ length x = input_long p b log_n s _ kept keeps rows in
+    let long : length u ≡ length x =
+    ap length taken ∙ length-permuted p (row b j) ∙ length-row b (omega arith) (omega arith) j ∙ input in
+    next_step_in p q inverse b log_n k x u j (omega arith) long is names taken
 
 -- before the first step
 pub no_step : (p b : List ℕ) (log_n s l all lanes : ℕ) (kept x : List ℕ) → StartsWalk p b log_n s kept x
@@ -67,45 +89,45 @@ more_of_lanes : (a l k e d m : ℕ) → a + l * ((k + e) * m) + l * ((d + 1) * m
 more_of_lanes a l k e d m = omega arith
 
 extra_rows-more : (b : List ℕ) (log_n s k : ℕ)
-    → extra_rows b log_n s (k + 1) ≡ extra_rows b log_n s k + rows_anew s (integerify (walk b log_n k) % 2 ^ log_n)
+    → extra_rows b log_n s (k + 1) ≡ extra_rows b log_n s k + recomputed_rows s (integerify (walk b log_n k) % 2 ^ log_n)
 unfolding extra_rows
 extra_rows-more b log_n s k = rw add-one refl
 
 -- one more step
-module _ (p q : List ℕ) (inverse : AreInverse p q) (b : List ℕ) (log_n s t size l all_before lanes_before k : ℕ)
-    (kept rows start x y : List ℕ) (all lanes all_next lanes_next : ℕ) where
+module _ (p q : List ℕ) (inverse : AreInverse p q) (b : List ℕ) (log_n s size l all_before lanes_before k : ℕ)
+    (kept start x y : List ℕ) (all lanes all_next lanes_next : ℕ) where
   pub one_more_step : StartsWalk p b log_n s kept start → AfterSteps p b log_n s size l all_before lanes_before k x all lanes
-      → length start ≡ size → length x ≡ size → size % 16 ≡ 0 → t ≡ s → rows ≡ kept
-      → ((b : List ℕ) (k : ℕ) → KeepsRows p b t (length x) (2 ^ log_n) rows → x ≡ permuted p (walk b log_n k)
+      → length start ≡ size → length x ≡ size → size % 16 ≡ 0
+      → ((b : List ℕ) (k : ℕ) → KeepsRows p b s (length x) (2 ^ log_n) kept → x ≡ permuted p (walk b log_n k)
       → y ≡ permuted p (walk b log_n (k + 1)))
-      → all_next ≡ all + (rows_anew t (integerify (permuted q x) % 2 ^ log_n) + 1) * (2 * (length x / 32))
-      → lanes_next ≡ lanes + l * ((rows_anew t (integerify (permuted q x) % 2 ^ log_n) + 1) * (2 * (length x / 32)))
+      → all_next ≡ all + (recomputed_rows s (integerify (permuted q x) % 2 ^ log_n) + 1) * (2 * (length x / 32))
+      → lanes_next ≡ lanes + l * ((recomputed_rows s (integerify (permuted q x) % 2 ^ log_n) + 1) * (2 * (length x / 32)))
       → AfterSteps p b log_n s size l all_before lanes_before (k + 1) y all_next lanes_next
-  one_more_step starts before long same whole spacing keeps step all_is lanes_is =
+  one_more_step starts before long same whole step all_is lanes_is =
       let w = walk b log_n k in
       let m : ℕ = 2 * (size / 32) in
       let e = extra_rows b log_n s k in
-      let d : ℕ = rows_anew s (integerify w % 2 ^ log_n) in
+      let d : ℕ = recomputed_rows s (integerify w % 2 ^ log_n) in
       let walked : length w ≡ length x = sym (ap length before.value ∙ length-permuted p w) in
       let standard : permuted q x ≡ w = ap (permuted q) before.value ∙ in_then_out p q inverse w (omega arith) in
-      let anew : rows_anew t (integerify (permuted q x) % 2 ^ log_n) ≡ d =
-      ap₂ (λ i z. integerify z % 2 ^ log_n % 2 ^ i) spacing standard in
+      let rows : recomputed_rows s (integerify (permuted q x) % 2 ^ log_n) ≡ d =
+      ap (λ z. integerify z % 2 ^ log_n % 2 ^ s) standard in
       record {
-        value = step b k (keeps_same p b s t _ _ _ _ _ spacing (same ∙ sym long) keeps starts.rows) before.value;
-        all_cores = all_is ∙ ap₂ (λ n i. all + (n + 1) * (2 * (i / 32))) anew same ∙ ap (λ n. n + (d + 1) * m) before.all_cores
+        value = step b k (subst (λ n. KeepsRows p b s n (2 ^ log_n) kept) (long ∙ sym same) starts.rows) before.value;
+        all_cores = all_is ∙ ap₂ (λ n i. all + (n + 1) * (2 * (i / 32))) rows same ∙ ap (λ n. n + (d + 1) * m) before.all_cores
             ∙ more_of_all all_before k e d m ∙ ap (λ n. all_before + (k + 1 + n) * m) (sym (extra_rows-more b log_n s k));
-        lane_cores = lanes_is ∙ ap₂ (λ n i. lanes + l * ((n + 1) * (2 * (i / 32)))) anew same ∙ ap (λ n. n + l * ((d + 1) * m)) before.lane_cores
+        lane_cores = lanes_is ∙ ap₂ (λ n i. lanes + l * ((n + 1) * (2 * (i / 32)))) rows same ∙ ap (λ n. n + l * ((d + 1) * m)) before.lane_cores
             ∙ more_of_lanes lanes_before l k e d m ∙ ap (λ n. lanes_before + l * ((k + 1 + n) * m)) (sym (extra_rows-more b log_n s k));
       }
 
 -- a table that was filled from x, which is the input b in the order p
-pub starts_filled : (p q b x last kept : List ℕ) (log_n s t : ℕ) → permuted q x ≡ b → t ≡ s → length last ≡ length x
+pub starts_filled : (p q b x last kept : List ℕ) (log_n s : ℕ) → permuted q x ≡ b → length last ≡ length x
     → KeepsRows p (permuted q x) s (length x) (2 ^ log_n) kept → last ≡ permuted p (row (permuted q x) (2 ^ log_n))
-    → StartsWalk p b log_n t kept last
-starts_filled p q b x last kept log_n s t input spacing long rows last_is =
+    → StartsWalk p b log_n s kept last
+starts_filled p q b x last kept log_n s input long rows last_is =
     let P : List ℕ → Type 0 = λ z. KeepsRows p z s (length x) (2 ^ log_n) kept in
     record {
-      rows = keeps_same p b s t _ _ _ _ _ spacing long refl (subst P input rows);
+      rows = subst (λ n. KeepsRows p b s n (2 ^ log_n) kept) (sym long) (subst P input rows);
       start = last_is ∙ ap (λ z. permuted p (row z (2 ^ log_n))) input;
     }
 

@@ -1,9 +1,9 @@
 -- Diagonal order: in each block the words of the four diagonals follow one another, so that the four
 -- columns of a double round are the lanes of four vectors of four words. This order is not the
--- standard's: it is how the lanes compute.
-use Rattle.std.specs.Prelude.{◌≡◌, ℕ, ◌+◌, ◌*◌, ◌/◌, ◌%◌, ◌<◌, List, [], ◌∷◌, ◌++◌, map, length, take, drop, slice_index, nat_lt, IsTrue}
-use Rattle.scrypt_kernel.specs.Words.{block, last_block, part, xor_words}
-use Rattle.scrypt_kernel.specs.Salsa.{quarter_round, salsa20_8}
+-- standard's: it is how the SIMD core computes.
+use Rattle.std.specs.Prelude.{◌≡◌, ℕ, ◌+◌, ◌*◌, ◌/◌, ◌%◌, ◌<◌, List, [], ◌∷◌, map, length, slice_index, nat_lt, IsTrue}
+use Rattle.scrypt_kernel.specs.Words.{block, last_block, xor_words}
+use Rattle.scrypt_kernel.specs.Salsa.{salsa20_8}
 use Rattle.std.specs.List.{list_all, range_with_len}
 
 -- the place in standard order of the word at each place in diagonal order
@@ -33,31 +33,6 @@ pub record AreInverse (p q : List ℕ) : Type 0 where
   pub inverse_places : IsTrue (list_all (λ j. nat_lt j 16) q)
   pub undone : map (slice_index p) q ≡ range_with_len 0 16
   pub redone : map (slice_index q) p ≡ range_with_len 0 16
-
--- a block as the lanes of four vectors
-abbrev pub lanes_of : List ℕ → List ℕ × List ℕ × List ℕ × List ℕ
-lanes_of x = (part 4 x 0, part 4 x 1, part 4 x 2, part 4 x 3)
-
--- the quarter rounds of four columns, whose words are the lanes of the vectors a, b, c and d
-abbrev pub quarter_rounds : List ℕ → List ℕ → List ℕ → List ℕ → List ℕ × List ℕ × List ℕ × List ℕ
-quarter_rounds a b c d =
-    let column = λ (j : ℕ).
-    quarter_round (slice_index a j) (slice_index b j) (slice_index c j) (slice_index d j) in
-    let lanes = range_with_len 0 4 in (
-      map (λ j. (column j).0) lanes,
-      map (λ j. (column j).1) lanes,
-      map (λ j. (column j).2) lanes,
-      map (λ j. (column j).3) lanes,
-    )
-
--- a vector turned to the left by k places
-abbrev pub turned_left : ℕ → List ℕ → List ℕ
-turned_left k x = drop k x ++ take k x
-
--- the vectors of the rows from those of the columns, and the other way round: d, c and b are turned to
--- the left by one, two and three places, and d and b change places
-abbrev pub turned : List ℕ × List ℕ × List ℕ × List ℕ → List ℕ × List ℕ × List ℕ × List ℕ
-turned (a, b, c, d) = (a, turned_left 1 d, turned_left 2 c, turned_left 3 b)
 
 -- the core on a block in diagonal order
 abbrev pub diagonal_core : List ℕ → List ℕ

@@ -3,12 +3,12 @@ use Rattle.std.specs.Prelude.{ℕ, ◌-◌, List, ◌++◌, map, length, replica
 use Rattle.sha2.specs.Sha256.{sha256}
 
 -- a key longer than a block is replaced by its digest (section 2)
-abbrev pub short_key : List ℕ → List ℕ
-short_key secret = (if nat_lt 64 (length secret) then sha256 secret else secret)
+abbrev pub hashed_key : List ℕ → List ℕ
+hashed_key secret = (if nat_lt 64 (length secret) then sha256 secret else secret)
 
 -- step 1: the key with zero bytes after it, up to 64 bytes
 abbrev pub padded_key : List ℕ → List ℕ
-padded_key secret = short_key secret ++ replicate (64 - length (short_key secret)) 0
+padded_key secret = hashed_key secret ++ replicate (64 - length (hashed_key secret)) 0
 
 -- steps 2 to 7: H (K xor opad, H (K xor ipad, text)), where K is the padded key, the bytes of ipad are 36
 -- and those of opad 5c in hexadecimal

@@ -1,4 +1,5 @@
--- What the state of HMAC holds: a key, and the text hashed with it so far.
+-- Only functions that scrypt does not export cite this: what the state of HMAC holds, a key and the text
+-- hashed with it so far.
 use Rattle.std.specs.Prelude.{ℕ, List, ◌++◌, bit_xor, map}
 use Rattle.sha2.specs.Hashers.{Holds256}
 use Rattle.scrypt_kernel.specs.Hmac.{padded_key}

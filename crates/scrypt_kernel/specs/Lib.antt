@@ -6,8 +6,6 @@ pub mod Words
 pub mod Hmac
 -- RFC 8018, section 5.2: PBKDF2 with one iteration
 pub mod Pbkdf2
--- RFC 2104: a text that is being hashed
-pub mod HmacState
 -- RFC 7914, section 3: the Salsa20/8 core
 pub mod Salsa
 -- RFC 7914, section 4: scryptBlockMix
@@ -16,11 +14,18 @@ pub mod BlockMix
 pub mod RoMix
 -- what one scryptROMix costs in cores and in memory
 pub mod RoMixCost
--- the order in which the lanes hold the words of a block
+-- the order in which the SIMD core has the words of a block
 pub mod Diagonal
--- a table that keeps some rows of V, or all of them
+-- what one scryptROMix costs with a table that keeps some rows of V, or all of them
 pub mod Table
--- memory that a caller lends for a table
+-- Only functions that scrypt does not export cite these:
+-- a text that is being hashed
+pub mod HmacState
+-- RFC 8018, section 5.2: the state of PBKDF2 whose blocks are being written
+pub mod Pbkdf2State
+-- the lanes of the SIMD core
+pub mod Lanes
+-- the rows that a table keeps, and the walk over them
+pub mod KeptRows
+-- a caller's buffer that a table is in
 pub mod Memory
--- a table that keeps some rows
-pub mod ThinTable

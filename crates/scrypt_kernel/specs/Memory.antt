@@ -1,11 +1,12 @@
--- What contracts see of memory that a caller lends for a table.
+-- Only functions that scrypt does not export cite this: what contracts see of a caller's buffer that a
+-- table is in.
 use Rattle.std.specs.Prelude.{ℕ, List, length, take}
-use Rattle.scrypt_kernel.specs.declared.memory.Lent.{Lent}
+use Rattle.scrypt_kernel.specs.declared.memory.Buffer.{Buffer}
 
 -- the words of the rows in it
-abbrev pub lent_words : Lent → List ℕ
-lent_words rows = take rows.len rows.memory.now
+abbrev pub buffer_words : Buffer → List ℕ
+buffer_words rows = take rows.len rows.memory.now
 
 -- how many words it has room for
-abbrev pub lent_room : Lent → ℕ
-lent_room rows = length rows.memory.now
+abbrev pub buffer_room : Buffer → ℕ
+buffer_room rows = length rows.memory.now

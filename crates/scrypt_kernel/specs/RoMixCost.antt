@@ -14,7 +14,7 @@ table_words log_n r = 2 ^ log_n * (32 * r)
 abbrev pub scratch_words : ℕ → ℕ
 scratch_words r = 64 * r
 
--- the words of three rows: with a row that is mixed anew
+-- the words of three rows: with a row that is recomputed
 abbrev pub thin_scratch_words : ℕ → ℕ
 thin_scratch_words r = 96 * r
 

@@ -11,7 +11,7 @@ pub mod salsa;
 
 use std::marker::Model;
 
-/// How many Salsa20/8 cores were run: all of them, and those of the lanes.
+/// How many Salsa20/8 cores were run: all of them, and the SIMD cores (`lanes`).
 ///
 /// Contracts see two numbers without an upper bound. At run time a count has no bytes, and no
 /// running program reads it.
@@ -42,7 +42,7 @@ impl CoreCount {
         CoreCount { seal: () }
     }
 
-    // The count after one more core of the lanes, whose input and output are in diagonal order.
+    // The count after one more SIMD core, whose input and output are in diagonal order.
     fn after_lanes_core(_before: &CoreCount, _from: &[u32; 16], _to: &[u32; 16]) -> CoreCount
         requires { _to.now ≡ diagonal_order (salsa20_8 (standard_order _from.now)) }
         ensures { (result.all ≡ _before.now.all + 1) × (result.lanes ≡ _before.now.lanes + 1) }

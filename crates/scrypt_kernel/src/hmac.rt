@@ -1,6 +1,6 @@
 //! HMAC (RFC 2104) with SHA-256.
 
-ghost use Rattle.std.specs.Prelude.{◌≡◌, ℕ, List, [], ◌++◌, bit_xor, map};
+ghost use Rattle.std.specs.Prelude.{◌≡◌, ℕ, List, ◌++◌, bit_xor, map};
 ghost use Rattle.scrypt_kernel.specs.Hmac.{hmac_sha256, padded_key};
 ghost use Rattle.scrypt_kernel.specs.HmacState.{HoldsText};
 
@@ -13,9 +13,7 @@ use sha2::{Digest, Sha256};
 pub fn hmac_sha256(key: &[u8], text: &[u8], tail: &[u8]) -> [u8; 32]
     ensures value { result ≡ hmac_sha256 key.now (text.now ++ tail.now) }
 {
-    let mut hmac = Hmac::new(key);
-    hmac.update(text);
-    hmac.finish(tail)
+    Hmac::new(key, text).finish(tail)
 }
 
 // A key, and the text hashed with it so far. `finish` leaves it as it is, so that texts with the same
@@ -27,24 +25,17 @@ pub(crate) struct Hmac {
 }
 
 impl Hmac {
-    // Creates a state with this key and an empty text.
-    pub(crate) fn new(key: &[u8]) -> Hmac
-        ensures { HoldsText result key.now [] }
+    // Creates a state with this key and this text.
+    pub(crate) fn new(key: &[u8], text: &[u8]) -> Hmac
+        ensures { HoldsText result key.now text.now }
     {
         let block = padded_key(key);
         let mut inner = Sha256::new();
         inner.update(masked(&block, 0x36));
+        inner.update(text);
         let mut outer = Sha256::new();
         outer.update(masked(&block, 0x5c));
         Hmac { inner, outer }
-    }
-
-    // Appends to the text.
-    pub(crate) fn update(&mut self, more: &[u8])
-        ensures { (secret text : List ℕ) → HoldsText self.old secret text
-            → HoldsText self.new secret (text ++ more.now) }
-    {
-        self.inner.update(more);
     }
 
     // Returns HMAC of the text followed by `tail`.

@@ -5,15 +5,17 @@
 #![tactic(auto)]
 
 pub mod block_mix;
+pub mod chunk;
 mod cores;
 pub mod hmac;
 pub mod memory;
 pub mod order;
 pub mod pbkdf2;
+mod prefetch;
 pub mod romix;
 pub mod salsa;
-pub mod table;
-pub mod thin;
+mod table;
+mod walk;
 mod words;
 
 pub use cores::CoreCount;

@@ -15,7 +15,7 @@ pub trait Memory {
     // the words of the rows
     ghost words: { Self → List ℕ };
 
-    // how many words there is room for
+    // how many words it has room for
     ghost room: { Self → ℕ };
 
     /// Returns the words of the rows.
@@ -36,7 +36,7 @@ pub trait Memory {
     /// Appends the block mix of row `i`, the last one, as row `i + 1`, and counts its cores.
     ///
     /// A row has `spare.len()` words. What `spare` holds after the call is unspecified.
-    fn add_mix<O: Order>(&mut self, i: usize, spare: &mut [u32], cores: &mut CoreCount)
+    fn append_mix<O: Order>(&mut self, i: usize, spare: &mut [u32], cores: &mut CoreCount)
         requires some { 0 < length spare.old }
         requires whole { length spare.old % 32 ≡ 0 }
         requires last { length (words self.old) ≡ (i + 1) * length spare.old }
@@ -49,32 +49,32 @@ pub trait Memory {
             + O.lanes_of_core * (2 * (length spare.old / 32)) };
 }
 
-/// Memory that the caller lends. Each row is mixed straight into its place.
+/// The caller's buffer. Each row is mixed straight into its place.
 #[derive(Drop)]
-pub struct Lent<'a> {
+pub struct Buffer<'a> {
     memory: &'a mut [u32],
     len: usize,
     ghost inside: { len ≤ length memory.now },
 }
 
-impl<'a> Lent<'a> {
-    ghost use Rattle.scrypt_kernel.specs.Memory.{lent_room, lent_words};
+impl<'a> Buffer<'a> {
+    ghost use Rattle.scrypt_kernel.specs.Memory.{buffer_room, buffer_words};
 
-    /// Creates a store in `memory`, with no rows.
-    pub fn new(memory: &'a mut [u32]) -> Lent<'a>
-        ensures empty { lent_words result ≡ [] }
-        ensures room { lent_room result ≡ length memory.old }
+    /// Takes `memory`, with no rows in it.
+    pub fn new(memory: &'a mut [u32]) -> Buffer<'a>
+        ensures empty { buffer_words result ≡ [] }
+        ensures room { buffer_room result ≡ length memory.old }
     {
-        Lent { memory, len: 0 }
+        Buffer { memory, len: 0 }
     }
 }
 
-impl<'a> Memory for Lent<'a> {
-    ghost use Rattle.scrypt_kernel.specs.Memory.{lent_room, lent_words};
+impl<'a> Memory for Buffer<'a> {
+    ghost use Rattle.scrypt_kernel.specs.Memory.{buffer_room, buffer_words};
 
-    ghost words = { lent_words };
+    ghost words = { buffer_words };
 
-    ghost room = { lent_room };
+    ghost room = { buffer_room };
 
     #[inline(always)]
     fn words(&self) -> &[u32] {
@@ -95,11 +95,11 @@ impl<'a> Memory for Lent<'a> {
     }
 
     #[inline(always)]
-    fn add_mix<O: Order>(&mut self, i: usize, spare: &mut [u32], cores: &mut CoreCount) {
+    fn append_mix<O: Order>(&mut self, i: usize, spare: &mut [u32], cores: &mut CoreCount) {
         let s = spare.len();
         let memory = &mut *self.memory;
         let (rows, rest) = memory.split_at_mut(self.len);
-        mix::<O, &[u32]>(&words::part(rows, s, i), &mut rest[..s], cores);
+        mix::<O, &[u32]>(&words::part(s, rows, i), &mut rest[..s], cores);
         self.len += s;
     }
 }
@@ -126,8 +126,8 @@ impl Memory for Vec<u32> {
     }
 
     #[inline(always)]
-    fn add_mix<O: Order>(&mut self, i: usize, spare: &mut [u32], cores: &mut CoreCount) {
-        mix::<O, &[u32]>(&words::part(self.as_slice(), spare.len(), i), spare, cores);
+    fn append_mix<O: Order>(&mut self, i: usize, spare: &mut [u32], cores: &mut CoreCount) {
+        mix::<O, &[u32]>(&words::part(spare.len(), self.as_slice(), i), spare, cores);
         self.extend_from_slice(spare).unwrap();
     }
 }

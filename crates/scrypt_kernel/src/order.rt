@@ -18,7 +18,7 @@ pub trait Order {
     // the place in this order of the word at each place of standard order
     ghost inverse_pivot: { List ℕ };
 
-    // how many cores of the lanes one core is, 0 or 1
+    // how many SIMD cores one core is, 0 or 1
     ghost lanes_of_core: { ℕ };
 
     /// Puts words from standard order into this one.

@@ -1,26 +1,56 @@
 //! PBKDF2 (RFC 8018, section 5.2) with HMAC-SHA-256 and an iteration count of 1.
 
-ghost use Rattle.std.specs.Prelude.{◌≡◌, ◌≤◌, length};
-ghost use Rattle.scrypt_kernel.specs.Pbkdf2.{pbkdf2};
+ghost use Rattle.std.specs.Prelude.{◌≡◌, ℕ, ◌+◌, ◌*◌, ◌≤◌, List, length};
+ghost use Rattle.scrypt_kernel.specs.Pbkdf2.{max_output_len, pbkdf2, pbkdf2_from};
+ghost use Rattle.scrypt_kernel.specs.Pbkdf2State.{AreDerivedFrom};
 
 use crate::hmac::Hmac;
 
 /// Fills `out` with the key that PBKDF2 derives from `password` and `salt` in one iteration
 /// (RFC 8018, section 5.2).
 ///
-/// `out` has at most 137438953440 bytes, which is `(2^32 - 1) * 32`, and may be empty.
+/// `out` has at most `(2^32 - 1) * 32` bytes, and may be empty.
 pub fn pbkdf2_one(password: &[u8], salt: &[u8], out: &mut [u8])
-    requires length { length out.old ≤ 137438953440 }
+    requires length { length out.old ≤ max_output_len }
     ensures value { out.new ≡ pbkdf2 password.now salt.now (length out.old) }
 {
-    let mut hmac = Hmac::new(password);
-    hmac.update(salt);
-    for i in 0..out.len().div_ceil(32) {
-        // Block i + 1 is HMAC of the salt and its number, in four bytes: blocks are counted from 1.
-        let number = (i as u32 + 1).to_be_bytes();
-        let block = hmac.finish(&number);
-        let at = 32 * i;
-        let size = (out.len() - at).min(32);
-        out[at..at + size].copy_from_slice(&block[..size]);
+    Blocks::new(password, salt).write(0, out);
+}
+
+/// The blocks T_1, T_2, .. of 32 bytes each that PBKDF2 derives from a password and a salt.
+///
+/// The salt is hashed once, however many blocks are written, in however many pieces.
+#[derive(Drop)]
+pub struct Blocks {
+    hmac: Hmac,
+}
+
+impl Blocks {
+    /// Hashes the password and the salt.
+    pub fn new(password: &[u8], salt: &[u8]) -> Blocks
+        ensures derived { AreDerivedFrom result password.now salt.now }
+    {
+        Blocks {
+            hmac: Hmac::new(password, salt),
+        }
+    }
+
+    /// Fills `out` with the blocks after the first `skipped` ones: the bytes from byte
+    /// `32 * skipped` on.
+    ///
+    /// The last of these bytes is within the `(2^32 - 1) * 32` that PBKDF2 can derive.
+    pub fn write(&self, skipped: u32, out: &mut [u8])
+        requires length { 32 * skipped + length out.old ≤ max_output_len }
+        ensures value { (password salt : List ℕ) → AreDerivedFrom self.now password salt
+            → out.new ≡ pbkdf2_from password salt (32 * skipped) (length out.old) }
+    {
+        for i in 0..out.len().div_ceil(32) {
+            // Block i is HMAC of the salt and its number, in four bytes: blocks are counted from 1.
+            let number = (skipped + i as u32 + 1).to_be_bytes();
+            let block = self.hmac.finish(&number);
+            let at = 32 * i;
+            let size = (out.len() - at).min(32);
+            out[at..at + size].copy_from_slice(&block[..size]);
+        }
     }
 }

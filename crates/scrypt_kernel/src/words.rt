@@ -39,7 +39,7 @@ pub(crate) fn add_words(x: &mut [u32], y: &[u32])
 
 /// Returns part `k` of `x`, which is cut into parts of `s` words.
 #[inline(always)]
-pub(crate) fn part(x: &[u32], s: usize, k: usize) -> &[u32]
+pub(crate) fn part(s: usize, x: &[u32], k: usize) -> &[u32]
     requires { k * s + s ≤ length x.now }
     ensures value { result.now ≡ part s x.now k }
     ensures len { length result.now ≡ s }
@@ -90,7 +90,7 @@ pub(crate) fn lanes(x: &[u32], k: usize) -> u32x4
     requires { 4 * k + 4 ≤ length x.now }
     ensures { result ≡ part 4 x.now k }
 {
-    u32x4::from_slice(part(x, 4, k))
+    u32x4::from_slice(part(4, x, k))
 }
 
 /// Writes four lanes as part `k` of `x`, which is cut into parts of four words.

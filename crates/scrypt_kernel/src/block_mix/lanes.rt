@@ -11,7 +11,7 @@ use crate::order::diagonal::Diagonal;
 pub use crate::order::diagonal::{shuffle_in, shuffle_out};
 
 /// Writes the block mix of `input` to `output`, both in diagonal order, and counts its `2 * r`
-/// cores, all of them as cores of the lanes (RFC 7914, section 4).
+/// cores, all of them as SIMD cores (RFC 7914, section 4).
 ///
 /// `input` and `output` have `32 * r` words each, that is `2 * r` blocks of 16. `r` is at least 1.
 #[inline(always)]

@@ -5,14 +5,15 @@ ghost use Rattle.std.specs.Int.{w32, rotate_left};
 ghost use Rattle.std.specs.Simd.Lanes.{zip2};
 ghost use Rattle.scrypt_kernel.specs.Words.{add32};
 ghost use Rattle.scrypt_kernel.specs.Salsa.{double_round, salsa20_8};
-ghost use Rattle.scrypt_kernel.specs.Diagonal.{diagonal_order, lanes_of, quarter_rounds, standard_order, turned};
+ghost use Rattle.scrypt_kernel.specs.Diagonal.{diagonal_order, standard_order};
+ghost use Rattle.scrypt_kernel.specs.Lanes.{lanes_of, quarter_rounds, turned};
 
 use crate::cores::CoreCount;
 use crate::words::{lanes, put_lanes};
 use std::simd::u32x4;
 
 /// Replaces the 16 words, which are in diagonal order, by their Salsa20/8 core in diagonal order, and
-/// counts it as a core of the lanes (RFC 7914, section 3).
+/// counts it as a SIMD core (RFC 7914, section 3).
 #[inline(always)]
 pub fn core(x: &mut [u32; 16], cores: &mut CoreCount)
     ensures value { x.new ≡ diagonal_order (salsa20_8 (standard_order x.old)) }

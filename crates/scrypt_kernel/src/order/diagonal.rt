@@ -1,4 +1,4 @@
-//! Diagonal order, in which four lanes compute a core.
+//! Diagonal order, in which the SIMD core computes, in four lanes.
 //!
 //! A block of 16 words is a square of four rows. In diagonal order its four diagonals follow one
 //! another, so the words of each column are in the same lane of four vectors. Word 0 stays at place
@@ -126,7 +126,7 @@ fn permute_block(x: &mut [u32], k: usize, pivot: &[usize; 16])
     ensures others { (j : ℕ) → j ≢ k → block x.new j ≡ block x.old j }
 {
     let mut permuted = [0u32; 16];
-    let from = part(x, 16, k);
+    let from = part(16, x, k);
     for i in 0..16 {
         permuted[i] = from[pivot[i]];
     }

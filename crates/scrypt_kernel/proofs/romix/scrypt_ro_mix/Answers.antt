@@ -4,8 +4,8 @@ use Rattle.scrypt_kernel.proofs.romix.scrypt_ro_mix.Goals as goal
 
 pub returns-clause-all : goal.returns-clause-all
 returns-clause-all c =
-    c.ro_mix.ensures.all ∙ ap (λ n. c.args.cores.now.all + n) (whole_cost _ _ _)
+    c.mix_chunk.ensures.all ∙ ap (λ n. c.args.cores.now.all + n) (whole_cost _ _ _)
 
 pub returns-clause-lanes : goal.returns-clause-lanes
 returns-clause-lanes c =
-    c.ro_mix.ensures.lanes ∙ ap (λ n. c.args.cores.now.lanes + 1 * n) (whole_cost _ _ _) ∙ omega arith
+    c.mix_chunk.ensures.lanes ∙ ap (λ n. c.args.cores.now.lanes + 1 * n) (whole_cost _ _ _) ∙ omega arith

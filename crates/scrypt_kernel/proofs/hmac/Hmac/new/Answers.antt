@@ -1,5 +1,4 @@
-use Rattle.std.proofs.Common.{[], map, bit_xor, ap, sym, ◌∙◌, subst}
-use Rattle.std.proofs.lemmas.List.{append-nil}
+use Rattle.std.proofs.Common.{[], map, bit_xor, ap, ◌∙◌, subst}
 use Rattle.sha2.specs.Hashers.{Holds256}
 use Rattle.scrypt_kernel.proofs.hmac.Hmac.new.Goals as goal
 
@@ -8,6 +7,6 @@ returns c =
     let inner = c.masked.ensures ∙ ap (map (bit_xor 0x36)) c.padded_key-block.ensures in
     let outer = c.masked-2.ensures ∙ ap (map (bit_xor 0x5c)) c.padded_key-block.ensures in
     record {
-      inner = subst (Holds256 c.update.new.self) (inner ∙ sym (append-nil _)) (c.update.ensures [] c.new-inner.ensures);
-      outer = subst (Holds256 c.update-2.new.self) outer (c.update-2.ensures [] c.new-outer.ensures);
+      inner = c.update-2.ensures _ (subst (Holds256 c.update.new.self) inner (c.update.ensures [] c.new-inner.ensures));
+      outer = subst (Holds256 c.update-3.new.self) outer (c.update-3.ensures [] c.new-outer.ensures);
     }

@@ -1,0 +1,31 @@
+-- Only functions that scrypt does not export cite this: a block in diagonal order as four vectors of four
+-- lanes.
+use Rattle.std.specs.Prelude.{ℕ, List, ◌++◌, map, take, drop, slice_index}
+use Rattle.std.specs.List.{range_with_len}
+use Rattle.scrypt_kernel.specs.Words.{part}
+use Rattle.scrypt_kernel.specs.Salsa.{quarter_round}
+
+-- a block as the lanes of four vectors
+abbrev pub lanes_of : List ℕ → List ℕ × List ℕ × List ℕ × List ℕ
+lanes_of x = (part 4 x 0, part 4 x 1, part 4 x 2, part 4 x 3)
+
+-- the quarter rounds of four columns, whose words are the lanes of the vectors a, b, c and d
+abbrev pub quarter_rounds : List ℕ → List ℕ → List ℕ → List ℕ → List ℕ × List ℕ × List ℕ × List ℕ
+quarter_rounds a b c d =
+    let column = λ (j : ℕ).
+    quarter_round (slice_index a j) (slice_index b j) (slice_index c j) (slice_index d j) in
+    let lanes = range_with_len 0 4 in (
+      map (λ j. (column j).0) lanes,
+      map (λ j. (column j).1) lanes,
+      map (λ j. (column j).2) lanes,
+      map (λ j. (column j).3) lanes,
+    )
+
+-- a vector turned to the left by k places
+abbrev pub turned_left : ℕ → List ℕ → List ℕ
+turned_left k x = drop k x ++ take k x
+
+-- the vectors of the rows from those of the columns, and the other way round: d, c and b are turned to
+-- the left by one, two and three places, and d and b change places
+abbrev pub turned : List ℕ × List ℕ × List ℕ × List ℕ → List ℕ × List ℕ × List ℕ × List ℕ
+turned (a, b, c, d) = (a, turned_left 1 d, turned_left 2 c, turned_left 3 b)

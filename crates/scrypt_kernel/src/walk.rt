@@ -1,0 +1,115 @@
+//! The walk of scryptROMix (RFC 7914, section 5, step 3).
+
+ghost use Rattle.std.specs.Prelude.{◌≡◌, ℕ, ◌+◌, ◌-◌, ◌*◌, ◌/◌, ◌%◌, ◌^◌, ◌<◌, ◌≤◌, List, length};
+ghost use Rattle.scrypt_kernel.specs.Diagonal.{permuted};
+ghost use Rattle.scrypt_kernel.specs.Words.{xor_words};
+ghost use Rattle.scrypt_kernel.specs.BlockMix.{block_mix};
+ghost use Rattle.scrypt_kernel.specs.RoMix.{integerify, row, walk};
+ghost use Rattle.scrypt_kernel.specs.Table.{recomputed_rows};
+ghost use Rattle.scrypt_kernel.specs.KeptRows.{AfterSteps, KeepsRows, StartsWalk};
+
+use crate::CoreCount;
+use crate::block_mix::{Xor, mix};
+use crate::order::Order;
+use crate::prefetch::prefetch_row;
+use crate::table::recompute;
+use crate::words::part;
+
+/// Step 3: for i = 0 to N - 1 do j = Integerify (X) mod N, T = X xor V[j], X = scryptBlockMix (T).
+///
+/// X is in `x` before the call and after it. The steps write it to `y` and to `x` in turn, so that
+/// none copies it. `v` keeps each row whose number is a multiple of `2^s`; unless `s` is 0, `spare`
+/// is for a row that is recomputed.
+pub(crate) fn take_steps<O: Order>(
+    x: &mut [u32],
+    v: &[u32],
+    y: &mut [u32],
+    spare: &mut [u32],
+    log_n: u8,
+    s: u8,
+    cores: &mut CoreCount,
+)
+    requires some { 0 < length x.old }
+    requires whole { length x.old % 32 ≡ 0 }
+    requires small { log_n ≤ 56 }
+    requires scratch { length y.old ≡ length x.old }
+    requires spare { 0 < s → length x.old ≤ length spare.old }
+    requires spacing { s ≤ log_n }
+    requires rows { length v.now ≡ 2 ^ (log_n - s) * length x.old }
+    ensures walked { (b : List ℕ) → StartsWalk O.pivot b log_n s v.now x.old
+        → AfterSteps O.pivot b log_n s (length x.old) O.lanes_of_core
+        cores.old.all cores.old.lanes (2 ^ log_n) x.new cores.new.all cores.new.lanes }
+{
+    if log_n == 0 {
+        step::<O>(x, v, y, spare, log_n, s, cores);
+        x.copy_from_slice(y);
+        return;
+    }
+    'pairs: for _k in 0..1usize << (log_n - 1) {
+        step::<O>(x, v, y, spare, log_n, s, cores);
+        step::<O>(y, v, x, spare, log_n, s, cores);
+    }
+}
+
+// Step 3 for one `i`: j = Integerify (X) mod N, T = X xor V[j], X = scryptBlockMix (T).
+#[inline(always)]
+fn step<O: Order>(
+    x: &[u32],
+    v: &[u32],
+    y: &mut [u32],
+    spare: &mut [u32],
+    log_n: u8,
+    s: u8,
+    cores: &mut CoreCount,
+)
+    requires some { 0 < length x.now }
+    requires whole { length x.now % 32 ≡ 0 }
+    requires small { log_n ≤ 56 }
+    requires scratch { length y.old ≡ length x.now }
+    requires spare { 0 < s → length x.now ≤ length spare.old }
+    requires spacing { s ≤ log_n }
+    requires rows { length v.now ≡ 2 ^ (log_n - s) * length x.now }
+    ensures value { (b : List ℕ) (k : ℕ) → KeepsRows O.pivot b s (length x.now) (2 ^ log_n) v.now
+        → x.now ≡ permuted O.pivot (walk b log_n k) → y.new ≡ permuted O.pivot (walk b log_n (k + 1)) }
+    ensures all { let j = integerify (permuted O.inverse_pivot x.now) % 2 ^ log_n in
+        cores.new.all ≡ cores.old.all + (recomputed_rows s j + 1) * (2 * (length x.now / 32)) }
+    ensures lanes { let j = integerify (permuted O.inverse_pivot x.now) % 2 ^ log_n in
+        cores.new.lanes ≡ cores.old.lanes
+        + O.lanes_of_core * ((recomputed_rows s j + 1) * (2 * (length x.now / 32))) }
+{
+    let j = O::integerify(x, log_n);
+    let kept = part(x.len(), v, j >> s);
+    prefetch_row(kept, y);
+    let missing = j % (1usize << s);
+    if missing == 0 {
+        mix::<O, Xor<'_>>(&Xor { x, y: kept }, y, cores);
+    } else {
+        mix_with_recomputed::<O>(x, kept, missing, &mut spare[..x.len()], y, cores);
+    }
+}
+
+// T = X xor V[j], X = scryptBlockMix (T), for the row that is `n` rows after `kept`, and that is
+// recomputed in `spare`. X is `x` before and `y` after.
+fn mix_with_recomputed<O: Order>(
+    x: &[u32],
+    kept: &[u32],
+    n: usize,
+    spare: &mut [u32],
+    y: &mut [u32],
+    cores: &mut CoreCount,
+)
+    requires count { 0 < n }
+    requires some { 0 < length x.now }
+    requires whole { length x.now % 32 ≡ 0 }
+    requires kept { length kept.now ≡ length x.now }
+    requires spare { length spare.old ≡ length x.now }
+    requires scratch { length y.old ≡ length x.now }
+    ensures value { y.new ≡ permuted O.pivot (block_mix (permuted O.inverse_pivot
+        (xor_words x.now (permuted O.pivot (row (permuted O.inverse_pivot kept.now) n))))) }
+    ensures all { cores.new.all ≡ cores.old.all + (n + 1) * (2 * (length x.now / 32)) }
+    ensures lanes { cores.new.lanes ≡ cores.old.lanes
+        + O.lanes_of_core * ((n + 1) * (2 * (length x.now / 32))) }
+{
+    recompute::<O>(kept, n, spare, y, cores);
+    mix::<O, Xor<'_>>(&Xor { x, y: spare }, y, cores);
+}
