@@ -1,6 +1,7 @@
 -- Bounds on accepted parameters.
 use Rattle.scrypt.specs.Accepted.{AreAccepted, IsStoredLen, Parameters, parameters_eq}
-use Rattle.scrypt.specs.Hashing.{made_len}
+use Rattle.scrypt.specs.Hashing.{key_len_or_default}
+use Rattle.scrypt_kernel.specs.Pbkdf2.{max_output_len}
 use Rattle.std.specs.Prelude.{IfSome, Option, Some, None, nat_eq, unwrap_or}
 use Rattle.std.specs.Bool.{Decides}
 use Rattle.std.specs.Option.{option_eq}
@@ -23,11 +24,11 @@ pub table_bytes : (log_n r : ℕ) → 128 * r * 2 ^ log_n ≡ 128 * (r * 2 ^ log
 table_bytes log_n r = mul_assoc 128 r (2 ^ log_n)
 
 -- the bytes of the chunks
-pub small_chunks : (r p : ℕ) → r * p < 2 ^ 30 → p * (128 * r) ≤ 137438953440
+pub small_chunks : (r p : ℕ) → r * p < 2 ^ 30 → p * (128 * r) ≤ max_output_len
 small_chunks r p few = omega arith
 
 -- the factors of an accepted product
-small_factor : (r p : ℕ) → 0 < p → r * p < 2 ^ 30 → r < 2 ^ 30
+pub small_factor : (r p : ℕ) → 0 < p → r * p < 2 ^ 30 → r < 2 ^ 30
 small_factor r p some few = let least = mul-le r 1 r p (omega arith) some in omega arith
 
 -- accepted numbers are small
@@ -35,15 +36,24 @@ pub small_costs : (log_n r p : ℕ) → AreAccepted log_n r p → (log_n ≤ 56)
 small_costs log_n r p fits =
     (small_log_n log_n r fits.0 fits.2, small_factor r p fits.1 fits.3, small_factor p r fits.0 (omega (arith, fits.3)))
 
--- the words of the table, as the code computes them
-pub small_table : (log_n r : ℕ) → 128 * r * 2 ^ log_n < 2 ^ 64 → 2 ^ log_n * (32 * r) < 2 ^ 62
+-- the cores of a derivation, as the code computes them
+pub small_blocks : (log_n r : ℕ) → 128 * r * 2 ^ log_n < 2 ^ 64 → 2 ^ log_n * r < 2 ^ 57
+small_blocks log_n r fits = omega arith
+
+pub small_cost : (blocks p : ℕ) → blocks < 2 ^ 57 → p < 2 ^ 30 → 4 * blocks * p < 2 ^ 89
+small_cost blocks p few small =
+    let product = mul-le blocks p (2 ^ 57 - 1) (2 ^ 30) (omega arith) (omega arith) in
+    let grouped : 4 * blocks * p ≡ 4 * (blocks * p) = mul_assoc 4 blocks p in
+    omega (arith, product, grouped)
+
+-- the words of the table, and those of a table that keeps fewer rows
+small_table : (log_n r : ℕ) → 128 * r * 2 ^ log_n < 2 ^ 64 → 2 ^ log_n * (32 * r) < 2 ^ 62
 small_table log_n r fits = omega arith
 
--- and those of a table that keeps fewer rows
-pub small_thin_table : (log_n s r : ℕ) → 128 * r * 2 ^ log_n < 2 ^ 64 → 2 ^ (log_n - s) * (32 * r) < 2 ^ 62
-small_thin_table log_n s r fits =
-    let fewer : 2 ^ (log_n - s) ≤ 2 ^ log_n = pow_mono (omega arith) in
-    let product = mul-le-mul_right (32 * r) fewer in
+pub small_rows : (log_n log_rows r : ℕ) → log_rows ≤ log_n → 128 * r * 2 ^ log_n < 2 ^ 64 → 2 ^ log_rows * (32 * r) < 2 ^ 62
+small_rows log_n log_rows r fewer fits =
+    let rows : 2 ^ log_rows ≤ 2 ^ log_n = pow_mono fewer in
+    let product = mul-le-mul_right (32 * r) rows in
     omega (arith, product, small_table log_n r fits)
 
 option_decided : (first second : Option ℕ) → Decides (option_eq nat_eq first second) (first ≡ second)
@@ -69,5 +79,5 @@ stored_or_32 : (len : Option ℕ) → IfSome len IsStoredLen → IsStoredLen (un
 stored_or_32 None fits = (lit≤ tt, lit≤ tt)
 stored_or_32 (Some len) fits = fits
 
-pub made_len_stored : (c : Parameters) → IfSome c.output_len IsStoredLen → IsStoredLen (made_len c)
-made_len_stored c fits = stored_or_32 c.output_len fits
+pub key_len_or_default_stored : (c : Parameters) → IfSome c.output_len IsStoredLen → IsStoredLen (key_len_or_default c)
+key_len_or_default_stored c fits = stored_or_32 c.output_len fits

@@ -15,7 +15,7 @@ none_of_chunks b log_n r (suc i) =
     omega arith
 
 -- a table that keeps every row has the cost of the standard's
-whole_table_cost : (password salt : List ℕ) (log_n r p : ℕ) → thin_cost password salt log_n r p 0 ≡ cost log_n r p
+pub whole_table_cost : (password salt : List ℕ) (log_n r p : ℕ) → thin_cost password salt log_n r p 0 ≡ cost log_n r p
 whole_table_cost password salt log_n r p =
     let none = none_of_chunks (pbkdf2 password salt (p * (128 * r))) log_n r p in
     ap (λ e. cost log_n r p + 2 * r * e) none ∙ omega arith

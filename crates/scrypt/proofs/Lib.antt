@@ -14,6 +14,8 @@ pub mod StandardFacts
 pub mod VerdictFacts
 -- A hash that is whole is weaker than wanted where its own costs and key are, and a made one is not.
 pub mod RehashFacts
+-- Facts on two keys that are compared piece by piece.
+pub mod ComparingFacts
 -- Facts on costs as PHC parameters.
 pub mod PhcCostsFacts
 -- Facts on costs as they are read from PHC parameters: they have no length, and one reading alone.
@@ -26,9 +28,13 @@ pub mod McfCostsFacts
 pub mod McfHashFacts
 -- A `$7$` text is refused for one thing.
 pub mod McfRefusalFacts
+-- Verifying in the caller's buffers, in every format whose hashes are read in one way.
+pub mod InBuffersFacts
 -- The text that hashing writes is that of the hash.
 pub mod McfTextFacts
--- Readings of texts that compute, and that they are the readings of the definitions.
-pub mod ReadingTests
--- Texts of hashes, read by the definitions alone: the costs, the salt and the key of each, or its refusal.
-pub mod HashTexts
+-- Facts on stored hashes of either format: a text has one hash, and what holds of the hash holds of the text.
+pub mod StoredHashFacts
+-- Verifying with stored hashes of either format in the caller's buffers.
+pub mod StoredInBuffersFacts
+-- Hashing is refused for one thing.
+pub mod HashingFacts

@@ -11,7 +11,7 @@ use Rattle.password_hash.proofs.Crypt64Facts.{length-letters_of, letters_of-numb
 use Rattle.password_hash.proofs.GroupFacts.{append_parts}
 use Rattle.password_hash.proofs.AlphabetFacts.{letter_value-letter, letter-of_value}
 use Rattle.scrypt.specs.Accepted.{AreAccepted}
-use Rattle.scrypt.specs.McfCosts.{costs_letters, five_letter_number, SaysCosts}
+use Rattle.scrypt.specs.McfCosts.{costs_letters, five_letter_number, EncodesCosts}
 use Rattle.scrypt.proofs.AcceptedFacts.{small_costs}
 
 -- where there are five letters, they say the number
@@ -44,7 +44,7 @@ to_the_end bytes text place same =
     take_all (length bytes - place) (drop place bytes) (omega (arith, length-drop place bytes)) ∙ ap (drop place) same
 
 -- a field without bytes says no costs
-pub empty_says_none : (field : List ℕ) {log_n r p : ℕ} → slice_get field 0 ≡ None → SaysCosts field log_n r p → ⊥
+pub empty_says_none : (field : List ℕ) {log_n r p : ℕ} → slice_get field 0 ≡ None → EncodesCosts field log_n r p → ⊥
 empty_says_none [] none says = let r_is = says.r_is in cc
 empty_says_none (first ∷ field) none says = absurd (cc)
 
@@ -128,7 +128,7 @@ letter_said None number says small = absurd (omega arith)
 letter_said (Some value) number says small = ap Some says
 
 -- a field that says accepted costs begins with their letters
-pub field_is : (field : List ℕ) (log_n r p : ℕ) → SaysCosts field log_n r p → AreAccepted log_n r p
+pub field_is : (field : List ℕ) (log_n r p : ℕ) → EncodesCosts field log_n r p → AreAccepted log_n r p
     → field ≡ costs_letters log_n r p ++ drop 11 field
 field_is [] log_n r p says fits = absurd (empty_says_none [] refl says)
 field_is (first ∷ rest) log_n r p says fits =

@@ -12,9 +12,9 @@ use Rattle.scrypt.specs.KeyOfParams.{key_by}
 use Rattle.scrypt.specs.Accepted.{without_len}
 use Rattle.scrypt.proofs.KeyFacts.{length-key_by}
 use Rattle.scrypt.proofs.McfCostsFacts.{field_is}
-use Rattle.scrypt.specs.McfCosts.{SaysCosts, costs_letters, ReadsField, malformed, not_accepted, accepted}
+use Rattle.scrypt.specs.McfCosts.{EncodesCosts, costs_letters, ReadsField, malformed, not_accepted, accepted}
 use Rattle.scrypt.specs.McfHash.{HasCosts, IsWhole, ReadIsRefused, other_id, no_field, bad_costs, no_key, bad_key, third_field, bad_key_len, Accepts, mcf_id, IsMadeHash}
-use Rattle.scrypt.specs.Hashing.{made_len}
+use Rattle.scrypt.specs.Hashing.{key_len_or_default}
 
 -- a text has one id and one list of fields
 pub fields_once : {text id other : List ℕ} {fields others : List (List ℕ)} → IsMcfText text id fields → IsMcfText text other others → (id ≡ other) × (fields ≡ others)
@@ -24,7 +24,7 @@ fields_once {text} {id} {other} {fields} {others} first second =
     (sym a.0 ∙ b.0, sym a.1 ∙ b.1)
 
 -- a field says one log_n, one r and one p
-says_once : {field : List ℕ} {log_n r p log_n' r' p' : ℕ} → SaysCosts field log_n r p → SaysCosts field log_n' r' p'
+says_once : {field : List ℕ} {log_n r p log_n' r' p' : ℕ} → EncodesCosts field log_n r p → EncodesCosts field log_n' r' p'
     → (log_n ≡ log_n') × (r ≡ r') × (p ≡ p')
 says_once first second =
     let r_is = sym first.r_is ∙ second.r_is in
@@ -108,7 +108,7 @@ pub made_accepted : (c : Parameters) (password salt text : List ℕ) → IsMadeH
 made_accepted c password salt text made = record {
   costs = without_len c;
   salt = crypt64_of salt;
-  stored = key_by c password (crypt64_of salt) (made_len c);
+  stored = key_by c password (crypt64_of salt) (key_len_or_default c);
   whole = made;
-  right = ap (key_by c password (crypt64_of salt)) (sym (length-key_by c password (crypt64_of salt) (made_len c)));
+  right = ap (key_by c password (crypt64_of salt)) (sym (length-key_by c password (crypt64_of salt) (key_len_or_default c)));
 }

@@ -1,30 +1,31 @@
 -- A `$7$` text is refused for one thing.
-use Rattle.std.proofs.Common.{◌≡◌, ◌⊎◌, List, ℕ, [], ◌∷◌, length, Ok, Err, inl, inr, refl, sym, subst, ◌∙◌}
+use Rattle.std.proofs.Common.{◌≡◌, ◌≢◌, ◌⊎◌, List, ℕ, [], ◌∷◌, length, Ok, Err, inl, inr, refl, sym, subst, ◌∙◌}
+use Rattle.std.specs.Prelude.{IfErr, Result}
 use Rattle.password_hash.specs.Crypt64.{Crypt64, IsCrypt64}
 use Rattle.password_hash.specs.Mcf.{IsMcfText}
-use Rattle.password_hash.specs.Refusal.{Refusal, BadAlgorithm, BadEncoding, BadOutputSize}
+use Rattle.password_hash.specs.Refusal.{Refusal, Algorithm, EncodingInvalid, OutputSize, PasswordInvalid}
 use Rattle.scrypt.specs.Accepted.{IsOutputLen, Parameters}
-use Rattle.scrypt.specs.McfCosts.{ReadsField}
+use Rattle.scrypt.specs.McfCosts.{ReadsField, malformed, not_accepted, accepted}
 use Rattle.scrypt.specs.McfHash.{mcf_id, ReadIsRefused, other_id, no_field, bad_costs, no_key, bad_key, third_field, bad_key_len}
 use Rattle.scrypt.proofs.McfHashFacts.{field_once, fields_once}
 
 -- What the second field and those after it are refused by, and what all are: the first field decides first.
 
 abbrev KeyIsRefused : List (List ℕ) → Refusal → Type 0
-KeyIsRefused [] why = why ≡ BadEncoding
+KeyIsRefused [] why = why ≡ EncodingInvalid
 KeyIsRefused (letters ∷ []) why =
-    ((¬ IsCrypt64 letters) × (why ≡ BadEncoding))
-    ⊎ ((key : List ℕ) × Crypt64 key letters × (¬ IsOutputLen (length key)) × (why ≡ BadOutputSize))
-KeyIsRefused (letters ∷ third ∷ after) why = why ≡ BadEncoding
+    ((¬ IsCrypt64 letters) × (why ≡ EncodingInvalid))
+    ⊎ ((key : List ℕ) × Crypt64 key letters × (¬ IsOutputLen (length key)) × (why ≡ OutputSize))
+KeyIsRefused (letters ∷ third ∷ after) why = why ≡ EncodingInvalid
 
 abbrev FieldsAreRefused : List (List ℕ) → Refusal → Type 0
-FieldsAreRefused [] why = why ≡ BadEncoding
+FieldsAreRefused [] why = why ≡ EncodingInvalid
 FieldsAreRefused (field ∷ after) why =
     ReadsField field (Err why) ⊎ ((out : Parameters × List ℕ) × ReadsField field (Ok out) × KeyIsRefused after why)
 
 -- the reason that a text with the id `7` is refused for
 fields_refused : {text : List ℕ} {why : Refusal} → ReadIsRefused text why
-    → ((why ≡ BadAlgorithm) × ((fields : List (List ℕ)) → ¬ IsMcfText text mcf_id fields))
+    → ((why ≡ Algorithm) × ((fields : List (List ℕ)) → ¬ IsMcfText text mcf_id fields))
     ⊎ ((fields : List (List ℕ)) × IsMcfText text mcf_id fields × FieldsAreRefused fields why)
 fields_refused (other_id parts other) = inl (refl, λ fields parts'. other (fields_once parts parts').0)
 fields_refused (no_field parts) = inr ([], parts, refl)
@@ -68,3 +69,20 @@ refused_once {why = why} {why' = why'} first second = elim (fields_refused first
         fields_refused_once found'.0 (subst (λ fields. FieldsAreRefused fields why) same found.2) found'.2
   ]
 ]
+
+-- a field is never refused as a wrong password
+field_refused_otherwise : {field : List ℕ} {out : Result (Parameters × List ℕ) Refusal} → ReadsField field out
+    → IfErr out (λ why. why ≢ PasswordInvalid)
+field_refused_otherwise (malformed none) = λ is. absurd cc
+field_refused_otherwise (not_accepted says refused) = λ is. absurd cc
+field_refused_otherwise (accepted says fits) = tt
+
+-- nor is a text
+pub refused_otherwise : {text : List ℕ} {why : Refusal} → ReadIsRefused text why → why ≢ PasswordInvalid
+refused_otherwise (other_id parts other) = λ is. absurd cc
+refused_otherwise (no_field parts) = λ is. absurd cc
+refused_otherwise (bad_costs parts h) = field_refused_otherwise h
+refused_otherwise (no_key costs) = λ is. absurd cc
+refused_otherwise (bad_key costs none) = λ is. absurd cc
+refused_otherwise (third_field costs good) = λ is. absurd cc
+refused_otherwise (bad_key_len costs is none) = λ is. absurd cc

@@ -15,10 +15,10 @@ use Rattle.scrypt.specs.Accepted.{AreAccepted, IsOutputLen, IsStoredLen, Paramet
 use Rattle.scrypt.specs.KeyOfParams.{key_by}
 use Rattle.scrypt.proofs.KeyFacts.{key_by-are_bytes, length-key_by}
 use Rattle.scrypt.specs.Accepted.{without_len}
-use Rattle.scrypt.specs.McfCosts.{five_letter_number, costs_letters, costs_text, SaysCosts, ReadsField, accepted}
+use Rattle.scrypt.specs.McfCosts.{five_letter_number, costs_letters, costs_text, EncodesCosts, ReadsField, accepted}
 use Rattle.scrypt.specs.McfHash.{IsWhole, IsMadeHash}
-use Rattle.scrypt.specs.Hashing.{made_len}
-use Rattle.scrypt.proofs.AcceptedFacts.{made_len_stored, small_costs, small_log_n}
+use Rattle.scrypt.specs.Hashing.{key_len_or_default}
+use Rattle.scrypt.proofs.AcceptedFacts.{key_len_or_default_stored, small_costs, small_log_n}
 use Rattle.scrypt.proofs.McfCostsFacts.{five_letter_number-letters_of, to_the_end}
 
 -- what is left by a write from one place to the end
@@ -74,7 +74,7 @@ count_text c = omega (arith, count_letters c.log_n c.r c.p)
 
 -- they say the numbers
 letters_say : (log_n r p : ℕ) (salt : List ℕ) → log_n < 64 → r < 2 ^ 30 → p < 2 ^ 30
-    → SaysCosts (costs_letters log_n r p ++ salt) log_n r p
+    → EncodesCosts (costs_letters log_n r p ++ salt) log_n r p
 letters_say log_n r p salt small small_r small_p =
     let r_letters = letters_of 5 r in
     let p_letters = letters_of 5 p in
@@ -127,14 +127,14 @@ text_is c salt key good no_dollar are_bytes allowed =
 -- the text that hashing makes
 pub made_text : (c : Parameters) (password salt : List ℕ) → AreAccepted c.log_n c.r c.p → IfSome c.output_len IsStoredLen
     → IsMadeHash c password salt (costs_text c ++ (crypt64_of salt
-    ++ dollar ∷ crypt64_of (key_by c password (crypt64_of salt) (made_len c))))
+    ++ dollar ∷ crypt64_of (key_by c password (crypt64_of salt) (key_len_or_default c))))
 made_text c password salt good fits =
     let letters = crypt64_of salt in
-    let key = key_by c password letters (made_len c) in
-    let long = length-key_by c password letters (made_len c) in
+    let key = key_by c password letters (key_len_or_default c) in
+    let long = length-key_by c password letters (key_len_or_default c) in
     text_is c letters key good (IsField-crypt64_of salt)
-    (All-from_get_or (λ byte. byte < 256) key 0 (λ i below. key_by-are_bytes c password letters (made_len c) i))
-    (let stored = made_len_stored c fits in (omega (arith, long, stored.0), omega (arith, long, stored.1)))
+    (All-from_get_or (λ byte. byte < 256) key 0 (λ i below. key_by-are_bytes c password letters (key_len_or_default c) i))
+    (let stored = key_len_or_default_stored c fits in (omega (arith, long, stored.0), omega (arith, long, stored.1)))
 
 -- every byte of it is ASCII
 pub text_ascii : (c : Parameters) (salt key : List ℕ) → AreAccepted c.log_n c.r c.p

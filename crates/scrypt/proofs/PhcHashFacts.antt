@@ -1,19 +1,21 @@
 -- Facts on PHC hashes of scrypt.
-use Rattle.std.proofs.Common.{◌≡◌, ℕ, List, refl, sym, ap, subst, ◌∙◌, arith, lit≤, None, Ok, Err, inl, inr}
-use Rattle.std.specs.Prelude.{IfSome, IsSome, Option}
+use Rattle.std.proofs.Common.{◌≡◌, ◌≢◌, ℕ, List, refl, sym, ap, subst, ◌∙◌, arith, lit≤, None, Ok, Err, inl, inr}
+use Rattle.std.specs.Prelude.{IfErr, IfSome, IsSome, Option, Result}
 use Rattle.password_hash.specs.Phc.{IsHashText, IsSalt, hash_text}
-use Rattle.password_hash.specs.Refusal.{Refusal}
+use Rattle.password_hash.specs.Refusal.{Refusal, PasswordInvalid, refusal}
+use Rattle.password_hash.specs.declared.error.Error.{Error}
 use Rattle.password_hash.specs.declared.phc.hash.PasswordHash.{PasswordHash}
 use Rattle.scrypt.specs.Accepted.{AreAccepted, IsStoredLen, Parameters}
 use Rattle.scrypt.specs.KeyOfParams.{key_by}
 use Rattle.scrypt.specs.Accepted.{without_len}
 use Rattle.scrypt.specs.PhcCosts.{ReadsCosts}
-use Rattle.scrypt.specs.PhcHash.{Accepts, IsMadeHash, IsWhole, ReadIsRefused, algorithm, version, costs, missing}
-use Rattle.scrypt.specs.Hashing.{made_len}
-use Rattle.scrypt.proofs.AcceptedFacts.{made_len_stored, small_costs}
+use Rattle.scrypt.specs.PhcConversions.{IsReadAs}
+use Rattle.scrypt.specs.PhcHash.{Accepts, IsMadeHash, IsOfCosts, IsWhole, ReadIsRefused, algorithm, version, costs, missing, scrypt_id}
+use Rattle.scrypt.specs.Hashing.{key_len_or_default}
+use Rattle.scrypt.proofs.AcceptedFacts.{key_len_or_default_stored, small_costs}
 use Rattle.scrypt.proofs.KeyFacts.{key_by-are_bytes, length-key_by}
 use Rattle.scrypt.proofs.PhcCostsFacts.{three_pairs}
-use Rattle.scrypt.proofs.PhcReadingFacts.{reads_once, written_read}
+use Rattle.scrypt.proofs.PhcReadingFacts.{reads_once, refused_otherwise, written_read}
 
 -- parameters that are refused are not accepted too
 not_read : {pairs : List (List ℕ × List ℕ)} {why : Refusal} {c : Parameters}
@@ -21,7 +23,7 @@ not_read : {pairs : List (List ℕ × List ℕ)} {why : Refusal} {c : Parameters
 not_read refused read = let same = reads_once refused read in cc
 
 -- a version that is there and is not
-versioned : {version : Option ℕ} → IsSome version → version ≡ None → ⊥
+pub versioned : {version : Option ℕ} → IsSome version → version ≡ None → ⊥
 versioned some none = let there = rw none at some in absurd cc
 
 -- a hash is whole with one set of costs, one salt and one key
@@ -32,6 +34,10 @@ whole_once first second =
     let salts = sym first.salt_is ∙ second.salt_is in
     let keys = sym first.key_is ∙ second.key_is in
     (cc, cc, cc)
+
+-- and one set of costs
+pub of_costs_once : {hash : PasswordHash} {c c' : Parameters} → IsOfCosts hash c → IsOfCosts hash c' → c ≡ c'
+of_costs_once first second = let costs = reads_once first.costs second.costs in cc
 
 -- a hash that is refused is not whole
 pub not_both : {hash : PasswordHash} {why : Refusal} {c : Parameters} {salt key : List ℕ} → ReadIsRefused hash why → IsWhole hash c salt key → ⊥
@@ -60,9 +66,21 @@ refused_once (missing of_costs gone) (version is' some') = absurd (versioned som
 refused_once (missing of_costs gone) (costs is' none' refused') = absurd (not_read refused' of_costs.costs)
 refused_once (missing of_costs gone) (missing of_costs' gone') = refl
 
+-- what reading the parameters of a hash refuses, the hash is refused for
+pub params_refused : (hash : PasswordHash) (out : Result Parameters Error) → hash.algorithm ≡ scrypt_id → hash.version ≡ None
+    → IsReadAs hash.params out → IfErr out (λ e. ReadIsRefused hash (refusal e))
+params_refused hash (Ok c) is none read = tt
+params_refused hash (Err e) is none refused = costs is none refused
+
+-- and never as a wrong password
+pub params_refused_otherwise : (pairs : List (List ℕ × List ℕ)) (out : Result Parameters Error) → IsReadAs pairs out
+    → IfErr out (λ e. refusal e ≢ PasswordInvalid)
+params_refused_otherwise pairs (Ok c) read = tt
+params_refused_otherwise pairs (Err e) refused = refused_otherwise refused
+
 -- a made hash is whole
 pub made_whole : (c : Parameters) (password salt : List ℕ) (hash : PasswordHash) → AreAccepted c.log_n c.r c.p
-    → IsMadeHash c password salt hash → IsWhole hash (without_len c) salt (key_by c password salt (made_len c))
+    → IsMadeHash c password salt hash → IsWhole hash (without_len c) salt (key_by c password salt (key_len_or_default c))
 made_whole c password salt hash fits made = record {
   of_costs = record {
     algorithm = made.algorithm;
@@ -79,9 +97,9 @@ pub made_accepts : (c : Parameters) (password salt : List ℕ) (hash : PasswordH
 made_accepts c password salt hash fits made = record {
   costs = without_len c;
   salt = salt;
-  stored = key_by c password salt (made_len c);
+  stored = key_by c password salt (key_len_or_default c);
   whole = made_whole c password salt hash fits made;
-  right = ap (key_by c password salt) (sym (length-key_by c password salt (made_len c)));
+  right = ap (key_by c password salt) (sym (length-key_by c password salt (key_len_or_default c)));
 }
 
 -- and has a text
@@ -89,8 +107,8 @@ pub made_is_text : (c : Parameters) (password salt : List ℕ) (hash : PasswordH
     → IfSome c.output_len IsStoredLen → IsSalt salt → IsMadeHash c password salt hash → IsHashText (hash_text hash) hash
 made_is_text c password salt hash fits len salted made =
     let small = small_costs c.log_n c.r c.p fits in
-    let stored = made_len_stored c len in
-    let long = length-key_by c password salt (made_len c) in
+    let stored = key_len_or_default_stored c len in
+    let long = length-key_by c password salt (key_len_or_default c) in
     record {
       whole = refl;
       algorithm = rw made.algorithm (record { some = lit≤ tt; short = lit≤ tt; letters = refl });
@@ -98,7 +116,7 @@ made_is_text c password salt hash fits len salted made =
       params = rw made.params (three_pairs c.log_n c.r c.p (omega (arith, small.0)) (omega (arith, small.1)) (omega (arith, small.2)));
       salt = rw made.salt_is salted;
       key = rw made.key_is (record {
-        are_bytes = key_by-are_bytes c password salt (made_len c);
+        are_bytes = key_by-are_bytes c password salt (key_len_or_default c);
         enough = omega (arith, long, stored.0);
         fits = omega (arith, long, stored.1);
       });

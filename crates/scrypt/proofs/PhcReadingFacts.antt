@@ -1,8 +1,8 @@
 -- Facts on costs as they are read from PHC parameters: they have no length, and one reading alone.
 use Rattle.std.proofs.Common.{◌≡◌, ◌≢◌, ℕ, ◌<◌, ◌≤◌, List, [], ◌∷◌, codes, refl, sym, ap, ◌∙◌, arith, Ok, Err}
-use Rattle.std.specs.Prelude.{Result, IfOk, None}
+use Rattle.std.specs.Prelude.{Result, IfErr, IfOk, None}
 use Rattle.password_hash.specs.Decimal.{IsDecimal}
-use Rattle.password_hash.specs.Refusal.{Refusal, BadParam, BadParams}
+use Rattle.password_hash.specs.Refusal.{Refusal, ParamInvalid, ParamsInvalid, PasswordInvalid}
 use Rattle.password_hash.proofs.DecimalFacts.{IsDecimal-decimal}
 use Rattle.scrypt.specs.Accepted.{AreAccepted, Parameters}
 use Rattle.scrypt.proofs.AcceptedFacts.{small_costs}
@@ -22,6 +22,19 @@ read_without_len (r_refused name none) = tt
 read_without_len (p n name decimal rest) = read_without_len rest
 read_without_len (p_refused name none) = tt
 read_without_len (unknown no_ln no_r no_p) = tt
+
+-- costs are never refused as a wrong password
+pub refused_otherwise : {log_n r p : ℕ} {pairs : List (List ℕ × List ℕ)} {out : Result Parameters Refusal}
+    → Reads log_n r p pairs out → IfErr out (λ why. why ≢ PasswordInvalid)
+refused_otherwise (accepted h) = tt
+refused_otherwise (not_accepted h) = λ is. absurd cc
+refused_otherwise (ln n name decimal small rest) = refused_otherwise rest
+refused_otherwise (ln_refused name large) = λ is. absurd cc
+refused_otherwise (r n name decimal rest) = refused_otherwise rest
+refused_otherwise (r_refused name none) = λ is. absurd cc
+refused_otherwise (p n name decimal rest) = refused_otherwise rest
+refused_otherwise (p_refused name none) = λ is. absurd cc
+refused_otherwise (unknown no_ln no_r no_p) = λ is. absurd cc
 
 -- costs that have no length are those without it
 pub without_len_is : (c : Parameters) → c.output_len ≡ None → without_len c ≡ c
@@ -70,7 +83,7 @@ after_p n name decimal (unknown no_ln no_r no_p) = absurd (no_p name)
 
 -- a pair `ln` that is refused decides
 refused_ln : {log_n r p : ℕ} {pair : List ℕ × List ℕ} {pairs : List (List ℕ × List ℕ)} {out : Result Parameters Refusal}
-    → pair.0 ≡ codes "ln" → ((n : ℕ) → IsDecimal pair.1 n → 255 < n) → Reads log_n r p (pair ∷ pairs) out → Err (BadParam (codes "ln")) ≡ out
+    → pair.0 ≡ codes "ln" → ((n : ℕ) → IsDecimal pair.1 n → 255 < n) → Reads log_n r p (pair ∷ pairs) out → Err (ParamInvalid (codes "ln")) ≡ out
 refused_ln name large (ln m other again fits rest) = let above = large m again in absurd (omega arith)
 refused_ln name none (ln_refused other more) = refl
 refused_ln name none (r m other again rest) = absurd (not_both _ 108 114 (110 ∷ []) [] (λ e. absurd (omega (arith, e))) name other)
@@ -81,7 +94,7 @@ refused_ln name none (unknown no_ln no_r no_p) = absurd (no_ln name)
 
 -- a pair `r` that is refused decides
 refused_r : {log_n r p : ℕ} {pair : List ℕ × List ℕ} {pairs : List (List ℕ × List ℕ)} {out : Result Parameters Refusal}
-    → pair.0 ≡ codes "r" → ((n : ℕ) → ¬ IsDecimal pair.1 n) → Reads log_n r p (pair ∷ pairs) out → Err (BadParam (codes "r")) ≡ out
+    → pair.0 ≡ codes "r" → ((n : ℕ) → ¬ IsDecimal pair.1 n) → Reads log_n r p (pair ∷ pairs) out → Err (ParamInvalid (codes "r")) ≡ out
 refused_r name none (ln m other again fits rest) = absurd (not_both _ 114 108 [] (110 ∷ []) (λ e. absurd (omega (arith, e))) name other)
 refused_r name none (ln_refused other more) = absurd (not_both _ 114 108 [] (110 ∷ []) (λ e. absurd (omega (arith, e))) name other)
 refused_r name none (r m other again rest) = absurd (none m again)
@@ -92,7 +105,7 @@ refused_r name none (unknown no_ln no_r no_p) = absurd (no_r name)
 
 -- a pair `p` that is refused decides
 refused_p : {log_n r p : ℕ} {pair : List ℕ × List ℕ} {pairs : List (List ℕ × List ℕ)} {out : Result Parameters Refusal}
-    → pair.0 ≡ codes "p" → ((n : ℕ) → ¬ IsDecimal pair.1 n) → Reads log_n r p (pair ∷ pairs) out → Err (BadParam (codes "p")) ≡ out
+    → pair.0 ≡ codes "p" → ((n : ℕ) → ¬ IsDecimal pair.1 n) → Reads log_n r p (pair ∷ pairs) out → Err (ParamInvalid (codes "p")) ≡ out
 refused_p name none (ln m other again fits rest) = absurd (not_both _ 112 108 [] (110 ∷ []) (λ e. absurd (omega (arith, e))) name other)
 refused_p name none (ln_refused other more) = absurd (not_both _ 112 108 [] (110 ∷ []) (λ e. absurd (omega (arith, e))) name other)
 refused_p name none (r m other again rest) = absurd (not_both _ 112 114 [] [] (λ e. absurd (omega (arith, e))) name other)
@@ -103,7 +116,7 @@ refused_p name none (unknown no_ln no_r no_p) = absurd (no_p name)
 
 -- an unknown name decides
 unknown_decides : {log_n r p : ℕ} {pair : List ℕ × List ℕ} {pairs : List (List ℕ × List ℕ)} {out : Result Parameters Refusal}
-    → pair.0 ≢ codes "ln" → pair.0 ≢ codes "r" → pair.0 ≢ codes "p" → Reads log_n r p (pair ∷ pairs) out → Err BadParams ≡ out
+    → pair.0 ≢ codes "ln" → pair.0 ≢ codes "r" → pair.0 ≢ codes "p" → Reads log_n r p (pair ∷ pairs) out → Err ParamsInvalid ≡ out
 unknown_decides no_ln no_r no_p (ln m name again fits rest) = absurd (no_ln name)
 unknown_decides no_ln no_r no_p (ln_refused name more) = absurd (no_ln name)
 unknown_decides no_ln no_r no_p (r m name again rest) = absurd (no_r name)

@@ -1,7 +1,7 @@
 -- A hash that is whole is weaker than wanted where its own costs and key are, and a made one is not.
 use Rattle.std.proofs.Common.{◌≡◌, ℕ, List, length, inl, inr, subst, sym, arith}
 use Rattle.scrypt.specs.Accepted.{Parameters, without_len}
-use Rattle.scrypt.specs.Hashing.{made_len}
+use Rattle.scrypt.specs.Hashing.{key_len_or_default}
 use Rattle.scrypt.specs.Rehashing.{IsBelow, IsWeaker}
 use Rattle.scrypt.proofs.VerdictFacts.{IsWholeOnce}
 
@@ -20,7 +20,7 @@ pub same_below : (c : Parameters) {wanted wanted' : Parameters} {len len' : ℕ}
 same_below c {wanted} {wanted'} {len} {len'} same long below =
     subst (λ w. IsBelow w c len') same (subst (λ n. IsBelow wanted c n) long below)
 
-not_below : (c : Parameters) (len : ℕ) → len ≡ made_len c → IsBelow c (without_len c) len → ⊥
+not_below : (c : Parameters) (len : ℕ) → len ≡ key_len_or_default c → IsBelow c (without_len c) len → ⊥
 not_below c len is (inl below) = absurd (omega (arith, below))
 not_below c len is (inr (inl below)) = absurd (omega (arith, below))
 not_below c len is (inr (inr (inl below))) = absurd (omega (arith, below))
@@ -28,6 +28,6 @@ not_below c len is (inr (inr (inr below))) = absurd (omega (arith, below, is))
 
 -- a hash of these costs, with a key of the length that hashing makes, is not weaker than they ask for
 pub made_is_not_weaker : {IsWhole : Parameters → List ℕ → List ℕ → Type 0} → IsWholeOnce IsWhole → (c : Parameters) (salt key : List ℕ)
-    → IsWhole (without_len c) salt key → length key ≡ made_len c → IsWeaker IsWhole c → ⊥
+    → IsWhole (without_len c) salt key → length key ≡ key_len_or_default c → IsWeaker IsWhole c → ⊥
 made_is_not_weaker {IsWhole} once c salt key whole long weaker =
     not_below c (length key) long (weaker_is_below {IsWhole = IsWhole} once c (without_len c) salt key whole weaker)

@@ -9,8 +9,8 @@ use Rattle.scrypt_kernel.proofs.StandardFacts.{bytes, key_blocks, mixed_input, r
 use Rattle.scrypt_kernel.specs.Words.{words_of, xor_words}
 use Rattle.scrypt_kernel.specs.Salsa.{double_round, quarter_round, salsa20_8}
 use Rattle.scrypt_kernel.specs.BlockMix.{block_mix, chain}
-use Rattle.scrypt_kernel.specs.RoMix.{integerify, row, walk}
-use Rattle.scrypt_kernel.specs.Table.{extra_rows, rows_anew}
+use Rattle.scrypt_kernel.specs.RoMix.{integerify, ro_mix, row, walk}
+use Rattle.scrypt_kernel.specs.Table.{extra_rows, recomputed_rows}
 use Rattle.scrypt.specs.Cost.{extra_rows_of_chunks, thin_cost}
 use Rattle.scrypt.specs.Key.{derived_key, mixed_chunks}
 
@@ -36,6 +36,25 @@ derived_key_vector =
     ap (λ b. mixed_chunks b 4 1 1) chunk ∙ ap (λ z. z ++ []) ro_mix_vector in
     ap (λ z. pbkdf2 [] z 64) mixed ∙ pbkdf2_by_blocks [] ro_mix_output 2 ∙ last_blocks
 
+abbrev pub second_key : List ℕ
+second_key = bytes (codes "fc33c1bce795d69209531989a190e987dc68a4f9f1cfb0de4f94a6443e1502fc")
+
+-- its two chunks, of 256 bytes each, after scryptROMix
+abbrev second_mixed : List ℕ
+second_mixed = mixed_chunks (key_blocks (codes "password") (codes "NaCl") 16) 1 2 2
+
+second_blocks : key_blocks (codes "password") second_mixed 1 ≡ second_key
+unfolding hmac_sha256 sha256 first_words schedule rounds compress hash_after digest_bytes ro_mix walk row block_mix chain salsa20_8 double_round quarter_round
+second_blocks = refl
+
+-- a key with two chunks of four blocks, by OpenSSL
+pub two_chunks_vector : derived_key (codes "password") (codes "NaCl") 1 2 2 32 ≡ second_key
+unfolding derived_key
+two_chunks_vector =
+    let password = codes "password" in
+    let chunks : pbkdf2 password (codes "NaCl") 512 ≡ key_blocks password (codes "NaCl") 16 = pbkdf2_by_blocks password (codes "NaCl") 16 in
+    ap (λ b. pbkdf2 password (mixed_chunks b 1 2 2) 32) chunks ∙ pbkdf2_by_blocks password second_mixed 1 ∙ second_blocks
+
 -- the words of that key's chunk
 abbrev mixed_words : List ℕ
 mixed_words = words_of mixed_input
@@ -47,13 +66,13 @@ walk_rows b log_n (suc k) x =
     let j = integerify x % 2 ^ log_n in
     j ∷ walk_rows b log_n k (block_mix (xor_words x (row b j)))
 
--- the rows that are mixed anew for some rows
-abbrev anew_for : ℕ → List ℕ → ℕ
-anew_for s [] = 0
-anew_for s (j ∷ js) = rows_anew s j + anew_for s js
+-- how many rows are recomputed to get some rows
+abbrev recomputed_for : ℕ → List ℕ → ℕ
+recomputed_for s [] = 0
+recomputed_for s (j ∷ js) = recomputed_rows s j + recomputed_for s js
 
 extra_by_rows : (b : List ℕ) (log_n s i k : ℕ) → extra_rows b log_n s (i + k)
-    ≡ extra_rows b log_n s i + anew_for s (walk_rows b log_n k (walk b log_n i))
+    ≡ extra_rows b log_n s i + recomputed_for s (walk_rows b log_n k (walk b log_n i))
 unfolding extra_rows walk walk_rows
 extra_by_rows b log_n s i zero = ap (extra_rows b log_n s) (add-zero i) ∙ omega arith
 extra_by_rows b log_n s i (suc k) =
@@ -70,13 +89,13 @@ unfolding walk_rows walk row block_mix chain salsa20_8 double_round quarter_roun
 first_rows = refl
 
 -- the cores of that key, with a table that keeps one row in 2 ^ s
-thin_cost_of : (s : ℕ) → thin_cost [] [] 4 1 1 s ≡ 64 + 2 * anew_for s first_names
+thin_cost_of : (s : ℕ) → thin_cost [] [] 4 1 1 s ≡ 64 + 2 * recomputed_for s first_names
 unfolding extra_rows_of_chunks extra_rows
 thin_cost_of s =
     let chunk : pbkdf2 [] [] 128 ≡ mixed_input = pbkdf2_by_blocks [] [] 4 ∙ first_chunk in
-    let rows : extra_rows mixed_words 4 s 16 ≡ anew_for s first_names =
-    extra_by_rows mixed_words 4 s 0 16 ∙ zero-add (anew_for s (walk_rows mixed_words 4 16 (walk mixed_words 4 0))) ∙ ap (anew_for s) first_rows in
-    let chunks : extra_rows_of_chunks mixed_input 4 s 1 1 ≡ anew_for s first_names = zero-add (extra_rows mixed_words 4 s 16) ∙ rows in
+    let rows : extra_rows mixed_words 4 s 16 ≡ recomputed_for s first_names =
+    extra_by_rows mixed_words 4 s 0 16 ∙ zero-add (recomputed_for s (walk_rows mixed_words 4 16 (walk mixed_words 4 0))) ∙ ap (recomputed_for s) first_rows in
+    let chunks : extra_rows_of_chunks mixed_input 4 s 1 1 ≡ recomputed_for s first_names = zero-add (extra_rows mixed_words 4 s 16) ∙ rows in
     ap (λ b. 64 + 2 * extra_rows_of_chunks b 4 s 1 1) chunk ∙ ap (λ n. 64 + 2 * n) chunks
 
 -- with one row in 1, 2, 4, 8 and 16

@@ -1,25 +1,18 @@
 -- Facts on the derived key by a table that keeps some rows.
-use Rattle.std.proofs.Common.{◌≡◌, ◌≤◌, ℕ, zero, suc, ◌+◌, ◌-◌, ◌*◌, ◌/◌, ◌%◌, ◌^◌, List, ◌++◌, refl, sym, ap, ◌∙◌, arith, add-zero}
+use Rattle.std.proofs.Common.{◌≡◌, ◌≤◌, ℕ, zero, suc, ◌+◌, ◌-◌, ◌*◌, ◌/◌, ◌%◌, ◌^◌, List, ◌++◌, refl, ap, ◌∙◌, arith}
 use Rattle.std.specs.List.{flat_map, range_with_len}
 use Rattle.std.proofs.lemmas.Nat.{pow_pos}
 use Rattle.scrypt_kernel.specs.Words.{bytes_of, part, words_of, xor_words}
 use Rattle.scrypt_kernel.specs.Pbkdf2.{pbkdf2}
 use Rattle.scrypt_kernel.specs.BlockMix.{block_mix}
 use Rattle.scrypt_kernel.specs.RoMix.{integerify, ro_mix, row, walk}
-use Rattle.scrypt_kernel.specs.Table.{extra_rows, rows_anew}
+use Rattle.scrypt_kernel.specs.Table.{extra_rows, recomputed_rows}
+use Rattle.scrypt_kernel.proofs.RoMixFacts.{row_after}
 use Rattle.scrypt.specs.Key.{derived_key, mixed_chunk}
-use Rattle.scrypt.specs.ThinKey.{row_anew, thin_chunk, thin_key, thin_walk}
+use Rattle.scrypt.specs.ThinKey.{recomputed_row, thin_chunk, thin_key, thin_walk}
 
--- the rows after a row are rows
-row_after : (b : List ℕ) (i k : ℕ) → row (row b i) k ≡ row b (i + k)
-unfolding row
-row_after b i zero = ap (row b) (sym (add-zero i))
-row_after b i (suc k) =
-    let there : suc (i + k) ≡ i + suc k = omega arith in
-    ap block_mix (row_after b i k) ∙ ap (row b) there
-
-row_anew_is : (b : List ℕ) (s j : ℕ) → row_anew b s j ≡ row b j
-row_anew_is b s j =
+recomputed_row_is : (b : List ℕ) (s j : ℕ) → recomputed_row b s j ≡ row b j
+recomputed_row_is b s j =
     let there : j / 2 ^ s * 2 ^ s + j % 2 ^ s ≡ j = omega arith in
     row_after b (j / 2 ^ s * 2 ^ s) (j % 2 ^ s) ∙ ap (row b) there
 
@@ -27,9 +20,9 @@ thin_walk_is : (b : List ℕ) (log_n s k : ℕ) → thin_walk b log_n s k ≡ wa
 unfolding thin_walk walk
 thin_walk_is b log_n s zero = refl
 thin_walk_is b log_n s (suc k) =
-    let next = λ (x : List ℕ). block_mix (xor_words x (row_anew b s (integerify x % 2 ^ log_n))) in
+    let next = λ (x : List ℕ). block_mix (xor_words x (recomputed_row b s (integerify x % 2 ^ log_n))) in
     let x = walk b log_n k in
-    ap next (thin_walk_is b log_n s k) ∙ ap (λ z. block_mix (xor_words x z)) (row_anew_is b s (integerify x % 2 ^ log_n))
+    ap next (thin_walk_is b log_n s k) ∙ ap (λ z. block_mix (xor_words x z)) (recomputed_row_is b s (integerify x % 2 ^ log_n))
 
 same_parts : (f g : ℕ → List ℕ) (a n : ℕ) → ((i : ℕ) → f i ≡ g i) → flat_map f (range_with_len a n) ≡ flat_map g (range_with_len a n)
 same_parts f g a zero same = refl
@@ -50,9 +43,9 @@ at_most b log_n s zero = omega arith
 at_most b log_n s (suc k) =
     let before = at_most b log_n s k in
     let some = pow_pos s in
-    let next : rows_anew s (integerify (walk b log_n k) % 2 ^ log_n) ≤ 2 ^ s - 1 = omega arith in
+    let next : recomputed_rows s (integerify (walk b log_n k) % 2 ^ log_n) ≤ 2 ^ s - 1 = omega arith in
     omega arith
 
--- the walk mixes at most 2 ^ s - 1 rows anew in each of its N steps
+-- the walk recomputes at most 2 ^ s - 1 rows in each of its N steps
 pub extra_rows_at_most : (b : List ℕ) (log_n s : ℕ) → extra_rows b log_n s (2 ^ log_n) ≤ 2 ^ log_n * (2 ^ s - 1)
 extra_rows_at_most b log_n s = at_most b log_n s (2 ^ log_n)

@@ -1,10 +1,10 @@
 -- Verifying has one verdict, in every format whose hashes are read in one way.
 use Rattle.std.proofs.Common.{◌≡◌, List, ℕ, length, Some, refl, sym, ap, ap₂, ◌∙◌}
 use Rattle.std.specs.Prelude.{Option}
-use Rattle.password_hash.specs.Refusal.{Refusal}
+use Rattle.password_hash.specs.Refusal.{Refusal, PasswordInvalid}
 use Rattle.scrypt.specs.Accepted.{Parameters}
 use Rattle.scrypt.specs.KeyOfParams.{key_by}
-use Rattle.scrypt.specs.Verifying.{IsAccepted, VerdictOf, refused, right, wrong}
+use Rattle.scrypt.specs.Verifying.{IsAccepted, IsRefusedBy, VerdictOf, by_verdict, for_memory, refused, right, wrong}
 
 -- a hash is whole with one set of costs, one salt and one key
 abbrev pub IsWholeOnce : (Parameters → List ℕ → List ℕ → Type 0) → Type 0
@@ -42,3 +42,11 @@ verdict_once once refused_once not_both (right whole same) (refused why) = absur
 verdict_once {IsWhole} once refused_once not_both (right {c} {salt} {key} whole same) (wrong whole' other) =
     absurd (other (accepted_key {IsWhole = IsWhole} once whole' (record { costs = c; salt = salt; stored = key; whole = whole; right = same })))
 verdict_once once refused_once not_both (right whole same) (right whole' same') = refl
+
+-- a password that is wrong is not the error of a hash that cannot be read
+pub wrong_is_read : {IsWhole : Parameters → List ℕ → List ℕ → Type 0} {IsRefused : Refusal → Type 0} {password : List ℕ} {why told : Refusal}
+    → IsRefusedOnce IsRefused → NotBoth IsWhole IsRefused → told ≡ PasswordInvalid → IsRefusedBy IsWhole IsRefused password told
+    → IsRefused why → why ≡ PasswordInvalid
+wrong_is_read refused_once not_both is (by_verdict (refused h)) again = refused_once _ _ again h ∙ is
+wrong_is_read refused_once not_both is (by_verdict (wrong whole other)) again = absurd (not_both _ _ _ _ again whole)
+wrong_is_read refused_once not_both is (for_memory whole) again = absurd cc

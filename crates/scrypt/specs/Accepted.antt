@@ -3,6 +3,7 @@
 -- 2 ^ (128 * r / 8), neither is required; instead 128 * r * N is below 2 ^ 64.
 use Rattle.std.specs.Prelude.{ℕ, ◌<◌, ◌≤◌, ◌*◌, ◌^◌, ◌&&◌, Bool, nat_eq, Option, None}
 use Rattle.std.specs.Option.{option_eq}
+use Rattle.scrypt_kernel.specs.Pbkdf2.{max_output_len}
 
 -- the parameters of a derivation, and optionally the length of a stored key
 pub record Parameters : Type 0 where
@@ -22,7 +23,7 @@ AreAccepted log_n r p =
 
 -- an output of this many bytes can be derived: dkLen is at least 1 and at most (2 ^ 32 - 1) * 32
 abbrev pub IsOutputLen : ℕ → Type 0
-IsOutputLen n = (1 ≤ n) × (n ≤ 137438953440)
+IsOutputLen n = (1 ≤ n) × (n ≤ max_output_len)
 
 -- a PHC text can have a key of this many bytes
 abbrev pub IsStoredLen : ℕ → Type 0

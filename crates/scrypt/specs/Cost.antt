@@ -14,14 +14,14 @@ cost log_n r p = ro_mix_cost log_n r * p
 abbrev pub chunks_bytes : ℕ → ℕ → ℕ
 chunks_bytes r p = p * (128 * r)
 
--- how many rows the walks of the first i chunks of B mix anew, with a table that keeps each row whose
+-- how many rows the walks of the first i chunks of B recompute, with a table that keeps each row whose
 -- number is a multiple of 2 ^ s
 unfoldable pub extra_rows_of_chunks : List ℕ → ℕ → ℕ → ℕ → ℕ → ℕ
 extra_rows_of_chunks b log_n s r zero = 0
 extra_rows_of_chunks b log_n s r (suc i) =
     extra_rows_of_chunks b log_n s r i + extra_rows (words_of (part (128 * r) b i)) log_n s (2 ^ log_n)
 
--- the cores of a derivation with such a table: 2 * r more for each row that is mixed anew
+-- the cores of a derivation with such a table: 2 * r more for each row that is recomputed
 abbrev pub thin_cost : List ℕ → List ℕ → ℕ → ℕ → ℕ → ℕ → ℕ
 thin_cost password salt log_n r p s =
     let b = pbkdf2 password salt (p * (128 * r)) in

@@ -1,11 +1,11 @@
 -- Making a hash, in every format.
 use Rattle.std.specs.Prelude.{◌≡◌, ℕ, List, Option, None, IsSome, IfSome, unwrap_or}
-use Rattle.password_hash.specs.Refusal.{Refusal, BadAlgorithm, BadSalt, BadVersion, NoMemory}
+use Rattle.password_hash.specs.Refusal.{Refusal, Algorithm, SaltInvalid, Version, OutOfMemory}
 use Rattle.scrypt.specs.Accepted.{Parameters}
 
 -- the length of the key that hashing with these parameters makes: 32 if none was given
-abbrev pub made_len : Parameters → ℕ
-made_len c = unwrap_or c.output_len 32
+abbrev pub key_len_or_default : Parameters → ℕ
+key_len_or_default c = unwrap_or c.output_len 32
 
 -- the caller named no algorithm but this one
 abbrev pub IsNamedOrNone : List ℕ → Option (List ℕ) → Type 0
@@ -15,9 +15,9 @@ IsNamedOrNone name alg_id = IfSome alg_id (λ id. id ≡ name)
 -- allow it, and last a failed allocation.
 pub data HashingIsRefused (name : List ℕ) (SaltFits : Type 0) (alg_id : Option (List ℕ)) (version : Option ℕ)
     : Refusal → Type 0 where
-  by_algorithm : ¬ IsNamedOrNone name alg_id → HashingIsRefused name SaltFits alg_id version BadAlgorithm
-  by_version : IsNamedOrNone name alg_id → IsSome version → HashingIsRefused name SaltFits alg_id version BadVersion
+  by_algorithm : ¬ IsNamedOrNone name alg_id → HashingIsRefused name SaltFits alg_id version Algorithm
+  by_version : IsNamedOrNone name alg_id → IsSome version → HashingIsRefused name SaltFits alg_id version Version
   by_salt : IsNamedOrNone name alg_id → version ≡ None → ¬ SaltFits
-      → HashingIsRefused name SaltFits alg_id version BadSalt
+      → HashingIsRefused name SaltFits alg_id version SaltInvalid
   by_memory : IsNamedOrNone name alg_id → version ≡ None → SaltFits
-      → HashingIsRefused name SaltFits alg_id version NoMemory
+      → HashingIsRefused name SaltFits alg_id version OutOfMemory

@@ -28,6 +28,9 @@ pub mod KeyOfParams
 pub mod Hashing
 -- the verdict of verifying a password, in every format
 pub mod Verifying
+-- verifying in the caller's buffers, in every format
+pub mod InBuffers
+pub mod WorkInBuffers
 -- costs read from PHC parameters
 pub mod PhcCosts
 -- PHC hashes that are made, and those that are whole
@@ -40,3 +43,7 @@ pub mod McfCosts
 pub mod McfHash
 -- which stored hashes are weaker than wanted
 pub mod Rehashing
+-- stored hashes of either format, by their texts
+pub mod StoredHash
+-- private: what a stored hash holds
+pub mod StoredRead

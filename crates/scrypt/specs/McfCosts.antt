@@ -1,7 +1,7 @@
 -- Five-letter numbers, and the costs with which the first field of a `$7$` text begins.
 use Rattle.std.specs.Prelude.{◌≡◌, ℕ, ◌<◌, nat_lt, if◌then◌else◌, List, ◌∷◌, ◌++◌, length, take, drop, Option, None, Some, unwrap_or, Result, Ok, Err, codes, slice_index}
 use Rattle.password_hash.specs.Crypt64.{letter, letter_value, letters_of, number_of}
-use Rattle.password_hash.specs.Refusal.{Refusal, BadEncoding, BadParams}
+use Rattle.password_hash.specs.Refusal.{Refusal, EncodingInvalid, ParamsInvalid}
 use Rattle.scrypt.specs.Accepted.{AreAccepted, Parameters}
 
 -- the five-letter number at the front of a text, the lowest letter first: none if there are fewer
@@ -11,7 +11,7 @@ five_letter_number text = if nat_lt (length text) 5 then None else number_of (ta
 
 -- The first eleven bytes of a field encode log_n in one letter, and r and p in five letters each. A
 -- first byte below 128 that is not a letter reads as 255.
-pub record SaysCosts (field : List ℕ) (log_n r p : ℕ) : Type 0 where
+pub record EncodesCosts (field : List ℕ) (log_n r p : ℕ) : Type 0 where
   pub first_byte : slice_index field 0 < 128
   pub log_n_is : unwrap_or (letter_value (slice_index field 0)) 255 ≡ log_n
   pub r_is : five_letter_number (drop 1 field) ≡ Some r
@@ -28,8 +28,8 @@ costs_text c = codes "$7$" ++ costs_letters c.log_n c.r c.p
 -- The costs that a field encodes, and the salt, which is the rest of it, or the error: first that
 -- the field encodes no numbers, and then that the numbers are not accepted.
 pub data ReadsField (field : List ℕ) : Result (Parameters × List ℕ) Refusal → Type 0 where
-  malformed : ((log_n r p : ℕ) → ¬ SaysCosts field log_n r p) → ReadsField field (Err BadEncoding)
-  not_accepted : {log_n r p : ℕ} → SaysCosts field log_n r p → ¬ AreAccepted log_n r p
-      → ReadsField field (Err BadParams)
-  accepted : {log_n r p : ℕ} → SaysCosts field log_n r p → AreAccepted log_n r p
+  malformed : ((log_n r p : ℕ) → ¬ EncodesCosts field log_n r p) → ReadsField field (Err EncodingInvalid)
+  not_accepted : {log_n r p : ℕ} → EncodesCosts field log_n r p → ¬ AreAccepted log_n r p
+      → ReadsField field (Err ParamsInvalid)
+  accepted : {log_n r p : ℕ} → EncodesCosts field log_n r p → AreAccepted log_n r p
       → ReadsField field (Ok (record { log_n = log_n; r = r; p = p; output_len = None }, drop 11 field))

@@ -2,12 +2,12 @@
 use Rattle.std.specs.Prelude.{◌≢◌, ℕ, List, [], ◌∷◌, length, codes, Option, Ok, Err, ⊤}
 use Rattle.password_hash.specs.Crypt64.{Crypt64, IsCrypt64, crypt64_of}
 use Rattle.password_hash.specs.Mcf.{IsMcfText}
-use Rattle.password_hash.specs.Refusal.{Refusal, BadAlgorithm, BadEncoding, BadOutputSize}
+use Rattle.password_hash.specs.Refusal.{Refusal, Algorithm, EncodingInvalid, OutputSize}
 use Rattle.scrypt.specs.Accepted.{IsOutputLen, Parameters}
 use Rattle.scrypt.specs.KeyOfParams.{key_by}
 use Rattle.scrypt.specs.Accepted.{without_len}
 use Rattle.scrypt.specs.McfCosts.{ReadsField}
-use Rattle.scrypt.specs.Hashing.{HashingIsRefused, IsNamedOrNone, made_len}
+use Rattle.scrypt.specs.Hashing.{HashingIsRefused, IsNamedOrNone, key_len_or_default}
 use Rattle.scrypt.specs.Verifying.{IsAccepted, IsRefusedBy, VerdictOf}
 
 -- the id of `$7$` texts
@@ -34,23 +34,23 @@ pub record IsWhole (text : List ℕ) (c : Parameters) (salt key : List ℕ) : Ty
 -- is not an accepted output length.
 pub data ReadIsRefused (text : List ℕ) : Refusal → Type 0 where
   other_id : {id : List ℕ} {fields : List (List ℕ)} → IsMcfText text id fields → id ≢ mcf_id
-      → ReadIsRefused text BadAlgorithm
-  no_field : IsMcfText text mcf_id [] → ReadIsRefused text BadEncoding
+      → ReadIsRefused text Algorithm
+  no_field : IsMcfText text mcf_id [] → ReadIsRefused text EncodingInvalid
   bad_costs : {field : List ℕ} {after : List (List ℕ)} {why : Refusal} → IsMcfText text mcf_id (field ∷ after)
       → ReadsField field (Err why) → ReadIsRefused text why
-  no_key : {c : Parameters} {salt : List ℕ} → HasCosts text c salt [] → ReadIsRefused text BadEncoding
+  no_key : {c : Parameters} {salt : List ℕ} → HasCosts text c salt [] → ReadIsRefused text EncodingInvalid
   bad_key : {c : Parameters} {salt letters : List ℕ} {after : List (List ℕ)} → HasCosts text c salt (letters ∷ after)
-      → ¬ IsCrypt64 letters → ReadIsRefused text BadEncoding
+      → ¬ IsCrypt64 letters → ReadIsRefused text EncodingInvalid
   third_field : {c : Parameters} {salt letters third : List ℕ} {after : List (List ℕ)}
-      → HasCosts text c salt (letters ∷ third ∷ after) → IsCrypt64 letters → ReadIsRefused text BadEncoding
+      → HasCosts text c salt (letters ∷ third ∷ after) → IsCrypt64 letters → ReadIsRefused text EncodingInvalid
   bad_key_len : {c : Parameters} {salt letters key : List ℕ} → HasCosts text c salt (letters ∷ []) → Crypt64 key letters
-      → ¬ IsOutputLen (length key) → ReadIsRefused text BadOutputSize
+      → ¬ IsOutputLen (length key) → ReadIsRefused text OutputSize
 
 -- the text is the hash that these parameters make of a password and a salt: the salt of the
 -- derivation is the letters of the salt in the text
 abbrev pub IsMadeHash : Parameters → List ℕ → List ℕ → List ℕ → Type 0
 IsMadeHash c password salt text =
-    IsWhole text (without_len c) (crypt64_of salt) (key_by c password (crypt64_of salt) (made_len c))
+    IsWhole text (without_len c) (crypt64_of salt) (key_by c password (crypt64_of salt) (key_len_or_default c))
 
 -- the caller named no algorithm but `7`
 abbrev pub IsMcfOrNone : Option (List ℕ) → Type 0

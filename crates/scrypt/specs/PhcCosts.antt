@@ -1,7 +1,7 @@
 -- Costs read from PHC parameters, and written as such.
 use Rattle.std.specs.Prelude.{◌≡◌, ◌≢◌, ℕ, ◌<◌, ◌≤◌, List, [], ◌∷◌, codes, decimal, Result, Ok, Err, None}
 use Rattle.password_hash.specs.Decimal.{IsDecimal}
-use Rattle.password_hash.specs.Refusal.{Refusal, BadParam, BadParams}
+use Rattle.password_hash.specs.Refusal.{Refusal, ParamInvalid, ParamsInvalid}
 use Rattle.scrypt.specs.Accepted.{AreAccepted, Parameters}
 
 -- The pairs are read in order and replace log_n, r and p, and the first pair that is refused gives
@@ -10,28 +10,28 @@ use Rattle.scrypt.specs.Accepted.{AreAccepted, Parameters}
 pub data Reads : ℕ → ℕ → ℕ → List (List ℕ × List ℕ) → Result Parameters Refusal → Type 0 where
   accepted : {log_n r p : ℕ} → AreAccepted log_n r p
       → Reads log_n r p [] (Ok (record { log_n = log_n; r = r; p = p; output_len = None }))
-  not_accepted : {log_n r p : ℕ} → ¬ AreAccepted log_n r p → Reads log_n r p [] (Err BadParams)
+  not_accepted : {log_n r p : ℕ} → ¬ AreAccepted log_n r p → Reads log_n r p [] (Err ParamsInvalid)
   ln : {log_n r p : ℕ} {pair : List ℕ × List ℕ} {pairs : List (List ℕ × List ℕ)} {out : Result Parameters Refusal} (n : ℕ)
       → pair.0 ≡ codes "ln" → IsDecimal pair.1 n → n ≤ 255 → Reads n r p pairs out
       → Reads log_n r p (pair ∷ pairs) out
   ln_refused : {log_n r p : ℕ} {pair : List ℕ × List ℕ} {pairs : List (List ℕ × List ℕ)}
       → pair.0 ≡ codes "ln" → ((n : ℕ) → IsDecimal pair.1 n → 255 < n)
-      → Reads log_n r p (pair ∷ pairs) (Err (BadParam (codes "ln")))
+      → Reads log_n r p (pair ∷ pairs) (Err (ParamInvalid (codes "ln")))
   r : {log_n r p : ℕ} {pair : List ℕ × List ℕ} {pairs : List (List ℕ × List ℕ)} {out : Result Parameters Refusal} (n : ℕ)
       → pair.0 ≡ codes "r" → IsDecimal pair.1 n → Reads log_n n p pairs out
       → Reads log_n r p (pair ∷ pairs) out
   r_refused : {log_n r p : ℕ} {pair : List ℕ × List ℕ} {pairs : List (List ℕ × List ℕ)}
       → pair.0 ≡ codes "r" → ((n : ℕ) → ¬ IsDecimal pair.1 n)
-      → Reads log_n r p (pair ∷ pairs) (Err (BadParam (codes "r")))
+      → Reads log_n r p (pair ∷ pairs) (Err (ParamInvalid (codes "r")))
   p : {log_n r p : ℕ} {pair : List ℕ × List ℕ} {pairs : List (List ℕ × List ℕ)} {out : Result Parameters Refusal} (n : ℕ)
       → pair.0 ≡ codes "p" → IsDecimal pair.1 n → Reads log_n r n pairs out
       → Reads log_n r p (pair ∷ pairs) out
   p_refused : {log_n r p : ℕ} {pair : List ℕ × List ℕ} {pairs : List (List ℕ × List ℕ)}
       → pair.0 ≡ codes "p" → ((n : ℕ) → ¬ IsDecimal pair.1 n)
-      → Reads log_n r p (pair ∷ pairs) (Err (BadParam (codes "p")))
+      → Reads log_n r p (pair ∷ pairs) (Err (ParamInvalid (codes "p")))
   unknown : {log_n r p : ℕ} {pair : List ℕ × List ℕ} {pairs : List (List ℕ × List ℕ)}
       → pair.0 ≢ codes "ln" → pair.0 ≢ codes "r" → pair.0 ≢ codes "p"
-      → Reads log_n r p (pair ∷ pairs) (Err BadParams)
+      → Reads log_n r p (pair ∷ pairs) (Err ParamsInvalid)
 
 -- the costs of a hash's parameters: log_n, r and p begin as 17, 8 and 1
 abbrev pub ReadsCosts : List (List ℕ × List ℕ) → Result Parameters Refusal → Type 0

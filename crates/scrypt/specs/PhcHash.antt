@@ -1,11 +1,11 @@
 -- PHC hashes of scrypt: which are made, and which passwords they accept.
 use Rattle.std.specs.Prelude.{◌≡◌, ◌≢◌, ◌⊎◌, ℕ, ◌≤◌, List, length, codes, Option, None, Some, IsSome, Ok, Err}
-use Rattle.password_hash.specs.Refusal.{Refusal, BadAlgorithm, BadVersion, WrongPassword}
+use Rattle.password_hash.specs.Refusal.{Refusal, Algorithm, Version, PasswordInvalid}
 use Rattle.password_hash.specs.declared.phc.hash.PasswordHash.{PasswordHash}
 use Rattle.scrypt.specs.Accepted.{Parameters}
 use Rattle.scrypt.specs.KeyOfParams.{key_by}
 use Rattle.scrypt.specs.PhcCosts.{ReadsCosts, written_pairs}
-use Rattle.scrypt.specs.Hashing.{HashingIsRefused, IsNamedOrNone, made_len}
+use Rattle.scrypt.specs.Hashing.{HashingIsRefused, IsNamedOrNone, key_len_or_default}
 use Rattle.scrypt.specs.Verifying.{IsAccepted, IsRefusedBy, VerdictOf}
 
 -- the name of the algorithm
@@ -23,7 +23,7 @@ pub record IsMadeHash (c : Parameters) (password salt : List ℕ) (hash : Passwo
   pub params : hash.params ≡ written_pairs c
   pub salt_len : IsSaltLen (length salt)
   pub salt_is : hash.salt ≡ Some salt
-  pub key_is : hash.hash ≡ Some (key_by c password salt (made_len c))
+  pub key_is : hash.hash ≡ Some (key_by c password salt (key_len_or_default c))
 
 -- the caller named no algorithm but scrypt
 abbrev pub IsScryptOrNone : Option (List ℕ) → Type 0
@@ -48,12 +48,12 @@ pub record IsWhole (hash : PasswordHash) (c : Parameters) (salt key : List ℕ) 
 -- The errors of reading a hash, in this order: another algorithm, a version, the errors of its
 -- parameters, and a missing salt or key.
 pub data ReadIsRefused (hash : PasswordHash) : Refusal → Type 0 where
-  algorithm : hash.algorithm ≢ scrypt_id → ReadIsRefused hash BadAlgorithm
-  version : hash.algorithm ≡ scrypt_id → IsSome hash.version → ReadIsRefused hash BadVersion
+  algorithm : hash.algorithm ≢ scrypt_id → ReadIsRefused hash Algorithm
+  version : hash.algorithm ≡ scrypt_id → IsSome hash.version → ReadIsRefused hash Version
   costs : {why : Refusal} → hash.algorithm ≡ scrypt_id → hash.version ≡ None → ReadsCosts hash.params (Err why)
       → ReadIsRefused hash why
   missing : {c : Parameters} → IsOfCosts hash c → (hash.salt ≡ None) ⊎ (hash.hash ≡ None)
-      → ReadIsRefused hash WrongPassword
+      → ReadIsRefused hash PasswordInvalid
 
 -- the password is that of the hash
 abbrev pub Accepts : List ℕ → PasswordHash → Type 0

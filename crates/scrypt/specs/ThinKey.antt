@@ -1,5 +1,5 @@
 -- The derived key by a table that keeps each row of V whose number is a multiple of 2 ^ s: the standard's
--- steps, with each row mixed anew from the kept row below it.
+-- steps, with each row recomputed from the kept row below it.
 use Rattle.std.specs.Prelude.{ℕ, zero, suc, ◌*◌, ◌/◌, ◌%◌, ◌^◌, List}
 use Rattle.std.specs.List.{flat_map, range_with_len}
 use Rattle.scrypt_kernel.specs.Words.{bytes_of, part, words_of, xor_words}
@@ -8,15 +8,15 @@ use Rattle.scrypt_kernel.specs.BlockMix.{block_mix}
 use Rattle.scrypt_kernel.specs.RoMix.{integerify, row}
 
 -- row j: as many block mixes of the kept row below it as there are rows between them
-abbrev pub row_anew : List ℕ → ℕ → ℕ → List ℕ
-row_anew b s j = row (row b (j / 2 ^ s * 2 ^ s)) (j % 2 ^ s)
+abbrev pub recomputed_row : List ℕ → ℕ → ℕ → List ℕ
+recomputed_row b s j = row (row b (j / 2 ^ s * 2 ^ s)) (j % 2 ^ s)
 
 -- X after k steps of the walk over such rows
 unfoldable pub thin_walk : List ℕ → ℕ → ℕ → ℕ → List ℕ
 thin_walk b log_n s zero = row b (2 ^ log_n)
 thin_walk b log_n s (suc k) =
     let x = thin_walk b log_n s k in
-    block_mix (xor_words x (row_anew b s (integerify x % 2 ^ log_n)))
+    block_mix (xor_words x (recomputed_row b s (integerify x % 2 ^ log_n)))
 
 -- chunk i of B after scryptROMix with such a table
 abbrev pub thin_chunk : List ℕ → ℕ → ℕ → ℕ → ℕ → List ℕ

@@ -1,7 +1,7 @@
 -- The verdict of verifying a password, in every format. A format defines which hashes are whole,
 -- with their costs, their salt and their key, and the error of every other hash.
 use Rattle.std.specs.Prelude.{◌≡◌, ◌≢◌, ℕ, List, length, Option, None, Some}
-use Rattle.password_hash.specs.Refusal.{Refusal, NoMemory, WrongPassword}
+use Rattle.password_hash.specs.Refusal.{Refusal, OutOfMemory, PasswordInvalid}
 use Rattle.scrypt.specs.Accepted.{Parameters}
 use Rattle.scrypt.specs.KeyOfParams.{key_by}
 
@@ -20,7 +20,7 @@ pub data VerdictOf (IsWhole : Parameters → List ℕ → List ℕ → Type 0) (
     : Option Refusal → Type 0 where
   refused : {why : Refusal} → IsRefused why → VerdictOf IsWhole IsRefused password (Some why)
   wrong : {c : Parameters} {salt key : List ℕ} → IsWhole c salt key → key ≢ key_by c password salt (length key)
-      → VerdictOf IsWhole IsRefused password (Some WrongPassword)
+      → VerdictOf IsWhole IsRefused password (Some PasswordInvalid)
   right : {c : Parameters} {salt key : List ℕ} → IsWhole c salt key → key ≡ key_by c password salt (length key)
       → VerdictOf IsWhole IsRefused password None
 
@@ -29,4 +29,4 @@ pub data VerdictOf (IsWhole : Parameters → List ℕ → List ℕ → Type 0) (
 pub data IsRefusedBy (IsWhole : Parameters → List ℕ → List ℕ → Type 0) (IsRefused : Refusal → Type 0) (password : List ℕ)
     : Refusal → Type 0 where
   by_verdict : {why : Refusal} → VerdictOf IsWhole IsRefused password (Some why) → IsRefusedBy IsWhole IsRefused password why
-  for_memory : {c : Parameters} {salt key : List ℕ} → IsWhole c salt key → IsRefusedBy IsWhole IsRefused password NoMemory
+  for_memory : {c : Parameters} {salt key : List ℕ} → IsWhole c salt key → IsRefusedBy IsWhole IsRefused password OutOfMemory

@@ -33,7 +33,7 @@ impl Scrypt {
     pub fn new() -> Scrypt
         ensures value { result ≡ recommended_parameters }
     {
-        Scrypt::new_with_params(Params::RECOMMENDED)
+        Scrypt::default()
     }
 
     /// Creates a value with these parameters.

@@ -1,25 +1,24 @@
 // The derived key (RFC 7914, section 6).
 
 ghost use Rattle.std.specs.Prelude.{◌≡◌, ◌↔◌, ◌+◌, ◌-◌, ◌*◌, ◌^◌, ◌<◌, ◌≤◌, length, IfSome, IsOk, IsSome, IsTrue, IsErrOf, OnOk, OnErr};
+ghost use Rattle.scrypt_kernel.specs.Pbkdf2.{max_output_len};
 ghost use Rattle.scrypt.specs.Accepted.{IsOutputLen};
 ghost use Rattle.scrypt.specs.Cost.{chunks_bytes, cost, scratch_words, table_words, thin_cost, thin_scratch_words};
-ghost use Rattle.scrypt.specs.Key.{derived_key};
+ghost use Rattle.scrypt.specs.Key.{chunks_of, derived_key};
 ghost use Rattle.scrypt.specs.declared.errors.DeriveError.TheVariants.{InvalidOutputLen as BadLength, OutOfMemory};
 
 use crate::{CoreCount, DeriveError, InvalidOutputLen, Params};
-use scrypt_kernel::memory::Lent;
+use scrypt_kernel::chunk::mix_chunk;
+use scrypt_kernel::memory::{Buffer, Memory};
 use scrypt_kernel::order::diagonal::Diagonal;
 use scrypt_kernel::pbkdf2::pbkdf2_one;
-use scrypt_kernel::romix::ro_mix;
-use scrypt_kernel::table::{Table, Whole};
-use scrypt_kernel::thin::Thin;
 use std::alloc::Global;
 
-/// The greatest length of an output in bytes, `(2^32 - 1) * 32` (RFC 7914, section 6: `dkLen`).
-const MAX_OUTPUT_LEN: usize = 137_438_953_440;
+/// The greatest length of an output in bytes (RFC 7914, section 6: `dkLen`).
+const MAX_OUTPUT_LEN: usize = ((1 << 32) - 1) * 32;
 
-/// Returns whether an output of `len` bytes can be derived: `len` is from 1 to 137438953440
-/// (RFC 7914, section 6).
+/// Returns whether an output of `len` bytes can be derived: `len` is from 1 to `(2^32 - 1) * 32`,
+/// which is 137438953440 (RFC 7914, section 6).
 pub fn output_len_ok(len: usize) -> bool
     ensures exact { IsTrue result ↔ IsOutputLen len }
 {
@@ -40,19 +39,12 @@ pub struct BufferLens {
 impl BufferLens {
     /// Returns the lengths for [`scrypt_with_buffers`](crate::scrypt_with_buffers) with these
     /// parameters.
-    #[tactic(auto, using(crate::proofs::AcceptedFacts::small_chunks, crate::proofs::AcceptedFacts::small_table))]
     pub fn of(params: &Params) -> BufferLens
         ensures chunks { result.chunks ≡ chunks_bytes params.now.r params.now.p }
         ensures table { result.table ≡ table_words params.now.log_n params.now.r }
         ensures scratch { result.scratch ≡ scratch_words params.now.r }
     {
-        let r = params.r() as usize;
-        let p = params.p() as usize;
-        BufferLens {
-            chunks: p * (128 * r),
-            table: (1usize << params.log_n()) * (32 * r),
-            scratch: 64 * r,
-        }
+        BufferLens::with_rows(params, params.log_n(), 2)
     }
 
     /// Returns the lengths for [`scrypt_thin`](crate::scrypt_thin) with a table that keeps one row
@@ -67,12 +59,24 @@ impl BufferLens {
         if s > params.log_n() {
             return None;
         }
-        let r = params.r() as usize;
-        Some(BufferLens {
-            chunks: BufferLens::of(params).chunks,
-            table: (1usize << (params.log_n() - s)) * (32 * r),
-            scratch: 96 * r,
-        })
+        Some(BufferLens::with_rows(params, params.log_n() - s, 3))
+    }
+
+    // The lengths with a table of `2^log_rows` rows, and with a scratch of so many rows.
+    #[tactic(auto, using(crate::proofs::AcceptedFacts::small_chunks, crate::proofs::AcceptedFacts::small_rows))]
+    fn with_rows(params: &Params, log_rows: u8, scratch_rows: usize) -> BufferLens
+        requires fewer { log_rows ≤ params.now.log_n }
+        requires few { scratch_rows ≤ 3 }
+        ensures chunks { result.chunks ≡ chunks_bytes params.now.r params.now.p }
+        ensures table { result.table ≡ table_words log_rows params.now.r }
+        ensures scratch { result.scratch ≡ scratch_rows * (32 * params.now.r) }
+    {
+        let row = 32 * params.r() as usize;
+        BufferLens {
+            chunks: params.p() as usize * (4 * row),
+            table: (1usize << log_rows) * row,
+            scratch: scratch_rows * row,
+        }
     }
 }
 
@@ -82,8 +86,8 @@ impl BufferLens {
 /// scratch, in this order and before the first core. A length of a stored key in `params` is
 /// ignored.
 ///
-/// Returns `InvalidOutputLen` exactly if `output` does not have 1 to 137438953440 bytes, and
-/// otherwise `OutOfMemory` if an allocation fails. On an error `output` is unchanged.
+/// Returns `InvalidOutputLen` exactly if the length of `output` is not allowed
+/// ([`output_len_ok`](crate::output_len_ok)), and otherwise `OutOfMemory` if an allocation fails. On an error `output` is unchanged.
 pub fn scrypt(
     alloc: Global,
     password: &[u8],
@@ -126,14 +130,13 @@ pub fn scrypt_counted(
     }
     let lens = BufferLens::of(params);
     let mut chunks = vec![in alloc; 0u8; lens.chunks]?;
-    let mut table = Whole {
-        rows: Vec::with_capacity(alloc, lens.table)?,
-    };
+    let mut table = Vec::with_capacity(alloc, lens.table)?;
     let mut scratch = vec![in alloc; 0u32; lens.scratch]?;
-    derive(
+    derive_in::<Vec<u32>>(
         password,
         salt,
         params,
+        0,
         &mut chunks,
         &mut table,
         &mut scratch,
@@ -143,15 +146,15 @@ pub fn scrypt_counted(
     Ok(())
 }
 
-/// Writes the scrypt key of `password` and `salt` to `output`, in memory that the caller lends
+/// Writes the scrypt key of `password` and `salt` to `output`, in the caller's buffers
 /// (RFC 7914, section 6).
 ///
 /// The buffers have the lengths of [`BufferLens::of`]: `chunks` in bytes, `table` and `scratch` in
 /// words. It does not matter what they hold before the call, and what they hold after it is
 /// unspecified. `cores` counts the `4 * N * r * p` cores. Does not allocate.
 ///
-/// Returns `InvalidOutputLen`, and changes nothing, exactly if `output` does not have 1 to
-/// 137438953440 bytes.
+/// Returns `InvalidOutputLen`, and changes nothing, exactly if the length of `output` is
+/// not allowed ([`output_len_ok`](crate::output_len_ok)).
 pub fn scrypt_with_buffers(
     password: &[u8],
     salt: &[u8],
@@ -179,11 +182,9 @@ pub fn scrypt_with_buffers(
     if !output_len_ok(output.len()) {
         return Err(InvalidOutputLen);
     }
-    let mut table = Whole {
-        rows: Lent::new(table),
-    };
-    derive(
-        password, salt, params, chunks, &mut table, scratch, output, cores,
+    let mut rows = Buffer::new(table);
+    derive_in::<Buffer<'_>>(
+        password, salt, params, 0, chunks, &mut rows, scratch, output, cores,
     );
     Ok(())
 }
@@ -191,7 +192,7 @@ pub fn scrypt_with_buffers(
 /// Writes the scrypt key of `password` and `salt` to `output`, with a smaller table
 /// (RFC 7914, section 6).
 ///
-/// The table keeps each row whose number is a multiple of `2^s`, and any other row is mixed anew
+/// The table keeps each row whose number is a multiple of `2^s`, and any other row is recomputed
 /// whenever it is needed. So the table has `2^s` times fewer words, and there may be more than
 /// `4 * N * r * p` cores: `cores` counts them. Does not allocate.
 ///
@@ -199,8 +200,8 @@ pub fn scrypt_with_buffers(
 /// words. `s` is at most `log_n`. It does not matter what the buffers hold before the call, and what
 /// they hold after it is unspecified.
 ///
-/// Returns `InvalidOutputLen`, and changes nothing, exactly if `output` does not have 1 to
-/// 137438953440 bytes.
+/// Returns `InvalidOutputLen`, and changes nothing, exactly if the length of `output` is
+/// not allowed ([`output_len_ok`](crate::output_len_ok)).
 #[tactic(auto, using(crate::proofs::AcceptedFacts::small_log_n))]
 pub fn scrypt_thin(
     password: &[u8],
@@ -231,37 +232,67 @@ pub fn scrypt_thin(
     if !output_len_ok(output.len()) {
         return Err(InvalidOutputLen);
     }
-    let (scratch, spare) = scratch.split_at_mut(64 * params.r() as usize);
-    let mut table = Thin::new(table, spare, s);
-    derive(
-        password, salt, params, chunks, &mut table, scratch, output, cores,
+    let mut rows = Buffer::new(table);
+    derive_in::<Buffer<'_>>(
+        password, salt, params, s, chunks, &mut rows, scratch, output, cores,
     );
     Ok(())
 }
 
-// Steps 1 to 3, with any table.
-#[tactic(auto, using(crate::proofs::AcceptedFacts::small_chunks))]
-fn derive<T: Table>(
+// Steps 1 to 3, in any memory, with a table that keeps one row in `2^s`.
+fn derive_in<M: Memory>(
     password: &[u8],
     salt: &[u8],
     params: &Params,
+    s: u8,
     chunks: &mut [u8],
-    table: &mut T,
+    rows: &mut M,
     scratch: &mut [u32],
     output: &mut [u8],
     cores: &mut CoreCount,
 )
+    requires spacing { s ≤ params.now.log_n }
     requires chunks { length chunks.old ≡ chunks_bytes params.now.r params.now.p }
-    requires spacing { T.spacing table.old ≤ params.now.log_n }
-    requires room { T.has_room table.old (2 ^ (params.now.log_n - T.spacing table.old)) (32 * params.now.r) }
-    requires scratch { length scratch.old ≡ scratch_words params.now.r }
-    requires length { length output.old ≤ 137438953440 }
+    requires room { table_words (params.now.log_n - s) params.now.r ≤ M.room rows.old }
+    requires scratch { scratch_words params.now.r ≤ length scratch.old }
+    requires spare { 0 < s → thin_scratch_words params.now.r ≤ length scratch.old }
+    requires length { length output.old ≤ max_output_len }
     ensures value { output.new ≡ derived_key password.now salt.now
         params.now.log_n params.now.r params.now.p (length output.old) }
     ensures all { cores.new.all ≡ cores.old.all + thin_cost password.now salt.now
-        params.now.log_n params.now.r params.now.p (T.spacing table.old) }
+        params.now.log_n params.now.r params.now.p s }
     ensures lanes { cores.new.lanes ≡ cores.old.lanes + thin_cost password.now salt.now
-        params.now.log_n params.now.r params.now.p (T.spacing table.old) }
+        params.now.log_n params.now.r params.now.p s }
+{
+    mix_chunks::<M>(password, salt, params, s, chunks, rows, scratch, cores);
+    // Step 3: DK, with B as salt.
+    pbkdf2_one(password, chunks, output);
+}
+
+/// Steps 1 and 2, in any memory, with a table that keeps one row in `2^s`: `chunks` becomes B after
+/// its chunks were mixed.
+#[tactic(auto, using(crate::proofs::AcceptedFacts::small_chunks, crate::proofs::AcceptedFacts::small_log_n))]
+pub(crate) fn mix_chunks<M: Memory>(
+    password: &[u8],
+    salt: &[u8],
+    params: &Params,
+    s: u8,
+    chunks: &mut [u8],
+    rows: &mut M,
+    scratch: &mut [u32],
+    cores: &mut CoreCount,
+)
+    requires spacing { s ≤ params.now.log_n }
+    requires chunks { length chunks.old ≡ chunks_bytes params.now.r params.now.p }
+    requires room { table_words (params.now.log_n - s) params.now.r ≤ M.room rows.old }
+    requires scratch { scratch_words params.now.r ≤ length scratch.old }
+    requires spare { 0 < s → thin_scratch_words params.now.r ≤ length scratch.old }
+    ensures value { chunks.new ≡ chunks_of password.now salt.now
+        params.now.log_n params.now.r params.now.p }
+    ensures all { cores.new.all ≡ cores.old.all + thin_cost password.now salt.now
+        params.now.log_n params.now.r params.now.p s }
+    ensures lanes { cores.new.lanes ≡ cores.old.lanes + thin_cost password.now salt.now
+        params.now.log_n params.now.r params.now.p s }
 {
     let chunk_len = 128 * params.r() as usize;
     let p = params.p() as usize;
@@ -271,8 +302,6 @@ fn derive<T: Table>(
     'chunks: for i in 0..p {
         let at = i * chunk_len;
         let chunk = &mut chunks[at..at + chunk_len];
-        ro_mix::<Diagonal, T>(chunk, table, scratch, params.log_n(), cores);
+        mix_chunk::<Diagonal, M>(chunk, rows, scratch, params.log_n(), s, cores);
     }
-    // Step 3: DK, with B as salt.
-    pbkdf2_one(password, chunks, output);
 }

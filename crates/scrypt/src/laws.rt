@@ -1,12 +1,12 @@
 //! Laws of the definitions. Each function does nothing at run time: its contract is the law.
 
-ghost use Rattle.std.specs.Prelude.{◌≡◌, ◌↔◌, ℕ, ◌-◌, ◌*◌, ◌%◌, ◌^◌, ◌<◌, ◌≤◌, List, [], ◌∷◌, ◌++◌, length, take, Option, Result, Ok, IfSome, IsSome, Some, All};
+ghost use Rattle.std.specs.Prelude.{◌≡◌, ◌↔◌, false, true, ℕ, ◌-◌, ◌*◌, ◌%◌, ◌^◌, ◌<◌, ◌≤◌, List, [], ◌∷◌, ◌++◌, length, take, Option, Result, Ok, IfSome, IsSome, Some, All};
 ghost use Rattle.sha2.specs.Sha256.{sha256};
 ghost use Rattle.password_hash.specs.Crypt64.{Crypt64, crypt64_of, letter_value, letters_of};
 ghost use Rattle.password_hash.specs.Mcf.{IsMcfText};
 ghost use Rattle.password_hash.specs.Parts.{dollar};
 ghost use Rattle.password_hash.specs.Phc.{IsHashText, IsSalt, hash_text};
-ghost use Rattle.password_hash.specs.Refusal.{Refusal};
+ghost use Rattle.password_hash.specs.Refusal.{Refusal, PasswordInvalid};
 ghost use Rattle.password_hash.specs.declared.phc.hash.PasswordHash.{PasswordHash};
 ghost use Rattle.scrypt.specs.Accepted.{AreAccepted, IsStoredLen, Parameters};
 ghost use Rattle.scrypt_kernel.specs.BlockMix.{block_mix};
@@ -16,14 +16,16 @@ ghost use Rattle.scrypt.specs.KeyOfParams.{key_by};
 ghost use Rattle.scrypt_kernel.specs.Diagonal.{AreInverse, IsBlockMixBy, diagonal_core, diagonal_order, inverse_pivot, pivot, standard_order};
 ghost use Rattle.scrypt.specs.Key.{derived_key, mixed_chunks};
 ghost use Rattle.scrypt.specs.ThinKey.{thin_key};
+ghost use Rattle.scrypt.specs.Cost.{cost, thin_cost};
 ghost use Rattle.scrypt_kernel.specs.Table.{extra_rows};
 ghost use Rattle.scrypt.specs.McfCosts.{costs_letters, costs_text, five_letter_number};
-ghost use Rattle.scrypt.specs.McfHash.{Accepts as McfAccepts, IsWhole as IsMcfWhole, IsMadeHash as IsMadeMcf, ReadIsRefused as McfReadIsRefused, Verdict as McfVerdict};
-ghost use Rattle.scrypt.specs.Hashing.{made_len};
+ghost use Rattle.scrypt.specs.McfHash.{Accepts as McfAccepts, HashIsRefused as McfHashIsRefused, IsWhole as IsMcfWhole, IsMadeHash as IsMadeMcf, ReadIsRefused as McfReadIsRefused, Verdict as McfVerdict, mcf_id};
+ghost use Rattle.scrypt.specs.Hashing.{key_len_or_default};
 ghost use Rattle.scrypt.specs.Accepted.{without_len};
 ghost use Rattle.scrypt.specs.PhcCosts.{ReadsCosts, written_pairs};
-ghost use Rattle.scrypt.specs.PhcHash.{Accepts, IsMadeHash, IsWhole, ReadIsRefused, Verdict};
+ghost use Rattle.scrypt.specs.PhcHash.{Accepts, HashIsRefused, IsMadeHash, IsWhole, ReadIsRefused, Verdict, VerifyIsRefused, scrypt_id};
 ghost use Rattle.scrypt.specs.Rehashing.{IsWeaker};
+ghost use Rattle.scrypt.specs.StoredHash.{Accepts as TextAccepts, HasParameters, IsWeakerText, IsWhole as IsWholeText, ReadIsRefused as TextReadIsRefused, Verdict as TextVerdict, VerifyIsRefused as TextVerifyIsRefused, is_mcf_text};
 
 /// A shorter key is the beginning of a longer one, for any two lengths.
 pub fn shorter_key_is_prefix()
@@ -91,15 +93,66 @@ pub fn made_hashes_are_accepted()
         → McfAccepts password text }
     ensures mcf_written { (c : Parameters) (password salt : List ℕ) → AreAccepted c.log_n c.r c.p
         → IfSome c.output_len IsStoredLen → IsMadeMcf c password salt (costs_text c ++ (crypt64_of salt
-        ++ dollar ∷ crypt64_of (key_by c password (crypt64_of salt) (made_len c)))) }
+        ++ dollar ∷ crypt64_of (key_by c password (crypt64_of salt) (key_len_or_default c)))) }
 {}
 
-/// Verifying a password against a PHC hash or a `$7$` text has only one verdict.
+/// The text of a stored hash has at most one set of parameters, one salt and one key, and at most
+/// one error of reading it, and not both.
+pub fn stored_texts_have_one_reading()
+    ensures whole { (text salt more_salt key more_key : List ℕ) (one other : Parameters)
+        → IsWholeText text one salt key → IsWholeText text other more_salt more_key
+        → (one ≡ other) × (salt ≡ more_salt) × (key ≡ more_key) }
+    ensures parameters { (text : List ℕ) (one other : Parameters) (len more_len : ℕ) → HasParameters text one len
+        → HasParameters text other more_len → (one ≡ other) × (len ≡ more_len) }
+    ensures refused { (text : List ℕ) (one other : Refusal) → TextReadIsRefused text one → TextReadIsRefused text other
+        → one ≡ other }
+    ensures readable { (text salt key : List ℕ) (c : Parameters) (why : Refusal) → IsWholeText text c salt key
+        → ¬ TextReadIsRefused text why }
+{}
+
+/// A `$7$` text is read in its format, and so is the text of a PHC hash of scrypt.
+pub fn formats_are_told_apart()
+    ensures mcf { (text : List ℕ) (fields : List (List ℕ)) → IsMcfText text mcf_id fields → is_mcf_text text ≡ true }
+    ensures phc { (text : List ℕ) (hash : PasswordHash) → IsHashText text hash → hash.algorithm ≡ scrypt_id
+        → is_mcf_text text ≡ false }
+{}
+
+/// The text of a hash made from a password with accepted parameters verifies against that password,
+/// and is not weaker than these parameters ask for.
+pub fn made_texts_are_accepted()
+    ensures phc { (c : Parameters) (password salt : List ℕ) (hash : PasswordHash) → AreAccepted c.log_n c.r c.p
+        → IfSome c.output_len IsStoredLen → IsSalt salt → IsMadeHash c password salt hash
+        → TextAccepts password (hash_text hash) }
+    ensures phc_strong { (c : Parameters) (password salt : List ℕ) (hash : PasswordHash) → AreAccepted c.log_n c.r c.p
+        → IfSome c.output_len IsStoredLen → IsSalt salt → IsMadeHash c password salt hash
+        → ¬ IsWeakerText c (hash_text hash) }
+    ensures mcf { (c : Parameters) (password salt text : List ℕ) → IsMadeMcf c password salt text
+        → TextAccepts password text }
+    ensures mcf_strong { (c : Parameters) (password salt text : List ℕ) → IsMadeMcf c password salt text
+        → ¬ IsWeakerText c text }
+{}
+
+/// Hashing with refused arguments has only one error.
+pub fn hashing_refusals_are_one()
+    ensures phc { (salt : List ℕ) (alg_id : Option (List ℕ)) (version : Option ℕ) (one other : Refusal)
+        → HashIsRefused salt alg_id version one → HashIsRefused salt alg_id version other → one ≡ other }
+    ensures mcf { (alg_id : Option (List ℕ)) (version : Option ℕ) (one other : Refusal)
+        → McfHashIsRefused alg_id version one → McfHashIsRefused alg_id version other → one ≡ other }
+{}
+
+/// Verifying a password against a PHC hash, a `$7$` text or the text of a stored hash has only one
+/// verdict. A password that is wrong is never the error of a text that cannot be read.
 pub fn verdicts_are_one()
     ensures phc { (password : List ℕ) (hash : PasswordHash) (one other : Option Refusal) → Verdict password hash one
         → Verdict password hash other → one ≡ other }
     ensures mcf { (password text : List ℕ) (one other : Option Refusal) → McfVerdict password text one
         → McfVerdict password text other → one ≡ other }
+    ensures text { (password text : List ℕ) (one other : Option Refusal) → TextVerdict password text one
+        → TextVerdict password text other → one ≡ other }
+    ensures phc_read { (password : List ℕ) (hash : PasswordHash) (why : Refusal) → VerifyIsRefused password hash PasswordInvalid
+        → ReadIsRefused hash why → why ≡ PasswordInvalid }
+    ensures text_read { (password text : List ℕ) (why : Refusal) → TextVerifyIsRefused password text PasswordInvalid
+        → TextReadIsRefused text why → why ≡ PasswordInvalid }
 {}
 
 /// A hash that accepts a password can be read, so checking whether it is weaker than wanted returns
@@ -141,11 +194,12 @@ pub fn thin_key_is_the_key()
         → thin_key password salt log_n r p s n ≡ derived_key password salt log_n r p n }
 {}
 
-/// With a table that keeps one row in `2^s`, the `N` steps of the walk together mix at most
-/// `N * (2^s - 1)` rows anew.
-#[tactic(auto, using(crate::proofs::ThinKeyFacts::extra_rows_at_most))]
+/// With a table that keeps one row in `2^s`, the `N` steps of the walk together recompute at most
+/// `N * (2^s - 1)` rows. With `s` of 0 a derivation costs what it costs with the whole table.
+#[tactic(auto, using(crate::proofs::ThinKeyFacts::extra_rows_at_most, crate::proofs::CostFacts::whole_table_cost))]
 pub fn extra_rows_are_bounded()
     ensures bound { (b : List ℕ) (log_n s : ℕ) → extra_rows b log_n s (2 ^ log_n) ≤ 2 ^ log_n * (2 ^ s - 1) }
+    ensures whole { (password salt : List ℕ) (log_n r p : ℕ) → thin_cost password salt log_n r p 0 ≡ cost log_n r p }
 {}
 
 /// The diagonal order and the standard order are inverse to each other on whole blocks, and so are

@@ -13,6 +13,7 @@
 #![tactic(auto)]
 
 mod algorithm;
+mod comparing;
 mod derivation;
 pub mod errors;
 pub mod laws;
@@ -20,7 +21,10 @@ pub mod mcf;
 mod params;
 pub mod phc;
 mod rehashing;
+mod stored_hash;
 mod stored_key;
+mod verifying;
+mod wiping;
 
 pub use algorithm::Scrypt;
 pub use derivation::{
@@ -32,3 +36,5 @@ pub use password_hash;
 pub use password_hash::kdf;
 pub use password_hash::kdf::{Kdf, Pbkdf};
 pub use scrypt_kernel::{CoreCount, block_mix, hmac, pbkdf2, romix, salsa};
+pub use stored_hash::StoredHash;
+pub use wiping::wipe;

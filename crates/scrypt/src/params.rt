@@ -2,6 +2,7 @@
 
 ghost use Rattle.std.specs.Prelude.{◌≡◌, ◌↔◌, ◌+◌, ◌*◌, ◌^◌, ◌<◌, ◌≤◌, IsOk, IfOk, IfSome, IsTrue, None, Some};
 ghost use Rattle.scrypt.specs.Accepted.{AreAccepted, IsStoredLen, Parameters, parameters_eq, recommended_parameters};
+ghost use Rattle.scrypt.specs.Cost.{cost};
 ghost use Rattle.std.specs.Cmp.{and_equiv, on_equiv, partial_equiv_from_equiv};
 ghost use Rattle.std.specs.Cmp.Lexicographic.{options_equiv};
 ghost use Rattle.std.proofs.lemmas.Cmp.{nat_eq_equiv};
@@ -34,6 +35,10 @@ impl Model for Params {
 
     ghost inverse = { λ c. record { log_n = c.log_n; r = c.r; p = c.p; output_len = c.output_len } };
 }
+
+const _: () = prove!(Params::RECOMMENDED_LOG_N == 17 && Params::RECOMMENDED_R == 8);
+
+const _: () = prove!(Params::RECOMMENDED_P == 1 && Params::RECOMMENDED_LEN == 32);
 
 impl Params {
     /// The recommended logarithm of the work factor to base 2.
@@ -163,6 +168,16 @@ impl Params {
         ensures product { self.now.r * result < 2 ^ 30 }
     {
         self.p
+    }
+
+    /// Returns the number of Salsa20/8 cores that a derivation runs, `4 * N * r * p`, which is below
+    /// `2^89`.
+    pub fn cores(&self) -> u128
+        ensures value { result ≡ cost self.now.log_n self.now.r self.now.p }
+        ensures small { result < 2 ^ 89 }
+    {
+        let blocks = self.n() * u64::from(self.r());
+        4 * u128::from(blocks) * u128::from(self.p())
     }
 }
 

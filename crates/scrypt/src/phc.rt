@@ -2,9 +2,11 @@
 
 mod costs;
 mod hashing;
+mod in_buffers;
 pub(crate) mod reading;
 mod verifying;
 
+pub use in_buffers::verify_with_buffers;
 pub use password_hash::phc::{Ident, Output, PasswordHash, Salt};
 
 /// The name of the algorithm in a PHC text.

@@ -8,7 +8,7 @@ ghost use Rattle.scrypt.specs.Rehashing.{IsBelow, IsReadable, IsWeaker};
 
 use crate::mcf::reading as mcf_reading;
 use crate::phc::reading as phc_reading;
-use crate::stored_key::made_len;
+use crate::stored_key::key_len_or_default;
 use crate::{Params, Scrypt};
 use password_hash::{RehashCheck, Result, mcf, phc};
 
@@ -72,5 +72,5 @@ fn is_below(wanted: &Params, stored: &Params, key_len: usize) -> bool
     stored.log_n() < wanted.log_n()
         || stored.r() < wanted.r()
         || stored.p() < wanted.p()
-        || key_len < made_len(wanted)
+        || key_len < key_len_or_default(wanted)
 }

@@ -3,7 +3,7 @@
 ghost use Rattle.std.specs.Prelude.{◌≡◌, length, IfErr, IfOk, OnOk};
 ghost use Rattle.password_hash.specs.declared.error.Error.TheVariants.{OutOfMemory};
 ghost use Rattle.scrypt.specs.Accepted.{IsOutputLen, IsStoredLen};
-ghost use Rattle.scrypt.specs.Hashing.{made_len};
+ghost use Rattle.scrypt.specs.Hashing.{key_len_or_default};
 ghost use Rattle.scrypt.specs.KeyOfParams.{key_by};
 
 use crate::{Params, scrypt};
@@ -12,8 +12,8 @@ use password_hash::{Error, Result};
 use std::alloc::Global;
 
 /// Returns the length in bytes of the key that hashing with these parameters makes.
-pub(crate) fn made_len(params: &Params) -> usize
-    ensures value { result ≡ made_len params.now }
+pub(crate) fn key_len_or_default(params: &Params) -> usize
+    ensures value { result ≡ key_len_or_default params.now }
     ensures stored { IsStoredLen result }
 {
     match params.output_len() {
@@ -26,7 +26,7 @@ pub(crate) fn made_len(params: &Params) -> usize
 /// of the derivation are allocated.
 ///
 /// Returns `OutOfMemory` if an allocation fails.
-pub(crate) fn short_key(
+pub(crate) fn key_in_array(
     alloc: Global,
     password: &[u8],
     salt: &[u8],
@@ -49,7 +49,7 @@ pub(crate) fn short_key(
 /// Derives a key of `len` bytes, and allocates it before the buffers of the derivation.
 ///
 /// Returns `OutOfMemory` if an allocation fails.
-pub(crate) fn long_key(
+pub(crate) fn key_in_vec(
     alloc: Global,
     password: &[u8],
     salt: &[u8],

@@ -9,12 +9,12 @@ ghost use Rattle.password_hash.specs.Parts.{dollar};
 ghost use Rattle.password_hash.specs.declared.error.Error.TheVariants.{OutOfMemory};
 ghost use Rattle.scrypt.specs.Accepted.{AreAccepted};
 ghost use Rattle.scrypt.specs.McfCosts.{costs_text};
-ghost use Rattle.scrypt.specs.Hashing.{made_len};
+ghost use Rattle.scrypt.specs.Hashing.{key_len_or_default};
 ghost use Rattle.scrypt.specs.McfHash.{HashIsRefused, IsMadeHash, IsMcfOrNone};
 
 use crate::mcf::five_letters::five_letters;
 use crate::mcf::reading::is_mcf;
-use crate::stored_key::{made_len, short_key};
+use crate::stored_key::{key_in_array, key_len_or_default};
 use crate::{Params, Scrypt};
 use password_hash::mcf::alphabet::letter;
 use password_hash::mcf::{Base64, PasswordHash};
@@ -92,7 +92,7 @@ fn hash_of(alloc: Global, password: &[u8], salt: &[u8], params: &Params) -> Resu
 {
     let key_at = COSTS_LEN + Base64::Crypt.encoded_len(salt.len());
     // The whole text is allocated before the buffers of the derivation.
-    let len = key_at + 1 + Base64::Crypt.encoded_len(made_len(params));
+    let len = key_at + 1 + Base64::Crypt.encoded_len(key_len_or_default(params));
     let mut text = vec![in alloc; 0u8; len]?;
     match write_text(alloc, password, salt, params, key_at, &mut text) {
         Ok(()) => Ok(hash_of_text(text)),
@@ -111,14 +111,14 @@ fn write_text(
     text: &mut [u8],
 ) -> Result<()>
     requires key_at { key_at ≡ 14 + length (crypt64_of salt.now) }
-    requires room { length text.old ≡ key_at + 1 + encoded_len (made_len params.now) }
+    requires room { length text.old ≡ key_at + 1 + encoded_len (key_len_or_default params.now) }
     ensures made { OnOk result (IsMadeHash params.now password.now salt.now text.new) }
     ensures ascii { OnOk result (IsAscii text.new) }
     ensures memory { IfErr result (λ e. e ≡ OutOfMemory) }
 {
     write_costs_and_salt(text, params, salt);
-    let len = made_len(params);
-    let key = match short_key(alloc, password, &text[COSTS_LEN..key_at], params, len) {
+    let len = key_len_or_default(params);
+    let key = match key_in_array(alloc, password, &text[COSTS_LEN..key_at], params, len) {
         Ok(key) => key,
         Err(refused) => return Err(refused),
     };
@@ -133,14 +133,14 @@ fn write_costs_and_salt(out: &mut [u8], params: &Params, salt: &[u8])
         ++ (crypt64_of salt.now ++ drop (14 + length (crypt64_of salt.now)) out.old) }
     ensures accepted { AreAccepted params.now.log_n params.now.r params.now.p }
 {
-    out[..COSTS_LEN].copy_from_slice(&costs_of(params));
+    out[..COSTS_LEN].copy_from_slice(&cost_letters(params));
     let Ok(_) = Base64::Crypt.encode_slice(salt, &mut out[COSTS_LEN..]) else {
         unreachable!();
     };
 }
 
 // Returns `$7$` and the eleven letters of the costs.
-fn costs_of(params: &Params) -> [u8; COSTS_LEN]
+fn cost_letters(params: &Params) -> [u8; COSTS_LEN]
     ensures value { result ≡ costs_text params.now }
     ensures accepted { AreAccepted params.now.log_n params.now.r params.now.p }
 {

@@ -5,7 +5,7 @@ ghost use Rattle.scrypt.specs.McfHash.{Accepts, VerifyIsRefused};
 
 use crate::Scrypt;
 use crate::mcf::reading::read;
-use crate::stored_key::long_key;
+use crate::stored_key::key_in_vec;
 use password_hash::mcf::{PasswordHash, PasswordHashRef};
 use password_hash::{Error, PasswordVerifier, Result};
 use std::alloc::Global;
@@ -35,7 +35,7 @@ impl<'a> PasswordVerifier<PasswordHashRef<'a>> for Scrypt {
             Err(malformed) => return Err(malformed),
         };
         let len = stored.key_len;
-        let key = match long_key(alloc, password, stored.salt, &stored.params, len) {
+        let key = match key_in_vec(alloc, password, stored.salt, &stored.params, len) {
             Ok(key) => key,
             Err(refused) => return Err(refused),
         };

@@ -2,10 +2,10 @@
 
 ghost use Rattle.std.specs.Prelude.{◌≡◌, ◌<◌, ◌≤◌, ℕ, codes, IfOk, IfErr, unwrap_or};
 ghost use Rattle.password_hash.specs.Decimal.{IsDecimal};
-ghost use Rattle.password_hash.specs.Refusal.{BadParam, refusal};
+ghost use Rattle.password_hash.specs.Refusal.{ParamInvalid, refusal};
 ghost use Rattle.password_hash.specs.Value.{value_text};
 ghost use Rattle.scrypt.specs.Accepted.{IsStoredLen};
-ghost use Rattle.scrypt.specs.PhcConversions.{AnswersCosts, AnswersHashCosts, Writes, stored_len};
+ghost use Rattle.scrypt.specs.PhcConversions.{IsReadAs, HashIsReadAs, Writes, output_len_of};
 ghost use Rattle.scrypt.specs.PhcCosts.{written_pairs};
 
 use crate::Params;
@@ -15,7 +15,7 @@ use password_hash::{Error, Result};
 impl TryFrom<&ParamsString> for Params {
     type Error = Error;
 
-    ghost try_from_gives = { λ text answer. AnswersCosts text.now answer };
+    ghost try_from_gives = { λ text answer. IsReadAs text.now answer };
 
     /// Reads the costs `ln`, `r` and `p`. A missing one has its recommended value, and the result
     /// has no length of a stored key.
@@ -25,13 +25,13 @@ impl TryFrom<&ParamsString> for Params {
     /// other name. Otherwise returns `ParamsInvalid` if [`Params::new`] does not accept the
     /// numbers.
     fn try_from(text: &ParamsString) -> Result<Params> {
-        costs_of(text)
+        read_costs(text)
     }
 }
 
 // Reads the costs in the parameters of a hash.
-fn costs_of(text: &ParamsString) -> Result<Params>
-    ensures { AnswersCosts text.now result }
+fn read_costs(text: &ParamsString) -> Result<Params>
+    ensures { IsReadAs text.now result }
 {
     let mut log_n = Params::RECOMMENDED_LOG_N;
     let mut r = Params::RECOMMENDED_R;
@@ -54,7 +54,7 @@ fn costs_of(text: &ParamsString) -> Result<Params>
 fn log_n_of(value: Value<'_>) -> Result<u8>
     ensures ok { IfOk result (IsDecimal (value_text value.entry)) }
     ensures small { IfOk result (λ n. n ≤ 255) }
-    ensures refused { IfErr result (λ e. refusal e ≡ BadParam (codes "ln")) }
+    ensures refused { IfErr result (λ e. refusal e ≡ ParamInvalid (codes "ln")) }
     ensures large { IfErr result (λ e. (n : ℕ) → IsDecimal (value_text value.entry) n → 255 < n) }
 {
     let refused = Err(Error::ParamInvalid { name: "ln" });
@@ -70,7 +70,7 @@ fn log_n_of(value: Value<'_>) -> Result<u8>
 // Returns the value of a parameter, a decimal.
 fn number_of(value: Value<'_>, name: &'static str) -> Result<u32>
     ensures ok { IfOk result (IsDecimal (value_text value.entry)) }
-    ensures refused { IfErr result (λ e. refusal e ≡ BadParam name.now) }
+    ensures refused { IfErr result (λ e. refusal e ≡ ParamInvalid name.now) }
     ensures no_decimal { IfErr result (λ e. (n : ℕ) → ¬ IsDecimal (value_text value.entry) n) }
 {
     match value.decimal() {
@@ -82,7 +82,7 @@ fn number_of(value: Value<'_>, name: &'static str) -> Result<u32>
 impl TryFrom<&PasswordHash> for Params {
     type Error = Error;
 
-    ghost try_from_gives = { λ hash answer. AnswersHashCosts hash.now answer };
+    ghost try_from_gives = { λ hash answer. HashIsReadAs hash.now answer };
 
     /// Reads the costs of a hash, with the length of its key, or 32 if it has no key. The algorithm
     /// is ignored.
@@ -93,16 +93,16 @@ impl TryFrom<&PasswordHash> for Params {
         if hash.version.is_some() {
             return Err(Error::Version);
         }
-        match costs_of(&hash.params) {
-            Ok(costs) => Ok(costs.with_output_len(stored_len(hash))),
+        match read_costs(&hash.params) {
+            Ok(costs) => Ok(costs.with_output_len(output_len_of(hash))),
             Err(refused) => Err(refused),
         }
     }
 }
 
 // Returns the length of a hash's key in bytes, or 32 if it has no key.
-fn stored_len(hash: &PasswordHash) -> usize
-    ensures value { result ≡ stored_len hash.now.hash }
+fn output_len_of(hash: &PasswordHash) -> usize
+    ensures value { result ≡ output_len_of hash.now.hash }
     ensures stored { IsStoredLen result }
 {
     match &hash.hash {

@@ -6,7 +6,7 @@ ghost use Rattle.scrypt.specs.PhcHash.{HashIsRefused, IsMadeHash, IsScryptOrNone
 
 use crate::phc::ALG_ID;
 use crate::phc::costs::written;
-use crate::stored_key::{made_len, short_key};
+use crate::stored_key::{key_in_array, key_len_or_default};
 use crate::{Params, Scrypt};
 use password_hash::phc::{PasswordHash, Salt};
 use password_hash::{CustomizedPasswordHasher, Error, PasswordHasher, Result, Version};
@@ -60,7 +60,13 @@ impl CustomizedPasswordHasher<PasswordHash> for Scrypt {
         let Ok(salt) = Salt::new(salt) else {
             return Err(Error::SaltInvalid);
         };
-        match short_key(alloc, password, salt.as_bytes(), &params, made_len(&params)) {
+        match key_in_array(
+            alloc,
+            password,
+            salt.as_bytes(),
+            &params,
+            key_len_or_default(&params),
+        ) {
             Ok(key) => Ok(PasswordHash {
                 algorithm: ALG_ID,
                 version: None,

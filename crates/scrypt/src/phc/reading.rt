@@ -1,9 +1,8 @@
 // Reading PHC hashes.
 
-ghost use Rattle.std.specs.Prelude.{◌≡◌, ◌↔◌, IfErr, IfOk, IsTrue};
-ghost use Rattle.password_hash.specs.Refusal.{refusal};
-ghost use Rattle.scrypt.specs.Accepted.{without_len};
-ghost use Rattle.scrypt.specs.PhcHash.{IsWhole, ReadIsRefused, scrypt_id};
+ghost use Rattle.std.specs.Prelude.{◌≡◌, ◌≢◌, ◌↔◌, IfErr, IfOk, IsTrue};
+ghost use Rattle.password_hash.specs.Refusal.{PasswordInvalid, refusal};
+ghost use Rattle.scrypt.specs.PhcHash.{IsOfCosts, IsWhole, ReadIsRefused, scrypt_id};
 
 use crate::Params;
 use crate::phc::ALG_ID;
@@ -24,13 +23,10 @@ pub(crate) struct Stored<'a> {
 /// there is a version, the errors of reading the parameters, and `PasswordInvalid` if the salt or
 /// the key is missing.
 pub(crate) fn read(hash: &PasswordHash) -> Result<Stored<'_>>
-    ensures ok { IfOk result (λ stored. IsWhole hash.now (without_len stored.params) stored.salt.now stored.key.now) }
+    ensures ok { IfOk result (λ stored. IsWhole hash.now stored.params stored.salt.now stored.key.now) }
     ensures err { IfErr result (λ e. ReadIsRefused hash.now (refusal e)) }
 {
-    if !is_scrypt(&hash.algorithm) {
-        return Err(Error::Algorithm);
-    }
-    let params = match Params::try_from(hash) {
+    let params = match read_params(hash) {
         Ok(params) => params,
         Err(refused) => return Err(refused),
     };
@@ -45,6 +41,25 @@ pub(crate) fn read(hash: &PasswordHash) -> Result<Stored<'_>>
         salt: salt.as_bytes(),
         key,
     })
+}
+
+/// Reads the parameters of a hash, with no length. A hash without a salt or a key has parameters
+/// too.
+///
+/// Returns the first of these errors: `Algorithm` if the algorithm is not `scrypt`, `Version` if
+/// there is a version, and the errors of reading the parameters.
+pub(crate) fn read_params(hash: &PasswordHash) -> Result<Params>
+    ensures ok { IfOk result (IsOfCosts hash.now) }
+    ensures err { IfErr result (λ e. ReadIsRefused hash.now (refusal e)) }
+    ensures missing { IfErr result (λ e. refusal e ≢ PasswordInvalid) }
+{
+    if !is_scrypt(&hash.algorithm) {
+        return Err(Error::Algorithm);
+    }
+    if hash.version.is_some() {
+        return Err(Error::Version);
+    }
+    Params::try_from(&hash.params)
 }
 
 // Returns whether `id` is the name of scrypt.

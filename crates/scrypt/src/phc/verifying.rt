@@ -5,7 +5,7 @@ ghost use Rattle.scrypt.specs.PhcHash.{Accepts, VerifyIsRefused};
 
 use crate::Scrypt;
 use crate::phc::reading::read;
-use crate::stored_key::short_key;
+use crate::stored_key::key_in_array;
 use password_hash::phc::{Output, PasswordHash};
 use password_hash::{Error, PasswordVerifier, Result};
 use std::alloc::Global;
@@ -29,7 +29,7 @@ impl PasswordVerifier<PasswordHash> for Scrypt {
             Err(malformed) => return Err(malformed),
         };
         let len = stored.key.len();
-        let key = match short_key(alloc, password, stored.salt, &stored.params, len) {
+        let key = match key_in_array(alloc, password, stored.salt, &stored.params, len) {
             Ok(key) => key,
             Err(refused) => return Err(refused),
         };

@@ -1,5 +1,5 @@
 use Rattle.password_hash.specs.Crypt64.{crypt64_of}
-use Rattle.scrypt.specs.Hashing.{made_len}
+use Rattle.scrypt.specs.Hashing.{key_len_or_default}
 use Rattle.scrypt.specs.KeyOfParams.{key_by}
 use Rattle.scrypt.specs.McfHash.{IsWhole as IsMcfWhole}
 use Rattle.scrypt.specs.PhcHash.{IsWhole}
@@ -18,11 +18,11 @@ returns-clause-mcf_readable c password text why accepts refused = mcf_not_both r
 pub returns-clause-phc : goal.returns-clause-phc
 returns-clause-phc c costs password salt hash fits made weaker =
     let whole = made_whole costs password salt hash fits made in
-    let key = key_by costs password salt (made_len costs) in
-    made_is_not_weaker {IsWhole = IsWhole hash} (λ _ _ _ _ _ _. whole_once) costs salt key whole (length-key_by costs password salt (made_len costs)) weaker
+    let key = key_by costs password salt (key_len_or_default costs) in
+    made_is_not_weaker {IsWhole = IsWhole hash} (λ _ _ _ _ _ _. whole_once) costs salt key whole (length-key_by costs password salt (key_len_or_default costs)) weaker
 
 pub returns-clause-mcf : goal.returns-clause-mcf
 returns-clause-mcf c costs password salt text made weaker =
     let letters = crypt64_of salt in
-    let key = key_by costs password letters (made_len costs) in
-    made_is_not_weaker {IsWhole = IsMcfWhole text} (λ _ _ _ _ _ _. mcf_whole_once) costs letters key made (length-key_by costs password letters (made_len costs)) weaker
+    let key = key_by costs password letters (key_len_or_default costs) in
+    made_is_not_weaker {IsWhole = IsMcfWhole text} (λ _ _ _ _ _ _. mcf_whole_once) costs letters key made (length-key_by costs password letters (key_len_or_default costs)) weaker

@@ -1,7 +1,7 @@
 use Rattle.std.proofs.Common.{◌≡◌, ◌≤◌, ◌∙◌, ap, sym, refl, arith}
 use Rattle.std.specs.Prelude.{slice_index}
 use Rattle.std.proofs.lemmas.Bool.{ltb-false, ltb-true}
-use Rattle.scrypt.specs.McfCosts.{five_letter_number, malformed, not_accepted, accepted, SaysCosts}
+use Rattle.scrypt.specs.McfCosts.{five_letter_number, malformed, not_accepted, accepted, EncodesCosts}
 use Rattle.scrypt.proofs.McfCostsFacts.{empty_says_none, to_the_end}
 use Rattle.scrypt.proofs.mcf.costs.decode_params_and_salt.Goals as goal
 use Rattle.scrypt.proofs.mcf.costs.decode_params_and_salt.Goals.{After-new}
@@ -29,7 +29,7 @@ returns-in_default-decode64_uint32-2-clause-err c = malformed (λ log_n r p says
     cc)
 
 -- what the eleven bytes say
-says_at : (c : After-new) → SaysCosts c.args.text.now c.unwrap_or-log_n.result c.in-Ok.r c.in-Ok-decode64_uint32.p
+says_at : (c : After-new) → EncodesCosts c.args.text.now c.unwrap_or-log_n.result c.in-Ok.r c.in-Ok-decode64_uint32.p
 says_at c =
     let first : c.in-Some.first.now ≡ slice_index c.args.text.now 0 = rw (← c.as_bytes-bytes.ensures.value) (c.in-Some.ensures.item.3.1 0) in
     record {

@@ -9,4 +9,4 @@ returns-clause-written c =
     let letters = crypt64_of c.args.salt.now in
     let count : length c.copy_from_slice.new.self ≡ 14 = c.copy_from_slice.auto.self ∙ length-take-le 14 c.args.out.now (omega (arith, c.requires)) in
     put_after_front c.copy_from_slice.new.self c.args.out.now letters c.encode_slice.new.out count (omega (arith, c.requires)) c.in-Ok.ensures.written
-    ∙ ap (λ front. front ++ (letters ++ drop (14 + length letters) c.args.out.now)) (c.copy_from_slice.ensures.after ∙ c.costs_of.ensures.value)
+    ∙ ap (λ front. front ++ (letters ++ drop (14 + length letters) c.args.out.now)) (c.copy_from_slice.ensures.after ∙ c.cost_letters.ensures.value)

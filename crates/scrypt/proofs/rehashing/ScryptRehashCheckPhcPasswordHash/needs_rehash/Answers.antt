@@ -1,5 +1,4 @@
 use Rattle.std.proofs.Common.{sym}
-use Rattle.scrypt.specs.Accepted.{without_len}
 use Rattle.scrypt.specs.PhcHash.{IsWhole}
 use Rattle.scrypt.proofs.PhcHashFacts.{whole_once}
 use Rattle.scrypt.proofs.RehashFacts.{below_is_weaker, same_below, weaker_is_below}
@@ -8,7 +7,7 @@ use Rattle.scrypt.proofs.rehashing.ScryptRehashCheckPhcPasswordHash.needs_rehash
 pub returns-in-Ok-clause-weak : goal.returns-in-Ok-clause-weak
 returns-in-Ok-clause-weak c =
     let stored = c.in-Ok.stored in
-    let costs = without_len stored.params in
+    let costs = stored.params in
     let whole = c.in-Ok.ensures.ok in
     let params = c.params.ensures in
     let len = c.len.ensures.value in (

@@ -15,15 +15,15 @@ returns-in-Err-clause-wrong c told h = not_both c.in-Err.ensures.err h.whole
 pub returns-in-Err-clause-err : goal.returns-in-Err-clause-err
 returns-in-Err-clause-err c = by_verdict (refused c.in-Err.ensures.err)
 
-pub returns-in-Err-long_key-clause-err : goal.returns-in-Err-long_key-clause-err
-returns-in-Err-long_key-clause-err c = rw c.in-Err-long_key.ensures.memory (for_memory c.in-Ok.ensures.ok.3)
+pub returns-in-Err-key_in_vec-clause-err : goal.returns-in-Err-key_in_vec-clause-err
+returns-in-Err-key_in_vec-clause-err c = rw c.in-Err-key_in_vec.ensures.memory (for_memory c.in-Ok.ensures.ok.3)
 
 -- the stored key is not the derived one, since its letters are other ones
 differs_at : (c : Then-not-base64_matches)
     → c.in-Ok.ensures.ok.0 ≢ key_by c.in-Ok.stored.params c.args.password.now c.in-Ok.stored.salt.now (length c.in-Ok.ensures.ok.0)
 differs_at c same =
     let stored = c.in-Ok.ensures.ok in
-    let derived = same ∙ ap (key_by c.in-Ok.stored.params c.args.password.now c.in-Ok.stored.salt.now) stored.2 ∙ sym c.in-Ok-long_key.ensures.value ∙ sym c.as_slice.ensures.value in
+    let derived = same ∙ ap (key_by c.in-Ok.stored.params c.args.password.now c.in-Ok.stored.salt.now) stored.2 ∙ sym c.in-Ok-key_in_vec.ensures.value ∙ sym c.as_slice.ensures.value in
     let yes = c.base64_matches.ensures.exact.1 (subst (λ k. Crypt64 k (field_text c.in-Ok.stored.key)) derived stored.1) in
     cc
 
@@ -43,5 +43,5 @@ returns-clause-ok c =
       salt = c.in-Ok.stored.salt.now;
       stored = stored.0;
       whole = stored.3;
-      right = same ∙ c.as_slice.ensures.value ∙ c.in-Ok-long_key.ensures.value ∙ ap (key_by c.in-Ok.stored.params c.args.password.now c.in-Ok.stored.salt.now) (sym stored.2);
+      right = same ∙ c.as_slice.ensures.value ∙ c.in-Ok-key_in_vec.ensures.value ∙ ap (key_by c.in-Ok.stored.params c.args.password.now c.in-Ok.stored.salt.now) (sym stored.2);
     }

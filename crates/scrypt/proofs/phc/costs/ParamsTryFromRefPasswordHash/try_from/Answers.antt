@@ -10,4 +10,4 @@ returns-in-Ok c =
     let read : ReadsCosts c.args.hash.now.params (Ok costs) = c.in-Ok.ensures in
     let same : without_len c.with_output_len.result ≡ costs = ap without_len c.with_output_len.ensures ∙ without_len_is costs (read_without_len read) in
     let no_version : c.args.hash.now.version ≡ None = search rules in
-    (no_version, rw same read, ap (λ z. z.output_len) c.with_output_len.ensures ∙ ap Some c.stored_len.ensures.value)
+    (no_version, rw same read, ap (λ z. z.output_len) c.with_output_len.ensures ∙ ap Some c.output_len_of.ensures.value)

@@ -20,8 +20,8 @@ returns-in-Err-clause-err c =
     rw c.in-Err.ensures.memory
     (by_memory (c.is_scrypt_or_none.ensures.0 (search rules)) (search rules) (c.in-Ok.ensures.exact.0 refl))
 
-pub returns-in-Ok-short_key-clause-ok : goal.returns-in-Ok-short_key-clause-ok
-returns-in-Ok-short_key-clause-ok c = (
+pub returns-in-Ok-key_in_array-clause-ok : goal.returns-in-Ok-key_in_array-clause-ok
+returns-in-Ok-key_in_array-clause-ok c = (
   c.is_scrypt_or_none.ensures.0 (search rules),
   search rules,
   record {

@@ -1,5 +1,4 @@
 use Rattle.std.proofs.Common.{◌≢◌, length, sym, ◌∙◌, ap}
-use Rattle.scrypt.specs.Accepted.{without_len}
 use Rattle.scrypt.specs.KeyOfParams.{key_by}
 use Rattle.scrypt.specs.Verifying.{refused, wrong, by_verdict, for_memory}
 use Rattle.scrypt.proofs.PhcHashFacts.{not_both, whole_once}
@@ -13,14 +12,14 @@ returns-in-Err-clause-wrong c told h = not_both c.in-Err.ensures.err h.whole
 pub returns-in-Err-clause-err : goal.returns-in-Err-clause-err
 returns-in-Err-clause-err c = by_verdict (refused c.in-Err.ensures.err)
 
-pub returns-in-Err-short_key-clause-err : goal.returns-in-Err-short_key-clause-err
-returns-in-Err-short_key-clause-err c = rw c.in-Err-short_key.ensures.memory (for_memory c.in-Ok.ensures.ok)
+pub returns-in-Err-key_in_array-clause-err : goal.returns-in-Err-key_in_array-clause-err
+returns-in-Err-key_in_array-clause-err c = rw c.in-Err-key_in_array.ensures.memory (for_memory c.in-Ok.ensures.ok)
 
 -- the stored key is not the derived one
 differs_at : (c : Then-not-are_equal)
-    → c.in-Ok.stored.key.now ≢ key_by (without_len c.in-Ok.stored.params) c.args.password.now c.in-Ok.stored.salt.now (length c.in-Ok.stored.key.now)
+    → c.in-Ok.stored.key.now ≢ key_by c.in-Ok.stored.params c.args.password.now c.in-Ok.stored.salt.now (length c.in-Ok.stored.key.now)
 differs_at c same =
-    let derived = c.in-Ok-short_key.ensures.value
+    let derived = c.in-Ok-key_in_array.ensures.value
     ∙ ap (key_by c.in-Ok.stored.params c.args.password.now c.in-Ok.stored.salt.now) c.len-len.ensures.value in
     let yes = c.are_equal.ensures.1 (same ∙ sym derived) in
     cc

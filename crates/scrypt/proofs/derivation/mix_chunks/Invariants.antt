@@ -1,0 +1,16 @@
+use Rattle.std.proofs.Common.{◌≡◌, ◌≤◌, ◌+◌, ◌*◌}
+use Rattle.scrypt.specs.Cost.{extra_rows_of_chunks, ro_mix_cost}
+use Rattle.scrypt.proofs.KeyFacts.{AreMixed}
+use Rattle.scrypt.proofs.derivation.mix_chunks.Given as goal
+
+abbrev pub invariant-chunks : goal.invariant-chunks
+invariant-chunks g l =
+    let log_n = l.params.log_n in
+    let r = l.params.r in
+    let cores = ro_mix_cost log_n r * l.i + 2 * r * extra_rows_of_chunks l.initial.chunks log_n l.s r l.i in
+    record {
+      mixed : AreMixed l.initial.chunks log_n r l.i l.chunks;
+      room : g.M.Memory.room l.fn.rows ≤ g.M.Memory.room l.rows;
+      all : l.cores.all ≡ l.initial.cores.all + cores;
+      lanes : l.cores.lanes ≡ l.initial.cores.lanes + cores;
+    }

@@ -1,0 +1,23 @@
+use Rattle.std.proofs.Common.{sym}
+use Rattle.scrypt.specs.StoredHash.{phc}
+use Rattle.scrypt.proofs.McfRefusalFacts.{refused_otherwise}
+use Rattle.scrypt.proofs.StoredHashFacts.{as_mcf, as_phc, mcf_refused, phc_refused}
+use Rattle.scrypt.proofs.stored_hash.StoredHash.params_and_key_len.Goals as goal
+
+pub returns-in-Err-clause-err : goal.returns-in-Err-clause-err
+returns-in-Err-clause-err c =
+    let read = as_mcf c.self.view_is c.in-Mcf.is c.self.invariant in
+    mcf_refused read.0 read.1 _ (rw read.2 at c.in-Err.ensures.err)
+
+pub returns-in-Err-clause-missing : goal.returns-in-Err-clause-missing
+returns-in-Err-clause-missing c = refused_otherwise c.in-Err.ensures.err
+
+pub returns-in-Ok-read_params-clause-ok : goal.returns-in-Ok-read_params-clause-ok
+returns-in-Ok-read_params-clause-ok c =
+    let read = as_phc c.self.view_is c.in-Phc.is c.self.invariant in
+    phc read.0 read.1 (c.in-Ok-read_params.ensures.ok, sym c.key_len.ensures)
+
+pub returns-in-Err-read_params-clause-err : goal.returns-in-Err-read_params-clause-err
+returns-in-Err-read_params-clause-err c =
+    let read = as_phc c.self.view_is c.in-Phc.is c.self.invariant in
+    phc_refused read.0 read.1 _ c.in-Err-read_params.ensures.err

@@ -1,0 +1,101 @@
+// Verifying, in every format, with any source of memory.
+
+ghost use Rattle.std.specs.Prelude.{◌≡◌, ◌↔◌, ℕ, ◌+◌, ◌*◌, ◌^◌, ◌≤◌, List, length, replicate, IsTrue};
+ghost use Rattle.scrypt.specs.Accepted.{IsOutputLen};
+ghost use Rattle.scrypt.specs.Cost.{chunks_bytes, cost, scratch_words, table_words};
+ghost use Rattle.scrypt.specs.InBuffers.{AreEnough};
+ghost use Rattle.scrypt.specs.KeyOfParams.{key_by};
+ghost use Rattle.scrypt.specs.WorkInBuffers.{IsComparing};
+
+use crate::comparing::{StoredKey, is_derived_key};
+use crate::derivation::mix_chunks;
+use crate::{BufferLens, CoreCount, Params};
+use password_hash::{Error, Result};
+use scrypt_kernel::memory::{Buffer, Memory};
+
+// Derives the key of the stored one's length, in any memory, and returns whether it is the stored
+// key. Zeros are in the chunks and the scratch then.
+fn is_key_of<M: Memory, K: StoredKey>(
+    password: &[u8],
+    salt: &[u8],
+    params: &Params,
+    key: &K,
+    key_len: usize,
+    chunks: &mut [u8],
+    rows: &mut M,
+    scratch: &mut [u32],
+    cores: &mut CoreCount,
+) -> bool
+    requires len { IsOutputLen key_len }
+    requires key { (bytes : List ℕ) × K.is_key key.now bytes × (length bytes ≡ key_len) }
+    requires chunks { length chunks.old ≡ chunks_bytes params.now.r params.now.p }
+    requires room { table_words params.now.log_n params.now.r ≤ M.room rows.old }
+    requires scratch { length scratch.old ≡ scratch_words params.now.r }
+    ensures exact { (bytes : List ℕ) → K.is_key key.now bytes → length bytes ≡ key_len
+        → IsTrue result ↔ (bytes ≡ key_by params.now password.now salt.now key_len) }
+    ensures all { cores.new.all ≡ cores.old.all
+        + cost params.now.log_n params.now.r params.now.p }
+    ensures lanes { cores.new.lanes ≡ cores.old.lanes
+        + cost params.now.log_n params.now.r params.now.p }
+    ensures chunks { chunks.new ≡ replicate (length chunks.old) 0 }
+    ensures scratch { scratch.new ≡ replicate (length scratch.old) 0 }
+{
+    mix_chunks::<M>(password, salt, params, 0, chunks, rows, scratch, cores);
+    let same = is_derived_key(password, chunks, key, key_len);
+    chunks.fill(0);
+    scratch.fill(0);
+    same
+}
+
+/// Verifies with the parts of a hash, in the caller's buffers. Does not allocate.
+///
+/// Returns `OutOfMemory` exactly if a buffer is too short for `params`, and changes nothing then, and
+/// otherwise `PasswordInvalid` if the keys differ.
+pub(crate) fn verify_in_buffers<K: StoredKey>(
+    password: &[u8],
+    salt: &[u8],
+    params: &Params,
+    key: &K,
+    key_len: usize,
+    chunks: &mut [u8],
+    table: &mut [u32],
+    scratch: &mut [u32],
+    cores: &mut CoreCount,
+) -> Result<()>
+    requires len { IsOutputLen key_len }
+    requires key { (bytes : List ℕ) × K.is_key key.now bytes × (length bytes ≡ key_len) }
+    ensures compared { (bytes : List ℕ) → K.is_key key.now bytes → length bytes ≡ key_len
+        → IsComparing params.now salt.now bytes password.now result
+        (record { chunks = chunks.old; table = table.old; scratch = scratch.old; all = cores.old.all; lanes = cores.old.lanes })
+        (record { chunks = chunks.new; table = table.new; scratch = scratch.new; all = cores.new.all; lanes = cores.new.lanes }) }
+{
+    if !are_enough(params, chunks, table, scratch) {
+        return Err(Error::OutOfMemory);
+    }
+    let lens = BufferLens::of(params);
+    let mut rows = Buffer::new(table);
+    let same = is_key_of::<Buffer<'_>, K>(
+        password,
+        salt,
+        params,
+        key,
+        key_len,
+        &mut chunks[..lens.chunks],
+        &mut rows,
+        &mut scratch[..lens.scratch],
+        cores,
+    );
+    if same {
+        Ok(())
+    } else {
+        Err(Error::PasswordInvalid)
+    }
+}
+
+// Returns whether the buffers are long enough for these parameters.
+fn are_enough(params: &Params, chunks: &[u8], table: &[u32], scratch: &[u32]) -> bool
+    ensures exact { IsTrue result ↔ AreEnough params.now chunks.now table.now scratch.now }
+{
+    let lens = BufferLens::of(params);
+    lens.chunks <= chunks.len() && lens.table <= table.len() && lens.scratch <= scratch.len()
+}
