@@ -1,12 +1,12 @@
--- The words of each command: five after `key`, five or six after `hash`, one after `verify`, seven after `rehash`.
-pub mod WordsFacts
--- Faults and the refusals that they report.
-pub mod FaultFacts
--- What verifying answers and refuses, for both formats.
+-- The arguments of each command: five after `key`, five or six after `hash`, one after `verify`, seven after `rehash`.
+pub mod ArgsFacts
+-- Errors and the refusals that they report.
+pub mod CliErrorFacts
+-- What verifying returns, and that its errors name no other parameter than `ln`, `r` and `p`.
 pub mod VerdictFacts
--- What the words ask for, and what they are refused for.
+-- What the arguments ask for, and what they are refused for.
 pub mod CommandFacts
 -- The outcome of a run.
 pub mod OutcomeFacts
--- For the same words and input the program has one outcome.
+-- For the same arguments and input the program has one outcome, by the laws of hashes and of their texts.
 pub mod UniqueOutcome

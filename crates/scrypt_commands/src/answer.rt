@@ -1,96 +1,157 @@
-// The line that answers a command.
+// The answer to a command.
 
-ghost use Rattle.std.specs.Prelude.{◌≡◌, ◌⊎◌, ◌++◌, IfOk, IfErr, None, codes, if◌then◌else◌, string_bytes};
+ghost use Rattle.std.specs.Prelude.{◌≡◌, ◌⊎◌, ◌↔◌, ◌++◌, false, IfOk, IfErr, IsTrue, None, Some, codes, string_bytes};
 ghost use Rattle.hex.specs.Hex.{encode_lower};
+ghost use Rattle.password_hash.specs.Refusal.{PasswordInvalid};
 ghost use Rattle.scrypt.specs.Accepted.{IsOutputLen};
 ghost use Rattle.scrypt.specs.KeyOfParams.{key_by};
-ghost use Rattle.scrypt.specs.PhcHash.{HashIsRefused};
 ghost use Rattle.scrypt.specs.McfHash.{IsMadeHash as IsMadeMcf};
-ghost use Rattle.scrypt_commands.specs.Command.{HasAllowedLen, IsPossible};
-ghost use Rattle.scrypt_commands.specs.Fault.{IsHashFault};
-ghost use Rattle.scrypt_commands.specs.Outcome.{Gives, IsHashSaltRefused, IsMadeHashText, IsMadePhcText, IsMadeText, IsSaltRefused, Refuses};
-ghost use Rattle.scrypt_commands.specs.declared.fault.Fault.TheVariants.{OutOfMemory};
+ghost use Rattle.scrypt.specs.PhcHash.{HashIsRefused};
+ghost use Rattle.scrypt.specs.StoredHash.{Accepts, IsReadableText, IsWeakerText, Verdict};
+ghost use Rattle.scrypt_commands.specs.CliError.{IsHashError};
+ghost use Rattle.scrypt_commands.specs.Command.{HasAllowedLen};
+ghost use Rattle.scrypt_commands.specs.Outcome.{Gives, IsAnswer, IsHashSaltRefused, IsMadeHashText, IsMadeText, IsSaltRefused, IsVerdictError, Refuses};
+ghost use Rattle.scrypt_commands.specs.Steps.{IsPossible, answer_line, answer_status, request_of};
+ghost use Rattle.scrypt_commands.specs.declared.args.Format.TheVariants.{Phc};
+ghost use Rattle.scrypt_commands.specs.declared.error.CliError.TheVariants.{OutOfMemory};
 
+use crate::args::{Format, Target};
 use crate::command::Command;
-use crate::fault::Fault;
-use crate::words::{Format, Product};
+use crate::error::CliError;
 use password_hash::{PasswordHasher, mcf, phc};
-use scrypt::{Params, Scrypt, scrypt};
+use scrypt::laws::stored_texts_have_one_reading;
+use scrypt::{Params, Scrypt, StoredHash, scrypt};
 use std::alloc::Global;
 
-/// The exit status, and the line for the output with its newline.
+/// The answer to a command.
 #[derive(Drop)]
-pub struct Answer {
-    pub status: u8,
-    pub line: String,
+pub enum Answer {
+    /// Whether the password is that of the hash.
+    Verdict { right: bool },
+    /// What was made of the password, and a newline.
+    Made { line: String },
+}
+
+impl Answer {
+    /// Returns the exit status: 1 if the password is wrong, and 0 otherwise.
+    pub fn status(&self) -> u8
+        ensures value { result ≡ answer_status self.now }
+        ensures answered { IsAnswer result }
+    {
+        match self {
+            Answer::Verdict { right: true } => 0,
+            Answer::Verdict { right: false } => 1,
+            Answer::Made { .. } => 0,
+        }
+    }
+
+    /// Returns the line for the output, with its newline.
+    pub fn line(&self) -> &str
+        ensures value { result.now ≡ answer_line self.now }
+    {
+        match self {
+            Answer::Verdict { right: true } => "ok\n",
+            Answer::Verdict { right: false } => "no\n",
+            Answer::Made { line } => line.as_str(),
+        }
+    }
 }
 
 impl<'a> Command<'a> {
-    /// Answers the command on this input.
+    /// Answers the command on this input, which is the password.
     ///
-    /// Returns `HashRefused` if hashing or verifying refuses, and `OutOfMemory`.
-    #[tactic(auto, using(crate::proofs::VerdictFacts::right_readable, crate::proofs::VerdictFacts::wrong_not_due))]
-    pub fn answer(&self, alloc: Global, input: &[u8]) -> Result<Answer, Fault>
-        requires { IsPossible self.now }
+    /// Returns `HashRefused` if hashing or verifying refuses, and `OutOfMemory` if an allocation
+    /// fails.
+    pub fn answer(&self, alloc: Global, input: &[u8]) -> Result<Answer, CliError>
+        requires possible { IsPossible (request_of self.now) }
         ensures ok { IfOk result (λ answer.
-            Gives self.now input.now answer.status (string_bytes answer.line)) }
-        ensures err { IfErr result (λ fault.
-            (fault ≡ OutOfMemory) ⊎ Refuses self.now input.now fault) }
+            Gives (request_of self.now) input.now (answer_status answer) (answer_line answer)) }
+        ensures err { IfErr result (λ error.
+            (error ≡ OutOfMemory) ⊎ Refuses (request_of self.now) input.now error) }
     {
         match self {
             Command::Make {
-                product,
+                target,
                 params,
                 salt,
-            } => on_a_line(0, make(alloc, input, salt, params, product)?),
-            Command::Verify { hash } => verdict(alloc, hash.verify(alloc, input)?),
+            } => on_a_line(make(alloc, input, salt, params, target)?),
+            Command::Verify { hash } => {
+                let right = verify(alloc, hash, input)?;
+                Ok(Answer::Verdict { right })
+            }
             Command::Rehash {
                 format,
                 params,
                 salt,
                 hash,
             } => {
-                let right = hash.verify(alloc, input)?;
-                if right && hash.is_weaker(params) {
-                    on_a_line(0, make_hash(alloc, input, salt, params, *format)?)
+                let right = verify(alloc, hash, input)?;
+                if right && is_weaker(hash, params) {
+                    on_a_line(make_hash(alloc, input, salt, params, *format)?)
                 } else {
-                    verdict(alloc, right)
+                    Ok(Answer::Verdict { right })
                 }
             }
         }
     }
 }
 
-// The text of what is made of the password.
+// Returns whether the password is that of the hash.
+fn verify(alloc: Global, hash: &StoredHash<'_>, password: &[u8]) -> Result<bool, CliError>
+    ensures right { IfOk result (λ right. IsTrue right ↔ Accepts password.now hash.now) }
+    ensures wrong { IfOk result (λ right. right ≡ false → Verdict password.now hash.now (Some PasswordInvalid)) }
+    ensures err { IfErr result (λ error.
+        (error ≡ OutOfMemory) ⊎ IsVerdictError password.now hash.now error) }
+{
+    match hash.verify(alloc, password) {
+        Ok(()) => Ok(true),
+        Err(refused) => match CliError::of(refused) {
+            Some(error) => Err(error),
+            None => Ok(false),
+        },
+    }
+}
+
+// Returns whether the hash is weaker than these parameters. A hash that accepts a password can be
+// read, so there is no error.
+fn is_weaker(hash: &StoredHash<'_>, wanted: &Params) -> bool
+    requires { IsReadableText hash.now }
+    ensures { IsTrue result ↔ IsWeakerText wanted.now hash.now }
+{
+    stored_texts_have_one_reading();
+    hash.needs_rehash(wanted).unwrap()
+}
+
+// Returns the text of what is made of the password.
 fn make(
     alloc: Global,
     password: &[u8],
     salt: &[u8],
     params: &Params,
-    product: &Product,
-) -> Result<String, Fault>
-    requires { HasAllowedLen product.now }
+    target: &Target,
+) -> Result<String, CliError>
+    requires { HasAllowedLen target.now }
     ensures ok { IfOk result (λ text.
-        IsMadeText product.now params.now salt.now password.now (string_bytes text)) }
-    ensures err { IfErr result (λ fault. (fault ≡ OutOfMemory) ⊎ IsSaltRefused product.now salt.now fault) }
+        IsMadeText target.now params.now password.now salt.now (string_bytes text)) }
+    ensures err { IfErr result (λ error. (error ≡ OutOfMemory) ⊎ IsSaltRefused target.now salt.now error) }
 {
-    match product {
-        Product::Key { len } => key(alloc, password, salt, params, *len),
-        Product::Hash { format, .. } => make_hash(alloc, password, salt, params, *format),
+    match target {
+        Target::Key { len } => key(alloc, password, salt, params, *len),
+        Target::Hash { format, .. } => make_hash(alloc, password, salt, params, *format),
     }
 }
 
-// The text of the hash of this format that these parameters make.
+// Returns the text of the hash of this format.
 fn make_hash(
     alloc: Global,
     password: &[u8],
     salt: &[u8],
     params: &Params,
     format: Format,
-) -> Result<String, Fault>
+) -> Result<String, CliError>
     ensures ok { IfOk result (λ text.
-        IsMadeHashText format params.now salt.now password.now (string_bytes text)) }
-    ensures err { IfErr result (λ fault. (fault ≡ OutOfMemory) ⊎ IsHashSaltRefused format salt.now fault) }
+        IsMadeHashText format params.now password.now salt.now (string_bytes text)) }
+    ensures err { IfErr result (λ error. (error ≡ OutOfMemory) ⊎ IsHashSaltRefused format salt.now error) }
 {
     match format {
         Format::Phc => phc_hash(alloc, password, salt, params),
@@ -98,29 +159,35 @@ fn make_hash(
     }
 }
 
-// The derived key of `len` bytes in lower-case hexadecimal.
+// Returns the derived key of `len` bytes in lower-case hexadecimal.
 fn key(
     alloc: Global,
     password: &[u8],
     salt: &[u8],
     params: &Params,
     len: usize,
-) -> Result<String, Fault>
+) -> Result<String, CliError>
     requires { IsOutputLen len }
     ensures ok { IfOk result (λ text.
         string_bytes text ≡ encode_lower (key_by params.now password.now salt.now len)) }
-    ensures err { IfErr result (λ fault. fault ≡ OutOfMemory) }
+    ensures err { IfErr result (λ error. error ≡ OutOfMemory) }
 {
     let mut key = vec![in alloc; 0u8; len]?;
     scrypt(alloc, password, salt, params, &mut key)?;
     Ok(hex::encode(alloc, key.as_slice())?)
 }
 
-// The text of the PHC hash that these parameters make.
-fn phc_hash(alloc: Global, password: &[u8], salt: &[u8], params: &Params) -> Result<String, Fault>
-    ensures ok { IfOk result (λ text. IsMadePhcText params.now salt.now password.now (string_bytes text)) }
-    ensures err { IfErr result (λ fault.
-        (fault ≡ OutOfMemory) ⊎ IsHashFault (HashIsRefused salt.now None None) fault) }
+// Returns the text of the PHC hash.
+fn phc_hash(
+    alloc: Global,
+    password: &[u8],
+    salt: &[u8],
+    params: &Params,
+) -> Result<String, CliError>
+    ensures ok { IfOk result (λ text.
+        IsMadeHashText Phc params.now password.now salt.now (string_bytes text)) }
+    ensures err { IfErr result (λ error.
+        (error ≡ OutOfMemory) ⊎ IsHashError (HashIsRefused salt.now None None) error) }
 {
     let hasher = Scrypt::new_with_params(*params);
     let made: password_hash::Result<phc::PasswordHash> = hasher.hash_password_with_salt(
@@ -128,46 +195,37 @@ fn phc_hash(alloc: Global, password: &[u8], salt: &[u8], params: &Params) -> Res
     );
     match made {
         Ok(hash) => Ok(hash.to_string(alloc)?),
-        Err(error) => Err(Fault::of(error).unwrap()),
+        Err(refused) => Err(CliError::of(refused).unwrap()),
     }
 }
 
-// The text of the `$7$` hash that these parameters make.
-fn mcf_hash(alloc: Global, password: &[u8], salt: &[u8], params: &Params) -> Result<String, Fault>
+// Returns the text of the `$7$` hash.
+fn mcf_hash(
+    alloc: Global,
+    password: &[u8],
+    salt: &[u8],
+    params: &Params,
+) -> Result<String, CliError>
     ensures ok { IfOk result (λ text. IsMadeMcf params.now password.now salt.now (string_bytes text)) }
-    ensures err { IfErr result (λ fault. fault ≡ OutOfMemory) }
+    ensures err { IfErr result (λ error. error ≡ OutOfMemory) }
 {
     let hasher = Scrypt::new_with_params(*params);
     let made: password_hash::Result<mcf::PasswordHash> = hasher.hash_password_with_salt(
         alloc, password, salt,
     );
     match made {
-        Ok(hash) => Ok(String::from_str(alloc, hash.as_str())?),
-        Err(error) => Err(Fault::of(error).unwrap()),
+        Ok(hash) => Ok(hash.into_string()),
+        Err(refused) => Err(CliError::of(refused).unwrap()),
     }
 }
 
-// The line of a verdict on a password.
-fn verdict(alloc: Global, right: bool) -> Result<Answer, Fault>
-    ensures status { IfOk result (λ answer. answer.status ≡ (if right then 0 else 1)) }
-    ensures line { IfOk result (λ answer.
-        string_bytes answer.line ≡ (if right then codes "ok\n" else codes "no\n")) }
-    ensures err { IfErr result (λ fault. fault ≡ OutOfMemory) }
-{
-    if right {
-        on_a_line(0, String::from_str(alloc, "ok")?)
-    } else {
-        on_a_line(1, String::from_str(alloc, "no")?)
-    }
-}
-
-// This text on a line.
-fn on_a_line(status: u8, text: String) -> Result<Answer, Fault>
-    ensures status { IfOk result (λ answer. answer.status ≡ status) }
-    ensures line { IfOk result (λ answer. string_bytes answer.line ≡ string_bytes text ++ codes "\n") }
-    ensures err { IfErr result (λ fault. fault ≡ OutOfMemory) }
+// Returns this text on a line.
+fn on_a_line(text: String) -> Result<Answer, CliError>
+    ensures status { IfOk result (λ answer. answer_status answer ≡ 0) }
+    ensures line { IfOk result (λ answer. answer_line answer ≡ string_bytes text ++ codes "\n") }
+    ensures err { IfErr result (λ error. error ≡ OutOfMemory) }
 {
     let mut line = text;
     line.push('\n')?;
-    Ok(Answer { status, line })
+    Ok(Answer::Made { line })
 }

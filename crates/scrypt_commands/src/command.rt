@@ -1,24 +1,26 @@
-// What the words ask for.
+// What the arguments ask for.
 
 ghost use Rattle.std.specs.Prelude.{◌≡◌, ◌⊎◌, IfOk, IfErr, IsErr, IsOk, IsTrue, Ok, ◌↔◌};
 ghost use Rattle.hex.specs.Hex.{decode_of};
+ghost use Rattle.scrypt.specs.StoredHash.{IsStoredText};
+ghost use Rattle.scrypt_commands.specs.Args.{MakeArgs, RehashArgs, VerifyArgs, texts_of};
 ghost use Rattle.scrypt_commands.specs.Command.{AreParamsAccepted, AreRefused, AreSaltAndParams, AskFor, HasAllowedLen, IsRefused, IsSaltOrParamsRefused, Means, params_of};
-ghost use Rattle.scrypt_commands.specs.Words.{MakeWords, RehashWords, VerifyWords, texts_of};
-ghost use Rattle.scrypt_commands.specs.declared.fault.Fault.TheVariants.{OutOfMemory, SaltNotHex};
+ghost use Rattle.scrypt_commands.specs.Steps.{request_of};
+ghost use Rattle.scrypt_commands.specs.declared.error.CliError.TheVariants.{HashRefused, OutOfMemory, SaltNotHex};
+ghost use Rattle.scrypt_commands.specs.declared.error.HashError.TheVariants.{EncodingInvalid};
 
-use crate::fault::{Fault, HashFault};
-use crate::stored_hash::StoredHash;
-use crate::words::{Format, Numbers, Product, Words};
+use crate::args::{Args, Format, Target, UncheckedParams};
+use crate::error::{CliError, HashError};
 use hex::FromHexError;
-use scrypt::{InvalidParams, Params, output_len_ok};
+use scrypt::{InvalidParams, Params, StoredHash, output_len_ok};
 use std::alloc::Global;
 
-/// What the words ask for.
+/// What the arguments ask for.
 #[derive(Drop)]
 pub enum Command<'a> {
     /// The key or the text of the hash that is made of the password.
     Make {
-        product: Product,
+        target: Target,
         params: Params,
         salt: Vec<u8>,
     },
@@ -26,8 +28,8 @@ pub enum Command<'a> {
     Verify {
         hash: StoredHash<'a>,
     },
-    /// The verdict on the password, or a new hash of this format if the password is right and the old hash
-    /// is weaker than these parameters.
+    /// The verdict on the password, or a new hash of this format if the password is right and the
+    /// old hash is weaker than these parameters.
     Rehash {
         format: Format,
         params: Params,
@@ -37,147 +39,160 @@ pub enum Command<'a> {
 }
 
 impl<'a> Command<'a> {
-    /// Reads the words after the program's name.
+    /// Constructs the command of the arguments after the program's name.
     ///
-    /// Refuses them for the first of these that is wrong: `Usage`, `SaltNotHex`, `InvalidParams`,
-    /// `InvalidOutputLen`, and `HashRefused` by `EncodingInvalid`. Returns `OutOfMemory` if the memory
-    /// for the salt is not available.
-    pub fn read(alloc: Global, words: &'a [String]) -> Result<Command<'a>, Fault>
-        ensures ok { IfOk result (AskFor (texts_of words.now)) }
-        ensures err { IfErr result (λ fault.
-            (fault ≡ OutOfMemory) ⊎ AreRefused (texts_of words.now) fault) }
+    /// Returns the error of the first of these that is wrong: `Usage`, `SaltNotHex`,
+    /// `InvalidParams`, `InvalidOutputLen`, and `HashRefused` with `EncodingInvalid`. Returns
+    /// `OutOfMemory` if the allocation of the salt fails.
+    pub fn from_args(alloc: Global, args: &'a [String]) -> Result<Command<'a>, CliError>
+        ensures ok { IfOk result (λ command. AskFor (texts_of args.now) (request_of command)) }
+        ensures err { IfErr result (λ error.
+            (error ≡ OutOfMemory) ⊎ AreRefused (texts_of args.now) error) }
     {
-        let Some(words) = Words::read(words) else {
-            return Err(Fault::Usage);
+        let Some(args) = Args::parse(args) else {
+            return Err(CliError::Usage);
         };
-        match words {
-            Words::Make {
-                product,
-                numbers,
+        match args {
+            Args::Make {
+                target,
+                unchecked,
                 salt_hex,
-            } => read_make(alloc, product, numbers, salt_hex),
-            Words::Verify { text } => read_verify(text),
-            Words::Rehash {
+            } => make_command(alloc, target, unchecked, salt_hex),
+            Args::Verify { text } => verify_command(text),
+            Args::Rehash {
                 format,
-                numbers,
+                unchecked,
                 len,
                 salt_hex,
                 text,
-            } => read_rehash(alloc, format, numbers, len, salt_hex, text),
+            } => rehash_command(alloc, format, unchecked, len, salt_hex, text),
         }
     }
 }
 
-// The command that makes this product, from its numbers and the digits of its salt.
-fn read_make<'a>(
+// Returns the command that makes this target, with these parameters and the salt of these digits.
+fn make_command<'a>(
     alloc: Global,
-    product: Product,
-    numbers: Numbers,
+    target: Target,
+    unchecked: UncheckedParams,
     salt_hex: &str,
-) -> Result<Command<'a>, Fault>
-    ensures ok { IfOk result (Means (MakeWords product numbers salt_hex.now)) }
-    ensures err { IfErr result (λ fault.
-        (fault ≡ OutOfMemory) ⊎ IsRefused (MakeWords product numbers salt_hex.now) fault) }
+) -> Result<Command<'a>, CliError>
+    ensures ok { IfOk result (λ command. Means (MakeArgs target unchecked salt_hex.now) (request_of command)) }
+    ensures err { IfErr result (λ error.
+        (error ≡ OutOfMemory) ⊎ IsRefused (MakeArgs target unchecked salt_hex.now) error) }
 {
-    let (salt, params) = read_salt_and_params(alloc, product, numbers, salt_hex)?;
-    if !has_allowed_len(product) {
-        return Err(Fault::InvalidOutputLen);
+    let (salt, params) = salt_and_params(alloc, target, unchecked, salt_hex)?;
+    if !has_allowed_len(target) {
+        return Err(CliError::InvalidOutputLen);
     }
     Ok(Command::Make {
-        product,
+        target,
         params,
         salt,
     })
 }
 
-// The salt and then the parameters of the product.
-fn read_salt_and_params(
+// Decodes the salt, and then checks the parameters of the target.
+fn salt_and_params(
     alloc: Global,
-    product: Product,
-    numbers: Numbers,
+    target: Target,
+    unchecked: UncheckedParams,
     salt_hex: &str,
-) -> Result<(Vec<u8>, Params), Fault>
-    ensures ok { IfOk result (λ read. AreSaltAndParams product numbers salt_hex.now read.0.items read.1) }
-    ensures err { IfErr result (λ fault.
-        (fault ≡ OutOfMemory) ⊎ IsSaltOrParamsRefused product numbers salt_hex.now fault) }
+) -> Result<(Vec<u8>, Params), CliError>
+    ensures ok { IfOk result (λ read. AreSaltAndParams target unchecked salt_hex.now read.0.items read.1) }
+    ensures err { IfErr result (λ error.
+        (error ≡ OutOfMemory) ⊎ IsSaltOrParamsRefused target unchecked salt_hex.now error) }
 {
-    let salt = read_salt(alloc, salt_hex)?;
-    let params = read_params(product, numbers)?;
+    let salt = decode_salt(alloc, salt_hex)?;
+    let params = checked_params(target, unchecked)?;
     Ok((salt, params))
 }
 
-// The parameters of the product, which hold the length that is named for a hash.
-fn read_params(product: Product, numbers: Numbers) -> Result<Params, InvalidParams>
-    ensures accepted { IsOk result ↔ AreParamsAccepted product numbers }
-    ensures value { IfOk result (λ params. params ≡ params_of product numbers) }
+// Returns the parameters of the target, with the length that is named for a hash.
+fn checked_params(target: Target, unchecked: UncheckedParams) -> Result<Params, InvalidParams>
+    ensures accepted { IsOk result ↔ AreParamsAccepted target unchecked }
+    ensures value { IfOk result (λ params. params ≡ params_of target unchecked) }
 {
-    let Numbers { log_n, r, p } = numbers;
-    match product {
-        Product::Hash { len: Some(len), .. } => Params::new_with_output_len(log_n, r, p, len),
+    let UncheckedParams { log_n, r, p } = unchecked;
+    match target {
+        Target::Hash { len: Some(len), .. } => Params::new_with_output_len(log_n, r, p, len),
         _ => Params::new(log_n, r, p),
     }
 }
 
-// Whether a key of that length can be derived. A hash has an allowed length of its own.
-fn has_allowed_len(product: Product) -> bool
-    ensures exact { IsTrue result ↔ HasAllowedLen product }
+// Returns whether a key of that length can be derived. A hash has an allowed length of its own.
+fn has_allowed_len(target: Target) -> bool
+    ensures exact { IsTrue result ↔ HasAllowedLen target }
 {
-    match product {
-        Product::Key { len } => output_len_ok(len),
-        Product::Hash { .. } => true,
+    match target {
+        Target::Key { len } => output_len_ok(len),
+        Target::Hash { .. } => true,
     }
 }
 
-// The command that verifies against the hash of this text.
-fn read_verify<'a>(text: &'a str) -> Result<Command<'a>, Fault>
-    ensures ok { IfOk result (Means (VerifyWords text.now)) }
-    ensures err { IfErr result (IsRefused (VerifyWords text.now)) }
+// Returns the command that verifies against the hash of this text.
+fn verify_command<'a>(text: &'a str) -> Result<Command<'a>, CliError>
+    ensures ok { IfOk result (λ command. Means (VerifyArgs text.now) (request_of command)) }
+    ensures err { IfErr result (IsRefused (VerifyArgs text.now)) }
 {
-    match StoredHash::read(text) {
-        Some(hash) => Ok(Command::Verify { hash }),
-        None => Err(Fault::HashRefused(HashFault::EncodingInvalid)),
+    match stored_hash(text) {
+        Ok(hash) => Ok(Command::Verify { hash }),
+        Err(error) => Err(error),
     }
 }
 
-// The command that makes the hash of this text anew, from the numbers, the length and the digits of the
-// salt that the new one is to have.
-fn read_rehash<'a>(
+// Returns the command that makes the hash of this text again, with these parameters, this length and
+// the salt of these digits.
+fn rehash_command<'a>(
     alloc: Global,
     format: Format,
-    numbers: Numbers,
+    unchecked: UncheckedParams,
     len: usize,
     salt_hex: &str,
     text: &'a str,
-) -> Result<Command<'a>, Fault>
-    ensures ok { IfOk result (Means (RehashWords format numbers len salt_hex.now text.now)) }
-    ensures err { IfErr result (λ fault. (fault ≡ OutOfMemory)
-        ⊎ IsRefused (RehashWords format numbers len salt_hex.now text.now) fault) }
+) -> Result<Command<'a>, CliError>
+    ensures ok { IfOk result (λ command.
+        Means (RehashArgs format unchecked len salt_hex.now text.now) (request_of command)) }
+    ensures err { IfErr result (λ error. (error ≡ OutOfMemory)
+        ⊎ IsRefused (RehashArgs format unchecked len salt_hex.now text.now) error) }
 {
-    let product = Product::Hash {
+    let target = Target::Hash {
         format,
         len: Some(len),
     };
-    let (salt, params) = read_salt_and_params(alloc, product, numbers, salt_hex)?;
-    match StoredHash::read(text) {
-        Some(hash) => Ok(Command::Rehash {
+    let (salt, params) = salt_and_params(alloc, target, unchecked, salt_hex)?;
+    match stored_hash(text) {
+        Ok(hash) => Ok(Command::Rehash {
             format,
             params,
             salt,
             hash,
         }),
-        None => Err(Fault::HashRefused(HashFault::EncodingInvalid)),
+        Err(error) => Err(error),
     }
 }
 
-// Reads SALT_HEX, an even number of hexadecimal digits of either case.
-fn read_salt(alloc: Global, salt_hex: &str) -> Result<Vec<u8>, Fault>
+// Returns the hash of a text.
+fn stored_hash(text: &str) -> Result<StoredHash<'_>, CliError>
+    ensures ok { IfOk result (λ hash. (hash ≡ text.now) × IsStoredText text.now) }
+    ensures err { IfErr result (λ error.
+        (error ≡ HashRefused EncodingInvalid) × (¬ IsStoredText text.now)) }
+{
+    match StoredHash::read(text) {
+        Ok(hash) => Ok(hash),
+        Err(_) => Err(CliError::HashRefused(HashError::EncodingInvalid)),
+    }
+}
+
+// Decodes SALT_HEX, an even number of hexadecimal digits of either case.
+fn decode_salt(alloc: Global, salt_hex: &str) -> Result<Vec<u8>, CliError>
     ensures ok { IfOk result (λ salt. decode_of salt_hex.now ≡ Ok salt.items) }
-    ensures err { IfErr result (λ fault.
-        (fault ≡ OutOfMemory) ⊎ ((fault ≡ SaltNotHex) × IsErr (decode_of salt_hex.now))) }
+    ensures err { IfErr result (λ error.
+        (error ≡ OutOfMemory) ⊎ ((error ≡ SaltNotHex) × IsErr (decode_of salt_hex.now))) }
 {
     match hex::decode(alloc, salt_hex) {
         Ok(salt) => Ok(salt),
-        Err(FromHexError::OutOfMemory) => Err(Fault::OutOfMemory),
-        Err(_) => Err(Fault::SaltNotHex),
+        Err(FromHexError::OutOfMemory) => Err(CliError::OutOfMemory),
+        Err(_) => Err(CliError::SaltNotHex),
     }
 }

@@ -1,10 +1,10 @@
-//! The commands of `scrypt_tool`: what its words ask for, and what it prints for them, over any input and
-//! outputs.
+//! The commands of `scrypt_tool`: what its arguments ask for, and what it prints for them, over any input
+//! and outputs.
 #![tactic(auto)]
 
 mod answer;
+mod args;
 mod command;
-mod fault;
+mod error;
+pub mod laws;
 pub mod run;
-mod stored_hash;
-mod words;

@@ -1,5 +1,5 @@
-//! The program: derives scrypt keys, makes password hashes, verifies them and makes weak ones anew, from the
-//! command line.
+//! The program: derives scrypt keys, makes password hashes, verifies them and makes weak ones again, from
+//! the command line.
 //!
 //! ```text
 //! scrypt_tool key LOG_N R P LEN SALT_HEX < password
@@ -18,19 +18,19 @@ use std::process::ExitCode;
 use std::{env, io};
 
 fn main(rt: HostRuntime) -> ExitCode {
-    let mut faults = rt.stderr();
-    let Ok(words) = arguments(&rt) else {
-        let _ = faults.write_all(b"the arguments can't be read\n");
+    let mut errors = rt.stderr();
+    let Ok(args) = arguments(&rt) else {
+        let _ = errors.write_all(b"the arguments can't be read\n");
         return ExitCode::from(3);
     };
-    let ended = run(
+    let exit = run(
         rt.alloc(),
-        &words,
+        &args,
         &mut rt.stdin(),
         &mut rt.stdout(),
-        &mut faults,
+        &mut errors,
     );
-    ExitCode::from(ended.status)
+    ExitCode::from(exit.status)
 }
 
 // The arguments after the program's name.

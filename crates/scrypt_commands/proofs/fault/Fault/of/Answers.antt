@@ -1,5 +1,0 @@
-use Rattle.std.proofs.Common.{rules}
-use Rattle.scrypt_commands.proofs.fault.Fault.of.Goals as goal
-
-pub returns-in-ParamInvalid-r-clause-some : goal.returns-in-ParamInvalid-r-clause-some
-returns-in-ParamInvalid-r-clause-some c = search rules

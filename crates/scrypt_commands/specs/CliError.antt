@@ -1,0 +1,60 @@
+-- Why a run ends without an answer: each error has a status and a line.
+use Rattle.std.specs.Prelude.{ℕ, List, codes}
+use Rattle.password_hash.specs.Refusal.{Refusal}
+use Rattle.password_hash.specs.Refusal as refusals
+use Rattle.scrypt_commands.specs.declared.error.CliError.{CliError}
+use Rattle.scrypt_commands.specs.declared.error.CliError.TheVariants.{Usage, SaltNotHex, InvalidParams, InvalidOutputLen, HashRefused, OutOfMemory, InputFailed, OutputFailed}
+use Rattle.scrypt_commands.specs.declared.error.HashError.{HashError}
+use Rattle.scrypt_commands.specs.declared.error.HashError.TheVariants.{Algorithm, EncodingInvalid, OutputSize, LnInvalid, RInvalid, PInvalid, ParamsInvalid, SaltInvalid, Version}
+
+-- the exit status
+abbrev pub status_of : CliError → ℕ
+status_of Usage = 2
+status_of SaltNotHex = 2
+status_of InvalidParams = 2
+status_of InvalidOutputLen = 2
+status_of (HashRefused why) = 2
+status_of OutOfMemory = 3
+status_of InputFailed = 4
+status_of OutputFailed = 4
+
+-- the line of a refused hash, with its newline: the name of the library's error, and that of its parameter
+abbrev pub hash_error_line : HashError → List ℕ
+hash_error_line Algorithm = codes "hash refused: Algorithm\n"
+hash_error_line EncodingInvalid = codes "hash refused: EncodingInvalid\n"
+hash_error_line OutputSize = codes "hash refused: OutputSize\n"
+hash_error_line LnInvalid = codes "hash refused: ParamInvalid ln\n"
+hash_error_line RInvalid = codes "hash refused: ParamInvalid r\n"
+hash_error_line PInvalid = codes "hash refused: ParamInvalid p\n"
+hash_error_line ParamsInvalid = codes "hash refused: ParamsInvalid\n"
+hash_error_line SaltInvalid = codes "hash refused: SaltInvalid\n"
+hash_error_line Version = codes "hash refused: Version\n"
+
+-- the line of an error, with its newline
+abbrev pub error_line : CliError → List ℕ
+error_line Usage =
+    codes "usage: key LOG_N R P LEN SALT_HEX | hash phc|mcf LOG_N R P SALT_HEX [LEN] | verify HASH | rehash phc|mcf LOG_N R P LEN SALT_HEX HASH\n"
+error_line SaltNotHex = codes "salt is not hexadecimal\n"
+error_line InvalidParams = codes "invalid scrypt parameters\n"
+error_line InvalidOutputLen = codes "invalid output buffer length\n"
+error_line (HashRefused why) = hash_error_line why
+error_line OutOfMemory = codes "out of memory\n"
+error_line InputFailed = codes "input failed\n"
+error_line OutputFailed = codes "output failed\n"
+
+-- the refusal that an error reports
+abbrev pub hash_refusal : HashError → Refusal
+hash_refusal Algorithm = refusals.Algorithm
+hash_refusal EncodingInvalid = refusals.EncodingInvalid
+hash_refusal OutputSize = refusals.OutputSize
+hash_refusal LnInvalid = refusals.ParamInvalid (codes "ln")
+hash_refusal RInvalid = refusals.ParamInvalid (codes "r")
+hash_refusal PInvalid = refusals.ParamInvalid (codes "p")
+hash_refusal ParamsInvalid = refusals.ParamsInvalid
+hash_refusal SaltInvalid = refusals.SaltInvalid
+hash_refusal Version = refusals.Version
+
+-- the error is that of a refused hash, and this holds of the refusal
+abbrev pub IsHashError : (Refusal → Type 0) → CliError → Type 0
+IsHashError P (HashRefused why) = P (hash_refusal why)
+IsHashError P error = ⊥
