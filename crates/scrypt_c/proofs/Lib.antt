@@ -1,6 +1,8 @@
--- What is told of the hash of a text, from what the two formats answer.
+-- The error of reading bytes.
 pub mod TextFacts
--- A text has one verdict, so that what is told of it is told exactly.
+-- The status of verifying a password against a text.
 pub mod VerdictFacts
--- What is told of a text beside wanted parameters is one status.
+-- The status of comparing the hash of a text with wanted parameters.
 pub mod RehashFacts
+-- Verifying in the caller's buffers has one status.
+pub mod InBuffersFacts

@@ -1,4 +1,4 @@
--- The lengths of the buffers that a caller lends.
+-- The lengths of the caller's buffers.
 use Rattle.std.specs.Prelude.{◌≡◌, ℕ, ◌-◌, ◌≤◌, nat_eq, if◌then◌else◌}
 use Rattle.scrypt.specs.Cost.{chunks_bytes, scratch_words, table_words, thin_scratch_words}
 
@@ -6,7 +6,7 @@ use Rattle.scrypt.specs.Cost.{chunks_bytes, scratch_words, table_words, thin_scr
 abbrev pub IsSpacing : ℕ → ℕ → Type 0
 IsSpacing log_n s = s ≤ log_n
 
--- the words of the scratch: a table that keeps every row needs no room to mix one anew
+-- the words of the scratch: a table that keeps every row needs no room to recompute one
 abbrev pub scratch_len : ℕ → ℕ → ℕ
 scratch_len s r = if nat_eq s 0 then scratch_words r else thin_scratch_words r
 

@@ -1,12 +1,12 @@
--- In reading order: the buffers of a derivation, then statuses, and what is told of the texts of hashes.
+-- The table of contents, in reading order: a file cites only those above it.
 
 -- the lengths of the buffers that a caller lends
 pub mod Buffers
--- the statuses of what is told of a hash
+-- the statuses of verdicts and errors
 pub mod Statuses
--- the texts of hashes: which calls read them, and what is told of them
+-- the texts of hashes, as bytes: their verdicts and the statuses of the calls that read them
 pub mod Texts
--- the texts of made hashes, and where they are put
+-- the texts of new hashes, and how they are copied to the caller
 pub mod Made
--- what a text is read as
-pub mod Read
+-- verifying in the caller's buffers
+pub mod InBuffers

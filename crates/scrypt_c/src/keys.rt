@@ -1,11 +1,11 @@
-//! Keys, in memory that is allocated, and in memory that the caller lends.
+//! Keys, in memory that is allocated, and in the caller's buffers.
 
 ghost use Rattle.std.specs.Prelude.{◌≡◌, ◌≢◌, ◌⊎◌, ◌↔◌, pos, length, None, IsSome, IfSome};
 ghost use Rattle.scrypt.specs.Accepted.{AreAccepted, IsOutputLen};
 ghost use Rattle.scrypt.specs.Key.{derived_key};
 ghost use Rattle.scrypt_c.specs.Buffers.{AreBuffers, IsSpacing};
 
-use crate::statuses::{BUFFER_SIZE, DONE, INVALID_OUTPUT_LEN, INVALID_PARAMS, OUT_OF_MEMORY};
+use crate::statuses::{BUFFER_SIZE, INVALID_OUTPUT_LEN, INVALID_PARAMS, OK, OUT_OF_MEMORY};
 use scrypt::{
     BufferLens, CoreCount, DeriveError, InvalidOutputLen, Params, output_len_ok, scrypt,
     scrypt_thin, scrypt_with_buffers,
@@ -14,7 +14,7 @@ use std::alloc::Global;
 
 /// Writes the scrypt key of `password` and `salt` to `output` (RFC 7914, section 6).
 ///
-/// `DONE`, or the first of these: `INVALID_PARAMS` unless `log_n`, `r` and `p` are accepted,
+/// `OK`, or the first of these: `INVALID_PARAMS` unless `log_n`, `r` and `p` are accepted,
 /// `INVALID_OUTPUT_LEN` unless the output has 1 to 137438953440 bytes, and `OUT_OF_MEMORY` if an
 /// allocation fails. A refusal leaves the output as it was.
 #[unsafe(no_mangle)]
@@ -27,30 +27,30 @@ pub extern "C" fn scrypt_kdf(
     p: u32,
     output: &mut [u8],
 ) -> i32
-    ensures value { result ≡ DONE → output.new
+    ensures value { result ≡ OK → output.new
         ≡ derived_key password.now salt.now log_n r p (length output.old) }
     ensures params { (result ≡ INVALID_PARAMS) ↔ (¬ AreAccepted log_n r p) }
     ensures length { (result ≡ INVALID_OUTPUT_LEN)
         ↔ (AreAccepted log_n r p × ¬ IsOutputLen (length output.old)) }
-    ensures status { (result ≡ DONE) ⊎ (result ≡ INVALID_PARAMS) ⊎ (result ≡ INVALID_OUTPUT_LEN)
+    ensures status { (result ≡ OK) ⊎ (result ≡ INVALID_PARAMS) ⊎ (result ≡ INVALID_OUTPUT_LEN)
         ⊎ (result ≡ OUT_OF_MEMORY) }
-    ensures refused { result ≢ DONE → output.new ≡ output.old }
+    ensures refused { result ≢ OK → output.new ≡ output.old }
 {
     let Ok(params) = Params::new(log_n, r, p) else {
         return INVALID_PARAMS;
     };
     match scrypt(alloc, password, salt, &params, output) {
-        Ok(()) => DONE,
+        Ok(()) => OK,
         Err(DeriveError::InvalidOutputLen) => INVALID_OUTPUT_LEN,
         Err(DeriveError::OutOfMemory) => OUT_OF_MEMORY,
     }
 }
 
-/// Writes the lengths of the buffers that a derivation with these numbers works on: those of
-/// `scrypt_kdf_with_buffers` where `s` is 0, and those of `scrypt_kdf_thin` with this `s`. The chunks
+/// Writes the lengths of the buffers that a derivation with these parameters works on: those of
+/// `scrypt_kdf_with_buffers` if `s` is 0, and those of `scrypt_kdf_thin` with this `s`. The chunks
 /// are counted in bytes, and the table and the scratch in words of 4 bytes.
 ///
-/// `DONE`, or `INVALID_PARAMS` unless `log_n`, `r` and `p` are accepted and `s` is at most `log_n`. A
+/// `OK`, or `INVALID_PARAMS` unless `log_n`, `r` and `p` are accepted and `s` is at most `log_n`. A
 /// refusal leaves the three as they were.
 #[unsafe(no_mangle)]
 pub extern "C" fn scrypt_buffer_lens(
@@ -62,10 +62,10 @@ pub extern "C" fn scrypt_buffer_lens(
     table: &mut usize,
     scratch: &mut usize,
 ) -> i32
-    ensures done { (result ≡ DONE) ↔ (AreAccepted log_n r p × IsSpacing log_n s) }
-    ensures lens { result ≡ DONE → AreBuffers log_n r p s chunks.new table.new scratch.new }
-    ensures status { (result ≡ DONE) ⊎ (result ≡ INVALID_PARAMS) }
-    ensures refused { result ≢ DONE →
+    ensures done { (result ≡ OK) ↔ (AreAccepted log_n r p × IsSpacing log_n s) }
+    ensures lens { result ≡ OK → AreBuffers log_n r p s chunks.new table.new scratch.new }
+    ensures status { (result ≡ OK) ⊎ (result ≡ INVALID_PARAMS) }
+    ensures refused { result ≢ OK →
         (chunks.new ≡ chunks.old) × (table.new ≡ table.old) × (scratch.new ≡ scratch.old) }
 {
     let Some((_, lens)) = params_and_lens(log_n, r, p, s) else {
@@ -74,12 +74,12 @@ pub extern "C" fn scrypt_buffer_lens(
     *chunks = lens.chunks;
     *table = lens.table;
     *scratch = lens.scratch;
-    DONE
+    OK
 }
 
-/// Does what `scrypt_kdf` does, in memory that the caller lends, and allocates nothing.
+/// Does what `scrypt_kdf` does, in the caller's buffers, and allocates nothing.
 ///
-/// `DONE`, or the first of these: `INVALID_PARAMS`, `INVALID_OUTPUT_LEN`, and `BUFFER_SIZE` unless the
+/// `OK`, or the first of these: `INVALID_PARAMS`, `INVALID_OUTPUT_LEN`, and `BUFFER_SIZE` unless the
 /// three buffers have the lengths of `scrypt_buffer_lens` with `s` of 0. What they hold before the call
 /// does not matter, and what they hold after it is unspecified. A refusal leaves them and the output
 /// as they were.
@@ -95,17 +95,17 @@ pub extern "C" fn scrypt_kdf_with_buffers(
     table: &mut [u32],
     scratch: &mut [u32],
 ) -> i32
-    ensures value { result ≡ DONE → output.new
+    ensures value { result ≡ OK → output.new
         ≡ derived_key password.now salt.now log_n r p (length output.old) }
     ensures params { (result ≡ INVALID_PARAMS) ↔ (¬ AreAccepted log_n r p) }
     ensures length { (result ≡ INVALID_OUTPUT_LEN)
         ↔ (AreAccepted log_n r p × ¬ IsOutputLen (length output.old)) }
     ensures buffers { (result ≡ BUFFER_SIZE) ↔ (AreAccepted log_n r p × IsOutputLen (length output.old)
         × ¬ AreBuffers log_n r p 0 (length chunks.old) (length table.old) (length scratch.old)) }
-    ensures status { (result ≡ DONE) ⊎ (result ≡ INVALID_PARAMS) ⊎ (result ≡ INVALID_OUTPUT_LEN)
+    ensures status { (result ≡ OK) ⊎ (result ≡ INVALID_PARAMS) ⊎ (result ≡ INVALID_OUTPUT_LEN)
         ⊎ (result ≡ BUFFER_SIZE) }
-    ensures refused { result ≢ DONE → output.new ≡ output.old }
-    ensures lent { result ≢ DONE →
+    ensures refused { result ≢ OK → output.new ≡ output.old }
+    ensures lent { result ≢ OK →
         (chunks.new ≡ chunks.old) × (table.new ≡ table.old) × (scratch.new ≡ scratch.old) }
 {
     scrypt_kdf_thin(
@@ -114,9 +114,9 @@ pub extern "C" fn scrypt_kdf_with_buffers(
 }
 
 /// Does what `scrypt_kdf_with_buffers` does, with a table that keeps one row in `2^s`: it has `2^s` times
-/// fewer words, and any other row is mixed anew where it is needed.
+/// fewer words, and any other row is recomputed whenever it is needed.
 ///
-/// `DONE`, or the first of these: `INVALID_PARAMS`, also where `s` is above `log_n`,
+/// `OK`, or the first of these: `INVALID_PARAMS`, also if `s` is above `log_n`,
 /// `INVALID_OUTPUT_LEN`, and `BUFFER_SIZE` unless the three buffers have the lengths of
 /// `scrypt_buffer_lens` with this `s`. A refusal leaves them and the output as they were.
 #[unsafe(no_mangle)]
@@ -132,7 +132,7 @@ pub extern "C" fn scrypt_kdf_thin(
     table: &mut [u32],
     scratch: &mut [u32],
 ) -> i32
-    ensures value { result ≡ DONE → output.new
+    ensures value { result ≡ OK → output.new
         ≡ derived_key password.now salt.now log_n r p (length output.old) }
     ensures params { (result ≡ INVALID_PARAMS) ↔ (¬ (AreAccepted log_n r p × IsSpacing log_n s)) }
     ensures length { (result ≡ INVALID_OUTPUT_LEN)
@@ -140,10 +140,10 @@ pub extern "C" fn scrypt_kdf_thin(
     ensures buffers { (result ≡ BUFFER_SIZE)
         ↔ (AreAccepted log_n r p × IsSpacing log_n s × IsOutputLen (length output.old)
         × ¬ AreBuffers log_n r p s (length chunks.old) (length table.old) (length scratch.old)) }
-    ensures status { (result ≡ DONE) ⊎ (result ≡ INVALID_PARAMS) ⊎ (result ≡ INVALID_OUTPUT_LEN)
+    ensures status { (result ≡ OK) ⊎ (result ≡ INVALID_PARAMS) ⊎ (result ≡ INVALID_OUTPUT_LEN)
         ⊎ (result ≡ BUFFER_SIZE) }
-    ensures refused { result ≢ DONE → output.new ≡ output.old }
-    ensures lent { result ≢ DONE →
+    ensures refused { result ≢ OK → output.new ≡ output.old }
+    ensures lent { result ≢ OK →
         (chunks.new ≡ chunks.old) × (table.new ≡ table.old) × (scratch.new ≡ scratch.old) }
 {
     let Some((params, lens)) = params_and_lens(log_n, r, p, s) else {
@@ -166,12 +166,12 @@ pub extern "C" fn scrypt_kdf_thin(
         )
     };
     match derived {
-        Ok(()) => DONE,
+        Ok(()) => OK,
         Err(InvalidOutputLen) => INVALID_OUTPUT_LEN,
     }
 }
 
-// The parameters of these numbers, and the lengths of their buffers, where the numbers are accepted.
+// The parameters, and the lengths of their buffers, if `log_n`, `r`, `p` and `s` are accepted.
 fn params_and_lens(log_n: u8, r: u32, p: u32, s: u8) -> Option<(Params, BufferLens)>
     ensures exact { IsSome result ↔ (AreAccepted log_n r p × IsSpacing log_n s) }
     ensures params { IfSome result (λ both. both.0
@@ -179,9 +179,9 @@ fn params_and_lens(log_n: u8, r: u32, p: u32, s: u8) -> Option<(Params, BufferLe
     ensures lens { IfSome result (λ both. AreBuffers log_n r p s both.1.chunks both.1.table both.1.scratch) }
 {
     let params = Params::new(log_n, r, p).ok()?;
-    let thin = BufferLens::thin(&params, s)?;
-    if s == 0 {
-        return Some((params, BufferLens::of(&params)));
-    }
-    Some((params, thin))
+    let lens = match s {
+        0 => BufferLens::of(&params),
+        _ => BufferLens::thin(&params, s)?,
+    };
+    Some((params, lens))
 }

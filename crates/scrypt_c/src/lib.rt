@@ -1,10 +1,11 @@
 //! What C calls: a static library over the crate `scrypt`.
 //!
-//! Each call answers a status: 0 where it is done, and else why not. A slice is a pointer and a length
+//! Each call returns a status: 0 on success, otherwise an error code. A slice is a pointer and a length
 //! in C.
 #![tactic(auto)]
 
 pub mod hashes;
+pub mod in_buffers;
 pub mod keys;
 pub mod statuses;
 mod texts;

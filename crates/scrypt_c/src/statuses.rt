@@ -1,4 +1,4 @@
-//! What the calls answer.
+//! What the calls return.
 
 ghost use Rattle.std.specs.Prelude.{◌≡◌};
 ghost use Rattle.password_hash.specs.Refusal.{refusal};
@@ -6,16 +6,19 @@ ghost use Rattle.scrypt_c.specs.Statuses.{refusal_status};
 
 use password_hash::Error;
 
-/// The call did what it is for, or the answer is yes.
-pub const DONE: i32 = 0;
+/// The call succeeded; of `scrypt_verify`: it is the password of the hash.
+pub const OK: i32 = 0;
 
-/// The password is another one, or the hash is weaker than wanted.
-pub const NO: i32 = 1;
+/// `scrypt_verify`: it is not the password of the hash.
+pub const MISMATCH: i32 = 1;
 
-/// The numbers are not accepted parameters.
+/// `scrypt_needs_rehash`: the hash is weaker than wanted.
+pub const NEEDS_REHASH: i32 = 1;
+
+/// `log_n`, `r` and `p`, or the length of a key, are not accepted.
 pub const INVALID_PARAMS: i32 = 2;
 
-/// The output has no byte, or more than 137438953440 bytes.
+/// The output is empty, or longer than 137438953440 bytes.
 pub const INVALID_OUTPUT_LEN: i32 = 3;
 
 /// An allocation failed.
@@ -24,39 +27,50 @@ pub const OUT_OF_MEMORY: i32 = 4;
 /// The hash names another algorithm.
 pub const ALGORITHM: i32 = 5;
 
-/// The text is not written as its format asks.
+/// The text does not have the grammar of its format.
 pub const ENCODING_INVALID: i32 = 6;
 
-/// The length of the key is not an allowed one.
+/// The key in the text has a length that is not allowed.
 pub const OUTPUT_SIZE: i32 = 7;
 
-/// The value of a parameter in the text is not an allowed one.
-pub const PARAM_INVALID: i32 = 8;
+/// A parameter in the text is not a decimal in its range.
+pub const HASH_PARAM_INVALID: i32 = 8;
 
-/// The parameters in the text are not allowed ones together, or there is another one.
-pub const PARAMS_INVALID: i32 = 9;
+/// The parameters in the text are not accepted, or are not scrypt's.
+pub const HASH_PARAMS_INVALID: i32 = 9;
 
-/// The length of the salt is not an allowed one.
+/// The salt has a length that is not allowed.
 pub const SALT_INVALID: i32 = 10;
 
-/// The hash names a version.
+/// The hash names a version, and scrypt has none.
 pub const VERSION: i32 = 11;
 
-/// A buffer has another length than it has to have, or a text's capacity is too small.
+/// A buffer does not have its length, or the text does not fit its capacity.
 pub const BUFFER_SIZE: i32 = 12;
 
-// The status of an error.
+// Clauses use the names of the statuses, and callers in C their numbers.
+const _: () = prove!(OK == 0 && MISMATCH == 1 && NEEDS_REHASH == 1 && INVALID_PARAMS == 2);
+
+const _: () = prove!(INVALID_OUTPUT_LEN == 3 && OUT_OF_MEMORY == 4 && ALGORITHM == 5);
+
+const _: () = prove!(ENCODING_INVALID == 6 && OUTPUT_SIZE == 7 && HASH_PARAM_INVALID == 8);
+
+const _: () = prove!(HASH_PARAMS_INVALID == 9 && SALT_INVALID == 10 && VERSION == 11);
+
+const _: () = prove!(BUFFER_SIZE == 12);
+
+// Returns the status of an error.
 pub(crate) fn status_of(error: Error) -> i32
     ensures { result ≡ refusal_status (refusal error) }
 {
     match error {
-        Error::PasswordInvalid => NO,
+        Error::PasswordInvalid => MISMATCH,
         Error::OutOfMemory => OUT_OF_MEMORY,
         Error::Algorithm => ALGORITHM,
         Error::EncodingInvalid => ENCODING_INVALID,
         Error::OutputSize => OUTPUT_SIZE,
-        Error::ParamInvalid { .. } => PARAM_INVALID,
-        Error::ParamsInvalid => PARAMS_INVALID,
+        Error::ParamInvalid { .. } => HASH_PARAM_INVALID,
+        Error::ParamsInvalid => HASH_PARAMS_INVALID,
         Error::SaltInvalid => SALT_INVALID,
         Error::Version => VERSION,
     }

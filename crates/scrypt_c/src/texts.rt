@@ -1,59 +1,43 @@
-// The texts of hashes: which format one has, and where a made one is put.
+// The texts of hashes: read from the caller's bytes, and copied to the caller's buffer.
 
-ghost use Rattle.std.specs.Prelude.{◌≡◌, ◌≢◌, ◌↔◌, ◌⊎◌, ◌≤◌, ◌++◌, drop, length, IfSome, IsNone};
-ghost use Rattle.scrypt_c.specs.Texts.{IsText, IsTextOf, is_mcf_text};
-ghost use Rattle.scrypt_c.specs.Read.{IsRead};
+ghost use Rattle.std.specs.Prelude.{◌≡◌, ◌≢◌, ◌↔◌, ◌⊎◌, ◌≤◌, ◌++◌, drop, length, IfErr, IfOk, OnOk};
+ghost use Rattle.std.specs.Str.{IsUtf8};
+ghost use Rattle.password_hash.specs.declared.error.Error.TheVariants.{EncodingInvalid};
+ghost use Rattle.password_hash.specs.Refusal.{refusal};
+ghost use Rattle.scrypt_c.specs.Texts.{ReadIsRefused};
 
-use crate::statuses::{BUFFER_SIZE, DONE};
-use password_hash::{mcf, phc};
+use crate::statuses::{BUFFER_SIZE, OK};
+use password_hash::{Error, Result};
+use scrypt::StoredHash;
 
-/// The hash of a text.
-pub enum Hash<'a> {
-    /// That of a `$7$` text.
-    Mcf(mcf::PasswordHashRef<'a>),
-    /// That of a PHC text.
-    Phc(phc::PasswordHash),
-}
-
-/// The hash of a text, where it is ASCII and has the form of its format.
-pub fn read(text: &[u8]) -> Option<Hash<'_>>
-    ensures found { IfSome result (IsRead text.now) }
-    ensures none { IsNone result → ¬ IsText text.now }
+/// Reads the text of a hash.
+///
+/// Returns `EncodingInvalid` if the bytes are not UTF-8 or the text is not one of its format.
+pub fn read(bytes: &[u8]) -> Result<StoredHash<'_>>
+    ensures utf8 { OnOk result (IsUtf8 bytes.now) }
+    ensures ok { IfOk result (λ hash. hash ≡ bytes.now) }
+    ensures err { IfErr result (λ e. e ≡ EncodingInvalid) }
+    ensures refused { IfErr result (λ e. ReadIsRefused bytes.now (refusal e)) }
 {
-    if !text.is_ascii() {
-        return None;
+    match std::str::from_utf8(bytes) {
+        Ok(text) => StoredHash::read(text),
+        Err(_) => Err(Error::EncodingInvalid),
     }
-    let is_mcf = is_mcf_text(text);
-    let Ok(text) = std::str::from_utf8(text) else {
-        unreachable!();
-    };
-    if is_mcf {
-        return Some(Hash::Mcf(mcf::PasswordHashRef::new(text).ok()?));
-    }
-    Some(Hash::Phc(phc::PasswordHash::new(text).ok()?))
 }
 
-// Whether this is `$7` or begins with `$7$`: it is read as a `$7$` text, and any other as a PHC text.
-#[tactic(auto, unfolding(crate::specs::Texts::is_mcf_text))]
-fn is_mcf_text(text: &[u8]) -> bool
-    ensures { result ≡ is_mcf_text text.now }
+/// Copies a text to the front of the caller's buffer, if it fits, and writes its length.
+pub fn copy_to(text: &str, buffer: &mut [u8], text_len: &mut usize) -> i32
+    ensures ok { (result ≡ OK) ↔ (length text.now ≤ length buffer.old) }
+    ensures status { (result ≡ OK) ⊎ (result ≡ BUFFER_SIZE) }
+    ensures written { result ≡ OK → buffer.new ≡ text.now ++ drop (length text.now) buffer.old }
+    ensures refused { result ≢ OK → buffer.new ≡ buffer.old }
+    ensures len { text_len.new ≡ length text.now }
 {
-    matches!(text, [b'$', b'7'] | [b'$', b'7', b'$', ..])
-}
-
-/// Puts a made text at the front of the caller's, if there is room for it, and writes its length.
-pub fn put(made: &str, text: &mut [u8], text_len: &mut usize) -> i32
-    ensures done { (result ≡ DONE) ↔ (length made.now ≤ length text.old) }
-    ensures status { (result ≡ DONE) ⊎ (result ≡ BUFFER_SIZE) }
-    ensures written { result ≡ DONE → text.new ≡ made.now ++ drop (length made.now) text.old }
-    ensures refused { result ≢ DONE → text.new ≡ text.old }
-    ensures len { text_len.new ≡ length made.now }
-{
-    let len = made.len();
+    let len = text.len();
     *text_len = len;
-    if text.len() < len {
+    if buffer.len() < len {
         return BUFFER_SIZE;
     }
-    text[..len].copy_from_slice(made.as_bytes());
-    DONE
+    buffer[..len].copy_from_slice(text.as_bytes());
+    OK
 }

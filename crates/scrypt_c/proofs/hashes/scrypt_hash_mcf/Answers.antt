@@ -3,7 +3,7 @@ use Rattle.scrypt_c.proofs.hashes.scrypt_hash_mcf.Goals as goal
 
 pub returns-in-Ok-made-clause-made : goal.returns-in-Ok-made-clause-made
 returns-in-Ok-made-clause-made c done =
-    let put = c.put.ensures in
+    let copied = c.copy_to.ensures in
     let made = rw (c.new_with_params-hasher.ensures.value, c.in-Ok.ensures.value) at c.in-Ok-made.ensures.ok in
-    let written = put.written (search rules) ∙ ap (λ n. c.as_str.result.now ++ drop n c.args.text.now) (sym put.len) in
-    (c.as_str.result.now, rw c.as_str.ensures.value made, put.len, written)
+    let written = copied.written (search rules) ∙ ap (λ n. c.as_str.result.now ++ drop n c.args.text.now) (sym copied.len) in
+    (c.as_str.result.now, rw c.as_str.ensures.value made, copied.len, written)

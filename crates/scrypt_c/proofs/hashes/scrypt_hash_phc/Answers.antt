@@ -3,7 +3,7 @@ use Rattle.scrypt_c.proofs.hashes.scrypt_hash_phc.Goals as goal
 
 pub returns-in-Ok-to_string-clause-made : goal.returns-in-Ok-to_string-clause-made
 returns-in-Ok-to_string-clause-made c done =
-    let put = c.put.ensures in
+    let copied = c.copy_to.ensures in
     let made = rw (c.new_with_params-hasher.ensures.value, c.in-Ok.ensures.value) at c.in-Ok-made.ensures.ok in
-    let written = put.written (search rules) ∙ ap (λ n. c.as_str.result.now ++ drop n c.args.text.now) (sym put.len) in
-    (c.as_str.result.now, (c.in-Ok-made.hash, made, c.as_str.ensures.value ∙ c.in-Ok-to_string.ensures.ok), put.len, written)
+    let written = copied.written (search rules) ∙ ap (λ n. c.as_str.result.now ++ drop n c.args.text.now) (sym copied.len) in
+    (c.as_str.result.now, (c.in-Ok-made.hash, made, c.as_str.ensures.value ∙ c.in-Ok-to_string.ensures.ok), copied.len, written)

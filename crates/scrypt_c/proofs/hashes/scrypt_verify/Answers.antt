@@ -1,24 +1,24 @@
-use Rattle.std.proofs.Common.{refl, rules}
-use Rattle.scrypt_c.proofs.TextFacts.{mcf_verified, no_hash_verified, phc_verified}
-use Rattle.scrypt_c.proofs.VerdictFacts.{told_exactly}
+use Rattle.std.proofs.Common.{rules}
+use Rattle.password_hash.specs.Refusal.{refusal}
+use Rattle.scrypt_c.proofs.VerdictFacts.{status_is, unread, verified}
 use Rattle.scrypt_c.proofs.hashes.scrypt_verify.Goals as goal
 
-pub returns-in-None : goal.returns-in-None
-returns-in-None c =
-    let told = no_hash_verified c.args.password.now c.args.text.now (c.in-None.ensures.none refl) in
-    record { told = told; exact = told_exactly _ _ _ told }
+pub returns-in-Ok-clause-status : goal.returns-in-Ok-clause-status
+returns-in-Ok-clause-status c =
+    let text = c.in-Ok.ensures.ok in
+    let status = verified c.args.password.now c.args.text.now c.verify.result c.in-Ok.ensures.utf8
+    (rw text at c.verify.ensures.ok) (rw text at c.verify.ensures.err) in
+    search rules
 
-pub returns-in-Some-Phc : goal.returns-in-Some-Phc
-returns-in-Some-Phc c =
-    let is = rw c.in-Some-Phc.field-0-is at c.in-Some-Phc.ensures.found in
-    let out = c.verify_password-in-Some-Phc in
-    let told = phc_verified c.args.password.now c.args.text.now _ out.result is.0 is.1 is.2 out.ensures.ok out.ensures.err in
-    record { told = search rules; exact = told_exactly _ _ _ (search rules) }
+pub returns-in-Ok-clause-exact : goal.returns-in-Ok-clause-exact
+returns-in-Ok-clause-exact c =
+    status_is c.args.password.now c.args.text.now _ (c.verdicts_are_one.ensures.text _ _) (returns-in-Ok-clause-status c)
 
-pub returns-in-Some-Mcf : goal.returns-in-Some-Mcf
-returns-in-Some-Mcf c =
-    let is = rw c.in-Some-Mcf.field-0-is at c.in-Some-Mcf.ensures.found in
-    let text = is.3 in
-    let out = c.verify_password in
-    let told = mcf_verified c.args.password.now c.args.text.now out.result is.0 is.1 is.2 (rw text at out.ensures.ok) (rw text at out.ensures.err) in
-    record { told = search rules; exact = told_exactly _ _ _ (search rules) }
+pub returns-in-Err-clause-status : goal.returns-in-Err-clause-status
+returns-in-Err-clause-status c =
+    let status = unread c.args.password.now c.args.text.now (refusal c.in-Err.error) c.in-Err.ensures.refused in
+    search rules
+
+pub returns-in-Err-clause-exact : goal.returns-in-Err-clause-exact
+returns-in-Err-clause-exact c =
+    status_is c.args.password.now c.args.text.now _ (c.verdicts_are_one.ensures.text _ _) (returns-in-Err-clause-status c)

@@ -1,5 +1,11 @@
-use Rattle.std.proofs.lemmas.Str.{IsUtf8-from_ascii}
+use Rattle.scrypt_c.proofs.TextFacts.{no_stored_text}
+use Rattle.scrypt_c.specs.Texts.{no_text}
 use Rattle.scrypt_c.proofs.texts.read.Goals as goal
 
-pub unreachable-requires : goal.unreachable-requires
-unreachable-requires c = c.in_default.ensures.cases.0 (IsUtf8-from_ascii c.args.text.now c.if-not-is_ascii.ensures.cases)
+pub returns-in-Ok-clause-refused : goal.returns-in-Ok-clause-refused
+returns-in-Ok-clause-refused c =
+    let text = c.in-Ok.ensures.cases in
+    no_stored_text c.args.bytes.now c.read.result text.1 (rw text.0 at c.read.ensures.exact) c.read.ensures.err
+
+pub returns-in-Err-clause-refused : goal.returns-in-Err-clause-refused
+returns-in-Err-clause-refused c = no_text c.in-Err.ensures.cases.0
