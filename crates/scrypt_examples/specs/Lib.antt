@@ -1,6 +1,6 @@
--- PHC texts, by the hashes that are read from them
-pub mod PhcText
+-- the keys of encrypted files
+pub mod KeyFile
+-- the texts of hashes that are stored
+pub mod StoredText
 -- enrolling and logging in
 pub mod Login
--- texts of either format
-pub mod EitherText

@@ -1,7 +1,8 @@
 -- Enrolling and logging in.
 use Rattle.std.specs.Prelude.{◌≡◌, ℕ, List, Bool, true, false, Option, None, Some, string_bytes}
 use Rattle.scrypt.specs.Accepted.{AreAccepted, Parameters}
-use Rattle.scrypt_examples.specs.PhcText.{AcceptsText, IsMadeText, IsWeakerText}
+use Rattle.scrypt.specs.StoredHash.{Accepts, IsWeakerText}
+use Rattle.scrypt_examples.specs.StoredText.{IsMadeText}
 use Rattle.scrypt_examples.specs.declared.login.Login.{Login}
 use Rattle.scrypt_examples.specs.declared.login.Login.TheVariants.{In, InWithNewText, Refused}
 
@@ -14,7 +15,7 @@ pub record AreWanted (c : Parameters) : Type 0 where
 -- in, and is not weaker than wanted.
 pub record IsEnrolled (wanted : Parameters) (password salt text : List ℕ) : Type 0 where
   pub made : IsMadeText wanted password salt text
-  pub accepts : AcceptsText password text
+  pub accepts : Accepts password text
   pub strong : ¬ IsWeakerText wanted text
 
 -- the password was let in

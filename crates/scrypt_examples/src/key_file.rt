@@ -1,9 +1,15 @@
 //! The keys of an encrypted file, from one password.
 
-ghost use Rattle.std.specs.Prelude.{◌≡◌, take, drop, IfErr, IfOk};
+ghost use Rattle.std.specs.Prelude.{◌≡◌, ◌↔◌, ◌⊎◌, ◌++◌, take, drop, IfErr, IfOk, IsErrOf};
+ghost use Rattle.scrypt.specs.Accepted.{AreAccepted};
+ghost use Rattle.scrypt.specs.Key.{derived_key};
 ghost use Rattle.scrypt.specs.KeyOfParams.{key_by};
 ghost use Rattle.scrypt.specs.declared.errors.DeriveError.TheVariants.{OutOfMemory};
+ghost use Rattle.password_hash.specs.declared.error.Error.TheVariants.{OutOfMemory as NoMemory, ParamsInvalid};
+ghost use Rattle.scrypt_examples.specs.KeyFile.{age_label};
 
+use password_hash::Error;
+use scrypt::laws::shorter_key_is_prefix;
 use scrypt::{DeriveError, Params, scrypt};
 use std::alloc::Global;
 
@@ -26,7 +32,8 @@ pub struct Subkeys {
 }
 
 impl Header {
-    /// The keys of the file with this header: the two halves of one derived key of 64 bytes.
+    /// The keys of the file with this header: the two halves of one derived key of 64 bytes, as in the
+    /// files of Tarsnap's `scrypt enc`. The first is also the derived key of 32 bytes.
     ///
     /// Returns `OutOfMemory` if an allocation fails.
     pub fn subkeys(&self, alloc: Global, password: &[u8]) -> Result<Subkeys, DeriveError>
@@ -34,8 +41,11 @@ impl Header {
             keys.encryption ≡ take 32 (key_by self.now.params password.now self.now.salt 64)) }
         ensures authentication { IfOk result (λ keys.
             keys.authentication ≡ drop 32 (key_by self.now.params password.now self.now.salt 64)) }
+        ensures alone { IfOk result (λ keys.
+            keys.encryption ≡ key_by self.now.params password.now self.now.salt 32) }
         ensures err { IfErr result (λ e. e ≡ OutOfMemory) }
     {
+        shorter_key_is_prefix();
         let mut key = [0u8; 64];
         scrypt(alloc, password, &self.salt, &self.params, &mut key)?;
 
@@ -47,6 +57,38 @@ impl Header {
         keys.encryption.copy_from_slice(encryption);
         keys.authentication.copy_from_slice(authentication);
         Ok(keys)
+    }
+}
+
+/// The text before the salt of an age file, in the salt of its derivation.
+const AGE_LABEL: &[u8; 28] = b"age-encryption.org/v1/scrypt";
+
+/// The key that wraps the file key of an age file with a passphrase. The file has `log_n` and the salt;
+/// `r` is 8 and `p` is 1. A caller bounds `log_n` before this call.
+///
+/// Returns `ParamsInvalid` if such parameters are not accepted, and `OutOfMemory` if an allocation fails.
+pub fn age_wrap_key(
+    alloc: Global,
+    password: &[u8],
+    log_n: u8,
+    salt: [u8; 16],
+) -> password_hash::Result<[u8; 32]>
+    ensures value { IfOk result (λ key. key ≡ derived_key password.now (age_label ++ salt) log_n 8 1 32) }
+    ensures params { IsErrOf result ParamsInvalid ↔ ¬ AreAccepted log_n 8 1 }
+    ensures err { IfErr result (λ e. (e ≡ ParamsInvalid) ⊎ (e ≡ NoMemory)) }
+{
+    let Ok(params) = Params::new(log_n, 8, 1) else {
+        return Err(Error::ParamsInvalid);
+    };
+    let mut labelled = [0u8; 44];
+    let (label, rest) = labelled.split_at_mut(28);
+    label.copy_from_slice(AGE_LABEL);
+    rest.copy_from_slice(&salt);
+
+    let mut key = [0u8; 32];
+    match scrypt(alloc, password, &labelled, &params, &mut key) {
+        Ok(()) => Ok(key),
+        Err(_) => Err(Error::OutOfMemory),
     }
 }
 

@@ -1,17 +1,18 @@
 //! Logins: users are enrolled, let in by their passwords, and their hashes made anew when they have become weak.
 
-ghost use Rattle.std.specs.Prelude.{◌≡◌, ◌⊎◌, ◌↔◌, None, IsOk, IsSome, IsTrue, IfErr, IfOk, IfSome, length, string_bytes};
-ghost use Rattle.password_hash.specs.Refusal.{refusal};
+ghost use Rattle.std.specs.Prelude.{◌≡◌, ◌⊎◌, ◌↔◌, None, IsOk, IsSome, IsTrue, IfErr, IfOk, IfSome, OnOk, length, string_bytes};
+ghost use Rattle.password_hash.specs.Refusal.{Refusal, refusal};
 ghost use Rattle.password_hash.specs.declared.error.Error.TheVariants.{OutOfMemory};
 ghost use Rattle.scrypt.specs.Accepted.{AreAccepted};
 ghost use Rattle.scrypt.specs.PhcHash.{IsSaltLen};
-ghost use Rattle.scrypt_examples.specs.PhcText.{AcceptsText, IsRefusedText, IsWeakerText};
+ghost use Rattle.scrypt.specs.StoredHash.{Accepts, IsWeakerText};
+ghost use Rattle.scrypt_examples.specs.StoredText.{IsUnreadable};
 ghost use Rattle.scrypt_examples.specs.Login.{AreWanted, IsEnrolled, lets_in, new_text};
 
-use password_hash::{Error, PasswordHasher, PasswordVerifier, RehashCheck, Result};
-use scrypt::laws::{made_hashes_are_accepted, rehashing_converges, texts_have_one_reading};
+use password_hash::{Error, PasswordHasher, Result};
+use scrypt::laws::{made_texts_are_accepted, stored_texts_have_one_reading, verdicts_are_one};
 use scrypt::phc::PasswordHash;
-use scrypt::{InvalidParams, Params, Scrypt};
+use scrypt::{InvalidParams, Params, Scrypt, StoredHash};
 use std::alloc::Global;
 
 /// What a login comes to.
@@ -28,7 +29,7 @@ pub enum Login {
 /// Enrolls users and logs them in, with the parameters that are wanted by now.
 #[derive(Clone, Copy)]
 pub struct Logins {
-    wanted: Scrypt,
+    wanted: Params,
     pub ghost are_wanted: { AreWanted wanted },
 }
 
@@ -41,7 +42,7 @@ impl Logins {
         ensures value { IfOk result (λ logins.
             logins.wanted ≡ record { log_n = log_n; r = r; p = p; output_len = None }) }
     {
-        let wanted = Scrypt::new_with_params(Params::new(log_n, r, p)?);
+        let wanted = Params::new(log_n, r, p)?;
         Ok(Logins { wanted })
     }
 
@@ -63,10 +64,9 @@ impl Logins {
             IsEnrolled self.now.wanted password.now salt.now (string_bytes text)) }
         ensures err { IfErr result (λ e. e ≡ OutOfMemory) }
     {
-        made_hashes_are_accepted();
-        texts_have_one_reading();
-        rehashing_converges();
-        let hash: PasswordHash = self.wanted.hash_password_with_salt(alloc, password, salt)?;
+        made_texts_are_accepted();
+        let hasher = Scrypt::new_with_params(self.wanted);
+        let hash: PasswordHash = hasher.hash_password_with_salt(alloc, password, salt)?;
         Ok(hash.to_string(alloc)?)
     }
 
@@ -80,22 +80,27 @@ impl Logins {
         password: &[u8],
         salt: [u8; 16],
     ) -> Result<Login>
-        ensures accepted { IfOk result (λ login. IsTrue (lets_in login) ↔ AcceptsText password.now stored.now) }
+        ensures accepted { IfOk result (λ login. IsTrue (lets_in login) ↔ Accepts password.now stored.now) }
+        ensures read { OnOk result ((why : Refusal) → ¬ IsUnreadable stored.now why) }
         ensures weaker { IfOk result (λ login. IsSome (new_text login)
-            ↔ (AcceptsText password.now stored.now × IsWeakerText self.now.wanted stored.now)) }
+            ↔ (Accepts password.now stored.now × IsWeakerText self.now.wanted stored.now)) }
         ensures enrolled { IfOk result (λ login.
             IfSome (new_text login) (IsEnrolled self.now.wanted password.now salt)) }
-        ensures err { IfErr result (λ e. (e ≡ OutOfMemory) ⊎ IsRefusedText stored.now (refusal e)) }
+        ensures err { IfErr result (λ e. (e ≡ OutOfMemory) ⊎ IsUnreadable stored.now (refusal e)) }
     {
-        rehashing_converges();
-        let hash = PasswordHash::new(stored)?;
-        if let Err(error) = self.wanted.verify_password(alloc, password, &hash) {
+        verdicts_are_one();
+        stored_texts_have_one_reading();
+        let hash = match StoredHash::read(stored) {
+            Ok(hash) => hash,
+            Err(error) => return Err(error),
+        };
+        if let Err(error) = hash.verify(alloc, password) {
             return match error {
                 Error::PasswordInvalid => Ok(Login::Refused),
                 _ => Err(error),
             };
         }
-        if !self.wanted.needs_rehash(&hash)? {
+        if !hash.needs_rehash(&self.wanted)? {
             return Ok(Login::In);
         }
         Ok(Login::InWithNewText(self.enroll(alloc, password, salt)?))

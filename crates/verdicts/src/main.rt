@@ -1,9 +1,9 @@
 //! Reads hashes, one a line, and writes for each the verdict on the empty password.
 //!
-//! It is for tests: `scrypt_tool verify` takes one hash a run, and `ci/hostile.py` has a million.
+//! It is for tests: `scrypt_tool verify` takes one hash a run, and `compare/hostile.py` has a million.
 #![tactic(auto)]
 
-use scrypt_examples::migration::verify;
+use scrypt_examples::hash::verify;
 use std::io::{self, BufRead, BufReader};
 
 fn main(rt: HostRuntime) -> io::Result<()> {

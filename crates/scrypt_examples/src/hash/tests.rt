@@ -1,18 +1,24 @@
 // A hash with the recommended parameters, and verifying by texts.
 
 use super::{stored_text, verify};
-use crate::vectors::{RECOMMENDED, SALT, SHORT_KEY, STORED};
+use crate::vectors::{MCF, RECOMMENDED, SALT, SHORT_KEY, STORED};
 use password_hash::Error;
 use std::test::Fail;
 
 // A stored text, a password, the verdict, and the reason for the row.
-const VERDICTS: [(&str, &str, Result<(), Error>, &str); 7] = [
+const VERDICTS: [(&str, &str, Result<(), Error>, &str); 8] = [
     (STORED, "correct horse", Ok(()), "the password"),
     (
         SHORT_KEY,
         "correct horse",
         Ok(()),
         "the password, by a short key",
+    ),
+    (
+        MCF,
+        "correct horse",
+        Ok(()),
+        "the password, by a `$7$` text",
     ),
     (
         STORED,
@@ -26,7 +32,7 @@ const VERDICTS: [(&str, &str, Result<(), Error>, &str); 7] = [
         Err(Error::PasswordInvalid),
         "the key is missing",
     ),
-    ("scrypt", "", Err(Error::EncodingInvalid), "no PHC text"),
+    ("scrypt", "", Err(Error::EncodingInvalid), "neither format"),
     (
         "$argon2id$ln=4$aA",
         "",

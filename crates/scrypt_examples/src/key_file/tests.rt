@@ -60,3 +60,36 @@ fn a_table_that_no_machine_has(rt: HostRuntime) -> Result<(), Fail> {
     );
     Ok(())
 }
+
+#[test]
+fn wrap_keys_of_age_files(rt: HostRuntime) -> Result<(), Fail> {
+    let mut salt = [0u8; 16];
+    for (place, i) in salt.iter_mut().zip(0u8..16) {
+        *place = i;
+    }
+    for (password, key) in [
+        (
+            "correct horse",
+            "ad514be3aace71ca6a7d33f295ea8899c6bded101732b4e7be6bdf342c15fe1c",
+        ),
+        (
+            "",
+            "a7acb279834ad00f7b2114734492757a407e761be7885656d43ec8c3de2e21e4",
+        ),
+    ] {
+        let made = age_wrap_key(rt.alloc(), password.as_bytes(), 4, salt)?;
+        assert_eq!(rt; made, <[u8; 32]>::from_hex(key)?);
+    }
+    Ok(())
+}
+
+#[test]
+fn age_files_that_are_refused(rt: HostRuntime) {
+    for (log_n, error, reason) in [
+        (54, Error::ParamsInvalid, "a table of 2^64 bytes"),
+        (53, Error::OutOfMemory, "a table that no machine has"),
+    ] {
+        let made = age_wrap_key(rt.alloc(), b"", log_n, [0; 16]);
+        assert!(rt; made == Err(error), "{reason}");
+    }
+}

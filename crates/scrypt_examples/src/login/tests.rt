@@ -1,14 +1,14 @@
 // Logins by stored texts.
 
 use super::{Login, Logins};
-use crate::vectors::{NEW, NEW_4_2_1, NEW_5_1_1, SALT, SHORT_KEY, STORED};
+use crate::vectors::{MCF, NEW, NEW_4_2_1, NEW_5_1_1, SALT, SHORT_KEY, STORED};
 use password_hash::Error;
 use scrypt::InvalidParams;
 use std::test::Fail;
 
 // A stored text, a password, log_n and r as wanted, whether the user is in, the new text, and the reason
 // for the row.
-const LOGINS: [(&str, &str, u8, u32, bool, Option<&str>, &str); 9] = [
+const LOGINS: [(&str, &str, u8, u32, bool, Option<&str>, &str); 10] = [
     (STORED, "correct horse", 4, 1, true, None, "as wanted"),
     (
         STORED,
@@ -46,6 +46,7 @@ const LOGINS: [(&str, &str, u8, u32, bool, Option<&str>, &str); 9] = [
         Some(NEW),
         "the key is short",
     ),
+    (MCF, "correct horse", 4, 1, true, None, "a `$7$` text"),
     (STORED, "wrong horse", 4, 1, false, None, "another password"),
     (
         STORED,
@@ -95,7 +96,7 @@ fn logins(rt: HostRuntime) -> Result<(), Fail> {
 fn texts_that_are_refused(rt: HostRuntime) -> Result<(), Fail> {
     for (stored, refused, reason) in [
         ("", Error::EncodingInvalid, "no text"),
-        ("$7$2/..../....", Error::EncodingInvalid, "a `$7$` text"),
+        ("$7$2/..../....", Error::EncodingInvalid, "no key"),
         ("$argon2id$ln=4$aA", Error::Algorithm, "another algorithm"),
         (
             "$scrypt$v=1$ln=4$aA$AAAAAAAAAAAAAA",

@@ -52,22 +52,17 @@ const REWRITTEN: [(&str, &str, u8, Result<&str, Error>, &str); 9] = [
 
 #[test]
 fn costs_of_texts(rt: HostRuntime) -> Result<(), Fail> {
-    for (text, len, reason) in [
-        (STORED, Some(32), "a PHC text"),
-        (SHORT_KEY, Some(16), "a PHC text with a short key"),
-        (
-            "$scrypt$ln=4,r=1,p=1",
-            Some(32),
-            "no key counts as 32 bytes",
-        ),
-        (MCF, None, "a `$7$` text"),
-        ("$7$2/..../....", None, "a `$7$` text without salt and key"),
+    for (text, key_len, reason) in [
+        (STORED, 32, "a PHC text"),
+        (SHORT_KEY, 16, "a PHC text with a short key"),
+        ("$scrypt$ln=4,r=1,p=1", 0, "a PHC text without a key"),
+        (MCF, 32, "a `$7$` text"),
     ] {
-        let costs = match len {
-            Some(len) => Costs::Phc(Params::new_with_output_len(4, 1, 1, len)?),
-            None => Costs::Mcf(Params::new(4, 1, 1)?),
-        };
-        assert!(rt; Costs::of(text) == Ok(costs), "{reason}");
+        let params = Params::new(4, 1, 1)?;
+        assert!(rt;
+            Costs::of(text) == Ok(Costs { params, key_len }),
+            "{reason}"
+        );
     }
     Ok(())
 }
@@ -79,6 +74,11 @@ fn texts_that_are_refused(rt: HostRuntime) {
         ("$7", Error::EncodingInvalid, "no field"),
         ("$7$2/....", Error::EncodingInvalid, "no five letters of p"),
         ("$7$2/..../...", Error::EncodingInvalid, "four letters of p"),
+        (
+            "$7$2/..../....",
+            Error::EncodingInvalid,
+            "a `$7$` text without a key",
+        ),
         ("$7$2...../....", Error::ParamsInvalid, "r is 0"),
         ("$8$2/..../....", Error::EncodingInvalid, "neither format"),
         ("$argon2id$ln=4$aA", Error::Algorithm, "another algorithm"),

@@ -1,15 +1,15 @@
 use Rattle.std.proofs.Common.{inr}
-use Rattle.std.proofs.lemmas.Result.{err_from_is_err_and}
-use Rattle.scrypt_examples.proofs.RefusalFacts.{text_errors}
-use Rattle.scrypt_examples.specs.PhcText.{no_hash}
+use Rattle.std.proofs.lemmas.Bool.{false≢true}
+use Rattle.scrypt_examples.proofs.RefusalFacts.{not_stored, verify_errors, wrong_is_readable}
 use Rattle.scrypt_examples.proofs.hash.verify.Goals as goal
 
-pub returns-in_err-hash-clause-err : goal.returns-in_err-hash-clause-err
-returns-in_err-hash-clause-err c =
-    let p = err_from_is_err_and c.from_residual.result c.from_residual.ensures.1 in
-    rw (p.1, p.2, c.in_err-hash.ensures.err)
-    (inr (inr (no_hash (λ hash read. let h = c.in_err-hash.ensures.only hash read in absurd cc))))
+pub returns-in-Ok-clause-err : goal.returns-in-Ok-clause-err
+returns-in-Ok-clause-err c = verify_errors c.args.password.now c.args.stored.now c.verify.result (rw c.in-Ok.ensures.ok at c.verify.ensures.err)
 
-pub returns-clause-err : goal.returns-clause-err
-returns-clause-err c =
-    text_errors _ c.args.password.now c.in_ok-hash.hash c.verify_password.result c.in_ok-hash.ensures.ok c.verify_password.ensures.err
+pub returns-in-Ok-clause-readable : goal.returns-in-Ok-clause-readable
+returns-in-Ok-clause-readable c =
+    wrong_is_readable c.args.password.now c.args.stored.now c.verify.result (c.verdicts_are_one.ensures.text_read _ _)
+    (rw c.in-Ok.ensures.ok at c.verify.ensures.err)
+
+pub returns-in-Err-clause-err : goal.returns-in-Err-clause-err
+returns-in-Err-clause-err c = inr (inr (not_stored _ _ (λ stored. false≢true (c.in-Err.ensures.exact.1 stored)) c.in-Err.ensures.err))
