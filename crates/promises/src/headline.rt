@@ -1,0 +1,89 @@
+//! The first promise of README, sentence for sentence.
+
+ghost use Rattle.std.specs.Prelude.{◌≡◌, ◌+◌, ◌*◌, ◌^◌, length, IfErr, OnErr, OnOk};
+ghost use Rattle.scrypt.specs.Accepted.{AreAccepted, IsOutputLen};
+ghost use Rattle.scrypt.specs.Cost.{chunks_bytes, scratch_words, table_words};
+ghost use Rattle.scrypt.specs.Key.{derived_key};
+ghost use Rattle.scrypt.specs.declared.errors.DeriveError.TheVariants.{OutOfMemory};
+
+use scrypt::{CoreCount, DeriveError, Params, scrypt, scrypt_counted, scrypt_with_buffers};
+use std::alloc::Global;
+
+/// For accepted parameters and every output of 1 to 137438953440 bytes, the output is exactly RFC
+/// 7914's key, after exactly 4*N*r*p Salsa20/8 cores, each of them a SIMD core, or memory is
+/// wanting, with no core run and the output untouched. With buffers handed in the key is always
+/// written, here to `buffered`, after as many cores.
+pub fn key_or_want_of_memory(
+    alloc: Global,
+    password: &[u8],
+    salt: &[u8],
+    log_n: u8,
+    r: u32,
+    p: u32,
+    output: &mut [u8],
+    cores: &mut CoreCount,
+    chunks: &mut [u8],
+    table: &mut [u32],
+    scratch: &mut [u32],
+    buffered: &mut [u8],
+    buffered_cores: &mut CoreCount,
+) -> Result<(), DeriveError>
+    requires accepted { AreAccepted log_n r p }
+    requires output_len { IsOutputLen (length output.old) }
+    requires buffered_len { IsOutputLen (length buffered.old) }
+    requires chunks { length chunks.old ≡ chunks_bytes r p }
+    requires table { length table.old ≡ table_words log_n r }
+    requires scratch { length scratch.old ≡ scratch_words r }
+    ensures key { OnOk result (output.new ≡ derived_key password.now salt.now log_n r p (length output.old)) }
+    ensures cores { OnOk result (cores.new.all ≡ cores.old.all + 4 * 2 ^ log_n * r * p) }
+    ensures lanes { OnOk result (cores.new.lanes ≡ cores.old.lanes + 4 * 2 ^ log_n * r * p) }
+    ensures memory { IfErr result (λ e. e ≡ OutOfMemory) }
+    ensures no_core { OnErr result ((cores.new.all ≡ cores.old.all) × (cores.new.lanes ≡ cores.old.lanes)) }
+    ensures untouched { OnErr result (output.new ≡ output.old) }
+    ensures buffered { buffered.new ≡ derived_key password.now salt.now log_n r p (length buffered.old) }
+    ensures buffered_cores { buffered_cores.new.all ≡ buffered_cores.old.all + 4 * 2 ^ log_n * r * p }
+    ensures buffered_lanes { buffered_cores.new.lanes ≡ buffered_cores.old.lanes + 4 * 2 ^ log_n * r * p }
+{
+    let Ok(params) = Params::new(log_n, r, p) else {
+        unreachable!();
+    };
+    let written = scrypt_with_buffers(
+        password,
+        salt,
+        &params,
+        chunks,
+        table,
+        scratch,
+        buffered,
+        buffered_cores,
+    );
+    let Ok(()) = written else {
+        unreachable!();
+    };
+    scrypt_counted(alloc, password, salt, &params, output, cores)
+}
+
+/// The same of `scrypt`, which has no count.
+pub fn key_uncounted(
+    alloc: Global,
+    password: &[u8],
+    salt: &[u8],
+    log_n: u8,
+    r: u32,
+    p: u32,
+    output: &mut [u8],
+) -> Result<(), DeriveError>
+    requires accepted { AreAccepted log_n r p }
+    requires output_len { IsOutputLen (length output.old) }
+    ensures key { OnOk result (output.new ≡ derived_key password.now salt.now log_n r p (length output.old)) }
+    ensures memory { IfErr result (λ e. e ≡ OutOfMemory) }
+    ensures untouched { OnErr result (output.new ≡ output.old) }
+{
+    let Ok(params) = Params::new(log_n, r, p) else {
+        unreachable!();
+    };
+    scrypt(alloc, password, salt, &params, output)
+}
+
+#[cfg(test)]
+mod tests;

@@ -1,0 +1,65 @@
+//! Parameters are what they were made of, and equality is equality.
+
+ghost use Rattle.std.specs.Prelude.{◌≡◌, ◌↔◌, IsTrue, true};
+ghost use Rattle.scrypt.specs.Accepted.{recommended_parameters, without_len};
+
+use scrypt::{BufferLens, DeriveError, Params, Scrypt};
+
+/// The three numbers of parameters make these parameters again, but for a length.
+pub fn made_again(params: &Params) -> Params
+    ensures same { result ≡ without_len params.now }
+{
+    let Ok(made) = Params::new(params.log_n(), params.r(), params.p()) else {
+        unreachable!();
+    };
+    made
+}
+
+/// The work factor is 2 to the power of `log_n`, which is a number of 64 bits.
+pub fn is_power_of_two(params: &Params) -> bool
+    ensures always { result ≡ true }
+{
+    params.n() == 1 << params.log_n()
+}
+
+/// Defaults are the recommended parameters, with no length.
+pub fn default_params() -> Params
+    ensures recommended { result ≡ recommended_parameters }
+{
+    Params::default()
+}
+
+/// A hasher by default, and a new one, has the recommended parameters.
+pub fn default_hasher() -> Scrypt
+    ensures recommended { result ≡ recommended_parameters }
+{
+    Scrypt::default()
+}
+
+/// Parameters are equal exactly if all four are.
+pub fn are_params_equal(one: &Params, other: &Params) -> bool
+    ensures exact { IsTrue result ↔ (one.now ≡ other.now) }
+{
+    one == other
+}
+
+/// Hashers are equal exactly if their parameters are.
+pub fn are_hashers_equal(one: &Scrypt, other: &Scrypt) -> bool
+    ensures exact { IsTrue result ↔ (one.now ≡ other.now) }
+{
+    one == other
+}
+
+/// Lengths of buffers are equal exactly if all three are.
+pub fn are_lens_equal(one: &BufferLens, other: &BufferLens) -> bool
+    ensures exact { IsTrue result ↔ (one.now ≡ other.now) }
+{
+    one == other
+}
+
+/// Errors of a derivation are equal exactly if they are the same.
+pub fn are_errors_equal(one: &DeriveError, other: &DeriveError) -> bool
+    ensures exact { IsTrue result ↔ (one.now ≡ other.now) }
+{
+    one == other
+}
