@@ -1,22 +1,32 @@
-//! Tests of hashes in both formats, PHC and `$7$`: what other implementations made and read, which error comes
-//! first, and that calls succeed if memory is there.
+//! Tests of hashes and their texts in both formats, PHC and `$7$`: what other implementations made and read, each error
+//! once, how much each call allocates, and that calls succeed if memory is there.
 #![tactic(auto)]
 
 #[cfg(test)]
+mod allocations;
+#[cfg(test)]
+mod crypt64;
+#[cfg(test)]
+mod errors;
+#[cfg(test)]
 mod hostile;
+#[cfg(test)]
+mod in_buffers;
 #[cfg(test)]
 mod long_passwords;
 #[cfg(test)]
-mod mcf_base64;
-#[cfg(test)]
 mod mcf_costs;
 #[cfg(test)]
+mod mcf_fields;
+#[cfg(test)]
 mod mcf_hashes;
+#[cfg(test)]
+mod mcf_texts;
 #[cfg(test)]
 mod names;
 #[cfg(test)]
 mod phc_hashes;
 #[cfg(test)]
-mod phc_mutations;
+mod phc_texts;
 #[cfg(test)]
 mod rehashing;

@@ -18,76 +18,37 @@ fn numbers_of_five_letters(rt: HostRuntime) {
         assert_eq!(rt; out, *letters);
         assert_eq!(rt; decode64_uint32(letters), Ok(number));
     }
-    // Above 2^30 the number is taken modulo 2^30.
-    for (number, letters) in [(1_073_741_824, b"....."), (u32::MAX, b"zzzzz")] {
-        let mut out = [0; 5];
-        assert_eq!(rt; encode64_uint32(&mut out, number), Ok(()));
-        assert_eq!(rt; out, *letters);
-    }
+    // From 2^30 on the number is taken modulo 2^30.
+    let mut out = [0; 5];
+    assert_eq!(rt; encode64_uint32(&mut out, 1_073_741_824), Ok(()));
+    assert_eq!(rt; out, *b".....");
+    assert_eq!(rt; decode64_uint32(b"U..."), Err(EncodingInvalid));
 }
 
-#[test]
-fn places_after_five_letters(rt: HostRuntime) {
-    let mut out = *b"-------";
-    assert_eq!(rt; encode64_uint32(&mut out, 32), Ok(()));
-    assert_eq!(rt; out, *b"U....--");
-    let mut short = *b"----";
-    assert_eq!(rt; encode64_uint32(&mut short, 32), Err(EncodingInvalid));
-    assert_eq!(rt; short, *b"----");
-    assert_eq!(rt; decode64_uint32(b"U....$$"), Ok(32));
-    for (letters, reason) in [
-        ("", "no letter"),
-        ("U...", "four letters"),
-        ("U..-.", "the fourth is outside the alphabet"),
-        ("*....", "the first is outside the alphabet"),
-        ("U...\u{e9}", "the last is not ASCII"),
-    ] {
-        assert_eq!(rt;
-            decode64_uint32(letters.as_bytes()),
-            Err(EncodingInvalid),
-            "{reason}"
-        );
-    }
-}
-
-// Texts, the costs that they encode, and the salt after them.
-const ACCEPTED: [(&str, (u8, u32, u32), &str); 5] = [
+// Texts, the costs that they encode, the salt after them, and the reason for the row.
+const ACCEPTED: [(&str, (u8, u32, u32), &str, &str); 4] = [
     (
         "CU..../....Mq4YHD2syxYT.MsH1Ek0n1",
         (14, 32, 1),
         "Mq4YHD2syxYT.MsH1Ek0n1",
+        "libxcrypt's",
     ),
-    ("./..../....", (0, 1, 1), ""),
-    ("2/....zzzzz", (4, 1, 1_073_741_823), ""),
-    ("s/..../....", (56, 1, 1), ""),
-    ("C6..../....s\u{e9}l $", (14, 8, 1), "s\u{e9}l $"),
+    ("./..../....", (0, 1, 1), "", "the least, and no salt"),
+    ("2/....zzzzz", (4, 1, 1_073_741_823), "", "the greatest p"),
+    ("s/..../....", (56, 1, 1), "", "the greatest log_n"),
 ];
 
-const REFUSED: [(&str, Error, &str); 13] = [
+const REFUSED: [(&str, Error, &str); 7] = [
     ("", EncodingInvalid, "no letter"),
-    ("C", EncodingInvalid, "log_n alone"),
     ("*U...", EncodingInvalid, "r has four letters"),
-    ("CU..../...", EncodingInvalid, "p has four letters"),
     ("\u{e9}U..../....", EncodingInvalid, "log_n is not ASCII"),
-    (
-        "CU...\u{e9}/....",
-        EncodingInvalid,
-        "r ends in a letter that is not ASCII",
-    ),
-    ("*U..../...*", EncodingInvalid, "p is refused before log_n"),
     (
         "*U..../....",
         ParamsInvalid,
         "log_n outside the alphabet reads as 255",
     ),
-    (
-        "\u{7f}U..../....",
-        ParamsInvalid,
-        "so does the last ASCII character",
-    ),
     ("C...../....", ParamsInvalid, "r is 0"),
     ("2U....zzzzz", ParamsInvalid, "r * p is above 2^30"),
-    ("t/..../....", ParamsInvalid, "log_n is 57"),
     ("zzzzzzzzzzz", ParamsInvalid, "each number is the greatest"),
 ];
 
@@ -101,21 +62,17 @@ fn refusal(text: &str) -> Option<Error> {
 
 #[test]
 fn costs_and_salts(rt: HostRuntime) -> Result<(), Fail> {
-    for (text, (log_n, r, p), rest) in ACCEPTED {
+    for (text, (log_n, r, p), rest, reason) in ACCEPTED {
         let Ok((params, salt)) = decode_params_and_salt(text) else {
             return Err("refused".into());
         };
-        assert_eq!(rt; params, Params::new(log_n, r, p)?, "at {text}");
-        assert_eq!(rt; salt, rest.as_bytes(), "at {text}");
+        assert_eq!(rt; params, Params::new(log_n, r, p)?, "{reason}");
+        assert_eq!(rt; salt, rest.as_bytes(), "{reason}");
     }
     for (text, refused, reason) in REFUSED {
         assert_eq!(rt; refusal(text), Some(refused), "{reason}");
     }
-    Ok(())
-}
-
-#[test]
-fn each_letter_of_r_and_p_replaced(rt: HostRuntime) -> Result<(), Fail> {
+    // Each letter of r and of p, replaced by a byte outside the alphabet.
     for at in 1..11 {
         for byte in *b"$* -" {
             let mut letters = *b"CU..../....";

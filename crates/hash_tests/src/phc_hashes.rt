@@ -1,11 +1,11 @@
 // PHC hashes: made, printed, read and verified.
 
 use password_hash::phc::ParamsString;
-use password_hash::{CustomizedPasswordHasher, Error, PasswordHasher, PasswordVerifier, Version};
+use password_hash::{CustomizedPasswordHasher, Error, PasswordHasher, PasswordVerifier};
 use scrypt::laws::made_hashes_are_accepted;
 use scrypt::phc::{ALG_ID, PasswordHash};
-use scrypt::{InvalidParams, Params, Scrypt};
-use std::alloc::{AllocError, Global};
+use scrypt::{Params, Scrypt};
+use std::alloc::Global;
 use std::test::Fail;
 use test_support::texts::changed;
 use test_support::vectors::{PASSLIB_HASH, RFC_KEY_3_HASH, RFC_KEY_3_SHORT_HASH};
@@ -16,16 +16,7 @@ fn verdict(alloc: Global, text: &str, password: &[u8]) -> Result<(), Error> {
     Scrypt::new().verify_password(alloc, password, &hash)
 }
 
-#[test]
-fn hash_from_passlib(rt: HostRuntime) {
-    assert_eq!(rt; verdict(rt.alloc(), PASSLIB_HASH, b"password"), Ok(()));
-    assert_eq!(rt;
-        verdict(rt.alloc(), PASSLIB_HASH, b"invalid"),
-        Err(Error::PasswordInvalid)
-    );
-}
-
-// Changes of that hash, each with its reason and the verdict on `password`.
+// Changes of passlib's hash, each with its reason and the verdict on `password`.
 const CHANGES: [(&str, &str, &str, Result<(), Error>); 13] = [
     (
         ",r=8,p=1",
@@ -98,8 +89,11 @@ const SALT_AND_KEY_PARTS: &str =
     "$aM15713r3Xsvxbi31lqr1Q$nFNh2CVHVjNldFVKDHDlm4CbdRSCdEBsjjJxD+iCs5E";
 
 #[test]
-fn changes_of_a_hash(rt: HostRuntime) -> Result<(), Fail> {
+fn hash_from_passlib(rt: HostRuntime) -> Result<(), Fail> {
     let alloc = rt.alloc();
+    assert_eq!(rt; verdict(alloc, PASSLIB_HASH, b"password"), Ok(()));
+    let other = verdict(alloc, PASSLIB_HASH, b"invalid");
+    assert_eq!(rt; other, Err(Error::PasswordInvalid));
     for (old, new, reason, answer) in CHANGES {
         let text = changed(alloc, PASSLIB_HASH, old, new)?;
         assert_eq!(rt;
@@ -108,14 +102,11 @@ fn changes_of_a_hash(rt: HostRuntime) -> Result<(), Fail> {
             "{reason}"
         );
     }
-    // The table would have 2^63 bytes.
+    let largest = "$scrypt$ln=56,r=1,p=1$aA$AAAAAAAAAAAAAA";
     assert_eq!(rt;
-        verdict(
-            alloc,
-            "$scrypt$ln=56,r=1,p=1$aA$AAAAAAAAAAAAAA",
-            b"password"
-        ),
-        Err(Error::OutOfMemory)
+        verdict(alloc, largest, b"password"),
+        Err(Error::OutOfMemory),
+        "the table would have 2^63 bytes"
     );
     Ok(())
 }
@@ -144,53 +135,6 @@ fn made_hashes(rt: HostRuntime) -> Result<(), Fail> {
     Ok(())
 }
 
-// Names of the algorithm and its version, and the length of the salt, each with the error and its reason.
-const REFUSALS_IN_ORDER: [(Option<&str>, Option<Version>, usize, Error, &str); 5] = [
-    (
-        Some("argon2id"),
-        Some(0),
-        65,
-        Error::Algorithm,
-        "the algorithm comes before the version",
-    ),
-    (
-        Some("scrypt"),
-        Some(0),
-        65,
-        Error::Version,
-        "the version comes before the salt",
-    ),
-    (None, Some(0), 4, Error::Version, "no version is supported"),
-    (
-        Some("scrypt"),
-        None,
-        65,
-        Error::SaltInvalid,
-        "a salt has at most 64 bytes",
-    ),
-    (
-        None,
-        None,
-        0,
-        Error::SaltInvalid,
-        "a salt has at least one byte",
-    ),
-];
-
-#[test]
-fn refusals_of_hashing_in_order(rt: HostRuntime) -> Result<(), Fail> {
-    let alloc = rt.alloc();
-    let params = Params::new(4, 1, 1)?;
-    for (alg_id, version, salt_len, refused, reason) in REFUSALS_IN_ORDER {
-        let salt = vec![in alloc; 0u8; salt_len]?;
-        let made: Result<PasswordHash, Error> = Scrypt::new().hash_password_customized(
-            alloc, b"", &salt, alg_id, version, params,
-        );
-        assert_eq!(rt; made, Err(refused), "{reason}");
-    }
-    Ok(())
-}
-
 #[test]
 fn salts_of_refused_lengths(rt: HostRuntime) -> Result<(), Fail> {
     let params = Params::new(4, 1, 1)?;
@@ -202,24 +146,6 @@ fn salts_of_refused_lengths(rt: HostRuntime) -> Result<(), Fail> {
             params,
         );
         assert_eq!(rt; made, Err(Error::SaltInvalid));
-    }
-    Ok(())
-}
-
-// PHC texts have no padding.
-#[test]
-fn padded_keys(rt: HostRuntime) -> Result<(), Fail> {
-    let alloc = rt.alloc();
-    for (text, unpadded, padded) in [
-        (PASSLIB_HASH, "iCs5E", "iCs5E="),
-        (RFC_KEY_3_HASH, "RdofI", "RdofI="),
-    ] {
-        assert!(rt; PasswordHash::new(text).is_ok());
-        let text = changed(alloc, text, unpadded, padded)?;
-        assert_eq!(rt;
-            PasswordHash::new(text.as_str()),
-            Err(Error::EncodingInvalid)
-        );
     }
     Ok(())
 }
@@ -253,47 +179,5 @@ fn costs_of_hashes(rt: HostRuntime) -> Result<(), Fail> {
     assert_eq!(rt; written.as_str(), "ln=16,r=8,p=1");
     assert_eq!(rt; ParamsString::try_from(&sized)?, hash.params);
     assert_eq!(rt; hash.algorithm, ALG_ID);
-    Ok(())
-}
-
-// The errors of a login service, gathered in one.
-#[derive(Debug, Drop)]
-enum LoginError {
-    Memory,
-    Hash(Error),
-    Costs,
-}
-
-impl From<Error> for LoginError {
-    fn from(error: Error) -> LoginError {
-        LoginError::Hash(error)
-    }
-}
-
-impl From<AllocError> for LoginError {
-    fn from(_error: AllocError) -> LoginError {
-        LoginError::Memory
-    }
-}
-
-impl From<InvalidParams> for LoginError {
-    fn from(_error: InvalidParams) -> LoginError {
-        LoginError::Costs
-    }
-}
-
-// Hashes a password with sixteen drawn bytes, prints and reads the hash, and verifies it.
-fn enroll_and_log_in(alloc: Global, hasher: &Scrypt, password: &[u8]) -> Result<(), LoginError> {
-    let hash: PasswordHash = hasher.hash_password(alloc, password, [7; 16])?;
-    let stored = hash.to_string(alloc)?;
-    let read = PasswordHash::new(stored.as_str())?;
-    hasher.verify_password(alloc, password, &read)?;
-    Ok(())
-}
-
-#[test]
-fn hash_print_read_verify(rt: HostRuntime) -> Result<(), Fail> {
-    let hasher = Scrypt::default();
-    assert!(rt; enroll_and_log_in(rt.alloc(), &hasher, b"hunter42").is_ok());
     Ok(())
 }

@@ -3,6 +3,5 @@
 #![tactic(auto)]
 
 pub mod failing_allocations;
-pub mod mcf_texts;
 pub mod texts;
 pub mod vectors;

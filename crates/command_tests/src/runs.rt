@@ -1,0 +1,154 @@
+// Runs of the commands over readers and writers of the tests, and what several tests compare them with.
+
+use crate::streams::{Input, Page};
+use scrypt_commands::run::{Exit, run};
+use std::alloc::Global;
+use std::io::{Read, Write};
+use std::process::Abort;
+use std::test::Fail;
+
+// The first key of RFC 7914, section 12, and a newline.
+pub const FIRST_KEY: &str =
+    "77d6576238657b203b19ca42c18a0497f16b4844e3074ae8dfdffa3fede21442fcd0069ded0948f8326a753a0fc81f17e8d3e0fb2e0d3628cf35e20c38d18906\n";
+
+pub const USAGE: &str =
+    "usage: key LOG_N R P LEN SALT_HEX | hash phc|mcf LOG_N R P SALT_HEX [LEN] | verify HASH | rehash phc|mcf LOG_N R P LEN SALT_HEX HASH\n";
+
+// A command line, its status on the password `password`, and the line that it writes. The key is that of
+// Python's hashlib, and the `$7$` text is libxcrypt's.
+pub const COMMANDS: [(&str, u8, &str); 10] = [
+    (
+        "key 4 1 1 32 4e61436c",
+        0,
+        "aec6b7483ed26e08802b41f4032086a0e886be7ac48fcfd92ff0cef8109752f4\n",
+    ),
+    (
+        "hash phc 4 1 1 4e61436c",
+        0,
+        "$scrypt$ln=4,r=1,p=1$TmFDbA$rsa3SD7SbgiAK0H0AyCGoOiGvnrEj8/ZL/DO+BCXUvQ\n",
+    ),
+    (
+        "hash mcf 4 1 1 4e61436c",
+        0,
+        "$7$2/..../....C3qEg/$oOSIli7m/kDufp3GXHdJ7lqr3hzIyIJUYr4iTamAqDA\n",
+    ),
+    (
+        "verify $scrypt$ln=4,r=1,p=1$TmFDbA$rsa3SD7SbgiAK0H0AyCGoOiGvnrEj8/ZL/DO+BCXUvQ",
+        0,
+        "ok\n",
+    ),
+    (
+        "verify $7$2/..../....C3qEg/$oOSIli7m/kDufp3GXHdJ7lqr3hzIyIJUYr4iTamAqDA",
+        0,
+        "ok\n",
+    ),
+    (
+        "verify $scrypt$ln=4,r=1,p=1$TmFDbA$AAAAAAAAAAAAAA",
+        1,
+        "no\n",
+    ),
+    (
+        "verify $7$2/..../....$rNxJWVHNv/mCNcgE/f6/L4zO6Fos5c2uTzhyzoisI62",
+        1,
+        "no\n",
+    ),
+    (
+        "rehash phc 5 1 1 32 4e61436c $7$2/..../....C3qEg/$oOSIli7m/kDufp3GXHdJ7lqr3hzIyIJUYr4iTamAqDA",
+        0,
+        "$scrypt$ln=5,r=1,p=1$TmFDbA$HxxPTsHZtP5EtByLhzMFjQIpZtxfampm43heDluSagY\n",
+    ),
+    (
+        "rehash mcf 4 1 1 32 4e61436c $scrypt$ln=4,r=1,p=1$TmFDbA$rsa3SD7SbgiAK0H0AyCGoOiGvnrEj8/ZL/DO+BCXUvQ",
+        0,
+        "ok\n",
+    ),
+    (
+        "rehash mcf 5 1 1 32 4e61436c $7$2/..../....$rNxJWVHNv/mCNcgE/f6/L4zO6Fos5c2uTzhyzoisI62",
+        1,
+        "no\n",
+    ),
+];
+
+// How a run ended, and what it wrote.
+#[derive(Drop)]
+pub struct Printed {
+    pub ended: Exit,
+    pub output: Page,
+    pub faults: Page,
+}
+
+// Runs a command line, whose words are separated by single blanks, on two pages.
+pub fn run_line<R: Read>(
+    alloc: Global,
+    line: &str,
+    reader: &mut R,
+    mut output: Page,
+    mut faults: Page,
+) -> Result<Printed, Fail> {
+    let ended = run_over(alloc, line, reader, &mut output, &mut faults)?;
+    Ok(Printed {
+        ended,
+        output,
+        faults,
+    })
+}
+
+// Runs a command line over any reader and any two writers.
+pub fn run_over<R: Read, W: Write, F: Write>(
+    alloc: Global,
+    line: &str,
+    reader: &mut R,
+    output: &mut W,
+    faults: &mut F,
+) -> Result<Exit, Fail> {
+    Ok(run(alloc, &words_of(alloc, line)?, reader, output, faults))
+}
+
+// The words of a line, between single blanks.
+pub fn words_of(alloc: Global, line: &str) -> Result<Vec<String>, Fail> {
+    let mut words = Vec::new(alloc);
+    for word in line.split(' ') {
+        words.push(String::from_str(alloc, word)?)?;
+    }
+    Ok(words)
+}
+
+// Runs a command line on a password, whose line goes to the output with status 0 or 1, and else to the
+// faults.
+pub fn prints(
+    rt: &impl Abort,
+    alloc: Global,
+    line: &str,
+    password: &str,
+    (status, written, reason): (u8, &str, &str),
+) -> Result<(), Fail> {
+    let mut input = Input::new(password.as_bytes(), usize::MAX);
+    let printed = run_line(alloc, line, &mut input, Page::new(), Page::new())?;
+    assert_eq!(rt; printed.ended, Exit { status, ..DONE }, "{reason}");
+    let (output, fault) = if status < 2 {
+        (written, "")
+    } else {
+        ("", written)
+    };
+    assert_eq!(rt; printed.output.text(), output.as_bytes(), "{reason}");
+    assert_eq!(rt; printed.faults.text(), fault.as_bytes(), "{reason}");
+    Ok(())
+}
+
+pub const DONE: Exit = Exit {
+    status: 0,
+    input_failed: false,
+    error_written: true,
+};
+
+pub const INPUT_FAILED: Exit = Exit {
+    status: 4,
+    input_failed: true,
+    error_written: true,
+};
+
+pub const OUTPUT_FAILED: Exit = Exit {
+    status: 4,
+    input_failed: false,
+    error_written: true,
+};

@@ -1,0 +1,34 @@
+// The printed text of each error, which no clause gives.
+
+use password_hash::{Error, kdf, mcf};
+use std::test::Fail;
+
+#[test]
+fn texts_of_errors(rt: HostRuntime) -> Result<(), Fail> {
+    let alloc = rt.alloc();
+    for (error, text) in [
+        (Error::Algorithm, "unsupported algorithm"),
+        (Error::EncodingInvalid, "invalid encoding"),
+        (Error::OutputSize, "invalid key length"),
+        (Error::ParamInvalid { name: "ln" }, "invalid parameter ln"),
+        (Error::ParamsInvalid, "invalid parameters"),
+        (Error::PasswordInvalid, "wrong password"),
+        (Error::SaltInvalid, "invalid salt length"),
+        (Error::Version, "unsupported version"),
+        (Error::OutOfMemory, "out of memory"),
+    ] {
+        assert_eq!(rt; error.to_string(alloc)?.as_str(), text);
+    }
+    for (text, wanted) in [
+        (
+            mcf::Error::EncodingInvalid.to_string(alloc)?,
+            "invalid encoding",
+        ),
+        (mcf::Error::OutOfMemory.to_string(alloc)?, "out of memory"),
+        (kdf::Error::Refused.to_string(alloc)?, "refused key length"),
+        (kdf::Error::OutOfMemory.to_string(alloc)?, "out of memory"),
+    ] {
+        assert_eq!(rt; text.as_str(), wanted);
+    }
+    Ok(())
+}

@@ -1,0 +1,93 @@
+// The diagonal order, and scryptBlockMix in it and in standard order.
+
+use crate::primitives::words_of;
+use scrypt::CoreCount;
+use scrypt::block_mix::lanes::{scrypt_block_mix, shuffle_in, shuffle_out};
+use scrypt::block_mix::pivot::pivots_are_inverse;
+use scrypt::block_mix::plain;
+use std::test::Fail;
+use test_support::vectors::{CORE_INPUT, CORE_OUTPUT};
+
+#[test]
+fn shuffles_of_the_places(rt: HostRuntime) {
+    pivots_are_inverse();
+    let places = [0, 1, 2, 3, 4, 5, 6, 7, 8, 9, 10, 11, 12, 13, 14, 15];
+    let mut x: [u32; 16] = places;
+    shuffle_in(&mut x);
+    assert_eq!(rt; x, [0, 5, 10, 15, 4, 9, 14, 3, 8, 13, 2, 7, 12, 1, 6, 11]);
+    let mut x: [u32; 16] = places;
+    shuffle_out(&mut x);
+    assert_eq!(rt; x, [0, 13, 10, 7, 4, 1, 14, 11, 8, 5, 2, 15, 12, 9, 6, 3]);
+}
+
+#[test]
+fn block_mixes_begin_with_the_core(rt: HostRuntime) -> Result<(), Fail> {
+    // The second block is zeros, so the first step takes the first block alone.
+    let mut cores = CoreCount::new();
+    let mut input = [0u32; 32];
+    input[..16].copy_from_slice(&words_of(CORE_INPUT)?);
+    let mut output = [0u32; 32];
+    plain::scrypt_block_mix(&input, &mut output, &mut cores);
+    assert_eq!(rt; &output[..16], words_of(CORE_OUTPUT)?.as_slice());
+    shuffle_in(&mut input);
+    scrypt_block_mix(&input, &mut output, &mut cores);
+    shuffle_out(&mut output);
+    assert_eq!(rt; &output[..16], words_of(CORE_OUTPUT)?.as_slice());
+    Ok(())
+}
+
+// On the words 0, 1, 2, .., for each small r.
+#[test]
+fn block_mixes_in_both_orders(rt: HostRuntime) {
+    let mut cores = CoreCount::new();
+    for r in 1..6 {
+        let (mut words, mut mixed, mut expected) = ([0u32; 160], [0u32; 160], [0u32; 160]);
+        let mut next = 0;
+        for word in &mut words {
+            *word = next;
+            next = next.wrapping_add(1);
+        }
+        plain::scrypt_block_mix(&words[..32 * r], &mut expected[..32 * r], &mut cores);
+        shuffle_in(&mut words[..32 * r]);
+        scrypt_block_mix(&words[..32 * r], &mut mixed[..32 * r], &mut cores);
+        shuffle_out(&mut mixed[..32 * r]);
+        assert_eq!(rt; mixed, expected);
+    }
+}
+
+#[test]
+fn ten_block_mixes_of_sums(rt: HostRuntime) {
+    let mut cores = CoreCount::new();
+    let mut bytes = [0u8; 128];
+    let mut next = 0u8;
+    for byte in &mut bytes {
+        *byte = next;
+        next = next.wrapping_add(1);
+    }
+    for _ in 0..10 {
+        let mut input = words_from(&bytes);
+        let (mut expected, mut again, mut output) = ([0u32; 32], [0u32; 32], [0u32; 32]);
+        plain::scrypt_block_mix(&input, &mut expected, &mut cores);
+        shuffle_in(&mut input);
+        scrypt_block_mix(&input, &mut output, &mut cores);
+        shuffle_out(&mut input);
+        shuffle_out(&mut output);
+        plain::scrypt_block_mix(&input, &mut again, &mut cores);
+        assert_eq!(rt; again, expected);
+        assert_eq!(rt; output, expected);
+        for (four, word) in bytes.as_chunks_mut::<4>().0.iter_mut().zip(output) {
+            for (byte, added) in four.iter_mut().zip(word.to_le_bytes()) {
+                *byte = byte.wrapping_add(added);
+            }
+        }
+    }
+}
+
+// The words of a row, four bytes each in little-endian order.
+fn words_from(bytes: &[u8; 128]) -> [u32; 32] {
+    let mut words = [0u32; 32];
+    for (word, four) in words.iter_mut().zip(bytes.as_chunks::<4>().0) {
+        *word = u32::from_le_bytes(*four);
+    }
+    words
+}
