@@ -1,8 +1,9 @@
 #!/usr/bin/env python3
 """Draws docs/data_path.svg: the way that data takes from a password to a key or a verdict.
 
-Each box names a function of the sources, and what it does there. The script fails if a function isn't
-in its file, or if the picture in docs/ isn't the one that it draws.
+Each box names a function of the sources, and what it does there. The boxes of a row are either called
+one after another by the function that the row's title begins with, or each calls the next. The script
+fails if one of these calls isn't in the sources, or if the picture in docs/ isn't the one that it draws.
 
 usage: data_path.py [--write]    compares, or writes the picture
 """
@@ -13,51 +14,92 @@ import sys
 PICTURE = "docs/data_path.svg"
 WIDTH, BOX, HEIGHT, GAP = 940, 208, 52, 26
 
-# a row is a title, and its boxes: the function, its file, and what it does
+# A row is a title, the function that calls its boxes in their order, with its file (or None: each box calls
+# the next), and the boxes: a function, its file, and what it does.
+DERIVATION, WALK = "scrypt/src/derivation.rt", "scrypt_kernel/src/walk.rt"
+MIX, CORES = "scrypt_kernel/src/block_mix.rt", "scrypt_kernel/src/cores/lanes.rt"
+PHC, TRAITS = "scrypt/src/phc/hashing.rt", "password_hash/src/traits.rt"
 ROWS = [
     (
-        "A key: RFC 7914, section 6",
+        "A key",
+        None,
         [
-            ("scrypt", "scrypt/src/derivation.rt", "password, salt, costs"),
-            ("pbkdf2_one", "scrypt_kernel/src/pbkdf2.rt", "step 1: p chunks"),
-            ("ro_mix", "scrypt_kernel/src/romix.rt", "step 2: each chunk is mixed"),
+            ("scrypt", DERIVATION, "password, salt, parameters"),
+            ("scrypt_counted", DERIVATION, "allocates the buffers"),
+            ("derive_in", DERIVATION, "section 6, as below"),
+        ],
+    ),
+    (
+        "derive_in: RFC 7914, section 6",
+        ("derive_in", DERIVATION),
+        [
+            ("mix_chunks", DERIVATION, "steps 1 and 2: B, mixed"),
             ("pbkdf2_one", "scrypt_kernel/src/pbkdf2.rt", "step 3: the key"),
         ],
     ),
     (
-        "One chunk: RFC 7914, section 5",
+        "mix_chunks: RFC 7914, section 6, steps 1 and 2",
+        ("mix_chunks", DERIVATION),
         [
-            ("shuffle_in", "scrypt_kernel/src/order/diagonal.rt", "words in the lanes' order"),
-            ("fill", "scrypt_kernel/src/table.rt", "step 2: N rows of the table"),
-            ("walk", "scrypt_kernel/src/romix.rt", "step 3: N rows mixed in"),
-            ("shuffle_out", "scrypt_kernel/src/order/diagonal.rt", "words in standard order"),
+            ("pbkdf2_one", "scrypt_kernel/src/pbkdf2.rt", "step 1: p chunks"),
+            ("mix_chunk", "scrypt_kernel/src/chunk.rt", "step 2: each chunk is mixed"),
         ],
     ),
     (
-        "One row: RFC 7914, sections 4 and 3",
+        "mix_chunk: RFC 7914, section 5",
+        ("mix_chunk", "scrypt_kernel/src/chunk.rt"),
         [
-            ("integerify_diagonal", "scrypt_kernel/src/order/diagonal.rt", "which row is next"),
-            ("mix_with_row", "scrypt_kernel/src/table.rt", "xor with that row"),
-            ("mix", "scrypt_kernel/src/block_mix.rt", "scryptBlockMix: 2r blocks"),
-            ("core", "scrypt_kernel/src/order/diagonal.rt", "Salsa20/8 of each block"),
+            ("shuffle_in", "scrypt_kernel/src/order/diagonal.rt", "step 1: diagonal order"),
+            ("fill", "scrypt_kernel/src/table.rt", "step 2: the table"),
+            ("take_steps", WALK, "step 3: N times step"),
+            ("shuffle_out", "scrypt_kernel/src/order/diagonal.rt", "step 4: standard order"),
         ],
     ),
     (
-        "A new hash: the PHC string format, or $7$",
+        "step: RFC 7914, section 5, step 3 for one i",
+        ("step", WALK),
         [
-            ("hash_password", "password_hash/src/traits.rt", "password, bytes for a salt"),
-            ("made_len", "scrypt/src/stored_key.rt", "how long the key is"),
-            ("short_key", "scrypt/src/stored_key.rt", "the key, as above"),
-            ("write_text", "scrypt/src/mcf/hashing.rt", "for $7$; PHC: to_string"),
+            ("integerify", "scrypt_kernel/src/order/diagonal.rt", "which row is next"),
+            ("prefetch_row", "scrypt_kernel/src/prefetch.rt", "the kept row at or below it"),
+            ("mix", MIX, "if the table has the row"),
+            ("mix_with_recomputed", WALK, "if it does not"),
         ],
     ),
     (
-        "A stored hash: verified, and asked whether it is weak",
+        "A block mix: RFC 7914, sections 4 and 3",
+        None,
         [
-            ("new", "password_hash/src/phc/hash.rt", "PasswordHash of a text"),
-            ("read", "scrypt/src/phc/reading.rt", "costs, salt and key"),
-            ("verify_password", "scrypt/src/phc/verifying.rt", "the key anew, compared"),
-            ("needs_rehash", "scrypt/src/rehashing.rt", "weaker than is wanted?"),
+            ("mix", MIX, "scryptBlockMix: 2r blocks"),
+            ("step", MIX, "T = X xor B[i], X = Salsa (T)"),
+            ("core", "scrypt_kernel/src/order/diagonal.rt", "in diagonal order"),
+            ("core", CORES, "Salsa20/8, counted"),
+        ],
+    ),
+    (
+        "A new hash in the PHC string format",
+        None,
+        [
+            ("hash_password", TRAITS, "password, bytes for a salt"),
+            ("hash_password_with_salt", PHC, "with the value's parameters"),
+            ("hash_password_with_params", TRAITS, "with these parameters"),
+            ("hash_password_customized", PHC, "the key, and the hash"),
+        ],
+    ),
+    (
+        "hash_password_customized",
+        ("hash_password_customized", PHC),
+        [
+            ("key_in_array", "scrypt/src/stored_key.rt", "the key: derive calls scrypt"),
+            ("written", "scrypt/src/phc/costs.rt", "the parameters, as pairs"),
+        ],
+    ),
+    (
+        "verify_password",
+        ("verify_password", "scrypt/src/phc/verifying.rt"),
+        [
+            ("read", "scrypt/src/phc/reading.rt", "parameters, salt and key"),
+            ("key_in_array", "scrypt/src/stored_key.rt", "the key of this password"),
+            ("are_equal", "scrypt/src/phc/verifying.rt", "every byte compared"),
         ],
     ),
 ]
@@ -101,7 +143,7 @@ def picture():
         style(),
         f'<rect class="page" width="{WIDTH}" height="{height}"/>',
     ]
-    for at, (title, boxes) in enumerate(ROWS):
+    for at, (title, _, boxes) in enumerate(ROWS):
         top = at * pitch + 36
         lines.append(f'<text class="title" x="15" y="{top - 12}">{title}</text>')
         for place, (name, _, what) in enumerate(boxes):
@@ -112,13 +154,31 @@ def picture():
     return "\n".join(lines + ["</svg>", ""])
 
 
+def body(name, path):
+    """The text of a function from its name to the next function of the file, or None if there is none."""
+    with open(f"crates/{path}", encoding="utf-8") as source:
+        found = re.search(rf"\bfn {name}\b.*?(?=\bfn |\Z)", source.read(), re.S)
+    return found and re.sub(r"//[^\n]*", "", found[0][found[0].index(name) + len(name) :])
+
+
+def calls(text, names):
+    """Whether a text calls these functions in this order."""
+    return re.search(".*?".join(rf"\b{it}(?:::<[^()]*>)?\(" for it in names), text, re.S) is not None
+
+
 def missing():
-    """The functions that aren't in the file that is named."""
-    for _, boxes in ROWS:
+    """The functions that aren't in the file that is named, and the calls that no function makes."""
+    for title, caller, boxes in ROWS:
         for name, path, _ in boxes:
-            with open(f"crates/{path}", encoding="utf-8") as source:
-                if not re.search(rf"\bfn {name}\b", source.read()):
-                    yield f"{path} has no function {name}"
+            if body(name, path) is None:
+                yield f"{path} has no function {name}"
+        if caller:
+            made = [(caller, [it[0] for it in boxes])]
+        else:
+            made = [(before[:2], [after[0]]) for before, after in zip(boxes, boxes[1:])]
+        for (name, path), names in made:
+            if not calls(body(name, path) or "", names):
+                yield f"{title}: {name} of {path} doesn't call {', '.join(names)}"
 
 
 def main():
@@ -129,7 +189,7 @@ def main():
     with open(PICTURE, encoding="utf-8") as file:
         if file.read() != picture():
             wrong.append(f"{PICTURE} is not what ci/data_path.py draws")
-    print("\n".join(wrong) or f"{PICTURE}: every box is a function of the sources")
+    print("\n".join(wrong) or f"{PICTURE}: every box is a function of the sources, and every arrow a call")
     sys.exit(1 if wrong else 0)
 
 

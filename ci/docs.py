@@ -3,8 +3,9 @@
 
 Refused are: a name in docs/*.md or README.md that no source has; a clause of a public function that
 has no name; a public function that docs/PROMISES.md does not name; a definition that a public clause cites
-and that docs/DEFINITIONS.md does not name beside its module; and a row of docs/PROOFS.md on a module of proofs
-that differs from the comment on that module in its crate's proofs/Lib.antt.
+and that docs/DEFINITIONS.md does not name beside its module; a row of docs/PROMISES.md whose clauses are not those of its
+functions, and a clause in no row (clauses.py); and a row of docs/PROOFS.md on a module of proofs that differs from
+the comment on that module in its crate's proofs/Lib.antt.
 
 A public clause is one of a public function or of a public trait, or a relation that an implementation of a
 trait gives. It cites what its file imports by `ghost use` from the specs of a crate.
@@ -18,15 +19,17 @@ import glob
 import re
 import sys
 
+import clauses
+
 DOCS = ["README.md", *sorted(glob.glob("docs/*.md"))]
-PROMISES = "docs/PROMISES.md"
+PROMISES = clauses.PROMISES
 DEFINITIONS = "docs/DEFINITIONS.md"
 PROOFS = "docs/PROOFS.md"
 
 # Names of other programs and libraries, and words of texts and commands.
 OTHERS = set("""
-crypto_scrypt crypt_r libscrypt_scrypt crypto_pwhash_scryptsalsa208sha256 pbkdf2_hmac scrypt_kdf_mapped
-needs_update must_use new_unwrap crypto_pwhash_scryptsalsa208sha256_str rand_core getrandom password_hash_rs check_password generate_password_hash std core alloc
+crypto_scrypt crypt_r libscrypt_scrypt libscrypt_hash libscrypt_check crypto_pwhash_scryptsalsa208sha256 pbkdf2_hmac scrypt_kdf_mapped
+scrypt_verify_in needs_update must_use new_unwrap crypto_pwhash_scryptsalsa208sha256_str rand_core getrandom password_hash_rs check_password generate_password_hash std core alloc
 thread_rng salt_length maxmem_bytes gensalt_rn crypt_gensalt_rn password_verify EVP_PBE_scrypt fmt io env slice option result string str vec
 """.split())
 
@@ -73,7 +76,7 @@ def unknown_names(path, text, names, everything):
     for number, line in enumerate(text.splitlines(), 1):
         strict = path == PROMISES and line.startswith("|")
         for name in re.findall(r"`([^`]+)`", line):
-            file = re.fullmatch(r"(crates|docs|ci|bench|bindings)/[\w./-]+", name)
+            file = re.fullmatch(r"(crates|docs|ci|compare|bench|bindings)/[\w./-]+", name)
             if file and "NAME" not in name and not glob.glob(name):
                 yield f"{path}:{number}: no file {name}"
             words = words_of(name)
@@ -91,15 +94,15 @@ def public_functions(text):
 
 
 def own_sources():
-    """The sources of the libraries, and of the commands the one function that is their promise."""
+    """The sources of the libraries, and of the commands the function that is their promise, with its law."""
     others = ("_tests/", "/test_support/", "/tests", "/verdicts/", "/scrypt_c/src/texts.rt")
     found = [it for it in sources("rt") if not any(other in it for other in others)]
-    return [it for it in found if "/scrypt_commands/" not in it or it.endswith("/run.rt")]
+    return [it for it in found if "/scrypt_commands/" not in it or it.endswith(("/run.rt", "/laws.rt"))]
 
 
 def unnamed_clauses(path, text):
-    for name, line, clauses in public_functions(text):
-        if re.search(r"^\s*(ensures|requires) \{", clauses, re.M):
+    for name, line, head in public_functions(text):
+        if re.search(r"^\s*(ensures|requires) \{", head, re.M):
             yield f"{path}:{line}: a clause of the public function {name} has no name"
 
 
@@ -140,8 +143,8 @@ def public_clauses(text):
     for trait, body in re.findall(r"^impl(?:<[^>]*>)? ([^\n{]*) for [^\n{]*\{(.*?)^\}", text, re.M | re.S):
         if trait != "Model":
             relations += re.findall(r"^    ghost (?!laws)\w+ = \{(.*?)\};", body, re.M | re.S)
-    clauses = [it.split("//")[0] for head in heads + traits for it in re.split(r"\b(?:ensures|requires|ghost)\b", head)[1:]]
-    return clauses + relations
+    parts = [it.split("//")[0] for head in heads + traits for it in re.split(r"\b(?:ensures|requires|ghost)\b", head)[1:]]
+    return parts + relations
 
 
 def undefined(code, specs, definitions):
@@ -198,11 +201,13 @@ def complaints(documents, code, names):
 
 def main():
     documents = {it: read(it) for it in DOCS}
-    found = list(complaints(documents, {it: read(it) for it in own_sources()}, known_names()))
+    code = {it: read(it) for it in own_sources()}
+    found = list(complaints(documents, code, known_names()))
+    found += clauses.complaints(documents[PROMISES], code)
     specs = {it: read(it) for it in glob.glob("crates/*/specs/*.antt")}
-    found += undefined({it: read(it) for it in own_sources()}, specs, documents[DEFINITIONS])
+    found += undefined(code, specs, documents[DEFINITIONS])
     found += other_modules(documents, {it: read(it) for it in glob.glob("crates/*/proofs/Lib.antt")})
-    print("\n".join(found) or "docs: every name is in the sources, every public function is promised, and what clauses cite is defined")
+    print("\n".join(found) or "docs: every name is in the sources, every public clause is promised, and what clauses cite is defined")
     sys.exit(1 if found else 0)
 
 

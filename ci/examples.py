@@ -1,19 +1,19 @@
 #!/usr/bin/env python3
-"""Compares README's examples with the sources that they are parts of, and refuses what differs.
+"""Compares the documents' examples with the sources that they are parts of, and refuses what differs.
 
-A block of Rust in README names its file after the word `rust`, and its lines follow each other in that
+A block of Rust in README or docs/API.md names its file after the word `rust`, and its lines follow each other in that
 file, up to the indentation. Contracts may be left out, all of them or none.
 
-Refused is also a proof of the examples that names a proof of a library: they are proved from the
-libraries' public clauses alone.
+Refused is also a proof of the promises, the examples, the commands or the calls from C that names a proof of a
+library: they are proved from the libraries' public clauses alone, among which are the laws.
 """
 
 import glob
 import re
 import sys
 
-README = "README.md"
-PROOFS = "crates/scrypt_examples/proofs/**/*.antt"
+DOCUMENTS = ["README.md", "docs/API.md"]
+CALLERS = ["promises", "scrypt_c", "scrypt_commands", "scrypt_examples"]
 
 
 def read(path):
@@ -48,17 +48,17 @@ def stands_in(part, whole):
     return any(whole[at : at + len(part)] == part for at in range(len(whole) - len(part) + 1))
 
 
-def complaints(readme, sources):
-    """Everything that is refused in this text, beside these sources, which are texts by their paths."""
-    for line, path, lines in blocks(readme):
+def complaints(document, text, sources):
+    """Everything that is refused in this document, beside these sources, which are texts by their paths."""
+    for line, path, lines in blocks(text):
         if path is None:
-            yield f"{README}:{line}: an example names no file"
+            yield f"{document}:{line}: an example names no file"
         elif path not in sources:
-            yield f"{README}:{line}: no file {path}"
+            yield f"{document}:{line}: no file {path}"
         elif not lines:
-            yield f"{README}:{line}: an example has no line"
+            yield f"{document}:{line}: an example has no line"
         elif not any(stands_in(lines, it) for it in forms(sources[path])):
-            yield f"{README}:{line}: the example is not a part of {path}"
+            yield f"{document}:{line}: the example is not a part of {path}"
 
 
 def inner_proofs(proofs):
@@ -68,16 +68,22 @@ def inner_proofs(proofs):
             yield f"{path}: a proof of a library, {found}"
 
 
+def callers_proofs():
+    """The proofs of the crates that call the libraries, as texts by their paths."""
+    found = [path for name in CALLERS for path in glob.glob(f"crates/{name}/proofs/**/*.antt", recursive=True)]
+    return {path: read(path) for path in found}
+
+
 def forms(source):
     """A source with its contracts, and without them."""
     lines = stripped(source)
     return lines, without_contracts(lines)
 
 
-def named(readme):
+def named(text):
     """The sources that the examples name, as far as they exist."""
     found = {}
-    for _, path, _ in blocks(readme):
+    for _, path, _ in blocks(text):
         try:
             found[path] = read(path) if path else ""
         except OSError:
@@ -86,10 +92,10 @@ def named(readme):
 
 
 def main():
-    readme = read(README)
-    found = list(complaints(readme, named(readme)))
-    found += inner_proofs({it: read(it) for it in glob.glob(PROOFS, recursive=True)})
-    print("\n".join(found) or "examples: each is a part of the file that it names, and proved from public clauses")
+    texts = {it: read(it) for it in DOCUMENTS}
+    found = [it for document, text in texts.items() for it in complaints(document, text, named(text))]
+    found += inner_proofs(callers_proofs())
+    print("\n".join(found) or "examples: each is a part of the file that it names; callers are proved from public clauses")
     sys.exit(1 if found else 0)
 
 

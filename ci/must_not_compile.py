@@ -1,45 +1,35 @@
 #!/usr/bin/env python3
 """Checks beside the gate: what has to be refused by the compiler, before any proof.
 
-Each file crates/NAME/must-not-compile/*.edit is an edit as in must-fail/, and has to be refused as a
-use of something private. Two more things would let a count of cores say what was not run, and both
-are refused: a proof by hand other than the three of the counter itself, and a new count anywhere but
-where a key's derivation begins.
+Each file crates/NAME/must-not-compile/*.edit has to be refused as a use of something private. Two more
+things would let a count of cores say what was not run, and both are refused: a proof by hand other than
+the three of the counter itself, and a new count anywhere but where a key's derivation begins, or in a test. The
+counter has one name: another one for it is refused too, since a new count could hide behind it.
 """
 
 import glob
 import os
 import re
-import shutil
 import subprocess
 import sys
-import tempfile
+
+import edits
 
 COUNTER = "crates/scrypt_kernel/proofs/cores/CoreCount/"
 BY_HAND = [COUNTER + it + "/Proof.antt" for it in ["after_core", "after_lanes_core", "new"]]
-NEW_COUNTS = {"crates/scrypt/src/derivation.rt": 1, "crates/scrypt_c/src/keys.rt": 1}
+NEW_COUNTS = {
+    "crates/promises/src/headline/tests.rt": 2,
+    "crates/promises/src/lengths.rt": 1,
+    "crates/scrypt/src/derivation.rt": 1,
+    "crates/scrypt_c/src/in_buffers.rt": 1,
+    "crates/scrypt_c/src/keys.rt": 1,
+}
 
+# A new count, however the type is written: `CoreCount::new`, `<CoreCount>::new`, `scrypt::CoreCount :: new`.
+NEW = re.compile(r"\bCoreCount\s*>?\s*::\s*new\b")
 
-def edited(crate, edit):
-    """Applies an edit to a crate, and gives the texts that it replaced, by their files."""
-    before = {}
-    path, old = None, None
-    with open(edit, encoding="utf-8") as lines:
-        for line in lines.read().splitlines():
-            word, _, rest = line.partition(": ")
-            if word == "file":
-                path = os.path.join(crate, rest)
-            elif word == "old":
-                old = rest
-            elif word == "new":
-                with open(path, encoding="utf-8") as file:
-                    text = file.read()
-                if text.count(old) != 1:
-                    sys.exit(f"{edit}: the old text doesn't occur there once: {old}")
-                before.setdefault(path, text)
-                with open(path, "w", encoding="utf-8") as file:
-                    file.write(text.replace(old, rest))
-    return before
+# Another name for the counter or for what is in it.
+OTHER_NAMES = re.compile(r"\bCoreCount\s+as\b|\btype\s+\w+[^=;]*=[^;]*\bCoreCount\b|\buse\s[^;]*\bCoreCount\s*::")
 
 
 def refused_as_private(crate):
@@ -49,37 +39,37 @@ def refused_as_private(crate):
     return ran.returncode != 0 and errors != [] and all(it.startswith("private-") for it in errors)
 
 
-def new_counts():
-    """How often each file outside the tests begins a count of cores."""
-    counts = {}
-    for path in glob.glob("crates/*/src/**/*.rt", recursive=True):
-        if not path.split("/")[1].endswith("_tests"):
-            with open(path, encoding="utf-8") as file:
-                times = file.read().count("CoreCount::new(")
-            if times:
-                counts[path] = times
-    return counts
+def own_sources():
+    """The sources outside the test crates."""
+    found = glob.glob("crates/*/src/**/*.rt", recursive=True)
+    return {it: edits.read(it) for it in found if not it.split("/")[1].endswith("_tests")}
+
+
+def count_complaints(sources):
+    """What is refused in these sources, which are texts by their paths, of new counts and their names."""
+    counts = {path: len(NEW.findall(text)) for path, text in sources.items() if NEW.search(text)}
+    if counts != NEW_COUNTS:
+        yield f"new counts of cores: {counts}, where only {NEW_COUNTS} may be"
+    for path, text in sources.items():
+        for found in OTHER_NAMES.findall(text):
+            yield f"{path}: another name for the counter of cores: {found}"
 
 
 def main():
     failed = 0
-    with tempfile.TemporaryDirectory() as room:
-        copy = os.path.join(room, "copy")
-        shutil.copytree(".", copy, ignore=shutil.ignore_patterns(".git", "out"))
-        for edit in sorted(glob.glob("crates/*/must-not-compile/*.edit")):
-            crate = os.path.join(copy, os.path.dirname(os.path.dirname(edit)))
-            before = edited(crate, edit)
-            refused = refused_as_private(crate)
-            for path, text in before.items():
-                with open(path, "w", encoding="utf-8") as file:
-                    file.write(text)
-            print(f"must-not-compile {edit}: {'refused, as private' if refused else 'NOT REFUSED'}")
-            failed += not refused
+    with edits.copied("out") as copy:
+        for name in edits.crates_with("must-not-compile"):
+            crate = os.path.join(copy, "crates", name)
+            for edit in edits.edits_of(name, "must-not-compile"):
+                with edits.applied(edit, crate):
+                    refused = refused_as_private(crate)
+                print(f"must-not-compile {edit}: {'refused, as private' if refused else 'NOT REFUSED'}")
+                failed += not refused
     if sorted(glob.glob("crates/*/proofs/**/Proof.antt", recursive=True)) != BY_HAND:
         print(f"proofs by hand other than {', '.join(BY_HAND)}")
         failed += 1
-    if new_counts() != NEW_COUNTS:
-        print(f"new counts of cores: {new_counts()}, where only {NEW_COUNTS} may be")
+    for complaint in count_complaints(own_sources()):
+        print(complaint)
         failed += 1
     sys.exit(1 if failed else 0)
 

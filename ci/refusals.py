@@ -8,60 +8,52 @@ body. An edit is listed where no other reason is printed, or where it isn't refu
 usage: refusals.py [NAME..]    the crates, or all that have edits; some 20 seconds for each edit
 """
 
-import glob
 import os
 import re
-import shutil
 import subprocess
 import sys
-import tempfile
 
-import must_not_compile
+import edits
 
 FOLDERS = ["must-fail", "wrong-bodies"]
 
-# what shows nothing of the body
-WEAK = re.compile(r"gave up at one of its limits|that can be named from here|depend[s]? on `|declarations? that depend")
+# what shows nothing of the body: a search that ended, and names that are gone
+WEAK = re.compile(
+    r"gave up at one of its limits|can be named (?:from )?here|has no field|has no `|is not in scope"
+    r"|was not admitted|depend[s]? on `|declarations? that depend"
+)
 
 # what names a goal that isn't shown
 STRONG = re.compile(r"it is not proved that|error: `[^`]+`: |error: .*(differ|does not follow|no proof of)")
 
 
-def reasons(crate):
-    """Whether a check fails, and the reasons that it prints."""
-    ran = subprocess.run(["rt", "check"], cwd=crate, capture_output=True, text=True)
+def false_goals(printed):
+    """The reasons in what a check prints that name a false goal."""
     told = []
-    for line in (ran.stdout + ran.stderr).splitlines():
+    for line in printed.splitlines():
         # a reason goes on in the indented lines after it
         if told and line.startswith("  "):
             told[-1] += line
         else:
             told.append(line)
-    return ran.returncode != 0, [it for it in told if STRONG.search(it) and not it.startswith("so far")]
+    return [it for it in told if STRONG.search(it) and not WEAK.search(it) and not it.startswith("so far")]
 
 
 def verdict(crate, edit):
     """Why an edit belongs on the list, or None."""
-    before = must_not_compile.edited(crate, edit)
-    refused, lines = reasons(crate)
-    for path, text in before.items():
-        with open(path, "w", encoding="utf-8") as file:
-            file.write(text)
-    if not refused:
+    with edits.applied(edit, crate):
+        ran = subprocess.run(["rt", "check"], cwd=crate, capture_output=True, text=True)
+    if ran.returncode == 0:
         return "not refused"
-    if not any(not WEAK.search(it) for it in lines):
-        return "no false goal is named"
-    return None
+    return None if false_goals(ran.stdout + ran.stderr) else "no false goal is named"
 
 
 def main():
-    names = sys.argv[1:] or sorted({it.split("/")[1] for it in glob.glob("crates/*/must-fail/*.edit")})
+    names = sys.argv[1:] or edits.crates_with("must-fail")
     listed = tried = 0
-    with tempfile.TemporaryDirectory() as room:
-        copy = os.path.join(room, "copy")
-        shutil.copytree(".", copy, ignore=shutil.ignore_patterns(".git"))
+    with edits.copied() as copy:
         for name in names:
-            for edit in sorted(it for folder in FOLDERS for it in glob.glob(f"crates/{name}/{folder}/*.edit")):
+            for edit in edits.edits_of(name, *FOLDERS):
                 why = verdict(os.path.join(copy, "crates", name), edit)
                 tried += 1
                 if why:

@@ -3,21 +3,18 @@
 
 No clause says that memory is there, or how much a call takes: a body that allocates once more, or that
 always answers that memory ran out, is proved. Each edit of crates/NAME/refused-by-tests/ is such a
-body, in the form of the edits in must-fail/. It is applied to a copy of the repository, where
-everything still has to be proved, and a test of the crate NAME has to fail.
+body. It is applied to a copy of the repository, where everything still has to be proved, and a test of
+the crate NAME has to fail.
 
 usage: refused_by_tests.py [NAME..]    the crates, or all that have such a folder; minutes for each edit
 """
 
-import glob
 import os
 import re
-import shutil
 import subprocess
 import sys
-import tempfile
 
-import must_not_compile
+import edits
 
 
 def failed_tests(crate):
@@ -30,19 +27,14 @@ def failed_tests(crate):
 
 
 def main():
-    names = sys.argv[1:] or sorted(it.split("/")[1] for it in glob.glob("crates/*/refused-by-tests"))
+    names = sys.argv[1:] or edits.crates_with("refused-by-tests")
     wrong = 0
-    with tempfile.TemporaryDirectory() as room:
-        copy = os.path.join(room, "copy")
-        shutil.copytree(".", copy, ignore=shutil.ignore_patterns(".git"))
+    with edits.copied() as copy:
         for name in names:
             crate = os.path.join(copy, "crates", name)
-            for edit in sorted(glob.glob(f"crates/{name}/refused-by-tests/*.edit")):
-                before = must_not_compile.edited(crate, edit)
-                failed = failed_tests(crate)
-                for path, text in before.items():
-                    with open(path, "w", encoding="utf-8") as file:
-                        file.write(text)
+            for edit in edits.edits_of(name, "refused-by-tests"):
+                with edits.applied(edit, crate):
+                    failed = failed_tests(crate)
                 if failed:
                     print(f"{edit}: proved, and refused by {', '.join(failed)}", flush=True)
                 else:

@@ -3,6 +3,7 @@
 
 import sys
 
+import clauses
 import docs
 
 PLAIN = "`Params::{log_n, n}` of `scrypt_counted`.\n"
@@ -73,6 +74,85 @@ DEFINITIONS = [
 ]
 
 
+KEPT = """| promise | function | clause |
+|---|---|---|
+| the key | `derive::{key, key_in}` | `value` |
+| as it was | `key`; `key_in` | `refused`; `buffers` |
+| what a hasher makes | `Hasher::hash`; `Hasher` of `Scrypt` | `ok`; `hashes` |
+| equal | `PartialEq` of `Scrypt` | derived |
+
+| law | function (clauses) | who relies on it |
+|---|---|---|
+| one key | `one_key` (`one`, `same`) | `all` |
+"""
+CODE = {
+    "crates/a/src/derive.rt": """pub fn key(x: u8)
+    ensures value { x }
+    ensures refused { x }
+{
+}
+
+pub fn key_in(x: u8)
+    ensures value { x }
+    ensures buffers { x }
+{
+}
+
+fn inner(x: u8)
+    ensures hidden { x }
+{
+}
+
+pub fn one_key()
+    ensures one { x }
+    ensures same { x }
+{
+}
+""",
+    "crates/a/src/hasher.rt": """pub trait Hasher {
+    ghost hashes: { Self };
+
+    fn hash(&self)
+        ensures ok { x };
+}
+
+impl Hasher for Scrypt {
+    ghost hashes = { x };
+
+    fn hash(&self) {
+    }
+}
+""",
+}
+
+# What is changed in the promises or in the sources, and what has to be said of it, if anything.
+CLAUSES = [
+    ("nothing is changed", "", "", None),
+    ("a clause that is dropped", "    ensures buffers { x }\n", "", "key_in of crates/a/src/derive.rt has no clause buffers"),
+    ("a clause that one of two functions drops", "    ensures value { x }\n    ensures refused", "    ensures refused", "key of crates/a/src/derive.rt has no clause value"),
+    ("a clause with another name", "ensures refused", "ensures unchanged", "no row with the clause unchanged of key"),
+    ("a clause that is added", "    ensures buffers", "    ensures more { x }\n    ensures buffers", "no row with the clause more of key_in"),
+    ("a private clause that is added", "    ensures hidden", "    ensures more { x }\n    ensures hidden", None),
+    ("a clause of a trait that is dropped", "        ensures ok { x };", "        ;", "Hasher::hash of crates/a/src/hasher.rt has no clause ok"),
+    ("a relation that is dropped", "    ghost hashes = { x };\n", "", "Hasher of crates/a/src/hasher.rt has no clause hashes"),
+    ("a clause of a law that is dropped", "    ensures same { x }\n", "", "one_key of crates/a/src/derive.rt has no clause same"),
+    ("a clause that no row names", "`refused`; `buffers`", "`value`; `buffers`", "no row with the clause refused of key"),
+    ("a clause that its function lacks", "`refused`; `buffers`", "`buffers`; `buffers`", "key of crates/a/src/derive.rt has no clause buffers"),
+    ("fewer groups of clauses than of functions", "`refused`; `buffers`", "`refused`, `buffers`", "as many groups"),
+]
+
+
+def clauses_failed():
+    """How many rows on the clauses of promises aren't as they should be."""
+    failed = 0
+    for reason, old, new, wanted in CLAUSES:
+        found = list(clauses.complaints(KEPT.replace(old, new), {path: text.replace(old, new) for path, text in CODE.items()}))
+        if (found != []) != (wanted is not None) or wanted and not any(wanted in it for it in found):
+            print(f"docs.py, {reason}: said {found}")
+            failed += 1
+    return failed
+
+
 def definitions_failed():
     """How many rows on definitions aren't as they should be."""
     failed = 0
@@ -105,8 +185,8 @@ def main():
         if not right:
             print(f"docs.py, {reason}: said {found}")
             failed += 1
-    failed += definitions_failed() + modules_failed()
-    cases = len(ROWS) + len(DEFINITIONS) + len(MODULES)
+    failed += clauses_failed() + definitions_failed() + modules_failed()
+    cases = len(ROWS) + len(CLAUSES) + len(DEFINITIONS) + len(MODULES)
     print(f"docs.py: {cases - failed} of {cases} cases as they should be")
     sys.exit(1 if failed else 0)
 

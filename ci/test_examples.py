@@ -57,6 +57,9 @@ PROOFS = [
     ("a proof of the kit", "use Rattle.std.proofs.Common.{refl}\n", None),
     ("a proof of a library", "use Rattle.scrypt.proofs.VerdictFacts.{once}\n", "scrypt.proofs.VerdictFacts"),
     ("a proof of texts", "use Rattle.password_hash.proofs.OneReading.{one_reading}\n", "proofs.OneReading"),
+    ("a proof of the kernel", "use Rattle.scrypt_kernel.proofs.RoMixFacts.{rows}\n", "proofs.RoMixFacts"),
+    ("a goal of the commands", "use Rattle.scrypt_commands.proofs.answer.verify.Goals as goal\n", None),
+    ("a proof of the calls from C", "use Rattle.scrypt_c.proofs.TextFacts.{text_once}\n", None),
 ]
 
 
@@ -68,7 +71,7 @@ def cases():
     """Each case: its reason, what was said, and what has to be said, if anything."""
     for reason, example, path, wanted in ROWS:
         readme = f"Text.\n\n```rust{' ' + path if path else ''}\n{example}```\n\n```c\nint main;\n```\n"
-        yield reason, list(examples.complaints(readme, {PATH: SOURCE})), wanted
+        yield reason, list(examples.complaints("README.md", readme, {PATH: SOURCE})), wanted
     for reason, line, wanted in PROOFS:
         yield reason, list(examples.inner_proofs({"proofs/Lib.antt": line})), wanted
 

@@ -12,16 +12,15 @@ import os
 import shutil
 import subprocess
 import sys
-import tempfile
+
+import edits
 
 
 def main():
-    names = sys.argv[1:] or sorted(it.split("/")[1] for it in glob.glob("crates/*/wrong-bodies"))
-    with tempfile.TemporaryDirectory() as room:
-        copy = os.path.join(room, "copy")
-        shutil.copytree(".", copy, ignore=shutil.ignore_patterns(".git", "out"))
-        for edits in glob.glob(os.path.join(copy, "crates/*/must-fail")):
-            shutil.rmtree(edits)
+    names = sys.argv[1:] or edits.crates_with("wrong-bodies")
+    with edits.copied("out") as copy:
+        for folder in glob.glob(os.path.join(copy, "crates/*/must-fail")):
+            shutil.rmtree(folder)
         for name in names:
             crate = os.path.join(copy, "crates", name)
             os.rename(os.path.join(crate, "wrong-bodies"), os.path.join(crate, "must-fail"))

@@ -1,0 +1,111 @@
+"""Compares the clauses that docs/PROMISES.md names with those of the functions, for docs.py.
+
+A row of its tables names functions, and the clauses that keep its promise. Where a `;` parts the functions into groups,
+one parts the clauses too, a group for each. Each clause of a group has to be an `ensures` or a `ghost` of each function of
+the group, and each `ensures` of a public function has to be in a row. A row on a trait names clauses of its functions;
+`X` of `Y` and `X` for `Y` are the impl of `X` for `Y`, whose relations are its clauses. A law has its clauses in
+parentheses after its name. A row without clauses is on what is derived.
+"""
+
+import re
+
+PROMISES = "docs/PROMISES.md"
+
+# what says nothing of a call: the shape of a model, and the laws of a derived relation
+OF_MODELS = {"laws", "view", "invariant", "inverse_ok"}
+
+FUNCTION = re.compile(r"^( *)(pub )?(?:const |unsafe |extern \"C\" )*fn (\w+)(.*?)(?:^\1[{}]|;$)", re.M | re.S)
+
+
+class Item:
+    """A public function, a trait with its functions, or an implementation of a trait."""
+
+    def __init__(self, path, name, words, clauses, ensures, is_trait=False):
+        self.path, self.name, self.words, self.clauses, self.ensures = path, name, words, clauses, ensures
+        self.is_trait, self.said = is_trait, set()
+
+
+def ensured(text):
+    return set(re.findall(r"\bensures (\w+) \{", text))
+
+
+def relations(body, sign):
+    return set(re.findall(rf"^    ghost (\w+){sign}", body, re.M)) - OF_MODELS
+
+
+def items_of(path, text):
+    """The items of a source. Their words are those of its path and of the type or trait around them."""
+    module = set(re.split(r"[/.]", path)) - {"crates", "src", "rt"}
+    for kind, head, body in re.findall(r"^(pub trait|impl(?:<[^>]*>)?) ([^\n{]*)\{(.*?)^\}", text, re.M | re.S):
+        words = module | set(re.findall(r"\w+", head))
+        functions = [(name, ensured(rest), public) for _, public, name, rest in FUNCTION.findall(body)]
+        if kind == "pub trait":
+            ensures = set().union(*(clauses for _, clauses, _ in functions))
+            yield Item(path, re.match(r"\w+", head).group(), words, ensures | relations(body, ":"), ensures, True)
+        elif " for " in head:
+            clauses = relations(body, " = ").union(*(clauses for _, clauses, _ in functions))
+            yield Item(path, re.match(r"[\w:]+", head).group().split("::")[-1], words, clauses, set())
+        else:
+            yield from (Item(path, name, words, clauses, clauses) for name, clauses, public in functions if public)
+        if kind == "pub trait":
+            yield from (Item(path, name, words, clauses, set()) for name, clauses, _ in functions)
+    for indent, public, name, rest in FUNCTION.findall(text):
+        if public and not indent:
+            yield Item(path, name, module, ensured(rest), ensured(rest))
+
+
+def rows(text):
+    """The rows of the tables: their line, and groups of functions with the clauses of each."""
+    for number, line in enumerate(text.splitlines(), 1):
+        cells = [it.strip() for it in line.strip("|").split(" | ")]
+        if not line.startswith("| ") or len(cells) != 3 or "`" not in cells[1]:
+            continue
+        of_laws = re.findall(r"(`\w+`) \((.*?)\)", cells[1])
+        functions, clauses = cells[1].split(";"), cells[2].split(";")
+        if of_laws or "`" not in cells[2]:
+            yield number, of_laws
+        else:
+            yield number, list(zip(functions, clauses)) if len(functions) == len(clauses) else None
+
+
+def paths(text):
+    """The paths between backquotes, without their type parameters, as lists of words."""
+    for name in re.findall(r"`([^`]+)`", text):
+        found = re.fullmatch(r"(.*)\{(.*)\}(.*)", name)
+        choices = [found.group(1) + it.strip() + found.group(3) for it in found.group(2).split(",")] if found else [name]
+        yield from (re.sub(r"<.*?>", "", it).split("::") for it in choices)
+
+
+def named(group, items):
+    """The functions that a group names, each with the items that it stands for."""
+    subject, _, context = re.match(r"(.*?)(?:(?<!kept) (of|for) (.*))?$", group.replace("\n", " ")).groups()
+    around = {word for path in paths(context or "") for word in path}
+    for path in paths(subject):
+        found = [it for it in items if it.name == path[-1] and (not around or around & it.words)]
+        traits = [it for it in found if it.is_trait]
+        found = traits if traits and not around else found
+        best = max((len(it.words & set(path[:-1])) for it in found), default=0)
+        yield "::".join(path), [it for it in found if len(it.words & set(path[:-1])) == best]
+
+
+def complaints(text, sources):
+    """Everything that is refused in these promises, beside these sources, which are texts by their paths."""
+    items = [it for path, source in sources.items() for it in items_of(path, source)]
+    names = {it.name for it in items}
+    for number, groups in rows(text):
+        if groups is None:
+            yield f"{PROMISES}:{number}: as many groups of clauses as of functions are wanted"
+        for functions, clauses in groups or []:
+            wanted = set(re.findall(r"`(\w+)`", clauses))
+            for name, found in named(functions, items):
+                if not found and name.split("::")[-1] in names:
+                    yield f"{PROMISES}:{number}: no function {name}"
+                for item in found:
+                    item.said |= wanted
+                    for clause in sorted(wanted - item.clauses):
+                        yield f"{PROMISES}:{number}: {name} of {item.path} has no clause {clause}"
+    for item in items:
+        # a trait's clauses may be in rows on its functions
+        said = item.said.union(*(it.said for it in items if item.is_trait and it.words == item.words))
+        for clause in sorted(item.ensures - said):
+            yield f"{item.path}: {PROMISES} has no row with the clause {clause} of {item.name}"

@@ -1,0 +1,80 @@
+"""Copies of the repository, and edits that are applied to a copy and taken back.
+
+An edit is a file with a line `file: PATH`, from the crate's folder, and then pairs of lines `old: TEXT` and `new: TEXT`.
+Each old text occurs once in that file. Four folders of a crate have edits:
+
+must-fail/          wrong bodies that the prover has to refuse; the gate tries them
+wrong-bodies/       more of these, which `make wrong-bodies` tries
+refused-by-tests/   wrong bodies that meet every contract, and that a test has to refuse (`make refused-by-tests`)
+must-not-compile/   uses of something private, which the compiler has to refuse before any proof; the gate tries them
+"""
+
+import contextlib
+import glob
+import os
+import shutil
+import tempfile
+
+
+class BadEdit(Exception):
+    """An edit that can't be applied."""
+
+
+@contextlib.contextmanager
+def copied(*left_out):
+    """A copy of the repository, without its history and without files of these names."""
+    with tempfile.TemporaryDirectory() as room:
+        copy = os.path.join(room, "copy")
+        shutil.copytree(".", copy, ignore=shutil.ignore_patterns(".git", *left_out))
+        yield copy
+
+
+def crates_with(folder):
+    """The crates that have edits in this folder."""
+    return sorted({it.split("/")[1] for it in glob.glob(f"crates/*/{folder}/*.edit")})
+
+
+def edits_of(name, *folders):
+    """The edits of a crate in these folders."""
+    return sorted(it for folder in folders for it in glob.glob(f"crates/{name}/{folder}/*.edit"))
+
+
+def read(path):
+    with open(path, encoding="utf-8") as file:
+        return file.read()
+
+
+def write(path, text):
+    with open(path, "w", encoding="utf-8") as file:
+        file.write(text)
+
+
+def texts_after(edit, crate):
+    """The texts that an edit gives to files of a crate, by their paths."""
+    after, path, old = {}, None, None
+    for line in read(edit).splitlines():
+        word, _, rest = line.partition(": ")
+        if word == "file":
+            path = os.path.join(crate, rest)
+        elif word == "old":
+            old = rest
+        elif word == "new":
+            text = after.get(path) or read(path)
+            if text.count(old) != 1:
+                raise BadEdit(f"{edit}: the old text doesn't occur there once: {old}")
+            after[path] = text.replace(old, rest)
+    return after
+
+
+@contextlib.contextmanager
+def applied(edit, crate):
+    """Applies an edit to a crate, and takes it back at the end."""
+    after = texts_after(edit, crate)
+    before = {path: read(path) for path in after}
+    try:
+        for path, text in after.items():
+            write(path, text)
+        yield
+    finally:
+        for path, text in before.items():
+            write(path, text)
