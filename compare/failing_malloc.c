@@ -1,0 +1,25 @@
+/* Preloaded into a program: the allocation of number FAIL_AT fails, counted from 1 over malloc and realloc.
+   Where SIZES is set, each allocation's size goes to standard error. */
+#include <stdio.h>
+#include <stdlib.h>
+#include <unistd.h>
+
+void *__libc_malloc(size_t size);
+void *__libc_realloc(void *block, size_t size);
+
+static long count;
+
+static int fails(const char *name, size_t size) {
+  const char *at = getenv("FAIL_AT");
+  count++;
+  if (getenv("SIZES")) {
+    char line[64];
+    ssize_t written = write(2, line, (size_t)snprintf(line, sizeof line, "%s %zu\n", name, size));
+    (void)written;
+  }
+  return at && atol(at) == count;
+}
+
+void *malloc(size_t size) { return fails("malloc", size) ? NULL : __libc_malloc(size); }
+
+void *realloc(void *block, size_t size) { return fails("realloc", size) ? NULL : __libc_realloc(block, size); }

@@ -1,0 +1,109 @@
+"""What other implementations of scrypt make, each in a process of its own, for migration.py."""
+
+import json
+import os
+import shutil
+import subprocess
+import sys
+import tempfile
+
+# where Debian has the sources of Go's libraries
+GO = {"GO111MODULE": "off", "GOPATH": "/usr/share/gocode", "GOFLAGS": ""}
+
+# What each Python module is asked: a case a line comes in, and a text a line goes out.
+ASK = "import json, sys\nfor line in sys.stdin:\n    password, salt, n, r, p = json.loads(line)\n    print({})\n"
+
+# the keys that Node makes of the same cases, as texts of the function `text`
+NODE = """
+const { scryptSync } = require("crypto");
+for (const line of require("fs").readFileSync(0, "utf8").trim().split("\\n")) {
+  const [password, hex, N, r, p, length] = JSON.parse(line), salt = Buffer.from(hex, "hex");
+  try { console.log(text(salt, scryptSync(password, salt, length, { N, r, p }), N, r, p)); }
+  catch (error) { console.log(error.code); }
+}
+"""
+
+# a program that makes the texts of keys; its function `text` is put in. Go's %q reads what JSON writes, as long
+# as the texts are letters and digits
+GO_MAIN = """package main
+
+import (
+	"bufio"
+	"encoding/base64"
+	"encoding/hex"
+	"fmt"
+	"golang.org/x/crypto/scrypt"
+	"math/bits"
+	"os"
+)
+
+%s
+func main() {
+	in := bufio.NewReader(os.Stdin)
+	for {
+		var password, letters string
+		var n, r, p, length int
+		const line = "[%%q, %%q, %%d, %%d, %%d, %%d]\\n"
+		if count, _ := fmt.Fscanf(in, line, &password, &letters, &n, &r, &p, &length); count < 6 {
+			return
+		}
+		salt, _ := hex.DecodeString(letters)
+		if key, err := scrypt.Key([]byte(password), salt, n, r, p, length); err != nil {
+			fmt.Println(err)
+		} else {
+			fmt.Println(text(salt, key, n, r, p))
+		}
+	}
+}
+"""
+
+
+class Missing(Exception):
+    """A tool isn't installed."""
+
+
+def installed(command):
+    """The path of a command."""
+    if not shutil.which(command):
+        raise Missing(command)
+    return shutil.which(command)
+
+
+def python_with(statement, what):
+    """A Python for which this statement runs: this one, or the system's."""
+    for path in dict.fromkeys((sys.executable, "/usr/bin/python3")):
+        if shutil.which(path) and subprocess.run([path, "-c", statement], capture_output=True).returncode == 0:
+            return path
+    raise Missing(what)
+
+
+def answers(words, cases, env=None):
+    """The lines that a program answers to cases, a line of JSON for each."""
+    lines = "".join(json.dumps(case) + "\n" for case in cases)
+    ran = subprocess.run(words, input=lines, capture_output=True, text=True, check=True, env=os.environ | (env or {}))
+    return ran.stdout.split("\n")[:-1]
+
+
+def asked(module, call, cases, what):
+    """What a call of a Python module makes of each case."""
+    return answers([python_with(module, what), "-c", module + "\n" + ASK.format(call)], cases)
+
+
+def go_keys(text, cases):
+    """What a Go program prints of these cases, where `text` is the function that writes a key's text."""
+    command = installed("go")
+    if not os.path.isdir(GO["GOPATH"] + "/src/golang.org/x/crypto/scrypt"):
+        raise Missing("golang-golang-x-crypto-dev")
+    with tempfile.TemporaryDirectory() as folder:
+        source = os.path.join(folder, "main.go")
+        with open(source, "w", encoding="utf-8") as file:
+            file.write(GO_MAIN % text)
+        return answers([command, "run", source], cases, GO)
+
+
+def openssl_key(password, salt, n, r, p, length):
+    """What `openssl kdf` prints, and its status."""
+    options = {"hexpass": password.encode().hex(), "hexsalt": salt, "n": n, "r": r, "p": p}
+    words = [word for name, value in options.items() for word in ("-kdfopt", f"{name}:{value}")]
+    ran = subprocess.run(["openssl", "kdf", "-keylen", str(length), *words, "SCRYPT"], capture_output=True, text=True)
+    return ran.returncode, ran.stdout

@@ -1,0 +1,255 @@
+#!/usr/bin/env python3
+"""Compares the verdicts on hostile hashes with a reader in plain Python.
+
+usage: hostile.py VERDICTS [TEXTS [SEED]]
+
+VERDICTS is the program of crates/verdicts. First come the texts that are one character away from one of
+both formats, and `$7$` texts with a key of up to three letters, all of them. Then come random texts of
+both formats (a million if not given): good ones, and good ones that are mutated, spliced, cut, doubled,
+or random, from a seed that is printed. Their log_n is 0 to 4, or so great that the table is refused.
+Printed is how many texts fell on each verdict; it fails if a verdict differs, or if one has no text.
+"""
+
+import collections
+import functools
+import hashlib
+import itertools
+import random
+import re
+import resource
+import subprocess
+import sys
+
+import crypt64
+import phc
+import reference
+import unpadded
+
+TEXTS = 1_000_000
+
+# the verdicts on the empty password; `ln`, `r` and `p` are the parameters whose value is refused
+VERDICTS = (
+    "Ok Algorithm EncodingInvalid OutputSize ln r p ParamsInvalid PasswordInvalid Version OutOfMemory"
+).split()
+
+# from this log_n on no machine has the table
+GREAT = 50
+
+# the characters that mutations put in
+CHARACTERS = "$$$=,,.-/+" + crypt64.ALPHABET + "*!\x00\x7f \u00e9\u20ac"
+
+
+# the texts whose neighbours are read: each part of a PHC text, and a key that is compared
+BASES = [
+    "$scrypt$ln=1,r=1,p=1$aM15713r3Xsvxbi31lqr1Q$nFNh2CVHVjNldFVKDHDlm4CbdRSCdEBsjjJxD+iCs5E",
+    "$scrypt$v=1$ln=1$aA$AAAAAAAAAAAAAA",
+    "$a-1$v=4294967295$x=/+.-,y=0$aGk",
+    "$scrypt$v=0$ln=4,r=1,p=1",
+    "$a$aGVsbG8$cCO9yzr9c0hGHA",
+    "$7$2/..../....$rNxJWVHNv/mCNcgE/f6/L4zO6Fos5c2uTzhyzoisI62",
+]
+
+
+class Costly(Exception):
+    """The costs are too great to derive a key by, and too small to be refused."""
+
+
+@functools.lru_cache(maxsize=1 << 16)
+def derived_key(salt, log_n, r, p, length):
+    """The key of the empty password."""
+    if log_n == 0:
+        return reference.scrypt(b"", salt, log_n, r, p, length)
+    return hashlib.scrypt(b"", salt=salt, n=1 << log_n, r=r, p=p, dklen=length)
+
+
+def accepted(log_n, r, p):
+    """Whether the parameters are accepted."""
+    return r > 0 and p > 0 and 128 * r << log_n < 1 << 64 and r * p < 1 << 30
+
+
+def compared(salt, log_n, r, p, key):
+    """The verdict once all but the key is accepted."""
+    # The chunks are allocated before the table, so they are to be small at every log_n.
+    if r * p > 16 or len(key) > 1 << 16:
+        raise Costly
+    if log_n >= GREAT:
+        return "OutOfMemory"
+    if log_n > 4 or log_n == 0 and r * p > 2:
+        raise Costly
+    return "Ok" if derived_key(salt, log_n, r, p, len(key)) == key else "PasswordInvalid"
+
+
+def phc_costs(pairs):
+    """The costs of the pairs, or the refusal."""
+    costs = {"ln": 17, "r": 8, "p": 1}
+    for pair in pairs.split(",") if pairs else []:
+        name, value = pair.split("=", 1)
+        if name not in costs:
+            return "ParamsInvalid"
+        if not re.fullmatch(phc.DECIMAL, value) or int(value) >= (256 if name == "ln" else 1 << 32):
+            return name
+        costs[name] = int(value)
+    if not accepted(*costs.values()):
+        return "ParamsInvalid"
+    return tuple(costs.values())
+
+
+def phc_verdict(text):
+    """The verdict on a PHC text."""
+    if not phc.is_read(text):
+        return "EncodingInvalid"
+    name, version, pairs, salt, key = phc.TEXT.fullmatch(text).groups()
+    if name != "scrypt":
+        return "Algorithm"
+    if version is not None:
+        return "Version"
+    costs = phc_costs(pairs)
+    if isinstance(costs, str):
+        return costs
+    if key is None:
+        return "PasswordInvalid"
+    return compared(unpadded.read(salt), *costs, unpadded.read(key))
+
+
+def mcf_verdict(text):
+    """The verdict on a text that is `$7` or begins with `$7$`."""
+    fields = text.split("$")[2:]
+    costs = fields[0].encode() if fields else b""
+    if not costs or costs[0] > 127:
+        return "EncodingInvalid"
+    five = [costs[at : at + 5].decode("latin-1") for at in (1, 6)]
+    r, p = (crypt64.number(it) if len(it) == 5 else None for it in five)
+    if r is None or p is None:
+        return "EncodingInvalid"
+    log_n = crypt64.number(chr(costs[0]))
+    if log_n is None or not accepted(log_n, r, p):
+        return "ParamsInvalid"
+    key = crypt64.read(fields[1]) if len(fields) == 2 else None
+    if key is None:
+        return "EncodingInvalid"
+    if not key:
+        return "OutputSize"
+    return compared(costs[11:], log_n, r, p, key)
+
+
+def verdict(text):
+    """The verdict on the empty password, by the program's choice of the format."""
+    return mcf_verdict(text) if text == "$7" or text.startswith("$7$") else phc_verdict(text)
+
+
+def printed(verdict):
+    """A verdict as the program prints it."""
+    if verdict == "Ok":
+        return "Ok(())"
+    if verdict in ("ln", "r", "p"):
+        return f'Err(ParamInvalid {{ name: "{verdict}" }})'
+    return f"Err({verdict})"
+
+
+def good_texts(rng):
+    """Hashes of the empty password, and texts near them."""
+    texts = ["$7$s/..../....$r/", "$scrypt$ln=56,r=1,p=1$aA$AAAAAAAAAAAAAA", "$7$2/..../....$"]
+    texts += ["$scrypt$v=1$ln=1", "$argon2id$ln=4,r=1,p=1$aA$AAAAAAAAAAAAAA", "$scrypt$ln=4,r=1,p=1$aA"]
+    for _ in range(60):
+        log_n, r, p = rng.randrange(5), rng.choice((1, 1, 2, 8)), rng.choice((1, 1, 2))
+        if log_n == 0:
+            r = p = 1
+        salt = rng.randbytes(rng.randrange(1, 17))
+        key = derived_key(salt, log_n, r, p, rng.choice((10, 32, 64)))
+        texts.append(f"$scrypt$ln={log_n},r={r},p={p}${unpadded.letters(salt)}${unpadded.letters(key)}")
+        field = crypt64.letters(salt)
+        key = derived_key(field.encode(), log_n, r, p, rng.choice((1, 32, 33)))
+        texts.append(crypt64.costs(log_n, r, p) + field + "$" + crypt64.letters(key))
+    return texts
+
+
+def hostile(rng, texts):
+    """A text: a good one, or one that was made of good ones."""
+    text = rng.choice(texts)
+    kind = rng.randrange(8)
+    if kind == 0:
+        return text
+    if kind < 4:
+        for _ in range(kind):
+            at = rng.randrange(len(text) + 1)
+            text = text[:at] + rng.choice(CHARACTERS) + text[at + rng.randrange(2) :]
+        return text
+    if kind == 4:
+        other = rng.choice(texts)
+        return text[: rng.randrange(len(text) + 1)] + other[rng.randrange(len(other) + 1) :]
+    if kind == 5:
+        return text[: rng.randrange(len(text) + 1)]
+    if kind == 6:
+        parts = text.split("$")
+        at = rng.randrange(len(parts))
+        parts[at] = rng.choice((parts[at] * 2, parts[at] + "$" + parts[at], rng.choice("059") + parts[at]))
+        return "$".join(parts)
+    front = rng.choice(("", "$", "$7$", "$7$2/..../....", "$scrypt$", "$scrypt$ln=4,", "$scrypt$r="))
+    return front + "".join(rng.choice(CHARACTERS) for _ in range(rng.randrange(40)))
+
+
+def neighbours(text):
+    """Each text with one character replaced, put in or left out, in the order of places."""
+    for at in range(len(text)):
+        for byte in range(32, 127):
+            yield text[:at] + chr(byte) + text[at + 1 :]
+            yield text[:at] + chr(byte) + text[at:]
+        yield text[:at] + text[at + 1 :]
+
+
+def short_keys():
+    """`$7$` texts with every key of up to three letters."""
+    for count in range(4):
+        for letters in itertools.product(crypt64.ALPHABET, repeat=count):
+            yield "$7$2/..../....$" + "".join(letters)
+
+
+def random_texts(rng):
+    """Hostile texts without end."""
+    texts = good_texts(rng)
+    while True:
+        yield hostile(rng, texts)
+
+
+def judged(texts):
+    """Texts and their verdicts, but for those whose costs are too great."""
+    for text in texts:
+        try:
+            yield text, verdict(text)
+        except Costly:
+            pass
+
+
+def limited():
+    """No text is to take more than 4 GiB."""
+    resource.setrlimit(resource.RLIMIT_AS, (1 << 32, 1 << 32))
+
+
+def main():
+    program, *numbers = sys.argv[1:]
+    count = int(numbers[0]) if numbers else TEXTS
+    seed = int(numbers[1]) if len(numbers) > 1 else random.SystemRandom().randrange(1 << 32)
+    print(f"hostile texts from seed {seed}")
+    near = itertools.chain(*map(neighbours, BASES), short_keys())
+    pairs = list(judged(near))
+    print(f"{len(pairs)} texts near good ones, or with a short key")
+    pairs += itertools.islice(judged(random_texts(random.Random(seed))), count)
+    lines = "".join(text + "\n" for text, _ in pairs).encode()
+    ran = subprocess.run([program], input=lines, capture_output=True, check=True, preexec_fn=limited)
+    told = ran.stdout.decode().split("\n")
+    fell, differ = collections.Counter(), len(told) != len(pairs) + 1
+    for (text, wanted), got in zip(pairs, told):
+        fell[wanted] += 1
+        if got != printed(wanted):
+            differ += 1
+            if differ < 10:
+                print(f"differs: {text!r}: {got}, wanted {wanted}")
+    for name in VERDICTS:
+        print(f"{name}: {fell[name]}")
+    missing = [name for name in VERDICTS if not fell[name]]
+    print(f"hostile texts: {len(pairs) - differ} of {len(pairs)} agree; verdicts without a text: {missing or 'none'}")
+    sys.exit(1 if differ or missing else 0)
+
+
+if __name__ == "__main__":
+    main()

@@ -1,0 +1,133 @@
+"""What a kind of key file is tried by: the blocks of docs/KEY_FILES.md, the program, and what differs."""
+
+import os
+import random
+import re
+import shutil
+import string
+import subprocess
+
+HERE = os.path.dirname(os.path.abspath(__file__))
+PAGE = os.path.join(HERE, "..", "docs", "KEY_FILES.md")
+
+
+CHANGES = 40  # of each file whose bytes are changed
+
+
+class Missing(Exception):
+    """A tool isn't installed."""
+
+
+def installed(command, package):
+    if not shutil.which(command):
+        raise Missing(f"{command} (package {package})")
+    return shutil.which(command)
+
+
+class Trial:
+    """The program, the blocks of the page, and what was tried of one kind of file."""
+
+    def __init__(self, program, seed, folder):
+        self.program, self.rng, self.folder = os.path.abspath(program), random.Random(seed), folder
+        self.tried, self.agreed, self.notes, self.derived = 0, 0, [], []
+        with open(PAGE, encoding="utf-8") as page:
+            blocks = re.findall(r"^```(\w+)\n(.*?)^```$", page.read(), re.M | re.S)
+        self.shown = {}
+        exec("".join(text for language, text in blocks if language == "python"), self.shown)
+        self.shell = [text for language, text in blocks if language == "sh"]
+        self.watch()
+
+    def watch(self):
+        """Remembers each key that the binding derives, with what it is derived from."""
+        binding = self.shown["scrypt_c"]
+        derive = binding.scrypt
+
+        def scrypt(password, **costs):
+            key = derive(password, **costs)
+            self.derived.append((password, costs, key))
+            return key
+
+        self.shown["scrypt_c"] = type("Watched", (), {"scrypt": staticmethod(scrypt)})
+
+    def __getattr__(self, name):
+        """A function of the page."""
+        return self.shown[name]
+
+    def check(self, agrees, about):
+        """Counts a case. What differs is printed."""
+        self.tried, self.agreed = self.tried + 1, self.agreed + bool(agrees)
+        if not agrees:
+            print(f"differs: {about}")
+
+    def opens(self, wanted, about, open_file, *args, **limits):
+        self.check(open_file(*args, **limits) == wanted, f"{about} is not opened")
+
+    def refuses(self, about, open_file, *args):
+        """A wrong password, or a file that was changed."""
+        try:
+            open_file(*args)
+        except ValueError:
+            return self.check(True, about)
+        self.check(False, f"{about} is opened")
+
+    def refuses_at_once(self, about, open_file, *args):
+        """A file that asks for too much: nothing is derived of it."""
+        before = len(self.derived)
+        try:
+            open_file(*args)
+        except ValueError as error:
+            return self.check("more than is allowed" in str(error) and len(self.derived) == before, (about, error))
+        self.check(False, f"{about} is opened")
+
+    def refuses_what_is_changed(self, about, open_file, file, password, *more):
+        """A file with one byte changed or the rest cut off is refused, or opened as before if that byte has no meaning."""
+        data = file.encode() if isinstance(file, str) else file
+        wanted = open_file(file, password, *more)
+        for at in self.rng.sample(range(len(data)), CHANGES):
+            other = self.rng.choice((data[:at], data[:at] + self.rng.randbytes(1) + data[at + 1 :]))
+            try:
+                opened = open_file(other.decode("latin-1") if isinstance(file, str) else other, password, *more)
+            except (ValueError, LookupError, TypeError):
+                self.check(True, about)
+            else:
+                self.check(opened == wanted, (about, "is opened", other))
+
+    def in_shell(self, number, **values):
+        """The key of the last file that was opened, by the shell block of the page with this number."""
+        _, costs, key = self.derived[-1]
+        salt = values.pop("salt", costs["salt"]).hex()
+        numbers = {"log_n": costs["n"].bit_length() - 1, "r": costs["r"], "p": costs["p"]}
+        env = {name: str(value) for name, value in {"salt": salt, **numbers, **values}.items()}
+        script = 'scrypt_tool() { "$PROGRAM" "$@"; }\n' + self.shell[number]
+        env |= {"PROGRAM": self.program}
+        ran = subprocess.run(["sh", "-c", script], env=os.environ | env, capture_output=True)
+        self.check(ran.stdout.decode().strip() == key.hex(), ("the shell", script, env, ran))
+
+    def word(self):
+        return "".join(self.rng.choices(string.ascii_letters + string.digits, k=self.rng.randrange(1, 40)))
+
+    def content(self, length):
+        return self.rng.randbytes(length)
+
+    def path(self, name, data=None):
+        """A file in the folder of the trial."""
+        path = os.path.join(self.folder, name)
+        if data is not None:
+            with open(path, "wb") as file:
+                file.write(data if isinstance(data, bytes) else data.encode())
+        return path
+
+
+def read(path):
+    with open(path, "rb") as file:
+        return file.read()
+
+
+def run(words, answers=""):
+    """The status and the output of a program that reads its answers from its input."""
+    ran = subprocess.run(words, input=answers.encode(), capture_output=True)
+    return ran.returncode, ran.stdout
+
+
+def changed(data, at):
+    return data[:at] + bytes([data[at] ^ 1]) + data[at + 1 :]

@@ -1,0 +1,273 @@
+"""The trials of each kind of key file of docs/KEY_FILES.md."""
+
+import hashlib
+import json
+import os
+import subprocess
+import sys
+
+import key_contents
+import key_vectors
+from key_codecs import double_sha256, from_base58, keccak_256, to_base58
+from key_trial import Missing, changed, installed, read, run
+from terminal import on_terminal
+
+# The shell blocks of the page, in their order.
+AGE, TARSNAP, ETHEREUM, PKCS8, MINISIGN, BIP38, BLOCK = range(7)
+
+# Contents of files: none, some, and more than one chunk of age.
+LENGTHS = (0, 1000, 70000)
+
+# Limits of work and memory, and what libsodium makes of them.
+MINISIGN_CASES = [
+    ((1 << 19, 1 << 24), (14, 8, 1)),
+    ((1 << 15, 1 << 30), (10, 8, 1)),
+    ((1 << 20, 1 << 22), (12, 8, 8)),
+]
+
+# What minisign's own keys ask for.
+MINISIGN_LIMITS = {"most_memory": 1 << 30, "most_cores": 1 << 25}
+
+
+def age(trial):
+    """`age -p` and `age -d`, which ask for the passphrase on a terminal."""
+    command, path = installed("age", "age"), trial.path("age")
+    for length in LENGTHS:
+        content, password = trial.content(length), trial.word()
+        plain = trial.path("plain", content)
+        on_terminal([command, "-p", "-o", path, plain], [password] * 2)
+        file = read(path)
+        key = trial.age_file_key(file, password.encode())
+        trial.in_shell(AGE, password=password, salt=trial.derived[-1][1]["salt"][28:])
+        trial.opens(content, "a file of age", key_contents.age_content, file, key)
+        trial.refuses("age: a changed content", key_contents.age_content, changed(file, file.index(b"--- ") + 10), key)
+        trial.refuses("age: a wrong password", trial.age_file_key, file, password.encode() + b"x")
+    more = file.replace(b" 18\n", b" 19\n", 1)
+    trial.refuses_at_once("age: log_n of 19", trial.age_file_key, more, b"")
+    small = key_contents.age_file(b"content", b"password", 10, trial.key_of)
+    trial.refuses_what_is_changed("age", whole_age, small, b"password", trial)
+    for length, log_n in zip(LENGTHS, (1, 10, 15)):
+        content, password, opened = trial.content(length), trial.word(), trial.path("opened")
+        made = key_contents.age_file(content, password.encode(), log_n, trial.key_of)
+        trial.path("age", made)
+        status = on_terminal([command, "-d", "-o", opened, path], [password])
+        # age makes no file for no content.
+        trial.check(status == 0 and (not content or read(opened) == content), f"age does not open {length} bytes")
+        status = on_terminal([command, "-d", "-o", opened + "x", path], [password + "x"])
+        trial.check(status != 0 and not os.path.exists(opened + "x"), "age takes a wrong password")
+
+
+def whole_age(file, password, trial):
+    """The content of a file of age."""
+    return key_contents.age_content(file, trial.age_file_key(file, password))
+
+
+def tarsnap(trial):
+    """`scrypt enc` and `scrypt dec`."""
+    command, path = installed("scrypt", "scrypt"), trial.path("tarsnap")
+    by_input = ["--passphrase", "dev:stdin-once"]
+    for length, costs in zip(LENGTHS, ((10, 8, 1), (12, 1, 3), (14, 8, 2))):
+        content, password = trial.content(length), trial.word()
+        numbers = ["--logN", str(costs[0]), "-r", str(costs[1]), "-p", str(costs[2])]
+        run([command, "enc", *numbers, *by_input, trial.path("plain", content), path], password + "\n")
+        file = read(path)
+        keys = trial.tarsnap_keys(file, password.encode())
+        trial.in_shell(TARSNAP, password=password)
+        trial.opens(content, "a file of scrypt enc", key_contents.tarsnap_content, file, keys)
+        trial.refuses("scrypt enc: a changed file", key_contents.tarsnap_content, changed(file, len(file) - 40), keys)
+        trial.refuses("scrypt enc: the header alone", key_contents.tarsnap_content, file[:96], keys)
+        trial.refuses("scrypt enc: a wrong password", trial.tarsnap_keys, file, password.encode() + b"x")
+        trial.path("tarsnap", key_contents.tarsnap_file(content, password.encode(), costs, trial.key_of))
+        decrypt = [command, "dec", *by_input, path]
+        trial.check(run(decrypt, password + "\n") == (0, content), "scrypt dec does not open a file")
+        trial.check(run(decrypt, password + "x\n") == (1, b""), "scrypt dec takes a wrong password")
+    small = key_contents.tarsnap_file(b"content", b"password", (10, 1, 1), trial.key_of)
+    trial.refuses_what_is_changed("scrypt enc", whole_tarsnap, small, b"password", trial)
+    more = file[:7] + bytes([63]) + file[8:48]
+    more += hashlib.sha256(more).digest()[:16] + file[64:]
+    trial.refuses_at_once("scrypt enc: log_n of 63", trial.tarsnap_keys, more, b"")
+
+
+def whole_tarsnap(file, password, trial):
+    """The content of a file of `scrypt enc`."""
+    return key_contents.tarsnap_content(file, trial.tarsnap_keys(file, password))
+
+
+def ethereum(trial):
+    """The published vector, which hashlib and PyNaCl refuse, and files that are made here."""
+    trial.check(keccak_256(b"").hex() == key_vectors.KECCAK_256_OF_NOTHING, "Keccak-256")
+    vector, password = json.dumps(key_vectors.ETHEREUM), key_vectors.ETHEREUM_PASSWORD
+    secret = bytes.fromhex(key_vectors.ETHEREUM_SECRET)
+    trial.opens(secret, "the published vector", trial.ethereum_secret, vector, password.encode())
+    trial.check(key_contents.ethereum_address(secret) == key_vectors.ETHEREUM_ADDRESS, "the address of the vector")
+    trial.in_shell(ETHEREUM, password=password)
+    trial.refuses("Ethereum: a wrong password", trial.ethereum_secret, vector, b"another")
+    refused_by_others(trial, key_vectors.ETHEREUM["crypto"]["kdfparams"], password)
+    more = vector.replace("262144", str(1 << 40))
+    trial.refuses_at_once("Ethereum: n of 2^40", trial.ethereum_secret, more, password.encode())
+    for costs in ((18, 8, 1), (12, 8, 6), (10, 1, 1)):
+        secret, password = trial.content(32), trial.word()
+        file = key_contents.ethereum_file(secret, password.encode(), costs, trial.key_of)
+        trial.opens(secret, "a file that is made here", trial.ethereum_secret, file, password.encode())
+        trial.refuses("Ethereum: a wrong password", trial.ethereum_secret, file, password.encode() + b"x")
+    trial.refuses_what_is_changed("Ethereum", whole_ethereum, file, password.encode(), trial)
+    trial.notes.append("no program of Debian reads these files: the published vector")
+
+
+def whole_ethereum(file, password, trial):
+    """The private key of a file, whose address has to be the one that the file names: the IV isn't authenticated."""
+    secret = trial.ethereum_secret(file, password)
+    if json.loads(file)["address"] != key_contents.ethereum_address(secret):
+        raise ValueError("another address")
+    return secret
+
+
+def refused_by_others(trial, costs, password):
+    """hashlib and PyNaCl refuse the parameters of the vector, also with much memory allowed."""
+    call = "scrypt({password!r}, salt=bytes.fromhex({salt!r}), n={n}, r={r}, p={p}, maxmem=2**31-1, dklen={dklen})"
+    call = call.format(password=password.encode(), **costs)
+    for module in ("hashlib", "nacl.hashlib"):
+        script = f"from {module} import scrypt\ntry:\n    {call}\nexcept ValueError: print('refused')"
+        for python in (sys.executable, "/usr/bin/python3"):
+            ran = subprocess.run([python, "-c", script], capture_output=True, text=True)
+            if "ModuleNotFoundError" not in ran.stderr:
+                trial.check(ran.stdout == "refused\n", (module, "takes the published vector", ran))
+                trial.notes.append(f"{module} refuses the published vector")
+                break
+        else:
+            trial.notes.append(f"skipped: no {module} (package python3-nacl)")
+
+
+def pkcs8(trial):
+    """`openssl pkcs8 -topk8 -scrypt` and `openssl pkey`, with keys of three kinds."""
+    command, path = installed("openssl", "openssl"), trial.path("encrypted.pem")
+    ids = trial.SCRYPT_ID, trial.AES_256_CBC_ID
+    kinds = (["ED25519"], ["EC", "-pkeyopt", "ec_paramgen_curve:P-256"], ["RSA", "-pkeyopt", "rsa_keygen_bits:2048"])
+    for kind, costs in zip(kinds, ((14, 8, 1), (10, 8, 4), (11, 1, 1))):
+        key, password = trial.path("key.der"), trial.word()
+        run([command, "genpkey", "-outform", "DER", "-out", key, "-algorithm", *kind])
+        info = run([command, "pkcs8", "-topk8", "-nocrypt", "-inform", "DER", "-in", key, "-outform", "DER"])[1]
+        numbers = ["-scrypt_N", str(1 << costs[0]), "-scrypt_r", str(costs[1]), "-scrypt_p", str(costs[2])]
+        run([command, "pkcs8", "-topk8", "-scrypt", *numbers, "-v2", "aes-256-cbc", "-inform", "DER", "-in", key,
+             "-passout", f"pass:{password}", "-out", path])
+        file, wanted = read(path).decode(), key_contents.private_info(trial.load_der_private_key(info, None))
+        opened = trial.pkcs8_key(file, password.encode())
+        trial.check(key_contents.private_info(opened) == wanted, "a key of OpenSSL is not opened")
+        trial.in_shell(PKCS8, password=password)
+        trial.refuses("PKCS#8: a wrong password", trial.pkcs8_key, file, password.encode() + b"x")
+        for made_with, status in ((costs, 0), ((17, 8, 1), 1)):
+            made = key_contents.pkcs8_file(info, password.encode(), made_with, trial.key_of, *ids)
+            trial.path("encrypted.pem", made)
+            opened = trial.pkcs8_key(made, password.encode())
+            trial.check(key_contents.private_info(opened) == wanted, "a key that is made here")
+            opened = run([command, "pkey", "-in", path, "-passin", f"pass:{password}", "-outform", "DER"])[0]
+            trial.check(opened == status, ("openssl pkey", made_with, opened))
+            opened = run([command, "pkey", "-in", path, "-passin", f"pass:{password}x", "-outform", "DER"])[0]
+            trial.check(opened == 1, "openssl pkey opens a file with a wrong password")
+    small = key_contents.pkcs8_file(info, b"password", (10, 1, 1), trial.key_of, *ids)
+    trial.refuses_what_is_changed("PKCS#8", whole_pkcs8, small, b"password", trial)
+    many = key_contents.pkcs8_file(info, b"", (40, 8, 1), lambda *_: bytes(32), *ids)
+    trial.refuses_at_once("PKCS#8: N of 2^40", trial.pkcs8_key, many, b"")
+
+
+def whole_pkcs8(file, password, trial):
+    """The key of a file, as it is written when it is not encrypted."""
+    return key_contents.private_info(trial.pkcs8_key(file, password))
+
+
+def minisign(trial):
+    """`minisign -G` makes keys, and `minisign -S` signs by keys that are made here."""
+    command = installed("minisign", "minisign")
+    secret_path, public_path, letter = trial.path("secret"), trial.path("public"), trial.path("letter", "letter")
+    sign = [command, "-S", "-s", secret_path, "-m", letter, "-x", trial.path("signature")]
+    check = [command, "-V", "-q", "-p", public_path, "-m", letter, "-x", trial.path("signature")]
+    password = trial.word()
+    run([command, "-G", "-f", "-p", public_path, "-s", secret_path], f"{password}\n{password}\n")
+    file = read(secret_path).decode()
+    trial.refuses_at_once("minisign: a key of its own", trial.minisign_secret, file, password.encode())
+    number, secret = trial.minisign_secret(file, password.encode(), **MINISIGN_LIMITS)
+    trial.in_shell(MINISIGN, password=password)
+    public = trial.from_base64(read(public_path).decode().split("\n")[1])
+    trial.check(public == b"Ed" + number + secret[32:], "the public key beside the secret one")
+    trial.check(key_contents.ed25519_public(secret[:32]) == secret[32:], "the public key of the seed")
+    try:
+        trial.minisign_secret(file, password.encode() + b"x", **MINISIGN_LIMITS)
+        trial.check(False, "minisign: a wrong password opens a key")
+    except ValueError:
+        trial.check(True, "minisign: a wrong password")
+    for limits, costs in MINISIGN_CASES:
+        made = key_contents.minisign_file(number, secret, password.encode(), limits, costs, trial.key_of)
+        trial.path("secret", made)
+        trial.opens((number, secret), f"a key with limits {limits}", trial.minisign_secret, made, password.encode())
+        trial.refuses("minisign: a wrong password", trial.minisign_secret, made, password.encode() + b"x")
+        signed = run(sign, password + "\n")[0] == 0 and run(check)[0] == 0
+        trial.check(signed, ("minisign does not sign by a key with limits", limits))
+        trial.check(run(sign, password + "x\n")[0] != 0, "minisign takes a wrong password")
+    trial.refuses_what_is_changed("minisign", trial.minisign_secret, made, password.encode())
+    other_keys(trial, password)
+
+
+def other_keys(trial, password):
+    """`signify-openbsd` derives with bcrypt, and says so in its keys."""
+    try:
+        command, path = installed("signify-openbsd", "signify-openbsd"), trial.path("signify.sec")
+    except Missing as missing:
+        return trial.notes.append(f"skipped: no {missing}")
+    on_terminal([command, "-G", "-p", trial.path("signify.pub"), "-s", path], [password] * 2)
+    letters = read(path).decode().split("\n")[1]
+    trial.check(trial.from_base64(letters.rstrip("="))[:4] == b"EdBK", "signify's method")
+    trial.refuses("minisign: a key of signify", trial.minisign_secret, f"\n{letters.rstrip('=')}", b"")
+    trial.notes.append("signify-openbsd derives with bcrypt, which is not scrypt")
+
+
+def bip38(trial):
+    """The published vectors, each of which has four bytes of the hash of the address of its key."""
+    for text, password, compressed, multiplied, secret in key_vectors.BIP38:
+        data = from_base58(text)
+        opened = [trial.bip38_multiplied_key(data, it.encode(), key_contents.public_key) if multiplied
+                  else trial.bip38_key(data, it.encode()) for it in (password, password + "x")]
+        right, wrong = (is_of_address(it, compressed, data) for it in opened)
+        trial.check(right and opened[0].hex().upper() == secret, ("the published key", text, opened[0].hex()))
+        trial.check(not wrong, ("a wrong password", text))
+        if not multiplied:
+            trial.bip38_key(data, password.encode())
+            trial.in_shell(BIP38, password=password)
+            address = to_base58(key_contents.bitcoin_address(opened[0], compressed))
+            made = key_contents.bip38_file(opened[0], compressed, password.encode(), address, trial.key_of)
+            trial.check(to_base58(made) == text, ("the encrypted key", text, made.hex()))
+    for text, secret, compressed in key_vectors.WALLET_KEYS:
+        wanted = b"\x80" + bytes.fromhex(secret) + (b"\x01" if compressed else b"")
+        trial.check(from_base58(text) == wanted, ("the published key in the format of wallets", text))
+    trial.notes.append("no program of Debian reads these keys: the published vectors")
+
+
+def is_of_address(secret, compressed, data):
+    """Whether the salt of an encrypted key is of this key's address."""
+    address = to_base58(key_contents.bitcoin_address(secret, compressed))
+    return double_sha256(address.encode())[:4] == data[3:7]
+
+
+def block_hashes(trial):
+    """The first block of Litecoin, and the hashes of headers at random beside hashlib."""
+    header = key_vectors.LITECOIN_HEADER
+    trial.check(double_sha256(header)[::-1].hex() == key_vectors.LITECOIN_BLOCK, "the name of the first block")
+    trial.opens(True, "the first block", trial.is_mined, header)
+    trial.check(trial.derived[-1][2][::-1].hex() == key_vectors.LITECOIN_WORK, "the work of the first block")
+    trial.in_shell(BLOCK, header=header.hex().upper())
+    trial.opens(False, "another nonce", trial.is_mined, header[:-1] + b"\0")
+    for _ in range(50):
+        header = trial.content(80)
+        trial.is_mined(header)
+        wanted = hashlib.scrypt(header, salt=header, n=1024, r=1, p=1, dklen=32)
+        trial.check(trial.derived[-1][2] == wanted, ("a header at random", header.hex()))
+
+
+KINDS = [
+    ("age", age),
+    ("Tarsnap's scrypt", tarsnap),
+    ("Ethereum's secret storage", ethereum),
+    ("PKCS#8, of OpenSSL", pkcs8),
+    ("minisign", minisign),
+    ("BIP38", bip38),
+    ("block hashes of Litecoin", block_hashes),
+]
