@@ -1,7 +1,7 @@
 #!/usr/bin/env python3
 """Writes the program's completions for bash, zsh and fish, from its usage line alone.
 
-usage: completions.py PREFIX      writes them below PREFIX/share, where the shells look for them
+usage: completions.py SHARE       writes them below the folder SHARE (as /usr/share), where the shells look for them
        completions.py --test      writes them to a folder of their own, and completes words by each shell that is here
 """
 
@@ -12,7 +12,7 @@ import subprocess
 import sys
 import tempfile
 
-SOURCE = os.path.join(os.path.dirname(os.path.abspath(__file__)), "../crates/scrypt_commands/src/fault.rt")
+SOURCE = os.path.join(os.path.dirname(os.path.abspath(__file__)), "../crates/scrypt_commands/src/error.rt")
 
 BASH = """# Completes the words of scrypt_tool, which its usage line names.
 _scrypt_tool() {{
@@ -56,7 +56,7 @@ def choices():
                 yield name, place, word.split("|")
 
 
-def written(prefix):
+def written(share):
     """Writes the three files, and gives their paths."""
     names = " ".join(commands())
     bash = "\n".join(f'    {place}:{name}) choices="{" ".join(of)}" ;;' for name, place, of in choices())
@@ -72,7 +72,7 @@ def written(prefix):
         ("zsh/site-functions/_scrypt_tool", ZSH.format(commands=names, cases=zsh)),
         ("fish/vendor_completions.d/scrypt_tool.fish", FISH.format(commands=names, cases=fish)),
     ]:
-        path = os.path.join(prefix, "share", place)
+        path = os.path.join(share, place)
         os.makedirs(os.path.dirname(path), exist_ok=True)
         with open(path, "w", encoding="utf-8") as file:
             file.write(text)
@@ -104,8 +104,8 @@ def by_fish(path, line):
 def test():
     """Whether each shell that is here offers those words."""
     failed = 0
-    with tempfile.TemporaryDirectory() as prefix:
-        bash, zsh, fish = written(prefix)
+    with tempfile.TemporaryDirectory() as share:
+        bash, zsh, fish = written(share)
         for shell, path, offers in [("bash", bash, by_bash), ("fish", fish, by_fish)]:
             if not shutil.which(shell):
                 print(f"{shell} is not installed: its completions were not tried")

@@ -1,15 +1,72 @@
 #!/bin/sh
-# Puts the libraries of build/lib, the header, the pkg-config file, the program, its man page and its completions
-# for bash, zsh and fish below the folder PREFIX.
+# Installs what is built, or removes it: the libraries of build/lib with the header and the files for pkg-config and
+# CMake, the Python package, the licence, and the program with its man page and its completions if it is built.
+# usage: install.sh install|uninstall, by the Makefile, which hands the places in the environment. DESTDIR goes before
+# each place where files are written, and into none of the files.
 set -eu
 cd "$(dirname "$0")/.."
-prefix=$1
-mkdir -p "$prefix/bin" "$prefix/include" "$prefix/lib/pkgconfig" "$prefix/share/man/man1"
-prefix=$(cd "$prefix" && pwd)
-cp build/lib/libscrypt_c.a build/lib/libscrypt_c.so build/lib/libscrypt_drop_in.so "$prefix/lib/"
-cp bindings/c/scrypt_c.h "$prefix/include/"
-sed -e "s|@LIB@|$prefix/lib|" -e "s|@INCLUDE@|$prefix/include|" bindings/c/scrypt_c.pc.in \
-  > "$prefix/lib/pkgconfig/scrypt_c.pc"
-cp crates/scrypt_tool/out/scrypt_tool "$prefix/bin/"
-cp docs/scrypt_tool.1 "$prefix/share/man/man1/"
-python3 bindings/completions.py "$prefix"
+action=$1
+program=crates/scrypt_tool/out/scrypt_tool
+room=$(mktemp -d)
+trap 'rm -rf "$room"' EXIT
+for place in "$bindir" "$libdir" "$includedir" "$datarootdir" "$mandir" "$docdir" "$pythondir"; do
+  case $place in
+    /*) ;;
+    *) echo "not an absolute path: $place (say prefix=/..)" >&2; exit 1 ;;
+  esac
+done
+
+# put MODE SOURCE PLACE installs one file; link TARGET PLACE one link. Uninstalling, both remove what is there.
+put() {
+  if [ "$action" = uninstall ]; then rm -f "$DESTDIR$3"; else install -D -m "$1" "$2" "$DESTDIR$3"; fi
+}
+link() {
+  if [ "$action" = uninstall ]; then rm -f "$DESTDIR$2"; else ln -sf "$1" "$DESTDIR$2"; fi
+}
+
+libraries() {
+  shared=libscrypt_c.so.$(sed 's/+.*//' VERSION)
+  bindings/c/found.sh "$libdir" "$includedir" "$room" "$room"
+  put 644 build/lib/libscrypt_c.a "$libdir/libscrypt_c.a"
+  put 755 "build/lib/$shared" "$libdir/$shared"
+  link "$shared" "$libdir/libscrypt_c.so.0"
+  link libscrypt_c.so.0 "$libdir/libscrypt_c.so"
+  put 755 build/lib/libscrypt_drop_in.so "$libdir/libscrypt_drop_in.so"
+  put 644 build/lib/scrypt_c.h "$includedir/scrypt_c.h"
+  put 644 "$room/scrypt_c.pc" "$libdir/pkgconfig/scrypt_c.pc"
+  for file in scrypt_c-config.cmake scrypt_c-config-version.cmake; do
+    put 644 "$room/$file" "$libdir/cmake/scrypt_c/$file"
+  done
+  put 644 LICENSE "$docdir/LICENSE"
+}
+
+python_package() {
+  (cd bindings/python && find scrypt_c -name '*.py' -o -name py.typed) > "$room/package"
+  while read -r file; do put 644 "bindings/python/$file" "$pythondir/$file"; done < "$room/package"
+}
+
+program() {
+  put 755 "$program" "$bindir/scrypt_tool"
+  put 644 docs/scrypt_tool.1 "$mandir/man1/scrypt_tool.1"
+  python3 bindings/completions.py "$room/share"
+  (cd "$room/share" && find . -type f | sed 's|^\./||') > "$room/completions"
+  while read -r file; do put 644 "$room/share/$file" "$datarootdir/$file"; done < "$room/completions"
+}
+
+if [ "$action" = install ] && [ ! -e build/lib/libscrypt_c.a ]; then
+  echo "build/lib is not built: make lib" >&2
+  exit 1
+fi
+libraries
+python_package
+if [ "$action" = uninstall ] || [ -e "$program" ]; then
+  program
+else
+  echo "the program is not built (make run), and is left out"
+fi
+# Folders of the library alone, if nothing is left in them.
+if [ "$action" = uninstall ]; then
+  for folder in "$libdir/cmake/scrypt_c" "$pythondir/scrypt_c" "$docdir"; do
+    rmdir "$DESTDIR$folder" 2> /dev/null || true
+  done
+fi

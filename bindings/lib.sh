@@ -1,12 +1,15 @@
 #!/bin/sh
-# Builds the libraries for C into build/lib, of the crate scrypt_c, which the kit proves: the static one and the
-# shared one, with the header and a pkg-config file. Needs the kit and a C compiler with its binutils.
+# Builds the libraries for C into build/lib, of the crate scrypt_c, which the kit proves: the static one and the shared
+# one with its links, the header, and files for pkg-config and CMake. Needs the kit and a C compiler with its binutils.
 set -eu
 cd "$(dirname "$0")/.."
 kit=$(dirname "$(rt doc)")
 out=build/lib
 parts=$out/parts
 CC=${CC:-cc}
+version=$(cat VERSION)
+soname=libscrypt_c.so.0
+shared=libscrypt_c.so.${version%%+*}
 
 (cd crates/scrypt_c && rt lib)
 rm -rf "$out"
@@ -17,16 +20,34 @@ for archive in "$PWD/crates/scrypt_c/out/libscrypt_c.a" "$kit/c/liblibc_c.a"; do
   mkdir "$part"
   (cd "$part" && ar x "$archive")
 done
-# One object, of which the documented names alone are seen from outside.
-ld -r -o "$parts/all.o" "$parts"/*/*.o
-objcopy --keep-global-symbols=bindings/c/symbols "$parts/all.o" "$parts/scrypt_c.o"
-# The one call that is written in C and not proved.
-$CC -std=c99 -O2 -Wall -Wextra -pedantic -fPIC -Ibindings/c -c -o "$parts/mapped.o" bindings/c/mapped.c
-ar rcs "$out/libscrypt_c.a" "$parts/scrypt_c.o" "$parts/mapped.o"
-$CC -shared -Wl,-soname,libscrypt_c.so -o "$out/libscrypt_c.so" "$parts/scrypt_c.o" "$parts/mapped.o"
+# One object, of which only the names of the list are seen from outside.
+awk '/^scrypt_/ { print $1 }' bindings/c/abi > "$parts/symbols"
+# The test of the processor is in it, so that each program that calls anything has it, also by the static library.
+$CC -std=c99 -O2 -Wall -Wextra -pedantic -fPIC -c -o "$parts/cpu.o" bindings/c/cpu.c
+ld -r -o "$parts/all.o" "$parts"/*/*.o "$parts/cpu.o"
+objcopy --keep-global-symbols="$parts/symbols" "$parts/all.o" "$parts/scrypt_c.o"
+# The calls that are written in C and not proved.
+for call in memory salt; do
+  $CC -std=c99 -O2 -Wall -Wextra -pedantic -fPIC -Ibindings/c -c -o "$parts/$call.o" bindings/c/$call.c
+done
+objects="$parts/scrypt_c.o $parts/memory.o $parts/salt.o"
+ar rcs "$out/libscrypt_c.a" $objects
+{
+  echo "SCRYPT_C_0.12 {"
+  echo "global:"
+  sed 's/$/;/' "$parts/symbols"
+  echo "local: *;"
+  echo "};"
+} > "$parts/versions"
+$CC -shared -Wl,-soname,$soname -Wl,--version-script="$parts/versions" -Wl,-z,defs -Wl,-z,relro -Wl,-z,now \
+  -o "$out/$shared" $objects
+ln -s "$shared" "$out/$soname"
+ln -s "$soname" "$out/libscrypt_c.so"
 cp bindings/c/scrypt_c.h "$out/"
 # The names of other libraries, in a library of their own.
 $CC -O2 -Wall -Wextra -fPIC -shared -fvisibility=hidden -Wl,--exclude-libs,ALL -Ibindings/c \
   -o "$out/libscrypt_drop_in.so" bindings/drop_in/drop_in.c "$out/libscrypt_c.a"
-sed -e "s|@LIB@|$PWD/$out|" -e "s|@INCLUDE@|$PWD/$out|" bindings/c/scrypt_c.pc.in > "$out/scrypt_c.pc"
+bindings/c/found.sh "$PWD/$out" "$PWD/$out" "$out" "$out"
+# The Go module is whole with the header and the static library in its folder.
+cp "$out/libscrypt_c.a" "$out/scrypt_c.h" bindings/go/
 rm -r "$parts"

@@ -14,6 +14,6 @@ static void check(int holds, const char *what) {
   }
 }
 
-static const uint8_t *b(const char *text) { return (const uint8_t *)text; }
+static inline const uint8_t *b(const char *text) { return (const uint8_t *)text; }
 
 #endif

@@ -1,11 +1,28 @@
-/* scrypt (RFC 7914) and its password hashes, by a library whose calls are proved, but for scrypt_kdf_mapped.
+/* scrypt (RFC 7914) and its password hashes.
  *
- * Sizes are in bytes unless words are named; a word has 4 bytes. A pointer whose length is 0 is not
- * read, but must not be NULL: the helpers at the end take NULL with length 0. No output overlaps an
- * input or another output. Nothing that the library allocates is left to the caller. The library has
- * no state, so that any number of threads may call it at once.
+ *   what you need                                    call                                     proved
+ *   ----------------------------------------------   --------------------------------------   ------
+ *   a key                                            scrypt_kdf                               yes
+ *   a key of a large table, in less time             scrypt_kdf_mapped                        no
+ *   many keys or hashes; a service; bounded costs    scrypt_memory_new, and the calls _in     no
+ *   a key with no allocation, in your own buffers    scrypt_kdf_with_buffers                  yes
+ *   a key on a small device, with a smaller table    scrypt_kdf_thin                          yes
+ *   the lengths of buffers; zeros over them          scrypt_buffer_lens; scrypt_wipe          yes
+ *   a password hash to store                         scrypt_hash_phc; scrypt_hash_mcf: $7$    yes
+ *   to verify a password by a stored hash            scrypt_verify                            yes
+ *   to verify with no allocation, in your buffers    scrypt_verify_with_buffers               yes
+ *   to know whether a stored hash is too weak now    scrypt_needs_rehash                      yes
+ *   to know what a stored hash costs                 scrypt_hash_params                       yes
+ *   a salt for a new key or hash                     scrypt_draw_salt                         no
+ *   NULL for no bytes, texts that end in a zero      the helpers at the end of this header    no
  *
- * Accepted numbers: r > 0, p > 0, 128 * r * 2^log_n < 2^64 and r * p < 2^30.
+ * A proved call does what its comment says for every input; the others are written in C over the proved ones, and are
+ * tested. Pass 17, 8 and 1 for log_n, r and p unless you know better: they take 128 MiB. Accepted parameters are
+ * r > 0, p > 0, 128 * r * 2^log_n < 2^64 and r * p < 2^30.
+ *
+ * Lengths are in bytes unless words are named; a word has 4 bytes. A pointer whose length is 0 is not read, but must
+ * not be NULL: the helpers take NULL with length 0. No output overlaps an input or another output. Nothing that the
+ * library allocates is left to the caller. The library has no state, so any number of threads may call it at once.
  */
 #ifndef SCRYPT_C_H
 #define SCRYPT_C_H
@@ -13,105 +30,191 @@
 #include <stddef.h>
 #include <stdint.h>
 
+#define SCRYPT_VERSION_STRING "0.12.0+proved.1"
+
+/* The greatest output_len: 32 * (2^32 - 1). */
+#define SCRYPT_MAX_OUTPUT_LEN UINT64_C(137438953440)
+
+/* Enough for any PHC text, and for any $7$ text with a salt of so many bytes, with a zero byte after it. */
+#define SCRYPT_PHC_CAPACITY 256
+#define SCRYPT_MCF_CAPACITY(salt_len) (128 + 2 * (salt_len))
+
 #ifdef __cplusplus
 extern "C" {
 #endif
 
-/* What the calls answer. A call that answers anything but SCRYPT_DONE leaves its outputs unchanged,
- * but for the length that SCRYPT_BUFFER_SIZE writes. */
+/* What the calls return. With anything but SCRYPT_OK the outputs are unchanged, except for the length that comes with
+ * SCRYPT_BUFFER_SIZE. */
 enum scrypt_status {
-  SCRYPT_DONE = 0,               /* done, or yes */
-  SCRYPT_NO = 1,                 /* another password, or weaker than wanted */
-  SCRYPT_INVALID_PARAMS = 2,     /* the numbers are not accepted */
-  SCRYPT_INVALID_OUTPUT_LEN = 3, /* an output of 0 bytes, or of more than 137438953440 */
-  SCRYPT_OUT_OF_MEMORY = 4,      /* an allocation failed */
-  SCRYPT_ALGORITHM = 5,          /* the hash names another algorithm */
-  SCRYPT_ENCODING_INVALID = 6,   /* the text is not written as its format asks */
-  SCRYPT_OUTPUT_SIZE = 7,        /* the key in the text has a length that is not allowed */
-  SCRYPT_PARAM_INVALID = 8,      /* a parameter in the text has a value that is not allowed */
-  SCRYPT_PARAMS_INVALID = 9,     /* the parameters in the text are not allowed ones together */
-  SCRYPT_SALT_INVALID = 10,      /* the salt has a length that is not allowed */
-  SCRYPT_VERSION = 11,           /* the hash names a version */
-  SCRYPT_BUFFER_SIZE = 12        /* a buffer of another length, or no room for a text */
+  SCRYPT_OK = 0,
+  SCRYPT_MISMATCH = 1,            /* scrypt_verify: it is not the password of the hash */
+  SCRYPT_NEEDS_REHASH = 1,        /* scrypt_needs_rehash: the hash is weaker than wanted */
+  SCRYPT_INVALID_PARAMS = 2,      /* log_n, r and p, or key_len, are not accepted */
+  SCRYPT_INVALID_OUTPUT_LEN = 3,  /* output_len is 0, or above SCRYPT_MAX_OUTPUT_LEN */
+  SCRYPT_OUT_OF_MEMORY = 4,       /* an allocation failed */
+  SCRYPT_ALGORITHM = 5,           /* the hash names another algorithm */
+  SCRYPT_ENCODING_INVALID = 6,    /* the text does not have the grammar of its format */
+  SCRYPT_OUTPUT_SIZE = 7,         /* the key in the text has a length that is not allowed */
+  SCRYPT_HASH_PARAM_INVALID = 8,  /* a parameter in the text is not a decimal in its range */
+  SCRYPT_HASH_PARAMS_INVALID = 9, /* the parameters in the text are not accepted, or are not scrypt's */
+  SCRYPT_SALT_INVALID = 10,       /* the salt has a length that is not allowed */
+  SCRYPT_VERSION = 11,            /* the hash names a version, and scrypt has none */
+  SCRYPT_BUFFER_SIZE = 12,        /* a buffer does not have its length, or the text does not fit its capacity */
+  SCRYPT_TOO_COSTLY = 13,         /* scrypt_memory: the parameters need more than one of its bounds */
+  SCRYPT_NO_RANDOM_BYTES = 14     /* the system has no random bytes */
 };
 
-/* The key of password and salt, of output_len bytes: 1 to 137438953440.
- * INVALID_PARAMS, INVALID_OUTPUT_LEN, OUT_OF_MEMORY. */
+/* ---- Keys ---- */
+
+/* Writes the key of password and salt, of output_len bytes, to output.
+ * SCRYPT_INVALID_PARAMS, SCRYPT_INVALID_OUTPUT_LEN, SCRYPT_OUT_OF_MEMORY. */
 int scrypt_kdf(const uint8_t *password, size_t password_len, const uint8_t *salt, size_t salt_len,
                uint8_t log_n, uint32_t r, uint32_t p, uint8_t *output, size_t output_len);
 
-/* The lengths of the buffers: chunks in bytes, table and scratch in words. With s of 0 they are those of
+/* The same key, in memory that is mapped for this call alone, with huge pages if the system has them: faster than
+ * scrypt_kdf if the table is large. Not proved: it maps the buffers, calls scrypt_kdf_with_buffers and unmaps them.
+ * A password or a salt of length 0 may be NULL. SCRYPT_OUT_OF_MEMORY if the memory cannot be mapped.
+ * SCRYPT_INVALID_PARAMS, SCRYPT_INVALID_OUTPUT_LEN, SCRYPT_OUT_OF_MEMORY. */
+int scrypt_kdf_mapped(const uint8_t *password, size_t password_len, const uint8_t *salt, size_t salt_len,
+                      uint8_t log_n, uint32_t r, uint32_t p, uint8_t *output, size_t output_len);
+
+/* The lengths of the buffers: chunks in bytes, table and scratch in words. With s = 0 they are those of
  * scrypt_kdf_with_buffers; with another s, at most log_n, those of scrypt_kdf_thin with this s.
- * INVALID_PARAMS. */
+ * SCRYPT_INVALID_PARAMS. */
 int scrypt_buffer_lens(uint8_t log_n, uint32_t r, uint32_t p, uint8_t s, size_t *chunks,
                        size_t *table, size_t *scratch);
 
-/* The same key as scrypt_kdf's, in memory that the caller lends. What the buffers hold before the call
- * does not matter, and what they hold after it is unspecified. Nothing is allocated.
- * INVALID_PARAMS, INVALID_OUTPUT_LEN, BUFFER_SIZE, which leave the buffers too as they were. */
+/* The same key, in the caller's buffers. What they hold before the call does not matter, and what they hold after it
+ * is unspecified. Nothing is allocated. An error leaves the buffers unchanged too.
+ * SCRYPT_INVALID_PARAMS, SCRYPT_INVALID_OUTPUT_LEN, SCRYPT_BUFFER_SIZE. */
 int scrypt_kdf_with_buffers(const uint8_t *password, size_t password_len, const uint8_t *salt,
                             size_t salt_len, uint8_t log_n, uint32_t r, uint32_t p, uint8_t *output,
                             size_t output_len, uint8_t *chunks, size_t chunks_len, uint32_t *table,
                             size_t table_len, uint32_t *scratch, size_t scratch_len);
 
-/* The same key again, with a table that keeps one row in 2^s, and so with 2^s times fewer words and more
- * work. INVALID_PARAMS, INVALID_OUTPUT_LEN, BUFFER_SIZE, which leave the buffers too as they were. */
+/* The same key, with a table that keeps one row in 2^s: 2^s times smaller, for more work. Nothing is allocated. An
+ * error leaves the buffers unchanged too. SCRYPT_INVALID_PARAMS, SCRYPT_INVALID_OUTPUT_LEN, SCRYPT_BUFFER_SIZE. */
 int scrypt_kdf_thin(const uint8_t *password, size_t password_len, const uint8_t *salt,
                     size_t salt_len, uint8_t log_n, uint32_t r, uint32_t p, uint8_t s,
                     uint8_t *output, size_t output_len, uint8_t *chunks, size_t chunks_len,
                     uint32_t *table, size_t table_len, uint32_t *scratch, size_t scratch_len);
 
-/* The same key as scrypt_kdf's, in memory that is mapped for this call alone, with huge pages if the system has
- * them: faster than scrypt_kdf where the table is large. Not proved: written in C, it maps the buffers, calls
- * scrypt_kdf_with_buffers and unmaps them. A password or a salt of length 0 may be NULL.
- * INVALID_PARAMS, INVALID_OUTPUT_LEN, and OUT_OF_MEMORY if the memory cannot be mapped. */
-int scrypt_kdf_mapped(const uint8_t *password, size_t password_len, const uint8_t *salt, size_t salt_len,
-                      uint8_t log_n, uint32_t r, uint32_t p, uint8_t *output, size_t output_len);
+/* Writes zeros over the buffers of any call: from what it leaves there a password is guessed at far less than scrypt's
+ * cost. */
+void scrypt_wipe(uint8_t *chunks, size_t chunks_len, uint32_t *table, size_t table_len, uint32_t *scratch,
+                 size_t scratch_len);
 
-/* Room that is enough for each PHC text, and for each $7$ text of a salt of so many bytes. */
-#define SCRYPT_PHC_CAPACITY 256
-#define SCRYPT_MCF_CAPACITY(salt_len) (128 + 2 * (size_t)(salt_len))
+/* ---- Password hashes ---- */
 
-/* The PHC text of a hash with a salt of 1 to 64 bytes and a key of key_len bytes, 10 to 64, at the front of
- * text, and its length in *text_len. The text does not end in a zero byte.
- * INVALID_PARAMS (also for key_len), SALT_INVALID, OUT_OF_MEMORY, and BUFFER_SIZE where capacity is less
- * than the text needs: *text_len is then what it needs. */
+/* Writes the PHC text of a hash, $scrypt$ln=.., to the front of text, and its length to *text_len. The salt has 1 to
+ * 64 bytes and the key key_len bytes, 10 to 64. No zero byte follows the text. With SCRYPT_BUFFER_SIZE *text_len is the
+ * capacity that the text needs. SCRYPT_INVALID_PARAMS (also for key_len), SCRYPT_SALT_INVALID, SCRYPT_OUT_OF_MEMORY,
+ * SCRYPT_BUFFER_SIZE. */
 int scrypt_hash_phc(const uint8_t *password, size_t password_len, const uint8_t *salt,
                     size_t salt_len, uint8_t log_n, uint32_t r, uint32_t p, size_t key_len,
                     char *text, size_t capacity, size_t *text_len);
 
-/* The $7$ text of a hash, of any salt. INVALID_PARAMS, OUT_OF_MEMORY, BUFFER_SIZE as above. */
+/* The same for the $7$ text of crypt(3), with a salt of any length.
+ * SCRYPT_INVALID_PARAMS, SCRYPT_OUT_OF_MEMORY, SCRYPT_BUFFER_SIZE. */
 int scrypt_hash_mcf(const uint8_t *password, size_t password_len, const uint8_t *salt,
                     size_t salt_len, uint8_t log_n, uint32_t r, uint32_t p, size_t key_len,
                     char *text, size_t capacity, size_t *text_len);
 
-/* Whether the password is that of the hash: DONE, or NO, also for a hash without salt or key. A text that is
- * $7 or begins with $7$ is read as a $7$ text, and any other as a PHC text.
- * ALGORITHM, ENCODING_INVALID, OUTPUT_SIZE, PARAM_INVALID, PARAMS_INVALID, VERSION, OUT_OF_MEMORY. */
+/* SCRYPT_OK if the password is that of the hash, and SCRYPT_MISMATCH if it is not or the hash has no salt or no key.
+ * A text that is $7 or begins with $7$ is read as a $7$ text, and any other as a PHC text.
+ * The parameters are those of the hash, which may ask for much memory and time: bound them by scrypt_hash_params, or
+ * call scrypt_verify_in, if the hash is not your own.
+ * SCRYPT_ALGORITHM, SCRYPT_ENCODING_INVALID, SCRYPT_OUTPUT_SIZE, SCRYPT_HASH_PARAM_INVALID, SCRYPT_HASH_PARAMS_INVALID,
+ * SCRYPT_VERSION, SCRYPT_OUT_OF_MEMORY. */
 int scrypt_verify(const uint8_t *password, size_t password_len, const char *text, size_t text_len);
 
-/* Whether a hash is weaker than one of these numbers and of key_len bytes, 10 to 64: NO where it is, also
- * for a hash without salt or key, and DONE where it is not.
- * INVALID_PARAMS, and what scrypt_verify refuses but OUT_OF_MEMORY. Nothing is allocated. */
-int scrypt_needs_rehash(const char *text, size_t text_len, uint8_t log_n, uint32_t r, uint32_t p,
-                        size_t key_len);
+/* The same, in the caller's buffers, each of which is at least as long as scrypt_buffer_lens says with s = 0 for the
+ * parameters of the hash. What they hold before does not matter; afterwards chunks and scratch are zeros if the keys
+ * were compared, and otherwise all are unchanged. Nothing is allocated: the errors are those of scrypt_verify except
+ * SCRYPT_OUT_OF_MEMORY, and after them SCRYPT_BUFFER_SIZE if a buffer is too short. */
+int scrypt_verify_with_buffers(const uint8_t *password, size_t password_len, const char *text, size_t text_len,
+                               uint8_t *chunks, size_t chunks_len, uint32_t *table, size_t table_len,
+                               uint32_t *scratch, size_t scratch_len);
 
-/* A pointer that is never NULL, for length 0. */
+/* SCRYPT_NEEDS_REHASH if log_n, r, p or the key's length is below the wanted one, or the hash has no salt or no key,
+ * and SCRYPT_OK if not. Nothing is allocated. SCRYPT_INVALID_PARAMS (also for key_len), and the errors of scrypt_verify
+ * except SCRYPT_OUT_OF_MEMORY. */
+int scrypt_needs_rehash(const char *text, size_t text_len, uint8_t log_n, uint32_t r, uint32_t p, size_t key_len);
+
+/* Writes the parameters of a hash, and the length of its key, or 0 if it has none. Nothing is allocated.
+ * The errors of scrypt_verify except SCRYPT_OUT_OF_MEMORY. */
+int scrypt_hash_params(const char *text, size_t text_len, uint8_t *log_n, uint32_t *r, uint32_t *p, size_t *key_len);
+
+/* ---- Memory that is kept from call to call, with bounds. Not proved: it calls the calls above ---- */
+
+/* Memory for any number of calls, one after another; one thread at a time uses it. Nothing is mapped before it is
+ * needed; it grows up to most_bytes, in huge pages if the system has some, and is kept, which makes the next call
+ * faster. Only new hashes are made in memory that is allocated for the call, for which what is kept is unmapped first.
+ * A call whose parameters need more than most_bytes for their three buffers, or more than most_cores cores,
+ * 4 * 2^log_n * r * p, returns SCRYPT_TOO_COSTLY at once; SCRYPT_OUT_OF_MEMORY if the system refuses memory. */
+typedef struct scrypt_memory scrypt_memory;
+
+/* Bounds that let most hashes in and no other: 256 MiB, and four times the cores of the recommended parameters. */
+#define SCRYPT_MOST_BYTES (UINT32_C(256) << 20)
+#define SCRYPT_MOST_CORES (UINT32_C(1) << 24)
+
+/* NULL if the system has no memory for it. */
+scrypt_memory *scrypt_memory_new(size_t most_bytes, uint64_t most_cores);
+
+/* Writes zeros over what the calls wrote there. */
+void scrypt_memory_wipe(scrypt_memory *memory);
+
+/* Wipes and unmaps it. NULL is allowed. */
+void scrypt_memory_free(scrypt_memory *memory);
+
+/* As the calls without _in, but also SCRYPT_TOO_COSTLY, after SCRYPT_INVALID_PARAMS of
+ * log_n, r and p, SCRYPT_INVALID_OUTPUT_LEN, and the errors of the text of a hash. A password or a salt of length 0 may
+ * be NULL. */
+int scrypt_kdf_in(scrypt_memory *memory, const uint8_t *password, size_t password_len, const uint8_t *salt,
+                  size_t salt_len, uint8_t log_n, uint32_t r, uint32_t p, uint8_t *output, size_t output_len);
+
+int scrypt_hash_phc_in(scrypt_memory *memory, const uint8_t *password, size_t password_len, const uint8_t *salt,
+                       size_t salt_len, uint8_t log_n, uint32_t r, uint32_t p, size_t key_len, char *text,
+                       size_t capacity, size_t *text_len);
+
+int scrypt_hash_mcf_in(scrypt_memory *memory, const uint8_t *password, size_t password_len, const uint8_t *salt,
+                       size_t salt_len, uint8_t log_n, uint32_t r, uint32_t p, size_t key_len, char *text,
+                       size_t capacity, size_t *text_len);
+
+int scrypt_verify_in(scrypt_memory *memory, const uint8_t *password, size_t password_len, const char *text,
+                     size_t text_len);
+
+/* ---- Salts ---- */
+
+/* Draws a salt by the system's getrandom: 16 bytes are enough. Not proved.
+ * SCRYPT_NO_RANDOM_BYTES if the system has none: do not use the salt then. */
+int scrypt_draw_salt(uint8_t *salt, size_t len);
+
+/* ---- Helpers, which are not calls of the library: inline functions of this header, not proved ---- */
+
+#ifdef __cplusplus
+#define SCRYPT_CAST(type, value) static_cast<type>(value)
+#else
+#define SCRYPT_CAST(type, value) ((type)(value))
+#endif
+
+/* The pointer, or one to a byte that is not read if it is NULL. */
 static inline const uint8_t *scrypt_bytes(const void *bytes) {
   static const uint8_t none = 0;
-  return bytes == NULL ? &none : (const uint8_t *)bytes;
+  return bytes ? SCRYPT_CAST(const uint8_t *, bytes) : &none;
 }
 
-/* scrypt_kdf, where a password or a salt of length 0 may be NULL. */
+/* scrypt_kdf, but NULL is allowed with length 0. */
 static inline int scrypt_derive(const void *password, size_t password_len, const void *salt,
                                 size_t salt_len, uint8_t log_n, uint32_t r, uint32_t p,
                                 void *output, size_t output_len) {
-  static uint8_t none = 0;
+  uint8_t none = 0;
   return scrypt_kdf(scrypt_bytes(password), password_len, scrypt_bytes(salt), salt_len, log_n, r, p,
-                    output == NULL ? &none : (uint8_t *)output, output_len);
+                    output ? SCRYPT_CAST(uint8_t *, output) : &none, output_len);
 }
 
-/* scrypt_hash_phc, with a text that ends in a zero byte: one byte of the capacity is for it. */
+/* scrypt_hash_phc, but a zero byte follows the text, for which one byte of the capacity is kept, and NULL is allowed
+ * with length 0. */
 static inline int scrypt_hash_phc_z(const void *password, size_t password_len, const void *salt,
                                     size_t salt_len, uint8_t log_n, uint32_t r, uint32_t p,
                                     size_t key_len, char *text, size_t capacity) {
@@ -120,11 +223,11 @@ static inline int scrypt_hash_phc_z(const void *password, size_t password_len, c
   int status = scrypt_hash_phc(scrypt_bytes(password), password_len, scrypt_bytes(salt), salt_len,
                                log_n, r, p, key_len, capacity == 0 ? &none : text,
                                capacity == 0 ? 0 : capacity - 1, &text_len);
-  if (status == SCRYPT_DONE) text[text_len] = '\0';
+  if (status == SCRYPT_OK) text[text_len] = '\0';
   return status;
 }
 
-/* scrypt_hash_mcf, with a text that ends in a zero byte: one byte of the capacity is for it. */
+/* The same for scrypt_hash_mcf. */
 static inline int scrypt_hash_mcf_z(const void *password, size_t password_len, const void *salt,
                                     size_t salt_len, uint8_t log_n, uint32_t r, uint32_t p,
                                     size_t key_len, char *text, size_t capacity) {
@@ -133,26 +236,28 @@ static inline int scrypt_hash_mcf_z(const void *password, size_t password_len, c
   int status = scrypt_hash_mcf(scrypt_bytes(password), password_len, scrypt_bytes(salt), salt_len,
                                log_n, r, p, key_len, capacity == 0 ? &none : text,
                                capacity == 0 ? 0 : capacity - 1, &text_len);
-  if (status == SCRYPT_DONE) text[text_len] = '\0';
+  if (status == SCRYPT_OK) text[text_len] = '\0';
   return status;
 }
 
-/* The words of a status. */
+/* A status in words. */
 static inline const char *scrypt_status_text(int status) {
   switch (status) {
-    case SCRYPT_DONE: return "done";
-    case SCRYPT_NO: return "no";
+    case SCRYPT_OK: return "success";
+    case SCRYPT_MISMATCH: return "the password does not match, or the hash is weaker than wanted";
     case SCRYPT_INVALID_PARAMS: return "invalid scrypt parameters";
-    case SCRYPT_INVALID_OUTPUT_LEN: return "invalid output buffer length";
+    case SCRYPT_INVALID_OUTPUT_LEN: return "invalid output length";
     case SCRYPT_OUT_OF_MEMORY: return "out of memory";
-    case SCRYPT_ALGORITHM: return "unsupported algorithm";
-    case SCRYPT_ENCODING_INVALID: return "invalid encoding";
-    case SCRYPT_OUTPUT_SIZE: return "invalid key length";
-    case SCRYPT_PARAM_INVALID: return "invalid parameter";
-    case SCRYPT_PARAMS_INVALID: return "invalid parameters";
+    case SCRYPT_ALGORITHM: return "the hash names another algorithm";
+    case SCRYPT_ENCODING_INVALID: return "the text is not a PHC or $7$ hash";
+    case SCRYPT_OUTPUT_SIZE: return "the key in the hash has an invalid length";
+    case SCRYPT_HASH_PARAM_INVALID: return "a parameter in the hash is invalid";
+    case SCRYPT_HASH_PARAMS_INVALID: return "the parameters in the hash are invalid";
     case SCRYPT_SALT_INVALID: return "invalid salt length";
-    case SCRYPT_VERSION: return "unsupported version";
+    case SCRYPT_VERSION: return "the hash names a version";
     case SCRYPT_BUFFER_SIZE: return "invalid buffer length";
+    case SCRYPT_TOO_COSTLY: return "the parameters need more than is allowed";
+    case SCRYPT_NO_RANDOM_BYTES: return "the system has no random bytes";
     default: return "unknown status";
   }
 }

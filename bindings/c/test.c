@@ -34,7 +34,7 @@ static const struct {
 };
 
 /* The key of vector i in memory of this program, with a table that keeps one row in 2^s. */
-static void keys_in_lent_memory(size_t i, uint8_t s) {
+static void keys_in_buffers(size_t i, uint8_t s) {
   uint8_t key[64];
   char hex[129];
   size_t chunks_len, table_len, scratch_len;
@@ -43,7 +43,7 @@ static void keys_in_lent_memory(size_t i, uint8_t s) {
   const char *password = VECTORS[i].password, *salt = VECTORS[i].salt;
   uint8_t log_n = VECTORS[i].log_n;
   uint32_t r = VECTORS[i].r, p = VECTORS[i].p;
-  check(scrypt_buffer_lens(log_n, r, p, s, &chunks_len, &table_len, &scratch_len) == SCRYPT_DONE, "lens");
+  check(scrypt_buffer_lens(log_n, r, p, s, &chunks_len, &table_len, &scratch_len) == SCRYPT_OK, "lens");
   check(chunks_len == (size_t)128 * r * p, "chunks");
   check(table_len == ((size_t)32 * r << (log_n - s)), "table");
   check(scratch_len == (s == 0 ? (size_t)64 : 96) * r, "scratch");
@@ -51,16 +51,16 @@ static void keys_in_lent_memory(size_t i, uint8_t s) {
   table = (uint32_t *)malloc(4 * table_len);
   scratch = (uint32_t *)malloc(4 * scratch_len);
   check(scrypt_kdf_thin(b(password), strlen(password), b(salt), strlen(salt), log_n, r, p, s, key, 64, chunks,
-                        chunks_len, table, table_len, scratch, scratch_len) == SCRYPT_DONE, "thin");
+                        chunks_len, table, table_len, scratch, scratch_len) == SCRYPT_OK, "thin");
   hex_of(key, 64, hex);
   check(strcmp(hex, VECTORS[i].key) == 0, "key with a thin table");
   if (s == 0) {
     memset(key, 0, sizeof key);
     check(scrypt_kdf_with_buffers(b(password), strlen(password), b(salt), strlen(salt), log_n, r, p, key, 64,
-                                  chunks, chunks_len, table, table_len, scratch, scratch_len) == SCRYPT_DONE,
+                                  chunks, chunks_len, table, table_len, scratch, scratch_len) == SCRYPT_OK,
           "with buffers");
     hex_of(key, 64, hex);
-    check(strcmp(hex, VECTORS[i].key) == 0, "key in lent memory");
+    check(strcmp(hex, VECTORS[i].key) == 0, "key in the caller's buffers");
   }
   memset(key, 7, sizeof key);
   memset(chunks, 7, chunks_len);
@@ -85,19 +85,19 @@ static void keys(int small) {
   for (i = 0; i < count; i++) {
     check(scrypt_derive(VECTORS[i].password, strlen(VECTORS[i].password), VECTORS[i].salt,
                         strlen(VECTORS[i].salt), VECTORS[i].log_n, VECTORS[i].r, VECTORS[i].p, key, 64) ==
-              SCRYPT_DONE, "derive");
+              SCRYPT_OK, "derive");
     hex_of(key, 64, hex);
     check(strcmp(hex, VECTORS[i].key) == 0, "key of RFC 7914");
   }
-  check(scrypt_derive(NULL, 0, NULL, 0, 4, 1, 1, key, 64) == SCRYPT_DONE, "NULL with length 0");
+  check(scrypt_derive(NULL, 0, NULL, 0, 4, 1, 1, key, 64) == SCRYPT_OK, "NULL with length 0");
   hex_of(key, 64, hex);
   check(strcmp(hex, VECTORS[0].key) == 0, "key of NULL with length 0");
-  check(scrypt_kdf_mapped(b("pleaseletmein"), 13, b("SodiumChloride"), 14, 14, 8, 1, key, 64) == SCRYPT_DONE, "mapped");
+  check(scrypt_kdf_mapped(b("pleaseletmein"), 13, b("SodiumChloride"), 14, 14, 8, 1, key, 64) == SCRYPT_OK, "mapped");
   hex_of(key, 64, hex);
   check(strcmp(hex, VECTORS[2].key) == 0, "key in mapped memory");
-  for (i = 0; i < 3; i++) keys_in_lent_memory(0, (uint8_t)i);
-  keys_in_lent_memory(1, 0);
-  keys_in_lent_memory(2, 3);
+  for (i = 0; i < 3; i++) keys_in_buffers(0, (uint8_t)i);
+  keys_in_buffers(1, 0);
+  keys_in_buffers(2, 3);
 }
 
 static void refusals_of_keys(void) {
@@ -129,23 +129,66 @@ static void made_text(const char *text, int mcf) {
   check(len == n && room[0] == '!', "the length that is needed");
   len = 1000;
   check((mcf ? scrypt_hash_mcf : scrypt_hash_phc)(b("pw"), 2, b("saltsalt"), 8, 4, 8, 1, 32, room, n, &len) ==
-            SCRYPT_DONE, "just room");
+            SCRYPT_OK, "just room");
   check(len == n && memcmp(room, text, n) == 0 && room[n] == '!', "the text, and the rest of the room");
+}
+
+/* Verifies in buffers of this program, which may be longer than needed, and are refused if they are shorter. */
+static void verify_in_buffers(const char *text) {
+  uint8_t chunks[2048];
+  uint32_t *table = (uint32_t *)malloc(4 * 5000), scratch[600];
+  size_t chunks_len, table_len, scratch_len, i, nonzero = 0;
+  size_t n = strlen(text);
+  check(scrypt_buffer_lens(4, 8, 1, 0, &chunks_len, &table_len, &scratch_len) == SCRYPT_OK, "lens");
+  check(scrypt_verify_with_buffers(b("pw"), 2, text, n, chunks, chunks_len, table, table_len, scratch, scratch_len) ==
+            SCRYPT_OK, "the password, in buffers");
+  check(scrypt_verify_with_buffers(b("PW"), 2, text, n, chunks, sizeof chunks, table, 5000, scratch, 600) ==
+            SCRYPT_MISMATCH, "another password, in longer buffers");
+  scrypt_wipe(chunks, chunks_len, table, table_len, scratch, scratch_len);
+  for (i = 0; i < chunks_len; i++) nonzero += chunks[i] != 0;
+  for (i = 0; i < table_len; i++) nonzero += table[i] != 0;
+  for (i = 0; i < scratch_len; i++) nonzero += scratch[i] != 0;
+  check(nonzero == 0, "wiped");
+  check(scrypt_verify_with_buffers(b("pw"), 2, text, n, chunks, chunks_len - 1, table, table_len, scratch,
+                                   scratch_len) == SCRYPT_BUFFER_SIZE, "short chunks");
+  check(scrypt_verify_with_buffers(b("pw"), 2, text, n, chunks, chunks_len, table, table_len - 1, scratch,
+                                   scratch_len) == SCRYPT_BUFFER_SIZE, "a short table");
+  check(scrypt_verify_with_buffers(b("pw"), 2, text, n, chunks, chunks_len, table, table_len, scratch,
+                                   scratch_len - 1) == SCRYPT_BUFFER_SIZE, "a short scratch");
+  for (i = 0; i < table_len; i++) nonzero += table[i] != 0;
+  check(nonzero == 0, "a refusal leaves the buffers");
+  free(table);
+}
+
+static void hash_params(const char *text) {
+  uint8_t log_n = 99;
+  uint32_t r = 99, p = 99;
+  size_t key_len = 99;
+  check(scrypt_hash_params("$7$", 3, &log_n, &r, &p, &key_len) == SCRYPT_ENCODING_INVALID, "no hash");
+  check(log_n == 99 && r == 99 && p == 99 && key_len == 99, "an error leaves the four");
+  check(scrypt_hash_params(text, strlen(text), &log_n, &r, &p, &key_len) == SCRYPT_OK, "params");
+  check(log_n == 4 && r == 8 && p == 1 && key_len == 32, "the parameters of the hash");
+  check(scrypt_hash_params("$scrypt$ln=9,r=3,p=2", 20, &log_n, &r, &p, &key_len) == SCRYPT_OK, "no key");
+  check(log_n == 9 && r == 3 && p == 2 && key_len == 0, "the parameters of a hash without salt or key");
 }
 
 static void hashes(void) {
   char phc[SCRYPT_PHC_CAPACITY], mcf[SCRYPT_MCF_CAPACITY(8)];
   size_t len = 77;
-  check(scrypt_hash_phc_z("pw", 2, "saltsalt", 8, 4, 8, 1, 32, phc, sizeof phc) == SCRYPT_DONE, "phc");
-  check(scrypt_hash_mcf_z("pw", 2, "saltsalt", 8, 4, 8, 1, 32, mcf, sizeof mcf) == SCRYPT_DONE, "mcf");
+  check(scrypt_hash_phc_z("pw", 2, "saltsalt", 8, 4, 8, 1, 32, phc, sizeof phc) == SCRYPT_OK, "phc");
+  check(scrypt_hash_mcf_z("pw", 2, "saltsalt", 8, 4, 8, 1, 32, mcf, sizeof mcf) == SCRYPT_OK, "mcf");
   check(strncmp(phc, "$scrypt$ln=4,r=8,p=1$c2FsdHNhbHQ$", 33) == 0, "the front of a PHC text");
   check(strncmp(mcf, "$7$26..../....", 14) == 0, "the front of a $7$ text");
   made_text(phc, 0);
   made_text(mcf, 1);
-  check(verify("pw", phc) == SCRYPT_DONE && verify("pw", mcf) == SCRYPT_DONE, "the password");
-  check(verify("pw ", phc) == SCRYPT_NO && verify("", mcf) == SCRYPT_NO, "another password");
-  check(rehash(phc, 4) == SCRYPT_DONE && rehash(mcf, 4) == SCRYPT_DONE, "as wanted");
-  check(rehash(phc, 5) == SCRYPT_NO && rehash(mcf, 5) == SCRYPT_NO, "weaker");
+  check(verify("pw", phc) == SCRYPT_OK && verify("pw", mcf) == SCRYPT_OK, "the password");
+  verify_in_buffers(phc);
+  verify_in_buffers(mcf);
+  hash_params(phc);
+  hash_params(mcf);
+  check(verify("pw ", phc) == SCRYPT_MISMATCH && verify("", mcf) == SCRYPT_MISMATCH, "another password");
+  check(rehash(phc, 4) == SCRYPT_OK && rehash(mcf, 4) == SCRYPT_OK, "as wanted");
+  check(rehash(phc, 5) == SCRYPT_NEEDS_REHASH && rehash(mcf, 5) == SCRYPT_NEEDS_REHASH, "weaker");
   check(rehash(phc, 57) == SCRYPT_INVALID_PARAMS, "unaccepted numbers");
   check(scrypt_needs_rehash(phc, strlen(phc), 4, 8, 1, 9) == SCRYPT_INVALID_PARAMS, "a key of 9 bytes");
   check(scrypt_hash_phc(b(""), 0, b(""), 0, 4, 8, 1, 32, phc, sizeof phc, &len) == SCRYPT_SALT_INVALID, "no salt");
@@ -164,16 +207,17 @@ static void refusals_of_texts(void) {
       {"$7", SCRYPT_ENCODING_INVALID},
       {"$7$", SCRYPT_ENCODING_INVALID},
       {"$scrypt$ln=4\xff", SCRYPT_ENCODING_INVALID},
-      {"$7$26..../....s\xc3\xa4lt$......................", SCRYPT_ENCODING_INVALID},
+      {"$7$26..../....s\xc3lt$......................", SCRYPT_ENCODING_INVALID},
+      {"$7$26..../....s\xc3\xa4lt$......................", SCRYPT_MISMATCH},
       {"$argon2$c2FsdHNhbHQ$AAAAAAAAAAAAAAAAAAAA", SCRYPT_ALGORITHM},
       {"$scrypt$v=1$ln=4$c2FsdHNhbHQ$AAAAAAAAAAAAAAAAAAAA", SCRYPT_VERSION},
-      {"$scrypt$ln=256$c2FsdHNhbHQ$AAAAAAAAAAAAAAAAAAAA", SCRYPT_PARAM_INVALID},
-      {"$scrypt$r=x$c2FsdHNhbHQ$AAAAAAAAAAAAAAAAAAAA", SCRYPT_PARAM_INVALID},
-      {"$scrypt$ln=57$c2FsdHNhbHQ$AAAAAAAAAAAAAAAAAAAA", SCRYPT_PARAMS_INVALID},
-      {"$scrypt$q=1$c2FsdHNhbHQ$AAAAAAAAAAAAAAAAAAAA", SCRYPT_PARAMS_INVALID},
-      {"$7$z6..../....salt$......................", SCRYPT_PARAMS_INVALID},
+      {"$scrypt$ln=256$c2FsdHNhbHQ$AAAAAAAAAAAAAAAAAAAA", SCRYPT_HASH_PARAM_INVALID},
+      {"$scrypt$r=x$c2FsdHNhbHQ$AAAAAAAAAAAAAAAAAAAA", SCRYPT_HASH_PARAM_INVALID},
+      {"$scrypt$ln=57$c2FsdHNhbHQ$AAAAAAAAAAAAAAAAAAAA", SCRYPT_HASH_PARAMS_INVALID},
+      {"$scrypt$q=1$c2FsdHNhbHQ$AAAAAAAAAAAAAAAAAAAA", SCRYPT_HASH_PARAMS_INVALID},
+      {"$7$z6..../....salt$......................", SCRYPT_HASH_PARAMS_INVALID},
       {"$7$26..../....salt$", SCRYPT_OUTPUT_SIZE},
-      {"$scrypt$ln=4,r=8,p=1", SCRYPT_NO},
+      {"$scrypt$ln=4,r=8,p=1", SCRYPT_MISMATCH},
   };
   size_t i;
   for (i = 0; i < sizeof REFUSED / sizeof REFUSED[0]; i++) {
@@ -189,8 +233,8 @@ int main(int argc, char **argv) {
   refusals_of_keys();
   hashes();
   refusals_of_texts();
-  for (status = SCRYPT_DONE; status <= SCRYPT_BUFFER_SIZE; status++)
+  for (status = SCRYPT_OK; status <= SCRYPT_NO_RANDOM_BYTES; status++)
     check(strcmp(scrypt_status_text(status), "unknown status") != 0, "the words of a status");
-  check(strcmp(scrypt_status_text(13), "unknown status") == 0, "no status");
+  check(strcmp(scrypt_status_text(15), "unknown status") == 0, "no status");
   return failed;
 }

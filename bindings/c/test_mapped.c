@@ -26,10 +26,10 @@ static void keys_of_the_rfc(void) {
   for (i = 0; i < sizeof VECTORS / sizeof VECTORS[0]; i++) {
     const char *password = VECTORS[i].password, *salt = VECTORS[i].salt;
     check(scrypt_kdf_mapped(b(password), strlen(password), b(salt), strlen(salt), VECTORS[i].log_n, VECTORS[i].r,
-                            VECTORS[i].p, key, 64) == SCRYPT_DONE, "mapped");
+                            VECTORS[i].p, key, 64) == SCRYPT_OK, "mapped");
     check(memcmp(key, VECTORS[i].front, 4) == 0, "key of RFC 7914");
   }
-  check(scrypt_kdf_mapped(NULL, 0, NULL, 0, 4, 1, 1, key, 64) == SCRYPT_DONE, "NULL with length 0");
+  check(scrypt_kdf_mapped(NULL, 0, NULL, 0, 4, 1, 1, key, 64) == SCRYPT_OK, "NULL with length 0");
   check(memcmp(key, VECTORS[0].front, 4) == 0, "key of NULL with length 0");
 }
 
@@ -45,10 +45,10 @@ static void keys_as_scrypt_kdf(void) {
   for (i = 0; i < sizeof ROWS / sizeof ROWS[0]; i++) {
     memset(one, 7, sizeof one);
     memset(other, 7, sizeof other);
-    check(scrypt_kdf(b("pw"), 2, b("salt"), 4, ROWS[i].log_n, ROWS[i].r, ROWS[i].p, one, ROWS[i].len) == SCRYPT_DONE,
+    check(scrypt_kdf(b("pw"), 2, b("salt"), 4, ROWS[i].log_n, ROWS[i].r, ROWS[i].p, one, ROWS[i].len) == SCRYPT_OK,
           "allocated");
     check(scrypt_kdf_mapped(b("pw"), 2, b("salt"), 4, ROWS[i].log_n, ROWS[i].r, ROWS[i].p, other, ROWS[i].len) ==
-              SCRYPT_DONE, "mapped");
+              SCRYPT_OK, "mapped");
     check(memcmp(one, other, sizeof one) == 0, "the key of scrypt_kdf, and nothing after it");
   }
 }
@@ -93,7 +93,7 @@ static int in_little_memory(void) {
   if (setrlimit(RLIMIT_AS, &most) != 0) return 3;
   if (scrypt_kdf_mapped(b(""), 0, b(""), 0, 20, 8, 1, key, 4) != SCRYPT_OUT_OF_MEMORY) return 4;
   if (memcmp(key, "\1\2\3\4", 4) != 0) return 5;
-  return scrypt_kdf_mapped(b(""), 0, b(""), 0, 14, 8, 1, key, 4) == SCRYPT_DONE ? 0 : 6;
+  return scrypt_kdf_mapped(b(""), 0, b(""), 0, 14, 8, 1, key, 4) == SCRYPT_OK ? 0 : 6;
 }
 
 int main(void) {

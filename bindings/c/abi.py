@@ -1,0 +1,71 @@
+#!/usr/bin/env python3
+"""Compares what the libraries export with the list in the file `abi` beside this script, and refuses what differs.
+
+usage: abi.py FOLDER            FOLDER has the libraries and the header, as build/lib has
+       abi.py FOLDER --print    prints the list that they have
+
+A line of the list is an exported name and sizes in bytes: of the result, and of each argument. Another is a status and
+its number. A program that was linked with the library relies on all of these.
+"""
+
+import os
+import re
+import subprocess
+import sys
+
+SONAME, VERSION = "libscrypt_c.so.0", "SCRYPT_C_0.12"
+SIZES = {"int": 4, "uint8_t": 1, "uint32_t": 4, "uint64_t": 8, "size_t": 8}
+
+
+def size(declared):
+    """The size of an argument, which ends in its name."""
+    return 8 if "*" in declared else SIZES[declared.split()[-2]]
+
+
+def of_header(text):
+    """The list that a header has."""
+    text = re.sub(r"/\*.*?\*/", "", text, flags=re.S)
+    calls = re.findall(r"^(int|void|scrypt_memory \*) ?(scrypt_\w+)\(([^{}]*?)\);", text, re.M)
+    lines = []
+    for result, name, arguments in calls:
+        sizes = [8 if "*" in result else SIZES.get(result, 0), *(size(it) for it in arguments.split(","))]
+        lines.append(" ".join([name, *map(str, sizes)]))
+    return sorted(lines) + [f"{name} {number}" for name, number in re.findall(r"^  (SCRYPT_\w+) = (\d+)", text, re.M)]
+
+
+def output(*command):
+    return subprocess.run(command, check=True, capture_output=True, text=True).stdout
+
+
+def complaints(folder, wanted):
+    with open(os.path.join(folder, "scrypt_c.h"), encoding="utf-8") as file:
+        listed = of_header(file.read())
+    yield from (f"the list has it, and not the header: {it}" for it in wanted if it not in listed)
+    yield from (f"the header has it, and not the list: {it}" for it in listed if it not in wanted)
+    names = {it.split()[0] for it in wanted if it.startswith("scrypt_")}
+    shared, static = os.path.join(folder, "libscrypt_c.so"), os.path.join(folder, "libscrypt_c.a")
+    exported = {line.split()[-1] for line in output("nm", "-D", "--defined-only", shared).splitlines()}
+    if exported != {f"{name}@@{VERSION}" for name in names} | {VERSION}:
+        yield f"exported by the shared library: {sorted(exported)}"
+    exported = {line.split()[-1] for line in output("nm", "-g", "--defined-only", static).splitlines() if " T " in line}
+    if exported != names:
+        yield f"exported by the static library: {sorted(exported)}"
+    if f"[{SONAME}]" not in output("readelf", "-d", shared):
+        yield f"the soname is not {SONAME}"
+
+
+def main(folder, *options):
+    with open(os.path.join(os.path.dirname(os.path.abspath(__file__)), "abi"), encoding="utf-8") as file:
+        wanted = [line.rstrip("\n") for line in file if not line.startswith("#")]
+    if options == ("--print",):
+        with open(os.path.join(folder, "scrypt_c.h"), encoding="utf-8") as file:
+            print("\n".join(of_header(file.read())))
+        return
+    found = list(complaints(folder, wanted))
+    print("\n".join(found) or f"exported: the {sum(it.startswith('scrypt_') for it in wanted)} calls of the list, "
+          "with their sizes and statuses, and no other name")
+    sys.exit(1 if found else 0)
+
+
+if __name__ == "__main__":
+    main(*sys.argv[1:])

@@ -1,0 +1,101 @@
+#!/bin/sh
+# Tests the libraries of build/lib from C and C++: what they export, the header's warnings, every call, AddressSanitizer,
+# valgrind, pkg-config, CMake, and what is installed. With the word short: the exports, the version and one run.
+cd "$(dirname "$0")/../.."
+. bindings/common.sh
+
+python3 bindings/c/abi.py "$lib"
+python3 bindings/version.py --check
+if [ "${1:-}" = short ]; then
+  ${CC:-cc} -std=c99 -O2 -Wall -Wextra -Werror -I"$lib" bindings/c/test.c -o "$room/test" "$lib/libscrypt_c.a"
+  "$room/test" small
+  echo "called from C"
+  exit
+fi
+
+# A program that includes the header alone, with every warning as an error that does not ask for a newer language, or
+# for C++98, or complain of an inline function that is not called.
+clean() {
+  "$@" -Werror -Wno-unused-function -I"$lib" -fsyntax-only bindings/c/header.c
+  echo "no warning: $1 $2"
+}
+gcc_warnings="-Wall -Wextra -pedantic -Wconversion -Wsign-conversion -Wshadow -Wcast-qual -Wundef -Wcast-align"
+clang_warnings="-Weverything -Wno-declaration-after-statement -Wno-c++98-compat-pedantic"
+for standard in c99 c11; do
+  if has gcc gcc; then clean gcc -std=$standard $gcc_warnings -Wstrict-prototypes -Wmissing-prototypes; fi
+  if has clang clang; then clean clang -std=$standard $clang_warnings; fi
+done
+for standard in c++11 c++20; do
+  if has g++ g++; then
+    clean g++ -std=$standard $gcc_warnings -Wold-style-cast -Wuseless-cast -Wzero-as-null-pointer-constant -x c++
+  fi
+  if has clang++ clang; then clean clang++ -std=$standard $clang_warnings -x c++; fi
+done
+
+# Compiles the test by the command that is given, against the static library and against the shared one.
+calls() {
+  "$@" -O2 -Wall -Wextra -Werror -pedantic -I"$lib" bindings/c/test.c -o "$room/static" -x none "$lib/libscrypt_c.a"
+  "$room/static"
+  "$@" -O2 -Wall -Wextra -Werror -pedantic -I"$lib" bindings/c/test.c -o "$room/shared" -x none -L"$lib" -lscrypt_c
+  LD_LIBRARY_PATH=$lib "$room/shared"
+  echo "called by: $*"
+}
+if has gcc gcc; then calls gcc -std=c99; fi
+if has clang clang; then calls clang -std=c99; fi
+if has g++ g++; then calls g++ -std=c++11 -x c++; fi
+if has clang++ clang; then calls clang++ -std=c++11 -x c++; fi
+
+# Older processors than x86-64-v2 are refused by name, and x86-64-v2 is not. Debian's emulator has both.
+if has gcc gcc && has qemu-x86_64-static qemu-user-static; then
+  gcc -O2 -I"$lib" bindings/c/test.c -o "$room/processor" "$lib/libscrypt_c.a"
+  qemu-x86_64-static -cpu Nehalem "$room/processor" small
+  if qemu-x86_64-static -cpu qemu64 "$room/processor" small 2> "$room/refused"; then
+    echo "a processor without SSSE3 was not refused" >&2
+    exit 1
+  fi
+  grep "lacks a feature of x86-64-v2" "$room/refused"
+fi
+
+tests="test test_mapped test_memory test_wipe test_salt threads"
+memcheck() {
+  valgrind -q --error-exitcode=1 --leak-check=full --errors-for-leak-kinds=all "$@"
+}
+if has gcc gcc; then
+  for test in $tests; do
+    gcc -g -fsanitize=address,undefined -fno-sanitize-recover=all -Wall -Wextra -I"$lib" bindings/c/$test.c \
+      -o "$room/checked" "$lib/libscrypt_c.a" -lpthread
+    "$room/checked"
+    gcc -g -Wall -Wextra -I"$lib" bindings/c/$test.c -o "$room/$test" "$lib/libscrypt_c.a" -lpthread
+    "$room/$test"
+  done
+  echo "no report by AddressSanitizer: the tests, and four threads at once"
+fi
+if has gcc gcc && has valgrind valgrind; then
+  for test in $tests; do memcheck "$room/$test" small; done
+  echo "no report by valgrind memcheck: the same, but for the key of 1 GiB"
+fi
+
+# What make install puts into a stage is found by pkg-config and by CMake, and make uninstall leaves no file of it.
+quietly() { make -s "$@" prefix="$room/usr" DESTDIR= > /dev/null; }
+quietly install
+if has gcc gcc && has pkg-config pkg-config; then
+  flags() { PKG_CONFIG_PATH=$room/usr/lib/pkgconfig pkg-config "$@" scrypt_c; }
+  eval gcc bindings/c/test.c -o "$room/by_pkg_config" "$(flags --cflags --libs)"
+  LD_LIBRARY_PATH=$room/usr/lib "$room/by_pkg_config" small
+  eval gcc -static bindings/c/test.c -o "$room/by_pkg_config" "$(flags --static --cflags --libs)"
+  "$room/by_pkg_config" small
+  echo "found by pkg-config: the shared library, and the static one"
+fi
+if has cmake cmake; then
+  cmake -S bindings/c/cmake_client -B "$room/cmake" -DCMAKE_PREFIX_PATH="$room/usr" > "$room/log" || { cat "$room/log"; exit 1; }
+  cmake --build "$room/cmake" > "$room/log" || { cat "$room/log"; exit 1; }
+  "$room/cmake/shared" small
+  "$room/cmake/static" small
+  echo "found by CMake: the shared library, and the static one"
+fi
+quietly uninstall
+test -z "$(find "$room/usr" -type f -o -type l)"
+make -s install prefix=/usr libdir=/usr/lib/x86_64-linux-gnu DESTDIR="$room/stage" > /dev/null
+test -z "$(grep -rl "$room" "$room/stage/usr/lib/x86_64-linux-gnu" --include='scrypt_c*')"
+test "$(ls "$room/stage")" = usr
+echo "installed and uninstalled, also in a stage"

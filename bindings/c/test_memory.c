@@ -1,0 +1,200 @@
+/* scrypt_memory and its calls: the same results as without it, both bounds exactly, hostile hashes, growth, and a
+ * system that refuses memory. */
+#define _DEFAULT_SOURCE
+#include "check.h"
+#include "scrypt_c.h"
+
+#include <string.h>
+#include <sys/resource.h>
+#include <sys/wait.h>
+#include <time.h>
+#include <unistd.h>
+
+/* Whether a checker watches this run, which takes memory and time of its own. */
+#ifdef __SANITIZE_ADDRESS__
+#define IS_WATCHED 1
+#else
+#define IS_WATCHED 0
+#endif
+
+static scrypt_memory *bounded(void) { return scrypt_memory_new(SCRYPT_MOST_BYTES, SCRYPT_MOST_CORES); }
+
+/* The size of this process in bytes: which 0 is its address space, and 1 what of it is in memory. */
+static size_t process_size(int which) {
+  unsigned long pages[2] = {0, 0};
+  FILE *file = fopen("/proc/self/statm", "r");
+  if (file == NULL || fscanf(file, "%lu %lu", &pages[0], &pages[1]) != 2) return 0;
+  fclose(file);
+  return (size_t)pages[which] * (size_t)sysconf(_SC_PAGESIZE);
+}
+
+/* Growing, shrinking and growing again, in one memory. */
+static const struct {
+  uint8_t log_n;
+  uint32_t r, p;
+  size_t len;
+} PARAMS[] = {{4, 1, 1, 64}, {14, 8, 1, 32}, {0, 1, 1, 1},      {10, 8, 16, 64}, {4, 7, 2, 33},
+              {15, 8, 1, 64}, {1, 1, 3, 31}, {2, 1, 20000, 64}, {12, 7, 2, 100}};
+
+static void results_as_without(void) {
+  scrypt_memory *memory = bounded();
+  uint8_t one[100], other[100];
+  size_t i;
+  for (i = 0; i < sizeof PARAMS / sizeof PARAMS[0]; i++) {
+    uint8_t log_n = PARAMS[i].log_n;
+    uint32_t r = PARAMS[i].r, p = PARAMS[i].p;
+    char text[SCRYPT_PHC_CAPACITY], same[SCRYPT_PHC_CAPACITY];
+    size_t text_len = 0, same_len = 0;
+    memset(one, 7, sizeof one);
+    memset(other, 7, sizeof other);
+    check(scrypt_kdf(b("pw"), 2, b("salt"), 4, log_n, r, p, one, PARAMS[i].len) == SCRYPT_OK, "kdf");
+    check(scrypt_kdf_in(memory, b("pw"), 2, b("salt"), 4, log_n, r, p, other, PARAMS[i].len) == SCRYPT_OK, "kdf in");
+    check(memcmp(one, other, sizeof one) == 0, "the key of scrypt_kdf, and nothing after it");
+    check(scrypt_hash_phc(b("pw"), 2, b("salt"), 4, log_n, r, p, 32, text, sizeof text, &text_len) == SCRYPT_OK, "phc");
+    check(scrypt_hash_phc_in(memory, b("pw"), 2, b("salt"), 4, log_n, r, p, 32, same, sizeof same, &same_len) ==
+              SCRYPT_OK, "phc in");
+    check(text_len == same_len && memcmp(text, same, text_len) == 0, "the text of scrypt_hash_phc");
+    check(scrypt_verify_in(memory, b("pw"), 2, text, text_len) == SCRYPT_OK, "the password");
+    check(scrypt_verify_in(memory, b("PW"), 2, text, text_len) == SCRYPT_MISMATCH, "another password");
+    check(scrypt_hash_mcf(b("pw"), 2, b("salt"), 4, log_n, r, p, 32, text, sizeof text, &text_len) == SCRYPT_OK, "mcf");
+    check(scrypt_hash_mcf_in(memory, b("pw"), 2, b("salt"), 4, log_n, r, p, 32, same, sizeof same, &same_len) ==
+              SCRYPT_OK, "mcf in");
+    check(text_len == same_len && memcmp(text, same, text_len) == 0, "the text of scrypt_hash_mcf");
+    check(scrypt_verify_in(memory, b("pw"), 2, text, text_len) == SCRYPT_OK, "the password of a $7$ hash");
+    check(scrypt_verify_in(memory, b(""), 0, text, text_len) == SCRYPT_MISMATCH, "no password");
+  }
+  check(scrypt_kdf_in(memory, NULL, 0, NULL, 0, 4, 1, 1, one, 4) == SCRYPT_OK, "NULL with length 0");
+  check(memcmp(one, "\x77\xd6\x57\x62", 4) == 0, "the first key of RFC 7914, section 12");
+  scrypt_memory_wipe(memory);
+  check(scrypt_kdf_in(memory, NULL, 0, NULL, 0, 4, 1, 1, one, 4) == SCRYPT_OK, "after a wipe");
+  scrypt_memory_free(memory);
+  scrypt_memory_free(NULL);
+}
+
+static int derive(size_t most_bytes, uint64_t most_cores, uint8_t log_n, uint32_t r, uint32_t p) {
+  uint8_t key[4] = {1, 2, 3, 4};
+  scrypt_memory *memory = scrypt_memory_new(most_bytes, most_cores);
+  int status = scrypt_kdf_in(memory, b(""), 0, b(""), 0, log_n, r, p, key, 4);
+  if (status != SCRYPT_OK) check(memcmp(key, "\1\2\3\4", 4) == 0, "an error leaves the output");
+  scrypt_memory_free(memory);
+  return status;
+}
+
+/* Both bounds are met exactly: 128 * r * (N + p + 2) bytes, and 4 * N * r * p cores. */
+static void bounds(void) {
+  size_t i;
+  for (i = 0; i < sizeof PARAMS / sizeof PARAMS[0]; i++) {
+    uint8_t log_n = PARAMS[i].log_n;
+    uint32_t r = PARAMS[i].r, p = PARAMS[i].p;
+    size_t bytes = (size_t)128 * r * (((size_t)1 << log_n) + p + 2);
+    uint64_t cores = ((uint64_t)4 * r * p) << log_n;
+    check(derive(bytes, cores, log_n, r, p) == SCRYPT_OK, "just within the bounds");
+    check(derive(bytes - 1, cores, log_n, r, p) == SCRYPT_TOO_COSTLY, "a byte less");
+    check(derive(bytes, cores - 1, log_n, r, p) == SCRYPT_TOO_COSTLY, "a core less");
+    check(derive(0, UINT64_MAX, log_n, r, p) == SCRYPT_TOO_COSTLY, "no byte");
+    check(derive(SIZE_MAX, 0, log_n, r, p) == SCRYPT_TOO_COSTLY, "no core");
+  }
+  check(derive(SIZE_MAX, UINT64_MAX, 56, 1, 1) == SCRYPT_OUT_OF_MEMORY, "a table of 2^63 bytes");
+  check(derive(SIZE_MAX, UINT64_MAX, 27, 0x3fffffff, 1) == SCRYPT_TOO_COSTLY, "buffers of more than 2^64 bytes");
+  check(derive(SIZE_MAX, UINT64_MAX, 56, 1, 1 << 29) == SCRYPT_TOO_COSTLY, "2^87 cores");
+  check(derive(0, 0, 57, 1, 1) == SCRYPT_INVALID_PARAMS, "what is not accepted is not too costly");
+}
+
+static double seconds(void) {
+  struct timespec now;
+  clock_gettime(CLOCK_MONOTONIC, &now);
+  return (double)now.tv_sec + (double)now.tv_nsec * 1e-9;
+}
+
+#define SALT_AND_KEY "$c2FsdHNhbHQ$AAAAAAAAAAAAAAAAAAAA"
+
+/* Short texts that ask for seconds, days, or more memory than there is: each is refused within a millisecond, and
+ * nothing is mapped. The least of five times counts, since other programs run. */
+static void hostile_hashes(int is_watched) {
+  static const char *const TEXTS[] = {
+      "$scrypt$ln=13,r=1,p=8192" SALT_AND_KEY,      "$scrypt$ln=14,r=1,p=16384" SALT_AND_KEY,
+      "$scrypt$ln=20,r=1,p=1048576" SALT_AND_KEY,   "$scrypt$ln=50,r=1,p=16777216" SALT_AND_KEY,
+      "$scrypt$ln=40,r=8,p=1" SALT_AND_KEY,         "$scrypt$ln=0,r=1,p=1073741823" SALT_AND_KEY,
+      "$scrypt$ln=0,r=1073741823,p=1" SALT_AND_KEY, "$7$c6..../....saltsalt$......................",
+  };
+  scrypt_memory *memory = bounded();
+  size_t i, before = process_size(0);
+  for (i = 0; i < sizeof TEXTS / sizeof TEXTS[0]; i++) {
+    double least = 1;
+    int turn;
+    for (turn = 0; turn < 5; turn++) {
+      double began = seconds();
+      check(scrypt_verify_in(memory, b("pw"), 2, TEXTS[i], strlen(TEXTS[i])) == SCRYPT_TOO_COSTLY, TEXTS[i]);
+      if (seconds() - began < least) least = seconds() - began;
+    }
+    check(is_watched || least < 0.001, "within a millisecond");
+  }
+  check(is_watched || process_size(0) == before, "nothing is mapped");
+  scrypt_memory_free(memory);
+}
+
+static void refusals(void) {
+  scrypt_memory *memory = bounded();
+  uint8_t key[4] = {1, 2, 3, 4};
+  char text[SCRYPT_PHC_CAPACITY] = "!";
+  size_t len = 77;
+  check(scrypt_kdf_in(memory, b(""), 0, b(""), 0, 4, 0, 1, key, 0) == SCRYPT_INVALID_PARAMS, "r of 0, and no output");
+  check(scrypt_kdf_in(memory, b(""), 0, b(""), 0, 40, 1, 1, key, 0) == SCRYPT_INVALID_OUTPUT_LEN, "no output");
+  check(scrypt_hash_phc_in(memory, b(""), 0, b(""), 0, 4, 8, 1, 32, text, sizeof text, &len) == SCRYPT_SALT_INVALID,
+        "no salt");
+  check(scrypt_hash_phc_in(memory, b(""), 0, b("s"), 1, 4, 8, 1, 65, text, sizeof text, &len) == SCRYPT_INVALID_PARAMS,
+        "a key of 65 bytes");
+  check(scrypt_hash_mcf_in(memory, b(""), 0, b("s"), 1, 18, 8, 2, 32, text, sizeof text, &len) == SCRYPT_TOO_COSTLY,
+        "a hash of 258 MiB");
+  check(text[0] == '!' && len == 77, "an error leaves the text and its length");
+  check(scrypt_hash_mcf_in(memory, b(""), 0, b("s"), 1, 4, 8, 1, 32, text, 3, &len) == SCRYPT_BUFFER_SIZE && len > 50,
+        "a text that does not fit");
+  check(scrypt_verify_in(memory, b(""), 0, "", 0) == SCRYPT_ENCODING_INVALID, "no text");
+  check(scrypt_verify_in(memory, b(""), 0, "$argon2" SALT_AND_KEY, 39) == SCRYPT_ALGORITHM, "another algorithm");
+  check(scrypt_verify_in(memory, b(""), 0, "$scrypt$ln=4,r=8,p=1", 20) == SCRYPT_MISMATCH, "no salt and no key");
+  scrypt_memory_free(memory);
+}
+
+/* In a child that may take 64 MiB more than it has a table of 128 MiB is refused, and then one of 16 MiB is not. */
+static int in_little_memory(void) {
+  uint8_t key[4] = {1, 2, 3, 4};
+  scrypt_memory *memory = bounded();
+  struct rlimit most;
+  most.rlim_cur = most.rlim_max = (rlim_t)process_size(0) + ((rlim_t)64 << 20);
+  if (setrlimit(RLIMIT_AS, &most) != 0) return 3;
+  if (scrypt_kdf_in(memory, b(""), 0, b(""), 0, 17, 8, 1, key, 4) != SCRYPT_OUT_OF_MEMORY) return 4;
+  if (memcmp(key, "\1\2\3\4", 4) != 0) return 5;
+  if (scrypt_kdf_in(memory, b(""), 0, b(""), 0, 14, 8, 1, key, 4) != SCRYPT_OK) return 6;
+  scrypt_memory_free(memory);
+  return 0;
+}
+
+/* Many calls take the memory of one: what is mapped is kept, and no more is taken. */
+static void many_calls(int count, int is_watched) {
+  scrypt_memory *memory = bounded();
+  char text[SCRYPT_PHC_CAPACITY];
+  size_t len = 0, before;
+  int i, wrong = 0;
+  check(scrypt_hash_phc_in(memory, b("pw"), 2, b("salt"), 4, 4, 1, 1, 32, text, sizeof text, &len) == SCRYPT_OK, "");
+  for (i = 0; i < 100; i++) wrong |= scrypt_verify_in(memory, b("pw"), 2, text, len);
+  before = process_size(1);
+  for (i = 0; i < count; i++) wrong |= scrypt_verify_in(memory, b("pw"), 2, text, len);
+  check(wrong == 0, "each is verified");
+  check(is_watched || process_size(1) <= before + 65536, "memory is left where it was");
+  scrypt_memory_free(memory);
+}
+
+int main(int argc, char **argv) {
+  int status = -1, small = argc > 1 && strcmp(argv[1], "small") == 0, is_watched = IS_WATCHED || small;
+  pid_t child;
+  results_as_without();
+  bounds();
+  hostile_hashes(is_watched);
+  refusals();
+  many_calls(is_watched ? 1000 : 100000, is_watched);
+  child = fork();
+  if (child == 0) _exit(in_little_memory());
+  check(child > 0 && waitpid(child, &status, 0) == child, "a child");
+  check(WIFEXITED(status) && WEXITSTATUS(status) == 0, "a mapping that is refused");
+  return failed;
+}

@@ -1,0 +1,58 @@
+/* scrypt_draw_salt: fills exactly the bytes that it is given, anew each time, and reports a system that refuses. */
+#define _DEFAULT_SOURCE
+#include "check.h"
+#include "scrypt_c.h"
+
+#include <errno.h>
+#include <linux/filter.h>
+#include <linux/seccomp.h>
+#include <stddef.h>
+#include <string.h>
+#include <sys/prctl.h>
+#include <sys/syscall.h>
+#include <sys/wait.h>
+#include <unistd.h>
+
+static void drawn(void) {
+  uint8_t one[18] = {0}, other[18] = {0}, none = 7;
+  check(scrypt_draw_salt(one + 1, 16) == SCRYPT_OK && scrypt_draw_salt(other + 1, 16) == SCRYPT_OK, "drawn");
+  check(memcmp(one + 1, other + 1, 16) != 0, "two salts differ");
+  check(one[0] == 0 && one[17] == 0, "the bytes beside the salt");
+  check(scrypt_draw_salt(&none, 0) == SCRYPT_OK && none == 7, "no byte");
+}
+
+/* More than the system gives in one call that a signal may interrupt. */
+static void many(void) {
+  static uint8_t large[100000];
+  size_t i, zeros = 0;
+  check(scrypt_draw_salt(large, sizeof large) == SCRYPT_OK, "many bytes");
+  for (i = 0; i < sizeof large; i++) zeros += large[i] == 0;
+  check(zeros > 200 && zeros < 600, "one byte in 256 is zero");
+}
+
+/* In a child for which the system call fails. */
+static int refused(void) {
+  struct sock_filter filter[] = {
+      BPF_STMT(BPF_LD | BPF_W | BPF_ABS, offsetof(struct seccomp_data, nr)),
+      BPF_JUMP(BPF_JMP | BPF_JEQ | BPF_K, SYS_getrandom, 0, 1),
+      BPF_STMT(BPF_RET | BPF_K, SECCOMP_RET_ERRNO | ENOSYS),
+      BPF_STMT(BPF_RET | BPF_K, SECCOMP_RET_ALLOW),
+  };
+  struct sock_fprog program = {sizeof filter / sizeof filter[0], filter};
+  uint8_t salt[16];
+  if (prctl(PR_SET_NO_NEW_PRIVS, 1, 0, 0, 0) != 0) return 2;
+  if (prctl(PR_SET_SECCOMP, SECCOMP_MODE_FILTER, &program) != 0) return 3;
+  return scrypt_draw_salt(salt, sizeof salt) == SCRYPT_NO_RANDOM_BYTES ? 0 : 4;
+}
+
+int main(void) {
+  int status = -1;
+  pid_t child;
+  drawn();
+  many();
+  child = fork();
+  if (child == 0) _exit(refused());
+  check(child > 0 && waitpid(child, &status, 0) == child, "a child");
+  check(WIFEXITED(status) && WEXITSTATUS(status) == 0, "a system without random bytes");
+  return failed;
+}

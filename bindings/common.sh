@@ -1,0 +1,13 @@
+# What the test scripts of the languages share. Sets lib, the folder of the libraries, and room, a folder that is
+# removed in the end.
+set -eu
+lib=$PWD/build/lib
+room=$(mktemp -d)
+trap 'chmod -R u+w "$room"; rm -rf "$room"' EXIT
+
+# Whether a command is here, or else which package brings it, and what was left out.
+has() {
+  command -v "$1" > /dev/null && return
+  echo "$1 is not installed (package $2): not run"
+  return 1
+}
