@@ -12,8 +12,6 @@
 
 enum { SALT_LEN = 32, KEY_LEN = 32, TEXT_LEN = 101, KEY_AT = 58, LEAST_OUTPUT = 16, MOST_LOG_N = 31 };
 
-#define MOST_OUTPUT 137438953440u
-
 static int refused(int why) {
   errno = why;
   return -1;
@@ -43,7 +41,7 @@ static int derive_key(const uint8_t *password, size_t password_len, const uint8_
     uint8_t *apart = malloc(output_len);
     if (apart == NULL) return SCRYPT_OUT_OF_MEMORY;
     status = scrypt_kdf_mapped(password, password_len, salt, salt_len, log_n, r, p, apart, output_len);
-    if (status == SCRYPT_DONE) memcpy(output, apart, output_len);
+    if (status == SCRYPT_OK) memcpy(output, apart, output_len);
     explicit_bzero(apart, output_len);
     free(apart);
     return status;
@@ -54,12 +52,12 @@ static int derive_key(const uint8_t *password, size_t password_len, const uint8_
 
 static int derive(const uint8_t *password, size_t password_len, const uint8_t *salt, size_t salt_len, uint64_t n,
                   uint64_t most_n, uint32_t r, uint32_t p, uint8_t *output, size_t output_len) {
-  if (output_len > MOST_OUTPUT || (uint64_t)r * p >= (uint64_t)1 << 30) return refused(EFBIG);
+  if (output_len > SCRYPT_MAX_OUTPUT_LEN || (uint64_t)r * p >= (uint64_t)1 << 30) return refused(EFBIG);
   if (r == 0 || p == 0) return refused(EINVAL);
   if (n > most_n) return refused(EFBIG);
   if (n < 2 || (n & (n - 1)) != 0) return refused(EINVAL);
   /* What is refused now is a table that no memory holds. */
-  if (derive_key(password, password_len, salt, salt_len, log_of(n), r, p, output, output_len) != SCRYPT_DONE)
+  if (derive_key(password, password_len, salt, salt_len, log_of(n), r, p, output, output_len) != SCRYPT_OK)
     return refused(ENOMEM);
   return 0;
 }
@@ -106,7 +104,7 @@ API int crypto_pwhash_scryptsalsa208sha256(unsigned char *output, unsigned long 
                                            const unsigned char *salt, unsigned long long work, size_t memory) {
   uint8_t log_n;
   uint32_t r, p;
-  if (output_len > MOST_OUTPUT) return refused(EFBIG);
+  if (output_len > SCRYPT_MAX_OUTPUT_LEN) return refused(EFBIG);
   memset(output, 0, (size_t)output_len);
   if (output_len < LEAST_OUTPUT || (const void *)output == (const void *)password) return refused(EINVAL);
   choose(work, memory, &log_n, &r, &p);
@@ -138,7 +136,7 @@ API int crypto_pwhash_scryptsalsa208sha256_str(char text[TEXT_LEN + 1], const ch
   if (log_n > MOST_LOG_N) return refused(EINVAL);
   if (getrandom(salt, sizeof salt, 0) != (ssize_t)sizeof salt) return refused(EIO);
   if (scrypt_hash_mcf_z(password, (size_t)password_len, salt, sizeof salt, log_n, r, p, KEY_LEN, made, sizeof made) !=
-      SCRYPT_DONE)
+      SCRYPT_OK)
     return refused(EINVAL); /* if memory ran out too, as libsodium does */
   memcpy(text, made, sizeof made);
   return 0;
@@ -150,7 +148,7 @@ API int crypto_pwhash_scryptsalsa208sha256_str_verify(const char text[TEXT_LEN +
   if (!has_costs(text) || text[KEY_AT - 1] != '$') return -1;
   log_n = strchr(LETTERS, text[3]) - LETTERS;
   if (log_n == 0 || log_n > MOST_LOG_N) return -1;
-  if (scrypt_verify(scrypt_bytes(password), (size_t)password_len, text, TEXT_LEN) != SCRYPT_DONE) return -1;
+  if (scrypt_verify(scrypt_bytes(password), (size_t)password_len, text, TEXT_LEN) != SCRYPT_OK) return -1;
   return 0;
 }
 
