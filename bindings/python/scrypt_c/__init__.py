@@ -1,0 +1,53 @@
+"""scrypt (RFC 7914) and its password hashes, by the library libscrypt_c, whose calls are proved.
+
+    from scrypt_c import PasswordHasher, VerifyMismatchError
+
+    hasher = PasswordHasher()
+    text = hasher.hash("correct horse")       # store this
+    try:
+        hasher.verify(text, "correct horse")
+    except VerifyMismatchError:
+        ...                                   # another password
+    if hasher.check_needs_rehash(text):
+        ...                                   # store hasher.hash(password) in its place
+
+A hash from somebody else may ask for much memory and time: one that needs more than 256 MiB, or than four times the
+recommended work, is a TooCostlyError at once. Both bounds are arguments of PasswordHasher.
+
+`scrypt` is hashlib.scrypt by this library. While a key is derived the interpreter's lock is released.
+
+The library is the file that the environment's SCRYPT_C_LIBRARY names, or that of this name in the folder that it names;
+or else the one inside this package, or else the one that the system's loader finds.
+"""
+
+from .calibration import calibrate
+from .errors import (
+    InvalidHashError,
+    InvalidOutputLenError,
+    InvalidParamsError,
+    InvalidSaltError,
+    ScryptError,
+    TooCostlyError,
+    VerifyMismatchError,
+)
+from .hasher import PasswordHasher
+from .key import scrypt
+from .params import MOST_BYTES, MOST_CORES, RECOMMENDED, Params, params_of
+
+__all__ = [
+    "MOST_BYTES",
+    "MOST_CORES",
+    "RECOMMENDED",
+    "InvalidHashError",
+    "InvalidOutputLenError",
+    "InvalidParamsError",
+    "InvalidSaltError",
+    "Params",
+    "PasswordHasher",
+    "ScryptError",
+    "TooCostlyError",
+    "VerifyMismatchError",
+    "calibrate",
+    "params_of",
+    "scrypt",
+]

@@ -1,0 +1,41 @@
+"""What callers hand in, as the library takes it."""
+
+from __future__ import annotations
+
+import operator
+from typing import Union
+
+Bytes = Union[bytes, bytearray, memoryview]
+Password = Union[str, bytes, bytearray, memoryview]
+
+
+def raw_bytes(data: Bytes, what: str) -> bytes:
+    """The bytes of a bytes-like object. `bytes` alone would take a number for a length."""
+    try:
+        return memoryview(data).tobytes()
+    except TypeError:
+        raise TypeError(f"{what} is bytes-like, not {type(data).__name__}") from None
+
+
+def raw_password(password: Password) -> bytes:
+    """The bytes of a password; those of a str are its UTF-8."""
+    if isinstance(password, str):
+        return password.encode()
+    return raw_bytes(password, "a password")
+
+
+def raw_text(text: Union[str, bytes]) -> bytes:
+    """The bytes of a hash's text. Letters that ASCII lacks are refused by the library."""
+    if isinstance(text, str):
+        return text.encode(errors="surrogatepass")
+    if isinstance(text, bytes):
+        return text
+    raise TypeError(f"a hash is a str or bytes, not {type(text).__name__}")
+
+
+def number(value: int, what: str) -> int:
+    """A whole number: 1.0 and "1" are none."""
+    try:
+        return operator.index(value)
+    except TypeError:
+        raise TypeError(f"{what} is an int, not {type(value).__name__}") from None

@@ -1,0 +1,128 @@
+"""Password hashers for Django, 3.2 and later.
+
+    PASSWORD_HASHERS = [
+        "scrypt_c.django.PHCPasswordHasher",        # PHC texts, as other programs read them
+        "scrypt_c.django.ScryptPasswordHasher",     # reads what Django's own ScryptPasswordHasher wrote
+        ...
+    ]
+
+The first of the list makes new hashes, and one that another made is replaced at the next login.
+"""
+
+from __future__ import annotations
+
+import base64
+from typing import Any
+
+from django.contrib.auth.hashers import BasePasswordHasher, mask_hash
+from django.utils.crypto import constant_time_compare
+from django.utils.translation import gettext_noop as _
+
+from .errors import InvalidHashError, VerifyMismatchError
+from .hasher import PasswordHasher
+from .key import scrypt
+from .params import MOST_BYTES, MOST_CORES, Params, within
+
+
+class ScryptPasswordHasher(BasePasswordHasher):
+    """The format of Django's own ScryptPasswordHasher: scrypt$N$SALT$r$p$KEY."""
+
+    algorithm = "scrypt"
+    work_factor = 2**17
+    block_size = 8
+    parallelism = 1
+    most_bytes = MOST_BYTES
+    most_cores = MOST_CORES
+
+    def encode(self, password: str, salt: str, n: Any = None, r: Any = None, p: Any = None) -> str:
+        if password is None:
+            raise TypeError("password must be provided.")
+        if not salt or "$" in salt:
+            raise ValueError("salt must be provided and cannot contain $.")
+        n, r, p = n or self.work_factor, r or self.block_size, p or self.parallelism
+        if n > 0 and not n & (n - 1):  # scrypt refuses another n
+            within(Params(n.bit_length() - 1, r, p), self.most_bytes, self.most_cores)
+        key = scrypt(password.encode(), salt=salt.encode(), n=n, r=r, p=p, dklen=64)
+        return f"{self.algorithm}${n}${salt}${r}${p}${base64.b64encode(key).decode()}"
+
+    def decode(self, encoded: str) -> dict[str, Any]:
+        algorithm, n, salt, r, p, key = encoded.split("$", 6)
+        if algorithm != self.algorithm:
+            raise ValueError(f"{algorithm} is not {self.algorithm}")
+        return {
+            "algorithm": algorithm,
+            "work_factor": int(n),
+            "salt": salt,
+            "block_size": int(r),
+            "parallelism": int(p),
+            "hash": key,
+        }
+
+    def verify(self, password: str, encoded: str) -> bool:
+        it = self.decode(encoded)
+        made = self.encode(password, it["salt"], it["work_factor"], it["block_size"], it["parallelism"])
+        return constant_time_compare(encoded, made)
+
+    def must_update(self, encoded: str) -> bool:
+        it = self.decode(encoded)
+        return any(it[name] < getattr(self, name) for name in ("work_factor", "block_size", "parallelism"))
+
+    def safe_summary(self, encoded: str) -> dict[str, Any]:
+        it = self.decode(encoded)
+        return {
+            _("algorithm"): it["algorithm"],
+            _("work factor"): it["work_factor"],
+            _("block size"): it["block_size"],
+            _("parallelism"): it["parallelism"],
+            _("salt"): mask_hash(it["salt"]),
+            _("hash"): mask_hash(it["hash"]),
+        }
+
+    def harden_runtime(self, password: str, encoded: str) -> None:
+        """Does nothing: no further work makes a hash of smaller parameters take the time of larger ones."""
+
+
+class PHCPasswordHasher(BasePasswordHasher):
+    """PHC texts after Django's name of the hasher: scrypt_c$scrypt$ln=17,r=8,p=1$SALT$KEY."""
+
+    algorithm = "scrypt_c"
+    hasher = PasswordHasher()
+
+    def _text(self, encoded: str) -> str:
+        algorithm, text = encoded[: len(self.algorithm)], encoded[len(self.algorithm) :]
+        if algorithm != self.algorithm:
+            raise ValueError(f"not a hash of {self.algorithm}")
+        return text
+
+    def encode(self, password: str, salt: str) -> str:
+        if password is None:
+            raise TypeError("password must be provided.")
+        return self.algorithm + self.hasher.hash(password, salt=salt.encode())
+
+    def decode(self, encoded: str) -> dict[str, Any]:
+        empty, scheme, params, salt, key = self._text(encoded).split("$")
+        return {"algorithm": self.algorithm, "params": params, "salt": salt, "hash": key}
+
+    def verify(self, password: str, encoded: str) -> bool:
+        try:
+            return self.hasher.verify(self._text(encoded), password)
+        except VerifyMismatchError:
+            return False
+
+    def must_update(self, encoded: str) -> bool:
+        try:
+            return self.hasher.check_needs_rehash(self._text(encoded))
+        except InvalidHashError:
+            return True
+
+    def safe_summary(self, encoded: str) -> dict[str, Any]:
+        it = self.decode(encoded)
+        return {
+            _("algorithm"): it["algorithm"],
+            _("parameters"): it["params"],
+            _("salt"): mask_hash(it["salt"]),
+            _("hash"): mask_hash(it["hash"]),
+        }
+
+    def harden_runtime(self, password: str, encoded: str) -> None:
+        """Does nothing: no further work makes a hash of smaller parameters take the time of larger ones."""

@@ -1,0 +1,71 @@
+"""What is raised. If memory is not available that is MemoryError, and a wrong type is TypeError."""
+
+from __future__ import annotations
+
+
+class ScryptError(Exception):
+    """An error of this package; `name` is that of the status in scrypt_c.h."""
+
+    def __init__(self, name: str, words: str) -> None:
+        super().__init__(words)
+        self.name = name
+
+    def __reduce__(self) -> tuple[type, tuple[str, str]]:
+        return type(self), (self.name, str(self))
+
+
+class VerifyMismatchError(ScryptError):
+    """The password is not that of the hash."""
+
+
+class InvalidHashError(ScryptError, ValueError):
+    """The text is not a hash that this package reads; `name` and the words say why."""
+
+
+class InvalidParamsError(ScryptError, ValueError):
+    """log_n, r and p, or key_len, are not accepted."""
+
+
+class TooCostlyError(ScryptError):
+    """The parameters need more memory, or more cores, than the bounds allow. Nothing was derived."""
+
+
+class InvalidSaltError(ScryptError, ValueError):
+    """The salt does not have 1 to 64 bytes, as a PHC hash needs."""
+
+
+class InvalidOutputLenError(ScryptError, ValueError):
+    """The key has no byte, or more than scrypt allows."""
+
+
+# The statuses of scrypt_c.h that are errors: the exception of each, its name and its words.
+_ERRORS: dict[int, tuple[type[ScryptError], str, str]] = {
+    1: (VerifyMismatchError, "SCRYPT_MISMATCH", "the password does not match the hash"),
+    2: (InvalidParamsError, "SCRYPT_INVALID_PARAMS", "invalid scrypt parameters"),
+    3: (InvalidOutputLenError, "SCRYPT_INVALID_OUTPUT_LEN", "the length of the key is not 1 to 137438953440 bytes"),
+    5: (InvalidHashError, "SCRYPT_ALGORITHM", "the hash names another algorithm"),
+    6: (InvalidHashError, "SCRYPT_ENCODING_INVALID", "the text is not a PHC or $7$ hash"),
+    7: (InvalidHashError, "SCRYPT_OUTPUT_SIZE", "the key in the hash has an invalid length"),
+    8: (InvalidHashError, "SCRYPT_HASH_PARAM_INVALID", "a parameter in the hash is invalid"),
+    9: (InvalidHashError, "SCRYPT_HASH_PARAMS_INVALID", "the parameters in the hash are invalid"),
+    10: (InvalidSaltError, "SCRYPT_SALT_INVALID", "a salt of a PHC hash has 1 to 64 bytes"),
+    11: (InvalidHashError, "SCRYPT_VERSION", "the hash names a version, and scrypt has none"),
+    13: (TooCostlyError, "SCRYPT_TOO_COSTLY", "the parameters need more than is allowed"),
+}
+
+_OUT_OF_MEMORY = 4
+
+
+def invalid_params(words: str) -> InvalidParamsError:
+    """The error for numbers that the library is not asked about."""
+    return InvalidParamsError("SCRYPT_INVALID_PARAMS", words)
+
+
+def check(status: int, about: str = "") -> None:
+    """Raises the error of a status that is not 0. `about` is what the call was given, without secrets."""
+    if status == 0:
+        return
+    if status == _OUT_OF_MEMORY:
+        raise MemoryError(f"out of memory{about and ': '}{about}")
+    kind, name, words = _ERRORS.get(status, (ScryptError, f"status {status}", f"status {status} of a newer library"))
+    raise kind(name, f"{words}{about and ': '}{about}")

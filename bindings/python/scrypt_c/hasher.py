@@ -1,0 +1,100 @@
+"""Password hashes."""
+
+from __future__ import annotations
+
+import ctypes
+import os
+from typing import Literal, Optional, Union
+
+from . import library
+from .arguments import Bytes, Password, number, raw_bytes, raw_password, raw_text
+from .errors import check, invalid_params
+from .memories import Memories
+from .params import MOST_BYTES, MOST_CORES, Params, accepted, params_of, within
+
+
+_TOO_COSTLY = 13
+
+
+class PasswordHasher:
+    """Makes password hashes with these parameters, and verifies passwords by hashes with any.
+
+    `mcf` makes `$7$` hashes of crypt(3) instead of PHC hashes. At most `at_once` derivations run at the same time, by
+    default as many as there are processors; other threads wait for their turn. A hasher is immutable, and any number
+    of threads may use it.
+
+    A hash that needs more than `most_bytes` of memory or more than `most_cores` cores is refused before any work. By
+    default these are 256 MiB and the cores of four times the recommended parameters, or what new hashes need if that is
+    more. The hasher keeps the memory in which it verifies for the next time, at most `at_once` times `most_bytes`.
+    """
+
+    def __init__(
+        self,
+        log_n: int = 17,
+        r: int = 8,
+        p: int = 1,
+        key_len: int = 32,
+        *,
+        salt_len: int = 16,
+        mcf: bool = False,
+        most_bytes: Optional[int] = None,
+        most_cores: Optional[int] = None,
+        at_once: Optional[int] = None,
+    ) -> None:
+        self._params = Params(*accepted(log_n, r, p), number(key_len, "key_len"))
+        memory, cores = self._params.memory, self._params.cores  # refuses parameters that are not accepted
+        if not 10 <= self._params.key_len <= 64:
+            raise invalid_params(f"the key of a hash has 10 to 64 bytes, not {key_len}")
+        if not 1 <= number(salt_len, "salt_len") <= 64:
+            check(10, f"salt_len={salt_len}")
+        self._salt_len, self._mcf = salt_len, bool(mcf)
+        self._at_once = number(at_once, "at_once") if at_once is not None else os.cpu_count() or 1
+        if self._at_once < 1:
+            raise ValueError(f"at_once is positive, not {at_once}")
+        self._most_bytes = max(MOST_BYTES, memory) if most_bytes is None else number(most_bytes, "most_bytes")
+        self._most_cores = max(MOST_CORES, cores) if most_cores is None else number(most_cores, "most_cores")
+        within(self._params, self._most_bytes, self._most_cores)
+        self._memories = Memories(self._at_once, self._most_bytes, self._most_cores)
+
+    @property
+    def params(self) -> Params:
+        """The parameters of new hashes."""
+        return self._params
+
+    def __repr__(self) -> str:
+        log_n, r, p, key_len = self._params
+        return f"PasswordHasher(log_n={log_n}, r={r}, p={p}, key_len={key_len}, mcf={self._mcf}, at_once={self._at_once})"
+
+    def hash(self, password: Password, *, salt: Optional[Bytes] = None) -> str:
+        """The text of a new hash. A salt is drawn by the system, unless the caller hands one in."""
+        secret = raw_password(password)
+        drawn = os.urandom(self._salt_len) if salt is None else raw_bytes(salt, "a salt")
+        call = library.hash_mcf if self._mcf else library.hash_phc
+        capacity = library.mcf_capacity(len(drawn)) if self._mcf else library.PHC_CAPACITY
+        text, text_len = ctypes.create_string_buffer(capacity), ctypes.c_size_t()
+        made = [self._params.key_len, text, capacity, ctypes.byref(text_len)]
+        with self._memories.one() as memory:
+            status = call(memory, secret, len(secret), drawn, len(drawn), *self._params[:3], *made)
+        check(status)
+        return text.raw[: text_len.value].decode("ascii")
+
+    def verify(self, text: Union[str, bytes], password: Password) -> Literal[True]:
+        """True if the password is that of the hash, in either format, and else VerifyMismatchError, also for a hash
+        without salt or key; InvalidHashError if the text is no hash of scrypt, and TooCostlyError if the hash needs
+        more than the bounds allow."""
+        raw, secret = raw_text(text), raw_password(password)
+        with self._memories.one() as memory:
+            status = library.verify(memory, secret, len(secret), raw, len(raw))
+        if status == _TOO_COSTLY:
+            within(params_of(text), self._most_bytes, self._most_cores)
+        check(status)
+        return True
+
+    def check_needs_rehash(self, text: Union[str, bytes]) -> bool:
+        """Whether one of the parameters of the hash, or its key's length, is below that of new hashes."""
+        raw = raw_text(text)
+        status = library.needs_rehash(raw, len(raw), *self._params)
+        if status == 1:
+            return True
+        check(status)
+        return False

@@ -1,0 +1,33 @@
+"""Keys, by the signature of hashlib.scrypt."""
+
+from __future__ import annotations
+
+import ctypes
+
+from . import library
+from .arguments import Bytes, number, raw_bytes
+from .errors import check, invalid_params
+from .params import Params, accepted
+
+
+def scrypt(password: Bytes, *, salt: Bytes, n: int, r: int, p: int, maxmem: int = 0, dklen: int = 64) -> bytes:
+    """The key of `dklen` bytes, as hashlib.scrypt gives it; `n` is a power of two.
+
+    With a `maxmem` above 0 a derivation that needs more bytes is refused, as hashlib does. Without, no bound is set,
+    where hashlib's is 32 MiB.
+    """
+    password, salt = raw_bytes(password, "a password"), raw_bytes(salt, "a salt")
+    n, maxmem, dklen = number(n, "n"), number(maxmem, "maxmem"), number(dklen, "dklen")
+    if n < 1 or n & (n - 1):
+        raise invalid_params(f"n is a power of two, not {n}")
+    log_n, r, p = accepted(n.bit_length() - 1, r, p)
+    if maxmem < 0:
+        raise ValueError(f"maxmem is not negative, as {maxmem} is")
+    if 0 < maxmem < Params(log_n, r, p).memory:
+        raise ValueError(f"n={n}, r={r}, p={p} need {Params(log_n, r, p).memory} bytes, more than maxmem={maxmem}")
+    if not 1 <= dklen <= library.MAX_OUTPUT_LEN:
+        check(3, f"dklen={dklen}")
+    key = ctypes.create_string_buffer(dklen)
+    status = library.kdf(password, len(password), salt, len(salt), log_n, r, p, key, dklen)
+    check(status, f"n={n}, r={r}, p={p}, dklen={dklen}")
+    return key.raw

@@ -1,0 +1,63 @@
+"""Finds the library, and declares its calls."""
+
+from __future__ import annotations
+
+import ctypes
+import os
+
+SONAME = "libscrypt_c.so.0"
+
+
+def _place() -> str:
+    named = os.environ.get("SCRYPT_C_LIBRARY")
+    if named:
+        return os.path.join(named, SONAME) if os.path.isdir(named) else named
+    inside = os.path.join(os.path.dirname(os.path.abspath(__file__)), SONAME)
+    return inside if os.path.exists(inside) else SONAME
+
+
+def _loaded() -> ctypes.CDLL:
+    place = _place()
+    try:
+        return ctypes.CDLL(place)
+    except OSError as error:
+        raise ImportError(
+            f"scrypt_c needs the library {SONAME}, and {place} cannot be loaded ({error}). `make lib` in its repository "
+            "builds it, and `make install` installs it; or let SCRYPT_C_LIBRARY name the file, or its folder."
+        ) from error
+
+
+_lib = _loaded()
+_bytes = [ctypes.c_char_p, ctypes.c_size_t]
+_params = [ctypes.c_uint8, ctypes.c_uint32, ctypes.c_uint32]
+_size_out = ctypes.POINTER(ctypes.c_size_t)
+_text_out = [ctypes.c_size_t, ctypes.c_char_p, ctypes.c_size_t, _size_out]
+
+buffer_lens = _lib.scrypt_buffer_lens
+buffer_lens.argtypes = [*_params, ctypes.c_uint8, _size_out, _size_out, _size_out]
+kdf = _lib.scrypt_kdf_mapped
+kdf.argtypes = [*_bytes, *_bytes, *_params, *_bytes]
+memory_new = _lib.scrypt_memory_new
+memory_new.argtypes = [ctypes.c_size_t, ctypes.c_uint64]
+memory_new.restype = ctypes.c_void_p
+memory_free = _lib.scrypt_memory_free
+memory_free.argtypes = [ctypes.c_void_p]
+memory_free.restype = None
+hash_phc = _lib.scrypt_hash_phc_in
+hash_phc.argtypes = [ctypes.c_void_p, *_bytes, *_bytes, *_params, *_text_out]
+hash_mcf = _lib.scrypt_hash_mcf_in
+hash_mcf.argtypes = hash_phc.argtypes
+verify = _lib.scrypt_verify_in
+verify.argtypes = [ctypes.c_void_p, *_bytes, *_bytes]
+hash_params = _lib.scrypt_hash_params
+hash_params.argtypes = [*_bytes, *map(ctypes.POINTER, _params), _size_out]
+needs_rehash = _lib.scrypt_needs_rehash
+needs_rehash.argtypes = [*_bytes, *_params, ctypes.c_size_t]
+
+# As in scrypt_c.h.
+PHC_CAPACITY = 256
+MAX_OUTPUT_LEN = 137438953440
+
+
+def mcf_capacity(salt_len: int) -> int:
+    return 128 + 2 * salt_len

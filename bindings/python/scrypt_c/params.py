@@ -1,0 +1,68 @@
+"""The parameters of a derivation."""
+
+from __future__ import annotations
+
+import ctypes
+from typing import NamedTuple, Union
+
+from . import library
+from .arguments import number, raw_text
+from .errors import TooCostlyError, check, invalid_params
+
+
+class Params(NamedTuple):
+    """N = 2**log_n, the block size r, the parallelization p, and the length of a hash's key in bytes."""
+
+    log_n: int = 17
+    r: int = 8
+    p: int = 1
+    key_len: int = 32
+
+    @property
+    def cores(self) -> int:
+        """The work: how many Salsa20/8 cores a derivation runs."""
+        return 4 * (self.r * self.p << self.log_n)
+
+    @property
+    def memory(self) -> int:
+        """The memory: how many bytes the buffers of a derivation have."""
+        log_n, r, p = accepted(self.log_n, self.r, self.p)
+        lens = [ctypes.c_size_t() for _ in range(3)]
+        check(library.buffer_lens(log_n, r, p, 0, *map(ctypes.byref, lens)), f"log_n={log_n}, r={r}, p={p}")
+        chunks, table, scratch = (it.value for it in lens)
+        return chunks + 4 * table + 4 * scratch
+
+
+RECOMMENDED = Params()
+
+# What a hash may cost, unless the caller says otherwise.
+MOST_BYTES = 256 << 20
+MOST_CORES = 4 * RECOMMENDED.cores
+
+
+def within(params: Params, most_bytes: int, most_cores: int) -> Params:
+    """The parameters, or TooCostlyError if they need more than one of the bounds."""
+    if params.memory > most_bytes or params.cores > most_cores:
+        log_n, r, p, _ = params
+        raise TooCostlyError(
+            "SCRYPT_TOO_COSTLY",
+            f"log_n={log_n}, r={r}, p={p} need {params.memory} bytes and {params.cores} cores, where at most {most_bytes} "
+            f"and {most_cores} are allowed",
+        )
+    return params
+
+
+def params_of(text: Union[str, bytes]) -> Params:
+    """The parameters of a hash; `key_len` is 0 if it has no key. InvalidHashError if the text is no hash of scrypt."""
+    raw = raw_text(text)
+    log_n, r, p, key_len = ctypes.c_uint8(), ctypes.c_uint32(), ctypes.c_uint32(), ctypes.c_size_t()
+    check(library.hash_params(raw, len(raw), *map(ctypes.byref, (log_n, r, p, key_len))))
+    return Params(log_n.value, r.value, p.value, key_len.value)
+
+
+def accepted(log_n: int, r: int, p: int) -> tuple[int, int, int]:
+    """The three, if C's types hold them: ctypes would cut them off."""
+    log_n, r, p = number(log_n, "log_n"), number(r, "r"), number(p, "p")
+    if not (0 <= log_n < 1 << 8 and 0 <= r < 1 << 32 and 0 <= p < 1 << 32):
+        raise invalid_params(f"invalid scrypt parameters: log_n={log_n}, r={r}, p={p}")
+    return log_n, r, p

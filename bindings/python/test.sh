@@ -1,0 +1,51 @@
+#!/bin/sh
+# Tests the Python package over the library of build/lib, with Django and passlib if they are here; installs it into a
+# fresh virtual environment, and builds its wheel. With the word short: its own tests of keys, hashes and the library.
+cd "$(dirname "$0")/../.."
+. bindings/common.sh
+has python3 python3 || exit 0
+tests=$PWD/bindings/python/tests
+export SCRYPT_C_LIBRARY="$lib" PYTHONDONTWRITEBYTECODE=1
+
+# Runs one file of tests, or one class of it, by an interpreter that finds the package.
+run() {
+  (cd "$tests" && "$1" "$2.py" ${3:-} -v > "$room/log" 2>&1) || { cat "$room/log"; exit 1; }
+  echo "$2: $(tail -n 3 "$room/log" | head -n 1)"
+}
+PYTHONPATH=$PWD/bindings/python
+export PYTHONPATH
+for test in test_keys test_library; do PYTHONWARNINGS=error run python3 $test; done
+if [ "${1:-}" = short ]; then
+  run python3 test_hasher Hashes
+  echo "called from Python"
+  exit
+fi
+PYTHONWARNINGS=error run python3 test_hasher
+echo "called from Python"
+
+# Debian's interpreter, which has Debian's packages.
+for framework in django passlib; do
+  if /usr/bin/python3 -c "import $framework" 2> /dev/null; then
+    run /usr/bin/python3 test_$framework
+    echo "called from $framework $(/usr/bin/python3 -c "import $framework; print($framework.__version__)")"
+  else
+    echo "$framework is not installed (package python3-$framework): not run"
+  fi
+done
+unset PYTHONPATH SCRYPT_C_LIBRARY
+
+# The same tests over the package as pip installs it, with the library inside: from the folder, and from the wheel.
+if python3 -c 'import venv, ensurepip' 2> /dev/null; then
+  python3 -m venv "$room/by_folder"
+  "$room/by_folder/bin/pip" install --quiet --no-index ./bindings/python
+  run "$room/by_folder/bin/python" test_hasher
+  python3 -m venv "$room/by_wheel"
+  "$room/by_wheel/bin/pip" wheel --quiet --no-index --wheel-dir "$room/wheels" ./bindings/python
+  "$room/by_wheel/bin/pip" install --quiet --no-index "$room"/wheels/*.whl
+  run "$room/by_wheel/bin/python" test_hasher
+  "$room/by_wheel/bin/pip" uninstall --quiet --yes scrypt_c
+  test -z "$(find "$room/by_wheel" -name 'scrypt_c*')"
+  echo "installed by pip from the folder and as the wheel $(cd "$room/wheels" && echo *.whl)"
+else
+  echo "venv is not installed (package python3-venv): not run"
+fi

@@ -1,0 +1,83 @@
+"""The hashers for Django, in a Django without a project."""
+
+import base64
+import hashlib
+import unittest
+
+import django
+from django.conf import settings
+
+settings.configure(
+    PASSWORD_HASHERS=[
+        "__main__.Small",
+        "scrypt_c.django.ScryptPasswordHasher",
+        "django.contrib.auth.hashers.PBKDF2PasswordHasher",
+    ]
+)
+django.setup()
+
+from django.contrib.auth import hashers  # noqa: E402  after the settings
+
+import scrypt_c  # noqa: E402
+from scrypt_c.django import PHCPasswordHasher, ScryptPasswordHasher  # noqa: E402
+
+
+class Small(PHCPasswordHasher):
+    hasher = scrypt_c.PasswordHasher(log_n=6)
+
+
+class Hashers(unittest.TestCase):
+    def test_ours(self):
+        stored = hashers.make_password("lètmein")
+        self.assertTrue(stored.startswith("scrypt_c$scrypt$ln=6,r=8,p=1$"), stored)
+        self.assertLess(len(stored), 128, "Django's column")
+        self.assertTrue(hashers.check_password("lètmein", stored))
+        self.assertFalse(hashers.check_password("letmein", stored))
+        self.assertTrue(scrypt_c.PasswordHasher().verify(stored[len("scrypt_c") :], "lètmein"))
+        self.assertEqual(hashers.identify_hasher(stored).safe_summary(stored)["parameters"], "ln=6,r=8,p=1")
+
+    def test_format_of_django(self):
+        """N, salt, r, p and 64 bytes of key, as hashlib derives them."""
+        key = hashlib.scrypt("lètmein".encode(), salt=b"seasalt", n=1024, r=8, p=2, dklen=64)
+        stored = f"scrypt$1024$seasalt$8$2${base64.b64encode(key).decode()}"
+        hasher = ScryptPasswordHasher()
+        self.assertEqual(hasher.encode("lètmein", "seasalt", 1024, 8, 2), stored)
+        self.assertTrue(hashers.check_password("lètmein", stored))
+        self.assertFalse(hashers.check_password("letmein", stored))
+        self.assertTrue(hasher.must_update(stored))
+        self.assertEqual(hasher.safe_summary(stored)["work factor"], 1024)
+
+    def test_an_old_hash_is_replaced(self):
+        """At a login Django asks its setter to store a hash of the first hasher, for another's and for a weaker one."""
+        weak = "scrypt_c" + scrypt_c.PasswordHasher(log_n=5).hash("lètmein")
+        theirs = ScryptPasswordHasher().encode("lètmein", "seasalt", 1024)
+        for old in (weak, theirs, hashers.make_password("lètmein", hasher="pbkdf2_sha256")):
+            new = []
+            self.assertTrue(hashers.check_password("lètmein", old, setter=new.append))
+            self.assertEqual(new, ["lètmein"])
+        kept = []
+        hashers.check_password("lètmein", hashers.make_password("lètmein"), setter=kept.append)
+        self.assertEqual(kept, [])
+
+    def test_hostile_hashes(self):
+        for stored in (
+            "scrypt$8192$salt$1$8192$AAAA",
+            "scrypt$1099511627776$salt$8$1$AAAA",
+            "scrypt_c$scrypt$ln=13,r=1,p=8192$c2FsdHNhbHQ$AAAAAAAAAAAAAAAAAAAA",
+        ):
+            with self.assertRaises(scrypt_c.TooCostlyError, msg=stored):
+                hashers.check_password("pw", stored)
+
+    def test_refused(self):
+        for salt in ("", "sea$salt"):
+            with self.assertRaises(ValueError):
+                ScryptPasswordHasher().encode("pw", salt)
+        for wrong in (None,):
+            with self.assertRaises(TypeError):
+                ScryptPasswordHasher().encode(wrong, "seasalt")
+            with self.assertRaises(TypeError):
+                PHCPasswordHasher().encode(wrong, "seasalt")
+
+
+if __name__ == "__main__":
+    unittest.main()

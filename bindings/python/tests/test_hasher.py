@@ -1,0 +1,210 @@
+"""PasswordHasher: both formats, what is refused, and how many derivations run at once."""
+
+import pickle
+import threading
+import time
+import unittest
+from unittest import mock
+
+import scrypt_c
+from scrypt_c import PasswordHasher, library
+
+KEY = "$AAAAAAAAAAAAAAAAAAAA"
+SMALL = PasswordHasher(log_n=4)
+
+
+class Hashes(unittest.TestCase):
+    def test_both_formats(self):
+        for mcf, beginning in [(False, "$scrypt$ln=4,r=8,p=1$c2FsdHNhbHQ$"), (True, "$7$26..../....")]:
+            hasher = PasswordHasher(log_n=4, mcf=mcf)
+            text = hasher.hash(b"pass\0word", salt=b"saltsalt")
+            self.assertTrue(text.startswith(beginning))
+            self.assertIs(hasher.verify(text, b"pass\0word"), True)
+            self.assertIs(hasher.verify(text.encode(), "pass\0word"), True)
+            for other in (b"pass", "", "Pass\0word"):
+                with self.assertRaises(scrypt_c.VerifyMismatchError):
+                    hasher.verify(text, other)
+            self.assertFalse(hasher.check_needs_rehash(text))
+            self.assertTrue(PasswordHasher().check_needs_rehash(text))
+
+    def test_salts_are_drawn(self):
+        texts = {SMALL.hash("pw") for _ in range(20)}
+        self.assertEqual(len(texts), 20)
+        self.assertEqual({len(it.split("$")[3]) for it in texts}, {22})
+        longer = PasswordHasher(log_n=4, salt_len=64, mcf=True)
+        longer.verify(longer.hash("pw"), "pw")
+
+    def test_passwords(self):
+        text = SMALL.hash("grün")
+        for same in ("grün", "grün".encode(), bytearray("grün".encode()), memoryview("grün".encode())):
+            self.assertTrue(SMALL.verify(text, same))
+        for wrong in (5, None, ["pw"]):
+            with self.assertRaises(TypeError):
+                SMALL.verify(text, wrong)
+            with self.assertRaises(TypeError):
+                SMALL.hash(wrong)
+        for wrong in (5, None, bytearray(b"$scrypt")):
+            with self.assertRaises(TypeError):
+                SMALL.verify(wrong, "pw")
+            with self.assertRaises(TypeError):
+                SMALL.check_needs_rehash(wrong)
+        with self.assertRaises(TypeError):
+            SMALL.hash("pw", salt="saltsalt")
+
+    def test_refused_parameters(self):
+        for named, error in [
+            ({"r": 0}, scrypt_c.InvalidParamsError),
+            ({"log_n": 57}, scrypt_c.InvalidParamsError),
+            ({"log_n": 256}, scrypt_c.InvalidParamsError),
+            ({"key_len": 9}, scrypt_c.InvalidParamsError),
+            ({"key_len": 65}, scrypt_c.InvalidParamsError),
+            ({"salt_len": 0}, scrypt_c.InvalidSaltError),
+            ({"at_once": 0}, ValueError),
+            ({"most_bytes": 128 << 20}, scrypt_c.TooCostlyError),
+            ({"most_cores": scrypt_c.RECOMMENDED.cores - 1}, scrypt_c.TooCostlyError),
+            ({"most_bytes": "256"}, TypeError),
+            ({"log_n": "17"}, TypeError),
+            ({"p": 1.0}, TypeError),
+        ]:
+            with self.assertRaises(error, msg=named):
+                PasswordHasher(**named)
+        for salt in (b"", bytes(65)):
+            with self.assertRaises(scrypt_c.InvalidSaltError):
+                SMALL.hash("pw", salt=salt)
+        with self.assertRaises(MemoryError):
+            PasswordHasher(log_n=56, r=1).hash("pw")
+        self.assertTrue(PasswordHasher(log_n=19, r=8), "more than the default bounds, and asked for")
+
+    def test_refused_texts(self):
+        for text, name in [
+            ("", "SCRYPT_ENCODING_INVALID"),
+            ("$7$", "SCRYPT_ENCODING_INVALID"),
+            ("$scrypt$ln=ä", "SCRYPT_ENCODING_INVALID"),
+            ("$scrypt$ln=\ud800", "SCRYPT_ENCODING_INVALID"),
+            ("$argon2$c2FsdHNhbHQ" + KEY, "SCRYPT_ALGORITHM"),
+            ("$scrypt$v=1$c2FsdHNhbHQ" + KEY, "SCRYPT_VERSION"),
+            ("$scrypt$ln=256$c2FsdHNhbHQ" + KEY, "SCRYPT_HASH_PARAM_INVALID"),
+            ("$scrypt$ln=57$c2FsdHNhbHQ" + KEY, "SCRYPT_HASH_PARAMS_INVALID"),
+            ("$7$26..../....salt$", "SCRYPT_OUTPUT_SIZE"),
+        ]:
+            for call in (lambda: SMALL.verify(text, ""), lambda: SMALL.check_needs_rehash(text)):
+                with self.assertRaises(scrypt_c.InvalidHashError, msg=text) as caught:
+                    call()
+                self.assertEqual(caught.exception.name, name)
+                self.assertNotIn(name, str(caught.exception), "words, and not a name alone")
+        with self.assertRaises(scrypt_c.VerifyMismatchError):
+            SMALL.verify("$scrypt$ln=4,r=8,p=1", "")
+        self.assertTrue(SMALL.check_needs_rehash("$scrypt$ln=4,r=8,p=1"))
+
+    def test_errors_are_pickled(self):
+        with self.assertRaises(scrypt_c.InvalidHashError) as caught:
+            SMALL.verify("", "")
+        copy = pickle.loads(pickle.dumps(caught.exception))
+        self.assertEqual((copy.name, str(copy)), (caught.exception.name, str(caught.exception)))
+
+
+# Short texts that ask for seconds, days, or more memory than there is.
+HOSTILE = [
+    "$scrypt$ln=13,r=1,p=8192$c2FsdHNhbHQ" + KEY,
+    "$scrypt$ln=14,r=1,p=16384$c2FsdHNhbHQ" + KEY,
+    "$scrypt$ln=20,r=1,p=1048576$c2FsdHNhbHQ" + KEY,
+    "$scrypt$ln=50,r=1,p=16777216$c2FsdHNhbHQ" + KEY,
+    "$scrypt$ln=40,r=8,p=1$c2FsdHNhbHQ" + KEY,
+    "$7$c6..../....saltsalt$......................",
+]
+
+
+class Bounds(unittest.TestCase):
+    def test_hostile_hashes(self):
+        """Each is refused in some milliseconds, and the error names what it asks for and what is allowed."""
+        hasher = PasswordHasher()
+        for text in HOSTILE:
+            began = time.perf_counter()
+            with self.assertRaisesRegex(scrypt_c.TooCostlyError, "268435456 and 16777216 are allowed", msg=text):
+                hasher.verify(text, "pw")
+            self.assertLess(time.perf_counter() - began, 0.1)
+
+    def test_both_bounds_exactly(self):
+        text = PasswordHasher(log_n=6, r=3, p=5).hash("pw")
+        costs = scrypt_c.params_of(text)
+        within = {"most_bytes": costs.memory, "most_cores": costs.cores}
+        self.assertTrue(PasswordHasher(log_n=4, r=1, **within).verify(text, "pw"))
+        for bound, value in within.items():
+            with self.assertRaises(scrypt_c.TooCostlyError):
+                PasswordHasher(log_n=4, r=1, **{**within, bound: value - 1}).verify(text, "pw")
+
+    def test_params_of(self):
+        for mcf in (False, True):
+            text = PasswordHasher(4, 3, 2, 33, mcf=mcf).hash("pw")
+            self.assertEqual(scrypt_c.params_of(text), (4, 3, 2, 33))
+        with self.assertRaises(scrypt_c.InvalidHashError):
+            scrypt_c.params_of("")
+        with self.assertRaises(TypeError):
+            scrypt_c.params_of(None)
+
+
+class Threads(unittest.TestCase):
+    def test_the_lock_is_released(self):
+        """While one thread derives a key of half a second, this one goes on."""
+        hasher = PasswordHasher(log_n=17, p=2)
+        thread = threading.Thread(target=hasher.hash, args=("pw",))
+        thread.start()
+        steps = 0
+        while thread.is_alive():
+            time.sleep(0.001)
+            steps += 1
+        self.assertGreater(steps, 20)
+
+    def test_at_most_at_once(self):
+        """Of eight threads, as many as at_once says are within the library's call at the same time."""
+        counting = threading.Lock()
+        inside = most = 0
+
+        def slow(*_):
+            nonlocal inside, most
+            with counting:
+                inside += 1
+                most = max(most, inside)
+            time.sleep(0.01)
+            with counting:
+                inside -= 1
+            return 0
+
+        for at_once in (1, 3):
+            most = 0
+            hasher = PasswordHasher(log_n=4, at_once=at_once)
+            with mock.patch.object(library, "verify", slow):
+                threads = [threading.Thread(target=hasher.verify, args=("", "")) for _ in range(8)]
+                for it in threads:
+                    it.start()
+                for it in threads:
+                    it.join()
+            self.assertEqual(most, at_once)
+
+    def test_an_error_gives_its_turn_back(self):
+        hasher = PasswordHasher(log_n=4, at_once=1)
+        for _ in range(3):
+            with self.assertRaises(scrypt_c.InvalidHashError):
+                hasher.verify("", "pw")
+        hasher.hash("pw")
+
+
+def resident():
+    with open("/proc/self/status", encoding="ascii") as file:
+        return next(int(line.split()[1]) for line in file if line.startswith("VmRSS"))
+
+
+class Memory(unittest.TestCase):
+    def test_many_verifications_leave_memory(self):
+        hasher = PasswordHasher(log_n=4, r=1)
+        text = hasher.hash("pw")
+        for _ in range(1000):
+            hasher.verify(text, "pw")
+        before = resident()
+        for _ in range(100_000):
+            hasher.verify(text, "pw")
+        self.assertLess(resident() - before, 256, "KiB after 100,000 verifications")
+
+
+if __name__ == "__main__":
+    unittest.main()

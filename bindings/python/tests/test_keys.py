@@ -1,0 +1,92 @@
+"""scrypt: RFC 7914's keys, hashlib's, and what is refused."""
+
+import hashlib
+import os
+import unittest
+
+import scrypt_c
+
+# RFC 7914, section 12.
+KEYS = [
+    (b"", b"", 16, 1, 1, "77d6576238657b203b19ca42c18a0497f16b4844e3074ae8dfdffa3fede21442"
+     "fcd0069ded0948f8326a753a0fc81f17e8d3e0fb2e0d3628cf35e20c38d18906"),
+    (b"password", b"NaCl", 1024, 8, 16, "fdbabe1c9d3472007856e7190d01e9fe7c6ad7cbc8237830e77376634b373162"
+     "2eaf30d92e22a3886ff109279d9830dac727afb94a83ee6d8360cbdfa2cc0640"),
+    (b"pleaseletmein", b"SodiumChloride", 16384, 8, 1,
+     "7023bdcb3afd7348461c06cd81fd38ebfda8fbba904f8e3ea9b543f6545da1f2"
+     "d5432955613f0fcf62d49705242a9af9e61e85dc0d651e40dfcf017b45575887"),
+    (b"pleaseletmein", b"SodiumChloride", 1048576, 8, 1,
+     "2101cb9b6a511aaeaddbbe09cf70f881ec568d574a2ffd4dabe5ee9820adaa47"
+     "8e56fd8f4ba5d09ffa1c6d927c40f4c337304049e8a952fbcbf45c6fa77a41a4"),
+]
+SMALL = {"n": 16, "r": 1, "p": 1}
+
+
+class Keys(unittest.TestCase):
+    def test_keys_of_rfc_7914(self):
+        for password, salt, n, r, p, key in KEYS:
+            self.assertEqual(scrypt_c.scrypt(password, salt=salt, n=n, r=r, p=p).hex(), key)
+
+    def test_as_hashlib(self):
+        for dklen in (1, 31, 32, 100):
+            password, salt = os.urandom(dklen), os.urandom(8)
+            ours = scrypt_c.scrypt(password, salt=salt, n=256, r=3, p=2, dklen=dklen)
+            self.assertEqual(ours, hashlib.scrypt(password, salt=salt, n=256, r=3, p=2, dklen=dklen))
+
+    def test_maxmem_as_hashlib(self):
+        """The least maxmem with which hashlib derives a key is ours too."""
+        for n, r, p in [(16, 1, 1), (1024, 8, 1), (256, 3, 5)]:
+            bound = scrypt_c.Params(n.bit_length() - 1, r, p).memory
+            costs = {"salt": b"salt", "n": n, "r": r, "p": p}
+            ours = scrypt_c.scrypt(b"pw", maxmem=bound, **costs)
+            self.assertEqual(ours, hashlib.scrypt(b"pw", maxmem=bound, **costs))
+            for derive in (scrypt_c.scrypt, hashlib.scrypt):
+                with self.assertRaises(ValueError):
+                    derive(b"pw", maxmem=bound - 1, **costs)
+
+    def test_refused_numbers(self):
+        for numbers in ({"n": 3}, {"n": 0}, {"n": -2}, {"r": 0}, {"p": 1 << 32}, {"r": -1}, {"n": 1 << 57}, {"n": 1 << 300}):
+            with self.assertRaises(scrypt_c.InvalidParamsError, msg=numbers) as caught:
+                scrypt_c.scrypt(b"", salt=b"", **{**SMALL, **numbers})
+            self.assertIsInstance(caught.exception, ValueError)
+        for dklen in (0, -1, 137438953441):
+            with self.assertRaises(scrypt_c.InvalidOutputLenError):
+                scrypt_c.scrypt(b"", salt=b"", dklen=dklen, **SMALL)
+        with self.assertRaises(ValueError):
+            scrypt_c.scrypt(b"", salt=b"", maxmem=-1, **SMALL)
+        with self.assertRaisesRegex(MemoryError, "n=72057594037927936"):
+            scrypt_c.scrypt(b"", salt=b"", n=1 << 56, r=1, p=1)
+
+    def test_types(self):
+        for wrong in (5, "text", None):
+            with self.assertRaises(TypeError):
+                scrypt_c.scrypt(wrong, salt=b"", **SMALL)
+            with self.assertRaises(TypeError):
+                scrypt_c.scrypt(b"", salt=wrong, **SMALL)
+        for wrong in (16.0, "16", None):
+            with self.assertRaises(TypeError):
+                scrypt_c.scrypt(b"", salt=b"", **{**SMALL, "n": wrong})
+            with self.assertRaises(TypeError):
+                scrypt_c.scrypt(b"", salt=b"", dklen=wrong, **SMALL)
+        key = scrypt_c.scrypt(b"a", salt=b"b", **SMALL)
+        self.assertEqual(scrypt_c.scrypt(bytearray(b"a"), salt=memoryview(b"b"), **SMALL), key)
+
+    def test_calibrate(self):
+        params = scrypt_c.calibrate(0.01, most_bytes=4 << 20)
+        self.assertLessEqual(params.memory, 4 << 20)
+        self.assertGreaterEqual(params.log_n, 10)
+        self.assertEqual(scrypt_c.PasswordHasher(*params).params, params)
+        for seconds, most_bytes in [(0, 1 << 30), (-1, 1 << 30), (float("nan"), 1 << 30), (1, 1 << 20)]:
+            with self.assertRaises(ValueError):
+                scrypt_c.calibrate(seconds, most_bytes)
+
+    def test_params(self):
+        self.assertEqual(scrypt_c.RECOMMENDED, (17, 8, 1, 32))
+        self.assertEqual(scrypt_c.RECOMMENDED.memory, 134_220_800)
+        self.assertEqual(scrypt_c.RECOMMENDED.cores, 4_194_304)
+        with self.assertRaises(scrypt_c.InvalidParamsError):
+            scrypt_c.Params(57, 1, 1).memory
+
+
+if __name__ == "__main__":
+    unittest.main()

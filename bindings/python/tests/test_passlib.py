@@ -1,0 +1,52 @@
+"""The handler for passlib, beside passlib's own."""
+
+import unittest
+
+import passlib.hash
+from passlib.context import CryptContext
+
+import scrypt_c
+from scrypt_c.passlib import scrypt
+
+SMALL = {"rounds": 6, "block_size": 8}
+
+
+class Handler(unittest.TestCase):
+    def test_texts_of_passlib(self):
+        theirs, ours = passlib.hash.scrypt.using(**SMALL), scrypt.using(**SMALL)
+        for one, other in [(theirs, ours), (ours, theirs)]:
+            text = one.hash("grün")
+            self.assertTrue(other.verify("grün", text))
+            self.assertFalse(other.verify("grun", text))
+        self.assertTrue(scrypt_c.PasswordHasher().verify(ours.hash("grün"), "grün"))
+
+    def test_in_a_context(self):
+        context = CryptContext(schemes=[scrypt], scrypt__rounds=6)
+        text = context.hash("pw")
+        self.assertTrue(text.startswith("$scrypt$ln=6,r=8,p=1$"))
+        self.assertEqual(context.verify_and_update("pw", text), (True, None))
+        wanted = CryptContext(schemes=[scrypt], scrypt__rounds=7, scrypt__min_rounds=7)
+        verified, new = wanted.verify_and_update("pw", text)
+        self.assertTrue(verified)
+        self.assertTrue(new.startswith("$scrypt$ln=7,"))
+
+    def test_the_recommended_rounds(self):
+        self.assertEqual(scrypt.default_rounds, 17)
+
+    def test_hostile_hashes(self):
+        for costs in ("ln=13,r=1,p=8192", "ln=21,r=8,p=1"):
+            with self.assertRaises(scrypt_c.TooCostlyError, msg=costs):
+                scrypt.verify("pw", f"$scrypt${costs}$c2FsdHNhbHQ$" + 43 * "A")
+
+    def test_derived_by_this_library(self):
+        """passlib's own derivation is not called."""
+        before = passlib.crypto.scrypt.scrypt
+        passlib.crypto.scrypt.scrypt = None
+        try:
+            self.assertTrue(scrypt.verify("pw", scrypt.using(**SMALL).hash("pw")))
+        finally:
+            passlib.crypto.scrypt.scrypt = before
+
+
+if __name__ == "__main__":
+    unittest.main()
