@@ -1,3 +1,3 @@
-module nilomafy/scrypt
+module nilomafy.example/scrypt
 
 go 1.19

@@ -1,0 +1,138 @@
+package scrypt
+
+import (
+	"context"
+	"runtime"
+)
+
+// Options are those of a Hasher. The zero value of each stands for the one that its comment names.
+type Options struct {
+	Params       // the parameters of new hashes: Recommended()
+	MCF     bool // whether new hashes are $7$ texts of crypt(3) and not PHC texts
+	SaltLen int  // the length of a new hash's salt, 1 to 64 bytes: 16
+	AtOnce  int  // how many derivations may run at the same time: runtime.GOMAXPROCS(0)
+
+	// What a hash may need before it is refused with ErrTooCostly: by default the constants of the same names, or
+	// what new hashes need if that is more.
+	MostBytes, MostCores uint64
+}
+
+// A Hasher makes password hashes, and verifies passwords by hashes of either format. It is immutable, and any number
+// of goroutines may use it; at most Options.AtOnce of them derive at the same time, and the others wait. It keeps the
+// memory in which it verifies for the next time, at most AtOnce times MostBytes.
+type Hasher struct {
+	options Options
+	turns   chan struct{}
+	idle    chan *memory
+}
+
+// NewHasher returns a Hasher. The errors are ErrInvalidParams, ErrSaltInvalid, and ErrTooCostly if new hashes need more
+// than the bounds.
+func NewHasher(options Options) (*Hasher, error) {
+	if options.Params == (Params{}) {
+		options.Params = Recommended()
+	}
+	if options.SaltLen == 0 {
+		options.SaltLen = 16
+	}
+	if options.AtOnce == 0 {
+		options.AtOnce = runtime.GOMAXPROCS(0)
+	}
+	needed, err := options.Params.Memory()
+	if err != nil {
+		return nil, err
+	}
+	if options.KeyLen < 10 || options.KeyLen > 64 || options.AtOnce < 0 {
+		return nil, ErrInvalidParams
+	}
+	if options.SaltLen < 1 || options.SaltLen > 64 {
+		return nil, ErrSaltInvalid
+	}
+	cores := options.Params.Cores()
+	options.MostBytes = bound(options.MostBytes, MostBytes, needed)
+	options.MostCores = bound(options.MostCores, MostCores, cores)
+	if needed > options.MostBytes || cores > options.MostCores {
+		return nil, ErrTooCostly
+	}
+	return &Hasher{options, make(chan struct{}, options.AtOnce), make(chan *memory, options.AtOnce)}, nil
+}
+
+// bound returns the wanted bound, or without one the usual one, or what new hashes need if that is more.
+func bound(wanted, usual, needed uint64) uint64 {
+	switch {
+	case wanted != 0:
+		return wanted
+	case needed > usual:
+		return needed
+	default:
+		return usual
+	}
+}
+
+// Hash returns the text of a new hash, with a salt that the system draws. The errors are that of the context, if it
+// ends before the derivation begins, ErrOutOfMemory and ErrNoRandomBytes.
+func (h *Hasher) Hash(ctx context.Context, password []byte) (string, error) {
+	salt := make([]byte, h.options.SaltLen)
+	if err := drawSalt(salt); err != nil {
+		return "", err
+	}
+	return h.HashWithSalt(ctx, password, salt)
+}
+
+// HashWithSalt is Hash with a salt of the caller's, which a PHC hash takes with 1 to 64 bytes: else it returns
+// ErrSaltInvalid.
+func (h *Hasher) HashWithSalt(ctx context.Context, password, salt []byte) (string, error) {
+	m, err := h.begin(ctx)
+	if err != nil {
+		return "", err
+	}
+	defer h.end(m)
+	return m.hash(password, salt, h.options.Params, h.options.MCF)
+}
+
+// Verify returns nil if the password is that of the hash, and ErrMismatch if it is not, or if the hash has no salt or
+// no key. The other errors are that of the context, if it ends before the derivation begins, ErrTooCostly if the hash
+// needs more than the bounds, before any work, ErrOutOfMemory, and those that are ErrInvalidHash to errors.Is.
+func (h *Hasher) Verify(ctx context.Context, text string, password []byte) error {
+	m, err := h.begin(ctx)
+	if err != nil {
+		return err
+	}
+	defer h.end(m)
+	return m.verify(text, password)
+}
+
+// NeedsRehash reports whether one of the parameters of the hash, or its key's length, is below that of new hashes. The
+// errors are those that are ErrInvalidHash to errors.Is.
+func (h *Hasher) NeedsRehash(text string) (bool, error) {
+	return needsRehash(text, h.options.Params)
+}
+
+// begin waits for a turn to derive, or for the end of the context, and returns the memory for it.
+func (h *Hasher) begin(ctx context.Context) (*memory, error) {
+	if err := ctx.Err(); err != nil {
+		return nil, err
+	}
+	select {
+	case h.turns <- struct{}{}:
+	case <-ctx.Done():
+		return nil, ctx.Err()
+	}
+	select {
+	case m := <-h.idle:
+		return m, nil
+	default:
+	}
+	m, err := newMemory(h.options.MostBytes, h.options.MostCores)
+	if err != nil {
+		<-h.turns
+		return nil, err
+	}
+	return m, nil
+}
+
+// end keeps the memory for another turn, for which there is room: there are as many places as turns.
+func (h *Hasher) end(m *memory) {
+	h.idle <- m
+	<-h.turns
+}

@@ -1,0 +1,138 @@
+package scrypt
+
+// #include <scrypt_c.h>
+// static size_t mcf_capacity(size_t salt_len) { return SCRYPT_MCF_CAPACITY(salt_len); }
+import "C"
+
+import (
+	"math"
+	"math/bits"
+	"runtime"
+	"unsafe"
+)
+
+const maxOutputLen = C.SCRYPT_MAX_OUTPUT_LEN
+
+// What a hash may cost, unless the caller says otherwise: 256 MiB, and four times the cores of the recommended
+// parameters.
+const (
+	MostBytes uint64 = C.SCRYPT_MOST_BYTES
+	MostCores uint64 = C.SCRYPT_MOST_CORES
+)
+
+func statusText(e Error) string { return C.GoString(C.scrypt_status_text(C.int(e))) }
+
+// failed returns the error of a status, or nil if it is SCRYPT_OK.
+func failed(status C.int) error {
+	if status == C.SCRYPT_OK {
+		return nil
+	}
+	return Error(status)
+}
+
+// Memory returns how many bytes the buffers of a derivation have, at most math.MaxUint64, or ErrInvalidParams unless
+// LogN, R and P are accepted.
+func (params Params) Memory() (uint64, error) {
+	var chunks, table, scratch C.size_t
+	err := failed(C.scrypt_buffer_lens(C.uint8_t(params.LogN), C.uint32_t(params.R), C.uint32_t(params.P), 0, &chunks,
+		&table, &scratch))
+	sum, carry := bits.Add64(4*uint64(table), uint64(chunks)+4*uint64(scratch), 0)
+	if carry != 0 {
+		sum = math.MaxUint64
+	}
+	return sum, err
+}
+
+// Cores returns how many Salsa20/8 cores a derivation runs, 4 * N * R * P, or math.MaxUint64 if there are more.
+func (params Params) Cores() uint64 {
+	high, low := bits.Mul64(4*uint64(params.R), uint64(params.P))
+	if high != 0 || low > math.MaxUint64>>params.LogN {
+		return math.MaxUint64
+	}
+	return low << params.LogN
+}
+
+func deriveKey(password, salt []byte, params Params, key []byte) error {
+	return failed(C.scrypt_kdf_mapped(bytes(password), size(password), bytes(salt), size(salt), C.uint8_t(params.LogN),
+		C.uint32_t(params.R), C.uint32_t(params.P), bytes(key), size(key)))
+}
+
+func drawSalt(salt []byte) error {
+	return failed(C.scrypt_draw_salt(bytes(salt), size(salt)))
+}
+
+// A memory holds the buffers of one derivation at a time.
+type memory struct{ c *C.scrypt_memory }
+
+// newMemory returns a memory with these bounds, which is freed when nothing refers to it, or ErrOutOfMemory.
+func newMemory(mostBytes, mostCores uint64) (*memory, error) {
+	c := C.scrypt_memory_new(C.size_t(mostBytes), C.uint64_t(mostCores))
+	if c == nil {
+		return nil, ErrOutOfMemory
+	}
+	m := &memory{c}
+	runtime.SetFinalizer(m, func(m *memory) { C.scrypt_memory_free(m.c) })
+	return m, nil
+}
+
+func (m *memory) hash(password, salt []byte, params Params, mcf bool) (string, error) {
+	capacity := C.size_t(C.SCRYPT_PHC_CAPACITY)
+	if mcf {
+		capacity = C.mcf_capacity(size(salt))
+	}
+	text := make([]byte, capacity)
+	front := (*C.char)(unsafe.Pointer(&text[0]))
+	var textLen C.size_t
+	var status C.int
+	if mcf {
+		status = C.scrypt_hash_mcf_in(m.c, bytes(password), size(password), bytes(salt), size(salt), C.uint8_t(params.LogN),
+			C.uint32_t(params.R), C.uint32_t(params.P), C.size_t(params.KeyLen), front, capacity, &textLen)
+	} else {
+		status = C.scrypt_hash_phc_in(m.c, bytes(password), size(password), bytes(salt), size(salt), C.uint8_t(params.LogN),
+			C.uint32_t(params.R), C.uint32_t(params.P), C.size_t(params.KeyLen), front, capacity, &textLen)
+	}
+	if err := failed(status); err != nil {
+		return "", err
+	}
+	return string(text[:textLen]), nil
+}
+
+func (m *memory) verify(text string, password []byte) error {
+	raw := []byte(text)
+	return failed(C.scrypt_verify_in(m.c, bytes(password), size(password), chars(raw), size(raw)))
+}
+
+// ParamsOf returns the parameters of a hash, with a KeyLen of 0 if it has no key. The errors are those that are
+// ErrInvalidHash to errors.Is.
+func ParamsOf(text string) (Params, error) {
+	raw := []byte(text)
+	var logN C.uint8_t
+	var r, p C.uint32_t
+	var keyLen C.size_t
+	if err := failed(C.scrypt_hash_params(chars(raw), size(raw), &logN, &r, &p, &keyLen)); err != nil {
+		return Params{}, err
+	}
+	return Params{LogN: uint8(logN), R: uint32(r), P: uint32(p), KeyLen: int(keyLen)}, nil
+}
+
+func needsRehash(text string, wanted Params) (bool, error) {
+	raw := []byte(text)
+	status := C.scrypt_needs_rehash(chars(raw), size(raw), C.uint8_t(wanted.LogN), C.uint32_t(wanted.R),
+		C.uint32_t(wanted.P), C.size_t(wanted.KeyLen))
+	if status == C.SCRYPT_NEEDS_REHASH {
+		return true, nil
+	}
+	return false, failed(status)
+}
+
+// bytes returns where the bytes begin; the library takes no nil.
+func bytes(b []byte) *C.uint8_t {
+	if len(b) == 0 {
+		return C.scrypt_bytes(nil)
+	}
+	return (*C.uint8_t)(unsafe.Pointer(&b[0]))
+}
+
+func chars(b []byte) *C.char { return (*C.char)(unsafe.Pointer(bytes(b))) }
+
+func size(b []byte) C.size_t { return C.size_t(len(b)) }

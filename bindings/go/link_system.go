@@ -1,0 +1,6 @@
+//go:build scrypt_system
+
+package scrypt
+
+// #cgo pkg-config: scrypt_c
+import "C"

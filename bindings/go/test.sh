@@ -1,0 +1,65 @@
+#!/bin/sh
+# Tests the Go module with the library of build/lib, and installs it as go get and go mod vendor do. With the word short:
+# its own tests alone.
+cd "$(dirname "$0")/../.."
+. bindings/common.sh
+has go golang-go && has gcc gcc || exit 0
+export GOPROXY=off GOFLAGS=-modcacherw GOCACHE="${GOCACHE:-$room/cache}" GOMODCACHE="$room/modules"
+module=nilomafy.example/scrypt
+version=v$(sed 's/+.*//' VERSION)
+cp "$lib/libscrypt_c.a" "$lib/scrypt_c.h" bindings/go/
+
+in_module() { (cd bindings/go && "$@"); }
+in_module go test -count=1 ./...
+echo "called from Go"
+if [ "${1:-}" = short ]; then exit; fi
+
+in_module go vet ./...
+test -z "$(in_module gofmt -l .)"
+in_module go test -race -count=1 ./...
+echo "no report by go vet, gofmt and the race detector"
+
+# A program in a module of its own, which prints true.
+mkdir "$room/program"
+cat > "$room/program/main.go" << 'PROGRAM'
+package main
+
+import (
+	"context"
+	"fmt"
+	"log"
+
+	"nilomafy.example/scrypt"
+)
+
+func main() {
+	hasher, err := scrypt.NewHasher(scrypt.Options{})
+	if err != nil {
+		log.Fatal(err)
+	}
+	text, err := hasher.Hash(context.Background(), []byte("hunter42"))
+	if err != nil {
+		log.Fatal(err)
+	}
+	fmt.Println(hasher.Verify(context.Background(), text, []byte("hunter42")) == nil)
+}
+PROGRAM
+in_program() { (cd "$room/program" && "$@"); }
+python3 bindings/go/proxy.py bindings/go "$room/proxy" $module "$version"
+in_program go mod init example.com/program 2> /dev/null
+in_program env GOPROXY="file://$room/proxy" GONOSUMDB='*' go get $module@"$version" 2> /dev/null
+test "$(in_program go run .)" = true
+in_program go mod vendor
+rm -rf "$room/modules"
+in_program go build -mod=vendor -o program .
+test "$("$room/program/program")" = true
+echo "taken by go get and by go mod vendor, with no variable set"
+
+if has pkg-config pkg-config; then
+  make -s install prefix="$room/usr" DESTDIR= > /dev/null
+  export PKG_CONFIG_PATH="$room/usr/lib/pkgconfig" LD_LIBRARY_PATH="$room/usr/lib"
+  in_program go build -mod=vendor -tags scrypt_system -o program .
+  readelf -d "$room/program/program" | grep -q libscrypt_c.so.0
+  test "$("$room/program/program")" = true
+  echo "linked with the installed library by the tag scrypt_system"
+fi
