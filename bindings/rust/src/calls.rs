@@ -1,32 +1,48 @@
-//! The calls of `scrypt_c.h`, and what they answer.
+//! The calls of `scrypt_c.h`, and what they return.
 
 use std::os::raw::{c_char, c_int};
 
-pub const DONE: c_int = 0;
-pub const NO: c_int = 1;
+pub const OK: c_int = 0;
+pub const NEEDS_REHASH: c_int = 1;
+pub const MISMATCH: c_int = 1;
+pub const INVALID_PARAMS: c_int = 2;
 pub const INVALID_OUTPUT_LEN: c_int = 3;
 pub const OUT_OF_MEMORY: c_int = 4;
 pub const ALGORITHM: c_int = 5;
 pub const ENCODING_INVALID: c_int = 6;
 pub const OUTPUT_SIZE: c_int = 7;
-pub const PARAM_INVALID: c_int = 8;
-pub const PARAMS_INVALID: c_int = 9;
+pub const HASH_PARAM_INVALID: c_int = 8;
+pub const HASH_PARAMS_INVALID: c_int = 9;
 pub const SALT_INVALID: c_int = 10;
 pub const VERSION: c_int = 11;
+pub const TOO_COSTLY: c_int = 13;
+pub const NO_RANDOM_BYTES: c_int = 14;
 
-/// `scrypt_hash_phc` or `scrypt_hash_mcf`.
+pub const PHC_CAPACITY: usize = 256;
+pub const fn mcf_capacity(salt_len: usize) -> usize {
+    128 + 2 * salt_len
+}
+
+/// `scrypt_memory`, which the library alone looks into.
+#[repr(C)]
+pub struct RawMemory {
+    _inside: [u8; 0],
+}
+
+/// `scrypt_hash_phc_in` or `scrypt_hash_mcf_in`.
 pub type HashCall = unsafe extern "C" fn(
-    *const u8,
-    usize,
-    *const u8,
-    usize,
-    u8,
-    u32,
-    u32,
-    usize,
-    *mut c_char,
-    usize,
-    *mut usize,
+    memory: *mut RawMemory,
+    password: *const u8,
+    password_len: usize,
+    salt: *const u8,
+    salt_len: usize,
+    log_n: u8,
+    r: u32,
+    p: u32,
+    key_len: usize,
+    text: *mut c_char,
+    capacity: usize,
+    text_len: *mut usize,
 ) -> c_int;
 
 extern "C" {
@@ -50,7 +66,8 @@ extern "C" {
         output: *mut u8,
         output_len: usize,
     ) -> c_int;
-    pub fn scrypt_hash_phc(
+    pub fn scrypt_hash_phc_in(
+        memory: *mut RawMemory,
         password: *const u8,
         password_len: usize,
         salt: *const u8,
@@ -63,7 +80,8 @@ extern "C" {
         capacity: usize,
         text_len: *mut usize,
     ) -> c_int;
-    pub fn scrypt_hash_mcf(
+    pub fn scrypt_hash_mcf_in(
+        memory: *mut RawMemory,
         password: *const u8,
         password_len: usize,
         salt: *const u8,
@@ -76,7 +94,8 @@ extern "C" {
         capacity: usize,
         text_len: *mut usize,
     ) -> c_int;
-    pub fn scrypt_verify(
+    pub fn scrypt_verify_in(
+        memory: *mut RawMemory,
         password: *const u8,
         password_len: usize,
         text: *const c_char,
@@ -90,4 +109,15 @@ extern "C" {
         p: u32,
         key_len: usize,
     ) -> c_int;
+    pub fn scrypt_hash_params(
+        text: *const c_char,
+        text_len: usize,
+        log_n: *mut u8,
+        r: *mut u32,
+        p: *mut u32,
+        key_len: *mut usize,
+    ) -> c_int;
+    pub fn scrypt_memory_new(most_bytes: usize, most_cores: u64) -> *mut RawMemory;
+    pub fn scrypt_memory_free(memory: *mut RawMemory);
+    pub fn scrypt_draw_salt(salt: *mut u8, len: usize) -> c_int;
 }

@@ -1,4 +1,4 @@
-//! Why calls are refused.
+//! Why calls fail.
 
 use crate::calls::*;
 use std::fmt;
@@ -9,51 +9,92 @@ pub struct InvalidParams;
 
 /// Why no key is derived.
 #[derive(Clone, Copy, Debug, PartialEq, Eq)]
+#[non_exhaustive]
 pub enum DeriveError {
     /// The output has no byte, or more than 137438953440 bytes.
     InvalidOutputLen,
     /// The memory is not available.
     OutOfMemory,
+    /// A status of a newer library.
+    Status(i32),
 }
 
 /// Why no hash is made, or a password is not verified.
 #[derive(Clone, Copy, Debug, PartialEq, Eq)]
+#[non_exhaustive]
 pub enum Error {
-    /// The password is another one.
+    /// The password is not that of the hash, or the hash has no salt or no key.
     PasswordInvalid,
+    /// The parameters, or the length of the key, are not accepted.
+    InvalidParams,
     /// The memory is not available.
     OutOfMemory,
     /// The hash names another algorithm.
     Algorithm,
-    /// The text is not written as its format asks.
+    /// The text does not have the grammar of its format.
     EncodingInvalid,
     /// The key in the text has a length that is not allowed.
     OutputSize,
-    /// A parameter in the text has a value that is not allowed.
+    /// A parameter in the text is not a decimal in its range.
     ParamInvalid,
-    /// The parameters in the text are not allowed ones together.
+    /// The parameters in the text are not accepted, or are not scrypt's.
     ParamsInvalid,
     /// The salt has a length that is not allowed.
     SaltInvalid,
-    /// The hash names a version.
+    /// The hash names a version, and scrypt has none.
     Version,
+    /// The parameters need more memory or more cores than is allowed. Nothing was derived.
+    TooCostly,
+    /// The system has no random bytes for a salt.
+    NoRandomBytes,
+    /// A status of a newer library.
+    Status(i32),
+}
+
+impl DeriveError {
+    // The status of a derivation with accepted parameters, other than OK.
+    pub(crate) fn of(status: i32) -> DeriveError {
+        match status {
+            INVALID_OUTPUT_LEN => DeriveError::InvalidOutputLen,
+            OUT_OF_MEMORY => DeriveError::OutOfMemory,
+            other => DeriveError::Status(other),
+        }
+    }
 }
 
 impl Error {
-    // The status of a call with accepted parameters and enough room, other than DONE.
+    // The status of a call, other than OK.
     pub(crate) fn of(status: i32) -> Error {
         match status {
-            NO => Error::PasswordInvalid,
+            MISMATCH => Error::PasswordInvalid,
+            INVALID_PARAMS => Error::InvalidParams,
             OUT_OF_MEMORY => Error::OutOfMemory,
             ALGORITHM => Error::Algorithm,
             ENCODING_INVALID => Error::EncodingInvalid,
             OUTPUT_SIZE => Error::OutputSize,
-            PARAM_INVALID => Error::ParamInvalid,
-            PARAMS_INVALID => Error::ParamsInvalid,
+            HASH_PARAM_INVALID => Error::ParamInvalid,
+            HASH_PARAMS_INVALID => Error::ParamsInvalid,
             SALT_INVALID => Error::SaltInvalid,
             VERSION => Error::Version,
-            other => unreachable!("status {other}"),
+            TOO_COSTLY => Error::TooCostly,
+            NO_RANDOM_BYTES => Error::NoRandomBytes,
+            other => Error::Status(other),
         }
+    }
+
+    /// Whether the text is no hash that this crate reads: it is at fault, and not the password or the memory.
+    pub fn is_invalid_hash(&self) -> bool {
+        use Error::*;
+        matches!(
+            self,
+            Algorithm | EncodingInvalid | OutputSize | ParamInvalid | ParamsInvalid | Version
+        )
+    }
+}
+
+impl From<InvalidParams> for Error {
+    fn from(_: InvalidParams) -> Error {
+        Error::InvalidParams
     }
 }
 
@@ -65,25 +106,30 @@ impl fmt::Display for InvalidParams {
 
 impl fmt::Display for DeriveError {
     fn fmt(&self, f: &mut fmt::Formatter<'_>) -> fmt::Result {
-        f.write_str(match self {
-            DeriveError::InvalidOutputLen => "invalid output buffer length",
-            DeriveError::OutOfMemory => "out of memory",
-        })
+        match self {
+            DeriveError::InvalidOutputLen => f.write_str("invalid output length"),
+            DeriveError::OutOfMemory => f.write_str("out of memory"),
+            DeriveError::Status(status) => write!(f, "status {status} of a newer library"),
+        }
     }
 }
 
 impl fmt::Display for Error {
     fn fmt(&self, f: &mut fmt::Formatter<'_>) -> fmt::Result {
         f.write_str(match self {
-            Error::PasswordInvalid => "invalid password",
+            Error::PasswordInvalid => "the password does not match the hash",
+            Error::InvalidParams => "invalid scrypt parameters",
             Error::OutOfMemory => "out of memory",
-            Error::Algorithm => "unsupported algorithm",
-            Error::EncodingInvalid => "invalid encoding",
-            Error::OutputSize => "invalid key length",
-            Error::ParamInvalid => "invalid parameter",
-            Error::ParamsInvalid => "invalid parameters",
+            Error::Algorithm => "the hash names another algorithm",
+            Error::EncodingInvalid => "the text is not a PHC or $7$ hash",
+            Error::OutputSize => "the key in the hash has an invalid length",
+            Error::ParamInvalid => "a parameter in the hash is invalid",
+            Error::ParamsInvalid => "the parameters in the hash are invalid",
             Error::SaltInvalid => "invalid salt length",
-            Error::Version => "unsupported version",
+            Error::Version => "the hash names a version",
+            Error::TooCostly => "the parameters need more than is allowed",
+            Error::NoRandomBytes => "the system has no random bytes",
+            Error::Status(status) => return write!(f, "status {status} of a newer library"),
         })
     }
 }

@@ -1,9 +1,9 @@
-//! The costs of a derivation.
+//! The parameters of a derivation.
 
-use crate::calls::{scrypt_buffer_lens, DONE};
+use crate::calls::{scrypt_buffer_lens, OK};
 use crate::InvalidParams;
 
-/// Accepted costs, and the length of a hash's key if one is given.
+/// Accepted parameters, and the length of a hash's key if one is given.
 #[derive(Clone, Copy, Debug, PartialEq, Eq)]
 pub struct Params {
     pub(crate) log_n: u8,
@@ -13,13 +13,8 @@ pub struct Params {
 }
 
 impl Params {
-    /// The costs to begin with, which take 128 MiB.
-    pub const RECOMMENDED: Params = Params {
-        log_n: 17,
-        r: 8,
-        p: 1,
-        len: None,
-    };
+    /// The parameters to begin with, which take 128 MiB.
+    pub const RECOMMENDED: Params = Params { log_n: 17, r: 8, p: 1, len: None };
 
     /// N is `2^log_n`.
     ///
@@ -31,13 +26,8 @@ impl Params {
         // SAFETY: the three places are this function's own.
         let status =
             unsafe { scrypt_buffer_lens(log_n, r, p, 0, &mut chunks, &mut table, &mut scratch) };
-        if status == DONE {
-            Ok(Params {
-                log_n,
-                r,
-                p,
-                len: None,
-            })
+        if status == OK {
+            Ok(Params { log_n, r, p, len: None })
         } else {
             Err(InvalidParams)
         }
@@ -56,10 +46,7 @@ impl Params {
     ) -> Result<Params, InvalidParams> {
         let params = Params::new(log_n, r, p)?;
         if (10..=64).contains(&len) {
-            Ok(Params {
-                len: Some(len),
-                ..params
-            })
+            Ok(Params { len: Some(len), ..params })
         } else {
             Err(InvalidParams)
         }
@@ -75,18 +62,37 @@ impl Params {
         1 << self.log_n
     }
 
-    /// The size of a block: `128 * r` bytes.
+    /// The block size: a block has `128 * r` bytes.
     pub const fn r(&self) -> u32 {
         self.r
     }
 
-    /// How many chunks are mixed.
+    /// The parallelization: how many chunks are mixed.
     pub const fn p(&self) -> u32 {
         self.p
     }
 
-    pub(crate) fn key_len(&self) -> usize {
-        self.len.unwrap_or(32)
+    /// The memory: how many bytes the buffers of a derivation have.
+    pub fn memory(&self) -> u128 {
+        let (mut chunks, mut table, mut scratch) = (0, 0, 0);
+        // SAFETY: the three places are this function's own. The parameters are accepted, so they are written.
+        unsafe {
+            scrypt_buffer_lens(self.log_n, self.r, self.p, 0, &mut chunks, &mut table, &mut scratch)
+        };
+        chunks as u128 + 4 * (table as u128 + scratch as u128)
+    }
+
+    /// The work: how many Salsa20/8 cores a derivation runs.
+    pub fn cores(&self) -> u128 {
+        (4 * u128::from(self.r) * u128::from(self.p)) << self.log_n
+    }
+
+    /// The length of a hash's key in bytes.
+    pub const fn key_len(&self) -> usize {
+        match self.len {
+            Some(len) => len,
+            None => 32,
+        }
     }
 }
 

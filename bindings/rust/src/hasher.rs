@@ -1,0 +1,184 @@
+//! Password hashes.
+
+use crate::calls::*;
+use crate::memories::Memories;
+use crate::{draw_salt, Bounds, Error, Params};
+
+/// The format of a hash's text.
+#[derive(Clone, Copy, Debug, Default, PartialEq, Eq)]
+pub enum Format {
+    /// `$scrypt$ln=17,r=8,p=1$..`, of the Password Hashing Competition.
+    #[default]
+    Phc,
+    /// `$7$..`, of crypt(3).
+    Mcf,
+}
+
+/// What a [`Hasher`] does. The default is the recommended one of each.
+#[derive(Clone, Copy, Debug, PartialEq, Eq)]
+pub struct Options {
+    /// The parameters of new hashes.
+    pub params: Params,
+    /// The format of new hashes.
+    pub format: Format,
+    /// How long the salt of a new hash is: 1 to 64 bytes.
+    pub salt_len: usize,
+    /// How many derivations may run at the same time: by default as many as there are processors.
+    pub at_once: usize,
+    /// What a hash may need before it is refused: by default [`Bounds::USUAL`], or what new hashes need if that is more.
+    pub bounds: Option<Bounds>,
+}
+
+impl Default for Options {
+    fn default() -> Options {
+        Options {
+            params: Params::RECOMMENDED,
+            format: Format::Phc,
+            salt_len: 16,
+            at_once: std::thread::available_parallelism().map_or(1, usize::from),
+            bounds: None,
+        }
+    }
+}
+
+/// Makes password hashes, and verifies passwords by hashes of either format.
+///
+/// Any number of threads may use it; at most [`Options::at_once`] of them derive at the same time, and the others wait.
+/// A hash that needs more than the bounds is refused before any work. The hasher keeps the memory in which it verifies for
+/// the next time, at most `at_once` times `most_bytes`.
+#[derive(Debug)]
+pub struct Hasher {
+    options: Options,
+    memories: Memories,
+}
+
+impl Default for Hasher {
+    fn default() -> Hasher {
+        Hasher::with(Options::default())
+    }
+}
+
+impl Hasher {
+    /// A hasher with these options.
+    ///
+    /// # Errors
+    ///
+    /// `SaltInvalid` unless the salt has 1 to 64 bytes, `InvalidParams` if no derivation may run at all, and `TooCostly`
+    /// if new hashes need more than the bounds.
+    pub fn new(options: Options) -> Result<Hasher, Error> {
+        if !(1..=64).contains(&options.salt_len) {
+            return Err(Error::SaltInvalid);
+        }
+        if options.at_once == 0 {
+            return Err(Error::InvalidParams);
+        }
+        if options.bounds.map_or(false, |bounds| !bounds.allow(&options.params)) {
+            return Err(Error::TooCostly);
+        }
+        Ok(Hasher::with(options))
+    }
+
+    fn with(options: Options) -> Hasher {
+        let bounds = options.bounds.unwrap_or_else(|| Bounds::USUAL.or_more(&options.params));
+        let memories = Memories::new(options.at_once, bounds);
+        Hasher { options, memories }
+    }
+
+    /// The text of a new hash, with a salt that the system draws.
+    ///
+    /// # Errors
+    ///
+    /// `OutOfMemory` and `NoRandomBytes`.
+    pub fn hash(&self, password: impl AsRef<[u8]>) -> Result<String, Error> {
+        let mut salt = [0; 64];
+        let salt = &mut salt[..self.options.salt_len];
+        draw_salt(salt)?;
+        self.hash_with_salt(password, salt)
+    }
+
+    /// The text of a new hash, with a salt of the caller's.
+    ///
+    /// # Errors
+    ///
+    /// `OutOfMemory`, and `SaltInvalid` unless the salt of a PHC hash has 1 to 64 bytes.
+    pub fn hash_with_salt(&self, password: impl AsRef<[u8]>, salt: &[u8]) -> Result<String, Error> {
+        let (call, capacity): (HashCall, usize) = match self.options.format {
+            Format::Phc => (scrypt_hash_phc_in, PHC_CAPACITY),
+            Format::Mcf => (scrypt_hash_mcf_in, mcf_capacity(salt.len())),
+        };
+        let mut text = Vec::new();
+        text.try_reserve_exact(capacity).map_err(|_| Error::OutOfMemory)?;
+        text.resize(capacity, 0);
+        let (password, params) = (password.as_ref(), &self.options.params);
+        let mut text_len = 0;
+        let memory = self.memories.take()?;
+        // SAFETY: the memory is this thread's, each pointer that of a slice of the length after it, and the text this
+        // function's own.
+        let status = unsafe {
+            call(
+                memory.as_ptr(),
+                password.as_ptr(),
+                password.len(),
+                salt.as_ptr(),
+                salt.len(),
+                params.log_n(),
+                params.r(),
+                params.p(),
+                params.key_len(),
+                text.as_mut_ptr() as *mut _,
+                capacity,
+                &mut text_len,
+            )
+        };
+        if status != OK {
+            return Err(Error::of(status));
+        }
+        text.truncate(text_len);
+        String::from_utf8(text).map_err(|_| Error::EncodingInvalid)
+    }
+
+    /// Ok if the password is that of the hash, in either format.
+    ///
+    /// # Errors
+    ///
+    /// `PasswordInvalid` for another password, and for a hash without salt or key; `TooCostly` if the hash needs more
+    /// than the bounds, before any work; `OutOfMemory`; and those of [`Error::is_invalid_hash`].
+    pub fn verify(&self, text: &str, password: impl AsRef<[u8]>) -> Result<(), Error> {
+        let password = password.as_ref();
+        let memory = self.memories.take()?;
+        let (text_at, text_len) = (text.as_ptr() as *const _, text.len());
+        // SAFETY: the memory is this thread's, and each pointer that of a slice of the length after it.
+        let status = unsafe {
+            scrypt_verify_in(memory.as_ptr(), password.as_ptr(), password.len(), text_at, text_len)
+        };
+        match status {
+            OK => Ok(()),
+            other => Err(Error::of(other)),
+        }
+    }
+
+    /// Whether one of the parameters of the hash, or its key's length, is below that of new hashes.
+    ///
+    /// # Errors
+    ///
+    /// Those of [`Error::is_invalid_hash`].
+    pub fn needs_rehash(&self, text: &str) -> Result<bool, Error> {
+        let params = &self.options.params;
+        // SAFETY: the pointer is that of a text of this length.
+        let status = unsafe {
+            scrypt_needs_rehash(
+                text.as_ptr() as *const _,
+                text.len(),
+                params.log_n(),
+                params.r(),
+                params.p(),
+                params.key_len(),
+            )
+        };
+        match status {
+            OK => Ok(false),
+            NEEDS_REHASH => Ok(true),
+            other => Err(Error::of(other)),
+        }
+    }
+}

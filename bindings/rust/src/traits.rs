@@ -1,0 +1,113 @@
+//! The traits of the crate `password-hash`, 0.4.
+
+use crate::{scrypt, Bounds, DeriveError, Params};
+use password_hash::errors::InvalidValue;
+use password_hash::{
+    Decimal, Error, Ident, Output, ParamsString, PasswordHash, PasswordHasher, Result, Salt,
+};
+
+/// The identifier of scrypt in a PHC text.
+pub const ALG_ID: Ident<'static> = Ident::new_unwrap("scrypt");
+
+/// scrypt by the traits of `password-hash`, as the crate `scrypt` has it: `use scrypt_c::Scrypt` stands for
+/// `use scrypt::Scrypt`.
+///
+/// ```
+/// use scrypt_c::password_hash::{PasswordHash, PasswordHasher, PasswordVerifier, SaltString};
+/// use scrypt_c::Scrypt;
+///
+/// # fn main() -> scrypt_c::password_hash::Result<()> {
+/// let mut drawn = [0; 16];
+/// scrypt_c::draw_salt(&mut drawn).expect("random bytes of the system");
+/// let salt = SaltString::b64_encode(&drawn)?;
+/// let text = Scrypt.hash_password(b"hunter42", &salt)?.to_string();
+/// Scrypt.verify_password(b"hunter42", &PasswordHash::new(&text)?)?;
+/// # Ok(())
+/// # }
+/// ```
+#[derive(Clone, Copy, Debug, Default, PartialEq, Eq)]
+pub struct Scrypt;
+
+impl PasswordHasher for Scrypt {
+    type Params = Params;
+
+    fn hash_password_customized<'a>(
+        &self,
+        password: &[u8],
+        algorithm: Option<Ident<'a>>,
+        version: Option<Decimal>,
+        params: Params,
+        salt: impl Into<Salt<'a>>,
+    ) -> Result<PasswordHash<'a>> {
+        if !matches!(algorithm, None | Some(ALG_ID)) {
+            return Err(Error::Algorithm);
+        }
+        if version.is_some() {
+            return Err(Error::Version);
+        }
+        let salt = salt.into();
+        let mut decoded = [0; Salt::MAX_LENGTH];
+        let decoded = salt.b64_decode(&mut decoded)?;
+        let output = Output::init_with(params.key_len(), |output| {
+            Ok(scrypt(password, decoded, &params, output)?)
+        })?;
+        Ok(PasswordHash {
+            algorithm: ALG_ID,
+            version,
+            params: ParamsString::try_from(params)?,
+            salt: Some(salt),
+            hash: Some(output),
+        })
+    }
+}
+
+/// The parameters of a hash, which verifying reads: `ParamValueInvalid(TooLong)` if they need more than
+/// [`Bounds::USUAL`].
+impl TryFrom<&PasswordHash<'_>> for Params {
+    type Error = Error;
+
+    fn try_from(hash: &PasswordHash<'_>) -> Result<Params> {
+        const INVALID: Error = Error::ParamValueInvalid(InvalidValue::Malformed);
+        if hash.algorithm != ALG_ID {
+            return Err(Error::Algorithm);
+        }
+        if hash.version.is_some() {
+            return Err(Error::Version);
+        }
+        let recommended = Params::RECOMMENDED;
+        let (mut log_n, mut r, mut p) = (recommended.log_n(), recommended.r(), recommended.p());
+        for (name, value) in hash.params.iter() {
+            match name.as_str() {
+                "ln" => log_n = u8::try_from(value.decimal()?).map_err(|_| INVALID)?,
+                "r" => r = value.decimal()?,
+                "p" => p = value.decimal()?,
+                _ => return Err(Error::ParamNameInvalid),
+            }
+        }
+        let len = hash.hash.map_or(recommended.key_len(), |it| it.len());
+        let params = Params::new_with_output_len(log_n, r, p, len).map_err(|_| INVALID)?;
+        if Bounds::USUAL.allow(&params) {
+            Ok(params)
+        } else {
+            Err(Error::ParamValueInvalid(InvalidValue::TooLong))
+        }
+    }
+}
+
+impl TryFrom<Params> for ParamsString {
+    type Error = Error;
+
+    fn try_from(params: Params) -> Result<ParamsString> {
+        let mut written = ParamsString::new();
+        written.add_decimal("ln", params.log_n().into())?;
+        written.add_decimal("r", params.r())?;
+        written.add_decimal("p", params.p())?;
+        Ok(written)
+    }
+}
+
+impl From<DeriveError> for Error {
+    fn from(_: DeriveError) -> Error {
+        Error::Crypto
+    }
+}

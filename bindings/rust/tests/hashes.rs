@@ -1,0 +1,177 @@
+//! Makes hashes in both formats, verifies passwords by them, and tries each refusal.
+
+use scrypt_c::{params_of, Bounds, Error, Format, Hasher, Options, Params};
+use std::collections::HashSet;
+use std::time::{Duration, Instant};
+
+fn small() -> Options {
+    let params = Params::new(4, 8, 1).unwrap();
+    Options { params, ..Options::default() }
+}
+
+fn in_format(format: Format) -> Hasher {
+    Hasher::new(Options { format, ..small() }).unwrap()
+}
+
+#[test]
+fn hashes() {
+    for (format, beginning) in
+        [(Format::Phc, "$scrypt$ln=4,r=8,p=1$c2FsdHNhbHQ$"), (Format::Mcf, "$7$26..../....")]
+    {
+        let hasher = in_format(format);
+        let text = hasher.hash_with_salt(b"pass\0word", b"saltsalt").unwrap();
+        assert!(text.starts_with(beginning), "{text}");
+        assert_eq!(hasher.verify(&text, b"pass\0word"), Ok(()));
+        assert_eq!(hasher.verify(&text, "pass\0word"), Ok(()), "a &str");
+        assert_eq!(hasher.verify(&text, "pass"), Err(Error::PasswordInvalid));
+        assert_eq!(hasher.needs_rehash(&text), Ok(false));
+        assert_eq!(Hasher::default().needs_rehash(&text), Ok(true));
+        let params = Params::new_with_output_len(4, 8, 1, 33).unwrap();
+        let longer = Hasher::new(Options { params, ..small() }).unwrap();
+        assert_eq!(longer.needs_rehash(&text), Ok(true), "32 bytes where 33 are wanted");
+    }
+}
+
+#[test]
+fn salts_are_drawn() {
+    let hasher = Hasher::new(Options { salt_len: 64, ..small() }).unwrap();
+    let texts: HashSet<_> = (0..20).map(|_| hasher.hash("pw").unwrap()).collect();
+    assert_eq!(texts.len(), 20);
+    assert!(texts.iter().all(|it| it.split('$').nth(3).unwrap().len() == 86));
+}
+
+#[test]
+fn refused_options() {
+    for (why, options, wanted) in [
+        ("no salt", Options { salt_len: 0, ..small() }, Error::SaltInvalid),
+        ("a salt of 65 bytes", Options { salt_len: 65, ..small() }, Error::SaltInvalid),
+        ("no derivation at all", Options { at_once: 0, ..small() }, Error::InvalidParams),
+    ] {
+        assert_eq!(Hasher::new(options).err(), Some(wanted), "{why}");
+    }
+}
+
+#[test]
+fn refused_salts() {
+    let (phc, mcf) = (in_format(Format::Phc), in_format(Format::Mcf));
+    for salt in [&[][..], &[0; 65]] {
+        assert_eq!(phc.hash_with_salt("", salt), Err(Error::SaltInvalid), "{}", salt.len());
+        let text = mcf.hash_with_salt("", salt).unwrap();
+        assert_eq!(mcf.verify(&text, ""), Ok(()), "$7$ takes any salt");
+    }
+    let text = mcf.hash_with_salt("", &[0; 1000]).unwrap();
+    assert_eq!(mcf.verify(&text, ""), Ok(()), "a long salt");
+    for format in [Format::Phc, Format::Mcf] {
+        let params = Params::new(56, 1, 1).unwrap();
+        let large = Hasher::new(Options { params, format, ..small() }).unwrap();
+        assert_eq!(large.hash("").err(), Some(Error::OutOfMemory), "a table of 2^63 bytes");
+    }
+}
+
+#[test]
+fn refused_texts() {
+    let hasher = in_format(Format::Phc);
+    const KEY: &str = "AAAAAAAAAAAAAAAAAAAA";
+    for (why, text, wanted) in [
+        ("no text", "", Error::EncodingInvalid),
+        ("no field", "$7$", Error::EncodingInvalid),
+        ("not ASCII", "$scrypt$ln=ä", Error::EncodingInvalid),
+        ("another algorithm", "$argon2$c2FsdHNhbHQ$", Error::Algorithm),
+        ("a version", "$scrypt$v=1$c2FsdHNhbHQ$", Error::Version),
+        ("ln above 255", "$scrypt$ln=256$c2FsdHNhbHQ$", Error::ParamInvalid),
+        ("ln of 57", "$scrypt$ln=57$c2FsdHNhbHQ$", Error::ParamsInvalid),
+        ("an empty key", "$7$26..../....salt$", Error::OutputSize),
+    ] {
+        let text = match wanted {
+            Error::EncodingInvalid | Error::OutputSize => text.to_string(),
+            _ => format!("{text}{KEY}"),
+        };
+        assert_eq!(hasher.verify(&text, ""), Err(wanted), "{why}");
+        assert_eq!(hasher.needs_rehash(&text), Err(wanted), "{why}");
+        assert!(wanted.is_invalid_hash(), "{why}");
+    }
+    let none = "$scrypt$ln=4,r=8,p=1";
+    assert_eq!(hasher.verify(none, ""), Err(Error::PasswordInvalid), "no salt and no key");
+    assert_eq!(hasher.needs_rehash(none), Ok(true), "no salt and no key");
+    let large = format!("$scrypt$ln=56,r=1,p=1$c2FsdHNhbHQ${KEY}");
+    assert_eq!(hasher.verify(&large, ""), Err(Error::TooCostly), "a table of 2^63 bytes");
+}
+
+/// Short texts that ask for seconds, days, or more memory than there is.
+#[test]
+fn hostile_hashes() {
+    for text in [
+        "$scrypt$ln=13,r=1,p=8192$c2FsdHNhbHQ$AAAAAAAAAAAAAAAAAAAA",
+        "$scrypt$ln=14,r=1,p=16384$c2FsdHNhbHQ$AAAAAAAAAAAAAAAAAAAA",
+        "$scrypt$ln=20,r=1,p=1048576$c2FsdHNhbHQ$AAAAAAAAAAAAAAAAAAAA",
+        "$scrypt$ln=50,r=1,p=16777216$c2FsdHNhbHQ$AAAAAAAAAAAAAAAAAAAA",
+        "$scrypt$ln=40,r=8,p=1$c2FsdHNhbHQ$AAAAAAAAAAAAAAAAAAAA",
+        "$7$c6..../....saltsalt$......................",
+    ] {
+        let began = Instant::now();
+        assert_eq!(Hasher::default().verify(text, "pw"), Err(Error::TooCostly), "{text}");
+        assert!(began.elapsed() < Duration::from_millis(100), "{text}: {:?}", began.elapsed());
+    }
+}
+
+#[test]
+fn both_bounds_exactly() {
+    let params = Params::new(6, 3, 5).unwrap();
+    let text = Hasher::new(Options { params, ..small() }).unwrap().hash("pw").unwrap();
+    assert_eq!(params_of(&text), Ok((params, 32)));
+    assert_eq!((params.memory(), params.cores()), (128 * 3 * (64 + 5 + 2), 4 * 64 * 3 * 5));
+    let within = Bounds { most_bytes: 128 * 3 * (64 + 5 + 2), most_cores: 4 * 64 * 3 * 5 };
+    for (why, bounds, wanted) in [
+        ("just within", within, Ok(())),
+        (
+            "a byte less",
+            Bounds { most_bytes: within.most_bytes - 1, ..within },
+            Err(Error::TooCostly),
+        ),
+        (
+            "a core less",
+            Bounds { most_cores: within.most_cores - 1, ..within },
+            Err(Error::TooCostly),
+        ),
+    ] {
+        let params = Params::new(4, 1, 1).unwrap();
+        let hasher = Hasher::new(Options { params, bounds: Some(bounds), ..small() }).unwrap();
+        assert_eq!(hasher.verify(&text, "pw"), wanted, "{why}");
+        let same = Hasher::new(Options {
+            params: Params::new(6, 3, 5).unwrap(),
+            ..hasher_options(bounds)
+        });
+        assert_eq!(same.map(|_| ()), wanted, "{why}, for new hashes");
+    }
+    let params = Params::new(19, 8, 1).unwrap();
+    assert!(
+        Hasher::new(Options { params, ..small() }).is_ok(),
+        "above the usual bounds, and asked for"
+    );
+}
+
+fn hasher_options(bounds: Bounds) -> Options {
+    Options { bounds: Some(bounds), ..small() }
+}
+
+#[test]
+fn many_threads() {
+    let hasher = Hasher::new(Options { at_once: 2, ..small() }).unwrap();
+    std::thread::scope(|scope| {
+        for i in 1..=8u8 {
+            let hasher = &hasher;
+            scope.spawn(move || {
+                let text = hasher.hash([i]).unwrap();
+                assert_eq!(hasher.verify(&text, [i]), Ok(()));
+                assert_eq!(hasher.verify(&text, [i, i]), Err(Error::PasswordInvalid));
+            });
+        }
+    });
+}
+
+#[test]
+fn words_of_errors() {
+    let boxed: Box<dyn std::error::Error> = Error::PasswordInvalid.into();
+    assert_eq!(boxed.to_string(), "the password does not match the hash");
+    assert_eq!(Error::Status(99).to_string(), "status 99 of a newer library");
+}
