@@ -4,27 +4,26 @@
 usage: bench.py LIBRARY PROGRAM [--worker NAME=PATH].. [--runs 15] [--cpu N] [--costs 14,8,1:17,8,1]
                 [--picture FILE] [--callgrind]
 
-All libraries are called in one process: this one (LIBRARY, which is libscrypt_c.so) by scrypt_kdf and by
-scrypt_kdf_mapped; libxcrypt, libsodium, libscrypt-kdf, and hashlib, which is OpenSSL's. What isn't
-installed is named and left out. Each round calls every one of them once, in a new random order, on one
-processor (--cpu, the last if not given); the least and the median of the rounds are printed as tables in
-Markdown. An implementation that is refused, or whose key isn't OpenSSL's, has no figure.
+All libraries are called in one process: this one (LIBRARY is libscrypt_c.so) by scrypt_kdf and by
+scrypt_kdf_mapped; libxcrypt, libsodium, libscrypt-kdf, and hashlib, which calls OpenSSL. A library that
+isn't installed is named and left out. Each round calls every one once, in a new random order, on one
+processor (--cpu, by default the last). The minimum and the median of the rounds are printed as tables
+in Markdown. An implementation has no figure if it returns an error or another key than OpenSSL.
 
-Each call takes its table and gives it back, so the pages of memory that it touches for the first
-time are part of its time. Everything is measured twice, the second time with
-GLIBC_TUNABLES=glibc.malloc.hugetlb=1, which lets malloc ask for pages of 2 MiB in place of 4 KiB.
-What takes its table by mmap is not reached by that. The table of page faults shows which are.
+Each call allocates its table and frees it, so page faults are part of its time. Everything is measured
+twice, the second time with GLIBC_TUNABLES=glibc.malloc.hugetlb=1, which lets malloc ask for pages of
+2 MiB instead of 4 KiB. This does not affect a table that is allocated by mmap. The table of page faults
+shows the difference.
 
-Then the program as a process, from its start to its end. With --picture, the time of a core over
-log_n is drawn as SVG. With --callgrind, valgrind counts the instructions of a core, and nothing is
-timed.
+After that, the program is measured as a process. With --picture, the time of a core over log_n is drawn
+as SVG. With --callgrind, valgrind counts the instructions of a core, and no times are measured.
 
-Any other program joins by --worker. It is a process of its own, on the same processor, that reads
-lines and answers each of them by a line, at once:
+Other programs can be added with --worker. A worker is a process of its own on the same processor that
+reads lines and answers each one with a line, immediately:
 
     LOG_N R P LENGTH PASSWORD SALT REPEATS      numbers, and bytes in hexadecimal (- for none)
     ok NANOSECONDS NANOSECONDS KEY              the least wall time and processor time, and the key
-    err REASON                                  in place of that where it is refused
+    err REASON                                  if the input is refused
 """
 
 import argparse
@@ -45,13 +44,13 @@ HERE = os.path.dirname(os.path.abspath(__file__))
 
 
 def command(library, runs, costs, workers):
-    """The command that measures these costs."""
+    """The command that measures these parameters."""
     script = os.path.join(HERE, "measure.py")
     return [sys.executable, script, library, str(runs), costs, *workers]
 
 
 def measured(library, args, costs, more=None):
-    """The figures at these costs, with `more` in the environment."""
+    """The figures for these parameters, with `more` in the environment."""
     words = command(library, args.runs, costs, args.worker)
     return json.loads(subprocess.check_output(words, env=os.environ | (more or {})))
 

@@ -1,4 +1,4 @@
-"""Instructions for a core, which valgrind counts."""
+"""Counts the instructions of a core with valgrind."""
 
 import json
 import os
@@ -10,15 +10,15 @@ import sys
 from measure import LENGTH, PASSWORD, SALT
 from tables import cores, label
 
-# the instructions between these are those of the cores alone, and not of the start
+# the difference between these counts leaves out the instructions of the start
 FEWER, MORE = "10,8,1", "12,8,1"
 
-# Python starts with the same instructions each time
+# makes Python start with the same instructions each time
 SAME_START = {"PYTHONHASHSEED": "0"}
 
 
 def counted(words, text=""):
-    """The instructions of a process, or None where it fails."""
+    """The instructions of a process, or None if it fails."""
     valgrind = ["valgrind", "--tool=callgrind", "--callgrind-out-file=/dev/null", *words]
     ran = subprocess.run(
         valgrind, input=text, capture_output=True, text=True, env=os.environ | SAME_START
@@ -28,10 +28,10 @@ def counted(words, text=""):
 
 
 def of_a_core(count):
-    """The instructions of a core, from counts at the two costs."""
+    """The instructions of a core, from counts for two sets of parameters."""
     fewer, more = count(FEWER), count(MORE)
     if fewer is None or more is None:
-        return "can't be counted"
+        return "not available"
     return f"{(more - fewer) / (cores(MORE) - cores(FEWER)):.1f}"
 
 
@@ -41,7 +41,7 @@ def of_worker(path, costs):
 
 
 def show(command, workers):
-    """Prints the instructions of each implementation; `command` measures costs in one process."""
+    """Prints the instructions of each implementation; `command` measures parameters in one process."""
     if not shutil.which("valgrind"):
         sys.exit("valgrind isn't installed")
     print(f"instructions for a core, between {label(FEWER)} and {label(MORE)}", flush=True)

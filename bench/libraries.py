@@ -1,4 +1,4 @@
-"""The implementations that are called in this process: libraries of C, by ctypes, and hashlib."""
+"""The implementations that are called in this process: C libraries, by ctypes, and hashlib."""
 
 import ctypes
 import ctypes.util
@@ -16,7 +16,7 @@ OURS, MAPPED, OPENSSL = "this library", "scrypt_kdf_mapped", "OpenSSL"
 
 SIZE, WORD, DATA = ctypes.c_size_t, ctypes.c_uint32, ctypes.c_char_p
 
-# how many bytes the structure crypt_data of crypt(3) has
+# the size of the structure crypt_data of crypt(3)
 CRYPT_DATA = 32768
 
 
@@ -34,7 +34,7 @@ class InProcess:
 
 
 def filled(length, name, call):
-    """The bytes that `call` writes to a buffer of this length."""
+    """The bytes that `call` writes into a buffer of this length."""
     key = ctypes.create_string_buffer(length)
     status = call(key)
     if status:
@@ -62,14 +62,14 @@ def openssl():
     """hashlib's scrypt, which is OpenSSL's."""
 
     def call(password, salt, log_n, r, p, length):
-        room = (1 << 31) - 1
-        return hashlib.scrypt(password, salt=salt, n=1 << log_n, r=r, p=p, dklen=length, maxmem=room)
+        limit = (1 << 31) - 1
+        return hashlib.scrypt(password, salt=salt, n=1 << log_n, r=r, p=p, dklen=length, maxmem=limit)
 
     return InProcess(OPENSSL, call)
 
 
 def with_eight_words(library, name, function):
-    """A function of the form that libsodium and libscrypt-kdf share."""
+    """A function with the signature that libsodium and libscrypt-kdf share."""
     derive = getattr(library, function)
     derive.argtypes = [DATA, SIZE, DATA, SIZE, ctypes.c_uint64, WORD, WORD, DATA, SIZE]
 
@@ -90,14 +90,14 @@ def libscrypt_kdf(library):
 
 
 def libxcrypt(library):
-    """crypt_r on a `$7$` setting: text passwords and salts alone, and keys of 32 bytes."""
+    """crypt_r with a `$7$` setting: passwords and salts are text, and keys have 32 bytes."""
     library.crypt_r.argtypes = [DATA, DATA, ctypes.c_void_p]
     library.crypt_r.restype = DATA
 
     def call(password, salt, log_n, r, p, _length):
-        room = ctypes.create_string_buffer(CRYPT_DATA)
+        data = ctypes.create_string_buffer(CRYPT_DATA)
         setting = crypt64.costs(log_n, r, p).encode() + salt + b"$"
-        text = library.crypt_r(password, setting, room)
+        text = library.crypt_r(password, setting, data)
         if not text or not text.startswith(setting):
             raise Refused("libxcrypt")
         return crypt64.read(text[len(setting) :].decode())
@@ -105,12 +105,12 @@ def libxcrypt(library):
     return InProcess("libxcrypt", call)
 
 
-# the name by which the linker finds each library, and what makes an implementation of it
+# the linker's name of each library, and the function that makes an implementation of it
 FOUND = [("crypt", libxcrypt), ("sodium", libsodium), ("scrypt-kdf", libscrypt_kdf)]
 
 
 def libraries():
-    """Each library that is installed. One that is missing is named on standard error."""
+    """Each installed library. A missing one is named on standard error."""
     made = []
     for name, implementation in FOUND:
         path = ctypes.util.find_library(name)

@@ -3,8 +3,8 @@
 
 usage: measure.py LIBRARY.so RUNS COSTS [NAME=WORKER..] [--only NAME]
 
-COSTS are those of each row, as 14,8,1:17,8,1. Each round calls every implementation once, in a new
-random order. bench.py starts this script, and says what a worker is.
+COSTS are the parameters of each row, as in 14,8,1:17,8,1. Each round calls every implementation once,
+in a new random order. bench.py starts this script, and its docstring describes workers.
 """
 
 import argparse
@@ -17,19 +17,19 @@ from worker import Refused, Worker
 
 PASSWORD, SALT, LENGTH = b"pleaseletmein", b"SodiumChloride", 64
 
-# The costs of some calls before the first that is timed. The C library maps a block of 16 MiB anew at
-# first, and hands the same block out again once it has seen it freed.
+# The parameters of some calls before the first that is timed. The C library maps a block of 16 MiB for
+# each of the first calls, and reuses the block once it has been freed.
 WARM_UP, WARM_UPS = (14, 8, 1), 3
 
 
 def faults(pid):
-    """How many pages the process has touched for the first time, by proc(5)."""
+    """The page faults of the process so far, by proc(5)."""
     with open(f"/proc/{pid}/stat", encoding="ascii", errors="replace") as stat:
         return int(stat.read().rpartition(")")[2].split()[7])
 
 
 def derived(implementation, costs):
-    """The time of one call, its page faults and its key; none of them if it is refused."""
+    """The time of one call, its page faults and its key, or None if it returns an error."""
     before = faults(implementation.pid)
     try:
         time, key = implementation.derive(PASSWORD, SALT, costs, LENGTH)
@@ -39,7 +39,7 @@ def derived(implementation, costs):
 
 
 def figures(calls, key):
-    """What counts of some calls. An implementation whose key is another one has no figures."""
+    """The figures of some calls, or None if one of them failed or returned another key."""
     if None in calls or any(not key.startswith(one[2]) or len(one[2]) < 32 for one in calls):
         return None
     times = [one[0] for one in calls]
@@ -51,7 +51,7 @@ def figures(calls, key):
 
 
 def row(implementations, costs, runs):
-    """The figures of each implementation at these costs."""
+    """The figures of each implementation for these parameters."""
     calls = {it.name: [] for it in implementations}
     for _ in range(runs):
         for it in random.sample(implementations, len(implementations)):
@@ -61,13 +61,13 @@ def row(implementations, costs, runs):
 
 
 def reference(calls):
-    """The key that all have to answer: OpenSSL's, or that of the one that is measured alone."""
+    """The key that all have to return: OpenSSL's, or that of the only one that is measured."""
     made = calls.get(OPENSSL) or next(iter(calls.values()))
     return made[0][2] if made[0] else b""
 
 
 def everything(library, workers):
-    """This library, the workers, and what is installed here."""
+    """This library, the workers, and the installed libraries."""
     named = [worker.split("=", 1) for worker in workers]
     return [*ours(library), *[Worker(*one) for one in named], *libraries(), openssl()]
 

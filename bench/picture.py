@@ -1,4 +1,4 @@
-"""The time of a core over log_n, as SVG, on light and on dark pages."""
+"""Draws the time of a core over log_n as SVG, for light and dark pages."""
 
 from tables import cores, numbers
 
@@ -17,7 +17,7 @@ COLOURS = [
 
 
 def style():
-    """Colours for light pages, and others where the reader prefers dark ones."""
+    """Colours for light pages, and others if the reader prefers dark ones."""
 
     def rules(dark):
         ground, text, grid = ("#0d1117", "#e6edf3", "#3d444d") if dark else ("#fff", "#1f2328", "#d0d7de")
@@ -52,7 +52,7 @@ def text(x, y, words, more=""):
 
 
 def axes(log_ns, most):
-    """Lines for each 20 nanoseconds, and the numbers on both sides."""
+    """A line for every 20 nanoseconds, and the numbers on both axes."""
     parts = [text(LEFT, 20, "least nanoseconds for a Salsa20/8 core, r = 8, p = 1, pages of 4 KiB")]
     for nanoseconds in range(0, int(most) + 1, 20):
         y = y_of(nanoseconds, most)
@@ -66,7 +66,7 @@ def axes(log_ns, most):
 
 
 def legend(at, name):
-    """The name of a line beside its colour, four in a row."""
+    """The name of a line next to its colour, four in a row."""
     x, y = LEFT + 160 * (at % 4), 42 + 18 * (at // 4)
     mark = f'<rect class="d{at % len(COLOURS)}" x="{x}" y="{y - 9}" width="10" height="10"/>'
     return [mark, text(x + 16, y, name)]
@@ -83,7 +83,7 @@ def curve(at, points, log_ns, most):
 
 
 def drawn(rows, costs):
-    """The picture of the figures at these costs."""
+    """The picture of the figures for these parameters."""
     made = series(rows, costs)
     log_ns = [numbers(one)[0] for one in costs]
     most = 1.05 * max(max(points.values()) for points in made.values())

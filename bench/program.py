@@ -1,4 +1,4 @@
-"""The program as a process, from its start to its end, beside that of OpenSSL."""
+"""Measures the program as a process, and that of OpenSSL."""
 
 import random
 import shutil
@@ -12,7 +12,7 @@ from measure import LENGTH, PASSWORD, SALT
 
 OURS, OPENSSL = "scrypt_tool", "openssl kdf"
 
-# costs at which next to nothing is derived
+# parameters for which the derivation takes almost no time
 SMALLEST = "1,1,1"
 
 
@@ -35,7 +35,7 @@ def openssl_words(path, costs):
 
 
 def programs(path):
-    """The words of each program that is installed."""
+    """The command line of each installed program."""
     made = {OURS: lambda costs: our_words(path, costs)}
     openssl = shutil.which("openssl")
     if openssl:
@@ -46,7 +46,7 @@ def programs(path):
 
 
 def timed(words):
-    """The seconds that a process took, and the digits of the key that it wrote."""
+    """The seconds that a process took, and the key that it wrote, in hexadecimal."""
     start = time.perf_counter()
     ran = subprocess.run(words, input=PASSWORD, capture_output=True)
     taken = time.perf_counter() - start
@@ -54,7 +54,7 @@ def timed(words):
 
 
 def greatest_memory(words):
-    """The most memory that a process had, in KiB, or None where GNU time isn't installed."""
+    """The peak memory of a process in KiB, or None if GNU time isn't installed."""
     gnu_time = shutil.which("time")
     if not gnu_time:
         return None
@@ -63,7 +63,7 @@ def greatest_memory(words):
 
 
 def row(made, costs, runs):
-    """The seconds of each program's runs, in turns."""
+    """The seconds of each program's runs, which alternate in a random order."""
     taken, keys = {name: [] for name in made}, set()
     for _ in range(runs):
         for name in random.sample(list(made), len(made)):
@@ -76,7 +76,7 @@ def row(made, costs, runs):
 
 
 def memory_cells(words, costs):
-    """The most memory, and what of it is beyond the table, in MiB."""
+    """The peak memory, and the part of it that is not the table, in MiB."""
     most = greatest_memory(words)
     if most is None:
         return ["", ""]

@@ -1,4 +1,4 @@
-"""The figures as tables in Markdown."""
+"""Prints the figures as tables in Markdown."""
 
 import datetime
 import os
@@ -17,7 +17,7 @@ def has_huge_pages():
 
 
 def machine(args):
-    """What was measured where, and how busy the machine was."""
+    """The date, the machine and its load."""
     with open("/proc/cpuinfo", encoding="ascii") as file:
         models = [line.split(":")[1].strip() for line in file if line.startswith("model name")]
     return (
@@ -49,7 +49,7 @@ def head(cells):
 
 
 def time_cell(name, row, costs, figure):
-    """Nanoseconds for a core, and in brackets the time of this library relative to it."""
+    """Nanoseconds for a core, and in parentheses the time of this library relative to it."""
     if not row[name]:
         return "no figure"
     nanoseconds = f"{row[name][figure] / cores(costs):.1f}"
@@ -63,7 +63,7 @@ def fault_cell(name, row):
 
 
 def table(pages, costs, cell):
-    """A row for each kind of page and each of the costs, and a column for each implementation."""
+    """A row for each page size and each set of parameters, and a column for each implementation."""
     names = list(pages["4 KiB"][costs[0]])
     lines = [head(["pages", "(log_n, r, p)", *names])]
     for kind, rows in pages.items():

@@ -1,13 +1,13 @@
 #!/usr/bin/env python3
-"""Measures a key by smaller tables: memory, cores and time, for s from 0 to 6.
+"""Measures key derivation with smaller tables: memory, cores and time, for s from 0 to 6.
 
 usage: thin.py LIBRARY [RUNS [PICTURE]]
 
-LIBRARY is the C library of this repository, static (it is then linked as a shared one by cc) or
-shared. The table keeps one row in 2^s. For each cost the least time of RUNS runs (3 if not given)
-counts. A step mixes (2^s - 1) / 2 rows anew on average, so 2 * N * r * p * (2 + (2^s - 1) / 2) cores are
-expected; ci/thin_cost.py compares this with counted cores. Each key is compared with hashlib's. With
-PICTURE, time against memory is drawn there as SVG.
+LIBRARY is the C library of this repository, shared or static (cc then links it as a shared one). The
+table keeps one row in 2^s. The time is the minimum of RUNS runs (by default 3). A step recomputes
+(2^s - 1) / 2 rows on average, so 2 * N * r * p * (2 + (2^s - 1) / 2) cores are expected;
+compare/thin_cost.py compares this with counted cores. Each key is compared with hashlib's. With PICTURE, time
+over memory is drawn there as SVG.
 """
 
 import ctypes
@@ -26,7 +26,7 @@ PASSWORD, SALT, LENGTH = b"pleaseletmein", b"SodiumChloride", 64
 
 
 def shared(path, folder):
-    """The path of the library as a shared one."""
+    """The path of a shared library with this one in it."""
     if not path.endswith(".a"):
         return path
     made = os.path.join(folder, "libscrypt_thin.so")
@@ -36,24 +36,24 @@ def shared(path, folder):
 
 
 def thin_call(path):
-    """The call of the library, as a function of the costs and s that returns time and key."""
+    """The call of the library, as a function of the parameters and s that returns the time and the key."""
     derive = getattr(ctypes.CDLL(path), "scrypt_kdf_thin", None)
     if derive is None:
         sys.exit(f"{path} has no scrypt_kdf_thin")
     data, size, byte, word = ctypes.c_void_p, ctypes.c_size_t, ctypes.c_uint8, ctypes.c_uint32
-    buffers = [data, size] * 4
-    derive.argtypes = [ctypes.c_char_p, size, ctypes.c_char_p, size, byte, word, word, byte, *buffers]
+    text = [ctypes.c_char_p, size]
+    derive.argtypes = [*text, *text, byte, word, word, byte, *[data, size] * 4]
     derive.restype = ctypes.c_int
 
     def call(log_n, r, p, s):
         key = ctypes.create_string_buffer(LENGTH)
-        # The whole table takes the scratch of a plain derivation.
+        # With s = 0 the scratch is that of a derivation with the whole table.
         lens = 128 * r * p, 32 * r << (log_n - s), (96 if s else 64) * r
         chunks = ctypes.create_string_buffer(lens[0])
         table, scratch = (word * lens[1])(), (word * lens[2])()
-        lent = [key, LENGTH, chunks, lens[0], table, lens[1], scratch, lens[2]]
+        buffers = [key, LENGTH, chunks, lens[0], table, lens[1], scratch, lens[2]]
         start = time.perf_counter()
-        status = derive(PASSWORD, len(PASSWORD), SALT, len(SALT), log_n, r, p, s, *lent)
+        status = derive(PASSWORD, len(PASSWORD), SALT, len(SALT), log_n, r, p, s, *buffers)
         taken = time.perf_counter() - start
         if status:
             sys.exit(f"({log_n}, {r}, {p}) at s = {s}: status {status}")
@@ -67,7 +67,7 @@ def expected_cores(log_n, r, p, s):
 
 
 def measured(call, costs, runs):
-    """Rows of s, mebibytes of the table, expected cores, and the least time."""
+    """Rows of s, the table in MiB, the expected cores, and the least time."""
     log_n, r, p = costs
     wanted = hashlib.scrypt(
         PASSWORD, salt=SALT, n=1 << log_n, r=r, p=p, dklen=LENGTH, maxmem=(1 << 31) - 1
@@ -85,7 +85,7 @@ def measured(call, costs, runs):
 
 
 def drawn(results):
-    """The picture: time over memory, both logarithmic."""
+    """The picture: time over memory, on logarithmic axes."""
     from math import log2
 
     points = [(log2(mib), log2(taken)) for rows in results.values() for _, mib, _, taken in rows]

@@ -1,15 +1,15 @@
-"""An implementation in a process of its own, which bench.py describes."""
+"""An implementation in a process of its own, as bench.py describes it."""
 
 import os
 import subprocess
 
 
 class Refused(Exception):
-    """An implementation answered with an error in place of a key."""
+    """An implementation returned an error instead of a key."""
 
 
 class Worker:
-    """A process that derives a key for each line that it reads."""
+    """A process that derives one key for each line that it reads."""
 
     def __init__(self, name, path):
         self.name = name
