@@ -1,0 +1,35 @@
+#!/bin/sh
+# Installs what is here below a prefix, or removes it. It needs no root where the prefix can be written to.
+# usage: install.sh [PREFIX]           PREFIX is /usr/local, or an absolute path
+#        install.sh --remove [PREFIX]
+set -eu
+action=install
+if [ "${1:-}" = --remove ]; then
+  action=remove
+  shift
+fi
+prefix=${1:-/usr/local}
+case $prefix in
+  /*) ;;
+  *) echo "not an absolute path: $prefix" >&2; exit 1 ;;
+esac
+cd "$(dirname "$0")/files"
+
+find . -type f -o -type l | sed 's|^\./||' | sort | while read -r file; do
+  place=$prefix/$file
+  if [ $action = remove ]; then
+    rm -f "$place"
+    # Folders that nothing else is in.
+    folder=${place%/*}
+    while [ "$folder" != "$prefix" ] && rmdir "$folder" 2> /dev/null; do folder=${folder%/*}; done
+    continue
+  fi
+  mkdir -p "${place%/*}"
+  case $file in
+    *.pc | *.cmake) sed "s|@PREFIX@|$prefix|g" "$file" > "$place" ;;
+    *) cp -P "$file" "$place" ;;
+  esac
+done
+if [ $action = install ]; then
+  echo "installed below $prefix; a program finds the library there by LD_LIBRARY_PATH=$prefix/lib, or after ldconfig"
+fi
