@@ -1,0 +1,48 @@
+"""Turns comments into HTML: paragraphs, lists, code between backquotes, blocks of code, and names as links."""
+
+import re
+from html import escape
+
+from pygments.lexers import TextLexer
+
+import lexers
+
+CODE = re.compile(r"\[?`([^`]+)`\]?(?:\(([^)]*)\))?")
+
+
+def inline(text, link=lambda name: None):
+    """HTML of a line, with code in it; `link` gives the address of a name, or None."""
+    out, at = [], 0
+    for found in CODE.finditer(text):
+        out.append(escape(text[at : found.start()], quote=False))
+        code = f"<code>{escape(found[1], quote=False)}</code>"
+        href = link(found[1]) if found.group().startswith("[") else None
+        out.append(f'<a href="{href}">{code}</a>' if href else code)
+        at = found.end()
+    return "".join(out) + escape(text[at:], quote=False)
+
+
+def block(text, link):
+    """HTML of a paragraph or of a list."""
+    lines = text.splitlines()
+    if lines and all(re.match(r"[-*] |  ", it) for it in lines):
+        items = re.split(r"^[-*] ", text, flags=re.M)[1:]
+        return "<ul>" + "".join(f"<li>{inline(' '.join(it.split()), link)}</li>" for it in items) + "</ul>"
+    heading = re.match(r"#+ (.*)", text)
+    if heading:
+        return f"<p><strong>{inline(heading[1], link)}</strong></p>"
+    return f"<p>{inline(' '.join(text.split()), link)}</p>"
+
+
+def html(text, link=lambda name: None):
+    """HTML of a comment."""
+    out = []
+    for place, part in enumerate(re.split(r"^```(\w*)\n(.*?)^```$", text + "\n", flags=re.M | re.S)):
+        if place % 3 == 0:
+            out += [block(it, link) for it in re.split(r"\n\s*\n", part) if it.strip()]
+        elif place % 3 == 1:
+            lexer = lexers.RUST if part in ("rust", "") else TextLexer()
+        else:
+            tokens = lexers.pieces(lexer, part.rstrip("\n"))
+            out.append(f"<pre><code>{lexers.marked_up(tokens, lambda at: None)}</code></pre>")
+    return "\n".join(out)

@@ -1,0 +1,167 @@
+"""Finds the text of what the specs cite from the kit: its libraries, and the logic below them.
+
+The kit is where `rt doc` says. Without it every name of the kit is listed with its module and no text.
+"""
+
+import functools
+import glob
+import os
+import re
+import subprocess
+from dataclasses import dataclass
+
+import sources
+import specs
+
+# Where the modules of the logic are, below the kit's folder of guides and libraries.
+LOGIC = {
+    "lib": "logic/Lib", "mir": "logic/Mir", "denote": "logic/Denote", "borrow": "logic/Borrow",
+    "mathlib": "antt/port/mathlib/src", "base": "logic/Base",
+}
+BUILT_IN = "Built into the logic: it has no definition in antt."
+NO_KIT = "The text is in the Rattle kit, which isn't installed where this page was made."
+NO_TEXT = "Declared in the kit, in a form that this page doesn't print."
+
+
+def located():
+    """The folder of the kit's libraries, or None."""
+    try:
+        page = subprocess.run(["rt", "doc"], capture_output=True, text=True, check=True).stdout.strip()
+    except (OSError, subprocess.CalledProcessError):
+        return None
+    folder = os.path.join(os.path.dirname(page), "rattle")
+    return folder if os.path.isdir(folder) else None
+
+
+@dataclass(frozen=True)
+class KitName:
+    """A name of the kit, where it is declared, and its text, or the reason why the text is missing."""
+
+    module: str
+    name: str
+    text: str = ""
+    comment: str = ""
+    missing: str = ""
+
+    @property
+    def package(self):
+        return re.match(r"(?:Rattle\.)?(\w+)", self.module)[1]
+
+    @property
+    def href(self):
+        return f"kit.{self.package}.html#{self.module}.{self.name}"
+
+
+def read_module(name, path, text):
+    """A module with what it declares, also in an unnamed module inside it, which is indented."""
+    found = specs.read_module(name, path, text)
+    inner = re.search(r"^module _", text, re.M)
+    if inner:
+        indented = specs.read_module(name, path, re.sub(r"^  ", "", text[inner.start() :], flags=re.M))
+        found.definitions = {**indented.definitions, **found.definitions}
+    return found
+
+
+class Kit:
+    def __init__(self, folder):
+        self.folder = folder
+
+    @property
+    def identity(self):
+        path = os.path.join(os.path.dirname(self.folder or ""), "KIT-ID")
+        if not self.folder or not os.path.exists(path):
+            return None
+        with open(path, encoding="utf-8") as file:
+            return file.read().strip()
+
+    @functools.lru_cache(maxsize=None)
+    def module(self, name):
+        """A module of the kit by its name, or None."""
+        first, _, rest = name.partition(".")
+        if self.folder is None or first == "Prim":
+            return None
+        place = f"{LOGIC[first]}/{rest}" if first in LOGIC else rest
+        if first == "Rattle" and len(name.split(".")) < 4:
+            return None
+        path = f"{self.folder}/{place.replace('.', '/')}.antt"
+        if os.path.exists(path):
+            with open(path, encoding="utf-8") as file:
+                return read_module(name, path, file.read())
+        return self.alias(name)
+
+    def alias(self, name):
+        """The module that another one passes on whole, under this name."""
+        above, _, last = name.rpartition(".")
+        if above.count(".") < 2 or last == "Lib":
+            return None
+        parent = self.module(f"{above}.Lib" if above.endswith(".specs") else above)
+        for whole in parent.whole if parent else ():
+            if whole.endswith(f".{last}") and whole != name:
+                return self.module(whole)
+        moved = parent and not parent.name.endswith(".Lib") and parent.name != above
+        return self.module(f"{parent.name}.{last}") if moved else None
+
+    @functools.lru_cache(maxsize=None)
+    def find(self, module, name):
+        """What a module declares or passes on under this name."""
+        if module.startswith("Prim."):
+            return KitName(module, name, missing=BUILT_IN)
+        if self.folder is None:
+            return KitName(module, name, missing=NO_KIT)
+        if ".declared." in module:
+            return self.declared(module, name)
+        return self.in_module(self.module(module), name) or KitName(module, name, missing=NO_TEXT)
+
+    def in_module(self, module, name):
+        if module is None:
+            return None
+        if name in module.definitions:
+            it = module.definitions[name]
+            return KitName(module.name, name, it.text, it.comment)
+        for it in module.definitions.values():
+            if name in it.members:
+                return KitName(module.name, it.name, it.text, it.comment)
+        if module.imports.get(name, ("", None))[1]:
+            return self.find(*module.imports[name])
+        for whole in module.whole:
+            found = self.in_module(self.module(whole), name) if whole != module.name else None
+            if found:
+                return found
+        return None
+
+    def declared(self, module, name):
+        """A type of a library, in Rattle."""
+        package, path = re.match(r"Rattle\.(\w+)\.specs\.declared\.(.*)", module).groups()
+        words = path.removesuffix(".TheVariants").split(".")
+        for file in ("/".join(words[:-1]) or "lib", "/".join(words[:-2])):
+            source = f"{self.folder}/{package}/src/{file}.rt"
+            if os.path.exists(source):
+                with open(source, encoding="utf-8") as text:
+                    text = text.read()
+                found = re.search(rf"^pub (?:struct|enum|union) {words[-1]}\b.*?^\}}", text, re.M | re.S)
+                if found:
+                    return KitName("::".join([package, *words[:-1]]), words[-1], found.group())
+        return KitName(module, name, missing=NO_TEXT)
+
+    @functools.lru_cache(maxsize=None)
+    def relation(self, trait, name):
+        """A relation of a trait of the kit."""
+        for package in ("core", "std", "std_io", "std_alloc") if self.folder else ():
+            for path in sorted(glob.glob(f"{self.folder}/{package}/src/**/*.rt", recursive=True)):
+                with open(path, encoding="utf-8") as file:
+                    text = file.read()
+                found = re.search(rf"^pub trait {trait}\b.*?^\}}", text, re.M | re.S)
+                relation = found and re.search(rf"^    ghost {name}(?:\(.*?\))?:.*?;", found.group(), re.M | re.S)
+                if relation:
+                    return KitName(f"{package}::{trait}", name, sources.dedented(relation.group().splitlines()))
+        return KitName(f"std::{trait}", name, missing=NO_TEXT if self.folder else NO_KIT)
+
+    def c_function(self, name):
+        """The contract of a function of C that the kit assumes, by its path."""
+        package, *_, word = name.split("::")
+        for path in sorted(glob.glob(f"{self.folder}/{package}/src/**/*.rt", recursive=True)) if self.folder else ():
+            with open(path, encoding="utf-8") as file:
+                found = re.search(rf"(?:^ *//[^\n]*\n)*^ *pub (?:safe |unsafe )?fn {word}\b(?:[^;]|;(?!\n))*;$", file.read(), re.M)
+            if found:
+                return sources.dedented(found.group().splitlines())
+        return ""

@@ -1,0 +1,191 @@
+"""Everything that the pages show: the crates with their sources and definitions, and what their names mean."""
+
+import glob
+import os
+import re
+from dataclasses import dataclass
+
+import kit
+import sources
+import specs
+
+STANDARD_FACTS = "StandardFacts"
+
+
+@dataclass(frozen=True)
+class Target:
+    """What a name means: its page and place, and one word for what it is."""
+
+    href: str
+    kind: str
+    key: tuple
+
+
+class Library:
+    def __init__(self, folder=".", the_kit=None):
+        self.folder = folder
+        self.kit = the_kit or kit.Kit(kit.located())
+        self.uses = read_crates(f"{folder}/crates.txt")
+        self.sources, self.modules, self.vectors = {}, {}, []
+        for crate in self.uses:
+            self.read(crate, f"{folder}/crates/{crate}")
+        self.names_of_kit = {}
+
+    def read(self, crate, folder):
+        self.sources[crate] = sources.read_crate(crate, folder)
+        for part in ("specs", "proofs"):
+            for path in sorted(glob.glob(f"{folder}/{part}/*.antt")):
+                name = f"Rattle.{crate}.{part}.{os.path.basename(path)[:-5]}"
+                with open(path, encoding="utf-8") as file:
+                    self.modules[name] = specs.read_module(name, os.path.relpath(path, self.folder), file.read())
+
+    def crates(self):
+        """The crates that are promised: libraries, but for those that only tests use."""
+        tests = {it for it in self.uses if it.endswith("_tests")}
+        used = {crate: {it for it, those in self.uses.items() if crate in those} for crate in self.uses}
+        tests |= {it for it, by in used.items() if by and by <= tests}
+        return [it for it in self.uses if it not in tests and os.path.exists(f"{self.folder}/crates/{it}/src/lib.rt")]
+
+    def specs_of(self, crate):
+        """The modules of definitions of a crate, in the order of its table of contents, with the lines on them."""
+        lib = self.modules.get(f"Rattle.{crate}.specs.Lib")
+        names = [f"Rattle.{crate}.specs.{it}" for it in (lib.order if lib else []) if "." not in it]
+        rest = [it for it in self.modules if it.startswith(f"Rattle.{crate}.specs.") and not it.endswith(".Lib")]
+        return [self.modules[it] for it in dict.fromkeys([*names, *rest]) if it in self.modules]
+
+    def find(self, module, name):
+        """The target of a name that a module declares or passes on, or None."""
+        if ".declared." in module and re.match(r"Rattle\.(\w+)\.", module)[1] in self.uses:
+            return self.find_declared(module)
+        if re.match(r"Rattle\.(\w+)\.", module + ".") and module.split(".")[1] in self.uses:
+            return self.find_own(module, name)
+        it = self.kit.find(module, name)
+        self.names_of_kit[it.module, it.name] = it
+        return Target(it.href, "kit", ("kit", it.module, it.name))
+
+    def find_own(self, module, name):
+        it = self.modules.get(module)
+        if it is None:
+            return None
+        if name in it.definitions:
+            return definition_target(module, name)
+        for definition in it.definitions.values():
+            if name in definition.members:
+                return definition_target(module, definition.name)
+        return self.find(*it.passed_on[name]) if name in it.passed_on else None
+
+    def find_declared(self, module):
+        """A type of a crate, by the name that the specs have for it."""
+        crate, path = re.match(r"Rattle\.(\w+)\.specs\.declared\.(.*)", module).groups()
+        words = path.removesuffix(".TheVariants").split(".")
+        return self.rust_item(crate, "::".join(words[:-1]), words[-1])
+
+    def rust_item(self, crate, module, name):
+        source = self.sources.get(crate, {}).get(module)
+        for it in source.items if source else ():
+            if it.name == name and it.kind in ("struct", "enum", "const", "type", "trait") and not it.owner:
+                return Target(f"{page_of(source)}#{it.anchor}", it.kind, ("rust", crate, module, it.anchor))
+        return None
+
+    def rust_path(self, source, path, seen=()):
+        """The target of a path of Rust as it is used in a source."""
+        if path in seen or path.count("::") > 8:
+            return None
+        words = path.split("::")
+        if words[0] in ("crate", "self", "super"):
+            crate = source.crate
+            here = source.module.split("::") if source.module else []
+            words = {"crate": [], "self": here, "super": here[:-1]}[words[0]] + words[1:]
+        elif words[0] in self.uses:
+            crate, words = words[0], words[1:]
+        elif len(words) > 1 and words[0] in source.uses:
+            return self.rust_path(source, f"{source.uses[words[0]][0]}::{'::'.join(words[1:])}", (*seen, path))
+        else:
+            crate = source.crate
+            words = (source.module.split("::") if source.module else []) + words
+        found = self.rust_item(crate, "::".join(words[:-1]), words[-1])
+        module = self.sources.get(crate, {}).get("::".join(words[:-1]))
+        if found or module is None or words[-1] not in module.uses:
+            return found
+        return self.rust_path(module, module.uses[words[-1]][0], (*seen, path))
+
+    def rust_name(self, source, name):
+        """The target of a word of Rust in a source: an item of its own, or one that it uses."""
+        found = self.rust_item(source.crate, source.module, name)
+        if found is None and name in source.uses:
+            found = self.rust_path(source, source.uses[name][0])
+        return found
+
+    def trait_relation(self, source, trait, name):
+        """The target of a relation of a trait that bounds a type parameter."""
+        found = self.rust_name(source, trait)
+        if found is None:
+            it = self.kit.relation(trait, name)
+            self.names_of_kit[it.module, it.name] = it
+            return Target(it.href, "kit", ("kit", it.module, it.name))
+        item = self.item(found.key)
+        has = any(it.name == name for it in item.clauses)
+        return Target(f"{found.href}.relation-{name}", "relation", (*found.key, name)) if has else None
+
+    def item(self, key):
+        _, crate, module, anchor = key[:4]
+        return next(it for it in self.sources[crate][module].items if it.anchor == anchor)
+
+    def is_public(self, source, item):
+        """Whether an item can be named from outside of its crate."""
+        return item.public and (item.kind == "impl" or bool(self.path_of(source, item)))
+
+    def path_of(self, source, item):
+        """The path by which users know an item, or None. A method may be in another source than its type."""
+        name = re.sub(r"<.*", "", item.owner.split(" for ")[-1]) or item.name
+        found = self.rust_name(source, name) if item.owner else None
+        home = self.sources[found.key[1]][found.key[2]] if found else source
+        path = self.public_path(home, name)
+        return path and "::".join(filter(None, (path, item.owner and item.name)))
+
+    def public_path(self, source, name):
+        """The shortest path of an item of a source from outside of its crate, or None."""
+        crate = self.sources[source.crate]
+        found = []
+        for module, it in crate.items():
+            if self.module_is_public(source.crate, module):
+                for word, (path, public) in it.uses.items():
+                    if public and self.same(it, path, source, name):
+                        found.append("::".join(filter(None, (source.crate, module, word))))
+        if self.module_is_public(source.crate, source.module):
+            found.append("::".join(filter(None, (source.name, name))))
+        return min(found, key=lambda it: it.count("::")) if found else None
+
+    def same(self, user, path, source, name):
+        if not path.endswith(f"::{name}") and path != name:
+            return False
+        inner = path.removeprefix("crate::").removeprefix("self::").rsplit("::", 1)[0]
+        here = "::".join(filter(None, (user.module, inner)))
+        return source.module in (inner, here)
+
+    def module_is_public(self, crate, module):
+        parts = module.split("::") if module else []
+        for count in range(len(parts)):
+            parent = self.sources[crate].get("::".join(parts[:count]))
+            if parent is None or not parent.modules.get(parts[count]):
+                return False
+        return True
+
+
+def read_crates(path):
+    """The crates of a repository, each with what it uses."""
+    with open(path, encoding="utf-8") as file:
+        lines = [it.split("#")[0].strip() for it in file]
+    return {it.split(":")[0].split()[0]: it.split(":")[1].split() for it in lines if ":" in it}
+
+
+def page_of(source):
+    return f"{source.name.replace('::', '.')}.html"
+
+
+def module_page(module):
+    return f"{module.removeprefix('Rattle.')}.html"
+
+
+def definition_target(module, name):
+    return Target(f"{module_page(module)}#{name}", "definition", ("definition", module, name))

@@ -1,0 +1,189 @@
+"""Resolves the names in clauses, definitions and signatures, and remembers who cites what."""
+
+import re
+from dataclasses import dataclass, field
+
+from pygments.token import Name, Operator
+
+import lexers
+from library import Target, page_of
+
+BINDERS = (
+    re.compile(r"[({]([\w' ]+?) : "),
+    re.compile(r"\blet (?:\(?)([\w', ]+?)\)? (?::|=)"),
+    re.compile(r"^ *([\w']+) ←", re.M),
+    re.compile(r"[{;]\s+([\w']+) = "),
+)
+LAMBDA = re.compile(r"λ ((?:\([^)]*\)|\{[^}]*\}|[^.(){}])*)\.")
+PLAIN = lexers.LOGIC | {"self", "Self", "result", "_"}
+
+
+@dataclass
+class Place:
+    """The place of a text: what its words may mean there."""
+
+    imports: dict
+    own: object = None
+    source: object = None
+    generics: dict = field(default_factory=dict)
+    trait: object = None
+    module: str = ""
+    bound: set = field(default_factory=set)
+    cited_by: tuple = ()
+
+
+def bound_in(text):
+    """The variables that a text binds."""
+    found = set()
+    for pattern in BINDERS:
+        for names in pattern.findall(text):
+            found.update(re.findall(r"[\w']+", names))
+    for names in LAMBDA.findall(text):
+        found.update(re.findall(r"[\w']+", re.sub(r":[^)]*\)", ")", names)))
+    return found
+
+
+def parameters_of(signature):
+    """The variables that a signature binds for its clauses."""
+    return set(re.findall(r"(\w+): ", signature)) | {"self", "result"}
+
+
+def patterns_of(definition):
+    """The words on the left sides of a definition's equations."""
+    found = set()
+    for line in definition.text.splitlines()[1:]:
+        if not line.startswith(" ") and re.search(" =( |$)", line):
+            found.update(re.findall(r"[^\W\d][\w'-]*", re.split(" =(?: |$)", line)[0]))
+    return found
+
+
+class Links:
+    """Puts links into texts. `cited` has for each target those that cite it, and `lost` the names that lead nowhere."""
+
+    def __init__(self, library):
+        self.library = library
+        self.cited, self.lost, self.count = {}, [], 0
+
+    def target(self, place, name):
+        """What a word means at a place, or None."""
+        if place.trait is not None and any(it.name == name for it in place.trait.clauses):
+            href = f"{page_of(place.source)}#{place.trait.anchor}.relation-{name}"
+            return Target(href, "relation", ("relation", href))
+        if name in place.imports:
+            return self.library.find(*place.imports[name])
+        if place.own is not None:
+            return self.library.find_own(place.own.name, name)
+        return self.library.rust_name(place.source, name) if place.source else None
+
+    def cite(self, place, target):
+        if place.cited_by and target.key[:3] != place.cited_by[:3]:
+            self.cited.setdefault(target.key, {})[place.cited_by] = None
+        self.count += 1
+        return target.href
+
+    def projected(self, place, head, name):
+        """The address of a name after a dot: one of a module, or a relation of the trait that bounds a type parameter."""
+        module, whole = place.imports.get(head, (None, ""))
+        if whole is None:
+            found = self.library.find(module, name)
+            if found is None:
+                self.lost.append(f"{place.module}: {head}.{name} leads nowhere")
+            return self.cite(place, found) if found else None
+        if place.source is None or head not in place.generics or head == "Self":
+            return None
+        found = self.library.trait_relation(place.source, place.generics[head], name)
+        return self.cite(place, found) if found else None
+
+    def antt(self, text, place):
+        """HTML of a clause or of a definition. A name that is not bound in it and leads nowhere is lost."""
+        tokens = lexers.pieces(lexers.ANTT, text)
+        bound = place.bound | bound_in(text)
+
+        def link(at):
+            kind, value = tokens[at]
+            if kind is Operator or value in ("if", "[]"):
+                name = {"if": "if◌then◌else◌", "[]": "[]"}.get(value, f"◌{value}◌")
+                found = place.imports.get(name)
+                target = self.library.find(*found) if found else None
+                return self.cite(place, target) if target else None
+            if kind is not Name or value in PLAIN:
+                return None
+            if at > 1 and tokens[at - 1][1] == "." and tokens[at - 2][1] != "_" and not tokens[at - 2][1].isspace():
+                return self.projected(place, tokens[at - 2][1], value)
+            if value in bound or value in place.generics or place.imports.get(value, ("", ""))[1] is None:
+                return None
+            target = self.target(place, value)
+            if target is None:
+                self.lost.append(f"{place.module}: {value} leads nowhere, in {' '.join(text.split())[:90]}")
+                return None
+            return self.cite(place, target)
+
+        return lexers.marked_up(tokens, link)
+
+    def definition(self, module, it):
+        """HTML of a definition; its own name and its members are not linked."""
+        bound = {it.name} | set(it.members)
+        for word in patterns_of(it):
+            if word not in module.imports and word not in module.definitions:
+                bound.add(word)
+        key = ("definition", module.name, it.name)
+        place = Place(module.imports, own=module, module=module.path, bound=bound, cited_by=key)
+        return self.antt(it.text, place)
+
+    def clause(self, source, item, clause, trait=None):
+        """HTML of a clause of a function, or of a relation of a trait or of an implementation."""
+        bound = parameters_of(item.text) if item.kind == "fn" else set()
+        imports = {**source.imports, **item.imports}
+        key = ("rust", source.crate, source.module, item.anchor, clause.place)
+        return self.antt(clause.text, Place(imports, None, source, item.generics, trait, source.path, bound, key))
+
+    def rust(self, text, source):
+        """HTML of a signature or of a type; its names are linked if they are declared in these crates."""
+        tokens = lexers.pieces(lexers.RUST, text)
+
+        def link(at):
+            kind, value = tokens[at]
+            if kind not in Name or not re.match(r"[A-Za-z_]\w+$", value) or (at > 1 and tokens[at - 1][1].strip() == "fn"):
+                return None
+            if at > 1 and tokens[at - 2][1] in ("fn", "struct", "enum", "trait", "const", "type"):
+                return None
+            found = self.library.rust_name(source, value)
+            return found.href if found else None
+
+        return lexers.marked_up(tokens, link)
+
+    def kit_text(self, it):
+        """HTML of a text of the kit; its names lead to the kit's pages where they are printed there, and a name
+        that isn't found is not linked."""
+        module = self.library.kit.module(it.module) if not re.search("::", it.module) else None
+        tokens = lexers.pieces(lexers.ANTT if module else lexers.RUST, it.text)
+
+        def link(at):
+            kind, value = tokens[at]
+            if module is None or kind is not Name or value == it.name or (at and tokens[at - 1][1] == "."):
+                return None
+            found = None
+            if value in module.definitions:
+                found = self.library.kit.find(module.name, value)
+            elif module.imports.get(value, ("", None))[1]:
+                found = self.library.kit.find(*module.imports[value])
+            known = found and (found.module, found.name) in self.library.names_of_kit
+            return found.href if known else None
+
+        return lexers.marked_up(tokens, link)
+
+
+def closure(library, cites, roots):
+    """The definitions that these rest on, with themselves, in reading order: crate by crate, module by module."""
+    found, todo = set(), list(roots)
+    while todo:
+        key = todo.pop()
+        if key not in found and key[0] == "definition":
+            found.add(key)
+            todo += cites.get(key, ())
+    order = {}
+    for crate in library.uses:
+        for module in library.specs_of(crate):
+            for name in module.definitions:
+                order[("definition", module.name, name)] = len(order)
+    return sorted(found & order.keys(), key=order.get)

@@ -1,0 +1,155 @@
+"""Reads definitions: the modules of specs/ and of proofs/, which are files of antt."""
+
+import re
+from dataclasses import dataclass, field
+
+HEAD = re.compile(
+    r"^(?:(?P<how>abbrev|unfoldable) )?(?P<pub>pub )?(?:(?P<kind>record|data|axiom|opaque) )?"
+    r"(?P<name>◌\S+|[^\s(){}:=]+)(?=[\s:])(?!\s*=)"
+)
+NOT_HEADS = {"use", "mod", "infixl", "infixr", "infix", "unfolding", "mutual", "open", "syntax", "let", "module"}
+IMPORT = re.compile(r"^\s*(?P<pub>pub )?(?:ghost )?use (?P<module>[\w.]+?)(?:\.\{(?P<names>[^}]*)\}| as (?P<other>\w+))?;?$", re.M)
+MEMBERS = re.compile(r"^ +(?:pub )?([^\s:→({][^:→({]*?) :(?: |$)", re.M)
+STANDARD = re.compile(
+    r"(?P<name>RFC (?P<number>\d+)|FIPS 180-4|crypt\(5\)|PHC string format)"
+    r"(?:, sections? (?P<sections>[\d.]+(?:(?:, | and | to )[\d.]*\d)*))?"
+)
+
+
+@dataclass
+class Definition:
+    """One definition: its text without the comment above it, and the names that it declares besides its own."""
+
+    module: str
+    name: str
+    kind: str
+    public: bool
+    text: str
+    comment: str
+    line: int
+    members: list = field(default_factory=list)
+
+
+@dataclass
+class Module:
+    """A file of definitions. `imports` has the module and the name of each word that the file may use."""
+
+    name: str
+    path: str
+    comment: str
+    definitions: dict
+    imports: dict
+    passed_on: dict
+    whole: list
+    order: list
+
+    @property
+    def short(self):
+        return self.name.rsplit(".", 1)[-1]
+
+
+def imports_of(text):
+    """What a text imports: words, words that it passes on, and modules that it passes on whole. A word for a whole
+    module has no name in it."""
+    words, passed_on, whole = {}, {}, []
+    for found in IMPORT.finditer(text):
+        if found["other"]:
+            words[found["other"]] = (found["module"], None)
+        elif found["names"] is None:
+            whole.append(found["module"])
+        for item in filter(None, (it.strip() for it in (found["names"] or "").split(","))):
+            name, _, other = item.partition(" as ")
+            words[other.strip() or name.strip()] = (found["module"], name.strip())
+            if found["pub"]:
+                passed_on[other.strip() or name.strip()] = (found["module"], name.strip())
+    return words, passed_on, whole
+
+
+def comment_text(lines):
+    return " ".join(it[2:].strip() for it in lines).strip()
+
+
+def header_comment(lines):
+    """The comment with which a file begins, if a blank line or an import is after it."""
+    count = 0
+    while count < len(lines) and lines[count].startswith("--"):
+        count += 1
+    after = lines[count] if count < len(lines) else ""
+    return comment_text(lines[:count]) if count and re.match(r"$|(pub )?(use|mod)\b", after) else ""
+
+
+def blocks(lines):
+    """The parts of a file between blank lines, each with the number of its first line; an indented line after
+    a blank one belongs to the part before it."""
+    block, first = [], 0
+    for number, line in enumerate(lines, 1):
+        if not line.strip():
+            block.append(line)
+            continue
+        if not line.startswith(" ") and block and not block[-1].strip():
+            yield first, block
+            block = []
+        if not block:
+            first = number
+        block.append(line)
+    if block:
+        yield first, block
+
+
+def is_head(line):
+    found = HEAD.match(line)
+    return found and found["name"] not in NOT_HEADS and not line.startswith("--")
+
+
+def heads_in(lines):
+    """The places in a block at which definitions begin: an equation of one that has begun is not another."""
+    begun = set()
+    for at, line in enumerate(lines):
+        if is_head(line):
+            name = HEAD.match(line)["name"]
+            if name not in begun and re.match(rf".*?{re.escape(name)}\s*(?::|\(|\{{)", line):
+                begun.add(name)
+                yield at
+
+
+def definitions_in(module, first, lines):
+    """The definitions of one block, each with the comment right above it."""
+    starts = list(heads_in(lines))
+    for place, at in enumerate(starts):
+        above = at
+        while above > 0 and lines[above - 1].startswith("--"):
+            above -= 1
+        end = starts[place + 1] if place + 1 < len(starts) else len(lines)
+        body = lines[at:end]
+        while body and (not body[-1].strip() or body[-1].startswith("--")):
+            body.pop()
+        found, text = HEAD.match(lines[at]), "\n".join(body)
+        kind = found["kind"] or found["how"] or "theorem"
+        members = " ".join(MEMBERS.findall(text)).split() if found["kind"] in ("record", "data") else []
+        comment = comment_text(lines[above:at])
+        yield Definition(module, found["name"], kind, bool(found["pub"]), text, comment, first + at, members)
+
+
+def read_module(name, path, text):
+    lines = text.splitlines()
+    words, passed_on, whole = imports_of(text)
+    definitions = {}
+    for first, block in blocks(lines):
+        for it in definitions_in(name, first, block):
+            definitions.setdefault(it.name, it)
+    # a whole module that a file passes on or declares is one of its table of contents
+    order = re.findall(r"^pub (?:mod|use) ([\w.]+)$", text, re.M)
+    return Module(name, path, header_comment(lines), definitions, words, passed_on, whole, order)
+
+
+def standards(*comments):
+    """The standards that comments name, with the sections: the words of the comment, and where they are printed."""
+    found = {}
+    for it in (it for comment in comments for it in STANDARD.finditer(comment)):
+        address = None
+        if it["number"]:
+            address = f"https://www.rfc-editor.org/rfc/rfc{it['number']}.html"
+            first = re.match(r"[\d.]*\d", it["sections"] or "")
+            address += f"#section-{first.group()}" if first else ""
+        found.setdefault(it.group(), address)
+    return list(found.items())
