@@ -1,0 +1,89 @@
+package main
+
+import (
+	"context"
+	"database/sql"
+	"errors"
+	"log"
+
+	"nilomafy.example/scrypt"
+)
+
+// Accounts are the users: a row for each, with the text of the hash.
+type Accounts struct {
+	store  *sql.DB
+	hasher *scrypt.Hasher
+	nobody string // a hash whose password nobody knows, verified if there is no other
+}
+
+// SignUp adds a user and returns the text of the hash, or errTaken.
+func (a *Accounts) SignUp(ctx context.Context, name, password string) (string, error) {
+	text, err := a.hasher.Hash(ctx, []byte(password))
+	if err != nil {
+		return "", err
+	}
+	return a.ask(ctx, errTaken, `INSERT INTO users VALUES ($1, $2) ON CONFLICT DO NOTHING RETURNING hash`, name, text)
+}
+
+// LogIn returns the text of the user's hash, or errWrong. If the wanted password is another one, or the hash is weaker
+// than new ones, it is replaced first.
+func (a *Accounts) LogIn(ctx context.Context, name, password, wanted string) (string, error) {
+	text, err := a.verify(ctx, name, password)
+	if err != nil {
+		return "", err
+	}
+	if weak, err := a.hasher.NeedsRehash(text); err != nil || !weak && wanted == password {
+		return text, err
+	}
+	stronger, err := a.replace(ctx, name, text, wanted)
+	if err == errChanged && wanted == password { // another log-in may have replaced it
+		return a.verify(ctx, name, password)
+	}
+	return stronger, err
+}
+
+// hash returns the text of the user's hash, or errWrong if there is no such user.
+func (a *Accounts) hash(ctx context.Context, name string) (string, error) {
+	return a.ask(ctx, errWrong, `SELECT hash FROM users WHERE name = $1`, name)
+}
+
+// verify returns the text of the user's hash if the password is right. An unknown user and a hash that is refused are
+// errWrong after the work of a derivation, as a wrong password is.
+func (a *Accounts) verify(ctx context.Context, name, password string) (string, error) {
+	text, err := a.hash(ctx, name)
+	known := err == nil
+	if err == errWrong {
+		text = a.nobody
+	} else if err != nil {
+		return "", err
+	}
+	err = a.hasher.Verify(ctx, text, []byte(password))
+	if errors.Is(err, scrypt.ErrInvalidHash) || errors.Is(err, scrypt.ErrTooCostly) {
+		log.Printf("the hash of %q is refused: %v", name, err)
+		known, err = false, a.hasher.Verify(ctx, a.nobody, []byte(password))
+	}
+	if errors.Is(err, scrypt.ErrMismatch) || err == nil && !known {
+		return "", errWrong
+	}
+	return text, err
+}
+
+// replace puts the hash of a password in the place of the text, or returns errChanged if that is there no longer. The
+// statement is a transaction: if the process dies, the store has one text or the other.
+func (a *Accounts) replace(ctx context.Context, name, text, password string) (string, error) {
+	stronger, err := a.hasher.Hash(ctx, []byte(password))
+	if err != nil {
+		return "", err
+	}
+	const update = `UPDATE users SET hash = $3 WHERE name = $1 AND hash = $2 RETURNING hash`
+	return a.ask(ctx, errChanged, update, name, text, stronger)
+}
+
+// ask returns the hash that a statement returns, or `otherwise` if it returns no row.
+func (a *Accounts) ask(ctx context.Context, otherwise Refusal, statement string, values ...any) (text string, err error) {
+	err = a.store.QueryRowContext(ctx, statement, values...).Scan(&text)
+	if errors.Is(err, sql.ErrNoRows) {
+		err = otherwise
+	}
+	return text, err
+}

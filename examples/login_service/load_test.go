@@ -1,0 +1,160 @@
+package main
+
+import (
+	"context"
+	"fmt"
+	"math/rand"
+	"os"
+	"runtime"
+	"sort"
+	"strconv"
+	"sync"
+	"testing"
+	"time"
+
+	"nilomafy.example/scrypt"
+)
+
+// A row is measured in slices, between those of the library by itself, so that both meet the same load by others.
+const (
+	slices    = 3
+	warming   = time.Second
+	measuring = 4 * time.Second
+)
+
+// A count has the answers in a time that is measured.
+type count struct {
+	sync.Mutex
+	logIns, refused []time.Duration
+	untold          map[string]int
+}
+
+func (c *count) add(got answer, err error) {
+	c.Lock()
+	defer c.Unlock()
+	switch {
+	case err == nil && got.status == 303:
+		c.logIns = append(c.logIns, got.took)
+	case err == nil && got.status == 503 && got.retry != "":
+		c.refused = append(c.refused, got.took)
+	default:
+		c.untold[fmt.Sprint(got.status, err)]++
+	}
+}
+
+// part returns the time below which a part of the times is, in milliseconds.
+func part(times []time.Duration, part float64) string {
+	if len(times) == 0 {
+		return "-"
+	}
+	sort.Slice(times, func(i, j int) bool { return times[i] < times[j] })
+	at := int(part * float64(len(times)-1))
+	return fmt.Sprintf("%.0f", float64(times[at].Microseconds())/1000)
+}
+
+// rate returns how many verifications a second the library does by itself, with this many callers.
+func rate(t *testing.T, logN uint8, callers int, seconds time.Duration) float64 {
+	hasher, err := scrypt.NewHasher(scrypt.Options{Params: scrypt.Params{LogN: logN, R: 8, P: 1, KeyLen: 32}})
+	if err != nil {
+		t.Fatal(err)
+	}
+	text, err := hasher.Hash(context.Background(), []byte("a password"))
+	if err != nil {
+		t.Fatal(err)
+	}
+	begin := time.Now().Add(warming / 2)
+	end := begin.Add(seconds)
+	done := make(chan int, callers)
+	for i := 0; i < callers; i++ {
+		go func() {
+			verified := 0
+			for time.Now().Before(end) {
+				err := hasher.Verify(context.Background(), text, []byte("a password"))
+				if now := time.Now(); err == nil && now.After(begin) && now.Before(end) {
+					verified++
+				}
+			}
+			done <- verified
+		}()
+	}
+	sum := 0
+	for i := 0; i < callers; i++ {
+		sum += <-done
+	}
+	return float64(sum) / seconds.Seconds()
+}
+
+// load lets clients log in until the end; a client that is told to come back does so after Retry-After.
+func load(w *world, clients int, got *count) {
+	begin := time.Now().Add(warming)
+	end := begin.Add(measuring)
+	var group sync.WaitGroup
+	for i := 0; i < clients; i++ {
+		group.Add(1)
+		go func(i int) {
+			defer group.Done()
+			browser := newClient(w.address)
+			defer browser.http.CloseIdleConnections()
+			for time.Now().Before(end) {
+				answer, err := browser.logIn(fmt.Sprint("user", i), "a password")
+				if now := time.Now(); now.After(begin) && now.Before(end) || err != nil {
+					got.add(answer, err)
+				}
+				if seconds, err := strconv.Atoi(answer.retry); err == nil {
+					wait := time.Duration(seconds)*time.Second + time.Duration(rand.Intn(200))*time.Millisecond
+					if time.Now().Add(wait).After(end) {
+						return
+					}
+					time.Sleep(wait)
+				}
+			}
+		}(i)
+	}
+	group.Wait()
+}
+
+// TestLoad prints a table.
+func TestLoad(t *testing.T) {
+	if os.Getenv("LOGIN_LOAD") == "" {
+		t.Skip("make login-load")
+	}
+	processors := runtime.GOMAXPROCS(0)
+	fmt.Printf("%d processors; times in milliseconds; memory in MiB\n", processors)
+	fmt.Println("| parameters | clients | log-ins a second | library | ratio | median | 99 % | told 503 | 99 % of these | peak | bound + 64 | not told |")
+	fmt.Println("|---|---|---|---|---|---|---|---|---|---|---|---|")
+	for _, logN := range []uint8{14, 17} {
+		memory, err := scrypt.Params{LogN: logN, R: 8, P: 1, KeyLen: 32}.Memory()
+		if err != nil {
+			t.Fatal(err)
+		}
+		bound := processors*int(memory>>20) + 64
+		w := newWorld(t, fmt.Sprint("-log-n=", logN))
+		w.users(256, "a password", logN)
+		for _, clients := range []int{1, 4, 16, 64, 256} {
+			callers := clients
+			if callers > processors {
+				callers = processors
+			}
+			w.peak()
+			got := &count{untold: map[string]int{}}
+			library := rate(t, logN, callers, measuring/2) / 2
+			for slice := 1; slice <= slices; slice++ {
+				load(w, clients, got)
+				part := rate(t, logN, callers, measuring/2)
+				if slice == slices {
+					part /= 2
+				}
+				library += part
+			}
+			library /= slices
+			peak := w.peak()
+			logIns := float64(len(got.logIns)) / slices / measuring.Seconds()
+			fmt.Printf("| (%d, 8, 1) | %d | %.1f | %.1f | %.2f | %s | %s | %d | %s | %d | %d | %d |\n", logN, clients, logIns, library,
+				logIns/library, part(got.logIns, 0.5), part(got.logIns, 0.99), len(got.refused), part(got.refused, 0.99), peak, bound,
+				len(got.untold))
+			if len(got.untold) != 0 || peak > bound {
+				t.Error(peak, " MiB ", got.untold)
+			}
+		}
+	}
+}

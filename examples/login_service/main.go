@@ -1,0 +1,63 @@
+// A login service: a page with sign-up, log-in, change of the password and log-out, over hashes of scrypt in PostgreSQL.
+package main
+
+import (
+	"context"
+	"crypto/rand"
+	"database/sql"
+	"flag"
+	"log"
+	"net/http"
+	"runtime"
+	"runtime/debug"
+	"time"
+
+	_ "github.com/lib/pq"
+	"nilomafy.example/scrypt"
+)
+
+var (
+	listen   = flag.String("listen", "127.0.0.1:8080", "where to listen")
+	socket   = flag.String("store", ".", "the folder with PostgreSQL's socket")
+	logN     = flag.Uint("log-n", 17, "log_n of new hashes; r is 8 and p is 1")
+	most     = flag.Uint64("most-mib", 256, "the memory of a derivation, in MiB, above which a hash is refused")
+	waiting  = flag.Int("waiting", 32, "how many forms may wait for a processor")
+	patience = flag.Duration("patience", 20*time.Second, "how long a request may be sent, and be answered")
+	https    = flag.Bool("https", false, "send cookies over https alone, which a proxy before the service ends")
+)
+
+func main() {
+	flag.Parse()
+	debug.SetMemoryLimit(32 << 20) // of Go, beside the derivations
+	ctx, atOnce := context.Background(), runtime.GOMAXPROCS(0)
+	hasher, err := scrypt.NewHasher(scrypt.Options{Params: scrypt.Params{LogN: uint8(*logN), R: 8, P: 1, KeyLen: 32},
+		AtOnce: atOnce, MostBytes: *most << 20})
+	must(err)
+	store, err := sql.Open("postgres", "host="+*socket+" user=login_service dbname=postgres sslmode=disable connect_timeout=2")
+	must(err)
+	store.SetMaxOpenConns(16)
+	_, err = store.Exec(`CREATE TABLE IF NOT EXISTS users (name text PRIMARY KEY, hash text NOT NULL)`)
+	must(err)
+	nobody, err := hasher.Hash(ctx, drawn(32))
+	must(err)
+	// A drawn key signs cookies: a restart logs all users out, and no hash depends on it.
+	service := &Service{&Accounts{store, hasher, nobody}, drawn(32), make(chan struct{}, atOnce+*waiting)}
+	server := http.Server{Addr: *listen, Handler: service, ReadTimeout: *patience, WriteTimeout: 3 * *patience,
+		IdleTimeout: *patience, MaxHeaderBytes: mostForm}
+	log.Print("listening on http://", *listen)
+	must(server.ListenAndServe())
+}
+
+// drawn returns random bytes of the system.
+func drawn(count int) []byte {
+	bytes := make([]byte, count)
+	_, err := rand.Read(bytes)
+	must(err)
+	return bytes
+}
+
+func must(err error) {
+	if err != nil {
+		log.Fatal(err)
+	}
+}

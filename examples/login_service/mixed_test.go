@@ -1,0 +1,233 @@
+package main
+
+import (
+	"fmt"
+	"net"
+	"os"
+	"strconv"
+	"strings"
+	"sync"
+	"sync/atomic"
+	"testing"
+	"time"
+
+	"nilomafy.example/scrypt"
+)
+
+// A mix is the state that the clients of the mixed load share.
+type mix struct {
+	*world
+	end   time.Time
+	epoch int32 // even while the service runs, odd while it is killed and started
+	sync.Mutex
+	answers  map[string]int
+	full     []time.Duration // of the answers that no place is free
+	restarts int
+}
+
+// told counts an answer. A request without one is allowed if the service was killed meanwhile, or the form was too large.
+func (m *mix) told(epoch int32, kind string, got answer, err error) {
+	now := atomic.LoadInt32(&m.epoch)
+	m.Lock()
+	defer m.Unlock()
+	switch {
+	case err == nil && (got.status != 503 || got.retry != ""):
+		m.answers[fmt.Sprintf("%s %d", kind, got.status)]++
+		if strings.Contains(got.page, "Too many people") {
+			m.full = append(m.full, got.took)
+		}
+	case kind == "1 MiB":
+		m.answers[kind+" cut"]++
+	case err != nil && (now != epoch || epoch%2 == 1):
+		m.answers[kind+" killed"]++
+	default:
+		m.Errorf("%s is not told: %d %v", kind, got.status, err)
+	}
+}
+
+// client lets one browser act again and again.
+func (m *mix) client(kind string, act func(browser *client, turn int) (answer, error)) {
+	browser := newClient(m.address)
+	browser.http.Timeout = 15 * time.Second
+	for turn := 0; time.Now().Before(m.end); turn++ {
+		epoch := atomic.LoadInt32(&m.epoch)
+		got, err := act(browser, turn)
+		m.told(epoch, kind, got, err)
+		pause := 10 * time.Millisecond
+		if err != nil || got.status == 503 || strings.Contains(got.page, "too old") {
+			browser.token, pause = "", 300*time.Millisecond
+		}
+		time.Sleep(pause)
+	}
+}
+
+// A changer changes the password of its own user, and knows which ones the store may have.
+type changer struct {
+	name     string
+	possible []string
+}
+
+func (c *changer) act(m *mix) func(browser *client, turn int) (answer, error) {
+	return func(browser *client, turn int) (answer, error) {
+		for _, password := range c.possible {
+			got, err := browser.logIn(c.name, password)
+			if err != nil || got.status == 503 || strings.Contains(got.page, "too old") {
+				return got, err
+			}
+			if got.status != 303 {
+				continue
+			}
+			if got, err := browser.read(); err != nil || got.status != 200 {
+				return got, err
+			}
+			wanted := fmt.Sprint("password number ", turn)
+			c.possible = []string{password, wanted}
+			got, err = browser.send("change", "password", password, "new", wanted)
+			if err == nil && got.status == 303 {
+				c.possible = []string{wanted}
+			}
+			browser.token = ""
+			return got, err
+		}
+		m.Errorf("%s has none of %q", c.name, c.possible)
+		return answer{status: 500}, nil
+	}
+}
+
+// faults stops the store and kills the service in turn.
+func (m *mix) faults(arguments ...string) (peak int) {
+	for number := 0; time.Now().Add(15 * time.Second).Before(m.end); number++ {
+		time.Sleep(8 * time.Second)
+		if number%2 == 0 {
+			m.postgres([]string{"stop", "kill"}[number/2%2])
+			time.Sleep(time.Second)
+			m.postgres("start")
+		} else {
+			if now := m.peak(); now > peak {
+				peak = now
+			}
+			atomic.AddInt32(&m.epoch, 1)
+			m.stop()
+			m.start(arguments...)
+			atomic.AddInt32(&m.epoch, 1)
+		}
+		m.restarts++
+	}
+	time.Sleep(time.Until(m.end))
+	if now := m.peak(); now > peak {
+		peak = now
+	}
+	return peak
+}
+
+// slow sends a byte of a form a second.
+func (m *mix) slow() {
+	for time.Now().Before(m.end) {
+		connection, err := net.Dial("tcp", m.address)
+		if err == nil {
+			_, err = fmt.Fprintf(connection, "POST /log-in HTTP/1.1\r\nHost: here\r\nContent-Length: 1000\r\n\r\n")
+			for ; err == nil && time.Now().Before(m.end); time.Sleep(time.Second) {
+				_, err = connection.Write([]byte("a"))
+			}
+			_ = connection.Close()
+		}
+		time.Sleep(100 * time.Millisecond)
+	}
+}
+
+// TestMixedLoad has all clients and faults at once, for MIXED_SECONDS or five minutes.
+func TestMixedLoad(t *testing.T) {
+	seconds, err := strconv.Atoi(os.Getenv("MIXED_SECONDS"))
+	if err != nil {
+		seconds = 300
+	}
+	arguments := []string{"-log-n=12", "-waiting=16", "-patience=5s"}
+	w := newWorld(t, arguments...)
+	w.users(64, "a password", 12)
+	for i := 0; i < 100; i++ {
+		text, _ := hostile(t, i)
+		w.exec(`INSERT INTO users VALUES ($1, $2)`, fmt.Sprint("hostile", i), text)
+	}
+	w.peak()
+	m := &mix{world: w, end: time.Now().Add(time.Duration(seconds) * time.Second), answers: map[string]int{}}
+	changers := make([]*changer, 8)
+	large := strings.Repeat("x", 1<<20)
+	var group sync.WaitGroup
+	many := func(count int, run func(number int)) {
+		for i := 0; i < count; i++ {
+			group.Add(1)
+			go func(i int) { defer group.Done(); run(i) }(i)
+		}
+	}
+	user := func(prefix, password string) func(int) func(*client, int) (answer, error) {
+		return func(number int) func(*client, int) (answer, error) {
+			return func(browser *client, turn int) (answer, error) {
+				return browser.logIn(fmt.Sprint(prefix, (number*7+turn)%64), password)
+			}
+		}
+	}
+	for kind, it := range map[string]struct {
+		count int
+		act   func(int) func(*client, int) (answer, error)
+	}{
+		"log-in": {24, user("user", "a password")}, "wrong": {4, user("user", "not it")}, "unknown": {4, user("nobody", "not it")},
+		"hostile": {4, user("hostile", "not it")}, "1 MiB": {2, user("user", large)},
+	} {
+		kind, it := kind, it
+		many(it.count, func(i int) { m.client(kind, it.act(i)) })
+	}
+	many(2, func(i int) {
+		m.client("sign-up", func(browser *client, turn int) (answer, error) {
+			delete(browser.cookies, "session")
+			if browser.token == "" {
+				if got, err := browser.read(); err != nil || got.status != 200 {
+					return got, err
+				}
+			}
+			return browser.send("sign-up", "name", fmt.Sprint("new", i, "-", turn), "new", "a password")
+		})
+	})
+	for i := range changers {
+		changers[i] = &changer{fmt.Sprint("changer", i), []string{"a password"}}
+		w.exec(`INSERT INTO users SELECT $1, hash FROM users WHERE name = 'user0'`, changers[i].name)
+	}
+	many(len(changers), func(i int) { m.client("change", changers[i].act(m)) })
+	many(20, func(int) { m.slow() })
+	peak := m.faults(arguments...)
+	group.Wait()
+	m.check(t, changers)
+	t.Logf("%d s, %d faults; answers: %v", seconds, m.restarts, m.answers)
+	t.Logf("that no place is free is answered in %s ms (99 %%), %s at most; peak %d MiB", part(m.full, 0.99), part(m.full, 1), peak)
+	if peak > 4*4+64 {
+		t.Error("more memory than four derivations and 64 MiB")
+	}
+}
+
+// check tells whether each user who changed passwords has one that is possible, and each text is whole.
+func (m *mix) check(t *testing.T, changers []*changer) {
+	for _, it := range changers {
+		rights := 0
+		for _, password := range it.possible {
+			if got, err := newClient(m.address).logIn(it.name, password); err == nil && got.status == 303 {
+				rights++
+			}
+		}
+		if rights != 1 {
+			t.Errorf("%s has %d of %q", it.name, rights, it.possible)
+		}
+	}
+	rows, err := m.db.Query(`SELECT name, hash FROM users WHERE name NOT LIKE 'hostile%'`)
+	if err != nil {
+		t.Fatal(err)
+	}
+	defer rows.Close()
+	for rows.Next() {
+		var name, text string
+		if err := rows.Scan(&name, &text); err != nil {
+			t.Fatal(err)
+		}
+		if params, err := scrypt.ParamsOf(text); err != nil || params != (scrypt.Params{LogN: 12, R: 8, P: 1, KeyLen: 32}) {
+			t.Errorf("%s: %v %q", name, err, text)
+		}
+	}
+}
