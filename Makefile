@@ -1,27 +1,43 @@
-# On a machine with the Rattle kit, two commands do everything:
+# On a machine with the Rattle kit, three commands do everything:
 #   make run    proves and builds the program, and prints the first key of RFC 7914, section 12. With memory for two
 #               checks, make -j2 run proves the two lowest crates side by side
-#   make test   is the whole gate: the names and the examples in the documents, what must not compile, every
-#               proof from nothing, the edits that the prover must refuse, every test and every program
+#   make check  is for daily work: the checks of the documents, and what changed since the last check, proved and
+#               tested. The first one takes as long as a proof of everything
+#   make test   is the whole gate: the checks of the documents and of what must not compile, a short call of the
+#               library from C, Python and the drop-in names, every proof from nothing, the edits of must-fail/, which
+#               are wrong bodies that the prover must refuse, and every test and program
 # And besides the gate:
-#   make wrong-bodies tries the rest of the edits that the prover must refuse
-#   make refused-by-tests tries wrong bodies that no clause can refuse, and that the tests have to (minutes for each)
+#   make wrong-bodies tries the edits of wrong-bodies/, more that the prover must refuse
+#   make refused-by-tests tries those of refused-by-tests/, wrong bodies that no clause can refuse, and that the
+#               tests have to (minutes for each)
 #   make refusals lists the wrong bodies that are refused for no false goal (some 20 seconds for each)
 #   make oracle compares the program with independent implementations on random input, and with a
 #               reader in plain Python on hostile hashes, refuses each of its allocations, and tries
-#               docs/MIGRATION.md; WORKER=PATH is a program that calls the Rust crate
-#   make lib    builds the libraries for C into build/lib, and make install PREFIX=DIR puts them in place
+#               docs/MIGRATION.md and docs/KEY_FILES.md; WORKER=PATH is a program that calls the Rust crate
+#   make lib    builds the libraries for C into build/lib
+#   make install puts what is built below prefix=/usr/local, or below another folder, and in DESTDIR if it is said;
+#               make uninstall with the same words removes it
+#   make dist   makes packages for Debian and Python, an archive, the sources and their hashes in build/dist
+#   make dist-test  installs, uses and removes them in a fresh root of Debian packages (needs root, mmdebstrap, lintian)
 #   make callers calls them from each language of bindings/ that is installed here, and from programs that
-#               know the names of libsodium and libscrypt-kdf
+#               know the names of libsodium, libscrypt-kdf and crypt(3)
+#   make crypt  builds libscrypt_crypt.so, which has the names of crypt(3), into build/lib
 #   make bench  measures the library and the program against other implementations on this machine.
 #               Other programs join by WORKERS="--worker NAME=PATH ..", as bench/bench.py describes,
 #               and WORKERS="--callgrind" counts instructions
 #   make thin   measures the key by smaller tables, and draws docs/thin.svg
+#   make parameters  measures logins at each log_n, alone and at once, and draws docs/parameters.svg
 #   make compare-worker WORKER=PATH  compares 10,000 keys with those of such a program
+#   make doc    makes the reader for the proof, build/doc/index.html, in seconds and without the kit or a network; it
+#               needs Debian's python3-jinja2 and python3-pygments
+#   make doc-test tests the reader, and reads its pages in a headless Chromium if that is installed
+#   make axioms writes doc/axioms.txt, what the check of the program assumes, which those pages print
+#   make login-service  runs a small login service on 127.0.0.1:8080 with a PostgreSQL of its own (examples/login_service);
+#               make login-test tests it and its faults, and make login-load prints its table of logins a second
 #   make clean  removes what was built
 
-.PHONY: help run test wrong-bodies refused-by-tests refusals oracle lib install callers bench thin compare-worker \
-  clean kit
+.PHONY: help run check test documents short-callers wrong-bodies refused-by-tests refusals oracle lib install uninstall \
+  crypt callers bench thin parameters compare-worker clean kit
 
 help:
 	@sed -n '/^#/!q; s/^# \{0,1\}//p' Makefile
@@ -38,14 +54,31 @@ $(LIBRARIES): proved-%: kit
 proved-scrypt: proved-password_hash proved-scrypt_kernel
 proved-scrypt_commands: proved-scrypt
 
-test: kit
+check: kit documents
+	rt all test
+
+# The library is built before the proofs from nothing, which set aside what it keeps and give it back: it is what
+# `make check` goes on from, and the count of what passed stays the last line.
+test: kit documents short-callers
+	python3 ci/must_not_compile.py
+	rt ci
+
+documents:
+	python3 ci/test_edits.py
+	python3 ci/test_must_not_compile.py
+	python3 ci/test_refusals.py
 	python3 ci/test_docs.py
 	python3 ci/docs.py
 	python3 ci/data_path.py
+	python3 ci/test_formats.py
+	python3 ci/formats.py
 	python3 ci/test_examples.py
 	python3 ci/examples.py
-	python3 ci/must_not_compile.py
-	rt ci
+	python3 compare/test_texts.py
+
+short-callers: kit
+	@if command -v $(CC) > /dev/null; then bindings/lib.sh && bindings/callers.sh short; \
+	else echo "No C compiler is here (package gcc): the library was not called."; fi
 
 wrong-bodies: kit
 	python3 ci/wrong_bodies.py
@@ -56,25 +89,50 @@ refused-by-tests: kit
 refusals: kit
 	python3 ci/refusals.py
 
-oracle: kit
+oracle: lib
 	cd crates/scrypt_tool && rt run -- key 0 1 1 1 "" > /dev/null < /dev/null
-	python3 ci/oracle.py crates/scrypt_tool/out/scrypt_tool
-	python3 ci/allocations.py crates/scrypt_tool/out/scrypt_tool
-	python3 ci/migration.py crates/scrypt_tool/out/scrypt_tool $(if $(WORKER),--worker $(WORKER))
+	python3 compare/test_texts.py
+	python3 compare/oracle.py crates/scrypt_tool/out/scrypt_tool
+	python3 compare/allocations.py crates/scrypt_tool/out/scrypt_tool
+	python3 compare/migration.py crates/scrypt_tool/out/scrypt_tool $(if $(WORKER),--worker $(WORKER))
+	python3 compare/key_files.py crates/scrypt_tool/out/scrypt_tool build/lib/libscrypt_c.so
 	cd crates/verdicts && rt run < stdin > /dev/null
-	python3 ci/hostile.py crates/verdicts/out/verdicts
-	python3 ci/thin_cost.py
+	python3 compare/hostile.py crates/verdicts/out/verdicts
+	python3 compare/thin_cost.py
 
 lib: kit
 	bindings/lib.sh
 
-install: kit
-	@test -n "$(PREFIX)" || { echo "Say where to: make install PREFIX=DIR" >&2; exit 1; }
-	bindings/lib.sh
-	cd crates/scrypt_tool && rt run -- key 0 1 1 1 "" > /dev/null < /dev/null
-	bindings/install.sh "$(PREFIX)"
+# Where `make install` puts what is built, by the names that other projects use; PREFIX stands for prefix.
+prefix = $(or $(PREFIX),/usr/local)
+exec_prefix = $(prefix)
+bindir = $(exec_prefix)/bin
+libdir = $(exec_prefix)/lib
+includedir = $(prefix)/include
+datarootdir = $(prefix)/share
+mandir = $(datarootdir)/man
+docdir = $(datarootdir)/doc/scrypt_c
+pythondir = $(prefix)/lib/python3/dist-packages
+PLACES = DESTDIR bindir libdir includedir datarootdir mandir docdir pythondir
 
-callers: lib
+install uninstall:
+	$(foreach place,$(PLACES),$(place)="$($(place))") bindings/install.sh $@
+
+.PHONY: dist dist-test
+dist:
+	@if command -v rt > /dev/null; then bindings/lib.sh && cd crates/scrypt_tool && rt run -- key 0 1 1 1 "" > /dev/null < /dev/null; \
+	else echo "The kit isn't here: what is built already is packed, and nothing is proved."; fi
+	python3 release/dist.py
+
+dist-test:
+	python3 -B release/test_proved.py
+	release/reproducible.sh
+	release/test.sh
+
+crypt: lib
+	bindings/crypt/build.sh
+
+callers: crypt
 	bindings/callers.sh
 
 bench: lib
@@ -85,10 +143,35 @@ bench: lib
 thin: lib
 	python3 bench/thin.py build/lib/libscrypt_c.so 2 docs/thin.svg
 
+parameters: lib
+	python3 bench/parameters.py build/lib/libscrypt_c.so 15 docs/parameters.svg
+
 compare-worker: kit
 	@test -n "$(WORKER)" || { echo "Say with what: make compare-worker WORKER=PATH" >&2; exit 1; }
 	cd crates/scrypt_tool && rt run -- key 0 1 1 1 "" > /dev/null < /dev/null
-	python3 ci/compare_worker.py crates/scrypt_tool/out/scrypt_tool $(WORKER)
+	python3 compare/compare_worker.py crates/scrypt_tool/out/scrypt_tool $(WORKER)
+
+.PHONY: doc doc-test
+doc:
+	python3 doc/make.py
+
+doc-test: doc
+	python3 doc/test_doc.py
+	python3 doc/test_browser.py build/doc
+
+.PHONY: axioms
+axioms: proved-scrypt_commands
+	mkdir -p build
+	cd crates/scrypt_tool && rt check --list-axioms > ../../build/axioms.log
+	sed -n 's/^  \([a-z_:]*\) *reached$$/\1/p' build/axioms.log > doc/axioms.txt
+
+# The library is built only if it is not there: the kit is not needed after that.
+.PHONY: login-service login-test login-load
+login-service: $(if $(wildcard build/lib/libscrypt_c.a),,lib)
+	examples/login_service/run.sh
+
+login-test login-load: $(if $(wildcard build/lib/libscrypt_c.a),,lib)
+	examples/login_service/test.sh $@
 
 clean:
 	rm -rf build crates/*/out
