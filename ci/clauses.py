@@ -4,7 +4,8 @@ A row of its tables names functions, and the clauses that keep its promise. Wher
 one parts the clauses too, a group for each. Each clause of a group has to be an `ensures` or a `ghost` of each function of
 the group, and each `ensures` of a public function has to be in a row. A row on a trait names clauses of its functions;
 `X` of `Y` and `X` for `Y` are the impl of `X` for `Y`, whose relations are its clauses. A law has its clauses in
-parentheses after its name. A row without clauses is on what is derived.
+parentheses after its name. A row without clauses is on what is derived. What only other layers need is in lists, as
+`functions`: `clauses`.
 """
 
 import re
@@ -55,8 +56,12 @@ def items_of(path, text):
 
 
 def rows(text):
-    """The rows of the tables: their line, and groups of functions with the clauses of each."""
+    """The rows of the tables and of the lists: their line, and groups of functions with the clauses of each."""
     for number, line in enumerate(text.splitlines(), 1):
+        listed = re.fullmatch(r"- (.*`.*): (`\w+`(?:, `\w+`)*)", line)
+        if listed:
+            yield number, [listed.groups()]
+            continue
         cells = [it.strip() for it in line.strip("|").split(" | ")]
         if not line.startswith("| ") or len(cells) != 3 or "`" not in cells[1]:
             continue

@@ -11,7 +11,7 @@ A public clause is one of a public function or of a public trait, or a relation 
 trait gives. It cites what its file imports by `ghost use` from the specs of a crate.
 
 A name is what is between backquotes and is a path (`mcf::Base64`, `Params::{log_n, n}`), a word
-with an underscore (`scrypt_ro_mix`), a call (`new()`), or a file of the repository; in the tables of
+with an underscore (`scrypt_ro_mix`), a call (`new()`), or a file of the repository; in the tables and lists of
 PROMISES it is every word between backquotes. What belongs to others is listed below.
 """
 
@@ -72,9 +72,9 @@ def words_of(name):
 
 
 def unknown_names(path, text, names, everything):
-    """What is named in a document and is nowhere; in a table of promises every word is a name."""
+    """What is named in a document and is nowhere; in a table or list of promises every word is a name."""
     for number, line in enumerate(text.splitlines(), 1):
-        strict = path == PROMISES and line.startswith("|")
+        strict = path == PROMISES and line.startswith(("|", "- `"))
         for name in re.findall(r"`([^`]+)`", line):
             file = re.fullmatch(r"(crates|docs|ci|compare|bench|bindings)/[\w./-]+", name)
             if file and "NAME" not in name and not glob.glob(name):

@@ -84,6 +84,10 @@ KEPT = """| promise | function | clause |
 | law | function (clauses) | who relies on it |
 |---|---|---|
 | one key | `one_key` (`one`, `same`) | `all` |
+
+- `derive::{left, right}`: `half`, `quarter`
+- `Halves`, kept for `Whole`: `both`
+- That `key` is hard to guess: not promised.
 """
 CODE = {
     "crates/a/src/derive.rt": """pub fn key(x: u8)
@@ -107,6 +111,23 @@ pub fn one_key()
     ensures one { x }
     ensures same { x }
 {
+}
+
+pub fn left()
+    ensures half { x }
+    ensures quarter { x }
+{
+}
+
+pub fn right()
+    ensures half { x }
+    ensures quarter { x }
+{
+}
+
+pub trait Halves {
+    fn halve(&self)
+        ensures both { x };
 }
 """,
     "crates/a/src/hasher.rt": """pub trait Hasher {
@@ -138,6 +159,10 @@ CLAUSES = [
     ("a clause of a law that is dropped", "    ensures same { x }\n", "", "one_key of crates/a/src/derive.rt has no clause same"),
     ("a clause that no row names", "`refused`; `buffers`", "`value`; `buffers`", "no row with the clause refused of key"),
     ("a clause that its function lacks", "`refused`; `buffers`", "`buffers`; `buffers`", "key of crates/a/src/derive.rt has no clause buffers"),
+    ("a listed clause that is dropped", "    ensures half { x }\n", "", "left of crates/a/src/derive.rt has no clause half"),
+    ("a listed clause of a trait that is dropped", "        ensures both { x };", "        ;", "Halves of crates/a/src/derive.rt has no clause both"),
+    ("a clause that no list names", "`half`, `quarter`", "`half`", "no row with the clause quarter of right"),
+    ("a function that no list names", "derive::{left, right}", "derive::left", "no row with the clause half of right"),
     ("fewer groups of clauses than of functions", "`refused`; `buffers`", "`refused`, `buffers`", "as many groups"),
 ]
 
