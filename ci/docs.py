@@ -1,14 +1,11 @@
 #!/usr/bin/env python3
 """Compares the documents with the sources, and refuses what does not fit.
 
-Refused are: a name in docs/*.md or README.md that no source has; a clause of a public function that
-has no name; a public function that docs/PROMISES.md does not name; a definition that a public clause cites
-and that docs/DEFINITIONS.md does not name beside its module; a row of docs/PROMISES.md whose clauses are not those of its
-functions, and a clause in no row (clauses.py); and a row of docs/PROOFS.md on a module of proofs that differs from
-the comment on that module in its crate's proofs/Lib.antt.
-
-A public clause is one of a public function or of a public trait, or a relation that an implementation of a
-trait gives. It cites what its file imports by `ghost use` from the specs of a crate.
+Refused are: a name in docs/*.md or README.md that no source has; a link that leads nowhere, or whose words name a
+definition that its file doesn't have; a count of lines to read that is wrong; a clause of a public function that has no
+name; a public function that docs/PROMISES.md does not name; a row or a list of docs/PROMISES.md whose clauses are not those
+of its functions, and a clause in none (clauses.py); and a module of proofs without a comment in its crate's
+proofs/Lib.antt. That each name of a clause has a definition, and each definition words, is for `make doc` to see.
 
 A name is what is between backquotes and is a path (`mcf::Base64`, `Params::{log_n, n}`), a word
 with an underscore (`scrypt_ro_mix`), a call (`new()`), or a file of the repository; in the tables and lists of
@@ -16,21 +13,19 @@ PROMISES it is every word between backquotes. What belongs to others is listed b
 """
 
 import glob
+import os
 import re
 import sys
 
 import clauses
 
-DOCS = ["README.md", *sorted(glob.glob("docs/*.md"))]
+DOCS = [it for pattern in ("*.md", "docs/*.md", "bindings/**/*.md", "release/*.md", "examples/**/*.md")
+        for it in sorted(glob.glob(pattern, recursive=True))]
 PROMISES = clauses.PROMISES
-DEFINITIONS = "docs/DEFINITIONS.md"
-PROOFS = "docs/PROOFS.md"
 
 # Names of other programs and libraries, and words of texts and commands.
 OTHERS = set("""
-crypto_scrypt crypt_r libscrypt_scrypt libscrypt_hash libscrypt_check crypto_pwhash_scryptsalsa208sha256 pbkdf2_hmac scrypt_kdf_mapped
-scrypt_verify_in needs_update must_use new_unwrap crypto_pwhash_scryptsalsa208sha256_str rand_core getrandom password_hash_rs check_password generate_password_hash std core alloc
-thread_rng salt_length maxmem_bytes gensalt_rn crypt_gensalt_rn password_verify EVP_PBE_scrypt fmt io env slice option result string str vec
+libscrypt_check libscrypt_hash maxmem_bytes must_use needs_update salt_length
 """.split())
 
 
@@ -44,9 +39,10 @@ def sources(suffix):
 
 
 def known_names():
-    """Every word that the sources have, which is what a name may consist of."""
+    """Every word that the sources and the bindings have, which is what a name may consist of."""
     names = set()
-    for path in sources("rt") + sources("antt"):
+    callers = [it for suffix in ("c", "h", "py", "go", "rs") for it in glob.glob(f"bindings/**/*.{suffix}", recursive=True)]
+    for path in sources("rt") + sources("antt") + [it for it in callers if "test" not in it]:
         names.update(re.findall(r"[A-Za-z_][A-Za-z0-9_']*", read(path)))
         names.update(re.split(r"[/.]", path))
     return names
@@ -116,76 +112,45 @@ def unpromised(path, text, promised):
             yield f"{path}:{line}: PROMISES does not name the public function {name}"
 
 
-def declared_definitions(specs):
-    """The definitions that the specs of the crates declare, as pairs of a module and a name."""
-    found = set()
-    for path, text in specs.items():
-        module = re.search(r"(\w+)\.antt$", path).group(1)
-        names = re.findall(r"^(?:(?:abbrev|unfoldable) )?pub (?:(?:record|data) )?(\w+)", text, re.M)
-        found.update((module, name) for name in names if name not in ("mod", "use"))
-    return found
+def headings(text):
+    """The places of a document that a link can lead to, as forges name them."""
+    return {re.sub(r"[^\w -]", "", it.lower()).replace(" ", "-") for it in re.findall(r"^#+ (.*)", text, re.M)}
 
 
-def imports(text):
-    """What a source imports from specs: each word of it, with the module and the name that it stands for."""
-    found = {}
-    for module, names in re.findall(r"^ *ghost use Rattle\.\w+\.specs\.(\w+)\.\{([^}]*)\};", text, re.M):
-        for name, _, other in (it.strip().partition(" as ") for it in names.split(",")):
-            found[other or name] = (module, name)
-    return found
+def declares(path, name):
+    return re.search(rf"^(?:(?:abbrev|unfoldable) )?pub (?:(?:record|data) )?{name}\b", read(path), re.M)
 
 
-def public_clauses(text):
-    """The texts of the public clauses of a source."""
-    heads = [head for _, _, head in public_functions(text)]
-    traits = re.findall(r"^pub trait (.*?)^\}", text, re.M | re.S)
-    relations = []
-    for trait, body in re.findall(r"^impl(?:<[^>]*>)? ([^\n{]*) for [^\n{]*\{(.*?)^\}", text, re.M | re.S):
-        if trait != "Model":
-            relations += re.findall(r"^    ghost (?!laws)\w+ = \{(.*?)\};", body, re.M | re.S)
-    parts = [it.split("//")[0] for head in heads + traits for it in re.split(r"\b(?:ensures|requires|ghost)\b", head)[1:]]
-    return parts + relations
+def broken_links(path, text):
+    """Links to nothing, and definitions that are not in the file that a link on their names leads to."""
+    for words, target in re.findall(r"\[([^\]]*)\]\(([^)\s]+)\)", text):
+        if re.match(r"https?:", target):
+            continue
+        target, _, place = target.partition("#")
+        file = os.path.normpath(os.path.join(os.path.dirname(path), target)) if target else path
+        if not os.path.exists(file) or place and place not in headings(read(file)):
+            yield f"{path}: the link {target}#{place} leads nowhere".replace("# ", " ")
+        elif file.endswith(".antt") and "/specs/" in file:
+            for name in re.findall(r"`(\w+)`", words):
+                if not declares(file, name):
+                    yield f"{path}: {file} has no definition {name}"
 
 
-def undefined(code, specs, definitions):
-    """What a public clause cites and no line of docs/DEFINITIONS.md names together with its module."""
-    named = {(module, name) for line in definitions.splitlines() for name in re.findall(r"`(\w+)`", line)
-             for module in re.findall(r"\w+", re.sub(r"`[^`]*`", "", line))}
-    declared = declared_definitions(specs)
-    for path, text in code.items():
-        known = imports(text)
-        cited = {known[it] for clause in public_clauses(text) for it in re.findall(r"\w+", clause) if it in known}
-        for module, name in sorted((cited & declared) - named):
-            yield f"{path}: DEFINITIONS does not name the definition {name} of {module}"
+def wrong_counts(path, text):
+    """Lines to read that are more or fewer than those of the files that are named after them."""
+    for count, links in re.findall(r"read these (\d+) lines in this order: (.*?)\.(?:\s|$)", text, re.S):
+        files = [os.path.join(os.path.dirname(path), it) for it in re.findall(r"\]\(([^)]*)\)", links)]
+        lines = sum(len(read(it).splitlines()) for it in files if os.path.exists(it))
+        if lines != int(count):
+            yield f"{path}: the files to read have {lines} lines and not {count}"
 
 
-def rows_of(text):
-    """Of each folder that docs/PROOFS.md has a table of, its modules and what they show."""
-    rows = {}
-    folder = None
-    for line in text.splitlines():
-        heading = re.match(r"`(crates/\w+/proofs)`", line)
-        row = re.fullmatch(r"\| `(\w+)` \| (.*) \|", line)
-        if heading:
-            folder = heading.group(1) + "/Lib.antt"
-        elif row and folder:
-            rows.setdefault(folder, {})[row.group(1)] = row.group(2)
-    return rows
-
-
-def modules_of(text):
-    """The modules that a Lib.antt has, each with the comment on it."""
-    return dict(reversed(it) for it in re.findall(r"^(?:-- (.*)\n)?pub mod (\w+)", text, re.M))
-
-
-def other_modules(documents, libs):
-    """Where docs/PROOFS.md and the proofs' own lists of modules differ."""
-    rows = rows_of(documents.get(PROOFS, ""))
-    for path, text in libs.items():
-        mine, theirs = rows.get(path, {}), modules_of(text)
-        for name in sorted(mine.keys() | theirs.keys()):
-            if mine.get(name) != theirs.get(name):
-                yield f"{path}: {PROOFS} has another line on {name}, or none"
+def unexplained_modules(path, text):
+    """The modules of a list that no comment is on."""
+    lines = ["", *text.splitlines()]
+    for before, line in zip(lines, lines[1:]):
+        if line.startswith("pub mod ") and not before.startswith("--"):
+            yield f"{path}: no comment says what {line.split()[-1]} shows"
 
 
 def complaints(documents, code, names):
@@ -193,6 +158,8 @@ def complaints(documents, code, names):
     everything = set(re.findall(r"^([\w-]+):", read("Makefile"), re.M))
     for path, text in documents.items():
         yield from unknown_names(path, text, names, everything)
+        yield from broken_links(path, text)
+        yield from wrong_counts(path, text)
     promised = promised_names(documents[PROMISES])
     for path, text in code.items():
         yield from unnamed_clauses(path, text)
@@ -204,10 +171,9 @@ def main():
     code = {it: read(it) for it in own_sources()}
     found = list(complaints(documents, code, known_names()))
     found += clauses.complaints(documents[PROMISES], code)
-    specs = {it: read(it) for it in glob.glob("crates/*/specs/*.antt")}
-    found += undefined(code, specs, documents[DEFINITIONS])
-    found += other_modules(documents, {it: read(it) for it in glob.glob("crates/*/proofs/Lib.antt")})
-    print("\n".join(found) or "docs: every name is in the sources, every public clause is promised, and what clauses cite is defined")
+    for path in glob.glob("crates/*/proofs/Lib.antt"):
+        found += unexplained_modules(path, read(path))
+    print("\n".join(found) or "docs: every name is in the sources, every link leads somewhere, and every public clause is promised")
     sys.exit(1 if found else 0)
 
 

@@ -23,54 +23,28 @@ ROWS = [
     ("a private function without a promise", PLAIN, PROMISED, SOURCE + SOURCE.replace("pub fn scrypt_counted", "fn other"), None),
 ]
 
-TABLE = "`crates/a/proofs`, the first:\n\n| `OneFacts` | Facts on one. |\n| `TwoFacts` | Facts on two. |\n"
-LIB = "-- Facts on one.\npub mod OneFacts\n-- Facts on two.\npub mod TwoFacts\n"
-
-# What is changed in the table of modules or in their list, and the module that has to be named, if any.
+# A list of modules, and the module that has to be named, if any.
 MODULES = [
-    ("nothing is changed", TABLE, LIB, None),
-    ("another line", TABLE, LIB.replace("on two", "on three"), "TwoFacts"),
-    ("no line", TABLE, LIB.replace("-- Facts on one.\n", ""), "OneFacts"),
-    ("a module without a row", TABLE, LIB + "-- Facts on more.\npub mod MoreFacts\n", "MoreFacts"),
-    ("a row without a module", TABLE + "| `GoneFacts` | Facts. |\n", LIB, "GoneFacts"),
+    ("each module has a comment", "-- Facts on one.\npub mod OneFacts\n-- Facts on two.\npub mod TwoFacts\n", None),
+    ("a module without a comment", "-- Facts on one.\npub mod OneFacts\npub mod TwoFacts\n", "TwoFacts"),
+    ("the first module without a comment", "pub mod OneFacts\n", "OneFacts"),
 ]
 
+SALSA, BLOCK_MIX = "crates/scrypt_kernel/specs/Salsa.antt", "crates/scrypt_kernel/specs/BlockMix.antt"
+LINES = sum(docs.read(it).count("\n") for it in (SALSA, BLOCK_MIX))
+TO_READ = f"in this order: [a](../{BLOCK_MIX}), [b](../{SALSA}). And more"
 
-SPECS = {"crates/a/specs/Key.antt": "pub record IsKey (k : ℕ) : Type 0 where\nabbrev pub key_of : ℕ → ℕ\nunfoldable pub other : ℕ\n"}
-CITING = """ghost use Rattle.a.specs.Key.{IsKey, key_of as short};
-ghost use Rattle.std.specs.List.{other};
-
-pub fn made(k: u8)
-    ensures key { IsKey k }
-{
-}
-
-fn helper(k: u8)
-    ensures { short k }
-{
-}
-"""
-IMPLEMENTED = """
-impl Kdf for Scrypt {
-    ghost derives = { λ k. short k };
-}
-"""
-DEFINED = "| key | `IsKey` (Key) |\n"
-
-# What is changed in the definitions or in the source that cites some; and the definition that has to be named, if any.
-DEFINITIONS = [
-    ("nothing is changed", DEFINED, CITING, None),
-    ("a definition without a row", "", CITING, "IsKey"),
-    ("a row that names another module", DEFINED.replace("(Key)", "(Hash)"), CITING, "IsKey"),
-    ("a row that names the module between backquotes alone", DEFINED.replace("(Key)", "`Key`"), CITING, "IsKey"),
-    ("a definition without a row that only private functions cite", "", CITING.replace("pub fn", "fn"), None),
-    ("another name for a definition in a public clause", DEFINED, CITING.replace("IsKey k", "short k"), "key_of"),
-    ("a condition of a public function", DEFINED, CITING.replace("    ensures key { IsKey", "    requires key { short"), "key_of"),
-    ("a clause of a public trait", DEFINED, CITING + "pub trait Kdf {\n    fn key(&self)\n        ensures ok { short k };\n}\n", "key_of"),
-    ("a relation of an implementation", DEFINED, CITING + IMPLEMENTED, "key_of"),
-    ("the invariant of a model, which needs no row", DEFINED, CITING + IMPLEMENTED.replace("Kdf", "Model"), None),
-    ("a definition of a library", DEFINED, CITING.replace("IsKey k", "other"), None),
-    ("a variable that has the name of a definition", DEFINED, CITING.replace("IsKey k", "key_of"), None),
+# A document in docs/, and what has to be said of its links, if anything.
+LINKS = [
+    ("a file, a folder, a page and a place of this page", "# Who reads\n[a](API.md) [b](../crates/scrypt) [c](https://x.example) [d](#who-reads)", None),
+    ("a file that is gone", "[a](NOTHING.md)", "NOTHING.md leads nowhere"),
+    ("a path from the top", "[a](docs/API.md)", "docs/API.md leads nowhere"),
+    ("a place of another document", "[a](../README.md#what-is-proved)", None),
+    ("a place that is gone", "[a](../README.md#what-is-hoped)", "README.md#what-is-hoped leads nowhere"),
+    ("a definition", f"[`quarter_round`](../{SALSA})", None),
+    ("a definition of another file", f"[`quarter_round`, `ro_mix`](../{SALSA})", "no definition ro_mix"),
+    ("lines that are counted", f"read these {LINES} lines {TO_READ}", None),
+    ("lines that are counted wrong", f"read these {LINES + 1} lines {TO_READ}", f"not {LINES + 1}"),
 ]
 
 
@@ -178,23 +152,23 @@ def clauses_failed():
     return failed
 
 
-def definitions_failed():
-    """How many rows on definitions aren't as they should be."""
+def links_failed():
+    """How many rows on links aren't as they should be."""
     failed = 0
-    for reason, defined, source, wanted in DEFINITIONS:
-        found = list(docs.undefined({"src/lib.rt": source}, SPECS, defined))
-        if [wanted] * (wanted is not None) != [it.split()[-3] for it in found]:
+    for reason, text, wanted in LINKS:
+        found = [*docs.broken_links("docs/PLAIN.md", text), *docs.wrong_counts("docs/PLAIN.md", text)]
+        if [wanted] * (wanted is not None) != [wanted for it in found if wanted and wanted in it] or len(found) > 1:
             print(f"docs.py, {reason}: said {found}")
             failed += 1
     return failed
 
 
 def modules_failed():
-    """How many rows on the tables of modules aren't as they should be."""
+    """How many rows on modules aren't as they should be."""
     failed = 0
-    for reason, table, lib, wanted in MODULES:
-        found = list(docs.other_modules({docs.PROOFS: table}, {"crates/a/proofs/Lib.antt": lib}))
-        if [wanted] * (wanted is not None) != [it.split()[-3].strip(",") for it in found]:
+    for reason, lib, wanted in MODULES:
+        found = list(docs.unexplained_modules("crates/a/proofs/Lib.antt", lib))
+        if [wanted] * (wanted is not None) != [it.split()[-2] for it in found]:
             print(f"docs.py, {reason}: said {found}")
             failed += 1
     return failed
@@ -210,8 +184,8 @@ def main():
         if not right:
             print(f"docs.py, {reason}: said {found}")
             failed += 1
-    failed += clauses_failed() + definitions_failed() + modules_failed()
-    cases = len(ROWS) + len(CLAUSES) + len(DEFINITIONS) + len(MODULES)
+    failed += clauses_failed() + links_failed() + modules_failed()
+    cases = len(ROWS) + len(CLAUSES) + len(LINKS) + len(MODULES)
     print(f"docs.py: {cases - failed} of {cases} cases as they should be")
     sys.exit(1 if failed else 0)
 

@@ -3,8 +3,8 @@
 
 It reads the sources, the specs, crates.txt and headline.json, and needs Debian's python3-jinja2 and
 python3-pygments. It fails if a name in a clause or in a definition leads nowhere, if a clause of a public function has
-no name, if a link has no target, if two targets of a page have the same name, or if the headline isn't README's or
-names a clause that is gone.
+no name, if a definition has no comment, if a link has no target, if two targets of a page have the same name, or if the
+headline isn't README's or names a clause that is gone.
 
 usage: make.py [FOLDER]    the folder of the pages, which is replaced: build/doc
 """
@@ -68,12 +68,16 @@ class Pages:
                 "named": named, "within": within}
 
     def definitions(self):
+        listed = {}
         for crate, modules in self.views.definitions.items():
             for module, shown in modules:
                 for it in shown:
                     self.name(it.name, it.kind, it.href, module.short)
+                those = [(it, self.facts_on(it)) for it in shown]
+                listed.setdefault(crate, []).append((module, those))
                 self.write(module_page(module.name), "definitions.html", title=module.short, crate=crate, module=module,
-                           shown=[(it, self.facts_on(it)) for it in shown], vectors=False)
+                           shown=those, vectors=False)
+        self.write("all_definitions.html", "all_definitions.html", title="All definitions", definitions=listed)
         for crate, found in self.views.vectors.items():
             if found:
                 module, shown = found
@@ -175,7 +179,7 @@ def make(folder, library):
     pages.sources()
     pages.front(phrases, pages.reading(roots))
     pages.rest()
-    lost += pages.views.links.lost
+    lost += pages.views.links.lost + pages.views.silent()
     links, broken = checks.links(pages.written)
     pages.save()
     return lost + broken, f"{sum(it.endswith('.html') for it in pages.written)} pages, {links} links"

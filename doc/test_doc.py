@@ -244,6 +244,11 @@ class Names(unittest.TestCase):
         found = self.lost({"crates/one/src/key.rt": SOURCE.replace("ensures value {", "ensures {")})
         self.assertEqual([it.split(": ")[1] for it in found], ["a clause of the public function len has no name"])
 
+    def test_definitions_without_a_comment(self):
+        with tempfile.TemporaryDirectory() as folder:
+            found = small_repository(folder).silent()
+        self.assertEqual([it.split()[-2] for it in found], ["low", "Outcome", "twice"])
+
     def test_what_is_public(self):
         with tempfile.TemporaryDirectory() as folder:
             names = {it["of"] for it in small_repository(folder).by_name.values()}

@@ -69,6 +69,11 @@ class Views:
                      self.links.definition(module, it), f"{module.path}:{it.line}",
                      standards=specs.standards(it.comment, module.comment), lines=it.text.count("\n") + 1, members=it.members)
 
+    def silent(self):
+        """The definitions that no comment is on; an operator needs none."""
+        return [f"{it.where}: no comment says what {it.name} is" for those in self.definitions.values() for _, shown in those
+                for it in shown if not it.words and it.name.isidentifier()]
+
     def of_vectors(self, crate):
         """The standards' vectors of a crate, and the texts that they compute."""
         module = self.library.modules.get(f"Rattle.{crate}.proofs.{STANDARD_FACTS}")

@@ -60,6 +60,7 @@ abbrev pub IsHashSaltRefused : Format → List ℕ → CliError → Type 0
 IsHashSaltRefused Phc salt error = IsHashError (HashIsRefused salt None None) error
 IsHashSaltRefused Mcf salt error = ⊥
 
+-- making this refuses the salt with this error; a key takes any salt
 abbrev pub IsSaltRefused : Target → List ℕ → CliError → Type 0
 IsSaltRefused (Key len) salt error = ⊥
 IsSaltRefused (Hash format len) salt error = IsHashSaltRefused format salt error
