@@ -13,6 +13,7 @@
 #![tactic(auto)]
 
 mod algorithm;
+mod buffers;
 mod comparing;
 mod derivation;
 pub mod errors;

@@ -6,6 +6,7 @@ mod in_buffers;
 pub(crate) mod reading;
 mod verifying;
 
+pub use hashing::hash_with_buffers;
 pub use in_buffers::verify_with_buffers;
 pub use password_hash::phc::{Ident, Output, PasswordHash, Salt};
 

@@ -1,12 +1,14 @@
 // The key that hashing stores, and the key that verifying compares with a stored one.
 
-ghost use Rattle.std.specs.Prelude.{◌≡◌, length, IfErr, IfOk, OnOk};
+ghost use Rattle.std.specs.Prelude.{◌≡◌, ◌+◌, length, IfErr, IfOk, OnOk};
 ghost use Rattle.password_hash.specs.declared.error.Error.TheVariants.{OutOfMemory};
 ghost use Rattle.scrypt.specs.Accepted.{IsOutputLen, IsStoredLen};
+ghost use Rattle.scrypt.specs.Cost.{chunks_bytes, cost, scratch_words};
+ghost use Rattle.scrypt.specs.InBuffers.{AreEnough, IsWiped};
 ghost use Rattle.scrypt.specs.Hashing.{key_len_or_default};
 ghost use Rattle.scrypt.specs.KeyOfParams.{key_by};
 
-use crate::{Params, scrypt};
+use crate::{BufferLens, CoreCount, Params, scrypt, scrypt_with_buffers};
 use password_hash::phc::Output;
 use password_hash::{Error, Result};
 use std::alloc::Global;
@@ -44,6 +46,46 @@ pub(crate) fn key_in_array(
         unreachable!();
     };
     Ok(key)
+}
+
+/// Derives a key of `len` bytes, 10 to 64, in the caller's buffers. Afterwards what was used of the
+/// chunks and the scratch is zeros. Does not allocate.
+pub(crate) fn key_in_buffers(
+    password: &[u8],
+    salt: &[u8],
+    params: &Params,
+    len: usize,
+    chunks: &mut [u8],
+    table: &mut [u32],
+    scratch: &mut [u32],
+    cores: &mut CoreCount,
+) -> Output
+    requires stored { IsStoredLen len }
+    requires enough { AreEnough params.now chunks.old table.old scratch.old }
+    ensures value { result ≡ key_by params.now password.now salt.now len }
+    ensures all { cores.new.all ≡ cores.old.all
+        + cost params.now.log_n params.now.r params.now.p }
+    ensures lanes { cores.new.lanes ≡ cores.old.lanes
+        + cost params.now.log_n params.now.r params.now.p }
+    ensures chunks { IsWiped (chunks_bytes params.now.r params.now.p) chunks.old chunks.new }
+    ensures scratch { IsWiped (scratch_words params.now.r) scratch.old scratch.new }
+{
+    let lens = BufferLens::of(params);
+    let chunks = &mut chunks[..lens.chunks];
+    let table = &mut table[..lens.table];
+    let scratch = &mut scratch[..lens.scratch];
+    let mut places = [0u8; Output::MAX_LENGTH];
+    let key = &mut places[..len];
+    let Ok(()) = scrypt_with_buffers(password, salt, params, chunks, table, scratch, key, cores)
+    else {
+        unreachable!();
+    };
+    chunks.fill(0);
+    scratch.fill(0);
+    let Ok(key) = Output::new(key) else {
+        unreachable!();
+    };
+    key
 }
 
 /// Derives a key of `len` bytes, and allocates it before the buffers of the derivation.

@@ -3,10 +3,10 @@
 ghost use Rattle.std.specs.Prelude.{◌≡◌, ◌↔◌, ℕ, ◌+◌, ◌*◌, ◌^◌, ◌≤◌, List, length, replicate, IsTrue};
 ghost use Rattle.scrypt.specs.Accepted.{IsOutputLen};
 ghost use Rattle.scrypt.specs.Cost.{chunks_bytes, cost, scratch_words, table_words};
-ghost use Rattle.scrypt.specs.InBuffers.{AreEnough};
 ghost use Rattle.scrypt.specs.KeyOfParams.{key_by};
 ghost use Rattle.scrypt.specs.WorkInBuffers.{IsComparing};
 
+use crate::buffers::are_enough;
 use crate::comparing::{StoredKey, is_derived_key};
 use crate::derivation::mix_chunks;
 use crate::{BufferLens, CoreCount, Params};
@@ -90,12 +90,4 @@ pub(crate) fn verify_in_buffers<K: StoredKey>(
     } else {
         Err(Error::PasswordInvalid)
     }
-}
-
-// Returns whether the buffers are long enough for these parameters.
-fn are_enough(params: &Params, chunks: &[u8], table: &[u32], scratch: &[u32]) -> bool
-    ensures exact { IsTrue result ↔ AreEnough params.now chunks.now table.now scratch.now }
-{
-    let lens = BufferLens::of(params);
-    lens.chunks <= chunks.len() && lens.table <= table.len() && lens.scratch <= scratch.len()
 }

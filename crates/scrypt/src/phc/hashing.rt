@@ -1,14 +1,19 @@
 // Making PHC hashes.
 
-ghost use Rattle.std.specs.Prelude.{◌≡◌, ◌↔◌, length, true, None, unwrap_or, IsTrue};
+ghost use Rattle.std.specs.Prelude.{◌≡◌, ◌↔◌, length, true, None, Some, unwrap_or, IsTrue};
 ghost use Rattle.std.specs.Option.{option_map};
-ghost use Rattle.scrypt.specs.PhcHash.{HashIsRefused, IsMadeHash, IsScryptOrNone};
+ghost use Rattle.scrypt.specs.PhcCosts.{written_pairs};
+ghost use Rattle.scrypt.specs.PhcHash.{HashIsRefused, IsMadeHash, IsScryptOrNone, scrypt_id};
+
+mod in_buffers;
+
+pub use in_buffers::hash_with_buffers;
 
 use crate::phc::ALG_ID;
 use crate::phc::costs::written;
 use crate::stored_key::{key_in_array, key_len_or_default};
 use crate::{Params, Scrypt};
-use password_hash::phc::{PasswordHash, Salt};
+use password_hash::phc::{Output, PasswordHash, Salt};
 use password_hash::{CustomizedPasswordHasher, Error, PasswordHasher, Result, Version};
 use std::alloc::Global;
 
@@ -67,15 +72,26 @@ impl CustomizedPasswordHasher<PasswordHash> for Scrypt {
             &params,
             key_len_or_default(&params),
         ) {
-            Ok(key) => Ok(PasswordHash {
-                algorithm: ALG_ID,
-                version: None,
-                params: written(&params),
-                salt: Some(salt),
-                hash: Some(key),
-            }),
+            Ok(key) => Ok(hash_of_key(&params, salt, key)),
             Err(refused) => Err(refused),
         }
+    }
+}
+
+// Returns the hash of scrypt with these costs, this salt and this key.
+fn hash_of_key(params: &Params, salt: Salt, key: Output) -> PasswordHash
+    ensures algorithm { result.algorithm ≡ scrypt_id }
+    ensures version { result.version ≡ None }
+    ensures params { result.params ≡ written_pairs params.now }
+    ensures salt { result.salt ≡ Some salt }
+    ensures key { result.hash ≡ Some key }
+{
+    PasswordHash {
+        algorithm: ALG_ID,
+        version: None,
+        params: written(params),
+        salt: Some(salt),
+        hash: Some(key),
     }
 }
 

@@ -25,9 +25,9 @@ returns-in-Ok-key_in_array-clause-ok c = (
   c.is_scrypt_or_none.ensures.0 (search rules),
   search rules,
   record {
-    algorithm = refl;
-    version = refl;
-    params = c.written.ensures;
+    algorithm = c.hash_of_key.ensures.algorithm;
+    version = c.hash_of_key.ensures.version;
+    params = c.hash_of_key.ensures.params;
     salt_len = search rules;
     salt_is = search rules;
     key_is = search rules;
