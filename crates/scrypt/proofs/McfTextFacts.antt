@@ -5,21 +5,23 @@ use Rattle.std.specs.Str.{IsAscii}
 use Rattle.std.proofs.lemmas.List.{append-nil, drop_all, drop_at, take_at, drop-drop}
 use Rattle.std.proofs.lemmas.List.Elements.{All-nil, All-cons, All-append, All-from_get_or, All-head, All-tail, All-weaker}
 use borrow.Rule.Slice.PartMut.{put_mid}
-use Rattle.password_hash.specs.Crypt64.{letter, letters_of, crypt64_of}
+use Rattle.password_hash.specs.Crypt64.{letter, letters_of, crypt64_of, encoded_len}
 use Rattle.password_hash.specs.Mcf.{IsField}
 use Rattle.password_hash.specs.Parts.{dollar}
 use Rattle.password_hash.proofs.AlphabetFacts.{letter-ascii, letter_value-letter}
 use Rattle.password_hash.proofs.Crypt64Facts.{IsPlain, crypt64_of-plain, length-letters_of, letters_of-plain}
+use Rattle.password_hash.proofs.GroupFacts.{length-crypt64_of}
 use Rattle.password_hash.proofs.McfFacts.{IsField-crypt64_of}
 use Rattle.scrypt.specs.Accepted.{AreAccepted, IsOutputLen, IsStoredLen, Parameters}
 use Rattle.scrypt.specs.KeyOfParams.{key_by}
 use Rattle.scrypt.proofs.KeyFacts.{key_by-are_bytes, length-key_by}
 use Rattle.scrypt.specs.Accepted.{without_len}
 use Rattle.scrypt.specs.McfCosts.{five_letter_number, costs_letters, costs_text, EncodesCosts, ReadsField, accepted}
-use Rattle.scrypt.specs.McfHash.{IsWhole, IsMadeHash}
+use Rattle.scrypt.specs.McfHash.{IsWhole, IsMadeHash, made_text_len}
 use Rattle.scrypt.specs.Hashing.{key_len_or_default}
 use Rattle.scrypt.proofs.AcceptedFacts.{key_len_or_default_stored, small_costs, small_log_n}
 use Rattle.scrypt.proofs.McfCostsFacts.{five_letter_number-letters_of, to_the_end}
+use Rattle.scrypt.proofs.McfHashFacts.{text_of}
 
 -- what is left by a write from one place to the end
 pub put_to_the_end : (place : ℕ) (text new : List ℕ) → place ≤ length text → put_mid place (length text - place) text new ≡ take place text ++ new
@@ -125,16 +127,21 @@ text_is c salt key good no_dollar are_bytes allowed =
     }
 
 -- the text that hashing makes
-pub made_text : (c : Parameters) (password salt : List ℕ) → AreAccepted c.log_n c.r c.p → IfSome c.output_len IsStoredLen
+pub stored_text : (c : Parameters) (password salt : List ℕ) → AreAccepted c.log_n c.r c.p → IsStoredLen (key_len_or_default c)
     → IsMadeHash c password salt (costs_text c ++ (crypt64_of salt
     ++ dollar ∷ crypt64_of (key_by c password (crypt64_of salt) (key_len_or_default c))))
-made_text c password salt good fits =
+stored_text c password salt good stored =
     let letters = crypt64_of salt in
     let key = key_by c password letters (key_len_or_default c) in
     let long = length-key_by c password letters (key_len_or_default c) in
     text_is c letters key good (IsField-crypt64_of salt)
     (All-from_get_or (λ byte. byte < 256) key 0 (λ i below. key_by-are_bytes c password letters (key_len_or_default c) i))
-    (let stored = key_len_or_default_stored c fits in (omega (arith, long, stored.0), omega (arith, long, stored.1)))
+    (omega (arith, long, stored.0), omega (arith, long, stored.1))
+
+pub made_text : (c : Parameters) (password salt : List ℕ) → AreAccepted c.log_n c.r c.p → IfSome c.output_len IsStoredLen
+    → IsMadeHash c password salt (costs_text c ++ (crypt64_of salt
+    ++ dollar ∷ crypt64_of (key_by c password (crypt64_of salt) (key_len_or_default c))))
+made_text c password salt good fits = stored_text c password salt good (key_len_or_default_stored c fits)
 
 -- every byte of it is ASCII
 pub text_ascii : (c : Parameters) (salt key : List ℕ) → AreAccepted c.log_n c.r c.p
@@ -160,3 +167,39 @@ between_cuts front salt rest at count is =
 pub before_cut : (front salt rest : List ℕ) (at : ℕ) → length front ≡ 14 → at ≡ 14 + length salt → take at (front ++ (salt ++ rest)) ≡ front ++ salt
 before_cut front salt rest at count is =
     ap (take at) (sym (append_assoc front salt rest)) ∙ take_at (front ++ salt) rest at (omega (arith, length-append front salt))
+
+-- the text whose key is written at its end, after the costs and the salt
+
+pub salt_letters : (c : Parameters) (salt rest text : List ℕ) (at : ℕ) → text ≡ costs_text c ++ (salt ++ rest) → at ≡ 14 + length salt
+    → take (at - 14) (drop 14 text) ≡ salt
+salt_letters c salt rest text at written is =
+    ap (λ t. take (at - 14) (drop 14 t)) written ∙ between_cuts (costs_text c) salt rest at (count_text c) is
+
+pub key_put : (c : Parameters) (salt rest text key : List ℕ) (at : ℕ) → text ≡ costs_text c ++ (salt ++ rest) → at ≡ 14 + length salt
+    → at ≤ length text → put_mid at (length text - at) text key ≡ costs_text c ++ (salt ++ key)
+key_put c salt rest text key at written is inside =
+    put_to_the_end at text key inside
+    ∙ ap (λ front. front ++ key) (ap (take at) written ∙ before_cut (costs_text c) salt rest at (count_text c) is)
+    ∙ append_assoc (costs_text c) salt key
+
+-- and its length
+pub length-made_text : (c : Parameters) (password salt : List ℕ)
+    → length (costs_text c ++ (crypt64_of salt ++ dollar ∷ crypt64_of (key_by c password (crypt64_of salt) (key_len_or_default c))))
+    ≡ made_text_len c (length salt)
+length-made_text c password salt =
+    let letters = crypt64_of salt in
+    let key = key_by c password letters (key_len_or_default c) in
+    omega (
+      arith,
+      count_text c,
+      length-append (costs_text c) (letters ++ dollar ∷ crypt64_of key),
+      length-append letters (dollar ∷ crypt64_of key),
+      length-crypt64_of salt,
+      length-crypt64_of key ∙ ap encoded_len (length-key_by c password letters (key_len_or_default c)),
+    )
+
+-- made texts with these parameters, this salt and any password are alike in length
+pub made_length : (c : Parameters) (password salt text : List ℕ) → AreAccepted c.log_n c.r c.p → IsStoredLen (key_len_or_default c)
+    → IsMadeHash c password salt text → length text ≡ made_text_len c (length salt)
+made_length c password salt text good stored made =
+    ap length (text_of made ∙ sym (text_of (stored_text c password salt good stored))) ∙ length-made_text c password salt

@@ -1,4 +1,4 @@
--- Verifying in the caller's buffers, in every format. A format defines which hashes are whole, with
+-- Hashing and verifying in the caller's buffers, in every format. A format defines which hashes are whole, with
 -- their costs, their salt and their key, and the error of every other hash.
 use Rattle.std.specs.Prelude.{◌≡◌, ℕ, ◌≤◌, List, ◌++◌, drop, length, replicate, Option, None, Some, Result, Ok, Err, ⊤}
 use Rattle.password_hash.specs.Refusal.{Refusal, refusal}
@@ -25,6 +25,11 @@ AreTooShort IsWhole chunks table scratch =
 -- the first n elements are zeros now, and the others are as they were
 abbrev pub IsWiped : ℕ → List ℕ → List ℕ → Type 0
 IsWiped n old new = new ≡ replicate n 0 ++ drop n old
+
+-- such a text is at the front of the caller's buffer, the rest of which is unchanged, and this is its
+-- length
+abbrev pub IsCopiedTo : (List ℕ → Type 0) → List ℕ → List ℕ → ℕ → Type 0
+IsCopiedTo IsMade old new len = (text : List ℕ) × IsMade text × (len ≡ length text) × (new ≡ text ++ drop len old)
 
 -- the verdict that a result of verifying returns
 abbrev pub verdict_of : Result ⊤ Error → Option Refusal

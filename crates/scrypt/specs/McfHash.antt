@@ -1,6 +1,6 @@
 -- `$7$` hashes: how their texts are read, which are made, and which passwords they accept.
-use Rattle.std.specs.Prelude.{◌≢◌, ℕ, List, [], ◌∷◌, length, codes, Option, Ok, Err, ⊤}
-use Rattle.password_hash.specs.Crypt64.{Crypt64, IsCrypt64, crypt64_of}
+use Rattle.std.specs.Prelude.{◌≢◌, ℕ, ◌+◌, List, [], ◌∷◌, length, codes, Option, Ok, Err, ⊤}
+use Rattle.password_hash.specs.Crypt64.{Crypt64, IsCrypt64, crypt64_of, encoded_len}
 use Rattle.password_hash.specs.Mcf.{IsMcfText}
 use Rattle.password_hash.specs.Refusal.{Refusal, Algorithm, EncodingInvalid, OutputSize}
 use Rattle.scrypt.specs.Accepted.{IsOutputLen, Parameters}
@@ -51,6 +51,11 @@ pub data ReadIsRefused (text : List ℕ) : Refusal → Type 0 where
 abbrev pub IsMadeHash : Parameters → List ℕ → List ℕ → List ℕ → Type 0
 IsMadeHash c password salt text =
     IsWhole text (without_len c) (crypt64_of salt) (key_by c password (crypt64_of salt) (key_len_or_default c))
+
+-- the length of that text, for a salt of n bytes: the costs, the letters of the salt, `$` and those
+-- of the key
+abbrev pub made_text_len : Parameters → ℕ → ℕ
+made_text_len c n = 14 + encoded_len n + (1 + encoded_len (key_len_or_default c))
 
 -- the caller named no algorithm but `7`
 abbrev pub IsMcfOrNone : Option (List ℕ) → Type 0

@@ -126,6 +126,13 @@ impl Params {
         }
     }
 
+    /// Every value has accepted parameters. Does nothing.
+    pub(crate) fn known(&self)
+        ensures { AreAccepted self.now.log_n self.now.r self.now.p }
+    {
+        let _ = &self.log_n;
+    }
+
     /// Returns the length of a stored key, 10 to 64 bytes, if one was given.
     pub(crate) fn output_len(&self) -> Option<usize>
         ensures value { result ≡ self.now.output_len }

@@ -1,6 +1,6 @@
 // Making `$7$` hashes.
 
-ghost use Rattle.std.specs.Prelude.{◌≡◌, ◌↔◌, ◌+◌, ◌<◌, ◌≤◌, ◌∷◌, ◌++◌, None, All, length, drop, IsTrue, IfOk, IfErr, OnOk};
+ghost use Rattle.std.specs.Prelude.{◌≡◌, ◌↔◌, ◌+◌, ◌<◌, ◌≤◌, ◌∷◌, ◌++◌, ℕ, List, None, All, length, drop, IsTrue, IfOk, IfErr, OnOk};
 ghost use Rattle.std.specs.Option.{option_map};
 ghost use Rattle.std.specs.Str.{IsAscii};
 ghost use Rattle.password_hash.specs.Crypt64.{crypt64_of, encoded_len};
@@ -10,12 +10,15 @@ ghost use Rattle.password_hash.specs.declared.error.Error.TheVariants.{OutOfMemo
 ghost use Rattle.scrypt.specs.Accepted.{AreAccepted};
 ghost use Rattle.scrypt.specs.McfCosts.{costs_text};
 ghost use Rattle.scrypt.specs.Hashing.{key_len_or_default};
-ghost use Rattle.scrypt.specs.McfHash.{HashIsRefused, IsMadeHash, IsMcfOrNone};
+ghost use Rattle.scrypt.specs.McfHash.{HashIsRefused, IsMadeHash, IsMcfOrNone, made_text_len};
+
+mod in_buffers;
 
 use crate::mcf::five_letters::five_letters;
 use crate::mcf::reading::is_mcf;
 use crate::stored_key::{key_in_array, key_len_or_default};
 use crate::{Params, Scrypt};
+pub use in_buffers::hash_with_buffers;
 use password_hash::mcf::alphabet::letter;
 use password_hash::mcf::{Base64, PasswordHash};
 use password_hash::{CustomizedPasswordHasher, Error, PasswordHasher, Result, Version};
@@ -90,32 +93,46 @@ fn hash_of(alloc: Global, password: &[u8], salt: &[u8], params: &Params) -> Resu
     ensures value { IfOk result (IsMadeHash params.now password.now salt.now) }
     ensures memory { IfErr result (λ e. e ≡ OutOfMemory) }
 {
-    let key_at = COSTS_LEN + Base64::Crypt.encoded_len(salt.len());
     // The whole text is allocated before the buffers of the derivation.
-    let len = key_at + 1 + Base64::Crypt.encoded_len(key_len_or_default(params));
-    let mut text = vec![in alloc; 0u8; len]?;
-    match write_text(alloc, password, salt, params, key_at, &mut text) {
+    let mut text = vec![in alloc; 0u8; hash_len(params, salt)]?;
+    match write_text(alloc, password, salt, params, &mut text) {
         Ok(()) => Ok(hash_of_text(text)),
         Err(refused) => Err(refused),
     }
 }
 
-// Writes the text of the hash, in which `$` and the key begin at `key_at`. After the derivation
-// nothing can fail.
+/// Returns the length in bytes of the text that hashing with these parameters and this salt makes.
+pub fn hash_len(params: &Params, salt: &[u8]) -> usize
+    ensures value { result ≡ made_text_len params.now (length salt.now) }
+    ensures made { (password : List ℕ) → (text : List ℕ) × IsMadeHash params.now password salt.now text × (length text ≡ result) }
+    ensures each { (password text : List ℕ) → IsMadeHash params.now password salt.now text → length text ≡ result }
+{
+    params.known();
+    key_at(salt) + 1 + Base64::Crypt.encoded_len(key_len_or_default(params))
+}
+
+// Returns where `$` and the key begin in the text.
+fn key_at(salt: &[u8]) -> usize
+    ensures value { result ≡ 14 + length (crypt64_of salt.now) }
+    ensures len { result ≡ 14 + encoded_len (length salt.now) }
+{
+    COSTS_LEN + Base64::Crypt.encoded_len(salt.len())
+}
+
+// Writes the text of the hash. After the derivation nothing can fail.
 fn write_text(
     alloc: Global,
     password: &[u8],
     salt: &[u8],
     params: &Params,
-    key_at: usize,
     text: &mut [u8],
 ) -> Result<()>
-    requires key_at { key_at ≡ 14 + length (crypt64_of salt.now) }
-    requires room { length text.old ≡ key_at + 1 + encoded_len (key_len_or_default params.now) }
+    requires room { length text.old ≡ made_text_len params.now (length salt.now) }
     ensures made { OnOk result (IsMadeHash params.now password.now salt.now text.new) }
     ensures ascii { OnOk result (IsAscii text.new) }
     ensures memory { IfErr result (λ e. e ≡ OutOfMemory) }
 {
+    let key_at = key_at(salt);
     write_costs_and_salt(text, params, salt);
     let len = key_len_or_default(params);
     let key = match key_in_array(alloc, password, &text[COSTS_LEN..key_at], params, len) {

@@ -7,12 +7,11 @@ ghost use Rattle.scrypt.specs.PhcHash.{HashIsRefused, IsMadeHash, IsScryptOrNone
 
 mod in_buffers;
 
-pub use in_buffers::hash_with_buffers;
-
 use crate::phc::ALG_ID;
 use crate::phc::costs::written;
 use crate::stored_key::{key_in_array, key_len_or_default};
 use crate::{Params, Scrypt};
+pub use in_buffers::hash_with_buffers;
 use password_hash::phc::{Output, PasswordHash, Salt};
 use password_hash::{CustomizedPasswordHasher, Error, PasswordHasher, Result, Version};
 use std::alloc::Global;

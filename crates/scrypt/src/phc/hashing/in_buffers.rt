@@ -57,6 +57,8 @@ pub fn hash_with_buffers(
     }
     let len = key_len_or_default(params);
     let letters = salt.as_bytes();
-    let key = key_in_buffers(password, letters, params, len, chunks, table, scratch, cores);
+    let key = key_in_buffers(
+        password, letters, params, len, chunks, table, scratch, cores,
+    );
     Ok(hash_of_key(params, salt, key))
 }
