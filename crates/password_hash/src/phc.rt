@@ -8,6 +8,7 @@ mod params;
 mod parts;
 mod salt;
 mod short_bytes;
+mod text;
 mod value;
 
 pub use hash::PasswordHash;
