@@ -90,7 +90,7 @@ ROWS = [
         ("hash_password_customized", PHC),
         [
             ("key_in_array", "scrypt/src/stored_key.rt", "the key: derive calls scrypt"),
-            ("written", "scrypt/src/phc/costs.rt", "the parameters, as pairs"),
+            ("hash_of_key", PHC, "with the parameters as pairs"),
         ],
     ),
     (

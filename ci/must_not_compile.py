@@ -21,7 +21,7 @@ NEW_COUNTS = {
     "crates/promises/src/headline/tests.rt": 2,
     "crates/promises/src/lengths.rt": 1,
     "crates/scrypt/src/derivation.rt": 1,
-    "crates/scrypt_c/src/in_buffers.rt": 1,
+    "crates/scrypt_c/src/in_buffers.rt": 3,
     "crates/scrypt_c/src/keys.rt": 1,
 }
 

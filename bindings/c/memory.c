@@ -136,22 +136,22 @@ int scrypt_hash_phc_in(scrypt_memory *memory, const uint8_t *password, size_t pa
                        size_t salt_len, uint8_t log_n, uint32_t r, uint32_t p, size_t key_len, char *text,
                        size_t capacity, size_t *text_len) {
   struct buffers of;
-  int status = measure(memory, log_n, r, p, &of);
+  int status = take(memory, log_n, r, p, &of);
   if (status != SCRYPT_OK) return status;
-  unmap(memory); /* what the call allocates and what is kept are together within the bound */
-  return scrypt_hash_phc(scrypt_bytes(password), password_len, scrypt_bytes(salt), salt_len, log_n, r, p, key_len,
-                         text, capacity, text_len);
+  return scrypt_hash_phc_with_buffers(scrypt_bytes(password), password_len, scrypt_bytes(salt), salt_len, log_n, r, p,
+                                      key_len, text, capacity, text_len, of.chunks, of.chunks_len, of.table,
+                                      of.table_len, of.scratch, of.scratch_len);
 }
 
 int scrypt_hash_mcf_in(scrypt_memory *memory, const uint8_t *password, size_t password_len, const uint8_t *salt,
                        size_t salt_len, uint8_t log_n, uint32_t r, uint32_t p, size_t key_len, char *text,
                        size_t capacity, size_t *text_len) {
   struct buffers of;
-  int status = measure(memory, log_n, r, p, &of);
+  int status = take(memory, log_n, r, p, &of);
   if (status != SCRYPT_OK) return status;
-  unmap(memory); /* what the call allocates and what is kept are together within the bound */
-  return scrypt_hash_mcf(scrypt_bytes(password), password_len, scrypt_bytes(salt), salt_len, log_n, r, p, key_len,
-                         text, capacity, text_len);
+  return scrypt_hash_mcf_with_buffers(scrypt_bytes(password), password_len, scrypt_bytes(salt), salt_len, log_n, r, p,
+                                      key_len, text, capacity, text_len, of.chunks, of.chunks_len, of.table,
+                                      of.table_len, of.scratch, of.scratch_len);
 }
 
 int scrypt_verify_in(scrypt_memory *memory, const uint8_t *password, size_t password_len, const char *text,

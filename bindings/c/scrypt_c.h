@@ -120,6 +120,25 @@ int scrypt_hash_mcf(const uint8_t *password, size_t password_len, const uint8_t 
                     size_t salt_len, uint8_t log_n, uint32_t r, uint32_t p, size_t key_len,
                     char *text, size_t capacity, size_t *text_len);
 
+/* scrypt_hash_phc in the caller's buffers, each of which is at least as long as scrypt_buffer_lens says with s = 0. What
+ * they hold before does not matter; afterwards chunks and scratch are zeros if a key was derived, and otherwise all are
+ * unchanged. Nothing is allocated. SCRYPT_INVALID_PARAMS (also for key_len), SCRYPT_SALT_INVALID, then SCRYPT_BUFFER_SIZE
+ * if a buffer is too short, which leaves *text_len, or if the new text does not fit its capacity, with *text_len as
+ * above; that is found after the derivation. */
+int scrypt_hash_phc_with_buffers(const uint8_t *password, size_t password_len, const uint8_t *salt,
+                                 size_t salt_len, uint8_t log_n, uint32_t r, uint32_t p, size_t key_len,
+                                 char *text, size_t capacity, size_t *text_len, uint8_t *chunks,
+                                 size_t chunks_len, uint32_t *table, size_t table_len, uint32_t *scratch,
+                                 size_t scratch_len);
+
+/* The same for the $7$ text, with a salt of any length. That the new text does not fit is found before the derivation.
+ * SCRYPT_INVALID_PARAMS, SCRYPT_BUFFER_SIZE. */
+int scrypt_hash_mcf_with_buffers(const uint8_t *password, size_t password_len, const uint8_t *salt,
+                                 size_t salt_len, uint8_t log_n, uint32_t r, uint32_t p, size_t key_len,
+                                 char *text, size_t capacity, size_t *text_len, uint8_t *chunks,
+                                 size_t chunks_len, uint32_t *table, size_t table_len, uint32_t *scratch,
+                                 size_t scratch_len);
+
 /* SCRYPT_OK if the password is that of the hash, and SCRYPT_MISMATCH if it is not or the hash has no salt or no key.
  * A text that is $7 or begins with $7$ is read as a $7$ text, and any other as a PHC text.
  * The parameters are those of the hash, which may ask for much memory and time: bound them by scrypt_hash_params, or
@@ -149,8 +168,7 @@ int scrypt_hash_params(const char *text, size_t text_len, uint8_t *log_n, uint32
 
 /* Memory for any number of calls, one after another; one thread at a time uses it. Nothing is mapped before it is
  * needed; it grows up to most_bytes, in huge pages if the system has some, and is kept, which makes the next call
- * faster. Only new hashes are made in memory that is allocated for the call, for which what is kept is unmapped first.
- * A call whose parameters need more than most_bytes for their three buffers, or more than most_cores cores,
+ * faster. A call whose parameters need more than most_bytes for their three buffers, or more than most_cores cores,
  * 4 * 2^log_n * r * p, returns SCRYPT_TOO_COSTLY at once; SCRYPT_OUT_OF_MEMORY if the system refuses memory. */
 typedef struct scrypt_memory scrypt_memory;
 

@@ -160,6 +160,44 @@ static void verify_in_buffers(const char *text) {
   free(table);
 }
 
+/* scrypt_hash_phc_with_buffers or scrypt_hash_mcf_with_buffers: the same text as without buffers, zeros in chunks and
+ * scratch after it, and refusals that leave what they should. */
+static void hash_in_buffers(int is_mcf, const char *made) {
+  static uint8_t chunks[2048];
+  static uint32_t table[5000], scratch[600];
+  int (*hash)(const uint8_t *, size_t, const uint8_t *, size_t, uint8_t, uint32_t, uint32_t, size_t, char *, size_t,
+              size_t *, uint8_t *, size_t, uint32_t *, size_t, uint32_t *, size_t) =
+      is_mcf ? scrypt_hash_mcf_with_buffers : scrypt_hash_phc_with_buffers;
+  char text[SCRYPT_PHC_CAPACITY];
+  size_t chunks_len, table_len, scratch_len, i, nonzero = 0, len = 77, n = strlen(made);
+  check(scrypt_buffer_lens(4, 8, 1, 0, &chunks_len, &table_len, &scratch_len) == SCRYPT_OK, "lens");
+  memset(text, '!', sizeof text);
+  memset(chunks, 7, sizeof chunks);
+  memset(scratch, 7, sizeof scratch);
+  check(hash(b("pw"), 2, b("saltsalt"), 8, 4, 8, 1, 9, text, n, &len, chunks, 2048, table, 5000, scratch, 600) ==
+            SCRYPT_INVALID_PARAMS, "a key of 9 bytes");
+  check(hash(b("pw"), 2, b("saltsalt"), 8, 4, 8, 1, 32, text, n, &len, chunks, chunks_len - 1, table, table_len, scratch,
+             scratch_len) == SCRYPT_BUFFER_SIZE, "short chunks");
+  check(hash(b("pw"), 2, b("saltsalt"), 8, 4, 8, 1, 32, text, n, &len, chunks, chunks_len, table, table_len - 1, scratch,
+             scratch_len) == SCRYPT_BUFFER_SIZE, "a short table");
+  check(hash(b("pw"), 2, b("saltsalt"), 8, 4, 8, 1, 32, text, n, &len, chunks, chunks_len, table, table_len, scratch,
+             scratch_len - 1) == SCRYPT_BUFFER_SIZE, "a short scratch");
+  check(len == 77 && text[0] == '!' && chunks[0] == 7 && scratch[0] == 0x07070707, "a refusal leaves everything");
+  check(hash(b("pw"), 2, b("saltsalt"), 8, 4, 8, 1, 32, text, n - 1, &len, chunks, chunks_len, table, table_len, scratch,
+             scratch_len) == SCRYPT_BUFFER_SIZE && len == n && text[0] == '!', "a text that does not fit");
+  memset(chunks, 7, sizeof chunks);
+  memset(scratch, 7, sizeof scratch);
+  check(hash(b("pw"), 2, b("saltsalt"), 8, 4, 8, 1, 32, text, n, &len, chunks, chunks_len + 1, table, table_len, scratch,
+             scratch_len + 1) == SCRYPT_OK, "a hash in buffers");
+  check(len == n && memcmp(text, made, n) == 0 && text[n] == '!', "the same text, and nothing after it");
+  for (i = 0; i < chunks_len; i++) nonzero += chunks[i] != 0;
+  for (i = 0; i < scratch_len; i++) nonzero += scratch[i] != 0;
+  check(nonzero == 0, "zeros in chunks and scratch");
+  check(chunks[chunks_len] == 7 && scratch[scratch_len] == 0x07070707, "and nothing written after them");
+  check(hash(b("pw"), 2, b(""), 0, 4, 8, 1, 32, text, sizeof text, &len, chunks, 2048, table, 5000, scratch, 600) ==
+            (is_mcf ? SCRYPT_OK : SCRYPT_SALT_INVALID), "an empty salt");
+}
+
 static void hash_params(const char *text) {
   uint8_t log_n = 99;
   uint32_t r = 99, p = 99;
@@ -182,6 +220,8 @@ static void hashes(void) {
   made_text(phc, 0);
   made_text(mcf, 1);
   check(verify("pw", phc) == SCRYPT_OK && verify("pw", mcf) == SCRYPT_OK, "the password");
+  hash_in_buffers(0, phc);
+  hash_in_buffers(1, mcf);
   verify_in_buffers(phc);
   verify_in_buffers(mcf);
   hash_params(phc);

@@ -1,8 +1,9 @@
 -- The texts of new hashes, and how they are copied to the caller.
-use Rattle.std.specs.Prelude.{◌≡◌, ℕ, ◌<◌, ◌++◌, List, drop, length, Some}
+use Rattle.std.specs.Prelude.{◌≡◌, ℕ, ◌<◌, List, length, Some}
 use Rattle.password_hash.specs.Phc.{hash_text}
 use Rattle.password_hash.specs.declared.phc.hash.PasswordHash.{PasswordHash}
 use Rattle.scrypt.specs.Accepted.{Parameters}
+pub use Rattle.scrypt.specs.InBuffers.{IsCopiedTo}
 use Rattle.scrypt.specs.McfHash.{IsMadeHash as IsMadeMcf}
 use Rattle.scrypt.specs.PhcHash.{IsMadeHash}
 
@@ -17,11 +18,6 @@ IsMadePhcText c password salt text = (hash : PasswordHash) × IsMadeHash c passw
 -- the `$7$` text of that hash
 abbrev pub IsMadeMcfText : Parameters → List ℕ → List ℕ → List ℕ → Type 0
 IsMadeMcfText = IsMadeMcf
-
--- such a text is at the front of the caller's buffer, the rest of which is unchanged, and this is its
--- length
-abbrev pub IsCopiedTo : (List ℕ → Type 0) → List ℕ → List ℕ → ℕ → Type 0
-IsCopiedTo IsMade old new len = (text : List ℕ) × IsMade text × (len ≡ length text) × (new ≡ text ++ drop len old)
 
 -- such a text is longer than the caller's buffer, and this is its length
 abbrev pub IsTooLong : (List ℕ → Type 0) → List ℕ → ℕ → Type 0
