@@ -105,7 +105,7 @@ oracle: lib
 lib: kit
 	bindings/lib.sh
 
-# Where `make install` puts what is built, by the names that other projects use; PREFIX stands for prefix.
+# Where `make install` puts what is built, by the names that other projects use; PREFIX is another name for prefix.
 prefix = $(or $(PREFIX),/usr/local)
 exec_prefix = $(prefix)
 bindir = $(exec_prefix)/bin

@@ -11,7 +11,7 @@ import sys
 
 ROOT = os.path.dirname(os.path.dirname(os.path.abspath(__file__)))
 
-# Files, and what stands around the version in them.
+# Files, and the text around the version in them.
 PLACES = [
     ("bindings/c/scrypt_c.h", r'(#define SCRYPT_VERSION_STRING ")([^"]*)(")'),
     ("bindings/python/pyproject.toml", r'(^version = ")([^"]*)(")'),

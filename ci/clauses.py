@@ -82,7 +82,7 @@ def paths(text):
 
 
 def named(group, items):
-    """The functions that a group names, each with the items that it stands for."""
+    """The functions that a group names, each with the items that it means."""
     subject, _, context = re.match(r"(.*?)(?:(?<!kept) (of|for) (.*))?$", group.replace("\n", " ")).groups()
     around = {word for path in paths(context or "") for word in path}
     for path in paths(subject):

@@ -1,5 +1,5 @@
 #!/usr/bin/env python3
-"""Draws docs/data_path.svg: the way that data takes from a password to a key or a verdict.
+"""Draws docs/data_path.svg: the data flow from a password to a key or a verdict.
 
 Each box names a function of the sources, and what it does there. The boxes of a row are either called
 one after another by the function that the row's title begins with, or each calls the next. The script
@@ -106,7 +106,7 @@ ROWS = [
 
 
 def style():
-    """Colours for light pages, and others where the reader prefers dark ones."""
+    """Colours for light pages, and others if the reader prefers dark ones."""
     rules = ".page {{ fill: {} }} .box {{ fill: {}; stroke: {} }} .way {{ stroke: {} }} .head {{ fill: {} }} text {{ fill: {} }}"
     light = rules.format("#ffffff", "#f6f8fa", "#8c959f", "#57606a", "#57606a", "#1f2328")
     dark = rules.format("#0d1117", "#161b22", "#6e7681", "#9198a1", "#9198a1", "#e6edf3")
@@ -139,7 +139,7 @@ def picture():
     height = len(ROWS) * pitch + 12
     lines = [
         f'<svg xmlns="http://www.w3.org/2000/svg" viewBox="0 0 {WIDTH} {height}" role="img">',
-        "<title>The way of data from a password to a key, a hash or a verdict</title>",
+        "<title>Data flow from a password to a key, a hash or a verdict</title>",
         style(),
         f'<rect class="page" width="{WIDTH}" height="{height}"/>',
     ]

@@ -58,7 +58,7 @@ def expanded(name):
 
 
 def words_of(name):
-    """The words of a name, or none where it isn't one."""
+    """The words of a name, or none if it isn't one."""
     bare = re.sub(r"\(\)$|<[^<>]*>", "", name)
     if re.fullmatch(r"[A-Za-z_][\w']*(::(\{[\w, :]*\}|[\w']+))+", bare):
         return [word for path in expanded(bare) for word in path.split("::")]

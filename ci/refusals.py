@@ -3,7 +3,7 @@
 
 Each edit of must-fail/ and wrong-bodies/ is applied to a copy of the repository, and its crate is
 checked. A search that gave up, and a proof file that names something which is gone, show nothing of the
-body. An edit is listed where no other reason is printed, or where it isn't refused at all.
+body. An edit is listed if no other reason is printed, or if it isn't refused at all.
 
 usage: refusals.py [NAME..]    the crates, or all that have edits; some 20 seconds for each edit
 """

@@ -18,7 +18,7 @@ import edits
 
 
 def failed_tests(crate):
-    """The tests that fail, or None where they can't be run, as what they use isn't proved."""
+    """The tests that fail, or None if they can't be run, as what they use isn't proved."""
     ran = subprocess.run(["rt", "test"], cwd=crate, capture_output=True, text=True)
     if not re.search(r"^test result: ", ran.stdout, re.M):
         print((ran.stdout + ran.stderr)[-2000:])

@@ -58,7 +58,7 @@ def run(program, shim, words, password, **settings):
 
 
 def refused(program, shim, words, password, wanted):
-    """How many allocations a run makes whose refusal ends it, or None where one ends otherwise.
+    """How many allocations a run makes whose refusal ends it, or None if one ends otherwise.
 
     Collecting the arguments asks for room that it can do without, as std has it: one refusal, between
     those of the arguments and those of the run, changes nothing.

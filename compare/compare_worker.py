@@ -4,7 +4,7 @@
 usage: compare_worker.py PROGRAM WORKER [SEED [CASES]]
 
 WORKER speaks the protocol that bench/bench.py describes. Passwords, salts and outputs have random
-lengths, zero among them, and log_n is 0 to 10, r 1 to 16, p 1 to 4 (1 where N * r is above 2048).
+lengths, zero among them, and log_n is 0 to 10, r 1 to 16, p 1 to 4 (1 if N * r is above 2048).
 Some costs and lengths are such that no key has them: then both have to refuse. The seed is printed,
 10,000 cases are tried if not said otherwise, and the last line is 'N equal, M different'.
 """
@@ -41,7 +41,7 @@ def some_length(rng):
 
 
 def of_program(program, password, salt, costs, length):
-    """The key by the program, or None where it refuses."""
+    """The key by the program, or None if it refuses."""
     words = [program, "key", *map(str, costs), str(length), salt.hex()]
     ran = subprocess.run(words, input=password, capture_output=True)
     if ran.returncode == REFUSED:
@@ -50,7 +50,7 @@ def of_program(program, password, salt, costs, length):
 
 
 def of_worker(worker, *case):
-    """The key by the other program, or None where it refuses."""
+    """The key by the other program, or None if it refuses."""
     try:
         return worker.derive(*case)[1]
     except Refused:

@@ -40,7 +40,7 @@ def run(program, words, password):
 
 
 def expected_key(password, salt, log_n, r, p, length):
-    """The key by OpenSSL, or by the reference where OpenSSL refuses the costs."""
+    """The key by OpenSSL, or by the reference if OpenSSL refuses the parameters."""
     if 1 <= log_n < 16 * r:
         return hashlib.scrypt(
             password, salt=salt, n=1 << log_n, r=r, p=p, dklen=length, maxmem=1 << 30
@@ -91,7 +91,7 @@ def keys(program, rng):
         words = ["key", str(log_n), str(r), str(p), str(length), salt.hex()]
         wanted = (0, expected_key(password, salt, log_n, r, p, length).hex().encode() + b"\n", b"")
         agree.append(matches(run(program, words, password), wanted, (words, password.hex())))
-    return tally("keys of hashlib.scrypt, or of plain Python where it refuses", agree)
+    return tally("keys of hashlib.scrypt, or of plain Python if it refuses", agree)
 
 
 def phc_text(salt, key, log_n, r, p):
@@ -227,8 +227,8 @@ def rehashes_passlib(program, rng):
     """passlib finds the same hashes weaker, and makes the same new ones.
 
     The two agree on log_n, and on keys of 32 bytes, the only ones that passlib has. An r or p that isn't the wanted
-    one is enough for passlib, and here it has to be below. So where none of the three is below, and r or p is above,
-    passlib makes a hash anew that is kept here.
+    one is enough for passlib, and here it has to be below. So if none of the three is below, and r or p is above,
+    passlib rehashes a hash that is kept here.
     """
     try:
         from passlib.hash import scrypt

@@ -79,7 +79,7 @@ def is_weaker(stored, wanted):
 def thin_ro_mix(words, n, s):
     """scryptROMix by a table of the rows whose numbers are multiples of 2^s, and its cores.
 
-    A row that the table lacks is mixed anew, from the row below it that the table has. Each block mix
+    A row that the table lacks is recomputed from the row below it that the table has. Each block mix
     adds its cores to the count.
     """
     cores = 0

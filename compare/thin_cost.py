@@ -5,7 +5,7 @@ usage: thin_cost.py [SALTS]
 
 The cores of RFC 7914's first key are counted one block mix at a time, for a table that keeps one row
 in 2^s, and compared with the numerals that crates/scrypt/proofs/StandardFacts.antt proves. Then the
-rows that the walk at (10, 8, 1) mixes anew, as the mean over so many salts (10 if not given), beside
+rows that the walk at (10, 8, 1) recomputes, as the mean over so many salts (10 if not given), beside
 the expected (2^s - 1) / 2 rows a step.
 """
 
@@ -40,7 +40,7 @@ def proved_cores():
 
 
 def mean_rows(salts):
-    """The mean number of rows that a step mixes anew at (10, 8, 1), for s from 0 to 6."""
+    """The mean number of rows that a step recomputes at (10, 8, 1), for s from 0 to 6."""
     rows = []
     for salt in range(salts):
         [words] = reference.chunks_of(b"password", bytes([salt]), R, 1)
@@ -54,7 +54,7 @@ def main():
     print("s | cores of the first key, counted | proved")
     for s, (here, there) in enumerate(zip(counted, proved)):
         print(f"{s} | {here} | {there}")
-    print(f"s | rows mixed anew a step at ({LOG_N}, {R}, 1), mean of {salts} salts | expected | cores")
+    print(f"s | rows recomputed a step at ({LOG_N}, {R}, 1), mean of {salts} salts | expected | cores")
     for s, mean in enumerate(mean_rows(salts)):
         cores = round(2 * R * (1 << LOG_N) * (2 + mean))
         print(f"{s} | {mean:.3f} | {(2**s - 1) / 2:.1f} | {cores}")

@@ -18,7 +18,7 @@ HERE = os.path.dirname(os.path.abspath(__file__))
 PAGES = os.path.abspath(sys.argv[1] if len(sys.argv) > 1 else "build/doc")
 PICTURES = sys.argv[2] if len(sys.argv) > 2 else None
 BASE = f"file://{PAGES}/"
-KINDS = ["index.html", "reading.html", "names.html", "trust.html", "kit.html"]
+KINDS = ["index.html", "reading.html", "all_definitions.html", "names.html", "trust.html", "kit.html"]
 LOOKS = [(1440, "light"), (1440, "dark"), (768, "light"), (360, "light"), (360, "dark")]
 # The links of the place that a page was opened at, or of the whole page.
 LINKS = """(() => {

@@ -1,5 +1,5 @@
 #!/bin/sh
-# Installs what is here below a prefix, or removes it. It needs no root where the prefix can be written to.
+# Installs what is here below a prefix, or removes it. It needs no root if the prefix can be written to.
 # usage: install.sh [PREFIX]           PREFIX is /usr/local, or an absolute path
 #        install.sh --remove [PREFIX]
 set -eu

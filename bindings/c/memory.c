@@ -65,7 +65,7 @@ static void advise(void *table, size_t size) {
 }
 
 /* Maps memory for these buffers in place of what is mapped. A huge page begins at a multiple of its size, and so does a
- * table that has room for one. The scratch and the chunks after it are small, and left out of the advice, so that they
+ * table that is large enough for one. The scratch and the chunks after it are small, and left out of the advice, so that they
  * take no huge page of their own. */
 static int map(scrypt_memory *memory, const struct buffers *buffers) {
   int has_huge = buffers->table_len >= HUGE_PAGE / 4;

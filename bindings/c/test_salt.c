@@ -1,4 +1,4 @@
-/* scrypt_draw_salt: fills exactly the bytes that it is given, anew each time, and reports a system that refuses. */
+/* scrypt_draw_salt: fills exactly the bytes that it is given, with others each time, and reports a system that refuses. */
 #define _DEFAULT_SOURCE
 #include "check.h"
 #include "scrypt_c.h"

@@ -9,7 +9,7 @@
 
 static const uint8_t BEGINNING[4] = {0xfd, 0xba, 0xbe, 0x1c};
 
-/* Answers NULL where all is well. */
+/* Returns NULL on success. */
 static void *work(void *none) {
   uint8_t key[64], other[64];
   char phc[SCRYPT_PHC_CAPACITY], mcf[SCRYPT_MCF_CAPACITY(4)];

@@ -5,7 +5,7 @@ usage: compare_libxcrypt.py CLIENT LIBRARY CHECKED [--settings N] [--seed N]
 
 CLIENT is the program of client.c, linked with the system's libcrypt. It runs twice on the same lines, alone and with
 LIBRARY preloaded, and every answer has to be the same: hashes, failure tokens, errno, and the sizes of buffers. One
-difference is allowed and counted: where memory is refused, this library sets ENOMEM and libxcrypt EINVAL. Memory is
+difference is allowed and counted: if an allocation fails, this library sets ENOMEM and libxcrypt EINVAL. Memory is
 limited, so that parameters that ask for more are refused at once. CHECKED is the same program, linked with crypt.c and
 AddressSanitizer: it gives the same answers, without a report. The status is 1 if anything else differs.
 """

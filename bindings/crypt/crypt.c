@@ -121,7 +121,7 @@ static int hash(const char *phrase, const char *setting, char output[CRYPT_OUTPU
   return error;
 }
 
-/* The text that is returned if there is no hash, as far as there is room for it. No $7$ setting begins with it. */
+/* The text that is returned if there is no hash, as far as it fits. No $7$ setting begins with it. */
 static void put_failure_token(char *output, int size) {
   if (size > 2) output[2] = '\0';
   if (size > 1) output[1] = size > 2 ? '0' : '\0';

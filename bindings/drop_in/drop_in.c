@@ -31,7 +31,7 @@ static int overlap(const uint8_t *a, size_t a_len, const uint8_t *b, size_t b_le
   return a_len > 0 && b_len > 0 && (uintptr_t)a < (uintptr_t)b + b_len && (uintptr_t)b < (uintptr_t)a + a_len;
 }
 
-/* The key where the numbers are within the limits of these libraries, which take an output of 0 bytes, and one that
+/* The key, if the parameters are within the limits of these libraries, which take an output of 0 bytes, and one that
  * overlaps the password or the salt. */
 static int derive_key(const uint8_t *password, size_t password_len, const uint8_t *salt, size_t salt_len,
                       uint8_t log_n, uint32_t r, uint32_t p, uint8_t *output, size_t output_len) {

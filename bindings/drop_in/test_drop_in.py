@@ -1,5 +1,5 @@
 """Compares the drop-in names of the library that is given with hashlib, and with the libraries whose names they are,
-where those are here. The answers in the tables are theirs.
+if those are installed. The answers in the tables are theirs.
 """
 
 import ctypes
@@ -38,7 +38,7 @@ def both(theirs):
     return [it for it in (ours, theirs) if it]
 
 
-# Why, n, r, p, the length of the output, and the answer; libsodium's, where it is another.
+# Why, n, r, p, the length of the output, and the answer; libsodium's, if it differs.
 REFUSED = [
     ("no row", 0, 1, 1, 8, "EINVAL"),
     ("one row", 1, 1, 1, 8, "EINVAL"),

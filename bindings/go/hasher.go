@@ -5,7 +5,7 @@ import (
 	"runtime"
 )
 
-// Options are those of a Hasher. The zero value of each stands for the one that its comment names.
+// Options are those of a Hasher. The zero value of each means the default that its comment names.
 type Options struct {
 	Params       // the parameters of new hashes: Recommended()
 	MCF     bool // whether new hashes are $7$ texts of crypt(3) and not PHC texts

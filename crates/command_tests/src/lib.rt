@@ -1,5 +1,5 @@
-//! Tests of the commands, over readers and writers that fail, that hand out little at a time and that count their
-//! calls.
+//! Tests of the commands, over readers and writers that fail, that read and write little at a time, and that count
+//! their calls.
 #![tactic(auto)]
 
 #[cfg(test)]

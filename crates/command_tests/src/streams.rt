@@ -2,7 +2,7 @@
 
 use std::io::{Error, ErrorKind, Read, Result, Write};
 
-/// A reader that gives at most `most` bytes a call, and fails after the last one if it is told to.
+/// A reader that gives at most `most` bytes a call, and can fail after the last one.
 #[derive(Drop)]
 pub struct Input<'a> {
     rest: &'a [u8],

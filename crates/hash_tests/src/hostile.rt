@@ -38,7 +38,7 @@ fn verdict(alloc: Global, text: &str) -> Result<Result<(), Error>, Fail> {
     Ok(borrowed)
 }
 
-// What a beginning of this length comes to.
+// The outcome of a beginning of this length.
 fn verdict_on_beginning(len: usize) -> Result<(), Error> {
     if len == KEY_AT {
         Err(Error::OutputSize)
@@ -93,7 +93,7 @@ fn beginnings_of_a_phc_hash(rt: HostRuntime) {
     }
 }
 
-// What a hash comes to whose character at this place is replaced by this one.
+// The outcome of a hash whose character at this place is replaced by this one.
 fn verdict_on_replaced(at: usize, by: u8) -> Result<(), Error> {
     match value(by) {
         Some(value) if at < 57 || value < 16 => Err(Error::PasswordInvalid),

@@ -1,5 +1,5 @@
 //! Tests of hashes and their texts in both formats, PHC and `$7$`: what other implementations made and read, each error
-//! once, how much each call allocates, and that calls succeed if memory is there.
+//! once, how much each call allocates, and that calls succeed if memory is available.
 #![tactic(auto)]
 
 #[cfg(test)]

@@ -1,4 +1,4 @@
-//! Tests of derived keys and of the kernel, of what no contract can say: that calls succeed if memory is there, that
+//! Tests of derived keys and of the kernel, of what no contract can say: that calls succeed if memory is available, that
 //! the standards' vectors are computed, and how much each call allocates.
 #![tactic(auto)]
 

@@ -88,7 +88,7 @@ pub trait PasswordVerifier<H> {
 }
 
 /// Checks whether hashes of type `H` are weaker than the parameters of this value. A login service
-/// can then make a weak hash anew while it has the password.
+/// can then replace a weak hash while it has the password.
 pub trait RehashCheck<H> {
     // The hash can be read.
     ghost readable: { H → Type 0 };

@@ -10,9 +10,9 @@ use scrypt::{CoreCount, DeriveError, Params, scrypt, scrypt_counted, scrypt_with
 use std::alloc::Global;
 
 /// For accepted parameters and every output of 1 to 137438953440 bytes, the output is exactly RFC
-/// 7914's key, after exactly 4*N*r*p Salsa20/8 cores, each of them a SIMD core, or memory is
-/// wanting, with no core run and the output untouched. With buffers handed in the key is always
-/// written, here to `buffered`, after as many cores.
+/// 7914's key, after exactly 4*N*r*p Salsa20/8 cores, each of them a SIMD core, or the error is
+/// `OutOfMemory`, with no core run and the output untouched. With buffers the key is always written,
+/// here to `buffered`, after as many cores.
 pub fn key_or_want_of_memory(
     alloc: Global,
     password: &[u8],
@@ -63,7 +63,7 @@ pub fn key_or_want_of_memory(
     scrypt_counted(alloc, password, salt, &params, output, cores)
 }
 
-/// The same of `scrypt`, which has no count.
+/// The same for `scrypt`, which has no count.
 pub fn key_uncounted(
     alloc: Global,
     password: &[u8],

@@ -1,4 +1,4 @@
--- Which stored hashes are weaker than wanted and should be made anew.
+-- Which stored hashes are weaker than wanted and should be replaced.
 use Rattle.std.specs.Prelude.{ℕ, ◌<◌, ◌⊎◌, List, length}
 use Rattle.scrypt.specs.Accepted.{Parameters}
 use Rattle.scrypt.specs.Hashing.{key_len_or_default}

@@ -1,4 +1,6 @@
-//! The scrypt key derivation function (RFC 7914), proved against its definition.
+//! The scrypt key derivation function (RFC 7914) and its password hashes, proved against their definitions.
+//!
+//! It draws no salts, starts no threads and bounds no parameters of a stored hash: its callers do.
 //!
 //! ```rust
 //! use scrypt::{Params, scrypt};

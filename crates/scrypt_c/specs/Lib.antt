@@ -1,6 +1,6 @@
 -- The table of contents, in reading order: a file cites only those above it.
 
--- the lengths of the buffers that a caller lends
+-- the lengths of the caller's buffers
 pub mod Buffers
 -- the statuses of verdicts and errors
 pub mod Statuses

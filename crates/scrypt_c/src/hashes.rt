@@ -105,7 +105,7 @@ pub extern "C" fn scrypt_hash_mcf(
 }
 
 /// Reads the parameters of a hash and the length of its key in bytes, 0 if it has no key, so that a
-/// caller can bound what verifying costs. A PHC hash without a salt or a key has parameters too.
+/// caller can bound the work of verifying. A PHC hash without a salt or a key has parameters too.
 /// Nothing is allocated.
 ///
 /// Returns `OK`, or what `scrypt_verify` returns for a hash that cannot be read, in the same order,

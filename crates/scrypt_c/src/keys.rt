@@ -14,9 +14,9 @@ use std::alloc::Global;
 
 /// Writes the scrypt key of `password` and `salt` to `output` (RFC 7914, section 6).
 ///
-/// `OK`, or the first of these: `INVALID_PARAMS` unless `log_n`, `r` and `p` are accepted,
+/// Returns `OK`, or the first of these: `INVALID_PARAMS` unless `log_n`, `r` and `p` are accepted,
 /// `INVALID_OUTPUT_LEN` unless the output has 1 to 137438953440 bytes, and `OUT_OF_MEMORY` if an
-/// allocation fails. A refusal leaves the output as it was.
+/// allocation fails. On an error the output is unchanged.
 #[unsafe(no_mangle)]
 pub extern "C" fn scrypt_kdf(
     alloc: Global,
@@ -50,8 +50,8 @@ pub extern "C" fn scrypt_kdf(
 /// `scrypt_kdf_with_buffers` if `s` is 0, and those of `scrypt_kdf_thin` with this `s`. The chunks
 /// are counted in bytes, and the table and the scratch in words of 4 bytes.
 ///
-/// `OK`, or `INVALID_PARAMS` unless `log_n`, `r` and `p` are accepted and `s` is at most `log_n`. A
-/// refusal leaves the three as they were.
+/// Returns `OK`, or `INVALID_PARAMS` unless `log_n`, `r` and `p` are accepted and `s` is at most
+/// `log_n`. On an error the three are unchanged.
 #[unsafe(no_mangle)]
 pub extern "C" fn scrypt_buffer_lens(
     log_n: u8,
@@ -79,10 +79,10 @@ pub extern "C" fn scrypt_buffer_lens(
 
 /// Does what `scrypt_kdf` does, in the caller's buffers, and allocates nothing.
 ///
-/// `OK`, or the first of these: `INVALID_PARAMS`, `INVALID_OUTPUT_LEN`, and `BUFFER_SIZE` unless the
-/// three buffers have the lengths of `scrypt_buffer_lens` with `s` of 0. What they hold before the call
-/// does not matter, and what they hold after it is unspecified. A refusal leaves them and the output
-/// as they were.
+/// Returns `OK`, or the first of these: `INVALID_PARAMS`, `INVALID_OUTPUT_LEN`, and `BUFFER_SIZE`
+/// unless the three buffers have the lengths of `scrypt_buffer_lens` with `s` of 0. What they hold
+/// before the call does not matter, and what they hold after it is unspecified. On an error they and
+/// the output are unchanged.
 #[unsafe(no_mangle)]
 pub extern "C" fn scrypt_kdf_with_buffers(
     password: &[u8],
@@ -116,9 +116,9 @@ pub extern "C" fn scrypt_kdf_with_buffers(
 /// Does what `scrypt_kdf_with_buffers` does, with a table that keeps one row in `2^s`: it has `2^s` times
 /// fewer words, and any other row is recomputed whenever it is needed.
 ///
-/// `OK`, or the first of these: `INVALID_PARAMS`, also if `s` is above `log_n`,
+/// Returns `OK`, or the first of these: `INVALID_PARAMS`, also if `s` is above `log_n`,
 /// `INVALID_OUTPUT_LEN`, and `BUFFER_SIZE` unless the three buffers have the lengths of
-/// `scrypt_buffer_lens` with this `s`. A refusal leaves them and the output as they were.
+/// `scrypt_buffer_lens` with this `s`. On an error they and the output are unchanged.
 #[unsafe(no_mangle)]
 pub extern "C" fn scrypt_kdf_thin(
     password: &[u8],

@@ -1,6 +1,6 @@
 //! What C calls: a static library over the crate `scrypt`.
 //!
-//! Each call returns a status: 0 on success, otherwise an error code. A slice is a pointer and a length
+//! It is not for callers from Rattle, and it trusts the pointers and the lengths that it is passed. Each call returns a status: 0 on success, otherwise an error code. A slice is a pointer and a length
 //! in C.
 #![tactic(auto)]
 

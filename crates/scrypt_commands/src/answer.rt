@@ -219,7 +219,7 @@ fn mcf_hash(
     }
 }
 
-// Returns this text on a line.
+// Appends a newline.
 fn on_a_line(text: String) -> Result<Answer, CliError>
     ensures status { IfOk result (λ answer. answer_status answer ≡ 0) }
     ensures line { IfOk result (λ answer. answer_line answer ≡ string_bytes text ++ codes "\n") }

@@ -23,7 +23,7 @@ pub fn stored_text(alloc: Global, password: &[u8], salt: [u8; 16]) -> Result<Str
     Ok(hash.to_string(alloc)?)
 }
 
-/// Ok if the password is that of the stored text, and `PasswordInvalid` if it is not.
+/// Returns `Ok` if the stored text accepts the password, and `PasswordInvalid` if it does not.
 pub fn verify(alloc: Global, stored: &str, password: &[u8]) -> Result<()>
     ensures accepted { OnOk result (Accepts password.now stored.now) }
     ensures wrong { IfErr result (λ e. e ≡ PasswordInvalid → ¬ Accepts password.now stored.now) }

@@ -1,4 +1,4 @@
-//! Logins: users are enrolled, let in by their passwords, and their hashes made anew when they have become weak.
+//! Logins: users are enrolled, let in by their passwords, and their hashes replaced when they have become weak.
 
 ghost use Rattle.std.specs.Prelude.{◌≡◌, ◌⊎◌, ◌↔◌, None, IsOk, IsSome, IsTrue, IfErr, IfOk, IfSome, OnOk, length, string_bytes};
 ghost use Rattle.password_hash.specs.Refusal.{Refusal, refusal};
@@ -15,18 +15,18 @@ use scrypt::phc::PasswordHash;
 use scrypt::{InvalidParams, Params, Scrypt, StoredHash};
 use std::alloc::Global;
 
-/// What a login comes to.
+/// The outcome of a login.
 #[derive(Drop)]
 pub enum Login {
-    /// The password is not that of the stored text.
+    /// The stored text does not accept the password.
     Refused,
-    /// The password is that of the stored text.
+    /// The stored text accepts the password.
     In,
-    /// The password is that of the stored text, which is weak: this text is to be stored in its place.
+    /// The stored text accepts the password and is weak: store this text in its place.
     InWithNewText(String),
 }
 
-/// Enrolls users and logs them in, with the parameters that are wanted by now.
+/// Enrolls users and logs them in, with the parameters that are wanted now.
 #[derive(Clone, Copy)]
 pub struct Logins {
     wanted: Params,

@@ -13,7 +13,7 @@ use password_hash::Result;
 use scrypt::{Params, StoredHash};
 use std::alloc::Global;
 
-/// The parameters of a stored text, by which a caller bounds what verifying costs.
+/// The parameters of a stored text, by which a caller bounds the work of verifying.
 #[derive(Clone, Copy, Debug, PartialEq)]
 pub struct Costs {
     /// Its parameters, with no length.
@@ -23,7 +23,7 @@ pub struct Costs {
 }
 
 impl Costs {
-    /// The costs of a text of either format. A PHC text without a salt or a key has costs too.
+    /// The parameters of a text of either format. A PHC text without a salt or a key has them too.
     ///
     /// Returns what reading the text refuses.
     pub fn of(text: &str) -> Result<Costs>
@@ -41,8 +41,8 @@ impl Costs {
     }
 }
 
-/// Rewrites a text of either format as a PHC text with the wanted parameters, if the password is that of the
-/// text. The salt is drawn at random.
+/// Rewrites a text of either format as a PHC text with the wanted parameters, if it accepts the password. The
+/// salt is drawn at random.
 ///
 /// Returns what verifying refuses.
 pub fn rewrite(

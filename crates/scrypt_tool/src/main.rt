@@ -1,5 +1,5 @@
-//! The program: derives scrypt keys, makes password hashes, verifies them and makes weak ones again, from
-//! the command line.
+//! The program: derives scrypt keys, makes password hashes, verifies them and replaces weak ones, from the
+//! command line.
 //!
 //! ```text
 //! scrypt_tool key LOG_N R P LEN SALT_HEX < password
