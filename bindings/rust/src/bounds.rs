@@ -3,7 +3,7 @@
 use crate::calls::{scrypt_hash_params, OK};
 use crate::{Error, Params};
 
-/// What a derivation may need before it is refused: a hash says itself what it costs, and may ask for days.
+/// What a derivation may need before it is refused: a hash sets the work of its verification, and may ask for days.
 #[derive(Clone, Copy, Debug, PartialEq, Eq)]
 pub struct Bounds {
     /// How many bytes its buffers have at most.
