@@ -1,11 +1,13 @@
-//! Each promise of the library in one function, whose own contract is the promise in full.
+//! Each promise of the library and of the program in one function, whose own contract is the promise in
+//! full.
 //!
-//! A function here only calls the library, and is proved from the library's public clauses alone. So
-//! a clause that becomes weaker breaks the proof of each promise that needs it. They are there to be read and
-//! proved, not to be called.
+//! A function here only calls them, and is proved from their public clauses alone. So a clause that
+//! becomes weaker breaks the proof of each promise that needs it. They are there to be read and proved,
+//! not to be called.
 #![tactic(auto)]
 
 pub mod headline;
 pub mod lengths;
+pub mod program;
 pub mod refusals;
 pub mod values;
