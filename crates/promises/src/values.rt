@@ -1,9 +1,10 @@
 //! Parameters are what they were made of, and equality is equality.
 
-ghost use Rattle.std.specs.Prelude.{◌≡◌, ◌↔◌, IsTrue, true};
+ghost use Rattle.std.specs.Prelude.{◌≡◌, ◌↔◌, IsTrue, IfOk, IsOk, true};
 ghost use Rattle.scrypt.specs.Accepted.{recommended_parameters, without_len};
 
 use scrypt::{BufferLens, DeriveError, Params, Scrypt};
+use std::alloc::AllocError;
 
 /// The three numbers of parameters make these parameters again, but for a length.
 pub fn made_again(params: &Params) -> Params
@@ -34,6 +35,22 @@ pub fn default_hasher() -> Scrypt
     ensures recommended { result ≡ recommended_parameters }
 {
     Scrypt::default()
+}
+
+/// A clone of parameters is the same value.
+pub fn clone_params(params: &Params) -> Result<Params, AllocError>
+    ensures same { IfOk result (λ made. made ≡ params.now) }
+    ensures ok { IsOk result }
+{
+    params.clone()
+}
+
+/// A clone of a hasher is the same value.
+pub fn clone_hasher(hasher: &Scrypt) -> Result<Scrypt, AllocError>
+    ensures same { IfOk result (λ made. made ≡ hasher.now) }
+    ensures ok { IsOk result }
+{
+    hasher.clone()
 }
 
 /// Parameters are equal exactly if all four are.
