@@ -18,15 +18,11 @@ type Accounts struct {
 
 // SignUp adds a user and returns the text of the hash, or errTaken.
 func (a *Accounts) SignUp(ctx context.Context, name, password string) (string, error) {
-	text, err := a.hasher.Hash(ctx, []byte(password))
-	if err != nil {
-		return "", err
-	}
-	return a.ask(ctx, errTaken, `INSERT INTO users VALUES ($1, $2) ON CONFLICT DO NOTHING RETURNING hash`, name, text)
+	return a.put(ctx, password, errTaken, `INSERT INTO users VALUES ($1, $2) ON CONFLICT DO NOTHING RETURNING hash`, name)
 }
 
 // LogIn returns the text of the user's hash, or errWrong. If the wanted password is another one, or the hash is weaker
-// than new ones, it is replaced first.
+// than new ones, it is replaced first, by one statement: if the process dies, the store has one text or the other.
 func (a *Accounts) LogIn(ctx context.Context, name, password, wanted string) (string, error) {
 	text, err := a.verify(ctx, name, password)
 	if err != nil {
@@ -35,7 +31,8 @@ func (a *Accounts) LogIn(ctx context.Context, name, password, wanted string) (st
 	if weak, err := a.hasher.NeedsRehash(text); err != nil || !weak && wanted == password {
 		return text, err
 	}
-	stronger, err := a.replace(ctx, name, text, wanted)
+	stronger, err := a.put(ctx, wanted, errChanged,
+		`UPDATE users SET hash = $3 WHERE name = $1 AND hash = $2 RETURNING hash`, name, text)
 	if err == errChanged && wanted == password { // another log-in may have replaced it
 		return a.verify(ctx, name, password)
 	}
@@ -68,19 +65,17 @@ func (a *Accounts) verify(ctx context.Context, name, password string) (string, e
 	return text, err
 }
 
-// replace puts the hash of a password in the place of the text, or returns errChanged if that is there no longer. The
-// statement is a transaction: if the process dies, the store has one text or the other.
-func (a *Accounts) replace(ctx context.Context, name, text, password string) (string, error) {
-	stronger, err := a.hasher.Hash(ctx, []byte(password))
+// put hashes a password, and returns the text if the statement stores it, or else `otherwise`.
+func (a *Accounts) put(ctx context.Context, password string, otherwise error, statement string, values ...any) (string, error) {
+	text, err := a.hasher.Hash(ctx, []byte(password))
 	if err != nil {
 		return "", err
 	}
-	const update = `UPDATE users SET hash = $3 WHERE name = $1 AND hash = $2 RETURNING hash`
-	return a.ask(ctx, errChanged, update, name, text, stronger)
+	return a.ask(ctx, otherwise, statement, append(values, text)...)
 }
 
 // ask returns the hash that a statement returns, or `otherwise` if it returns no row.
-func (a *Accounts) ask(ctx context.Context, otherwise Refusal, statement string, values ...any) (text string, err error) {
+func (a *Accounts) ask(ctx context.Context, otherwise error, statement string, values ...any) (text string, err error) {
 	err = a.store.QueryRowContext(ctx, statement, values...).Scan(&text)
 	if errors.Is(err, sql.ErrNoRows) {
 		err = otherwise

@@ -101,7 +101,7 @@ func TestStoreStoppedAndStarted(t *testing.T) {
 	w.users(1, "a password", 10)
 	browser := newClient(w.address)
 	w.expect(303)(browser.logIn("user0", "a password"))
-	for _, word := range []string{"stop", "kill"} {
+	for _, word := range []string{"fast", "immediate"} {
 		w.postgres(word)
 		for i := 0; i < 20; i++ {
 			if got := w.expect(503)(browser.logIn("user0", "a password")); got.retry == "" {

@@ -1,7 +1,5 @@
 module nilomafy.example/login_service
-
 go 1.19
-
 require github.com/lib/pq v1.10.7 // Debian's package golang-github-lib-pq-dev
 require nilomafy.example/scrypt v0.12.0
 replace github.com/lib/pq => /usr/share/gocode/src/github.com/lib/pq

@@ -26,8 +26,7 @@ import (
 var program string
 
 func TestMain(m *testing.M) {
-	room, err := os.MkdirTemp("", "login-service-")
-	must(err)
+	room := must(os.MkdirTemp("", "login-service-"))
 	program = filepath.Join(room, "login_service")
 	if out, err := exec.Command("go", "build", "-o", program, ".").CombinedOutput(); err != nil {
 		fmt.Println(string(out))
@@ -90,7 +89,7 @@ func (w *world) close() {
 		w.stop()
 	}
 	_ = w.db.Close()
-	w.postgres("stop")
+	w.postgres("fast")
 	_ = os.RemoveAll(w.store)
 	_ = os.Remove(w.log.Name())
 }
@@ -111,7 +110,7 @@ func (w *world) start(arguments ...string) {
 	arguments = append([]string{"-c", limit + ` && exec "$@"`, "sh", program, "-store", w.store, "-listen", w.address}, arguments...)
 	w.service = exec.Command("sh", arguments...)
 	w.service.Stdout, w.service.Stderr = w.log, w.log
-	w.service.Env = append(os.Environ(), "MALLOC_ARENA_MAX=1") // as run.sh
+	w.service.Env = append(os.Environ(), "MALLOC_ARENA_MAX=1", "GOMEMLIMIT=32MiB") // as run.sh
 	if err := w.service.Start(); err != nil {
 		w.Fatal(err)
 	}

@@ -42,14 +42,21 @@ func (c *count) add(got answer, err error) {
 	}
 }
 
-// part returns the time below which a part of the times is, in milliseconds.
+// percentile returns the time below which a part of the times is.
+func percentile(times []time.Duration, part float64) time.Duration {
+	if len(times) == 0 {
+		return 0
+	}
+	sort.Slice(times, func(i, j int) bool { return times[i] < times[j] })
+	return times[int(part*float64(len(times)-1))]
+}
+
+// part prints a percentile in milliseconds.
 func part(times []time.Duration, part float64) string {
 	if len(times) == 0 {
 		return "-"
 	}
-	sort.Slice(times, func(i, j int) bool { return times[i] < times[j] })
-	at := int(part * float64(len(times)-1))
-	return fmt.Sprintf("%.0f", float64(times[at].Microseconds())/1000)
+	return fmt.Sprintf("%.0f", float64(percentile(times, part).Microseconds())/1000)
 }
 
 // rate returns how many verifications a second the library does by itself, with this many callers.

@@ -9,7 +9,6 @@ import (
 	"log"
 	"net/http"
 	"runtime"
-	"runtime/debug"
 	"time"
 
 	_ "github.com/lib/pq"
@@ -28,36 +27,29 @@ var (
 
 func main() {
 	flag.Parse()
-	debug.SetMemoryLimit(32 << 20) // of Go, beside the derivations
-	ctx, atOnce := context.Background(), runtime.GOMAXPROCS(0)
-	hasher, err := scrypt.NewHasher(scrypt.Options{Params: scrypt.Params{LogN: uint8(*logN), R: 8, P: 1, KeyLen: 32},
-		AtOnce: atOnce, MostBytes: *most << 20})
-	must(err)
-	store, err := sql.Open("postgres", "host="+*socket+" user=login_service dbname=postgres sslmode=disable connect_timeout=2")
-	must(err)
+	hasher := must(scrypt.NewHasher(scrypt.Options{Params: scrypt.Params{LogN: uint8(*logN), R: 8, P: 1, KeyLen: 32}, MostBytes: *most << 20}))
+	store := must(sql.Open("postgres", "host="+*socket+" user=login_service dbname=postgres sslmode=disable connect_timeout=2"))
 	store.SetMaxOpenConns(16)
-	_, err = store.Exec(`CREATE TABLE IF NOT EXISTS users (name text PRIMARY KEY, hash text NOT NULL)`)
-	must(err)
-	nobody, err := hasher.Hash(ctx, drawn(32))
-	must(err)
+	must(store.Exec(`CREATE TABLE IF NOT EXISTS users (name text PRIMARY KEY, hash text NOT NULL)`))
+	nobody := must(hasher.Hash(context.Background(), drawn(32)))
 	// A drawn key signs cookies: a restart logs all users out, and no hash depends on it.
-	service := &Service{&Accounts{store, hasher, nobody}, drawn(32), make(chan struct{}, atOnce+*waiting)}
-	server := http.Server{Addr: *listen, Handler: service, ReadTimeout: *patience, WriteTimeout: 3 * *patience,
-		IdleTimeout: *patience, MaxHeaderBytes: mostForm}
+	service := &Service{&Accounts{store, hasher, nobody}, drawn(32), make(chan struct{}, runtime.GOMAXPROCS(0)+*waiting)}
+	server := http.Server{Addr: *listen, Handler: service, ReadTimeout: *patience, WriteTimeout: 3 * *patience, MaxHeaderBytes: mostForm}
 	log.Print("listening on http://", *listen)
-	must(server.ListenAndServe())
+	log.Fatal(server.ListenAndServe())
 }
 
 // drawn returns random bytes of the system.
 func drawn(count int) []byte {
 	bytes := make([]byte, count)
-	_, err := rand.Read(bytes)
-	must(err)
+	must(rand.Read(bytes))
 	return bytes
 }
 
-func must(err error) {
+// must ends the process if there is an error.
+func must[T any](value T, err error) T {
 	if err != nil {
 		log.Fatal(err)
 	}
+	return value
 }

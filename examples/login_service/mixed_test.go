@@ -22,6 +22,7 @@ type mix struct {
 	sync.Mutex
 	answers  map[string]int
 	full     []time.Duration // of the answers that no place is free
+	late     []time.Duration // by which the machine, which others may use, ends a sleep late
 	restarts int
 }
 
@@ -99,7 +100,7 @@ func (m *mix) faults(arguments ...string) (peak int) {
 	for number := 0; time.Now().Add(15 * time.Second).Before(m.end); number++ {
 		time.Sleep(8 * time.Second)
 		if number%2 == 0 {
-			m.postgres([]string{"stop", "kill"}[number/2%2])
+			m.postgres([]string{"fast", "immediate"}[number/2%2])
 			time.Sleep(time.Second)
 			m.postgres("start")
 		} else {
@@ -118,6 +119,15 @@ func (m *mix) faults(arguments ...string) (peak int) {
 		peak = now
 	}
 	return peak
+}
+
+// sleep measures the machine.
+func (m *mix) sleep() {
+	for time.Now().Before(m.end) {
+		began := time.Now()
+		time.Sleep(10 * time.Millisecond)
+		m.late = append(m.late, time.Since(began)-10*time.Millisecond)
+	}
 }
 
 // slow sends a byte of a form a second.
@@ -193,11 +203,16 @@ func TestMixedLoad(t *testing.T) {
 	}
 	many(len(changers), func(i int) { m.client("change", changers[i].act(m)) })
 	many(20, func(int) { m.slow() })
+	many(1, func(int) { m.sleep() })
 	peak := m.faults(arguments...)
 	group.Wait()
 	m.check(t, changers)
 	t.Logf("%d s, %d faults; answers: %v", seconds, m.restarts, m.answers)
-	t.Logf("that no place is free is answered in %s ms (99 %%), %s at most; peak %d MiB", part(m.full, 0.99), part(m.full, 1), peak)
+	t.Logf("that no place is free is answered in %s ms (99 %%), %s at most, and a sleep ends %s late (99 %%), %s at most; peak %d MiB",
+		part(m.full, 0.99), part(m.full, 1), part(m.late, 0.99), part(m.late, 1), peak)
+	if percentile(m.full, 0.99) > 100*time.Millisecond && percentile(m.late, 0.99) < 20*time.Millisecond {
+		t.Error("a client that is refused has to wait for the answer")
+	}
 	if peak > 4*4+64 {
 		t.Error("more memory than four derivations and 64 MiB")
 	}

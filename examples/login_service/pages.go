@@ -3,31 +3,27 @@ package main
 import (
 	"context"
 	"crypto/hmac"
+	"crypto/sha256"
 	_ "embed"
 	"errors"
+	"fmt"
 	"html/template"
 	"log"
 	"net/http"
+	"net/url"
 	"strings"
+	"time"
 	"unicode/utf8"
 )
 
-const mostForm, mostPassword, leastLetters = 16 << 10, 1 << 10, 8
-
-//go:embed page.html
-var pageText string
-
-var page = template.Must(template.New("page").Parse(pageText))
-
-// A Refusal is an error that the page explains.
-type Refusal struct {
-	status  int
-	message string
-}
-
-func (r Refusal) Error() string { return r.message }
+const mostForm, mostPassword, leastLetters, sessionSeconds = 16 << 10, 1 << 10, 8, 3600
 
 var (
+	//go:embed page.html
+	pageText string
+	page     = template.Must(template.New("page").Parse(pageText))
+	done     = map[string]string{"sign-up": "Welcome.", "log-in": "Welcome back.", "change": "The password is changed.", "log-out": "You are logged out."}
+
 	errWrong   = Refusal{http.StatusForbidden, "The name or the password is wrong."}
 	errToken   = Refusal{http.StatusForbidden, "The form is too old. Try again."}
 	errTaken   = Refusal{http.StatusConflict, "The name is taken."}
@@ -38,8 +34,13 @@ var (
 	errNotNow  = Refusal{http.StatusServiceUnavailable, "This is not possible now. Try again in a moment."}
 )
 
-var done = map[string]string{"sign-up": "Welcome.", "log-in": "Welcome back.", "change": "The password is changed.",
-	"log-out": "You are logged out."}
+// A Refusal is an error that the page explains.
+type Refusal struct {
+	Status int
+	Text   string
+}
+
+func (r Refusal) Error() string { return r.Text }
 
 // A Service answers requests for the page and its forms.
 type Service struct {
@@ -72,55 +73,56 @@ func (s *Service) ServeHTTP(w http.ResponseWriter, r *http.Request) {
 	}
 }
 
-// act does what a form asks for.
+// act does what a form asks for. All but a log-out need one of the places, and before that nothing of the store: errFull is
+// returned at once if none is free.
 func (s *Service) act(w http.ResponseWriter, r *http.Request, action string) error {
 	r.Body = http.MaxBytesReader(w, r.Body, mostForm)
 	if r.ParseForm() != nil {
 		return errLarge
 	}
-	name, owner, err := r.PostFormValue("name"), "", error(nil)
-	if action == "change" || action == "log-out" {
-		owner, err = s.user(r)
-		name = owner
+	if action != "log-out" {
+		select {
+		case s.places <- struct{}{}:
+			defer func() { <-s.places }()
+		default:
+			return errFull
+		}
 	}
-	if err != nil {
+	owner, err := s.user(r)
+	switch {
+	case err != nil:
 		return err
-	}
-	if !hmac.Equal([]byte(r.PostFormValue("token")), []byte(s.token(w, r, owner))) {
+	case !hmac.Equal([]byte(r.PostFormValue("token")), []byte(s.token(w, r, owner))):
 		return errToken
-	}
-	if action == "log-out" {
+	case action == "log-out":
 		setCookie(w, "session", "", -1)
 		return nil
+	case action == "change":
+		return s.derive(w, r, action, owner)
 	}
-	text, err := s.derive(r, action, name)
-	if err == nil {
-		s.begin(w, name, text)
-	}
-	return err
+	return s.derive(w, r, action, r.PostFormValue("name"))
 }
 
-// derive does what needs a derivation, in one of the places: it returns errFull at once if none is free.
-func (s *Service) derive(r *http.Request, action, name string) (string, error) {
-	password, wanted := r.PostFormValue("password"), r.PostFormValue("new")
-	if action == "log-in" {
-		wanted = password
-	} else if utf8.RuneCountInString(wanted) < leastLetters {
-		return "", errInput
+// derive does what needs a derivation, and begins a session. The text of the hash is signed in its cookie, so another
+// password ends it.
+func (s *Service) derive(w http.ResponseWriter, r *http.Request, action, name string) (err error) {
+	password, wanted, text := r.PostFormValue("password"), r.PostFormValue("new"), ""
+	switch short := utf8.RuneCountInString(wanted) < leastLetters; {
+	case !allowed(name) || len(password) > mostPassword || len(wanted) > mostPassword || short && action != "log-in":
+		return errInput
+	case action == "sign-up":
+		text, err = s.accounts.SignUp(r.Context(), name, wanted)
+	case action == "log-in":
+		text, err = s.accounts.LogIn(r.Context(), name, password, password)
+	case action == "change":
+		text, err = s.accounts.LogIn(r.Context(), name, password, wanted)
 	}
-	if !allowed(name) || len(password) > mostPassword || len(wanted) > mostPassword {
-		return "", errInput
+	if err == nil {
+		end := time.Now().Add(sessionSeconds * time.Second).UTC().Format(time.RFC3339)
+		session := url.Values{"name": {name}, "end": {end}, "tag": {s.tag("session", name, end, text)}}
+		setCookie(w, "session", session.Encode(), sessionSeconds)
 	}
-	select {
-	case s.places <- struct{}{}:
-		defer func() { <-s.places }()
-	default:
-		return "", errFull
-	}
-	if action == "sign-up" {
-		return s.accounts.SignUp(r.Context(), name, wanted)
-	}
-	return s.accounts.LogIn(r.Context(), name, password, wanted)
+	return err
 }
 
 // allowed reports whether a name is one that the store takes.
@@ -132,19 +134,60 @@ func allowed(name string) bool {
 // show writes the page with a message. If nothing is possible now, it has no form, takes nothing from the store, and asks
 // the browser to come back.
 func (s *Service) show(w http.ResponseWriter, r *http.Request, message Refusal) {
-	var name string
-	var err error
-	if message.status != http.StatusServiceUnavailable {
-		if name, err = s.user(r); err != nil {
-			log.Print("the page: ", err)
-			message = errNotNow
-		}
+	name, err := "", error(nil)
+	if message.Status != http.StatusServiceUnavailable {
+		name, err = s.user(r)
 	}
-	later, token := message.status == http.StatusServiceUnavailable, s.token(w, r, name)
-	if later {
+	if err != nil {
+		log.Print("the page: ", err)
+		message = errNotNow
+	}
+	token := s.token(w, r, name)
+	if message.Status == http.StatusServiceUnavailable {
 		w.Header().Set("Retry-After", "1")
 	}
-	w.WriteHeader(message.status)
-	_ = page.Execute(w, map[string]any{"Message": message.message, "Failed": message.status != http.StatusOK, "Later": later,
-		"Name": name, "Token": token})
+	w.WriteHeader(message.Status)
+	_ = page.Execute(w, map[string]any{"Message": message, "Name": name, "Token": token})
+}
+
+// tag signs strings.
+func (s *Service) tag(parts ...string) string {
+	mac := hmac.New(sha256.New, s.key)
+	fmt.Fprintf(mac, "%q", parts) // in quotes, so that no two lists are the same bytes
+	return fmt.Sprintf("%x", mac.Sum(nil))
+}
+
+func setCookie(w http.ResponseWriter, name, value string, seconds int) {
+	http.SetCookie(w, &http.Cookie{Name: name, Value: value, Path: "/", MaxAge: seconds, HttpOnly: true, Secure: *https,
+		SameSite: http.SameSiteStrictMode})
+}
+
+// user returns the name of the user whose session it is, or "".
+func (s *Service) user(r *http.Request) (string, error) {
+	cookie, err := r.Cookie("session")
+	if err != nil {
+		return "", nil
+	}
+	session, _ := url.ParseQuery(cookie.Value)
+	name, end := session.Get("name"), session.Get("end")
+	if end < time.Now().UTC().Format(time.RFC3339) || !allowed(name) {
+		return "", nil
+	}
+	text, err := s.accounts.hash(r.Context(), name)
+	signed := hmac.Equal([]byte(session.Get("tag")), []byte(s.tag("session", name, end, text)))
+	if err == errWrong || err == nil && !signed {
+		return "", nil
+	}
+	return name, err
+}
+
+// token returns what a form of this browser and user has to send, so that it is from a page of this service. The
+// browser's own cookie is drawn if it is not there.
+func (s *Service) token(w http.ResponseWriter, r *http.Request, name string) string {
+	cookie, err := r.Cookie("visitor")
+	if err != nil {
+		cookie = &http.Cookie{Value: fmt.Sprintf("%x", drawn(16))}
+		setCookie(w, "visitor", cookie.Value, 0)
+	}
+	return s.tag("form", cookie.Value, name)
 }

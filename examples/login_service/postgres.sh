@@ -1,5 +1,5 @@
 #!/bin/sh
-# Starts or stops a PostgreSQL whose data and Unix socket are in a folder: postgres.sh start|stop|kill FOLDER
+# Starts a PostgreSQL in a folder: postgres.sh start FOLDER. Another word is pg_ctl's mode of a stop: fast, immediate.
 set -eu
 folder=$2
 export PATH="$PATH:$(ls -d /usr/lib/postgresql/*/bin | sort -V | tail -n 1)"
@@ -11,6 +11,5 @@ start)
   if [ "$(id -u)" = 0 ]; then chown postgres "$folder"; fi
   test -d "$folder/data" || as initdb -D "$folder/data" -U login_service -A trust -E UTF8 --no-locale > /dev/null
   as pg_ctl -D "$folder/data" -l "$folder/log" -o "-k $folder -c listen_addresses=" -w start > /dev/null ;;
-stop) as pg_ctl -D "$folder/data" -m fast -w stop > /dev/null ;;
-kill) as pg_ctl -D "$folder/data" -m immediate -w stop > /dev/null ;;
+*) as pg_ctl -D "$folder/data" -m "$1" -w stop > /dev/null ;;
 esac
