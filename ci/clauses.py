@@ -37,7 +37,7 @@ def relations(body, sign):
 def items_of(path, text):
     """The items of a source. Their words are those of its path and of the type or trait around them."""
     module = set(re.split(r"[/.]", path)) - {"crates", "src", "rt"}
-    for kind, head, body in re.findall(r"^(pub trait|impl(?:<[^>]*>)?) ([^\n{]*)\{(.*?)^\}", text, re.M | re.S):
+    for kind, head, body in re.findall(r"^(pub trait|impl(?:<[^>]*>)?) ([^\n{]*)\{(?!\})(.*?)^\}", text, re.M | re.S):
         words = module | set(re.findall(r"\w+", head))
         functions = [(name, ensured(rest), public) for _, public, name, rest in FUNCTION.findall(body)]
         if kind == "pub trait":

@@ -130,6 +130,7 @@ CLAUSES = [
     ("a private clause that is added", "    ensures hidden", "    ensures more { x }\n    ensures hidden", None),
     ("a clause of a trait that is dropped", "        ensures ok { x };", "        ;", "Hasher::hash of crates/a/src/hasher.rt has no clause ok"),
     ("a relation that is dropped", "    ghost hashes = { x };\n", "", "Hasher of crates/a/src/hasher.rt has no clause hashes"),
+    ("an empty implementation before another", "impl Hasher for", "impl Error for Scrypt {}\n\nimpl Hasher for", None),
     ("a clause of a law that is dropped", "    ensures same { x }\n", "", "one_key of crates/a/src/derive.rt has no clause same"),
     ("a clause that no row names", "`refused`; `buffers`", "`value`; `buffers`", "no row with the clause refused of key"),
     ("a clause that its function lacks", "`refused`; `buffers`", "`buffers`; `buffers`", "key of crates/a/src/derive.rt has no clause buffers"),
