@@ -36,5 +36,7 @@ pub mod McfTextFacts
 pub mod StoredHashFacts
 -- Verifying with stored hashes of either format in the caller's buffers.
 pub mod StoredInBuffersFacts
+-- Verifying within limits: a hash that is not too costly is verified, and any other is refused before.
+pub mod WithinFacts
 -- Hashing is refused for one thing.
 pub mod HashingFacts

@@ -20,6 +20,8 @@ pub mod ChunkOrder
 pub mod Accepted
 -- what a derivation costs in cores and in memory
 pub mod Cost
+-- the most that a derivation may need
+pub mod Limits
 -- the texts of errors
 pub mod ErrorText
 -- the key of parameters, as a `Kdf` gives it
@@ -45,5 +47,7 @@ pub mod McfHash
 pub mod Rehashing
 -- stored hashes of either format, by their texts
 pub mod StoredHash
+-- verifying within limits
+pub mod WithinLimits
 -- private: what a stored hash holds
 pub mod StoredRead

@@ -62,6 +62,13 @@ impl BufferLens {
         Some(BufferLens::with_rows(params, params.log_n() - s, 3))
     }
 
+    /// Returns the number of bytes of the three buffers together. A word has four bytes.
+    pub fn bytes(&self) -> u128
+        ensures value { result ≡ self.now.chunks + 4 * self.now.table + 4 * self.now.scratch }
+    {
+        self.chunks as u128 + 4 * self.table as u128 + 4 * self.scratch as u128
+    }
+
     // The lengths with a table of `2^log_rows` rows, and with a scratch of so many rows.
     #[tactic(auto, using(crate::proofs::AcceptedFacts::small_chunks, crate::proofs::AcceptedFacts::small_rows))]
     fn with_rows(params: &Params, log_rows: u8, scratch_rows: usize) -> BufferLens

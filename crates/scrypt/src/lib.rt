@@ -20,6 +20,7 @@ mod comparing;
 mod derivation;
 pub mod errors;
 pub mod laws;
+mod limits;
 pub mod mcf;
 mod params;
 pub mod phc;
@@ -33,7 +34,8 @@ pub use algorithm::Scrypt;
 pub use derivation::{
     BufferLens, output_len_ok, scrypt, scrypt_counted, scrypt_thin, scrypt_with_buffers,
 };
-pub use errors::{DeriveError, InvalidOutputLen, InvalidParams};
+pub use errors::{BoundedError, DeriveError, InvalidOutputLen, InvalidParams};
+pub use limits::Limits;
 pub use params::Params;
 pub use password_hash;
 pub use password_hash::kdf;

@@ -9,6 +9,7 @@ ghost use Rattle.scrypt.specs.StoredHash.{Accepts, HasParameters, IsReadableText
 ghost use Rattle.scrypt.specs.StoredRead.{IsHashOf};
 
 mod in_buffers;
+mod within;
 
 use crate::mcf::reading as mcf_reading;
 use crate::phc::reading as phc_reading;
