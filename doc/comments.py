@@ -19,7 +19,7 @@ def inline(text, link=lambda name: None):
         href = link(found[1]) if found.group().startswith("[") else None
         out.append(f'<a href="{href}">{code}</a>' if href else code)
         at = found.end()
-    return "".join(out) + escape(text[at:], quote=False)
+    return ("".join(out) + escape(text[at:], quote=False)).replace("\n", "<br>")
 
 
 def block(text, link):

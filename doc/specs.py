@@ -66,7 +66,14 @@ def imports_of(text):
 
 
 def comment_text(lines):
-    return " ".join(it[2:].strip() for it in lines).strip()
+    """The text of a comment. A step of a standard ends its line, but for a full line and for what is in parentheses."""
+    text = ""
+    for line in lines:
+        words = line[2:].strip()
+        last = text.rpartition("\n")[2].strip()
+        is_step = re.match(r"steps? \d", last) and len(last) + len(words.split(" ")[0]) < 99 and not words.startswith("(")
+        text += ("\n" if is_step else " ") + words
+    return text.strip()
 
 
 def header_comment(lines):

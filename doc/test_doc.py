@@ -141,6 +141,16 @@ class Specs(unittest.TestCase):
         self.assertEqual(key.comment, "step 1: the first key (RFC 8018, section 5.2)")
         self.assertEqual((key.kind, key.line), ("unfoldable", 8))
 
+    def test_steps_of_a_standard_are_lines(self):
+        full = "-- step 1: " + "x" * 95
+        rows = [
+            (["-- step 1: X = B", "-- step 2: V[i] = X", "-- X after it"], "step 1: X = B\nstep 2: V[i] = X\nX after it"),
+            ([full, "-- and more"], f"{full[3:]} and more"),
+            (["-- the sum of", "-- two words"], "the sum of two words"),
+        ]
+        for lines, wanted in rows:
+            self.assertEqual(specs.comment_text(lines), wanted)
+
     def test_a_blank_line_inside_a_record_does_not_end_it(self):
         self.assertEqual(self.module.definitions["IsKey"].members, ["some", "more"])
 
