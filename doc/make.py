@@ -105,19 +105,23 @@ class Pages:
                 "first_line": first_sentence}
 
     def headline(self):
-        """The phrases of the headline with their clauses, and the definitions that these rest on, in reading order."""
+        """The phrases of the headline with their clauses, the definitions that these rest on in reading order, the phrases
+        on verifying, and what is wrong with them."""
         with open(f"{HERE}/headline.json", encoding="utf-8") as file:
             data = json.load(file)
-        phrases, lost, roots = [], [], []
-        for phrase in data["headline"]:
-            text, clauses, note = (*phrase, [], "")[:3] if len(phrase) > 1 else (phrase[0], [], "")
-            found = [self.views.by_name.get(it) for it in clauses]
-            lost += [f"headline.json: no clause {name}" for name, it in zip(clauses, found) if it is None]
-            found = [it for it in found if it]
-            roots += [key for it in found for key in self.views.cites.get(it["key"], ())]
-            phrases.append({"text": text, "clauses": found, "note": note})
-        lost += checks.headline("".join(it["text"] for it in phrases), f"{self.library.folder}/README.md")
-        return phrases, roots, lost
+        (phrases, lost), (verifying, more) = (self.phrases(data[it]) for it in ("headline", "verifying"))
+        roots = [key for it in phrases for clause in it["clauses"] for key in self.views.cites.get(clause["key"], ())]
+        lost += more + checks.headline("".join(it["text"] for it in phrases), f"{self.library.folder}/README.md")
+        return phrases, roots, verifying, lost
+
+    def phrases(self, rows):
+        """Phrases with their clauses, and the clauses that are gone."""
+        phrases, lost = [], []
+        for text, names, note in ((*row, [], "")[:3] if len(row) > 1 else (row[0], [], "") for row in rows):
+            found = [self.views.by_name.get(it) for it in names]
+            lost += [f"headline.json: no clause {name}" for name, it in zip(names, found) if it is None]
+            phrases.append({"text": text, "clauses": [it for it in found if it], "note": note})
+        return phrases, lost
 
     def reading(self, roots):
         """The definitions that the headline rests on, module by module."""
@@ -133,7 +137,7 @@ class Pages:
         self.write("reading.html", "reading.html", title="The definitions of the headline", modules=found, lines=lines)
         return len([it for _, those in found for it in those]), lines
 
-    def front(self, phrases, read):
+    def front(self, phrases, verifying, read):
         uses = {it: self.library.uses[it] for it in self.views.crates}
         counted = {it: sum(1 for _, shown in self.views.sources[it] for x in shown if x.kind == "fn") for it in uses}
         notes = {it: f"{count} public function{'s' * (count != 1)}" for it, count in counted.items()}
@@ -142,7 +146,8 @@ class Pages:
         clauses = sum(1 for those in self.views.sources.values() for _, shown in those for it in shown for x in it.parts)
         definitions = sum(len(shown) for those in self.views.definitions.values() for _, shown in those)
         numbers = {"functions": sum(counted.values()), "clauses": clauses, "definitions": definitions, "vectors": vectors}
-        self.write("index.html", "index.html", title="scrypt, proved", phrases=phrases, drawn=drawn, numbers=numbers, read=read,
+        self.write("index.html", "index.html", title="scrypt, proved", phrases=phrases,
+                   verifying=verifying, drawn=drawn, numbers=numbers, read=read,
                    about=[(it, first_sentence(self.library.sources[it][""].doc)) for it in uses])
 
     def rest(self):
@@ -174,10 +179,10 @@ class Pages:
 def make(folder, library):
     """Writes the pages to a folder, and returns everything that is wrong with them, and what they are."""
     pages = Pages(Views(library), folder)
-    phrases, roots, lost = pages.headline()
+    phrases, roots, verifying, lost = pages.headline()
     pages.definitions()
     pages.sources()
-    pages.front(phrases, pages.reading(roots))
+    pages.front(phrases, verifying, pages.reading(roots))
     pages.rest()
     lost += pages.views.links.lost + pages.views.silent()
     links, broken = checks.links(pages.written)
