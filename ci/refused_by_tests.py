@@ -1,8 +1,8 @@
 #!/usr/bin/env python3
 """Tries the bodies that meet every contract and are wrong still, which the tests have to refuse.
 
-No clause says that memory is there, or how much a call takes: a body that allocates once more, or that
-always answers that memory ran out, is proved. Each edit of crates/NAME/refused-by-tests/ is such a
+No clause can say that an allocation succeeds, or how much a call allocates: a body that allocates once more,
+or that always returns `OutOfMemory`, is proved. Each edit of crates/NAME/refused-by-tests/ is such a
 body. It is applied to a copy of the repository, where everything still has to be proved, and a test of
 the crate NAME has to fail.
 

@@ -22,7 +22,7 @@ abbrev pub AreTooShort : (Parameters → List ℕ → List ℕ → Type 0) → L
 AreTooShort IsWhole chunks table scratch =
     (c : Parameters) × (salt : List ℕ) × (key : List ℕ) × IsWhole c salt key × ¬ AreEnough c chunks table scratch
 
--- the first n elements are zeros now, and the others are as they were
+-- the first n elements are zeros now, and the others are unchanged
 abbrev pub IsWiped : ℕ → List ℕ → List ℕ → Type 0
 IsWiped n old new = new ≡ replicate n 0 ++ drop n old
 

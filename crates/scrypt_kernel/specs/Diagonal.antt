@@ -6,11 +6,11 @@ use Rattle.scrypt_kernel.specs.Words.{block, last_block, xor_words}
 use Rattle.scrypt_kernel.specs.Salsa.{salsa20_8}
 use Rattle.std.specs.List.{list_all, range_with_len}
 
--- the place in standard order of the word at each place in diagonal order
+-- pivot[i] is the standard index of the word that diagonal order has at index i
 abbrev pub pivot : List ℕ
 pivot = 0 ∷ 5 ∷ 10 ∷ 15 ∷ 4 ∷ 9 ∷ 14 ∷ 3 ∷ 8 ∷ 13 ∷ 2 ∷ 7 ∷ 12 ∷ 1 ∷ 6 ∷ 11 ∷ []
 
--- the place in diagonal order of the word at each place in standard order
+-- inverse_pivot[i] is the index in diagonal order of the word of standard index i
 abbrev pub inverse_pivot : List ℕ
 inverse_pivot = 0 ∷ 13 ∷ 10 ∷ 7 ∷ 4 ∷ 1 ∷ 14 ∷ 11 ∷ 8 ∷ 5 ∷ 2 ∷ 15 ∷ 12 ∷ 9 ∷ 6 ∷ 3 ∷ []
 

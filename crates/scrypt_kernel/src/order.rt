@@ -12,10 +12,10 @@ use crate::CoreCount;
 
 /// An order of the words in each block, and what scryptROMix computes in it.
 pub trait Order {
-    // the place in standard order of the word at each place of this one
+    // pivot[i] is the standard index of the word stored at index i
     ghost pivot: { List ℕ };
 
-    // the place in this order of the word at each place of standard order
+    // inverse_pivot[i] is the index at which the word of standard index i is stored
     ghost inverse_pivot: { List ℕ };
 
     // how many SIMD cores one core is, 0 or 1
