@@ -1,4 +1,4 @@
--- The letters of identifiers, names and values.
+-- The letters of identifiers, names and values (PHC string format).
 use Rattle.std.specs.Prelude.{ℕ, ◌≤◌, ◌==◌, ◌&&◌, ◌||◌, Bool, nat_le, IsTrue, List, length}
 use Rattle.std.specs.List.{list_all}
 

@@ -1,4 +1,4 @@
--- The parameters of a hash: pairs of a name and a value.
+-- The parameters of a hash (PHC string format): pairs of a name and a value.
 use Rattle.std.specs.Prelude.{◌≡◌, ◌≢◌, ℕ, ◌≤◌, ◌==◌, ◌&&◌, Bool, nat_eq, List, [], ◌∷◌, ◌++◌, length, map, codes, All, AllPairs}
 use Rattle.std.specs.List.{join_with_byte, slice_split, before_first, after_first}
 use Rattle.std.specs.Cmp.Lexicographic.{pointwise}

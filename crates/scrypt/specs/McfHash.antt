@@ -1,4 +1,4 @@
--- `$7$` hashes: how their texts are read, which are made, and which passwords they accept.
+-- `$7$` hashes of crypt(5): how their texts are read, which are made, and which passwords they accept.
 use Rattle.std.specs.Prelude.{◌≢◌, ℕ, ◌+◌, List, [], ◌∷◌, length, codes, Option, Ok, Err, ⊤}
 use Rattle.password_hash.specs.Crypt64.{Crypt64, IsCrypt64, crypt64_of, encoded_len}
 use Rattle.password_hash.specs.Mcf.{IsMcfText}

@@ -1,4 +1,4 @@
--- PHC hashes of scrypt: which are made, and which passwords they accept.
+-- Hashes of scrypt in the PHC string format: which are made, and which passwords they accept.
 use Rattle.std.specs.Prelude.{◌≡◌, ◌≢◌, ◌⊎◌, ℕ, ◌≤◌, List, length, codes, Option, None, Some, IsSome, Ok, Err}
 use Rattle.password_hash.specs.Refusal.{Refusal, Algorithm, Version, PasswordInvalid}
 use Rattle.password_hash.specs.declared.phc.hash.PasswordHash.{PasswordHash}
