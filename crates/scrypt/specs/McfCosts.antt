@@ -1,4 +1,4 @@
--- Five-letter numbers, and the costs with which the first field of a `$7$` text begins.
+-- Five-letter numbers, and the parameters with which the first field of a `$7$` text of crypt(5) begins.
 use Rattle.std.specs.Prelude.{◌≡◌, ℕ, ◌<◌, nat_lt, if◌then◌else◌, List, ◌∷◌, ◌++◌, length, take, drop, Option, None, Some, unwrap_or, Result, Ok, Err, codes, slice_index}
 use Rattle.password_hash.specs.Crypt64.{letter, letter_value, letters_of, number_of}
 use Rattle.password_hash.specs.Refusal.{Refusal, EncodingInvalid, ParamsInvalid}

@@ -1,4 +1,4 @@
--- Costs read from PHC parameters, and written as such.
+-- Parameters of scrypt, read from the pairs of the PHC string format and written as such.
 use Rattle.std.specs.Prelude.{◌≡◌, ◌≢◌, ℕ, ◌<◌, ◌≤◌, List, [], ◌∷◌, codes, decimal, Result, Ok, Err, None}
 use Rattle.password_hash.specs.Decimal.{IsDecimal}
 use Rattle.password_hash.specs.Refusal.{Refusal, ParamInvalid, ParamsInvalid}
