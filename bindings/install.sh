@@ -1,6 +1,7 @@
 #!/bin/sh
 # Installs what is built, or removes it: the libraries of build/lib with the header and the files for pkg-config and
-# CMake, the Python package, the licence, and the program with its man page and its completions if it is built.
+# CMake, the Python package, the licence, and if they are built the library for crypt(3) and the program with its man page
+# and its completions.
 # usage: install.sh install|uninstall, by the Makefile, which hands the places in the environment. DESTDIR goes before
 # each place where files are written, and into none of the files.
 set -eu
@@ -38,6 +39,7 @@ libraries() {
     put 644 "$room/$file" "$libdir/cmake/scrypt_c/$file"
   done
   put 644 LICENSE "$docdir/LICENSE"
+  put 644 release/NOTICES "$docdir/NOTICES"
 }
 
 python_package() {
@@ -58,6 +60,8 @@ if [ "$action" = install ] && [ ! -e build/lib/libscrypt_c.a ]; then
   exit 1
 fi
 libraries
+crypt=build/lib/libscrypt_crypt.so
+if [ "$action" = uninstall ] || [ -e $crypt ]; then put 755 $crypt "$libdir/libscrypt_crypt.so"; fi
 python_package
 if [ "$action" = uninstall ] || [ -e "$program" ]; then
   program

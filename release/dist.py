@@ -3,6 +3,7 @@
 
 import hashlib
 import os
+import pathlib
 import re
 import shutil
 import subprocess
@@ -76,6 +77,8 @@ class Release:
         shutil.rmtree(PARTS, ignore_errors=True)
         os.makedirs(DIST)
         self.install(self.usr, prefix="/usr", libdir=f"/{LIBDIR}", pythondir="/python")
+        # The library for crypt(3) needs libxcrypt and is not part of a release; `make crypt` may have built it here.
+        pathlib.Path(self.usr, LIBDIR, "libscrypt_crypt.so").unlink(missing_ok=True)
         drop_in = os.path.join(self.usr, DROP_IN)
         os.makedirs(os.path.dirname(drop_in))
         os.rename(os.path.join(self.usr, LIBDIR, "libscrypt_drop_in.so"), drop_in)

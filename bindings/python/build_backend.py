@@ -42,7 +42,10 @@ def read(path):
 
 
 def licence():
-    return read("LICENSE" if os.path.exists(os.path.join(HERE, "LICENSE")) else "../../LICENSE")
+    """The licence after the notices of what is compiled into the library, which a source archive has as one file."""
+    if os.path.exists(os.path.join(HERE, "LICENSE")):
+        return read("LICENSE")
+    return read("../../release/NOTICES") + b"\n" + read("../../LICENSE")
 
 
 def metadata():
