@@ -7,5 +7,6 @@
 pub mod hashes;
 pub mod in_buffers;
 pub mod keys;
+mod promises;
 pub mod statuses;
 mod texts;
