@@ -22,9 +22,16 @@ for archive in "$PWD/crates/scrypt_c/out/libscrypt_c.a" "$kit/c/liblibc_c.a"; do
 done
 # One object, of which only the names of the list are seen from outside.
 awk '/^scrypt_/ { print $1 }' bindings/c/abi > "$parts/symbols"
+# A proved call that sees a password or a key is called by the one in clearing.c, which has its name.
+nm -g --defined-only "$parts"/libscrypt_c/*.o |
+  awk '$2 == "T" && $3 !~ /^scrypt_(buffer_lens|wipe)$/ { print $3, "proved_" $3 }' > "$parts/proved"
+objcopy --redefine-syms="$parts/proved" "$parts"/libscrypt_c/*.o
+objcopy --redefine-sym free=clearing_free --redefine-sym realloc=clearing_realloc "$parts"/liblibc_c/*.o
 # The test of the processor is in it, so that each program that calls anything has it, also by the static library.
-$CC -std=c99 -O2 -Wall -Wextra -pedantic -fPIC -c -o "$parts/cpu.o" bindings/c/cpu.c
-ld -r -o "$parts/all.o" "$parts"/*/*.o "$parts/cpu.o"
+for part in clearing registers cpu; do
+  $CC -std=c99 -O2 -Wall -Wextra -pedantic -fPIC -Ibindings/c -c -o "$parts/$part.o" bindings/c/$part.c
+done
+ld -r -o "$parts/all.o" "$parts"/*/*.o "$parts"/clearing.o "$parts"/registers.o "$parts"/cpu.o
 objcopy --keep-global-symbols="$parts/symbols" "$parts/all.o" "$parts/scrypt_c.o"
 # The calls that are written in C and not proved.
 for call in memory salt; do

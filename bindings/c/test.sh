@@ -56,7 +56,7 @@ if has gcc gcc && has qemu-x86_64-static qemu-user-static; then
   grep "lacks a feature of x86-64-v2" "$room/refused"
 fi
 
-tests="test test_mapped test_memory test_wipe test_salt threads"
+tests="test test_mapped test_memory test_wipe test_salt test_traces threads"
 memcheck() {
   valgrind -q --error-exitcode=1 --leak-check=full --errors-for-leak-kinds=all "$@"
 }
@@ -73,6 +73,27 @@ fi
 if has gcc gcc && has valgrind valgrind; then
   for test in $tests; do memcheck "$room/$test" small; done
   echo "no report by valgrind memcheck: the same, but for the key of 1 GiB"
+fi
+
+# What calls leave in memory. If what the kit built is here, each call without clearing.c has to leave something, and to
+# use no more than half of the stack that is cleared.
+if has gcc gcc; then
+  python3 -B bindings/c/traces.py "$lib/libscrypt_c.so" > "$room/secrets"
+  others=$lib/libscrypt_drop_in.so
+  if [ -e "$lib/libscrypt_crypt.so" ]; then others="$others $lib/libscrypt_crypt.so"; fi
+  "$room/test_traces" "$room/secrets" $others > /dev/null
+  echo "no trace of the password, the blocks or the key: each call, the drop-in names, crypt(3)"
+  if command -v rt > /dev/null && [ -e crates/scrypt_c/out/libscrypt_c.a ]; then
+    gcc -O2 -Ibindings/c bindings/c/test_traces.c bindings/c/memory.c bindings/c/salt.c -o "$room/not_cleared" \
+      crates/scrypt_c/out/libscrypt_c.a "$(dirname "$(rt doc)")/c/liblibc_c.a" -lpthread
+    head -n 1 "$room/secrets" > "$room/first"
+    if "$room/not_cleared" "$room/first" > "$room/used" 2> "$room/traces"; then exit 1; fi
+    for call in $(sed -n 's/^CLEARING(\([a-z_]*\),.*/\1/p' bindings/c/clearing.c); do
+      grep -q "traces of $call\b" "$room/traces" || { echo "no trace of $call without clearing.c" >&2; exit 1; }
+    done
+    test "$(cut -d ' ' -f 1 "$room/used")" -lt 8192
+    echo "traces of each of them without clearing.c; $(cat "$room/used")"
+  fi
 fi
 
 # What make install puts into a stage is found by pkg-config and by CMake, and make uninstall leaves no file of it.

@@ -23,6 +23,15 @@ fi
 PYTHONWARNINGS=error run python3 test_hasher
 echo "called from Python"
 
+# What the interpreter does with its own copies of the outputs is none of this: so that it doesn't save registers while it
+# binds functions, they are bound before.
+if has gcc gcc; then
+  gcc -O2 -fPIC -shared bindings/c/traces.c -o "$room/traces.so"
+  python3 bindings/c/traces.py "$lib/libscrypt_c.so" > "$room/secrets"
+  LD_BIND_NOW=1 python3 "$tests/test_traces.py" "$room/secrets" "$room/traces.so"
+  echo "no trace of the password, the blocks or the key: hashes, verifying and keys from Python"
+fi
+
 # Debian's interpreter, which has Debian's packages.
 for framework in django passlib; do
   if /usr/bin/python3 -c "import $framework" 2> /dev/null; then

@@ -10,7 +10,9 @@ Password = Union[str, bytes, bytearray, memoryview]
 
 
 def raw_bytes(data: Bytes, what: str) -> bytes:
-    """The bytes of a bytes-like object. `bytes` alone would take a number for a length."""
+    """The bytes of a bytes-like object, without a copy if it is bytes. `bytes` alone would take a number for a length."""
+    if isinstance(data, bytes):
+        return data
     try:
         return memoryview(data).tobytes()
     except TypeError:

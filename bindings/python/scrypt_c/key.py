@@ -30,4 +30,6 @@ def scrypt(password: Bytes, *, salt: Bytes, n: int, r: int, p: int, maxmem: int 
     key = ctypes.create_string_buffer(dklen)
     status = library.kdf(password, len(password), salt, len(salt), log_n, r, p, key, dklen)
     check(status, f"n={n}, r={r}, p={p}, dklen={dklen}")
-    return key.raw
+    made = key.raw
+    ctypes.memset(key, 0, dklen)
+    return made
