@@ -104,6 +104,20 @@ CLEARING(scrypt_hash_mcf,
           uint32_t p, size_t key_len, char *text, size_t capacity, size_t *text_len),
          (password, password_len, salt, salt_len, log_n, r, p, key_len, text, capacity, text_len))
 
+CLEARING(scrypt_hash_phc_with_buffers,
+         (const uint8_t *password, size_t password_len, const uint8_t *salt, size_t salt_len, uint8_t log_n, uint32_t r,
+          uint32_t p, size_t key_len, char *text, size_t capacity, size_t *text_len, uint8_t *chunks, size_t chunks_len,
+          uint32_t *table, size_t table_len, uint32_t *scratch, size_t scratch_len),
+         (password, password_len, salt, salt_len, log_n, r, p, key_len, text, capacity, text_len, chunks, chunks_len,
+          table, table_len, scratch, scratch_len))
+
+CLEARING(scrypt_hash_mcf_with_buffers,
+         (const uint8_t *password, size_t password_len, const uint8_t *salt, size_t salt_len, uint8_t log_n, uint32_t r,
+          uint32_t p, size_t key_len, char *text, size_t capacity, size_t *text_len, uint8_t *chunks, size_t chunks_len,
+          uint32_t *table, size_t table_len, uint32_t *scratch, size_t scratch_len),
+         (password, password_len, salt, salt_len, log_n, r, p, key_len, text, capacity, text_len, chunks, chunks_len,
+          table, table_len, scratch, scratch_len))
+
 CLEARING(scrypt_verify, (const uint8_t *password, size_t password_len, const char *text, size_t text_len),
          (password, password_len, text, text_len))
 

@@ -79,6 +79,18 @@ static int verify_with_buffers(void) {
   return status;
 }
 
+static int hash_phc_with_buffers(void) {
+  int status = scrypt_hash_phc_with_buffers(PASSWORD, SALT, PARAMS, KEY_LEN, phc, sizeof phc, &phc_len, BUFFERS);
+  scrypt_wipe(BUFFERS);
+  return status;
+}
+
+static int hash_mcf_with_buffers(void) {
+  int status = scrypt_hash_mcf_with_buffers(PASSWORD, SALT, PARAMS, KEY_LEN, mcf, sizeof mcf, &mcf_len, BUFFERS);
+  scrypt_wipe(BUFFERS);
+  return status;
+}
+
 static int needs_rehash(void) { return scrypt_needs_rehash(phc, phc_len, 1, 1, 1, KEY_LEN); }
 
 static int hash_params(void) {
@@ -203,6 +215,8 @@ static const struct {
     {"scrypt_hash_phc_z", hash_phc_of_the_helper, NULL},
     {"scrypt_hash_mcf_z", hash_mcf_of_the_helper, NULL},
     {"scrypt_hash_mcf, whose text does not fit", hash_that_does_not_fit, NULL},
+    {"scrypt_hash_phc_with_buffers", hash_phc_with_buffers, NULL},
+    {"scrypt_hash_mcf_with_buffers", hash_mcf_with_buffers, NULL},
     {"scrypt_verify of a PHC text", verify_phc, NULL},
     {"scrypt_verify of a $7$ text", verify_mcf, NULL},
     {"scrypt_verify of another password", verify_another_password, NULL},
