@@ -97,7 +97,15 @@ ROWS = [
         "verify_password",
         ("verify_password", "scrypt/src/phc/verifying.rt"),
         [
-            ("read", "scrypt/src/phc/reading.rt", "parameters, salt and key"),
+            ("read_params", "scrypt/src/phc/reading.rt", "log_n, r and p of the hash"),
+            ("verify_with_params", "scrypt/src/phc/verifying.rt", "the verdict"),
+        ],
+    ),
+    (
+        "verify_with_params",
+        ("verify_with_params", "scrypt/src/phc/verifying.rt"),
+        [
+            ("stored_of", "scrypt/src/phc/reading.rt", "with the salt and the key"),
             ("key_in_array", "scrypt/src/stored_key.rt", "the key of this password"),
             ("are_equal", "scrypt/src/phc/verifying.rt", "every byte compared"),
         ],

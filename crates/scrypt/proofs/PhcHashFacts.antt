@@ -1,8 +1,8 @@
 -- Facts on PHC hashes of scrypt.
-use Rattle.std.proofs.Common.{◌≡◌, ◌≢◌, ℕ, List, refl, sym, ap, subst, ◌∙◌, arith, lit≤, None, Ok, Err, inl, inr}
-use Rattle.std.specs.Prelude.{IfErr, IfSome, IsSome, Option, Result}
+use Rattle.std.proofs.Common.{◌≡◌, ℕ, List, refl, sym, ap, subst, ◌∙◌, arith, lit≤, None, Ok, Err, inl, inr}
+use Rattle.std.specs.Prelude.{IfSome, IsSome, Option, Result}
 use Rattle.password_hash.specs.Phc.{IsHashText, IsSalt, hash_text}
-use Rattle.password_hash.specs.Refusal.{Refusal, PasswordInvalid, refusal}
+use Rattle.password_hash.specs.Refusal.{Refusal}
 use Rattle.password_hash.specs.declared.error.Error.{Error}
 use Rattle.password_hash.specs.declared.phc.hash.PasswordHash.{PasswordHash}
 use Rattle.scrypt.specs.Accepted.{AreAccepted, IsStoredLen, Parameters}
@@ -12,6 +12,7 @@ use Rattle.scrypt.specs.PhcCosts.{ReadsCosts}
 use Rattle.scrypt.specs.PhcConversions.{IsReadAs}
 use Rattle.scrypt.specs.PhcHash.{Accepts, IsMadeHash, IsOfCosts, IsWhole, ReadIsRefused, algorithm, version, costs, missing, scrypt_id}
 use Rattle.scrypt.specs.Hashing.{key_len_or_default}
+use Rattle.scrypt.specs.StoredRead.{AreParamsOf}
 use Rattle.scrypt.proofs.AcceptedFacts.{key_len_or_default_stored, small_costs}
 use Rattle.scrypt.proofs.KeyFacts.{key_by-are_bytes, length-key_by}
 use Rattle.scrypt.proofs.PhcCostsFacts.{three_pairs}
@@ -66,17 +67,11 @@ refused_once (missing of_costs gone) (version is' some') = absurd (versioned som
 refused_once (missing of_costs gone) (costs is' none' refused') = absurd (not_read refused' of_costs.costs)
 refused_once (missing of_costs gone) (missing of_costs' gone') = refl
 
--- what reading the parameters of a hash refuses, the hash is refused for
-pub params_refused : (hash : PasswordHash) (out : Result Parameters Error) → hash.algorithm ≡ scrypt_id → hash.version ≡ None
-    → IsReadAs hash.params out → IfErr out (λ e. ReadIsRefused hash (refusal e))
-params_refused hash (Ok c) is none read = tt
-params_refused hash (Err e) is none refused = costs is none refused
-
--- and never as a wrong password
-pub params_refused_otherwise : (pairs : List (List ℕ × List ℕ)) (out : Result Parameters Error) → IsReadAs pairs out
-    → IfErr out (λ e. refusal e ≢ PasswordInvalid)
-params_refused_otherwise pairs (Ok c) read = tt
-params_refused_otherwise pairs (Err e) refused = refused_otherwise refused
+-- what is read as the parameters of a hash of scrypt without a version
+pub params_are : (hash : PasswordHash) (out : Result Parameters Error) → hash.algorithm ≡ scrypt_id → hash.version ≡ None
+    → IsReadAs hash.params out → AreParamsOf hash out
+params_are hash (Ok c) is none read = record { ok = record { algorithm = is; version = none; costs = read }; err = tt; missing = tt }
+params_are hash (Err e) is none refused = record { ok = tt; err = costs is none refused; missing = refused_otherwise refused }
 
 -- a made hash is whole
 pub made_whole : (c : Parameters) (password salt : List ℕ) (hash : PasswordHash) → AreAccepted c.log_n c.r c.p

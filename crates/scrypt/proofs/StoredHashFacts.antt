@@ -15,7 +15,7 @@ use Rattle.scrypt.specs.McfHash.{IsWhole as IsMcfWhole, ReadIsRefused as McfRead
 use Rattle.scrypt.specs.PhcHash.{IsWhole as IsPhcWhole, ReadIsRefused as PhcReadIsRefused, scrypt_id}
 use Rattle.scrypt.specs.Rehashing.{IsReadable, IsWeaker}
 use Rattle.scrypt.specs.StoredHash.{HasParameters, IsStoredText, IsTextOf, IsWhole, ReadIsRefused, is_mcf_text, mcf, no_hash, of_hash, phc}
-use Rattle.scrypt.specs.StoredRead.{IsHashOf}
+use Rattle.scrypt.specs.StoredRead.{AreParamsOf, IsHashOf}
 use Rattle.scrypt.specs.declared.stored_hash.Format.{Format}
 use Rattle.scrypt.specs.declared.stored_hash.Format.TheVariants.{Mcf, Phc}
 use Rattle.scrypt.specs.Verifying.{IsAccepted, IsRefusedBy, VerdictOf, by_verdict, for_memory, refused, right, wrong}
@@ -179,7 +179,7 @@ phc_compared text hash wanted out (other, is) = compared_as out (phc_to other is
 -- the text of a hash that was read is stored
 pub stored_as : {text self : List ℕ} (format : Format) → text ≡ self → IsHashOf text format → IsStoredText self
 stored_as (Mcf hash) same read = subst IsStoredText same (mcf read.0 read.1 tt)
-stored_as (Phc hash) same read = subst IsStoredText same (phc read.0 read.1 tt)
+stored_as (Phc hash params) same read = subst IsStoredText same (phc read.0 read.1 tt)
 
 -- what was read as a `$7$` text
 pub as_mcf : {text self : List ℕ} {format : Format} {hash : PasswordHashRef} → text ≡ self → format ≡ Mcf hash → IsHashOf text format
@@ -188,10 +188,18 @@ as_mcf {text} {self} {format} {hash} same is read =
     subst (λ t. (is_mcf_text t ≡ true) × IsMcf t × (hash_text hash ≡ t)) same (subst (IsHashOf text) is read)
 
 -- what was read as a PHC text
-pub as_phc : {text self : List ℕ} {format : Format} {hash : PasswordHash} → text ≡ self → format ≡ Phc hash → IsHashOf text format
-    → (is_mcf_text self ≡ false) × IsHashText self hash
-as_phc {text} {self} {format} {hash} same is read =
-    subst (λ t. (is_mcf_text t ≡ false) × IsHashText t hash) same (subst (IsHashOf text) is read)
+pub as_phc : {text self : List ℕ} {format : Format} {hash : PasswordHash} {params : Result Parameters Error} → text ≡ self
+    → format ≡ Phc hash params → IsHashOf text format → (is_mcf_text self ≡ false) × IsHashText self hash
+as_phc {text} {self} {format} {hash} {params} same is read =
+    let read : IsHashOf text (Phc hash params) = subst (IsHashOf text) is read in
+    subst (λ t. (is_mcf_text t ≡ false) × IsHashText t hash) same (read.0, read.1)
+
+-- the parameters that were read with it
+pub params_of_phc : (text : List ℕ) {format : Format} {hash : PasswordHash} {params : Result Parameters Error}
+    → format ≡ Phc hash params → IsHashOf text format → AreParamsOf hash params
+params_of_phc text {format} {hash} {params} is read =
+    let read : IsHashOf text (Phc hash params) = subst (IsHashOf text) is read in
+    read.2
 
 or_true : (b : Bool) → (b || true) ≡ true
 or_true true = refl

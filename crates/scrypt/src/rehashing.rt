@@ -1,13 +1,15 @@
 // Which stored hashes are weaker than wanted.
 
-ghost use Rattle.std.specs.Prelude.{◌↔◌, IsTrue};
+ghost use Rattle.std.specs.Prelude.{◌↔◌, IfErr, IfOk, IsTrue, OnOk};
 ghost use Rattle.password_hash.specs.McfViews.{hash_text};
+ghost use Rattle.password_hash.specs.Refusal.{refusal};
 ghost use Rattle.scrypt.specs.McfHash.{IsWhole as IsMcfWhole, ReadIsRefused as McfReadIsRefused};
 ghost use Rattle.scrypt.specs.PhcHash.{IsWhole, ReadIsRefused};
 ghost use Rattle.scrypt.specs.Rehashing.{IsBelow, IsReadable, IsWeaker};
+ghost use Rattle.scrypt.specs.StoredRead.{AreParamsOf};
 
-use crate::mcf::reading as mcf_reading;
-use crate::phc::reading as phc_reading;
+use crate::mcf::reading::read;
+use crate::phc::reading::{read_params, stored_of};
 use crate::stored_key::key_len_or_default;
 use crate::{Params, Scrypt};
 use password_hash::{RehashCheck, Result, mcf, phc};
@@ -25,10 +27,24 @@ impl RehashCheck<phc::PasswordHash> for Scrypt {
     ///
     /// Returns the same errors as verifying does before it allocates, in the same order.
     fn needs_rehash(&self, hash: &phc::PasswordHash) -> Result<bool> {
-        match phc_reading::read(hash) {
-            Ok(stored) => Ok(is_below(&self.params(), &stored.params, stored.key.len())),
-            Err(refused) => Err(refused),
-        }
+        needs_rehash_with_params(&self.params(), hash, &read_params(hash))
+    }
+}
+
+/// Compares as `needs_rehash` does a hash whose parameters were read by `read_params`.
+pub(crate) fn needs_rehash_with_params(
+    wanted: &Params,
+    hash: &phc::PasswordHash,
+    params: &Result<Params>,
+) -> Result<bool>
+    requires { AreParamsOf hash.now params.now }
+    ensures ok { OnOk result (IsReadable (IsWhole hash.now)) }
+    ensures weak { IfOk result (λ weak. IsTrue weak ↔ IsWeaker (IsWhole hash.now) wanted.now) }
+    ensures err { IfErr result (λ e. ReadIsRefused hash.now (refusal e)) }
+{
+    match stored_of(hash, params) {
+        Ok(stored) => Ok(is_below(wanted, &stored.params, stored.key.len())),
+        Err(refused) => Err(refused),
     }
 }
 
@@ -45,7 +61,7 @@ impl<'a> RehashCheck<mcf::PasswordHashRef<'a>> for Scrypt {
     ///
     /// Returns the same errors as verifying does before it allocates, in the same order.
     fn needs_rehash(&self, hash: &mcf::PasswordHashRef<'a>) -> Result<bool> {
-        match mcf_reading::read(hash) {
+        match read(hash) {
             Ok(stored) => Ok(is_below(&self.params(), &stored.params, stored.key_len)),
             Err(refused) => Err(refused),
         }

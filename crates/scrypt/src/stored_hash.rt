@@ -11,8 +11,10 @@ ghost use Rattle.scrypt.specs.StoredRead.{IsHashOf};
 mod in_buffers;
 mod within;
 
-use crate::mcf::reading as mcf_reading;
-use crate::phc::reading as phc_reading;
+use crate::mcf::reading::read;
+use crate::phc::reading::read_params;
+use crate::phc::verify_with_params;
+use crate::rehashing::needs_rehash_with_params;
 use crate::{Params, Scrypt};
 use password_hash::{Error, PasswordVerifier, RehashCheck, Result, mcf, phc};
 use std::alloc::Global;
@@ -27,11 +29,11 @@ pub struct StoredHash<'a> {
     format: Format<'a>,
 }
 
-// The hash of a text.
+// The hash of a text. The parameters of a PHC hash are read once, with the text.
 #[derive(Drop)]
 enum Format<'a> {
     Mcf(mcf::PasswordHashRef<'a>),
-    Phc(phc::PasswordHash),
+    Phc(phc::PasswordHash, Result<Params>),
 }
 
 impl<'a> Model for StoredHash<'a> {
@@ -111,7 +113,7 @@ impl<'a> StoredHash<'a> {
     {
         match &self.format {
             Format::Mcf(hash) => Scrypt::new().verify_password(alloc, password, hash),
-            Format::Phc(hash) => Scrypt::new().verify_password(alloc, password, hash),
+            Format::Phc(hash, params) => verify_with_params(alloc, password, hash, params),
         }
     }
 
@@ -125,10 +127,9 @@ impl<'a> StoredHash<'a> {
         ensures weak { IfOk result (λ weak. IsTrue weak ↔ IsWeakerText wanted.now self.now) }
         ensures err { IfErr result (λ e. ReadIsRefused self.now (refusal e)) }
     {
-        let wanted = Scrypt::new_with_params(*wanted);
         match &self.format {
-            Format::Mcf(hash) => wanted.needs_rehash(hash),
-            Format::Phc(hash) => wanted.needs_rehash(hash),
+            Format::Mcf(hash) => Scrypt::new_with_params(*wanted).needs_rehash(hash),
+            Format::Phc(hash, params) => needs_rehash_with_params(wanted, hash, params),
         }
     }
 
@@ -139,13 +140,13 @@ impl<'a> StoredHash<'a> {
         ensures missing { IfErr result (λ e. refusal e ≢ why.PasswordInvalid) }
     {
         match &self.format {
-            Format::Mcf(hash) => match mcf_reading::read(hash) {
+            Format::Mcf(hash) => match read(hash) {
                 Ok(stored) => Ok((stored.params, stored.key_len)),
                 Err(error) => Err(error),
             },
-            Format::Phc(hash) => match phc_reading::read_params(hash) {
-                Ok(params) => Ok((params, key_len(hash))),
-                Err(error) => Err(error),
+            Format::Phc(hash, params) => match params {
+                Ok(params) => Ok((*params, key_len(hash))),
+                Err(error) => Err(*error),
             },
         }
     }
@@ -164,7 +165,10 @@ fn read_format(text: &str) -> Result<Format<'_>>
         };
     }
     match phc::PasswordHash::new(text) {
-        Ok(hash) => Ok(Format::Phc(hash)),
+        Ok(hash) => {
+            let params = read_params(&hash);
+            Ok(Format::Phc(hash, params))
+        }
         Err(error) => Err(error),
     }
 }

@@ -6,11 +6,13 @@ ghost use Rattle.password_hash.specs.declared.error.Error.TheVariants.{OutOfMemo
 ghost use Rattle.scrypt.specs.Accepted.{Parameters};
 ghost use Rattle.scrypt.specs.Cost.{chunks_bytes, cost, scratch_words};
 ghost use Rattle.scrypt.specs.InBuffers.{AreCompared, AreEnough, AreTooShort, IsWiped, verdict_of};
-ghost use Rattle.scrypt.specs.PhcHash.{Accepts, IsWhole, Verdict, VerifyIsRefused};
+ghost use Rattle.scrypt.specs.PhcHash.{Accepts, IsWhole, ReadIsRefused, Verdict, VerifyIsRefused};
+ghost use Rattle.scrypt.specs.StoredRead.{AreParamsOf};
+ghost use Rattle.scrypt.specs.WorkInBuffers.{IsVerifying};
 
-use crate::CoreCount;
-use crate::phc::reading::read;
+use crate::phc::reading::{read_params, stored_of};
 use crate::verifying::verify_in_buffers;
+use crate::{CoreCount, Params};
 use password_hash::Result;
 use password_hash::phc::PasswordHash;
 
@@ -54,7 +56,27 @@ pub fn verify_with_buffers(
     ensures uncounted { ¬ AreCompared (IsWhole hash.now) chunks.old table.old scratch.old
         → (cores.new.all ≡ cores.old.all) × (cores.new.lanes ≡ cores.old.lanes) }
 {
-    match read(hash) {
+    let params = read_params(hash);
+    verify_with_params_in_buffers(password, hash, &params, chunks, table, scratch, cores)
+}
+
+/// Verifies as `verify_with_buffers` does against a hash whose parameters were read by
+/// `read_params`.
+pub(crate) fn verify_with_params_in_buffers(
+    password: &[u8],
+    hash: &PasswordHash,
+    params: &Result<Params>,
+    chunks: &mut [u8],
+    table: &mut [u32],
+    scratch: &mut [u32],
+    cores: &mut CoreCount,
+) -> Result<()>
+    requires { AreParamsOf hash.now params.now }
+    ensures { IsVerifying (IsWhole hash.now) (ReadIsRefused hash.now) password.now result
+        (record { chunks = chunks.old; table = table.old; scratch = scratch.old; all = cores.old.all; lanes = cores.old.lanes })
+        (record { chunks = chunks.new; table = table.new; scratch = scratch.new; all = cores.new.all; lanes = cores.new.lanes }) }
+{
+    match stored_of(hash, params) {
         Ok(stored) => verify_in_buffers(
             password,
             stored.salt,

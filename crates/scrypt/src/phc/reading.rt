@@ -1,8 +1,9 @@
 // Reading PHC hashes.
 
-ghost use Rattle.std.specs.Prelude.{◌≡◌, ◌≢◌, ◌↔◌, IfErr, IfOk, IsTrue};
-ghost use Rattle.password_hash.specs.Refusal.{PasswordInvalid, refusal};
-ghost use Rattle.scrypt.specs.PhcHash.{IsOfCosts, IsWhole, ReadIsRefused, scrypt_id};
+ghost use Rattle.std.specs.Prelude.{◌≡◌, ◌↔◌, IfErr, IfOk, IsTrue};
+ghost use Rattle.password_hash.specs.Refusal.{refusal};
+ghost use Rattle.scrypt.specs.PhcHash.{IsWhole, ReadIsRefused, scrypt_id};
+ghost use Rattle.scrypt.specs.StoredRead.{AreParamsOf};
 
 use crate::Params;
 use crate::phc::ALG_ID;
@@ -17,18 +18,18 @@ pub(crate) struct Stored<'a> {
     pub(crate) key: &'a Output,
 }
 
-/// Reads a hash.
+/// Returns the parts of a hash, whose parameters were read by `read_params`.
 ///
-/// Returns the first of these errors: `Algorithm` if the algorithm is not `scrypt`, `Version` if
-/// there is a version, the errors of reading the parameters, and `PasswordInvalid` if the salt or
-/// the key is missing.
-pub(crate) fn read(hash: &PasswordHash) -> Result<Stored<'_>>
+/// Returns the error of reading the parameters, or `PasswordInvalid` if the salt or the key is
+/// missing.
+pub(crate) fn stored_of<'a>(hash: &'a PasswordHash, params: &Result<Params>) -> Result<Stored<'a>>
+    requires { AreParamsOf hash.now params.now }
     ensures ok { IfOk result (λ stored. IsWhole hash.now stored.params stored.salt.now stored.key.now) }
     ensures err { IfErr result (λ e. ReadIsRefused hash.now (refusal e)) }
 {
-    let params = match read_params(hash) {
-        Ok(params) => params,
-        Err(refused) => return Err(refused),
+    let params = match params {
+        Ok(params) => *params,
+        Err(refused) => return Err(*refused),
     };
     let Some(salt) = &hash.salt else {
         return Err(Error::PasswordInvalid);
@@ -49,9 +50,7 @@ pub(crate) fn read(hash: &PasswordHash) -> Result<Stored<'_>>
 /// Returns the first of these errors: `Algorithm` if the algorithm is not `scrypt`, `Version` if
 /// there is a version, and the errors of reading the parameters.
 pub(crate) fn read_params(hash: &PasswordHash) -> Result<Params>
-    ensures ok { IfOk result (IsOfCosts hash.now) }
-    ensures err { IfErr result (λ e. ReadIsRefused hash.now (refusal e)) }
-    ensures missing { IfErr result (λ e. refusal e ≢ PasswordInvalid) }
+    ensures { AreParamsOf hash.now result }
 {
     if !is_scrypt(&hash.algorithm) {
         return Err(Error::Algorithm);

@@ -9,7 +9,8 @@ ghost use Rattle.scrypt.specs.InBuffers.{AreCompared, AreEnough, AreTooShort, Is
 ghost use Rattle.scrypt.specs.StoredHash.{Accepts, HasParameters, IsWhole, ReadIsRefused, Verdict, VerifyIsRefused};
 
 use super::{Format, StoredHash};
-use crate::{BufferLens, CoreCount, mcf, phc};
+use crate::phc::verify_with_params_in_buffers;
+use crate::{BufferLens, CoreCount, mcf};
 use password_hash::Result;
 
 impl<'a> StoredHash<'a> {
@@ -73,9 +74,9 @@ impl<'a> StoredHash<'a> {
             Format::Mcf(hash) => {
                 mcf::verify_with_buffers(password, hash, chunks, table, scratch, cores)
             }
-            Format::Phc(hash) => {
-                phc::verify_with_buffers(password, hash, chunks, table, scratch, cores)
-            }
+            Format::Phc(hash, params) => verify_with_params_in_buffers(
+                password, hash, params, chunks, table, scratch, cores,
+            ),
         }
     }
 }

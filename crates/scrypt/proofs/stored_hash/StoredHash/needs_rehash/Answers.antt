@@ -1,17 +1,18 @@
 use Rattle.scrypt.specs.StoredHash.{IsWhole, ReadIsRefused}
 use Rattle.scrypt.proofs.StoredHashFacts.{IsCompared, as_mcf, as_phc, mcf_compared, phc_compared}
 use Rattle.scrypt.proofs.stored_hash.StoredHash.needs_rehash.Goals as goal
-use Rattle.scrypt.proofs.stored_hash.StoredHash.needs_rehash.Goals.{After-needs_rehash, After-needs_rehash-in-Phc}
+use Rattle.scrypt.proofs.stored_hash.StoredHash.needs_rehash.Goals.{After-needs_rehash, After-needs_rehash_with_params}
 
 mcf_at : (c : After-needs_rehash) → IsCompared (IsWhole c.args.self.now) (ReadIsRefused c.args.self.now) c.args.wanted.now c.needs_rehash.result
 mcf_at c =
-    let told = rw c.new_with_params-wanted.ensures.value at c.needs_rehash.ensures in
+    let told = rw c.new_with_params.ensures.value at c.needs_rehash.ensures in
     mcf_compared _ c.in-Mcf.hash _ _ (as_mcf c.self.view_is c.in-Mcf.is c.self.invariant)
     (record { ok = told.ok; weak = told.weak; err = told.err })
 
-phc_at : (c : After-needs_rehash-in-Phc) → IsCompared (IsWhole c.args.self.now) (ReadIsRefused c.args.self.now) c.args.wanted.now c.needs_rehash-in-Phc.result
+phc_at : (c : After-needs_rehash_with_params)
+    → IsCompared (IsWhole c.args.self.now) (ReadIsRefused c.args.self.now) c.args.wanted.now c.needs_rehash_with_params.result
 phc_at c =
-    let told = rw c.new_with_params-wanted.ensures.value at c.needs_rehash-in-Phc.ensures in
+    let told = c.needs_rehash_with_params.ensures in
     phc_compared _ c.in-Phc.hash _ _ (as_phc c.self.view_is c.in-Phc.is c.self.invariant)
     (record { ok = told.ok; weak = told.weak; err = told.err })
 

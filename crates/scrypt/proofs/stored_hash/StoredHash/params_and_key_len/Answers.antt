@@ -1,7 +1,7 @@
 use Rattle.std.proofs.Common.{sym}
 use Rattle.scrypt.specs.StoredHash.{phc}
 use Rattle.scrypt.proofs.McfRefusalFacts.{refused_otherwise}
-use Rattle.scrypt.proofs.StoredHashFacts.{as_mcf, as_phc, mcf_refused, phc_refused}
+use Rattle.scrypt.proofs.StoredHashFacts.{as_mcf, as_phc, mcf_refused, params_of_phc, phc_refused}
 use Rattle.scrypt.proofs.stored_hash.StoredHash.params_and_key_len.Goals as goal
 
 pub returns-in-Err-clause-err : goal.returns-in-Err-clause-err
@@ -12,12 +12,16 @@ returns-in-Err-clause-err c =
 pub returns-in-Err-clause-missing : goal.returns-in-Err-clause-missing
 returns-in-Err-clause-missing c = refused_otherwise c.in-Err.ensures.err
 
-pub returns-in-Ok-read_params-clause-ok : goal.returns-in-Ok-read_params-clause-ok
-returns-in-Ok-read_params-clause-ok c =
+pub returns-in-Ok-params-clause-ok : goal.returns-in-Ok-params-clause-ok
+returns-in-Ok-params-clause-ok c =
     let read = as_phc c.self.view_is c.in-Phc.is c.self.invariant in
-    phc read.0 read.1 (c.in-Ok-read_params.ensures.ok, sym c.key_len.ensures)
+    let params = rw c.in-Ok-params.is at (params_of_phc _ c.in-Phc.is c.self.invariant).ok in
+    phc read.0 read.1 (params, sym c.key_len.ensures)
 
-pub returns-in-Err-read_params-clause-err : goal.returns-in-Err-read_params-clause-err
-returns-in-Err-read_params-clause-err c =
+pub returns-in-Err-params-clause-err : goal.returns-in-Err-params-clause-err
+returns-in-Err-params-clause-err c =
     let read = as_phc c.self.view_is c.in-Phc.is c.self.invariant in
-    phc_refused read.0 read.1 _ c.in-Err-read_params.ensures.err
+    phc_refused read.0 read.1 _ (rw c.in-Err-params.is at (params_of_phc _ c.in-Phc.is c.self.invariant).err)
+
+pub returns-in-Err-params-clause-missing : goal.returns-in-Err-params-clause-missing
+returns-in-Err-params-clause-missing c = rw c.in-Err-params.is at (params_of_phc _ c.in-Phc.is c.self.invariant).missing

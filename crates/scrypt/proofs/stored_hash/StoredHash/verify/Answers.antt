@@ -1,7 +1,7 @@
 use Rattle.scrypt.specs.StoredHash.{IsWhole, ReadIsRefused}
 use Rattle.scrypt.proofs.StoredHashFacts.{IsVerified, as_mcf, as_phc, mcf_verified, phc_verified}
 use Rattle.scrypt.proofs.stored_hash.StoredHash.verify.Goals as goal
-use Rattle.scrypt.proofs.stored_hash.StoredHash.verify.Goals.{After-verify_password, After-verify_password-in-Phc}
+use Rattle.scrypt.proofs.stored_hash.StoredHash.verify.Goals.{After-verify_password, After-verify_with_params}
 
 mcf_at : (c : After-verify_password) → IsVerified (IsWhole c.args.self.now) (ReadIsRefused c.args.self.now) c.args.password.now c.verify_password.result
 mcf_at c =
@@ -9,9 +9,9 @@ mcf_at c =
     mcf_verified _ _ c.in-Mcf.hash _ (as_mcf c.self.view_is c.in-Mcf.is c.self.invariant)
     (record { ok = told.ok; wrong = told.wrong; err = told.err })
 
-phc_at : (c : After-verify_password-in-Phc) → IsVerified (IsWhole c.args.self.now) (ReadIsRefused c.args.self.now) c.args.password.now c.verify_password-in-Phc.result
+phc_at : (c : After-verify_with_params) → IsVerified (IsWhole c.args.self.now) (ReadIsRefused c.args.self.now) c.args.password.now c.verify_with_params.result
 phc_at c =
-    let told = c.verify_password-in-Phc.ensures in
+    let told = c.verify_with_params.ensures in
     phc_verified _ _ c.in-Phc.hash _ (as_phc c.self.view_is c.in-Phc.is c.self.invariant)
     (record { ok = told.ok; wrong = told.wrong; err = told.err })
 

@@ -1,6 +1,5 @@
 use Rattle.password_hash.specs.McfViews.{hash_text}
 use Rattle.scrypt.specs.McfHash.{IsWhole as IsMcfWhole, ReadIsRefused as McfReadIsRefused}
-use Rattle.scrypt.specs.PhcHash.{IsWhole as IsPhcWhole, ReadIsRefused as PhcReadIsRefused}
 use Rattle.scrypt.specs.WorkInBuffers.{IsVerifying, Work}
 use Rattle.scrypt.proofs.StoredHashFacts.{as_mcf, as_phc}
 use Rattle.scrypt.proofs.StoredInBuffersFacts.{mcf_verifying, phc_verifying}
@@ -43,26 +42,11 @@ returns-in-Mcf c =
 
 pub returns-in-Phc : goal.returns-in-Phc
 returns-in-Phc c =
-    let told = c.verify_with_buffers-in-Phc.ensures in
-    let made = c.verify_with_buffers-in-Phc.new in
+    let made = c.verify_with_params_in_buffers.new in
     let before : Work = record { chunks = c.args.chunks.now; table = c.args.table.now; scratch = c.args.scratch.now; all = c.args.cores.now.all; lanes = c.args.cores.now.lanes } in
     let after : Work = record { chunks = made.chunks; table = made.table; scratch = made.scratch; all = made.cores.all; lanes = made.cores.lanes } in
-    let of_hash : IsVerifying (IsPhcWhole c.in-Phc.hash) (PhcReadIsRefused c.in-Phc.hash) c.args.password.now c.verify_with_buffers-in-Phc.result before after = record {
-      ok = told.ok;
-      wrong = told.wrong;
-      err = told.err;
-      short = told.short;
-      exact = told.exact;
-      done = λ z s k whole room. record {
-        all = told.all z s k whole room;
-        lanes = told.lanes z s k whole room;
-        chunks = (told.wiped z s k whole room).0;
-        scratch = (told.wiped z s k whole room).1;
-      };
-      unchanged = λ none. ((told.unchanged none).0, (told.unchanged none).1, (told.unchanged none).2, (told.uncounted none).0, (told.uncounted none).1);
-    } in
-    let v = phc_verifying c.args.self.now c.args.password.now c.in-Phc.hash c.verify_with_buffers-in-Phc.result before after
-    (as_phc c.self.view_is c.in-Phc.is c.self.invariant) of_hash in
+    let v = phc_verifying c.args.self.now c.args.password.now c.in-Phc.hash c.verify_with_params_in_buffers.result before after
+    (as_phc c.self.view_is c.in-Phc.is c.self.invariant) c.verify_with_params_in_buffers.ensures in
     record {
       ok = v.ok;
       wrong = v.wrong;

@@ -3,8 +3,8 @@ use Rattle.scrypt.specs.KeyOfParams.{key_by}
 use Rattle.scrypt.specs.Verifying.{refused, wrong, by_verdict, for_memory}
 use Rattle.scrypt.proofs.PhcHashFacts.{not_both, whole_once}
 use Rattle.scrypt.proofs.VerdictFacts.{accepted_key}
-use Rattle.scrypt.proofs.phc.verifying.ScryptPasswordVerifierPasswordHash.verify_password.Goals as goal
-use Rattle.scrypt.proofs.phc.verifying.ScryptPasswordVerifierPasswordHash.verify_password.Goals.{Then-not-are_equal}
+use Rattle.scrypt.proofs.phc.verifying.verify_with_params.Goals as goal
+use Rattle.scrypt.proofs.phc.verifying.verify_with_params.Goals.{Then-not-are_equal}
 
 pub returns-in-Err-clause-wrong : goal.returns-in-Err-clause-wrong
 returns-in-Err-clause-wrong c told h = not_both c.in-Err.ensures.err h.whole
