@@ -11,8 +11,8 @@ ghost use Rattle.scrypt.specs.WithinLimits.{IsRefusedWithin, IsTooCostly, IsWhol
 ghost use Rattle.scrypt.specs.declared.errors.BoundedError.TheVariants.{Hash, TooCostly};
 
 use super::{Format, StoredHash};
-use crate::mcf::reading as mcf_reading;
-use crate::phc::reading as phc_reading;
+use crate::mcf::reading::read;
+use crate::phc::reading::stored_of;
 use crate::{BoundedError, CoreCount, Limits, Params};
 use password_hash::Result;
 
@@ -80,11 +80,11 @@ impl<'a> StoredHash<'a> {
         ensures err { IfErr result (λ e. ReadIsRefused self.now (refusal e)) }
     {
         match &self.format {
-            Format::Mcf(hash) => match mcf_reading::read(hash) {
+            Format::Mcf(hash) => match read(hash) {
                 Ok(stored) => Ok(stored.params),
                 Err(error) => Err(error),
             },
-            Format::Phc(hash) => match phc_reading::read(hash) {
+            Format::Phc(hash, params) => match stored_of(hash, params) {
                 Ok(stored) => Ok(stored.params),
                 Err(error) => Err(error),
             },

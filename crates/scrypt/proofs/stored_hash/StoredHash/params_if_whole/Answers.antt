@@ -13,12 +13,12 @@ returns-in-Err-clause-err c =
     let read = as_mcf c.self.view_is c.in-Mcf.is c.self.invariant in
     mcf_refused read.0 read.1 _ (rw read.2 at c.in-Err.ensures.err)
 
-pub returns-in-Ok-read-clause-ok : goal.returns-in-Ok-read-clause-ok
-returns-in-Ok-read-clause-ok c =
+pub returns-in-Ok-stored_of-clause-ok : goal.returns-in-Ok-stored_of-clause-ok
+returns-in-Ok-stored_of-clause-ok c =
     let read = as_phc c.self.view_is c.in-Phc.is c.self.invariant in
-    (c.in-Ok-read.stored.salt.now, c.in-Ok-read.stored.key.now, phc read.0 read.1 c.in-Ok-read.ensures.ok)
+    (c.in-Ok-stored_of.stored.salt.now, c.in-Ok-stored_of.stored.key.now, phc read.0 read.1 c.in-Ok-stored_of.ensures.ok)
 
-pub returns-in-Err-read-clause-err : goal.returns-in-Err-read-clause-err
-returns-in-Err-read-clause-err c =
+pub returns-in-Err-stored_of-clause-err : goal.returns-in-Err-stored_of-clause-err
+returns-in-Err-stored_of-clause-err c =
     let read = as_phc c.self.view_is c.in-Phc.is c.self.invariant in
-    phc_refused read.0 read.1 _ c.in-Err-read.ensures.err
+    phc_refused read.0 read.1 _ c.in-Err-stored_of.ensures.err
