@@ -74,19 +74,19 @@ def rows(text):
 
 
 def paths(text):
-    """The paths between backquotes, without their type parameters, as lists of words."""
+    """The paths between backquotes, as lists of words; type parameters come first."""
     for name in re.findall(r"`([^`]+)`", text):
         found = re.fullmatch(r"(.*)\{(.*)\}(.*)", name)
         choices = [found.group(1) + it.strip() + found.group(3) for it in found.group(2).split(",")] if found else [name]
-        yield from (re.sub(r"<.*?>", "", it).split("::") for it in choices)
+        yield from (re.findall(r"\w+", "".join(re.findall(r"<.*?>", it))) + re.sub(r"<.*?>", "", it).split("::") for it in choices)
 
 
 def named(group, items):
     """The functions that a group names, each with the items that it means."""
     subject, _, context = re.match(r"(.*?)(?:(?<!kept) (of|for) (.*))?$", group.replace("\n", " ")).groups()
-    around = {word for path in paths(context or "") for word in path}
+    around = [set(path) for path in paths(context or "")]
     for path in paths(subject):
-        found = [it for it in items if it.name == path[-1] and (not around or around & it.words)]
+        found = [it for it in items if it.name == path[-1] and (not around or any(those <= it.words for those in around))]
         traits = [it for it in found if it.is_trait]
         found = traits if traits and not around else found
         best = max((len(it.words & set(path[:-1])) for it in found), default=0)

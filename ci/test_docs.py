@@ -136,6 +136,7 @@ CLAUSES = [
     ("a clause that its function lacks", "`refused`; `buffers`", "`buffers`; `buffers`", "key of crates/a/src/derive.rt has no clause buffers"),
     ("a listed clause that is dropped", "    ensures half { x }\n", "", "left of crates/a/src/derive.rt has no clause half"),
     ("a listed clause of a trait that is dropped", "        ensures both { x };", "        ;", "Halves of crates/a/src/derive.rt has no clause both"),
+    ("an implementation of another module", "`Hasher` of `Scrypt`", "`Hasher` of `other::Scrypt`", "no function Hasher"),
     ("a clause that no list names", "`half`, `quarter`", "`half`", "no row with the clause quarter of right"),
     ("a function that no list names", "derive::{left, right}", "derive::left", "no row with the clause half of right"),
     ("fewer groups of clauses than of functions", "`refused`; `buffers`", "`refused`, `buffers`", "as many groups"),
