@@ -1,5 +1,6 @@
 -- Hashes of scrypt in the PHC string format: which are made, and which passwords they accept.
 use Rattle.std.specs.Prelude.{◌≡◌, ◌≢◌, ◌⊎◌, ℕ, ◌≤◌, List, length, codes, Option, None, Some, IsSome, Ok, Err}
+use Rattle.password_hash.specs.Phc.{hash_text}
 use Rattle.password_hash.specs.Refusal.{Refusal, Algorithm, Version, PasswordInvalid}
 use Rattle.password_hash.specs.declared.phc.hash.PasswordHash.{PasswordHash}
 use Rattle.scrypt.specs.Accepted.{Parameters}
@@ -24,6 +25,10 @@ pub record IsMadeHash (c : Parameters) (password salt : List ℕ) (hash : Passwo
   pub salt_len : IsSaltLen (length salt)
   pub salt_is : hash.salt ≡ Some salt
   pub key_is : hash.hash ≡ Some (key_by c password salt (key_len_or_default c))
+
+-- the text is that of a hash that these parameters make of a password and a salt
+abbrev pub IsMadeText : Parameters → List ℕ → List ℕ → List ℕ → Type 0
+IsMadeText c password salt text = (hash : PasswordHash) × IsMadeHash c password salt hash × (text ≡ hash_text hash)
 
 -- the caller named no algorithm but scrypt
 abbrev pub IsScryptOrNone : Option (List ℕ) → Type 0

@@ -4,9 +4,10 @@ ghost use Rattle.std.specs.Prelude.{◌≡◌, ◌≢◌, ◌⊎◌, ◌↔◌, 
 ghost use Rattle.std.specs.Str.{IsUtf8};
 ghost use Rattle.password_hash.specs.Refusal.{Refusal, PasswordInvalid};
 ghost use Rattle.scrypt.specs.Accepted.{AreAccepted, IsStoredLen, Parameters};
-ghost use Rattle.scrypt.specs.PhcHash.{IsSaltLen};
+ghost use Rattle.scrypt.specs.McfHash.{IsMadeHash as IsMadeMcf};
+ghost use Rattle.scrypt.specs.PhcHash.{IsMadeText, IsSaltLen};
 ghost use Rattle.scrypt.specs.StoredHash.{HasParameters};
-ghost use Rattle.scrypt_c.specs.Made.{IsCopiedTo, IsMadeMcfText, IsMadePhcText, IsTooLong, wanted};
+ghost use Rattle.scrypt_c.specs.Made.{IsCopiedTo, IsTooLong, wanted};
 ghost use Rattle.scrypt_c.specs.Statuses.{refusal_status, rehash_status, verdict_status, verified_status};
 ghost use Rattle.scrypt_c.specs.Texts.{IsReadable, IsRehashStatus, IsVerifyStatus, ReadIsRefused, Verdict};
 
@@ -38,13 +39,13 @@ pub extern "C" fn scrypt_hash_phc(
     text: &mut [u8],
     text_len: &mut usize,
 ) -> i32
-    ensures made { result ≡ OK → IsCopiedTo (IsMadePhcText (wanted log_n r p key_len) password.now salt.now)
+    ensures made { result ≡ OK → IsCopiedTo (IsMadeText (wanted log_n r p key_len) password.now salt.now)
         text.old text.new text_len.new }
     ensures params { (result ≡ INVALID_PARAMS) ↔ (¬ (AreAccepted log_n r p × IsStoredLen key_len)) }
     ensures salt { (result ≡ SALT_INVALID)
         ↔ (AreAccepted log_n r p × IsStoredLen key_len × ¬ IsSaltLen (length salt.now)) }
     ensures size { result ≡ BUFFER_SIZE → IsTooLong
-        (IsMadePhcText (wanted log_n r p key_len) password.now salt.now) text.old text_len.new }
+        (IsMadeText (wanted log_n r p key_len) password.now salt.now) text.old text_len.new }
     ensures status { (result ≡ OK) ⊎ (result ≡ INVALID_PARAMS) ⊎ (result ≡ SALT_INVALID)
         ⊎ (result ≡ OUT_OF_MEMORY) ⊎ (result ≡ BUFFER_SIZE) }
     ensures refused { result ≢ OK → text.new ≡ text.old }
@@ -83,11 +84,11 @@ pub extern "C" fn scrypt_hash_mcf(
     text: &mut [u8],
     text_len: &mut usize,
 ) -> i32
-    ensures made { result ≡ OK → IsCopiedTo (IsMadeMcfText (wanted log_n r p key_len) password.now salt.now)
+    ensures made { result ≡ OK → IsCopiedTo (IsMadeMcf (wanted log_n r p key_len) password.now salt.now)
         text.old text.new text_len.new }
     ensures params { (result ≡ INVALID_PARAMS) ↔ (¬ (AreAccepted log_n r p × IsStoredLen key_len)) }
     ensures size { result ≡ BUFFER_SIZE → IsTooLong
-        (IsMadeMcfText (wanted log_n r p key_len) password.now salt.now) text.old text_len.new }
+        (IsMadeMcf (wanted log_n r p key_len) password.now salt.now) text.old text_len.new }
     ensures status { (result ≡ OK) ⊎ (result ≡ INVALID_PARAMS) ⊎ (result ≡ OUT_OF_MEMORY)
         ⊎ (result ≡ BUFFER_SIZE) }
     ensures refused { result ≢ OK → text.new ≡ text.old }

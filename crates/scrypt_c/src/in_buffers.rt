@@ -5,11 +5,11 @@ ghost use Rattle.std.specs.Str.{IsUtf8};
 ghost use Rattle.scrypt.specs.Accepted.{AreAccepted, IsStoredLen, Parameters};
 ghost use Rattle.scrypt.specs.Cost.{chunks_bytes, scratch_words};
 ghost use Rattle.scrypt.specs.InBuffers.{AreEnough, IsWiped};
-ghost use Rattle.scrypt.specs.McfHash.{made_text_len};
-ghost use Rattle.scrypt.specs.PhcHash.{IsSaltLen};
+ghost use Rattle.scrypt.specs.McfHash.{IsMadeHash as IsMadeMcf, made_text_len};
+ghost use Rattle.scrypt.specs.PhcHash.{IsMadeText, IsSaltLen};
 ghost use Rattle.scrypt.specs.StoredHash.{IsWhole};
 ghost use Rattle.scrypt_c.specs.InBuffers.{HasRoom, IsBuffersStatus, buffers_status};
-ghost use Rattle.scrypt_c.specs.Made.{IsCopiedTo, IsMadeMcfText, IsMadePhcText, IsTooLong, wanted};
+ghost use Rattle.scrypt_c.specs.Made.{IsCopiedTo, IsTooLong, wanted};
 
 use crate::statuses::{BUFFER_SIZE, INVALID_PARAMS, OK, SALT_INVALID, status_of};
 use crate::texts::{copy_to, read};
@@ -39,14 +39,14 @@ pub extern "C" fn scrypt_hash_phc_with_buffers(
     table: &mut [u32],
     scratch: &mut [u32],
 ) -> i32
-    ensures made { result ≡ OK → IsCopiedTo (IsMadePhcText (wanted log_n r p key_len) password.now salt.now)
+    ensures made { result ≡ OK → IsCopiedTo (IsMadeText (wanted log_n r p key_len) password.now salt.now)
         text.old text.new text_len.new }
     ensures params { (result ≡ INVALID_PARAMS) ↔ (¬ (AreAccepted log_n r p × IsStoredLen key_len)) }
     ensures salt { (result ≡ SALT_INVALID)
         ↔ (AreAccepted log_n r p × IsStoredLen key_len × ¬ IsSaltLen (length salt.now)) }
     ensures buffers { result ≡ OK → AreEnough (wanted log_n r p key_len) chunks.old table.old scratch.old }
     ensures size { result ≡ BUFFER_SIZE
-        → IsTooLong (IsMadePhcText (wanted log_n r p key_len) password.now salt.now) text.old text_len.new
+        → IsTooLong (IsMadeText (wanted log_n r p key_len) password.now salt.now) text.old text_len.new
         ⊎ (¬ AreEnough (wanted log_n r p key_len) chunks.old table.old scratch.old) }
     ensures status { (result ≡ OK) ⊎ (result ≡ INVALID_PARAMS) ⊎ (result ≡ SALT_INVALID) ⊎ (result ≡ BUFFER_SIZE) }
     ensures wiped { (result ≡ OK) ⊎ (result ≡ BUFFER_SIZE)
@@ -89,12 +89,12 @@ pub extern "C" fn scrypt_hash_mcf_with_buffers(
     table: &mut [u32],
     scratch: &mut [u32],
 ) -> i32
-    ensures made { result ≡ OK → IsCopiedTo (IsMadeMcfText (wanted log_n r p key_len) password.now salt.now)
+    ensures made { result ≡ OK → IsCopiedTo (IsMadeMcf (wanted log_n r p key_len) password.now salt.now)
         text.old text.new text_len.new }
     ensures params { (result ≡ INVALID_PARAMS) ↔ (¬ (AreAccepted log_n r p × IsStoredLen key_len)) }
     ensures buffers { result ≡ OK → AreEnough (wanted log_n r p key_len) chunks.old table.old scratch.old }
     ensures size { result ≡ BUFFER_SIZE
-        → IsTooLong (IsMadeMcfText (wanted log_n r p key_len) password.now salt.now) text.old text_len.new
+        → IsTooLong (IsMadeMcf (wanted log_n r p key_len) password.now salt.now) text.old text_len.new
         ⊎ (¬ AreEnough (wanted log_n r p key_len) chunks.old table.old scratch.old) }
     ensures status { (result ≡ OK) ⊎ (result ≡ INVALID_PARAMS) ⊎ (result ≡ BUFFER_SIZE) }
     ensures wiped { result ≡ OK

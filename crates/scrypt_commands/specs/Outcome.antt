@@ -2,13 +2,11 @@
 use Rattle.std.specs.Prelude.{◌≡◌, ◌⊎◌, ℕ, List, [], ◌++◌, codes, Option, None, Some, IfSome}
 use Rattle.std.specs.Io.KnownBytes.{Appends}
 use Rattle.hex.specs.Hex.{encode_lower}
-use Rattle.password_hash.specs.Phc.{hash_text}
 use Rattle.password_hash.specs.Refusal.{PasswordInvalid}
-use Rattle.password_hash.specs.declared.phc.hash.PasswordHash.{PasswordHash}
 use Rattle.scrypt.specs.Accepted.{Parameters}
 use Rattle.scrypt.specs.KeyOfParams.{key_by}
 use Rattle.scrypt.specs.McfHash.{IsMadeHash as IsMadeMcf}
-use Rattle.scrypt.specs.PhcHash.{HashIsRefused, IsMadeHash as IsMadePhc}
+use Rattle.scrypt.specs.PhcHash.{HashIsRefused, IsMadeText as IsMadePhcText}
 use Rattle.scrypt.specs.StoredHash.{Accepts, IsWeakerText, Verdict}
 use Rattle.scrypt_commands.specs.Command.{AreRefused, AskFor, Request, ToMake, ToRehash, ToVerify}
 use Rattle.scrypt_commands.specs.CliError.{IsHashError, error_line, status_of}
@@ -20,8 +18,8 @@ use Rattle.scrypt_commands.specs.declared.error.CliError.{CliError}
 
 -- the text of the hash of this format that parameters make of a password and a salt
 abbrev pub IsMadeHashText : Format → Parameters → List ℕ → List ℕ → List ℕ → Type 0
-IsMadeHashText Phc c password salt text = (hash : PasswordHash) × IsMadePhc c password salt hash × (text ≡ hash_text hash)
-IsMadeHashText Mcf c password salt text = IsMadeMcf c password salt text
+IsMadeHashText Phc = IsMadePhcText
+IsMadeHashText Mcf = IsMadeMcf
 
 -- the text of what is made of a password and a salt: a derived key in hexadecimal, or a hash
 abbrev pub IsMadeText : Target → Parameters → List ℕ → List ℕ → List ℕ → Type 0

@@ -1,8 +1,8 @@
 -- Enrolling and logging in.
 use Rattle.std.specs.Prelude.{◌≡◌, ℕ, List, Bool, true, false, Option, None, Some, string_bytes}
 use Rattle.scrypt.specs.Accepted.{AreAccepted, Parameters}
+use Rattle.scrypt.specs.PhcHash.{IsMadeText}
 use Rattle.scrypt.specs.StoredHash.{Accepts, IsWeakerText}
-use Rattle.scrypt_examples.specs.StoredText.{IsMadeText}
 use Rattle.scrypt_examples.specs.declared.login.Login.{Login}
 use Rattle.scrypt_examples.specs.declared.login.Login.TheVariants.{In, InWithNewText, Refused}
 

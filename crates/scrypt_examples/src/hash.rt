@@ -4,8 +4,9 @@ ghost use Rattle.std.specs.Prelude.{◌≡◌, ◌⊎◌, IfErr, IfOk, OnOk, str
 ghost use Rattle.password_hash.specs.Refusal.{Refusal, refusal};
 ghost use Rattle.password_hash.specs.declared.error.Error.TheVariants.{OutOfMemory, PasswordInvalid};
 ghost use Rattle.scrypt.specs.Accepted.{recommended_parameters};
+ghost use Rattle.scrypt.specs.PhcHash.{IsMadeText};
 ghost use Rattle.scrypt.specs.StoredHash.{Accepts};
-ghost use Rattle.scrypt_examples.specs.StoredText.{IsMadeText, IsUnreadable};
+ghost use Rattle.scrypt_examples.specs.StoredText.{IsUnreadable};
 
 use password_hash::{PasswordHasher, Result};
 use scrypt::laws::verdicts_are_one;

@@ -2,8 +2,9 @@
 
 ghost use Rattle.std.specs.Prelude.{◌≡◌, ◌⊎◌, pos, length};
 ghost use Rattle.scrypt.specs.Accepted.{AreAccepted, IsStoredLen};
-ghost use Rattle.scrypt.specs.PhcHash.{IsSaltLen};
-ghost use Rattle.scrypt_c.specs.Made.{IsCopiedTo, IsMadeMcfText, IsMadePhcText, IsTooLong, wanted};
+ghost use Rattle.scrypt.specs.McfHash.{IsMadeHash as IsMadeMcf};
+ghost use Rattle.scrypt.specs.PhcHash.{IsMadeText, IsSaltLen};
+ghost use Rattle.scrypt_c.specs.Made.{IsCopiedTo, IsTooLong, wanted};
 
 use crate::hashes::{scrypt_hash_mcf, scrypt_hash_phc};
 use std::alloc::Global;
@@ -25,10 +26,10 @@ pub fn hash_phc(
     ensures bad_salt { AreAccepted log_n r p → IsStoredLen key_len → ¬ IsSaltLen (length salt.now)
         → (result ≡ pos 10) × (text.new ≡ text.old) × (text_len.new ≡ text_len.old) }
     ensures made { AreAccepted log_n r p → IsStoredLen key_len → IsSaltLen (length salt.now)
-        → ((result ≡ pos 0) × IsCopiedTo (IsMadePhcText (wanted log_n r p key_len) password.now salt.now)
+        → ((result ≡ pos 0) × IsCopiedTo (IsMadeText (wanted log_n r p key_len) password.now salt.now)
         text.old text.new text_len.new)
         ⊎ ((result ≡ pos 12) × (text.new ≡ text.old)
-        × IsTooLong (IsMadePhcText (wanted log_n r p key_len) password.now salt.now) text.old text_len.new)
+        × IsTooLong (IsMadeText (wanted log_n r p key_len) password.now salt.now) text.old text_len.new)
         ⊎ ((result ≡ pos 4) × (text.new ≡ text.old) × (text_len.new ≡ text_len.old)) }
 {
     scrypt_hash_phc(alloc, password, salt, log_n, r, p, key_len, text, text_len)
@@ -49,10 +50,10 @@ pub fn hash_mcf(
     ensures bad_params { ¬ (AreAccepted log_n r p × IsStoredLen key_len) → (result ≡ pos 2)
         × (text.new ≡ text.old) × (text_len.new ≡ text_len.old) }
     ensures made { AreAccepted log_n r p → IsStoredLen key_len
-        → ((result ≡ pos 0) × IsCopiedTo (IsMadeMcfText (wanted log_n r p key_len) password.now salt.now)
+        → ((result ≡ pos 0) × IsCopiedTo (IsMadeMcf (wanted log_n r p key_len) password.now salt.now)
         text.old text.new text_len.new)
         ⊎ ((result ≡ pos 12) × (text.new ≡ text.old)
-        × IsTooLong (IsMadeMcfText (wanted log_n r p key_len) password.now salt.now) text.old text_len.new)
+        × IsTooLong (IsMadeMcf (wanted log_n r p key_len) password.now salt.now) text.old text_len.new)
         ⊎ ((result ≡ pos 4) × (text.new ≡ text.old) × (text_len.new ≡ text_len.old)) }
 {
     scrypt_hash_mcf(alloc, password, salt, log_n, r, p, key_len, text, text_len)

@@ -15,7 +15,7 @@ returns-clause-enrolled c =
     let salt : IsSalt c.args.salt.now = record { are_bytes = λ i. omega (arith, c.type_inv.salt i); enough = c.requires.0; fits = c.requires.1 } in
     let len : IfSome wanted.output_len IsStoredLen = rw are.no_len tt in
     record {
-      made = record { hash = hash; made = made; printed = printed };
+      made = (hash, made, printed);
       accepts = rw printed (laws.phc wanted _ _ hash are.accepted len salt made);
       strong = λ weaker. laws.phc_strong wanted _ _ hash are.accepted len salt made (rw printed at weaker);
     }
