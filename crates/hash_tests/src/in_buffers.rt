@@ -1,8 +1,8 @@
-// Verifying in the caller's buffers.
+// Hashing and verifying in the caller's buffers.
 
-use password_hash::Error;
 use password_hash::mcf::Base64;
-use scrypt::{CoreCount, Params, StoredHash, scrypt, wipe};
+use password_hash::{CustomizedPasswordHasher, Error, mcf, phc};
+use scrypt::{CoreCount, Params, Scrypt, StoredHash, scrypt, wipe};
 use std::alloc::Global;
 use std::test::Fail;
 use test_support::vectors::{EMPTY_PASSWORD_HASH, EMPTY_PASSWORD_HASH_10, EMPTY_PASSWORD_HASH_64};
@@ -87,5 +87,50 @@ fn wiped_buffers(rt: HostRuntime) -> Result<(), Fail> {
     let (mut chunks, mut table, mut scratch) = ([1u8; 3], [2u32; 3], [3u32; 3]);
     wipe(&mut chunks, &mut table, &mut scratch);
     assert_eq!(rt; (chunks, table, scratch), ([0; 3], [0; 3], [0; 3]));
+    Ok(())
+}
+
+// The lengths of keys, with the reason: a hash of the password `pw` in buffers is the one that is
+// made by allocating.
+const KEY_LENS: [(usize, &str); 3] = [
+    (10, "the shortest key"),
+    (32, "the usual key"),
+    (64, "the longest key"),
+];
+
+#[test]
+fn hashes_in_buffers(rt: HostRuntime) -> Result<(), Fail> {
+    let alloc = rt.alloc();
+    let (mut chunks, mut table, mut scratch) = ([0xffu8; 129], [u32::MAX; 513], [u32::MAX; 65]);
+    for (len, reason) in KEY_LENS {
+        let params = Params::new_with_output_len(4, 1, 1, len)?;
+        let usual: phc::PasswordHash =
+            Scrypt::new().hash_password_with_params(alloc, b"pw", b"salt", params)?;
+        let hash = scrypt::phc::hash_with_buffers(
+            b"pw",
+            b"salt",
+            &params,
+            &mut chunks,
+            &mut table,
+            &mut scratch,
+            &mut CoreCount::new(),
+        )?;
+        assert_eq!(rt; hash.to_array_string().as_str(), usual.to_string(alloc)?.as_str(), "{reason}");
+        let usual: mcf::PasswordHash =
+            Scrypt::new().hash_password_with_params(alloc, b"pw", b"salt", params)?;
+        let mut text = [b'!'; 120];
+        let len = scrypt::mcf::hash_with_buffers(
+            b"pw",
+            b"salt",
+            &params,
+            &mut text,
+            &mut chunks,
+            &mut table,
+            &mut scratch,
+            &mut CoreCount::new(),
+        )?;
+        assert_eq!(rt; &text[..len], usual.as_str().as_bytes(), "{reason}");
+        assert_eq!(rt; len, scrypt::mcf::hash_len(&params, b"salt"), "{reason}");
+    }
     Ok(())
 }
