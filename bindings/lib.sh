@@ -51,9 +51,9 @@ $CC -shared -Wl,-soname,$soname -Wl,--version-script="$parts/versions" -Wl,-z,de
 ln -s "$shared" "$out/$soname"
 ln -s "$soname" "$out/libscrypt_c.so"
 cp bindings/c/scrypt_c.h "$out/"
-# The names of other libraries, in a library of their own.
-$CC -O2 -Wall -Wextra -fPIC -shared -fvisibility=hidden -Wl,--exclude-libs,ALL -Ibindings/c \
-  -o "$out/libscrypt_drop_in.so" bindings/drop_in/drop_in.c "$out/libscrypt_c.a"
+# The names of other libraries, in a library of their own. It isn't unloaded while threads have memory of it.
+$CC -O2 -Wall -Wextra -fPIC -shared -fvisibility=hidden -Wl,--exclude-libs,ALL -Wl,-z,nodelete -Ibindings/c \
+  -o "$out/libscrypt_drop_in.so" bindings/drop_in/drop_in.c bindings/drop_in/kept.c "$out/libscrypt_c.a" -lpthread
 bindings/c/found.sh "$PWD/$out" "$PWD/$out" "$out" "$out"
 # The Go module is whole with the header and the static library in its folder.
 cp "$out/libscrypt_c.a" "$out/scrypt_c.h" bindings/go/

@@ -1,6 +1,8 @@
 /* The names of other libraries, over this one: scrypt of libscrypt-kdf and of libscrypt, and libsodium's
- * crypto_pwhash_scryptsalsa208sha256 with its own limits and its own choice of N, r and p. Not proved. */
+ * crypto_pwhash_scryptsalsa208sha256 with its own limits and its own choice of N, r and p. Each call maps its memory, or
+ * with SCRYPT_KEEP_MEMORY=1 in the environment takes that of its thread, which is kept. Not proved. */
 #define _GNU_SOURCE
+#include "kept.h"
 #include "scrypt_c.h"
 
 #include <errno.h>
@@ -31,6 +33,14 @@ static int overlap(const uint8_t *a, size_t a_len, const uint8_t *b, size_t b_le
   return a_len > 0 && b_len > 0 && (uintptr_t)a < (uintptr_t)b + b_len && (uintptr_t)b < (uintptr_t)a + a_len;
 }
 
+static int derive_in_memory(const uint8_t *password, size_t password_len, const uint8_t *salt, size_t salt_len,
+                            uint8_t log_n, uint32_t r, uint32_t p, uint8_t *output, size_t output_len) {
+  scrypt_memory *memory = kept_memory();
+  if (memory == NULL)
+    return scrypt_kdf_mapped(password, password_len, salt, salt_len, log_n, r, p, output, output_len);
+  return scrypt_kdf_in(memory, password, password_len, salt, salt_len, log_n, r, p, output, output_len);
+}
+
 /* The key, if the parameters are within the limits of these libraries, which take an output of 0 bytes, and one that
  * overlaps the password or the salt. */
 static int derive_key(const uint8_t *password, size_t password_len, const uint8_t *salt, size_t salt_len,
@@ -40,14 +50,14 @@ static int derive_key(const uint8_t *password, size_t password_len, const uint8_
   if (overlap(password, password_len, output, output_len) || overlap(salt, salt_len, output, output_len)) {
     uint8_t *apart = malloc(output_len);
     if (apart == NULL) return SCRYPT_OUT_OF_MEMORY;
-    status = scrypt_kdf_mapped(password, password_len, salt, salt_len, log_n, r, p, apart, output_len);
+    status = derive_in_memory(password, password_len, salt, salt_len, log_n, r, p, apart, output_len);
     if (status == SCRYPT_OK) memcpy(output, apart, output_len);
     explicit_bzero(apart, output_len);
     free(apart);
     return status;
   }
-  if (output_len == 0) return scrypt_kdf_mapped(password, password_len, salt, salt_len, log_n, r, p, &one_byte, 1);
-  return scrypt_kdf_mapped(password, password_len, salt, salt_len, log_n, r, p, output, output_len);
+  if (output_len == 0) return derive_in_memory(password, password_len, salt, salt_len, log_n, r, p, &one_byte, 1);
+  return derive_in_memory(password, password_len, salt, salt_len, log_n, r, p, output, output_len);
 }
 
 static int derive(const uint8_t *password, size_t password_len, const uint8_t *salt, size_t salt_len, uint64_t n,
@@ -125,6 +135,19 @@ static int has_costs(const char *text) {
   return strnlen(text, TEXT_LEN + 1) == TEXT_LEN && strncmp(text, "$7$", 3) == 0 && strspn(text + 3, LETTERS) >= 11;
 }
 
+static int hash_in_memory(const char *password, size_t password_len, const uint8_t salt[SALT_LEN], uint8_t log_n,
+                          uint32_t r, uint32_t p, char text[TEXT_LEN + 1]) {
+  scrypt_memory *memory = kept_memory();
+  size_t len;
+  int status;
+  if (memory == NULL)
+    return scrypt_hash_mcf_z(password, password_len, salt, SALT_LEN, log_n, r, p, KEY_LEN, text, TEXT_LEN + 1);
+  status = scrypt_hash_mcf_in(memory, scrypt_bytes(password), password_len, salt, SALT_LEN, log_n, r, p, KEY_LEN, text,
+                              TEXT_LEN, &len);
+  text[TEXT_LEN] = '\0';
+  return status;
+}
+
 API int crypto_pwhash_scryptsalsa208sha256_str(char text[TEXT_LEN + 1], const char *password,
                                                unsigned long long password_len, unsigned long long work,
                                                size_t memory) {
@@ -135,11 +158,16 @@ API int crypto_pwhash_scryptsalsa208sha256_str(char text[TEXT_LEN + 1], const ch
   choose(work, memory, &log_n, &r, &p);
   if (log_n > MOST_LOG_N) return refused(EINVAL);
   if (getrandom(salt, sizeof salt, 0) != (ssize_t)sizeof salt) return refused(EIO);
-  if (scrypt_hash_mcf_z(password, (size_t)password_len, salt, sizeof salt, log_n, r, p, KEY_LEN, made, sizeof made) !=
-      SCRYPT_OK)
+  if (hash_in_memory(password, (size_t)password_len, salt, log_n, r, p, made) != SCRYPT_OK)
     return refused(EINVAL); /* if memory ran out too, as libsodium does */
   memcpy(text, made, sizeof made);
   return 0;
+}
+
+static int verify_in_memory(const char *password, size_t password_len, const char *text) {
+  scrypt_memory *memory = kept_memory();
+  if (memory == NULL) return scrypt_verify(scrypt_bytes(password), password_len, text, TEXT_LEN);
+  return scrypt_verify_in(memory, scrypt_bytes(password), password_len, text, TEXT_LEN);
 }
 
 API int crypto_pwhash_scryptsalsa208sha256_str_verify(const char text[TEXT_LEN + 1], const char *password,
@@ -148,8 +176,7 @@ API int crypto_pwhash_scryptsalsa208sha256_str_verify(const char text[TEXT_LEN +
   if (!has_costs(text) || text[KEY_AT - 1] != '$') return -1;
   log_n = strchr(LETTERS, text[3]) - LETTERS;
   if (log_n == 0 || log_n > MOST_LOG_N) return -1;
-  if (scrypt_verify(scrypt_bytes(password), (size_t)password_len, text, TEXT_LEN) != SCRYPT_OK) return -1;
-  return 0;
+  return verify_in_memory(password, (size_t)password_len, text) == SCRYPT_OK ? 0 : -1;
 }
 
 /* Whether the costs of the text are others than these limits ask for, greater ones too. */

@@ -21,7 +21,11 @@ diff bindings/drop_in/symbols "$room/drop_in_names"
 echo "exported: the documented drop-in names, and no other"
 
 # The names of other libraries, beside those of them that are here.
-if has python3 python3; then python3 -B bindings/drop_in/test_drop_in.py "$ours"; fi
+if has python3 python3; then
+  python3 -B bindings/drop_in/test_drop_in.py "$ours"
+  SCRYPT_KEEP_MEMORY=1 python3 -B bindings/drop_in/test_drop_in.py "$ours" > /dev/null
+  echo "the same with memory that each thread keeps"
+fi
 if [ "${1:-}" = short ]; then exit; fi
 
 # A program that was linked with libscrypt-kdf runs on this library, preloaded or under that library's file name.

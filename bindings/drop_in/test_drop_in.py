@@ -6,8 +6,12 @@ import ctypes
 import ctypes.util
 import errno
 import hashlib
+import os
 import random
+import resource
 import sys
+import threading
+import time
 
 P, Z, U64, U32 = ctypes.c_char_p, ctypes.c_size_t, ctypes.c_uint64, ctypes.c_uint32
 PWHASH = "crypto_pwhash_scryptsalsa208sha256"
@@ -201,7 +205,32 @@ def texts():
         assert not sodium or verified(sodium, text_of(10, 8, 1, salt), b"pw"), why
 
 
-for test in (keys, overlapping, choices, limits, texts):
+def kept():
+    """On a thread, the memory of a call is mapped again, or kept if the environment asks for it, until the thread ends."""
+    is_kept = os.environ.get("SCRYPT_KEEP_MEMORY") == "1"
+
+    def faults():
+        before = resource.getrusage(resource.RUSAGE_THREAD).ru_minflt
+        assert by_costs(ours, "crypto_scrypt", b"pw", b"salt", 1 << 13, 8, 1, 64)[0] == 0
+        return resource.getrusage(resource.RUSAGE_THREAD).ru_minflt - before
+
+    def resident():
+        with open("/proc/self/statm", encoding="ascii") as file:
+            return int(file.read().split()[1]) * resource.getpagesize() >> 20
+
+    seen = []
+    thread = threading.Thread(target=lambda: seen.extend([resident(), faults(), faults(), resident()]))
+    thread.start()
+    thread.join()
+    before, first, second, after = seen
+    assert (second < first / 2) == is_kept or first < 10, f"{first} and {second} page faults"
+    assert (after - before >= 7) == is_kept, f"{before} and {after} MiB"
+    until = time.monotonic() + 10  # the thread ends some time after it was joined
+    while resident() - before >= 7:
+        assert time.monotonic() < until, "what a thread kept is unmapped when it ends"
+
+
+for test in (keys, overlapping, choices, limits, texts, kept):
     test()
 for name, theirs, package in [
     (PWHASH, sodium, "libsodium23"),
