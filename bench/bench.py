@@ -15,8 +15,9 @@ twice, the second time with GLIBC_TUNABLES=glibc.malloc.hugetlb=1, which lets ma
 2 MiB instead of 4 KiB. This does not affect a table that is allocated by mmap. The table of page faults
 shows the difference.
 
-After that, the program is measured as a process. With --picture, the time of a core over log_n is drawn
-as SVG. With --callgrind, valgrind counts the instructions of a core, and no times are measured.
+After that, verifications in a row are measured, as verifications.py describes, and then the program as a
+process. With --picture, the time of a core over log_n is drawn as SVG. With --callgrind, valgrind counts
+the instructions of a core, and no times are measured.
 
 Other programs can be added with --worker. A worker is a process of its own on the same processor that
 reads lines and answers each one with a line, immediately:
@@ -95,6 +96,8 @@ def main():
         return
     print(tables.machine(args), flush=True)
     compare(library, args)
+    script = os.path.join(HERE, "verifications.py")
+    subprocess.run([sys.executable, script, library, *args.worker, "--cpu", str(args.cpu)], check=True)
     program.show(args.program, args.costs.split(":"), args.runs)
 
 

@@ -9,7 +9,7 @@ import time
 
 from worker import Refused
 
-sys.path.insert(0, os.path.join(os.path.dirname(os.path.abspath(__file__)), "..", "ci"))
+sys.path.insert(0, os.path.join(os.path.dirname(os.path.abspath(__file__)), "..", "compare"))
 import crypt64
 
 OURS, MAPPED, OPENSSL = "this library", "scrypt_kdf_mapped", "OpenSSL"
