@@ -1,5 +1,6 @@
 #!/usr/bin/env python3
-"""Runs README's examples in Python, Go and C over the library of build/lib, as they are but for what is around them.
+"""Runs README's examples in Python, Go and C over the library of build/lib, as they are but for what is around them, and
+that of Python's own page. `cargo test` runs those of Rust's.
 
 What is not installed is said by its Debian package. The script fails if an example does, or if README has none of its
 language.
@@ -48,12 +49,12 @@ func main() {{
 """
 
 
-def example(language):
-    """The first block of README in this language."""
-    with open(os.path.join(TOP, "README.md"), encoding="utf-8") as file:
+def example(language, page="README.md"):
+    """The first block of a page in this language."""
+    with open(os.path.join(TOP, page), encoding="utf-8") as file:
         found = re.search(rf"^```{language}\n(.*?)^```$", file.read(), re.M | re.S)
     if not found:
-        sys.exit(f"README has no example in {language}")
+        sys.exit(f"{page} has no example in {language}")
     return found.group(1)
 
 
@@ -71,7 +72,8 @@ def run(command, **more):
 
 def run_python(room):
     paths = {"PYTHONPATH": os.path.join(TOP, "bindings", "python"), "SCRYPT_C_LIBRARY": LIBRARY}
-    run([sys.executable, "-B", written(room, "login.py", example("python"))], env=os.environ | paths)
+    for page in ["README.md", "bindings/python/README.md"]:
+        run([sys.executable, "-B", written(room, "login.py", example("python", page))], env=os.environ | paths)
 
 
 def run_go(room):

@@ -18,6 +18,11 @@
 //! `Scrypt`, with the traits that it has in that crate.
 #![warn(missing_docs)]
 
+// README's examples are tested as those above.
+#[cfg(doctest)]
+#[doc = include_str!("../README.md")]
+struct Readme;
+
 mod bounds;
 mod calls;
 mod errors;
