@@ -29,9 +29,9 @@ def copied(*left_out):
         yield copy
 
 
-def crates_with(folder):
-    """The crates that have edits in this folder."""
-    return sorted({it.split("/")[1] for it in glob.glob(f"crates/*/{folder}/*.edit")})
+def crates_with(*folders):
+    """The crates that have edits in one of these folders."""
+    return sorted({it.split("/")[1] for it in edits_of("*", *folders)})
 
 
 def edits_of(name, *folders):
