@@ -18,7 +18,6 @@ import edits
 COUNTER = "crates/scrypt_kernel/proofs/cores/CoreCount/"
 BY_HAND = [COUNTER + it + "/Proof.antt" for it in ["after_core", "after_lanes_core", "new"]]
 NEW_COUNTS = {
-    "crates/promises/src/headline/tests.rt": 2,
     "crates/promises/src/lengths.rt": 1,
     "crates/scrypt/src/derivation.rt": 1,
     "crates/scrypt_c/src/in_buffers.rt": 3,

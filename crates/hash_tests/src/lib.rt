@@ -1,5 +1,6 @@
 //! Tests of hashes and their texts in both formats, PHC and `$7$`: what other implementations made and read, each error
-//! once, how much each call allocates, and that calls succeed if memory is available.
+//! once, how much each call allocates, and that calls succeed if memory is available. Those of `scrypt_examples` are here
+//! too, since a crate with tests is proved twice.
 #![tactic(auto)]
 
 #[cfg(test)]
@@ -8,6 +9,8 @@ mod allocations;
 mod crypt64;
 #[cfg(test)]
 mod errors;
+#[cfg(test)]
+mod examples;
 #[cfg(test)]
 mod hostile;
 #[cfg(test)]

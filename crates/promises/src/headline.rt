@@ -84,6 +84,3 @@ pub fn key_uncounted(
     };
     scrypt(alloc, password, salt, &params, output)
 }
-
-#[cfg(test)]
-mod tests;

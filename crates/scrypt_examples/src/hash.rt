@@ -37,6 +37,3 @@ pub fn verify(alloc: Global, stored: &str, password: &[u8]) -> Result<()>
         Err(error) => Err(error),
     }
 }
-
-#[cfg(test)]
-mod tests;

@@ -91,6 +91,3 @@ pub fn age_wrap_key(
         Err(_) => Err(Error::OutOfMemory),
     }
 }
-
-#[cfg(test)]
-mod tests;

@@ -7,5 +7,3 @@ pub mod hash;
 pub mod key_file;
 pub mod login;
 pub mod migration;
-#[cfg(test)]
-mod vectors;

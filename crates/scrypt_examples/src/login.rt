@@ -106,6 +106,3 @@ impl Logins {
         Ok(Login::InWithNewText(self.enroll(alloc, password, salt)?))
     }
 }
-
-#[cfg(test)]
-mod tests;

@@ -61,6 +61,3 @@ pub fn rewrite(
     verify(alloc, text, password)?;
     wanted.enroll(alloc, password, salt)
 }
-
-#[cfg(test)]
-mod tests;

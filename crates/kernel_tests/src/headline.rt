@@ -1,6 +1,6 @@
-// The key of hashlib, in both ways at once.
+// The first promise, with the key of hashlib: in both ways at once.
 
-use super::key_or_want_of_memory;
+use promises::headline::key_or_want_of_memory;
 use scrypt::CoreCount;
 use std::test::Fail;
 

@@ -1,10 +1,10 @@
 // Stored texts of both formats, read and rewritten.
 
-use super::{Costs, rewrite};
-use crate::login::Logins;
-use crate::vectors::{MCF, NEW, NEW_5_1_1, SALT, SHORT_KEY, STORED};
+use crate::examples::vectors::{MCF, NEW, NEW_5_1_1, SALT, SHORT_KEY, STORED};
 use password_hash::Error;
 use scrypt::Params;
+use scrypt_examples::login::Logins;
+use scrypt_examples::migration::{Costs, rewrite};
 use std::test::Fail;
 
 // A text, a password, log_n as wanted, the new text, and the reason for the row.

@@ -1,7 +1,9 @@
 // The keys of files, which hashlib gives too.
 
-use super::*;
 use hex::FromHex;
+use password_hash::Error;
+use scrypt::{DeriveError, Params};
+use scrypt_examples::key_file::{Header, age_wrap_key};
 use std::test::Fail;
 
 #[test]

@@ -1,9 +1,9 @@
 // Logins by stored texts.
 
-use super::{Login, Logins};
-use crate::vectors::{MCF, NEW, NEW_4_2_1, NEW_5_1_1, SALT, SHORT_KEY, STORED};
+use crate::examples::vectors::{MCF, NEW, NEW_4_2_1, NEW_5_1_1, SALT, SHORT_KEY, STORED};
 use password_hash::Error;
 use scrypt::InvalidParams;
+use scrypt_examples::login::{Login, Logins};
 use std::test::Fail;
 
 // A stored text, a password, log_n and r as wanted, whether the user is in, the new text, and the reason

@@ -1,8 +1,8 @@
 // A hash with the recommended parameters, and verifying by texts.
 
-use super::{stored_text, verify};
-use crate::vectors::{MCF, RECOMMENDED, SALT, SHORT_KEY, STORED};
+use crate::examples::vectors::{MCF, RECOMMENDED, SALT, SHORT_KEY, STORED};
 use password_hash::Error;
+use scrypt_examples::hash::{stored_text, verify};
 use std::test::Fail;
 
 // A stored text, a password, the verdict, and the reason for the row.
