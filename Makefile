@@ -3,9 +3,9 @@
 #               checks, make -j2 run proves the two lowest crates side by side
 #   make check  is for daily work: the checks of the documents, and what changed since the last check, proved and
 #               tested. The first one takes as long as a proof of everything
-#   make test   is the whole gate: the checks of the documents and of what must not compile, a short call of the
-#               library from C, Python and the drop-in names, every proof from nothing, the edits of must-fail/, which
-#               are wrong bodies that the prover must refuse, and every test and program
+#   make test   is the whole gate: the checks of the documents and of what must not compile, every proof from nothing,
+#               the edits of must-fail/, which are wrong bodies that the prover must refuse, every test and program,
+#               and a short call of the library from C, Python and the drop-in names
 # And besides the gate:
 #   make wrong-bodies tries the edits of wrong-bodies/, more that the prover must refuse
 #   make refused-by-tests tries those of refused-by-tests/, wrong bodies that no clause can refuse, and that the
@@ -36,7 +36,7 @@
 #               make login-test tests it and its faults, and make login-load prints its table of logins a second
 #   make clean  removes what was built
 
-.PHONY: help run check test documents short-callers wrong-bodies refused-by-tests refusals oracle lib install uninstall \
+.PHONY: help run check test documents wrong-bodies refused-by-tests refusals oracle lib install uninstall \
   crypt callers bench thin parameters compare-worker clean kit
 
 help:
@@ -57,14 +57,15 @@ proved-scrypt_commands: proved-scrypt
 check: kit documents
 	rt all test
 
-# The library is built before the proofs from nothing, which set aside what it keeps and give it back: it is what
-# `make check` goes on from, and the count of what passed stays the last line.
-test: kit documents short-callers
+# The library is built over what `rt ci` proved, so that it isn't proved twice. The count of what passed stays the last
+# line.
+test: kit documents
 	python3 ci/must_not_compile.py
-	rt ci
+	python3 ci/gate.py
 
 documents:
 	python3 ci/test_edits.py
+	python3 ci/test_gate.py
 	python3 ci/test_must_not_compile.py
 	python3 ci/test_refusals.py
 	python3 ci/test_docs.py
@@ -77,10 +78,6 @@ documents:
 	python3 compare/test_texts.py
 	@if python3 -c "import sys; sys.path.append('/usr/lib/python3/dist-packages'); import jinja2, pygments" 2> /dev/null; \
 	then python3 doc/make.py; else echo "doc: SKIPPED: Debian's python3-jinja2 and python3-pygments aren't installed"; fi
-
-short-callers: kit
-	@if command -v $(CC) > /dev/null; then bindings/lib.sh && bindings/callers.sh short; \
-	else echo "No C compiler is here (package gcc): the library was not called."; fi
 
 wrong-bodies: kit
 	python3 ci/wrong_bodies.py

@@ -1,6 +1,7 @@
 #!/bin/sh
 # Builds the libraries for C into build/lib, of the crate scrypt_c, which the kit proves: the static one and the shared
 # one with its links, the header, and files for pkg-config and CMake. Needs the kit and a C compiler with its binutils.
+# With the word built, the crate's own library is there already.
 set -eu
 cd "$(dirname "$0")/.."
 kit=$(dirname "$(rt doc)")
@@ -11,7 +12,7 @@ version=$(cat VERSION)
 soname=libscrypt_c.so.0
 shared=libscrypt_c.so.${version%%+*}
 
-(cd crates/scrypt_c && rt lib)
+[ "${1:-}" = built ] || (cd crates/scrypt_c && rt lib)
 rm -rf "$out"
 mkdir -p "$parts"
 # The kit's few lines that call malloc and free are in an archive of their own.
