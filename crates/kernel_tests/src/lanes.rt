@@ -1,6 +1,6 @@
 // The diagonal order, and scryptBlockMix in it and in standard order.
 
-use crate::primitives::words_of;
+use crate::primitives::{read_words, words_of};
 use scrypt::CoreCount;
 use scrypt::block_mix::lanes::{scrypt_block_mix, shuffle_in, shuffle_out};
 use scrypt::block_mix::pivot::pivots_are_inverse;
@@ -47,10 +47,11 @@ fn block_mixes_in_both_orders(rt: HostRuntime) {
             *word = next;
             next = next.wrapping_add(1);
         }
-        plain::scrypt_block_mix(&words[..32 * r], &mut expected[..32 * r], &mut cores);
-        shuffle_in(&mut words[..32 * r]);
-        scrypt_block_mix(&words[..32 * r], &mut mixed[..32 * r], &mut cores);
-        shuffle_out(&mut mixed[..32 * r]);
+        let (input, output) = (&mut words[..32 * r], &mut mixed[..32 * r]);
+        plain::scrypt_block_mix(input, &mut expected[..32 * r], &mut cores);
+        shuffle_in(input);
+        scrypt_block_mix(input, output, &mut cores);
+        shuffle_out(output);
         assert_eq!(rt; mixed, expected);
     }
 }
@@ -65,8 +66,9 @@ fn ten_block_mixes_of_sums(rt: HostRuntime) {
         next = next.wrapping_add(1);
     }
     for _ in 0..10 {
-        let mut input = words_from(&bytes);
-        let (mut expected, mut again, mut output) = ([0u32; 32], [0u32; 32], [0u32; 32]);
+        let (mut input, mut expected) = ([0u32; 32], [0u32; 32]);
+        let (mut again, mut output) = ([0u32; 32], [0u32; 32]);
+        read_words(&bytes, &mut input);
         plain::scrypt_block_mix(&input, &mut expected, &mut cores);
         shuffle_in(&mut input);
         scrypt_block_mix(&input, &mut output, &mut cores);
@@ -75,19 +77,11 @@ fn ten_block_mixes_of_sums(rt: HostRuntime) {
         plain::scrypt_block_mix(&input, &mut again, &mut cores);
         assert_eq!(rt; again, expected);
         assert_eq!(rt; output, expected);
-        for (four, word) in bytes.as_chunks_mut::<4>().0.iter_mut().zip(output) {
-            for (byte, added) in four.iter_mut().zip(word.to_le_bytes()) {
-                *byte = byte.wrapping_add(added);
+        for i in 0..32 {
+            let four = output[i].to_le_bytes();
+            for k in 0..4 {
+                bytes[4 * i + k] = bytes[4 * i + k].wrapping_add(four[k]);
             }
         }
     }
-}
-
-// The words of a row, four bytes each in little-endian order.
-fn words_from(bytes: &[u8; 128]) -> [u32; 32] {
-    let mut words = [0u32; 32];
-    for (word, four) in words.iter_mut().zip(bytes.as_chunks::<4>().0) {
-        *word = u32::from_le_bytes(*four);
-    }
-    words
 }

@@ -8,13 +8,21 @@ use scrypt::{CoreCount, salsa};
 use std::test::Fail;
 use test_support::vectors::{CORE_INPUT, CORE_OUTPUT, HMAC_BY_LONG_KEY, HMAC_OF_JEFE, PBKDF2_KEY};
 
+/// Reads the words of these bytes, four each in little-endian order.
+pub fn read_words(bytes: &[u8], words: &mut [u32]) {
+    let (fours, _) = bytes.as_chunks::<4>();
+    for i in 0..words.len() {
+        if let (Some(word), Some(four)) = (words.get_mut(i), fours.get(i)) {
+            *word = u32::from_le_bytes(*four);
+        }
+    }
+}
+
 /// The words of 64 bytes in hexadecimal.
 pub fn words_of(text: &str) -> Result<[u32; 16], Fail> {
     let bytes = <[u8; 64]>::from_hex(text)?;
     let mut words = [0u32; 16];
-    for (word, four) in words.iter_mut().zip(bytes.as_chunks::<4>().0) {
-        *word = u32::from_le_bytes(*four);
-    }
+    read_words(&bytes, &mut words);
     Ok(words)
 }
 

@@ -59,8 +59,13 @@ fn integerify_beyond_32_bits(rt: HostRuntime) {
     let mut diagonal = [9u32; 32];
     diagonal[16] = 5;
     diagonal[29] = 3;
-    for (log_n, row) in [(0, 0), (4, 5), (33, 4_294_967_301), (56, 12_884_901_893)] {
-        assert_eq!(rt; integerify_plain(&plain, log_n), row);
-        assert_eq!(rt; integerify_diagonal(&diagonal, log_n), row);
+    for (log_n, row, reason) in [
+        (0, 0, "a single row"),
+        (4, 5, "bits of the first word"),
+        (33, 4_294_967_301, "one bit of the second word"),
+        (56, 12_884_901_893, "all bits of the greatest log_n"),
+    ] {
+        assert_eq!(rt; integerify_plain(&plain, log_n), row, "{reason}");
+        assert_eq!(rt; integerify_diagonal(&diagonal, log_n), row, "{reason}");
     }
 }
