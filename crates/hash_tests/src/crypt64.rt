@@ -54,8 +54,15 @@ fn letters_of_bytes(rt: HostRuntime) -> Result<(), Fail> {
     for (bytes, letters, reason) in LETTERS {
         assert!(rt; agree(rt.alloc(), bytes, letters)?, "{reason}");
     }
-    for (bytes, letters) in [(0, 0), (1, 2), (2, 3), (3, 4), (32, 43), (64, 86)] {
-        assert_eq!(rt; Base64::Crypt.encoded_len(bytes), letters, "of {bytes}");
+    for (bytes, letters, reason) in [
+        (0, 0, "no bytes"),
+        (1, 2, "a group of one byte"),
+        (2, 3, "a group of two bytes"),
+        (3, 4, "a whole group"),
+        (32, 43, "the usual key"),
+        (64, 86, "the longest key"),
+    ] {
+        assert_eq!(rt; Base64::Crypt.encoded_len(bytes), letters, "{reason}");
     }
     let mut three = [0xaau8; 3];
     let refused = Base64::Crypt.encode_slice(&[1, 2, 3], &mut three);

@@ -103,9 +103,11 @@ fn verdict_on_replaced(at: usize, by: u8) -> Result<(), Error> {
 
 // The bytes of the hash of the empty password.
 fn hash_bytes() -> [u8; 58] {
-    let mut letters = [0; 58];
-    for (place, byte) in letters.iter_mut().zip(EMPTY_PASSWORD_HASH.as_bytes()) {
-        *place = *byte;
+    let (mut letters, bytes) = ([0; 58], EMPTY_PASSWORD_HASH.as_bytes());
+    for i in 0..58 {
+        if let Some(byte) = bytes.get(i) {
+            letters[i] = *byte;
+        }
     }
     letters
 }

@@ -7,16 +7,16 @@ use std::test::Fail;
 
 #[test]
 fn numbers_of_five_letters(rt: HostRuntime) {
-    for (number, letters) in [
-        (32, b"U...."),
-        (1, b"/...."),
-        (1_073_741_823, b"zzzzz"),
-        (268_435_488, b"U...E"),
+    for (number, letters, reason) in [
+        (32, b"U....", "libxcrypt's r"),
+        (1, b"/....", "the lowest digit comes first"),
+        (1_073_741_823, b"zzzzz", "the greatest number"),
+        (268_435_488, b"U...E", "the fifth letter counts"),
     ] {
         let mut out = [0; 5];
-        assert_eq!(rt; encode64_uint32(&mut out, number), Ok(()));
-        assert_eq!(rt; out, *letters);
-        assert_eq!(rt; decode64_uint32(letters), Ok(number));
+        assert_eq!(rt; encode64_uint32(&mut out, number), Ok(()), "{reason}");
+        assert_eq!(rt; out, *letters, "{reason}");
+        assert_eq!(rt; decode64_uint32(letters), Ok(number), "{reason}");
     }
     // From 2^30 on the number is taken modulo 2^30.
     let mut out = [0; 5];

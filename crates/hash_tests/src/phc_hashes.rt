@@ -115,11 +115,16 @@ fn hash_from_passlib(rt: HostRuntime) -> Result<(), Fail> {
 fn made_hashes(rt: HostRuntime) -> Result<(), Fail> {
     let alloc = rt.alloc();
     made_hashes_are_accepted();
-    for (params, wanted) in [
-        (Params::new(14, 8, 1)?, RFC_KEY_3_HASH),
+    for (params, wanted, reason) in [
+        (
+            Params::new(14, 8, 1)?,
+            RFC_KEY_3_HASH,
+            "32 bytes of RFC 7914's third key",
+        ),
         (
             Params::new_with_output_len(14, 8, 1, 10)?,
             RFC_KEY_3_SHORT_HASH,
+            "the shortest key",
         ),
     ] {
         let made: PasswordHash = Scrypt::new().hash_password_with_params(
@@ -129,8 +134,12 @@ fn made_hashes(rt: HostRuntime) -> Result<(), Fail> {
             params,
         )?;
         let text = made.to_string(alloc)?;
-        assert_eq!(rt; text.as_str(), wanted);
-        assert_eq!(rt; verdict(alloc, text.as_str(), b"pleaseletmein"), Ok(()));
+        assert_eq!(rt; text.as_str(), wanted, "{reason}");
+        assert_eq!(rt;
+            verdict(alloc, text.as_str(), b"pleaseletmein"),
+            Ok(()),
+            "{reason}"
+        );
     }
     Ok(())
 }
@@ -138,14 +147,17 @@ fn made_hashes(rt: HostRuntime) -> Result<(), Fail> {
 #[test]
 fn salts_of_refused_lengths(rt: HostRuntime) -> Result<(), Fail> {
     let params = Params::new(4, 1, 1)?;
-    for salt in [[].as_slice(), [0; 65].as_slice()] {
+    for (salt, reason) in [
+        ([].as_slice(), "an empty salt"),
+        ([0; 65].as_slice(), "a byte above the longest salt"),
+    ] {
         let made: Result<PasswordHash, Error> = Scrypt::new().hash_password_with_params(
             rt.alloc(),
             b"",
             salt,
             params,
         );
-        assert_eq!(rt; made, Err(Error::SaltInvalid));
+        assert_eq!(rt; made, Err(Error::SaltInvalid), "{reason}");
     }
     Ok(())
 }

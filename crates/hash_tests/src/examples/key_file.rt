@@ -9,8 +9,8 @@ use std::test::Fail;
 #[test]
 fn subkeys_of_a_file(rt: HostRuntime) -> Result<(), Fail> {
     let mut counted = [0u8; 32];
-    for (place, i) in counted.iter_mut().zip(0u8..32) {
-        *place = i;
+    for i in 0u8..32 {
+        counted[usize::from(i)] = i;
     }
     for (log_n, r, salt, password, encryption, authentication, reason) in [
         (
@@ -66,21 +66,23 @@ fn a_table_that_no_machine_has(rt: HostRuntime) -> Result<(), Fail> {
 #[test]
 fn wrap_keys_of_age_files(rt: HostRuntime) -> Result<(), Fail> {
     let mut salt = [0u8; 16];
-    for (place, i) in salt.iter_mut().zip(0u8..16) {
-        *place = i;
+    for i in 0u8..16 {
+        salt[usize::from(i)] = i;
     }
-    for (password, key) in [
+    for (password, key, reason) in [
         (
             "correct horse",
             "ad514be3aace71ca6a7d33f295ea8899c6bded101732b4e7be6bdf342c15fe1c",
+            "a password",
         ),
         (
             "",
             "a7acb279834ad00f7b2114734492757a407e761be7885656d43ec8c3de2e21e4",
+            "the empty password",
         ),
     ] {
         let made = age_wrap_key(rt.alloc(), password.as_bytes(), 4, salt)?;
-        assert_eq!(rt; made, <[u8; 32]>::from_hex(key)?);
+        assert_eq!(rt; made, <[u8; 32]>::from_hex(key)?, "{reason}");
     }
     Ok(())
 }
