@@ -1,6 +1,6 @@
 #!/bin/sh
 # Calls the libraries of build/lib from each language of bindings/ whose compiler is here, and from programs that know
-# only the names of other libraries and of crypt(3). Says what is not installed, by its Debian package, and fails if a
+# only the names of other libraries and of crypt(3). Prints what is not installed, by its Debian package, and fails if a
 # caller fails. With the word short, which the gate uses: the tests from C, from Python and of the drop-in names that take
 # seconds, once.
 set -eu

@@ -9,7 +9,7 @@ RIGHT = {path: "let mut cores = CoreCount::new();\n" * times for path, times in 
 
 # A source that is added, whether it is refused, and the reason for the row.
 ROWS = [
-    ("use scrypt::CoreCount;\nfn f(cores: &mut CoreCount) {}\n", False, "a count that is handed on"),
+    ("use scrypt::CoreCount;\nfn f(cores: &mut CoreCount) {}\n", False, "a count that is passed on"),
     ("let mut cores = CoreCount::new();\n", True, "a new count"),
     ("let mut cores = <scrypt::CoreCount>::new();\n", True, "the same, by its type"),
     ("let mut cores = CoreCount\n    ::new();\n", True, "the same, over two lines"),

@@ -78,7 +78,7 @@ def python_with(statement, what):
 
 
 def answers(words, cases, env=None):
-    """The lines that a program answers to cases, a line of JSON for each."""
+    """The lines that a program prints for cases, a line of JSON for each."""
     lines = "".join(json.dumps(case) + "\n" for case in cases)
     ran = subprocess.run(words, input=lines, capture_output=True, text=True, check=True, env=os.environ | (env or {}))
     return ran.stdout.split("\n")[:-1]

@@ -34,7 +34,7 @@ HASHES = "crates/test_support/src/vectors.rt"
 
 
 def run(program, words, password):
-    """What the program answers: status, output, fault line."""
+    """What the program returns and prints: status, output, error line."""
     ran = subprocess.run([program, *words], input=password, capture_output=True)
     return ran.returncode, ran.stdout, ran.stderr
 
@@ -315,7 +315,7 @@ STREAMS = [
 
 
 def on_pipe_without_reader(words):
-    """What a program answers whose output is a pipe that nobody reads."""
+    """The result of a program whose output is a pipe that nobody reads."""
     read, write = os.pipe()
     os.close(read)
     ran = subprocess.run(words, stdin=subprocess.DEVNULL, stdout=write, stderr=subprocess.PIPE)
@@ -324,7 +324,7 @@ def on_pipe_without_reader(words):
 
 
 def on_shell_stream(redirected, words):
-    """What a program answers whose streams the shell redirects."""
+    """The result of a program whose streams the shell redirects."""
     shell = ["sh", "-c", redirected, "sh", *words]
     ran = subprocess.run(shell, stdin=subprocess.DEVNULL, capture_output=True)
     return ran.returncode, ran.stdout, ran.stderr

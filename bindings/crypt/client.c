@@ -1,4 +1,4 @@
-/* Calls crypt(3) for each line of its input and prints what every function answers, for compare_libxcrypt.py:
+/* Calls crypt(3) for each line of its input and prints what every function returns, for compare_libxcrypt.py:
  *
  *   h PHRASE SETTING                    crypt, crypt_r, crypt_rn, crypt_ra and crypt_checksalt
  *   s SIZE PHRASE SETTING               crypt_rn with a size

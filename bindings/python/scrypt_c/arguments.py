@@ -1,4 +1,4 @@
-"""What callers hand in, as the library takes it."""
+"""What callers pass, as the library takes it."""
 
 from __future__ import annotations
 

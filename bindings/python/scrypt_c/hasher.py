@@ -66,7 +66,7 @@ class PasswordHasher:
         return f"PasswordHasher(log_n={log_n}, r={r}, p={p}, key_len={key_len}, mcf={self._mcf}, at_once={self._at_once})"
 
     def hash(self, password: Password, *, salt: Optional[Bytes] = None) -> str:
-        """The text of a new hash. A salt is drawn by the system, unless the caller hands one in."""
+        """The text of a new hash. A salt is drawn by the system, unless the caller passes one."""
         secret = raw_password(password)
         drawn = os.urandom(self._salt_len) if salt is None else raw_bytes(salt, "a salt")
         call = library.hash_mcf if self._mcf else library.hash_phc

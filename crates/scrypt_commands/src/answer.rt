@@ -58,7 +58,7 @@ impl Answer {
 }
 
 impl<'a> Command<'a> {
-    /// Answers the command on this input, which is the password.
+    /// Carries out the command on this input, which is the password.
     ///
     /// Returns `HashRefused` if hashing or verifying refuses, and `OutOfMemory` if an allocation
     /// fails.

@@ -28,7 +28,7 @@ pub struct Exit {
 
 /// Runs the program on its arguments, without its name.
 ///
-/// Parses the arguments, reads the whole input, computes the line that answers them, and writes this
+/// Parses the arguments, reads the whole input, computes the line of the outcome, and writes this
 /// line by one `write_all` and one flush. The status is 0 after the line was written, or 1 if the
 /// line is `no`. It is 2 if the arguments are refused, and then the input is not read, or if hashing
 /// or verifying refuses. It is 3 if an allocation failed, and 4 if the input or the output failed.
@@ -71,7 +71,7 @@ pub fn run<R: Read, W: Write, F: Write>(
     }
 }
 
-// Does the work in its order, up to the line that answers the arguments, and returns the status.
+// Does the work in its order, up to the line of the outcome, and returns the status.
 fn execute<R: Read, W: Write>(
     alloc: Global,
     args: &[String],
