@@ -2,10 +2,10 @@
 
 A row of its tables names functions, and the clauses that keep its promise. Where a `;` parts the functions into groups,
 one parts the clauses too, a group for each. Each clause of a group has to be an `ensures` or a `ghost` of each function of
-the group, and each `ensures` of a public function has to be in a row. A row on a trait names clauses of its functions;
-`X` of `Y` and `X` for `Y` are the impl of `X` for `Y`, whose relations are its clauses. A law has its clauses in
-parentheses after its name. A row without clauses is on what is derived. What only other layers need is in lists, as
-`functions`: `clauses`.
+the group. Each `ensures` of a public function or of a trait's function has to be in a row, and so has each relation of an
+impl, unless its trait or its type is private. A row on a trait names clauses of its functions; `X` of `Y` and `X` for `Y`
+are the impl of `X` for `Y`, whose relations are its clauses. A law has its clauses in parentheses after its name. A row
+without clauses is on what is derived. What only other layers need is in lists, as `functions`: `clauses`.
 """
 
 import re
@@ -37,6 +37,7 @@ def relations(body, sign):
 def items_of(path, text):
     """The items of a source. Their words are those of its path and of the type or trait around them."""
     module = set(re.split(r"[/.]", path)) - {"crates", "src", "rt"}
+    private = set(re.findall(r"^(?:pub\(\w+\) )?(?:trait|struct|enum) (\w+)", text, re.M)) | {"Model"}
     for kind, head, body in re.findall(r"^(pub trait|impl(?:<[^>]*>)?) ([^\n{]*)\{(?!\})(.*?)^\}", text, re.M | re.S):
         words = module | set(re.findall(r"\w+", head))
         functions = [(name, ensured(rest), public) for _, public, name, rest in FUNCTION.findall(body)]
@@ -45,11 +46,13 @@ def items_of(path, text):
             yield Item(path, re.match(r"\w+", head).group(), words, ensures | relations(body, ":"), ensures, True)
         elif " for " in head:
             clauses = relations(body, " = ").union(*(clauses for _, clauses, _ in functions))
-            yield Item(path, re.match(r"[\w:]+", head).group().split("::")[-1], words, clauses, set())
+            name = re.match(r"[\w:]+", head).group().split("::")[-1]
+            kept_for = re.findall(r"\w+", head.split(" for ")[1])
+            yield Item(path, name, words, clauses, set() if private & {name, *kept_for} else clauses)
         else:
             yield from (Item(path, name, words, clauses, clauses) for name, clauses, public in functions if public)
         if kind == "pub trait":
-            yield from (Item(path, name, words, clauses, set()) for name, clauses, _ in functions)
+            yield from (Item(path, name, words, clauses, clauses) for name, clauses, _ in functions)
     for indent, public, name, rest in FUNCTION.findall(text):
         if public and not indent:
             yield Item(path, name, module, ensured(rest), ensured(rest))
@@ -110,7 +113,8 @@ def complaints(text, sources):
                     for clause in sorted(wanted - item.clauses):
                         yield f"{PROMISES}:{number}: {name} of {item.path} has no clause {clause}"
     for item in items:
-        # a trait's clauses may be in rows on its functions
-        said = item.said.union(*(it.said for it in items if item.is_trait and it.words == item.words))
+        # a trait's clauses may be in rows on its functions, and theirs in rows on the trait
+        related = (it for it in items if it.words == item.words and (it.is_trait or item.is_trait))
+        said = item.said.union(*(it.said for it in related))
         for clause in sorted(item.ensures - said):
             yield f"{item.path}: {PROMISES} has no row with the clause {clause} of {item.name}"
