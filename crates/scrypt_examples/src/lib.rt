@@ -3,6 +3,7 @@
 //! depend on.
 #![tactic(auto)]
 
+pub mod bounded_login;
 pub mod hash;
 pub mod key_file;
 pub mod login;
