@@ -56,7 +56,7 @@ needs_rehash.argtypes = [*_bytes, *_params, ctypes.c_size_t]
 
 # As in scrypt_c.h.
 PHC_CAPACITY = 256
-MAX_OUTPUT_LEN = 137438953440
+MAX_OUTPUT_LEN = 32 * (2**32 - 1)
 
 
 def mcf_capacity(salt_len: int) -> int:

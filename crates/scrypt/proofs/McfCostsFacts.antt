@@ -11,7 +11,7 @@ use Rattle.password_hash.proofs.Crypt64Facts.{length-letters_of, letters_of-numb
 use Rattle.password_hash.proofs.GroupFacts.{append_parts}
 use Rattle.password_hash.proofs.AlphabetFacts.{letter_value-letter, letter-of_value}
 use Rattle.scrypt.specs.Accepted.{AreAccepted}
-use Rattle.scrypt.specs.McfCosts.{costs_letters, five_letter_number, EncodesCosts}
+use Rattle.scrypt.specs.McfCosts.{cost_letters, five_letter_number, EncodesCosts}
 use Rattle.scrypt.proofs.AcceptedFacts.{small_costs}
 
 -- where there are five letters, they say the number
@@ -97,9 +97,9 @@ five_letters-once number other below other_below same =
     cc
 
 -- the letters of accepted costs are those of one log_n, one r and one p
-pub costs_letters-once : (log_n r p other_log_n other_r other_p : ℕ) → AreAccepted log_n r p → AreAccepted other_log_n other_r other_p
-    → costs_letters log_n r p ≡ costs_letters other_log_n other_r other_p → (log_n ≡ other_log_n) × (r ≡ other_r) × (p ≡ other_p)
-costs_letters-once log_n r p other_log_n other_r other_p fits other_fits same =
+pub cost_letters-once : (log_n r p other_log_n other_r other_p : ℕ) → AreAccepted log_n r p → AreAccepted other_log_n other_r other_p
+    → cost_letters log_n r p ≡ cost_letters other_log_n other_r other_p → (log_n ≡ other_log_n) × (r ≡ other_r) × (p ≡ other_p)
+cost_letters-once log_n r p other_log_n other_r other_p fits other_fits same =
     let small = small_costs log_n r p fits in
     let other_small = small_costs other_log_n other_r other_p other_fits in
     let first : letter log_n ≡ letter other_log_n = cc in
@@ -129,7 +129,7 @@ letter_said (Some value) number says small = ap Some says
 
 -- a field that says accepted costs begins with their letters
 pub field_is : (field : List ℕ) (log_n r p : ℕ) → EncodesCosts field log_n r p → AreAccepted log_n r p
-    → field ≡ costs_letters log_n r p ++ drop 11 field
+    → field ≡ cost_letters log_n r p ++ drop 11 field
 field_is [] log_n r p says fits = absurd (empty_says_none [] refl says)
 field_is (first ∷ rest) log_n r p says fits =
     let small = small_costs log_n r p fits in

@@ -12,7 +12,7 @@ use Rattle.scrypt.specs.KeyOfParams.{key_by}
 use Rattle.scrypt.specs.Accepted.{without_len}
 use Rattle.scrypt.proofs.KeyFacts.{length-key_by}
 use Rattle.scrypt.proofs.McfCostsFacts.{field_is}
-use Rattle.scrypt.specs.McfCosts.{EncodesCosts, costs_letters, ReadsField, malformed, not_accepted, accepted}
+use Rattle.scrypt.specs.McfCosts.{EncodesCosts, cost_letters, ReadsField, malformed, not_accepted, accepted}
 use Rattle.scrypt.specs.McfHash.{HasCosts, IsWhole, ReadIsRefused, other_id, no_field, bad_costs, no_key, bad_key, third_field, bad_key_len, Accepts, mcf_id, IsMadeHash}
 use Rattle.scrypt.specs.Hashing.{key_len_or_default}
 
@@ -91,14 +91,14 @@ not_both {key = key} (bad_key_len {letters = letters} {key = other} costs is non
 
 -- a field that is read begins with the letters of its costs
 field_written : {field : List ℕ} {out : Result (Parameters × List ℕ) Refusal} → ReadsField field out
-    → IfOk out (λ read. field ≡ costs_letters read.0.log_n read.0.r read.0.p ++ read.1)
+    → IfOk out (λ read. field ≡ cost_letters read.0.log_n read.0.r read.0.p ++ read.1)
 field_written (malformed none) = tt
 field_written (not_accepted says refused) = tt
 field_written {field} (accepted {log_n} {r} {p} says good) = field_is field log_n r p says good
 
 -- a hash has one text
 pub text_of : {text : List ℕ} {c : Parameters} {salt key : List ℕ} → IsWhole text c salt key
-    → text ≡ parts_text (mcf_id ∷ (costs_letters c.log_n c.r c.p ++ salt) ∷ crypt64_of key ∷ [])
+    → text ≡ parts_text (mcf_id ∷ (cost_letters c.log_n c.r c.p ++ salt) ∷ crypt64_of key ∷ [])
 text_of h =
     h.has_costs.parts.written
     ∙ ap₂ (λ field letters. parts_text (mcf_id ∷ field ∷ letters ∷ [])) (field_written h.has_costs.costs) h.key_is.encoding

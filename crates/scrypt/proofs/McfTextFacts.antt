@@ -16,7 +16,7 @@ use Rattle.scrypt.specs.Accepted.{AreAccepted, IsOutputLen, IsStoredLen, Paramet
 use Rattle.scrypt.specs.KeyOfParams.{key_by}
 use Rattle.scrypt.proofs.KeyFacts.{key_by-are_bytes, length-key_by}
 use Rattle.scrypt.specs.Accepted.{without_len}
-use Rattle.scrypt.specs.McfCosts.{five_letter_number, costs_letters, costs_text, EncodesCosts, ReadsField, accepted}
+use Rattle.scrypt.specs.McfCosts.{five_letter_number, cost_letters, costs_text, EncodesCosts, ReadsField, accepted}
 use Rattle.scrypt.specs.McfHash.{IsWhole, IsMadeHash, made_text_len}
 use Rattle.scrypt.specs.Hashing.{key_len_or_default}
 use Rattle.scrypt.proofs.AcceptedFacts.{key_len_or_default_stored, small_costs, small_log_n}
@@ -63,12 +63,12 @@ ascii_by_index (byte ∷ text) each (suc i) = ascii_by_index text (All-tail (λ 
 
 -- the letters of the numbers
 
-plain_letters : (log_n r p : ℕ) → log_n < 64 → All IsPlain (costs_letters log_n r p)
+plain_letters : (log_n r p : ℕ) → log_n < 64 → All IsPlain (cost_letters log_n r p)
 plain_letters log_n r p small =
     All-cons IsPlain (letter log_n) (letters_of 5 r ++ letters_of 5 p) (letter-ascii log_n small)
     (All-append IsPlain (letters_of 5 r) (letters_of 5 p) (letters_of-plain 5 r) (letters_of-plain 5 p))
 
-count_letters : (log_n r p : ℕ) → length (costs_letters log_n r p) ≡ 11
+count_letters : (log_n r p : ℕ) → length (cost_letters log_n r p) ≡ 11
 count_letters log_n r p = omega (arith, length-append (letters_of 5 r) (letters_of 5 p), length-letters_of 5 r, length-letters_of 5 p)
 
 pub count_text : (c : Parameters) → length (costs_text c) ≡ 14
@@ -76,7 +76,7 @@ count_text c = omega (arith, count_letters c.log_n c.r c.p)
 
 -- they say the numbers
 letters_say : (log_n r p : ℕ) (salt : List ℕ) → log_n < 64 → r < 2 ^ 30 → p < 2 ^ 30
-    → EncodesCosts (costs_letters log_n r p ++ salt) log_n r p
+    → EncodesCosts (cost_letters log_n r p ++ salt) log_n r p
 letters_say log_n r p salt small small_r small_p =
     let r_letters = letters_of 5 r in
     let p_letters = letters_of 5 p in
@@ -93,18 +93,18 @@ letters_say log_n r p salt small small_r small_p =
     }
 
 -- so the field is read as the costs and the salt
-pub field_read : (c : Parameters) (salt : List ℕ) → AreAccepted c.log_n c.r c.p → ReadsField (costs_letters c.log_n c.r c.p ++ salt) (Ok (without_len c, salt))
+pub field_read : (c : Parameters) (salt : List ℕ) → AreAccepted c.log_n c.r c.p → ReadsField (cost_letters c.log_n c.r c.p ++ salt) (Ok (without_len c, salt))
 field_read c salt good =
     let small = small_costs c.log_n c.r c.p good in
     let says = letters_say c.log_n c.r c.p salt (omega (arith, small.0)) small.1 small.2 in
-    let rest : drop 11 (costs_letters c.log_n c.r c.p ++ salt) ≡ salt = drop_at (costs_letters c.log_n c.r c.p) salt 11 (count_letters c.log_n c.r c.p) in
-    subst (λ s. ReadsField (costs_letters c.log_n c.r c.p ++ salt) (Ok (without_len c, s))) rest (accepted says good)
+    let rest : drop 11 (cost_letters c.log_n c.r c.p ++ salt) ≡ salt = drop_at (cost_letters c.log_n c.r c.p) salt 11 (count_letters c.log_n c.r c.p) in
+    subst (λ s. ReadsField (cost_letters c.log_n c.r c.p ++ salt) (Ok (without_len c, s))) rest (accepted says good)
 
 -- the text of some costs, a salt without a dollar, and a key
 pub text_is : (c : Parameters) (salt key : List ℕ) → AreAccepted c.log_n c.r c.p → IsField salt → All (λ byte. byte < 256) key → IsOutputLen (length key)
     → IsWhole (costs_text c ++ (salt ++ dollar ∷ crypt64_of key)) (without_len c) salt key
 text_is c salt key good no_dollar are_bytes allowed =
-    let letters = costs_letters c.log_n c.r c.p in
+    let letters = cost_letters c.log_n c.r c.p in
     let field = letters ++ salt in
     let small : c.log_n ≤ 56 = small_log_n c.log_n c.r good.0 good.2 in
     let field_is : IsField field =
@@ -149,7 +149,7 @@ pub text_ascii : (c : Parameters) (salt key : List ℕ) → AreAccepted c.log_n 
 text_ascii c salt key good =
     let small : c.log_n ≤ 56 = small_log_n c.log_n c.r good.0 good.2 in
     let plain = λ (letters : List ℕ) (each : All IsPlain letters). All-weaker IsPlain (λ byte. byte < 128) (λ byte is. is.0) letters each in
-    let letters = costs_letters c.log_n c.r c.p in
+    let letters = cost_letters c.log_n c.r c.p in
     let key_part = All-cons (λ byte. byte < 128) dollar (crypt64_of key) (lit< tt) (plain (crypt64_of key) (crypt64_of-plain key)) in
     let after = All-append (λ byte. byte < 128) (crypt64_of salt) (dollar ∷ crypt64_of key) (plain (crypt64_of salt) (crypt64_of-plain salt)) key_part in
     let rest = letters ++ (crypt64_of salt ++ dollar ∷ crypt64_of key) in

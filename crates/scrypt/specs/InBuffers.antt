@@ -1,5 +1,5 @@
 -- Hashing and verifying in the caller's buffers, in every format. A format defines which hashes are whole, with
--- their costs, their salt and their key, and the error of every other hash.
+-- their parameters, their salt and their key, and the error of every other hash.
 use Rattle.std.specs.Prelude.{◌≡◌, ℕ, ◌≤◌, List, ◌++◌, drop, length, replicate, Option, None, Some, Result, Ok, Err, ⊤}
 use Rattle.password_hash.specs.Refusal.{Refusal, refusal}
 use Rattle.password_hash.specs.declared.error.Error.{Error}

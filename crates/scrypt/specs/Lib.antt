@@ -33,13 +33,13 @@ pub mod Verifying
 -- verifying in the caller's buffers, in every format
 pub mod InBuffers
 pub mod WorkInBuffers
--- costs read from PHC parameters
+-- parameters read from a PHC text
 pub mod PhcCosts
 -- PHC hashes that are made, and those that are whole
 pub mod PhcHash
 -- the results of the conversions between parameters and PHC values
 pub mod PhcConversions
--- five-letter numbers, and the costs of a `$7$` text
+-- five-letter numbers, and the parameters of a `$7$` text
 pub mod McfCosts
 -- `$7$` hashes that are made, and those that are whole
 pub mod McfHash

@@ -18,14 +18,14 @@ pub record EncodesCosts (field : List ℕ) (log_n r p : ℕ) : Type 0 where
   pub p_is : five_letter_number (drop 6 field) ≡ Some p
 
 -- the eleven letters of accepted numbers
-abbrev pub costs_letters : ℕ → ℕ → ℕ → List ℕ
-costs_letters log_n r p = letter log_n ∷ (letters_of 5 r ++ letters_of 5 p)
+abbrev pub cost_letters : ℕ → ℕ → ℕ → List ℕ
+cost_letters log_n r p = letter log_n ∷ (letters_of 5 r ++ letters_of 5 p)
 
--- the text before the salt, for these costs
+-- the text before the salt, for these parameters
 abbrev pub costs_text : Parameters → List ℕ
-costs_text c = codes "$7$" ++ costs_letters c.log_n c.r c.p
+costs_text c = codes "$7$" ++ cost_letters c.log_n c.r c.p
 
--- The costs that a field encodes, and the salt, which is the rest of it, or the error: first that
+-- The parameters that a field encodes, and the salt, which is the rest of it, or the error: first that
 -- the field encodes no numbers, and then that the numbers are not accepted.
 pub data ReadsField (field : List ℕ) : Result (Parameters × List ℕ) Refusal → Type 0 where
   malformed : ((log_n r p : ℕ) → ¬ EncodesCosts field log_n r p) → ReadsField field (Err EncodingInvalid)

@@ -14,14 +14,14 @@ use Rattle.scrypt.specs.Verifying.{IsAccepted, IsRefusedBy, VerdictOf}
 abbrev pub mcf_id : List ℕ
 mcf_id = codes "7"
 
--- The text has the id `7`, its first field encodes these costs and this salt, and these fields are
+-- The text has the id `7`, its first field encodes these parameters and this salt, and these fields are
 -- after it.
 pub record HasCosts (text : List ℕ) (c : Parameters) (salt : List ℕ) (after : List (List ℕ)) : Type 0 where
   pub field : List ℕ
   pub parts : IsMcfText text mcf_id (field ∷ after)
   pub costs : ReadsField field (Ok (c, salt))
 
--- the text of a whole `$7$` hash: two fields, of which the first encodes costs and salt, and the
+-- the text of a whole `$7$` hash: two fields, of which the first encodes parameters and salt, and the
 -- second is a key of an accepted output length, in crypt Base64
 pub record IsWhole (text : List ℕ) (c : Parameters) (salt key : List ℕ) : Type 0 where
   pub letters : List ℕ
@@ -52,7 +52,7 @@ abbrev pub IsMadeHash : Parameters → List ℕ → List ℕ → List ℕ → Ty
 IsMadeHash c password salt text =
     IsWhole text (without_len c) (crypt64_of salt) (key_by c password (crypt64_of salt) (key_len_or_default c))
 
--- the length of that text, for a salt of n bytes: the costs, the letters of the salt, `$` and those
+-- the length of that text, for a salt of n bytes: the parameters, the letters of the salt, `$` and those
 -- of the key
 abbrev pub made_text_len : Parameters → ℕ → ℕ
 made_text_len c n = 14 + encoded_len n + (1 + encoded_len (key_len_or_default c))

@@ -6,7 +6,7 @@ use Rattle.password_hash.specs.declared.phc.hash.PasswordHash.{PasswordHash}
 use Rattle.scrypt.specs.Accepted.{Parameters, without_len}
 use Rattle.scrypt.specs.PhcCosts.{ReadsCosts, written_pairs}
 
--- the costs that are read, or the error
+-- the parameters that are read, or the error
 abbrev pub IsReadAs : List (List ℕ × List ℕ) → Result Parameters Error → Type 0
 IsReadAs pairs (Ok c) = ReadsCosts pairs (Ok c)
 IsReadAs pairs (Err e) = ReadsCosts pairs (Err (refusal e))
@@ -16,14 +16,14 @@ abbrev pub output_len_of : Option (List ℕ) → ℕ
 output_len_of None = 32
 output_len_of (Some key) = length key
 
--- the costs of a hash with the length of its key, or the error of its version or of its costs
+-- the parameters of a hash with the length of its key, or the error of its version or of its parameters
 abbrev pub HashIsReadAs : PasswordHash → Result Parameters Error → Type 0
 HashIsReadAs hash (Ok c) =
     (hash.version ≡ None) × ReadsCosts hash.params (Ok (without_len c)) × (c.output_len ≡ Some (output_len_of hash.hash))
 HashIsReadAs hash (Err e) =
     (IsSome hash.version × (refusal e ≡ Version)) ⊎ ((hash.version ≡ None) × ReadsCosts hash.params (Err (refusal e)))
 
--- the parameters that the costs are written as
+-- the pairs that parameters are written as
 abbrev pub Writes : Parameters → Result (List (List ℕ × List ℕ)) Error → Type 0
 Writes c (Ok pairs) = pairs ≡ written_pairs c
 Writes c (Err e) = ⊥

@@ -33,10 +33,10 @@ pub data Reads : ℕ → ℕ → ℕ → List (List ℕ × List ℕ) → Result 
       → pair.0 ≢ codes "ln" → pair.0 ≢ codes "r" → pair.0 ≢ codes "p"
       → Reads log_n r p (pair ∷ pairs) (Err ParamsInvalid)
 
--- the costs of a hash's parameters: log_n, r and p begin as 17, 8 and 1
+-- the parameters that the pairs of a hash encode: log_n, r and p begin as 17, 8 and 1
 abbrev pub ReadsCosts : List (List ℕ × List ℕ) → Result Parameters Refusal → Type 0
 ReadsCosts pairs out = Reads 17 8 1 pairs out
 
--- the parameters that these costs are written as
+-- the pairs that these parameters are written as
 abbrev pub written_pairs : Parameters → List (List ℕ × List ℕ)
 written_pairs c = (codes "ln", decimal c.log_n) ∷ (codes "r", decimal c.r) ∷ (codes "p", decimal c.p) ∷ []

@@ -38,13 +38,13 @@ IsScryptOrNone = IsNamedOrNone scrypt_id
 abbrev pub HashIsRefused : List ℕ → Option (List ℕ) → Option ℕ → Refusal → Type 0
 HashIsRefused salt = HashingIsRefused scrypt_id (IsSaltLen (length salt))
 
--- the hash is one of scrypt without a version, and these are its costs
+-- the hash is one of scrypt without a version, and these are its parameters
 pub record IsOfCosts (hash : PasswordHash) (c : Parameters) : Type 0 where
   pub algorithm : hash.algorithm ≡ scrypt_id
   pub version : hash.version ≡ None
   pub costs : ReadsCosts hash.params (Ok c)
 
--- the hash has costs, a salt and a key
+-- the hash has parameters, a salt and a key
 pub record IsWhole (hash : PasswordHash) (c : Parameters) (salt key : List ℕ) : Type 0 where
   pub of_costs : IsOfCosts hash c
   pub salt_is : hash.salt ≡ Some salt

@@ -7,7 +7,7 @@ use Rattle.scrypt.specs.Hashing.{key_len_or_default}
 abbrev pub IsBelow : Parameters → Parameters → ℕ → Type 0
 IsBelow wanted c len = (c.log_n < wanted.log_n) ⊎ (c.r < wanted.r) ⊎ (c.p < wanted.p) ⊎ (len < key_len_or_default wanted)
 
--- some costs, a salt and a key with which a hash is whole
+-- some parameters, a salt and a key with which a hash is whole
 abbrev pub IsReadable : (Parameters → List ℕ → List ℕ → Type 0) → Type 0
 IsReadable IsWhole = (c : Parameters) × (salt : List ℕ) × (key : List ℕ) × IsWhole c salt key
 

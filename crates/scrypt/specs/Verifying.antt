@@ -1,11 +1,11 @@
 -- The verdict of verifying a password, in every format. A format defines which hashes are whole,
--- with their costs, their salt and their key, and the error of every other hash.
+-- with their parameters, their salt and their key, and the error of every other hash.
 use Rattle.std.specs.Prelude.{◌≡◌, ◌≢◌, ℕ, List, length, Option, None, Some}
 use Rattle.password_hash.specs.Refusal.{Refusal, OutOfMemory, PasswordInvalid}
 use Rattle.scrypt.specs.Accepted.{Parameters}
 use Rattle.scrypt.specs.KeyOfParams.{key_by}
 
--- the password is that of the hash: the stored key is the derived key of its length, by the costs
+-- the password is that of the hash: the stored key is the derived key of its length, by the parameters
 -- and the salt of the hash
 pub record IsAccepted (IsWhole : Parameters → List ℕ → List ℕ → Type 0) (password : List ℕ) : Type 0 where
   pub costs : Parameters

@@ -18,7 +18,7 @@ ghost use Rattle.scrypt.specs.Key.{derived_key, mixed_chunks};
 ghost use Rattle.scrypt.specs.ThinKey.{thin_key};
 ghost use Rattle.scrypt.specs.Cost.{cost, thin_cost};
 ghost use Rattle.scrypt_kernel.specs.Table.{extra_rows};
-ghost use Rattle.scrypt.specs.McfCosts.{costs_letters, costs_text, five_letter_number};
+ghost use Rattle.scrypt.specs.McfCosts.{cost_letters, costs_text, five_letter_number};
 ghost use Rattle.scrypt.specs.McfHash.{Accepts as McfAccepts, HashIsRefused as McfHashIsRefused, IsWhole as IsMcfWhole, IsMadeHash as IsMadeMcf, ReadIsRefused as McfReadIsRefused, Verdict as McfVerdict, mcf_id};
 ghost use Rattle.scrypt.specs.Hashing.{key_len_or_default};
 ghost use Rattle.scrypt.specs.Accepted.{without_len};
@@ -48,7 +48,7 @@ pub fn chunks_in_any_order()
         → mixed_in_order log_n r b order ≡ mixed_chunks b log_n r p }
 {}
 
-/// Costs that are written as PHC parameters are read back as the same `log_n`, `r` and `p`, and in
+/// Parameters that are written to a PHC text are read back as the same `log_n`, `r` and `p`, and in
 /// no other way.
 pub fn written_costs_read_back()
     ensures read { (c : Parameters) → AreAccepted c.log_n c.r c.p → ReadsCosts (written_pairs c) (Ok (without_len c)) }
@@ -79,7 +79,7 @@ pub fn texts_have_one_reading()
 
 /// A hash made from a password with accepted parameters verifies against that password. A PHC hash
 /// does so also after it has been printed and parsed. A `$7$` text consists of the letters of the
-/// costs, of the salt and of the key.
+/// parameters, of the salt and of the key.
 pub fn made_hashes_are_accepted()
     ensures phc { (c : Parameters) (password salt : List ℕ) (hash : PasswordHash) → AreAccepted c.log_n c.r c.p
         → IsMadeHash c password salt hash → Accepts password hash }
@@ -179,11 +179,11 @@ pub fn five_letters_are_inverse()
     ensures accepted { (log_n r p : ℕ) → AreAccepted log_n r p → (r < 2 ^ 30) × (p < 2 ^ 30) }
 {}
 
-/// The eleven letters that encode accepted costs in `$7$` texts are equal exactly if `log_n`, `r`
+/// The eleven letters that encode accepted parameters in `$7$` texts are equal exactly if `log_n`, `r`
 /// and `p` are.
 pub fn costs_prefix_is_injective()
     ensures injective { (log_n r p other_log_n other_r other_p : ℕ) → AreAccepted log_n r p → AreAccepted other_log_n other_r other_p
-        → (costs_letters log_n r p ≡ costs_letters other_log_n other_r other_p)
+        → (cost_letters log_n r p ≡ cost_letters other_log_n other_r other_p)
         ↔ ((log_n ≡ other_log_n) × (r ≡ other_r) × (p ≡ other_p)) }
 {}
 

@@ -63,7 +63,7 @@ impl Params {
 
     /// Creates parameters, with no length of a stored key.
     ///
-    /// Accepts exactly the numbers with `r > 0`, `p > 0`, `128 * r * 2^log_n < 2^64` and
+    /// Accepts exactly the parameters with `r > 0`, `p > 0`, `128 * r * 2^log_n < 2^64` and
     /// `r * p < 2^30`, computed in unbounded integers, and returns `InvalidParams` for all others.
     /// So `log_n` is at most 56. As in the Rust crate and unlike RFC 7914, section 2, `log_n` may be
     /// 0, and may be `16 * r` or more.
@@ -198,7 +198,7 @@ impl PartialEq for Params {
     /// Returns whether the four are equal: the optional length, `log_n`, `r` and `p`.
     #[tactic(auto, using(crate::proofs::AcceptedFacts::parameters_decided))]
     fn eq(&self, other: &Params) -> bool
-        ensures told { result ≡ parameters_eq self.now other.now }
+        ensures value { result ≡ parameters_eq self.now other.now }
         ensures exact { IsTrue result ↔ (self.now ≡ other.now) }
     {
         self.output_len == other.output_len

@@ -62,7 +62,7 @@ pub extern "C" fn scrypt_buffer_lens(
     table: &mut usize,
     scratch: &mut usize,
 ) -> i32
-    ensures done { (result ≡ OK) ↔ (AreAccepted log_n r p × IsSpacing log_n s) }
+    ensures exact { (result ≡ OK) ↔ (AreAccepted log_n r p × IsSpacing log_n s) }
     ensures lens { result ≡ OK → AreBuffers log_n r p s chunks.new table.new scratch.new }
     ensures status { (result ≡ OK) ⊎ (result ≡ INVALID_PARAMS) }
     ensures refused { result ≢ OK →
@@ -105,7 +105,7 @@ pub extern "C" fn scrypt_kdf_with_buffers(
     ensures status { (result ≡ OK) ⊎ (result ≡ INVALID_PARAMS) ⊎ (result ≡ INVALID_OUTPUT_LEN)
         ⊎ (result ≡ BUFFER_SIZE) }
     ensures refused { result ≢ OK → output.new ≡ output.old }
-    ensures lent { result ≢ OK →
+    ensures unchanged { result ≢ OK →
         (chunks.new ≡ chunks.old) × (table.new ≡ table.old) × (scratch.new ≡ scratch.old) }
 {
     scrypt_kdf_thin(
@@ -143,7 +143,7 @@ pub extern "C" fn scrypt_kdf_thin(
     ensures status { (result ≡ OK) ⊎ (result ≡ INVALID_PARAMS) ⊎ (result ≡ INVALID_OUTPUT_LEN)
         ⊎ (result ≡ BUFFER_SIZE) }
     ensures refused { result ≢ OK → output.new ≡ output.old }
-    ensures lent { result ≢ OK →
+    ensures unchanged { result ≢ OK →
         (chunks.new ≡ chunks.old) × (table.new ≡ table.old) × (scratch.new ≡ scratch.old) }
 {
     let Some((params, lens)) = params_and_lens(log_n, r, p, s) else {

@@ -15,7 +15,7 @@ use Rattle.scrypt.specs.Verifying.{right}
 use Rattle.scrypt_commands.proofs.CommandFacts.{args_refused_once, asked_not_refused, asked_once}
 use Rattle.scrypt_commands.proofs.CliErrorFacts.{hash_error, hash_error_once, not_memory, not_wrong}
 use Rattle.scrypt_commands.specs.Command.{Request, ToMake, ToRehash, ToVerify}
-use Rattle.scrypt_commands.specs.Outcome.{Gives, GivesMade, GivesRehash, GivesVerdict, HasOutcome, IsHashSaltRefused, IsMadeHashText, IsMadeText, IsSaltRefused, IsVerdictError, Outcome, Refuses, answer_of, refusal_of}
+use Rattle.scrypt_commands.specs.Outcome.{Gives, GivesMade, GivesRehash, GivesVerdict, HasOutcome, IsHashSaltRefused, IsMadeFor, IsMadeHashText, IsSaltRefused, IsVerdictError, Outcome, Refuses, answer_of, refusal_of}
 use Rattle.scrypt_commands.specs.Outcome.HasOutcome.{answered, args_refused, input_refused}
 use Rattle.scrypt_commands.specs.declared.args.Format.{Format}
 use Rattle.scrypt_commands.specs.declared.args.Format.TheVariants.{Phc, Mcf}
@@ -46,7 +46,7 @@ made_salt_allowed Phc c password salt text error made h =
     elim (salt_refusal salt found.2) [ inl is ↦ is.1 made.1.salt_len | inr is ↦ not_memory found.0 (sym is) ]
 
 target_salt_allowed : (target : Target) (c : Parameters) (password salt text : List ℕ) (error : CliError)
-    → IsMadeText target c password salt text → IsSaltRefused target salt error → ⊥
+    → IsMadeFor target c password salt text → IsSaltRefused target salt error → ⊥
 target_salt_allowed (Key len) c password salt text error made h = h
 target_salt_allowed (Hash format len) c password salt text error made h = made_salt_allowed format c password salt text error made h
 
@@ -73,7 +73,7 @@ module _ (verdicts : (password text : List ℕ) (one other : Option Refusal) →
   made_hash_once Mcf c password salt made again = texts _ _ _ _ _ made again
 
   made_once : (target : Target) (c : Parameters) (password salt : List ℕ) {text other : List ℕ}
-      → IsMadeText target c password salt text → IsMadeText target c password salt other → text ≡ other
+      → IsMadeFor target c password salt text → IsMadeFor target c password salt other → text ≡ other
   made_once (Key len) c password salt made again = made ∙ sym again
   made_once (Hash format len) c password salt made again = made_hash_once format c password salt made again
 
@@ -99,7 +99,7 @@ module _ (verdicts : (password text : List ℕ) (one other : Option Refusal) →
   gives_once : (request : Request) (input : List ℕ) {status more : ℕ} {line other : List ℕ}
       → Gives request input status line → Gives request input more other → (status ≡ more) × (line ≡ other)
   gives_once (ToMake target params salt) input gives again =
-      made_printed_once {IsMade = IsMadeText target params input salt} (λ text other. made_once target params input salt) gives again
+      made_printed_once {IsMade = IsMadeFor target params input salt} (λ text other. made_once target params input salt) gives again
   gives_once (ToVerify hash) input gives again = verdict_printed_once input hash gives again
   gives_once (ToRehash format wanted salt hash) input gives again =
       rehash_printed_once wanted input hash {IsMade = IsMadeHashText format wanted input salt}

@@ -22,9 +22,9 @@ IsMadeHashText Phc = IsMadePhcText
 IsMadeHashText Mcf = IsMadeMcf
 
 -- the text of what is made of a password and a salt: a derived key in hexadecimal, or a hash
-abbrev pub IsMadeText : Target → Parameters → List ℕ → List ℕ → List ℕ → Type 0
-IsMadeText (Key len) c password salt text = text ≡ encode_lower (key_by c password salt len)
-IsMadeText (Hash format len) c password salt text = IsMadeHashText format c password salt text
+abbrev pub IsMadeFor : Target → Parameters → List ℕ → List ℕ → List ℕ → Type 0
+IsMadeFor (Key len) c password salt text = text ≡ encode_lower (key_by c password salt len)
+IsMadeFor (Hash format len) c password salt text = IsMadeHashText format c password salt text
 
 -- the status and the line that a made text is printed with
 abbrev pub GivesMade : (List ℕ → Type 0) → ℕ → List ℕ → Type 0
@@ -48,7 +48,7 @@ GivesRehash wanted password hash IsMade status line =
 
 -- the request is answered on this input by this status and this line
 abbrev pub Gives : Request → List ℕ → ℕ → List ℕ → Type 0
-Gives (ToMake target params salt) input status line = GivesMade (IsMadeText target params input salt) status line
+Gives (ToMake target params salt) input status line = GivesMade (IsMadeFor target params input salt) status line
 Gives (ToVerify hash) input status line = GivesVerdict input hash status line
 Gives (ToRehash format wanted salt hash) input status line =
     GivesRehash wanted input hash (IsMadeHashText format wanted input salt) status line

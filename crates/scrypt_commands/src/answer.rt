@@ -10,7 +10,7 @@ ghost use Rattle.scrypt.specs.PhcHash.{HashIsRefused};
 ghost use Rattle.scrypt.specs.StoredHash.{Accepts, IsReadableText, IsWeakerText, Verdict};
 ghost use Rattle.scrypt_commands.specs.CliError.{IsHashError};
 ghost use Rattle.scrypt_commands.specs.Command.{HasAllowedLen};
-ghost use Rattle.scrypt_commands.specs.Outcome.{Gives, IsAnswer, IsHashSaltRefused, IsMadeHashText, IsMadeText, IsSaltRefused, IsVerdictError, Refuses};
+ghost use Rattle.scrypt_commands.specs.Outcome.{Gives, IsAnswer, IsHashSaltRefused, IsMadeFor, IsMadeHashText, IsSaltRefused, IsVerdictError, Refuses};
 ghost use Rattle.scrypt_commands.specs.Steps.{IsPossible, answer_line, answer_status, request_of};
 ghost use Rattle.scrypt_commands.specs.declared.args.Format.TheVariants.{Phc};
 ghost use Rattle.scrypt_commands.specs.declared.error.CliError.TheVariants.{OutOfMemory};
@@ -132,7 +132,7 @@ fn make(
 ) -> Result<String, CliError>
     requires { HasAllowedLen target.now }
     ensures ok { IfOk result (λ text.
-        IsMadeText target.now params.now password.now salt.now (string_bytes text)) }
+        IsMadeFor target.now params.now password.now salt.now (string_bytes text)) }
     ensures err { IfErr result (λ error. (error ≡ OutOfMemory) ⊎ IsSaltRefused target.now salt.now error) }
 {
     match target {

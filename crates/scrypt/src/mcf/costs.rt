@@ -1,4 +1,4 @@
-// Reading the costs and the salt of a `$7$` text.
+// Reading the parameters and the salt of a `$7$` text.
 
 ghost use Rattle.std.specs.Prelude.{◌≡◌, Ok, Err, IfOk, IfErr};
 ghost use Rattle.password_hash.specs.Refusal.{refusal};
@@ -15,7 +15,7 @@ use password_hash::{Error, Result};
 ///
 /// Returns `EncodingInvalid` if `text` is empty, if its first byte is 128 or above, or if `r` or
 /// `p` has fewer than five bytes or a byte outside the alphabet. Otherwise returns `ParamsInvalid`
-/// if [`Params::new`] does not accept the numbers. A first byte below 128 that is outside the
+/// if [`Params::new`] does not accept the parameters. A first byte below 128 that is outside the
 /// alphabet reads as `log_n` 255, so the error is `ParamsInvalid`, not `EncodingInvalid`.
 pub fn decode_params_and_salt(text: &str) -> Result<(Params, &[u8])>
     ensures ok { IfOk result (λ read. ReadsField text.now (Ok (read.0, read.1.now))) }

@@ -12,7 +12,7 @@ use crate::{Params, output_len_ok};
 use password_hash::mcf::{Field, PasswordHashRef};
 use password_hash::{Error, Result};
 
-/// The costs, the salt and the key of a hash. Nothing is copied: the salt and the key are parts of
+/// The parameters, the salt and the key of a hash. Nothing is copied: the salt and the key are parts of
 /// the text, and the key is not decoded.
 #[derive(Clone, Copy)]
 pub(crate) struct Stored<'a> {

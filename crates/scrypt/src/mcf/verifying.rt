@@ -15,7 +15,7 @@ impl<'a> PasswordVerifier<PasswordHashRef<'a>> for Scrypt {
 
     ghost refuses = { λ password hash why. VerifyIsRefused password (hash_text hash) why };
 
-    /// Verifies the password with the costs, the salt and the length of the key of the hash, and
+    /// Verifies the password with the parameters, the salt and the length of the key of the hash, and
     /// never with this value's parameters. The salt is passed to the derivation as the bytes of the
     /// text, not decoded, and the key is compared with its letters in the text.
     ///

@@ -17,19 +17,19 @@ impl TryFrom<&ParamsString> for Params {
 
     ghost try_from_gives = { λ text answer. IsReadAs text.now answer };
 
-    /// Reads the costs `ln`, `r` and `p`. A missing one has its recommended value, and the result
+    /// Reads the parameters `ln`, `r` and `p`. A missing one has its recommended value, and the result
     /// has no length of a stored key.
     ///
     /// Returns the error of the first pair that has one: `ParamInvalid` with the name, if `ln` is
     /// not a decimal of at most 255 or `r` or `p` is not a decimal, and `ParamsInvalid` for any
     /// other name. Otherwise returns `ParamsInvalid` if [`Params::new`] does not accept the
-    /// numbers.
+    /// parameters.
     fn try_from(text: &ParamsString) -> Result<Params> {
         read_costs(text)
     }
 }
 
-// Reads the costs in the parameters of a hash.
+// Reads `ln`, `r` and `p`.
 fn read_costs(text: &ParamsString) -> Result<Params>
     ensures { IsReadAs text.now result }
 {
@@ -84,7 +84,7 @@ impl TryFrom<&PasswordHash> for Params {
 
     ghost try_from_gives = { λ hash answer. HashIsReadAs hash.now answer };
 
-    /// Reads the costs of a hash, with the length of its key, or 32 if it has no key. The algorithm
+    /// Reads the parameters of a hash, with the length of its key, or 32 if it has no key. The algorithm
     /// is ignored.
     ///
     /// Returns `Version` if the hash has a version, and otherwise the errors of reading its
@@ -94,7 +94,7 @@ impl TryFrom<&PasswordHash> for Params {
             return Err(Error::Version);
         }
         match read_costs(&hash.params) {
-            Ok(costs) => Ok(costs.with_output_len(output_len_of(hash))),
+            Ok(params) => Ok(params.with_output_len(output_len_of(hash))),
             Err(refused) => Err(refused),
         }
     }
@@ -116,7 +116,7 @@ impl TryFrom<&Params> for ParamsString {
 
     ghost try_from_gives = { λ params answer. Writes params.now answer };
 
-    /// Writes the costs as `ln=..,r=..,p=..` in decimal digits. Never returns an error.
+    /// Writes the parameters as `ln=..,r=..,p=..` in decimal digits. Never returns an error.
     fn try_from(params: &Params) -> Result<ParamsString> {
         Ok(written(params))
     }
@@ -127,13 +127,13 @@ impl TryFrom<Params> for ParamsString {
 
     ghost try_from_gives = { λ params answer. Writes params answer };
 
-    /// Writes the costs as `ln=..,r=..,p=..` in decimal digits. Never returns an error.
+    /// Writes the parameters as `ln=..,r=..,p=..` in decimal digits. Never returns an error.
     fn try_from(params: Params) -> Result<ParamsString> {
         Ok(written(&params))
     }
 }
 
-// Writes the costs as parameters of a hash.
+// Writes the parameters of a hash.
 pub(super) fn written(params: &Params) -> ParamsString
     ensures { result ≡ written_pairs params.now }
 {

@@ -10,7 +10,7 @@ use crate::phc::ALG_ID;
 use password_hash::phc::{Ident, Output, PasswordHash};
 use password_hash::{Error, Result};
 
-/// The costs, the salt and the key of a hash. The salt and the key are borrowed from it.
+/// The parameters, the salt and the key of a hash. The salt and the key are borrowed from it.
 #[derive(Clone, Copy)]
 pub(crate) struct Stored<'a> {
     pub(crate) params: Params,

@@ -17,7 +17,7 @@ impl PasswordVerifier<PasswordHash> for Scrypt {
 
     ghost refuses = { λ password hash why. VerifyIsRefused password hash why };
 
-    /// Verifies the password with the costs, the salt and the length of the key of the hash, and
+    /// Verifies the password with the parameters, the salt and the length of the key of the hash, and
     /// never with this value's parameters. Every byte of the two keys is compared, also after a
     /// difference.
     ///
