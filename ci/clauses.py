@@ -38,7 +38,7 @@ def items_of(path, text):
     """The items of a source. Their words are those of its path and of the type or trait around them."""
     module = set(re.split(r"[/.]", path)) - {"crates", "src", "rt"}
     private = set(re.findall(r"^(?:pub\(\w+\) )?(?:trait|struct|enum) (\w+)", text, re.M)) | {"Model"}
-    for kind, head, body in re.findall(r"^(pub trait|impl(?:<[^>]*>)?) ([^\n{]*)\{(?!\})(.*?)^\}", text, re.M | re.S):
+    for kind, head, body in re.findall(r"^(pub trait|impl(?:<[^>]*>)?) ([^\n{]*)\{\n(.*?)^\}", text, re.M | re.S):
         words = module | set(re.findall(r"\w+", head))
         functions = [(name, ensured(rest), public) for _, public, name, rest in FUNCTION.findall(body)]
         if kind == "pub trait":
@@ -86,7 +86,7 @@ def paths(text):
 
 def named(group, items):
     """The functions that a group names, each with the items that it means."""
-    subject, _, context = re.match(r"(.*?)(?:(?<!kept) (of|for) (.*))?$", group.replace("\n", " ")).groups()
+    subject, _, context = re.match(r"(.*?)(?: (of|for) (.*))?$", group.replace("\n", " ")).groups()
     around = [set(path) for path in paths(context or "")]
     for path in paths(subject):
         found = [it for it in items if it.name == path[-1] and (not around or any(those <= it.words for those in around))]

@@ -60,7 +60,7 @@ KEPT = """| promise | function | clause |
 | one key | `one_key` (`one`, `same`) | `all` |
 
 - `derive::{left, right}`: `half`, `quarter`
-- `Halves`, kept for `Whole`: `both`
+- `Halves`: `both`
 - That `key` is hard to guess: not promised.
 """
 CODE = {
