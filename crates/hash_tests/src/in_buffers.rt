@@ -104,8 +104,9 @@ fn hashes_in_buffers(rt: HostRuntime) -> Result<(), Fail> {
     let (mut chunks, mut table, mut scratch) = ([0xffu8; 129], [u32::MAX; 513], [u32::MAX; 65]);
     for (len, reason) in KEY_LENS {
         let params = Params::new_with_output_len(4, 1, 1, len)?;
-        let usual: phc::PasswordHash =
-            Scrypt::new().hash_password_with_params(alloc, b"pw", b"salt", params)?;
+        let usual: phc::PasswordHash = Scrypt::new().hash_password_with_params(
+            alloc, b"pw", b"salt", params,
+        )?;
         let hash = scrypt::phc::hash_with_buffers(
             b"pw",
             b"salt",
@@ -115,9 +116,14 @@ fn hashes_in_buffers(rt: HostRuntime) -> Result<(), Fail> {
             &mut scratch,
             &mut CoreCount::new(),
         )?;
-        assert_eq!(rt; hash.to_array_string().as_str(), usual.to_string(alloc)?.as_str(), "{reason}");
-        let usual: mcf::PasswordHash =
-            Scrypt::new().hash_password_with_params(alloc, b"pw", b"salt", params)?;
+        assert_eq!(rt;
+            hash.to_array_string().as_str(),
+            usual.to_string(alloc)?.as_str(),
+            "{reason}"
+        );
+        let usual: mcf::PasswordHash = Scrypt::new().hash_password_with_params(
+            alloc, b"pw", b"salt", params,
+        )?;
         let mut text = [b'!'; 120];
         let len = scrypt::mcf::hash_with_buffers(
             b"pw",
