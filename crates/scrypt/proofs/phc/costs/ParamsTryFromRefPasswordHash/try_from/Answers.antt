@@ -6,7 +6,7 @@ use Rattle.scrypt.proofs.phc.costs.ParamsTryFromRefPasswordHash.try_from.Goals a
 
 pub returns-in-Ok : goal.returns-in-Ok
 returns-in-Ok c =
-    let costs = c.in-Ok.costs in
+    let costs = c.in-Ok.params in
     let read : ReadsCosts c.args.hash.now.params (Ok costs) = c.in-Ok.ensures in
     let same : without_len c.with_output_len.result ≡ costs = ap without_len c.with_output_len.ensures ∙ without_len_is costs (read_without_len read) in
     let no_version : c.args.hash.now.version ≡ None = search rules in
