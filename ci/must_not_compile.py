@@ -22,6 +22,7 @@ NEW_COUNTS = {
     "crates/scrypt/src/derivation.rt": 1,
     "crates/scrypt_c/src/in_buffers.rt": 3,
     "crates/scrypt_c/src/keys.rt": 1,
+    "crates/verdicts/src/main.rt": 1,
 }
 
 # A new count, however the type is written: `CoreCount::new`, `<CoreCount>::new`, `scrypt::CoreCount :: new`.

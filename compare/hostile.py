@@ -7,7 +7,9 @@ VERDICTS is the program of crates/verdicts. First come the texts that are one ch
 both formats, and `$7$` texts with a key of up to three letters, all of them. Then come random texts of
 both formats (a million if not given): good ones, and good ones that are mutated, spliced, cut, doubled,
 or random, from a seed that is printed. Their log_n is 0 to 4, or so great that the table is refused.
-Printed is how many texts fell on each verdict; it fails if a verdict differs, or if one has no text.
+Then the same texts, and texts with random costs, are verified within limits, in less memory than these allow.
+Printed is how many texts fell on each verdict; it fails if a verdict differs, if one has no text, or if
+refusing a costly text takes a millisecond.
 """
 
 import collections
@@ -19,6 +21,7 @@ import re
 import resource
 import subprocess
 import sys
+import time
 
 import crypt64
 import phc
@@ -34,6 +37,17 @@ VERDICTS = (
 
 # from this log_n on no machine has the table
 GREAT = 50
+
+# the limits: 256 MiB and four times the recommended cores; and the buffers of the program under them
+MOST_BYTES, MOST_CORES = 256 << 20, 1 << 24
+CHUNKS, TABLE, SCRATCH = 128 * 16, 32 * 16 * 16, 64 * 16
+
+# costs that ask for seconds to days, for more memory than there is, or for a byte or a core more than is allowed
+COSTLY = [(13, 1, 8192), (14, 1, 16384), (20, 1, 1048576), (50, 1, 16777216), (40, 8, 1), (56, 1, 1)]
+COSTLY += [(18, 8, 1), (17, 8, 5), (20, 1, 5), (0, 1, 2097150)]
+
+# costs that are exactly, or almost, what is allowed
+ALLOWED = [(17, 8, 1), (17, 8, 4), (20, 1, 4), (0, 1, 2097149), (4, 16, 1), (4, 1, 16), (4, 1, 17), (5, 16, 1)]
 
 # the characters that mutations put in
 CHARACTERS = "$$$=,,.-/+" + crypt64.ALPHABET + "*!\x00\x7f \u00e9\u20ac"
@@ -79,6 +93,16 @@ def compared(salt, log_n, r, p, key):
     return "Ok" if derived_key(salt, log_n, r, p, len(key)) == key else "PasswordInvalid"
 
 
+def compared_within(salt, log_n, r, p, key):
+    """The same within the limits, in the buffers of the program."""
+    chunks, table, scratch = 128 * r * p, 32 * r << log_n, 64 * r
+    if chunks + 4 * table + 4 * scratch > MOST_BYTES or 4 * r * p << log_n > MOST_CORES:
+        return "TooCostly"
+    if chunks > CHUNKS or table > TABLE or scratch > SCRATCH:
+        return "OutOfMemory"
+    return compared(salt, log_n, r, p, key)
+
+
 def phc_costs(pairs):
     """The costs of the pairs, or the refusal."""
     costs = {"ln": 17, "r": 8, "p": 1}
@@ -94,8 +118,8 @@ def phc_costs(pairs):
     return tuple(costs.values())
 
 
-def phc_verdict(text):
-    """The verdict on a PHC text."""
+def phc_verdict(text, by=compared):
+    """The verdict on a PHC text, by what compares its key."""
     if not phc.is_read(text):
         return "EncodingInvalid"
     name, version, pairs, salt, key = phc.TEXT.fullmatch(text).groups()
@@ -108,11 +132,11 @@ def phc_verdict(text):
         return costs
     if key is None:
         return "PasswordInvalid"
-    return compared(unpadded.read(salt), *costs, unpadded.read(key))
+    return by(unpadded.read(salt), *costs, unpadded.read(key))
 
 
-def mcf_verdict(text):
-    """The verdict on a text that is `$7` or begins with `$7$`."""
+def mcf_verdict(text, by=compared):
+    """The verdict on a text that is `$7` or begins with `$7$`, by what compares its key."""
     fields = text.split("$")[2:]
     costs = fields[0].encode() if fields else b""
     if not costs or costs[0] > 127:
@@ -129,12 +153,12 @@ def mcf_verdict(text):
         return "EncodingInvalid"
     if not key:
         return "OutputSize"
-    return compared(costs[11:], log_n, r, p, key)
+    return by(costs[11:], log_n, r, p, key)
 
 
-def verdict(text):
+def verdict(text, by=compared):
     """The verdict on the empty password, by the program's choice of the format."""
-    return mcf_verdict(text) if text == "$7" or text.startswith("$7$") else phc_verdict(text)
+    return mcf_verdict(text, by) if text == "$7" or text.startswith("$7$") else phc_verdict(text, by)
 
 
 def printed(verdict):
@@ -144,6 +168,27 @@ def printed(verdict):
     if verdict in ("ln", "r", "p"):
         return f'Err(ParamInvalid {{ name: "{verdict}" }})'
     return f"Err({verdict})"
+
+
+def printed_within(verdict):
+    """The same within the limits, where a wrong password is no error."""
+    if verdict in ("Ok", "PasswordInvalid"):
+        return "Ok(true)" if verdict == "Ok" else "Ok(false)"
+    return "Err(TooCostly)" if verdict == "TooCostly" else f"Err(Hash({printed(verdict)[4:-1]}))"
+
+
+def texts_of(log_n, r, p):
+    """A text of each format with these costs; its password is not the empty one."""
+    salt, key = b"saltsalt", bytes(15)
+    phc_text = f"$scrypt$ln={log_n},r={r},p={p}${unpadded.letters(salt)}${unpadded.letters(key)}"
+    return phc_text, crypt64.costs(log_n, r, p) + "saltsalt$" + crypt64.letters(key)
+
+
+def random_costs(rng):
+    """Costs of every size, without end."""
+    while True:
+        r, p = (rng.randrange(1, 2 << rng.randrange(24)) for _ in range(2))
+        yield rng.randrange(rng.choice((8, 24, 64))), r, p
 
 
 def good_texts(rng):
@@ -211,18 +256,52 @@ def random_texts(rng):
         yield hostile(rng, texts)
 
 
-def judged(texts):
+def judged(texts, by=compared):
     """Texts and their verdicts, but for those whose costs are too great."""
     for text in texts:
         try:
-            yield text, verdict(text)
+            yield text, verdict(text, by)
         except Costly:
             pass
 
 
-def limited():
-    """No text is to take more than 4 GiB."""
-    resource.setrlimit(resource.RLIMIT_AS, (1 << 32, 1 << 32))
+def limited(most_bytes):
+    """Allows the program so much memory."""
+    return lambda: resource.setrlimit(resource.RLIMIT_AS, (most_bytes, most_bytes))
+
+
+def told(command, texts, most_bytes):
+    """What the program writes for each text."""
+    lines = "".join(text + "\n" for text in texts).encode()
+    ran = subprocess.run(command, input=lines, capture_output=True, check=True, preexec_fn=limited(most_bytes))
+    return ran.stdout.decode().split("\n")[:-1]
+
+
+def disagree(title, command, pairs, most_bytes, verdicts, as_printed):
+    """Whether the program has another verdict on a text, or a verdict has no text."""
+    written = told(command, [text for text, _ in pairs], most_bytes)
+    fell, differ = collections.Counter(wanted for _, wanted in pairs), abs(len(written) - len(pairs))
+    for (text, wanted), got in zip(pairs, written):
+        if got != as_printed(wanted):
+            differ += 1
+            if differ < 10:
+                print(f"differs: {text!r}: {got}, wanted {wanted}")
+    for name in verdicts:
+        print(f"{name}: {fell[name]}")
+    missing = [name for name in verdicts if not fell[name]]
+    print(f"{title}: {len(pairs) - differ} of {len(pairs)} agree; verdicts without a text: {missing or 'none'}")
+    return differ > 0 or missing != []
+
+
+def slowly_refused(program):
+    """Whether refusing a costly text takes a millisecond or more."""
+    texts = [text for costs in COSTLY for text in texts_of(*costs)] * 100
+    began = time.monotonic()
+    written = told([program, "within"], texts, MOST_BYTES)
+    taken = (time.monotonic() - began) / len(texts)
+    refused = written.count("Err(TooCostly)")
+    print(f"costly texts: {refused} of {len(texts)} refused, in {1e6 * taken:.0f} microseconds each")
+    return taken >= 0.001 or set(written) != {"Err(TooCostly)"} or len(written) != len(texts)
 
 
 def main():
@@ -230,25 +309,17 @@ def main():
     count = int(numbers[0]) if numbers else TEXTS
     seed = int(numbers[1]) if len(numbers) > 1 else random.SystemRandom().randrange(1 << 32)
     print(f"hostile texts from seed {seed}")
-    near = itertools.chain(*map(neighbours, BASES), short_keys())
-    pairs = list(judged(near))
+    pairs = list(judged(itertools.chain(*map(neighbours, BASES), short_keys())))
     print(f"{len(pairs)} texts near good ones, or with a short key")
     pairs += itertools.islice(judged(random_texts(random.Random(seed))), count)
-    lines = "".join(text + "\n" for text, _ in pairs).encode()
-    ran = subprocess.run([program], input=lines, capture_output=True, check=True, preexec_fn=limited)
-    told = ran.stdout.decode().split("\n")
-    fell, differ = collections.Counter(), len(told) != len(pairs) + 1
-    for (text, wanted), got in zip(pairs, told):
-        fell[wanted] += 1
-        if got != printed(wanted):
-            differ += 1
-            if differ < 10:
-                print(f"differs: {text!r}: {got}, wanted {wanted}")
-    for name in VERDICTS:
-        print(f"{name}: {fell[name]}")
-    missing = [name for name in VERDICTS if not fell[name]]
-    print(f"hostile texts: {len(pairs) - differ} of {len(pairs)} agree; verdicts without a text: {missing or 'none'}")
-    sys.exit(1 if differ or missing else 0)
+    # No text is to take more than 4 GiB.
+    failed = disagree("hostile texts", [program], pairs, 1 << 32, VERDICTS, printed)
+    costs = COSTLY + ALLOWED + list(itertools.islice(random_costs(random.Random(seed)), count // 10))
+    texts = [text for text, _ in pairs] + [text for it in costs for text in texts_of(*it)]
+    within = list(judged(texts, compared_within))
+    command = [program, "within"]
+    failed |= disagree("within limits", command, within, MOST_BYTES, VERDICTS + ["TooCostly"], printed_within)
+    sys.exit(1 if failed | slowly_refused(program) else 0)
 
 
 if __name__ == "__main__":
