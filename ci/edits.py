@@ -6,7 +6,8 @@ Each old text occurs once in that file. Four folders of a crate have edits:
 must-fail/          wrong bodies that the prover has to refuse; the gate tries them
 wrong-bodies/       more of these, which `make wrong-bodies` tries
 refused-by-tests/   wrong bodies that meet every contract, and that a test has to refuse (`make refused-by-tests`)
-must-not-compile/   uses of something private, which the compiler has to refuse before any proof; the gate tries them
+must-not-compile/   uses of something private and constants whose `prove!` is false, which the compiler has to refuse
+                    before any proof; the gate tries them
 """
 
 import contextlib

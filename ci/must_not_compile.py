@@ -1,8 +1,8 @@
 #!/usr/bin/env python3
 """Checks beside the gate: what has to be refused by the compiler, before any proof.
 
-Each file crates/NAME/must-not-compile/*.edit has to be refused as a use of something private. Two more
-things would let a count of cores say what was not run, and both are refused: a proof by hand other than
+Each file crates/NAME/must-not-compile/*.edit has to be refused as a use of something private, or as a constant whose
+`prove!` is false: clauses use the name of a constant, and so hold whatever its number is. Two more things would let a count of cores say what was not run, and both are refused: a proof by hand other than
 the three of the counter itself, and a new count anywhere but where a key's derivation begins, or in a test. The
 counter has one name: another one for it is refused too, since a new count could hide behind it.
 """
@@ -32,11 +32,20 @@ NEW = re.compile(r"\bCoreCount\s*>?\s*::\s*new\b")
 OTHER_NAMES = re.compile(r"\bCoreCount\s+as\b|\btype\s+\w+[^=;]*=[^;]*\bCoreCount\b|\buse\s[^;]*\bCoreCount\s*::")
 
 
-def refused_as_private(crate):
-    """Whether the compiler refuses the crate, and for private names alone."""
+# What the compiler may refuse an edit for, and the errors that say so.
+KINDS = {"private": re.compile("private-"), "a false constant": re.compile("failed-constant-evaluation")}
+
+
+def kind_of(printed):
+    """What a check refuses for, if all errors that it prints are of one kind, or None."""
+    errors = re.findall(r"^src/\S+ error\[(\S+?)\]", printed, re.M)
+    return next((kind for kind, error in KINDS.items() if errors and all(map(error.match, errors))), None)
+
+
+def refused_as(crate):
+    """What the compiler refuses the crate for before any proof, or None."""
     ran = subprocess.run(["rt", "check", "--only="], cwd=crate, capture_output=True, text=True)
-    errors = re.findall(r"^src/\S+ error\[(\S+?)\]", ran.stdout + ran.stderr, re.M)
-    return ran.returncode != 0 and errors != [] and all(it.startswith("private-") for it in errors)
+    return kind_of(ran.stdout + ran.stderr) if ran.returncode != 0 else None
 
 
 def own_sources():
@@ -62,9 +71,9 @@ def main():
             crate = os.path.join(copy, "crates", name)
             for edit in edits.edits_of(name, "must-not-compile"):
                 with edits.applied(edit, crate):
-                    refused = refused_as_private(crate)
-                print(f"must-not-compile {edit}: {'refused, as private' if refused else 'NOT REFUSED'}")
-                failed += not refused
+                    kind = refused_as(crate)
+                print(f"must-not-compile {edit}: {f'refused, as {kind}' if kind else 'NOT REFUSED'}")
+                failed += kind is None
     if sorted(glob.glob("crates/*/proofs/**/Proof.antt", recursive=True)) != BY_HAND:
         print(f"proofs by hand other than {', '.join(BY_HAND)}")
         failed += 1

@@ -1,5 +1,5 @@
 #!/usr/bin/env python3
-"""Shows that must_not_compile.py sees a new count of cores however it is written, and nothing else."""
+"""Shows that must_not_compile.py sees a new count of cores however it is written, and nothing else, and what a check refuses for."""
 
 import sys
 
@@ -20,6 +20,18 @@ ROWS = [
     ("use crate::CoreCount::{new};\n", True, "the function's own name"),
 ]
 
+PRIVATE = "src/lib.rt:3:5: error[private-field]: `seal` is private\n"
+FALSE = "src/statuses.rt:60:15: error[failed-constant-evaluation]: evaluation reached a false `prove!`\n"
+
+# What a check prints, what it refuses for, and the reason for the row.
+PRINTED = [
+    (PRIVATE * 2, "private", "a use of something private"),
+    (FALSE, "a false constant", "a constant with another number"),
+    (PRIVATE + FALSE, None, "errors of two kinds"),
+    (FALSE + "src/lib.rt:1:1: error[unknown-name]: no `x`\n", None, "another error beside it"),
+    ("logic=not-proved\n", None, "a proof that fails"),
+]
+
 
 def main():
     wrong = [
@@ -27,9 +39,11 @@ def main():
         for source, refused, reason in ROWS
         if bool(list(must_not_compile.count_complaints(RIGHT | {"crates/a/src/lib.rt": source}))) != refused
     ]
+    wrong += [reason for printed, kind, reason in PRINTED if must_not_compile.kind_of(printed) != kind]
     for reason in wrong:
         print(f"must_not_compile.py, {reason}: not as it should be")
-    print(f"must_not_compile.py: {len(ROWS) - len(wrong)} of {len(ROWS)} cases as they should be")
+    cases = len(ROWS) + len(PRINTED)
+    print(f"must_not_compile.py: {cases - len(wrong)} of {cases} cases as they should be")
     sys.exit(1 if wrong else 0)
 
 
