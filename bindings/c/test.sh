@@ -82,11 +82,13 @@ if has gcc gcc; then
   others=$lib/libscrypt_drop_in.so
   if [ -e "$lib/libscrypt_crypt.so" ]; then others="$others $lib/libscrypt_crypt.so"; fi
   "$room/test_traces" "$room/secrets" $others > /dev/null
+  gcc -O2 bindings/c/test_traces.c -o "$room/traces_shared" -I"$lib" -L"$lib" -lscrypt_c -lpthread
+  head -n 1 "$room/secrets" > "$room/first"
+  LD_LIBRARY_PATH=$lib "$room/traces_shared" "$room/first" > /dev/null
   echo "no trace of the password, the blocks or the key: each call, the drop-in names, crypt(3)"
   if command -v rt > /dev/null && [ -e crates/scrypt_c/out/libscrypt_c.a ]; then
     gcc -O2 -Ibindings/c bindings/c/test_traces.c bindings/c/memory.c bindings/c/salt.c -o "$room/not_cleared" \
       crates/scrypt_c/out/libscrypt_c.a "$(dirname "$(rt doc)")/c/liblibc_c.a" -lpthread
-    head -n 1 "$room/secrets" > "$room/first"
     if "$room/not_cleared" "$room/first" > "$room/used" 2> "$room/traces"; then exit 1; fi
     for call in $(sed -n 's/^CLEARING(\([a-z_]*\),.*/\1/p' bindings/c/clearing.c); do
       grep -q "traces of $call\b" "$room/traces" || { echo "no trace of $call without clearing.c" >&2; exit 1; }

@@ -40,14 +40,25 @@ static size_t read_bytes(char *text) {
   return len;
 }
 
+/* Whether bytes are so few different ones that memory has them by chance, as it has zeros. */
+static int is_common(const uint8_t *bytes) {
+  int i, j, different = 0;
+  for (i = 0; i < WINDOW; i++) {
+    for (j = 0; j < i && bytes[j] != bytes[i]; j++) {
+    }
+    different += j == i;
+  }
+  return different < 6;
+}
+
 static void add_secret(const char *name, const uint8_t *complements, size_t len) {
   size_t i;
   snprintf(names[secret_count], NAME_LEN, "%s", name);
   for (i = 0; i + WINDOW <= len && window_count < MOST_WINDOWS; i++) {
     struct window *it = &windows[window_count];
+    if (is_common(complements + i)) continue;
     memcpy(&it->complement, complements + i, WINDOW);
     it->secret = secret_count;
-    if (it->complement << 8 == it->complement >> 8 << 8) continue; /* one byte, again and again */
     filter[hash(it->complement) / 8] |= (uint8_t)(1 << hash(it->complement) % 8);
     window_count++;
   }
