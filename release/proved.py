@@ -51,8 +51,8 @@ def verdicts(log, commit):
 def claims(readme):
     """What README says is trusted, tested and not claimed, without the links."""
     words = ("Trusted", "Tested, not proved", "Not claimed")
-    parts = [re.search(rf"^\*\*{word}\*\*.*?(?=\n\n)", readme, re.M | re.S) for word in words]
-    text = "\n\n".join(part.group() for part in parts)
+    parts = [re.search(rf"^- (\*\*{word}\*\*.*?)(?=\n\n|\n- )", readme, re.M | re.S) for word in words]
+    text = "\n\n".join(part.group(1).replace("\n  ", "\n") for part in parts)
     return re.sub(r"\*\*|`", "", re.sub(r"\[([^]]*)\]\([^)]*\)", r"\1", text))
 
 
