@@ -195,7 +195,7 @@ pub fn thin_key_is_the_key()
 {}
 
 /// With a table that keeps one row in `2^s`, the `N` steps of the walk together recompute at most
-/// `N * (2^s - 1)` rows. With `s` of 0 a derivation costs what it costs with the whole table.
+/// `N * (2^s - 1)` rows. With `s` of 0 the work is that of the whole table.
 #[tactic(auto, using(crate::proofs::ThinKeyFacts::extra_rows_at_most, crate::proofs::CostFacts::whole_table_cost))]
 pub fn extra_rows_are_bounded()
     ensures bound { (b : List ℕ) (log_n s : ℕ) → extra_rows b log_n s (2 ^ log_n) ≤ 2 ^ log_n * (2 ^ s - 1) }

@@ -24,7 +24,7 @@ use password_hash::mcf::{Base64, PasswordHash};
 use password_hash::{CustomizedPasswordHasher, Error, PasswordHasher, Result, Version};
 use std::alloc::Global;
 
-// The number of bytes before the salt: `$7$` and the eleven letters of the costs.
+// The number of bytes before the salt: `$7$` and the eleven letters of the parameters.
 const COSTS_LEN: usize = 14;
 
 impl PasswordHasher<PasswordHash> for Scrypt {
@@ -143,7 +143,7 @@ fn write_text(
     Ok(())
 }
 
-// Writes `$7$`, the letters of the costs and those of the salt.
+// Writes `$7$`, the letters of the parameters and those of the salt.
 fn write_costs_and_salt(out: &mut [u8], params: &Params, salt: &[u8])
     requires { 14 + length (crypt64_of salt.now) ≤ length out.old }
     ensures written { out.new ≡ costs_text params.now
@@ -156,7 +156,7 @@ fn write_costs_and_salt(out: &mut [u8], params: &Params, salt: &[u8])
     };
 }
 
-// Returns `$7$` and the eleven letters of the costs.
+// Returns `$7$` and the eleven letters of the parameters.
 fn cost_letters(params: &Params) -> [u8; COSTS_LEN]
     ensures value { result ≡ costs_text params.now }
     ensures accepted { AreAccepted params.now.log_n params.now.r params.now.p }

@@ -77,7 +77,7 @@ impl CustomizedPasswordHasher<PasswordHash> for Scrypt {
     }
 }
 
-// Returns the hash of scrypt with these costs, this salt and this key.
+// Returns the hash of scrypt with these parameters, this salt and this key.
 fn hash_of_key(params: &Params, salt: Salt, key: Output) -> PasswordHash
     ensures algorithm { result.algorithm ≡ scrypt_id }
     ensures version { result.version ≡ None }
