@@ -102,11 +102,11 @@ const NO_CALLS: Calls = Calls {
 
 #[test]
 fn calls_of_a_good_run(rt: HostRuntime) -> Result<(), Fail> {
-    for (line, status, written) in COMMANDS {
+    for (line, status, written, command) in COMMANDS {
         let (mut output, mut faults) = (CountedPage::new(), CountedPage::new());
         let input = &mut b"password".as_slice();
         let ended = run_over(rt.alloc(), line, input, &mut output, &mut faults)?;
-        assert_eq!(rt; ended, Exit { status, ..DONE }, "{line}");
+        assert_eq!(rt; ended, Exit { status, ..DONE }, "{command}");
         let one_line = Calls {
             write_all: 1,
             flush: 1,
@@ -115,9 +115,9 @@ fn calls_of_a_good_run(rt: HostRuntime) -> Result<(), Fail> {
         assert_eq!(rt;
             (output.calls, faults.calls),
             (one_line, NO_CALLS),
-            "{line}"
+            "{command}"
         );
-        assert_eq!(rt; output.page.text(), written.as_bytes(), "{line}");
+        assert_eq!(rt; output.page.text(), written.as_bytes(), "{command}");
     }
     Ok(())
 }

@@ -39,16 +39,20 @@ const FAILING_READERS: [(usize, ErrorKind, &str); 6] = [
 #[test]
 fn readers_that_fail(rt: HostRuntime) -> Result<(), Fail> {
     let bytes = vec![in rt.alloc(); b'x'; 99_999]?;
-    for (line, _, _) in COMMANDS {
+    for (line, _, _, command) in COMMANDS {
         for (len, kind, reason) in FAILING_READERS {
             let mut input = Input::failing(bytes.get(..len).unwrap_or(&[]), kind);
             let printed = run_line(rt.alloc(), line, &mut input, Page::new(), Page::new())?;
-            assert_eq!(rt; printed.ended, INPUT_FAILED, "{line}: {reason}");
-            assert_eq!(rt; printed.output.text(), b"".as_slice(), "{line}: {reason}");
+            assert_eq!(rt; printed.ended, INPUT_FAILED, "{command}: {reason}");
+            assert_eq!(rt;
+                printed.output.text(),
+                b"".as_slice(),
+                "{command}: {reason}"
+            );
             assert_eq!(rt;
                 printed.faults.text(),
                 b"input failed\n".as_slice(),
-                "{line}: {reason}"
+                "{command}: {reason}"
             );
         }
     }
@@ -81,18 +85,26 @@ const SLOW_STREAMS: [(usize, usize, &str); 4] = [
 
 #[test]
 fn slow_streams(rt: HostRuntime) -> Result<(), Fail> {
-    for (line, status, written) in COMMANDS {
+    for (line, status, written, command) in COMMANDS {
         for (read, taken, reason) in SLOW_STREAMS {
             let mut input = Input::new(b"password", read);
             let output = Page::failing(taken, usize::MAX);
             let printed = run_line(rt.alloc(), line, &mut input, output, Page::new())?;
-            assert_eq!(rt; printed.ended, Exit { status, ..DONE }, "{line}: {reason}");
+            assert_eq!(rt;
+                printed.ended,
+                Exit { status, ..DONE },
+                "{command}: {reason}"
+            );
             assert_eq!(rt;
                 printed.output.text(),
                 written.as_bytes(),
-                "{line}: {reason}"
+                "{command}: {reason}"
             );
-            assert_eq!(rt; printed.faults.text(), b"".as_slice(), "{line}: {reason}");
+            assert_eq!(rt;
+                printed.faults.text(),
+                b"".as_slice(),
+                "{command}: {reason}"
+            );
         }
     }
     Ok(())

@@ -14,58 +14,68 @@ pub const FIRST_KEY: &str =
 pub const USAGE: &str =
     "usage: key LOG_N R P LEN SALT_HEX | hash phc|mcf LOG_N R P SALT_HEX [LEN] | verify HASH | rehash phc|mcf LOG_N R P LEN SALT_HEX HASH\n";
 
-// A command line, its status on the password `password`, and the line that it writes. The key is that of
-// Python's hashlib, and the `$7$` text is libxcrypt's.
-pub const COMMANDS: [(&str, u8, &str); 10] = [
+// A command line, its status on the password `password`, the line that it writes, and the reason for the row. The key
+// is that of Python's hashlib, and the `$7$` text is libxcrypt's.
+pub const COMMANDS: [(&str, u8, &str, &str); 10] = [
     (
         "key 4 1 1 32 4e61436c",
         0,
         "aec6b7483ed26e08802b41f4032086a0e886be7ac48fcfd92ff0cef8109752f4\n",
+        "a key",
     ),
     (
         "hash phc 4 1 1 4e61436c",
         0,
         "$scrypt$ln=4,r=1,p=1$TmFDbA$rsa3SD7SbgiAK0H0AyCGoOiGvnrEj8/ZL/DO+BCXUvQ\n",
+        "a PHC hash",
     ),
     (
         "hash mcf 4 1 1 4e61436c",
         0,
         "$7$2/..../....C3qEg/$oOSIli7m/kDufp3GXHdJ7lqr3hzIyIJUYr4iTamAqDA\n",
+        "a `$7$` hash",
     ),
     (
         "verify $scrypt$ln=4,r=1,p=1$TmFDbA$rsa3SD7SbgiAK0H0AyCGoOiGvnrEj8/ZL/DO+BCXUvQ",
         0,
         "ok\n",
+        "the password of a PHC hash",
     ),
     (
         "verify $7$2/..../....C3qEg/$oOSIli7m/kDufp3GXHdJ7lqr3hzIyIJUYr4iTamAqDA",
         0,
         "ok\n",
+        "the password of a `$7$` hash",
     ),
     (
         "verify $scrypt$ln=4,r=1,p=1$TmFDbA$AAAAAAAAAAAAAA",
         1,
         "no\n",
+        "another password of a PHC hash",
     ),
     (
         "verify $7$2/..../....$rNxJWVHNv/mCNcgE/f6/L4zO6Fos5c2uTzhyzoisI62",
         1,
         "no\n",
+        "another password of a `$7$` hash",
     ),
     (
         "rehash phc 5 1 1 32 4e61436c $7$2/..../....C3qEg/$oOSIli7m/kDufp3GXHdJ7lqr3hzIyIJUYr4iTamAqDA",
         0,
         "$scrypt$ln=5,r=1,p=1$TmFDbA$HxxPTsHZtP5EtByLhzMFjQIpZtxfampm43heDluSagY\n",
+        "a new hash of a weaker one, in the other format",
     ),
     (
         "rehash mcf 4 1 1 32 4e61436c $scrypt$ln=4,r=1,p=1$TmFDbA$rsa3SD7SbgiAK0H0AyCGoOiGvnrEj8/ZL/DO+BCXUvQ",
         0,
         "ok\n",
+        "a hash that is as wanted",
     ),
     (
         "rehash mcf 5 1 1 32 4e61436c $7$2/..../....$rNxJWVHNv/mCNcgE/f6/L4zO6Fos5c2uTzhyzoisI62",
         1,
         "no\n",
+        "another password of a weaker hash",
     ),
 ];
 

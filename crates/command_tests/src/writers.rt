@@ -24,20 +24,20 @@ const FAILING_WRITERS: [(usize, usize, &str); 4] = [
 
 #[test]
 fn writers_that_fail(rt: HostRuntime) -> Result<(), Fail> {
-    for (line, _, written) in COMMANDS {
+    for (line, _, written, command) in COMMANDS {
         for (taken, call, reason) in FAILING_WRITERS {
             let input = &mut b"password".as_slice();
             let output = Page::failing(taken, call);
             let printed = run_line(rt.alloc(), line, input, output, Page::new())?;
-            assert_eq!(rt; printed.ended, OUTPUT_FAILED, "{line}: {reason}");
+            assert_eq!(rt; printed.ended, OUTPUT_FAILED, "{command}: {reason}");
             assert_eq!(rt;
                 printed.faults.text(),
                 b"output failed\n".as_slice(),
-                "{line}: {reason}"
+                "{command}: {reason}"
             );
             assert!(rt;
                 written.as_bytes().starts_with(printed.output.text()),
-                "{line}: {reason}"
+                "{command}: {reason}"
             );
         }
     }
@@ -48,15 +48,21 @@ fn writers_that_fail(rt: HostRuntime) -> Result<(), Fail> {
 // bytes, and so the calls are 0 to 129.
 #[test]
 fn writer_that_fails_at_each_call(rt: HostRuntime) -> Result<(), Fail> {
-    for (line, _, written) in COMMANDS
-        .into_iter()
-        .chain([("key 4 1 1 64 ", 0, FIRST_KEY)])
-    {
+    for (line, _, written, command) in COMMANDS.into_iter().chain([(
+        "key 4 1 1 64 ",
+        0,
+        FIRST_KEY,
+        "the first key of RFC 7914",
+    )]) {
         for call in 0..=written.len() {
             let input = &mut b"password".as_slice();
             let printed = run_line(rt.alloc(), line, input, Page::failing(1, call), Page::new())?;
-            assert_eq!(rt; printed.ended, OUTPUT_FAILED, "{line} at call {call}");
-            assert_eq!(rt; printed.output.text().len(), call, "{line} at call {call}");
+            assert_eq!(rt; printed.ended, OUTPUT_FAILED, "{command}, at call {call}");
+            assert_eq!(rt;
+                printed.output.text().len(),
+                call,
+                "{command}, at call {call}"
+            );
             assert_eq!(rt; printed.faults.text(), b"output failed\n".as_slice());
         }
     }
@@ -66,7 +72,7 @@ fn writer_that_fails_at_each_call(rt: HostRuntime) -> Result<(), Fail> {
 // A write that is interrupted is tried again by write_all, as a read is not. A flush is not.
 #[test]
 fn interrupted_writes(rt: HostRuntime) -> Result<(), Fail> {
-    for (line, status, written) in COMMANDS {
+    for (line, status, written, command) in COMMANDS {
         for call in 0..written.len() {
             let input = &mut b"password".as_slice();
             let output = Page::failing_by(ErrorKind::Interrupted, 1, call);
@@ -74,18 +80,18 @@ fn interrupted_writes(rt: HostRuntime) -> Result<(), Fail> {
             assert_eq!(rt;
                 printed.ended,
                 Exit { status, ..DONE },
-                "{line} at call {call}"
+                "{command}, at call {call}"
             );
             assert_eq!(rt;
                 printed.output.text(),
                 written.as_bytes(),
-                "{line} at call {call}"
+                "{command}, at call {call}"
             );
         }
         let input = &mut b"password".as_slice();
         let output = Page::failing_by(ErrorKind::Interrupted, usize::MAX, 1);
         let printed = run_line(rt.alloc(), line, input, output, Page::new())?;
-        assert_eq!(rt; printed.ended, OUTPUT_FAILED, "{line}");
+        assert_eq!(rt; printed.ended, OUTPUT_FAILED, "{command}");
     }
     Ok(())
 }
