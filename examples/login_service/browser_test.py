@@ -47,7 +47,8 @@ class Person(unittest.TestCase):
     @classmethod
     def tearDownClass(cls):
         cls.browser.close()
-        os.killpg(cls.service.pid, signal.SIGINT)
+        # A shell that runs the tests in the background lets its processes ignore INT.
+        os.killpg(cls.service.pid, signal.SIGTERM)
         cls.service.wait(timeout=30)
         cls.log.close()
 
