@@ -1,11 +1,11 @@
 """Compares the clauses that docs/PROMISES.md names with those of the functions, for docs.py.
 
-A row of its tables names functions, and the clauses that keep its promise. Where a `;` parts the functions into groups,
-one parts the clauses too, a group for each. Each clause of a group has to be an `ensures` or a `ghost` of each function of
-the group. Each `ensures` of a public function or of a trait's function has to be in a row, and so has each relation of an
-impl, unless its trait or its type is private. A row on a trait names clauses of its functions; `X` of `Y` and `X` for `Y`
-are the impl of `X` for `Y`, whose relations are its clauses. A law has its clauses in parentheses after its name. A row
-without clauses is on what is derived. What only other layers need is in lists, as `functions`: `clauses`.
+A row is a promise and after it the functions that keep it, in groups, each with its clauses in parentheses:
+`- PROMISE: FUNCTIONS (CLAUSES); FUNCTIONS (CLAUSES)`. Each clause of a group has to be an `ensures` or a `ghost` of each
+function of the group. Each `ensures` of a public function or of a trait's function has to be in a row, and so has each
+relation of an impl, unless its trait or its type is private. A row on a trait names clauses of its functions; `X` of `Y`
+and `X` for `Y` are the impl of `X` for `Y`, whose relations are its clauses. A group whose clauses are `derived` has none.
+What only other layers need is in lists, as `functions`: `clauses`.
 """
 
 import re
@@ -16,6 +16,10 @@ PROMISES = "docs/PROMISES.md"
 OF_MODELS = {"laws", "view", "invariant", "inverse_ok"}
 
 FUNCTION = re.compile(r"^( *)(pub )?(?:const |unsafe |extern \"C\" )*fn (\w+)(.*?)(?:^\1[{}]|;$)", re.M | re.S)
+
+# functions, and their clauses in parentheses
+GROUP = r"([^;()]*`[^;()]*) \(((?:`\w+`(?:, `\w+`)*|derived))\)"
+ROW = re.compile(rf"- .*: ({GROUP}(?:; {GROUP})*)")
 
 
 class Item:
@@ -59,21 +63,14 @@ def items_of(path, text):
 
 
 def rows(text):
-    """The rows of the tables and of the lists: their line, and groups of functions with the clauses of each."""
+    """The rows and the lists: their line, and groups of functions with the clauses of each, or None for no such row."""
     for number, line in enumerate(text.splitlines(), 1):
         listed = re.fullmatch(r"- (.*`.*): (`\w+`(?:, `\w+`)*)", line)
         if listed:
             yield number, [listed.groups()]
-            continue
-        cells = [it.strip() for it in line.strip("|").split(" | ")]
-        if not line.startswith("| ") or len(cells) != 3 or "`" not in cells[1]:
-            continue
-        of_laws = re.findall(r"(`\w+`) \((.*?)\)", cells[1])
-        functions, clauses = cells[1].split(";"), cells[2].split(";")
-        if of_laws or "`" not in cells[2]:
-            yield number, of_laws
-        else:
-            yield number, list(zip(functions, clauses)) if len(functions) == len(clauses) else None
+        elif "(`" in line:
+            row = ROW.fullmatch(line)
+            yield number, re.findall(GROUP, row.group(1)) if row else None
 
 
 def paths(text):
@@ -102,7 +99,7 @@ def complaints(text, sources):
     names = {it.name for it in items}
     for number, groups in rows(text):
         if groups is None:
-            yield f"{PROMISES}:{number}: as many groups of clauses as of functions are wanted"
+            yield f"{PROMISES}:{number}: no row: a promise, a colon, and functions with their clauses in parentheses"
         for functions, clauses in groups or []:
             wanted = set(re.findall(r"`(\w+)`", clauses))
             for name, found in named(functions, items):

@@ -8,7 +8,7 @@ of its functions, and a clause in none (clauses.py); and a module of proofs with
 proofs/Lib.antt. That each name of a clause has a definition, and each definition words, is for `make doc` to see.
 
 A name is what is between backquotes and is a path (`mcf::Base64`, `Params::{log_n, n}`), a word
-with an underscore (`scrypt_ro_mix`), a call (`new()`), or a file of the repository; in the tables and lists of
+with an underscore (`scrypt_ro_mix`), a call (`new()`), or a file of the repository; in the rows and lists of
 PROMISES it is every word between backquotes. What belongs to others is listed below.
 """
 
@@ -68,9 +68,9 @@ def words_of(name):
 
 
 def unknown_names(path, text, names, everything):
-    """What is named in a document and is nowhere; in a table or list of promises every word is a name."""
+    """What is named in a document and is nowhere; in a row or list of promises every word is a name."""
     for number, line in enumerate(text.splitlines(), 1):
-        strict = path == PROMISES and line.startswith(("|", "- `"))
+        strict = path == PROMISES and line.startswith("- ") and ("(`" in line or line.startswith("- `"))
         for name in re.findall(r"`([^`]+)`", line):
             file = re.fullmatch(r"(crates|docs|ci|compare|bench|bindings)/[\w./-]+", name)
             if file and "NAME" not in name and not glob.glob(name):

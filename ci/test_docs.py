@@ -7,7 +7,7 @@ import clauses
 import docs
 
 PLAIN = "`Params::{log_n, n}` of `scrypt_counted`.\n"
-PROMISED = "| promise | function | clause |\n| exact | `scrypt_counted`, `Params::log_n` | `value` |\n"
+PROMISED = "- exact: `scrypt_counted`, `Params::log_n` (`value`)\n"
 SOURCE = "pub fn scrypt_counted(x: u8)\n    ensures value { x }\n{\n    x\n}\n"
 
 # What is changed in the document, the promises or the source; and what has to be said of it, if anything.
@@ -48,16 +48,11 @@ LINKS = [
 ]
 
 
-KEPT = """| promise | function | clause |
-|---|---|---|
-| the key | `derive::{key, key_in}` | `value` |
-| as it was | `key`; `key_in` | `refused`; `buffers` |
-| what a hasher makes | `Hasher::hash`; `Hasher` of `Scrypt` | `ok`; `hashes` |
-| equal | `PartialEq` of `Scrypt` | derived |
-
-| law | function (clauses) | who relies on it |
-|---|---|---|
-| one key | `one_key` (`one`, `same`) | `all` |
+KEPT = """- the key: `derive::{key, key_in}` (`value`)
+- as it was (of a hasher: all): `key` (`refused`); `key_in` (`buffers`)
+- what a hasher makes: `Hasher::hash` (`ok`); `Hasher` of `Scrypt` (`hashes`)
+- equal: `PartialEq` of `Scrypt` (derived)
+- one key: `one_key` (`one`, `same`)
 
 - `derive::{left, right}`: `half`, `quarter`
 - `Halves`: `both`
@@ -135,14 +130,16 @@ CLAUSES = [
     ("a relation of a private trait that is added", "impl Hasher for", "trait Inner {\n}\n\nimpl Inner for Scrypt {\n    ghost more = { x };\n}\n\nimpl Hasher for", None),
     ("a clause of a trait that is added", "        ensures ok { x };", "        ensures ok { x }\n        ensures more { x };", "no row with the clause more of hash"),
     ("a clause of a law that is dropped", "    ensures same { x }\n", "", "one_key of crates/a/src/derive.rt has no clause same"),
-    ("a clause that no row names", "`refused`; `buffers`", "`value`; `buffers`", "no row with the clause refused of key"),
-    ("a clause that its function lacks", "`refused`; `buffers`", "`buffers`; `buffers`", "key of crates/a/src/derive.rt has no clause buffers"),
+    ("a clause that no row names", "(`refused`)", "(`value`)", "no row with the clause refused of key"),
+    ("a clause that its function lacks", "(`refused`)", "(`buffers`)", "key of crates/a/src/derive.rt has no clause buffers"),
     ("a listed clause that is dropped", "    ensures half { x }\n", "", "left of crates/a/src/derive.rt has no clause half"),
     ("a listed clause of a trait that is dropped", "        ensures both { x };", "        ;", "Halves of crates/a/src/derive.rt has no clause both"),
     ("an implementation of another module", "`Hasher` of `Scrypt`", "`Hasher` of `other::Scrypt`", "no function Hasher"),
     ("a clause that no list names", "`half`, `quarter`", "`half`", "no row with the clause quarter of right"),
     ("a function that no list names", "derive::{left, right}", "derive::left", "no row with the clause half of right"),
-    ("fewer groups of clauses than of functions", "`refused`; `buffers`", "`refused`, `buffers`", "as many groups"),
+    ("a group without clauses", "`key` (`refused`); ", "`key`; ", "no row"),
+    ("a row without a promise", "- as it was (of a hasher: all): ", "- ", "no row"),
+    ("clauses that no comma parts", "`one`, `same`", "`one` `same`", "no row"),
 ]
 
 
