@@ -18,7 +18,7 @@ OF_MODELS = {"laws", "view", "invariant", "inverse_ok"}
 FUNCTION = re.compile(r"^( *)(pub )?(?:const |unsafe |extern \"C\" )*fn (\w+)(.*?)(?:^\1[{}]|;$)", re.M | re.S)
 
 # functions, and their clauses in parentheses
-GROUP = r"([^;()]*`[^;()]*) \(((?:`\w+`(?:, `\w+`)*|derived))\)"
+GROUP = r"([^;()]*`[^;()]*) \((`\w+`(?:, `\w+`)*|derived)\)"
 ROW = re.compile(rf"- .*: ({GROUP}(?:; {GROUP})*)")
 
 
@@ -62,15 +62,20 @@ def items_of(path, text):
             yield Item(path, name, module, ensured(rest), ensured(rest))
 
 
+def is_row(line):
+    """Whether a line has clauses in parentheses, or says that its functions are derived."""
+    return "(`" in line or "(derived)" in line
+
+
 def rows(text):
     """The rows and the lists: their line, and groups of functions with the clauses of each, or None for no such row."""
     for number, line in enumerate(text.splitlines(), 1):
         listed = re.fullmatch(r"- (.*`.*): (`\w+`(?:, `\w+`)*)", line)
         if listed:
             yield number, [listed.groups()]
-        elif "(`" in line:
+        elif is_row(line):
             row = ROW.fullmatch(line)
-            yield number, re.findall(GROUP, row.group(1)) if row else None
+            yield number, [it for it in re.findall(GROUP, row.group(1)) if it[1] != "derived"] if row else None
 
 
 def paths(text):

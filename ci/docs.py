@@ -70,7 +70,7 @@ def words_of(name):
 def unknown_names(path, text, names, everything):
     """What is named in a document and is nowhere; in a row or list of promises every word is a name."""
     for number, line in enumerate(text.splitlines(), 1):
-        strict = path == PROMISES and line.startswith("- ") and ("(`" in line or line.startswith("- `"))
+        strict = path == PROMISES and (clauses.is_row(line) or line.startswith("- `"))
         for name in re.findall(r"`([^`]+)`", line):
             file = re.fullmatch(r"(crates|docs|ci|compare|bench|bindings)/[\w./-]+", name)
             if file and "NAME" not in name and not glob.glob(name):

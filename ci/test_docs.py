@@ -139,6 +139,7 @@ CLAUSES = [
     ("a function that no list names", "derive::{left, right}", "derive::left", "no row with the clause half of right"),
     ("a group without clauses", "`key` (`refused`); ", "`key`; ", "no row"),
     ("a row without a promise", "- as it was (of a hasher: all): ", "- ", "no row"),
+    ("a derived row without a promise", "- equal: ", "- ", "no row"),
     ("clauses that no comma parts", "`one`, `same`", "`one` `same`", "no row"),
 ]
 
