@@ -19,6 +19,7 @@ WIDTH, BOX, HEIGHT, GAP = 940, 208, 52, 26
 DERIVATION, WALK = "scrypt/src/derivation.rt", "scrypt_kernel/src/walk.rt"
 MIX, CORES = "scrypt_kernel/src/block_mix.rt", "scrypt_kernel/src/cores/lanes.rt"
 PHC, TRAITS = "scrypt/src/phc/hashing.rt", "password_hash/src/traits.rt"
+HASHING, VERIFYING = "scrypt/src/hashing.rt", "scrypt/src/verifying.rt"
 ROWS = [
     (
         "A key",
@@ -89,8 +90,15 @@ ROWS = [
         "hash_password_customized",
         ("hash_password_customized", PHC),
         [
-            ("key_in_array", "scrypt/src/stored_key.rt", "the key: derive calls scrypt"),
-            ("hash_of_key", PHC, "with the parameters as pairs"),
+            ("check_call", HASHING, "the algorithm and the version"),
+            ("hash_of", PHC, "the hash, in buffers of its own"),
+        ],
+    ),
+    (
+        "hash_of",
+        ("hash_of", PHC),
+        [
+            ("stored_key", HASHING, "the key: calls derive_in, above"),
         ],
     ),
     (
@@ -106,8 +114,22 @@ ROWS = [
         ("verify_with_params", "scrypt/src/phc/verifying.rt"),
         [
             ("stored_of", "scrypt/src/phc/reading.rt", "with the salt and the key"),
-            ("key_in_array", "scrypt/src/stored_key.rt", "the key of this password"),
-            ("are_equal", "scrypt/src/phc/verifying.rt", "every byte compared"),
+            ("verify_allocating", VERIFYING, "in buffers of its own"),
+        ],
+    ),
+    (
+        "verify_allocating",
+        ("verify_allocating", VERIFYING),
+        [
+            ("is_key_of", VERIFYING, "in any memory"),
+        ],
+    ),
+    (
+        "is_key_of",
+        ("is_key_of", VERIFYING),
+        [
+            ("mix_chunks", DERIVATION, "steps 1 and 2, above"),
+            ("is_derived_key", "scrypt/src/comparing.rt", "every byte compared"),
         ],
     ),
 ]

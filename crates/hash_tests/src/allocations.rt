@@ -62,8 +62,8 @@ const DERIVING: [(Deriving, usize, &[usize], &str); 5] = [
     (
         Deriving::VerifyMcf,
         32,
-        &[32, 128, 2048, 256],
-        "the key comes first",
+        &[128, 2048, 256],
+        "the key is compared with its letters in the text",
     ),
 ];
 

@@ -13,7 +13,7 @@ use Rattle.scrypt.specs.McfHash.{ReadIsRefused as McfReadIsRefused, bad_costs, b
 use Rattle.scrypt.specs.PhcCosts.{Reads, accepted, ln, ln_refused, not_accepted, p, p_refused, r, r_refused, unknown}
 use Rattle.scrypt.specs.PhcHash.{ReadIsRefused as PhcReadIsRefused, algorithm, costs, missing, version}
 use Rattle.scrypt.specs.Verifying.{IsAccepted, IsRefusedBy, VerdictOf, by_verdict, for_memory, refused, right, wrong}
-use Rattle.scrypt.specs.WorkInBuffers.{HasRoom, IsComparing, IsDone, IsVerifying, Work}
+use Rattle.scrypt.specs.WorkInBuffers.{HasRoom, IsComparing, IsComparison, IsDone, IsVerified, IsVerifying, Work}
 use Rattle.scrypt.proofs.VerdictFacts.{IsRefusedOnce, IsWholeOnce, NotBoth, accepted_key, verdict_once}
 
 -- reading never refuses for memory
@@ -95,37 +95,59 @@ whole_exact W R password c salt key (Err e) once refused_once not_both whole sam
     ap (λ z. Some (refusal z)) invalid
     ∙ verdict_once {IsWhole = W} {IsRefused = R} {password = password} once refused_once not_both (wrong whole (other invalid)) is
 
+-- the result of comparing the keys is that of verifying
+pub whole_compared : (W : Parameters → List ℕ → List ℕ → Type 0) (R : Refusal → Type 0) (password salt key : List ℕ) (c : Parameters)
+    (out : Result ⊤ Error) → IsWholeOnce W → W c salt key → IsComparison c salt key password out → IsVerified W R password out
+whole_compared W R password salt key c out once whole compared = record {
+  ok = whole_ok W password c salt key out whole compared.right;
+  wrong = whole_wrong W password c salt key out once whole compared.wrong compared.only;
+  err = whole_err W R password c salt key out whole compared.wrong compared.only;
+}
+
+-- in buffers too
 pub whole_verified : (W : Parameters → List ℕ → List ℕ → Type 0) (R : Refusal → Type 0) (password salt key : List ℕ) (c : Parameters)
     (out : Result ⊤ Error) (before after : Work) → IsWholeOnce W → IsRefusedOnce R → NotBoth W R → W c salt key
     → IsComparing c salt key password out before after → IsVerifying W R password out before after
-whole_verified W R password salt key c out before after once refused_once not_both whole compared =
+whole_verified W R password salt key c out before after once refused_once not_both whole done =
+    let compared = done.compared in
+    let verified : IsVerified W R password out = whole_compared W R password salt key c out once whole compared in
     let same_costs = λ (z : Parameters) (s k : List ℕ) (w : W z s k). (once c z salt s key k whole w).0 in
     record {
-      ok = whole_ok W password c salt key out whole compared.right;
-      wrong = whole_wrong W password c salt key out once whole compared.wrong compared.only;
-      err = whole_err W R password c salt key out whole compared.wrong compared.only;
+      ok = verified.ok;
+      wrong = verified.wrong;
+      err = verified.err;
       short = (
-        λ is. (c, salt, key, whole, compared.short.0 is),
-        λ short. compared.short.1 (λ room. short.4 (subst (λ z. HasRoom z before) (same_costs short.0 short.1 short.2 short.3) room)),
+        λ is. (c, salt, key, whole, done.short.0 is),
+        λ short. done.short.1 (λ room. short.4 (subst (λ z. HasRoom z before) (same_costs short.0 short.1 short.2 short.3) room)),
       );
       exact = λ long. whole_exact W R password c salt key out once refused_once not_both whole compared.right compared.wrong compared.only
-          (λ is. long (c, salt, key, whole, compared.short.0 is));
+          (λ is. long (c, salt, key, whole, done.short.0 is));
       done = λ z s k w room.
           let same = same_costs z s k w in
-          subst (λ d. IsDone d before after) same (compared.done (subst (λ d. HasRoom d before) (sym same) room));
-      unchanged = λ none. compared.unchanged (λ room. none (c, salt, key, whole, room));
+          subst (λ d. IsDone d before after) same (done.done (subst (λ d. HasRoom d before) (sym same) room));
+      unchanged = λ none. done.unchanged (λ room. none (c, salt, key, whole, room));
     }
 
--- a hash that is refused: nothing changes
+-- a hash that is refused
+pub refused_read : (W : Parameters → List ℕ → List ℕ → Type 0) (R : Refusal → Type 0) (password : List ℕ) (e : Error)
+    → NotBoth W R → R (refusal e) → IsVerified W R password (Err e)
+refused_read W R password e not_both why = record {
+  ok = tt;
+  wrong = λ is accepts. not_both (refusal e) accepts.costs accepts.salt accepts.stored why accepts.whole;
+  err = by_verdict (refused why);
+}
+
+-- in buffers too: nothing changes
 pub refused_verified : (W : Parameters → List ℕ → List ℕ → Type 0) (R : Refusal → Type 0) (password : List ℕ) (e : Error)
     (before : Work) → IsWholeOnce W → IsRefusedOnce R → NotBoth W R → R (refusal e) → refusal e ≢ OutOfMemory
     → IsVerifying W R password (Err e) before before
 refused_verified W R password e before once refused_once not_both why not_memory =
     let never = λ (c : Parameters) (salt key : List ℕ) (whole : W c salt key). not_both (refusal e) c salt key why whole in
+    let verified = refused_read W R password e not_both why in
     record {
       ok = tt;
-      wrong = λ is accepts. never accepts.costs accepts.salt accepts.stored accepts.whole;
-      err = by_verdict (refused why);
+      wrong = verified.wrong;
+      err = verified.err;
       short = (
         λ is. let same : e ≡ error.OutOfMemory = cc in absurd (not_memory (ap refusal same)),
         λ short. absurd (never short.0 short.1 short.2 short.3),

@@ -7,7 +7,7 @@ use Rattle.password_hash.specs.Mcf.{IsMcf, IsMcfText}
 use Rattle.password_hash.specs.McfViews.{hash_text}
 use Rattle.password_hash.specs.declared.mcf.hash_ref.PasswordHashRef.{PasswordHashRef}
 use Rattle.password_hash.specs.Phc.{IsHashText}
-use Rattle.password_hash.specs.Refusal.{Refusal, PasswordInvalid, refusal}
+use Rattle.password_hash.specs.Refusal.{Refusal, refusal}
 use Rattle.password_hash.specs.declared.error.Error.{Error}
 use Rattle.password_hash.specs.declared.phc.hash.PasswordHash.{PasswordHash}
 use Rattle.scrypt.specs.Accepted.{Parameters}
@@ -19,6 +19,7 @@ use Rattle.scrypt.specs.StoredRead.{AreParamsOf, IsHashOf}
 use Rattle.scrypt.specs.declared.stored_hash.Format.{Format}
 use Rattle.scrypt.specs.declared.stored_hash.Format.TheVariants.{Mcf, Phc}
 use Rattle.scrypt.specs.Verifying.{IsAccepted, IsRefusedBy, VerdictOf, by_verdict, for_memory, refused, right, wrong}
+use Rattle.scrypt.specs.WorkInBuffers.{IsVerified}
 use Rattle.scrypt.proofs.McfHashFacts.{whole_once as mcf_whole_once, not_both as mcf_not_both}
 use Rattle.scrypt.proofs.McfRefusalFacts.{refused_once as mcf_refused_once}
 use Rattle.scrypt.proofs.PhcHashFacts.{whole_once as phc_whole_once, not_both as phc_not_both, of_costs_once, refused_once as phc_refused_once}
@@ -122,10 +123,6 @@ pub phc_refused : {text : List ℕ} {hash : PasswordHash} → is_mcf_text text �
 phc_refused other is why h = of_hash (phc other is h)
 
 -- what verifying against the hash of a text returns, in words of the text
-pub record IsVerified (W : Parameters → List ℕ → List ℕ → Type 0) (R : Refusal → Type 0) (password : List ℕ) (out : Result ⊤ Error) : Type 0 where
-  pub ok : OnOk out (IsAccepted W password)
-  pub wrong : IfErr out (λ e. refusal e ≡ PasswordInvalid → ¬ IsAccepted W password)
-  pub err : IfErr out (λ e. IsRefusedBy W R password (refusal e))
 
 verified_as : {W V : Parameters → List ℕ → List ℕ → Type 0} {R S : Refusal → Type 0} {password : List ℕ} (out : Result ⊤ Error)
     → ((c : Parameters) (salt key : List ℕ) → W c salt key → V c salt key) → ((c : Parameters) (salt key : List ℕ) → V c salt key → W c salt key)

@@ -15,8 +15,8 @@ use Rattle.scrypt.specs.McfHash.{IsWhole as IsMcfWhole, ReadIsRefused as McfRead
 use Rattle.scrypt.specs.PhcHash.{IsWhole as IsPhcWhole, ReadIsRefused as PhcReadIsRefused}
 use Rattle.scrypt.specs.StoredHash.{IsWhole, ReadIsRefused, is_mcf_text, mcf, phc}
 use Rattle.scrypt.specs.Verifying.{IsAccepted, IsRefusedBy, VerdictOf, by_verdict, for_memory, right}
-use Rattle.scrypt.specs.WorkInBuffers.{IsVerifying, Work}
-use Rattle.scrypt.proofs.StoredHashFacts.{IsVerified, mcf_verified, not_both, of_mcf, of_phc, phc_verified, refused_once, whole_once}
+use Rattle.scrypt.specs.WorkInBuffers.{IsVerified, IsVerifying, Work}
+use Rattle.scrypt.proofs.StoredHashFacts.{mcf_verified, not_both, of_mcf, of_phc, phc_verified, refused_once, whole_once}
 use Rattle.scrypt.proofs.VerdictFacts.{verdict_once}
 
 -- an error with the value of a failed allocation is one

@@ -1,4 +1,4 @@
--- Private: what verifying does to the caller's buffers and to the count of cores.
+-- Private: what verifying returns, and what it does to the caller's buffers and to the count of cores.
 use Rattle.std.specs.Prelude.{◌≡◌, ◌≢◌, ◌⊎◌, ◌↔◌, ℕ, ◌+◌, List, length, Option, Result, OnOk, IfErr, IsErrOf, ⊤}
 use Rattle.password_hash.specs.Refusal.{Refusal, PasswordInvalid, refusal}
 use Rattle.password_hash.specs.declared.error.Error.{Error}
@@ -33,16 +33,27 @@ pub record IsDone (c : Parameters) (before after : Work) : Type 0 where
   pub chunks : IsWiped (chunks_bytes c.r c.p) before.chunks after.chunks
   pub scratch : IsWiped (scratch_words c.r) before.scratch after.scratch
 
--- the result of comparing this key with that of the password, and what it does
-pub record IsComparing (c : Parameters) (salt key password : List ℕ) (out : Result ⊤ Error) (before after : Work) : Type 0 where
+-- the result of comparing this key with that of the password
+pub record IsComparison (c : Parameters) (salt key password : List ℕ) (out : Result ⊤ Error) : Type 0 where
   pub right : OnOk out (key ≡ key_by c password salt (length key))
   pub wrong : IfErr out (λ e. e ≡ error.PasswordInvalid → key ≢ key_by c password salt (length key))
   pub only : IfErr out (λ e. (e ≡ error.OutOfMemory) ⊎ (e ≡ error.PasswordInvalid))
+
+-- that result, and what comparing in buffers does
+pub record IsComparing (c : Parameters) (salt key password : List ℕ) (out : Result ⊤ Error) (before after : Work) : Type 0 where
+  pub compared : IsComparison c salt key password out
   pub short : IsErrOf out error.OutOfMemory ↔ (¬ HasRoom c before)
   pub done : HasRoom c before → IsDone c before after
   pub unchanged : ¬ HasRoom c before → IsSame before after
 
--- the result of verifying with a hash, and what it does
+-- the result of verifying with a hash
+pub record IsVerified (IsWhole : Parameters → List ℕ → List ℕ → Type 0) (IsRefused : Refusal → Type 0)
+    (password : List ℕ) (out : Result ⊤ Error) : Type 0 where
+  pub ok : OnOk out (IsAccepted IsWhole password)
+  pub wrong : IfErr out (λ e. refusal e ≡ PasswordInvalid → ¬ IsAccepted IsWhole password)
+  pub err : IfErr out (λ e. IsRefusedBy IsWhole IsRefused password (refusal e))
+
+-- the result of verifying with a hash in buffers, and what it does
 pub record IsVerifying (IsWhole : Parameters → List ℕ → List ℕ → Type 0) (IsRefused : Refusal → Type 0)
     (password : List ℕ) (out : Result ⊤ Error) (before after : Work) : Type 0 where
   pub ok : OnOk out (IsAccepted IsWhole password)

@@ -7,6 +7,7 @@ ghost use Rattle.scrypt.specs.Cost.{chunks_bytes, cost, scratch_words, table_wor
 ghost use Rattle.scrypt.specs.Key.{chunks_of, derived_key};
 ghost use Rattle.scrypt.specs.declared.errors.DeriveError.TheVariants.{InvalidOutputLen as BadLength, OutOfMemory};
 
+use crate::buffers::Buffers;
 use crate::{CoreCount, DeriveError, InvalidOutputLen, Params};
 use scrypt_kernel::chunk::mix_chunk;
 use scrypt_kernel::memory::{Buffer, Memory};
@@ -135,18 +136,15 @@ pub fn scrypt_counted(
     if !output_len_ok(output.len()) {
         return Err(DeriveError::InvalidOutputLen);
     }
-    let lens = BufferLens::of(params);
-    let mut chunks = vec![in alloc; 0u8; lens.chunks]?;
-    let mut table = Vec::with_capacity(alloc, lens.table)?;
-    let mut scratch = vec![in alloc; 0u32; lens.scratch]?;
+    let mut own = Buffers::allocate(alloc, params)?;
     derive_in::<Vec<u32>>(
         password,
         salt,
         params,
         0,
-        &mut chunks,
-        &mut table,
-        &mut scratch,
+        &mut own.chunks,
+        &mut own.table,
+        &mut own.scratch,
         output,
         cores,
     );
@@ -246,8 +244,8 @@ pub fn scrypt_thin(
     Ok(())
 }
 
-// Steps 1 to 3, in any memory, with a table that keeps one row in `2^s`.
-fn derive_in<M: Memory>(
+/// Steps 1 to 3, in any memory, with a table that keeps one row in `2^s`.
+pub(crate) fn derive_in<M: Memory>(
     password: &[u8],
     salt: &[u8],
     params: &Params,

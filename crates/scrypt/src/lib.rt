@@ -19,6 +19,7 @@ mod buffers;
 mod comparing;
 mod derivation;
 pub mod errors;
+mod hashing;
 pub mod laws;
 mod limits;
 pub mod mcf;
@@ -26,7 +27,6 @@ mod params;
 pub mod phc;
 mod rehashing;
 mod stored_hash;
-mod stored_key;
 mod verifying;
 mod wiping;
 

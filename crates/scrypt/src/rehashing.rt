@@ -8,9 +8,9 @@ ghost use Rattle.scrypt.specs.PhcHash.{IsWhole, ReadIsRefused};
 ghost use Rattle.scrypt.specs.Rehashing.{IsBelow, IsReadable, IsWeaker};
 ghost use Rattle.scrypt.specs.StoredRead.{AreParamsOf};
 
+use crate::hashing::key_len_or_default;
 use crate::mcf::reading::read;
 use crate::phc::reading::{read_params, stored_of};
-use crate::stored_key::key_len_or_default;
 use crate::{Params, Scrypt};
 use password_hash::{RehashCheck, Result, mcf, phc};
 

@@ -1,20 +1,22 @@
 // Verifying, in every format, with any source of memory.
 
-ghost use Rattle.std.specs.Prelude.{◌≡◌, ◌↔◌, ℕ, ◌+◌, ◌*◌, ◌^◌, ◌≤◌, List, length, replicate, IsTrue};
+ghost use Rattle.std.specs.Prelude.{◌≡◌, ◌↔◌, ℕ, ◌+◌, ◌*◌, ◌^◌, ◌≤◌, List, length, IsTrue};
 ghost use Rattle.scrypt.specs.Accepted.{IsOutputLen};
 ghost use Rattle.scrypt.specs.Cost.{chunks_bytes, cost, scratch_words, table_words};
+ghost use Rattle.scrypt.specs.InBuffers.{IsWiped};
 ghost use Rattle.scrypt.specs.KeyOfParams.{key_by};
-ghost use Rattle.scrypt.specs.WorkInBuffers.{IsComparing};
+ghost use Rattle.scrypt.specs.WorkInBuffers.{IsComparing, IsComparison};
 
-use crate::buffers::are_enough;
+use crate::buffers::{Buffers, are_enough};
 use crate::comparing::{StoredKey, is_derived_key};
 use crate::derivation::mix_chunks;
 use crate::{BufferLens, CoreCount, Params};
 use password_hash::{Error, Result};
 use scrypt_kernel::memory::{Buffer, Memory};
+use std::alloc::Global;
 
 // Derives the key of the stored one's length, in any memory, and returns whether it is the stored
-// key. Zeros are in the chunks and the scratch then.
+// key. Afterwards what was used of the chunks and the scratch is zeros.
 fn is_key_of<M: Memory, K: StoredKey>(
     password: &[u8],
     salt: &[u8],
@@ -28,23 +30,63 @@ fn is_key_of<M: Memory, K: StoredKey>(
 ) -> bool
     requires len { IsOutputLen key_len }
     requires key { (bytes : List ℕ) × K.is_key key.now bytes × (length bytes ≡ key_len) }
-    requires chunks { length chunks.old ≡ chunks_bytes params.now.r params.now.p }
+    requires chunks { chunks_bytes params.now.r params.now.p ≤ length chunks.old }
     requires room { table_words params.now.log_n params.now.r ≤ M.room rows.old }
-    requires scratch { length scratch.old ≡ scratch_words params.now.r }
+    requires scratch { scratch_words params.now.r ≤ length scratch.old }
     ensures exact { (bytes : List ℕ) → K.is_key key.now bytes → length bytes ≡ key_len
         → IsTrue result ↔ (bytes ≡ key_by params.now password.now salt.now key_len) }
     ensures all { cores.new.all ≡ cores.old.all
         + cost params.now.log_n params.now.r params.now.p }
     ensures lanes { cores.new.lanes ≡ cores.old.lanes
         + cost params.now.log_n params.now.r params.now.p }
-    ensures chunks { chunks.new ≡ replicate (length chunks.old) 0 }
-    ensures scratch { scratch.new ≡ replicate (length scratch.old) 0 }
+    ensures chunks { IsWiped (chunks_bytes params.now.r params.now.p) chunks.old chunks.new }
+    ensures scratch { IsWiped (scratch_words params.now.r) scratch.old scratch.new }
 {
+    let lens = BufferLens::of(params);
+    let chunks = &mut chunks[..lens.chunks];
+    let scratch = &mut scratch[..lens.scratch];
     mix_chunks::<M>(password, salt, params, 0, chunks, rows, scratch, cores);
     let same = is_derived_key(password, chunks, key, key_len);
     chunks.fill(0);
     scratch.fill(0);
     same
+}
+
+/// Verifies with the parts of a hash, in three buffers of its own: the chunks, the table and the
+/// scratch, allocated in this order.
+///
+/// Returns `OutOfMemory` if an allocation fails, and otherwise `PasswordInvalid` if the keys differ.
+pub(crate) fn verify_allocating<K: StoredKey>(
+    alloc: Global,
+    password: &[u8],
+    salt: &[u8],
+    params: &Params,
+    key: &K,
+    key_len: usize,
+) -> Result<()>
+    requires len { IsOutputLen key_len }
+    requires key { (bytes : List ℕ) × K.is_key key.now bytes × (length bytes ≡ key_len) }
+    ensures compared { (bytes : List ℕ) → K.is_key key.now bytes → length bytes ≡ key_len
+        → IsComparison params.now salt.now bytes password.now result }
+{
+    let mut own = Buffers::allocate(alloc, params)?;
+    let mut cores = CoreCount::new();
+    let same = is_key_of::<Vec<u32>, K>(
+        password,
+        salt,
+        params,
+        key,
+        key_len,
+        &mut own.chunks,
+        &mut own.table,
+        &mut own.scratch,
+        &mut cores,
+    );
+    if same {
+        Ok(())
+    } else {
+        Err(Error::PasswordInvalid)
+    }
 }
 
 /// Verifies with the parts of a hash, in the caller's buffers. Does not allocate.
@@ -72,18 +114,9 @@ pub(crate) fn verify_in_buffers<K: StoredKey>(
     if !are_enough(params, chunks, table, scratch) {
         return Err(Error::OutOfMemory);
     }
-    let lens = BufferLens::of(params);
     let mut rows = Buffer::new(table);
     let same = is_key_of::<Buffer<'_>, K>(
-        password,
-        salt,
-        params,
-        key,
-        key_len,
-        &mut chunks[..lens.chunks],
-        &mut rows,
-        &mut scratch[..lens.scratch],
-        cores,
+        password, salt, params, key, key_len, chunks, &mut rows, scratch, cores,
     );
     if same {
         Ok(())

@@ -1,6 +1,6 @@
 // Making `$7$` hashes.
 
-ghost use Rattle.std.specs.Prelude.{◌≡◌, ◌↔◌, ◌+◌, ◌<◌, ◌≤◌, ◌∷◌, ◌++◌, ℕ, List, None, All, length, drop, IsTrue, IfOk, IfErr, OnOk};
+ghost use Rattle.std.specs.Prelude.{◌≡◌, ◌↔◌, ◌+◌, ◌<◌, ◌≤◌, ◌∷◌, ◌++◌, ℕ, List, None, All, length, drop, IsTrue, IfOk, IfErr};
 ghost use Rattle.std.specs.Option.{option_map};
 ghost use Rattle.std.specs.Str.{IsAscii};
 ghost use Rattle.password_hash.specs.Crypt64.{crypt64_of, encoded_len};
@@ -8,20 +8,24 @@ ghost use Rattle.password_hash.specs.Mcf.{IsMcf};
 ghost use Rattle.password_hash.specs.Parts.{dollar};
 ghost use Rattle.password_hash.specs.declared.error.Error.TheVariants.{OutOfMemory};
 ghost use Rattle.scrypt.specs.Accepted.{AreAccepted};
+ghost use Rattle.scrypt.specs.Cost.{chunks_bytes, cost, scratch_words, table_words};
+ghost use Rattle.scrypt.specs.InBuffers.{IsWiped};
 ghost use Rattle.scrypt.specs.McfCosts.{costs_text};
 ghost use Rattle.scrypt.specs.Hashing.{key_len_or_default};
 ghost use Rattle.scrypt.specs.McfHash.{HashIsRefused, IsMadeHash, IsMcfOrNone, made_text_len};
 
 mod in_buffers;
 
+use crate::buffers::Buffers;
+use crate::hashing::{check_call, key_len_or_default, stored_key};
 use crate::mcf::five_letters::five_letters;
 use crate::mcf::reading::is_mcf;
-use crate::stored_key::{key_in_array, key_len_or_default};
-use crate::{Params, Scrypt};
+use crate::{CoreCount, Params, Scrypt};
 pub use in_buffers::hash_with_buffers;
 use password_hash::mcf::alphabet::letter;
 use password_hash::mcf::{Base64, PasswordHash};
 use password_hash::{CustomizedPasswordHasher, Error, PasswordHasher, Result, Version};
+use scrypt_kernel::memory::Memory;
 use std::alloc::Global;
 
 // The number of bytes before the salt: `$7$` and the eleven letters of the parameters.
@@ -68,23 +72,8 @@ impl CustomizedPasswordHasher<PasswordHash> for Scrypt {
         version: Option<Version>,
         params: Params,
     ) -> Result<PasswordHash> {
-        if !is_mcf_or_none(alg_id) {
-            return Err(Error::Algorithm);
-        }
-        if version.is_some() {
-            return Err(Error::Version);
-        }
+        check_call("7", alg_id, version)?;
         hash_of(alloc, password, salt, &params)
-    }
-}
-
-// Returns whether no algorithm but `7` is named.
-fn is_mcf_or_none(alg_id: Option<&str>) -> bool
-    ensures { IsTrue result ↔ IsMcfOrNone (option_map (λ s. s.now) alg_id.entry) }
-{
-    match alg_id {
-        Some(id) => is_mcf(id),
-        None => true,
     }
 }
 
@@ -95,10 +84,19 @@ fn hash_of(alloc: Global, password: &[u8], salt: &[u8], params: &Params) -> Resu
 {
     // The whole text is allocated before the buffers of the derivation.
     let mut text = vec![in alloc; 0u8; hash_len(params, salt)]?;
-    match write_text(alloc, password, salt, params, &mut text) {
-        Ok(()) => Ok(hash_of_text(text)),
-        Err(refused) => Err(refused),
-    }
+    let mut own = Buffers::allocate(alloc, params)?;
+    let mut cores = CoreCount::new();
+    write_text::<Vec<u32>>(
+        password,
+        salt,
+        params,
+        &mut text,
+        &mut own.chunks,
+        &mut own.table,
+        &mut own.scratch,
+        &mut cores,
+    );
+    Ok(hash_of_text(text))
 }
 
 /// Returns the length in bytes of the text that hashing with these parameters and this salt makes.
@@ -119,28 +117,35 @@ fn key_at(salt: &[u8]) -> usize
     COSTS_LEN + Base64::Crypt.encoded_len(salt.len())
 }
 
-// Writes the text of the hash. After the derivation nothing can fail.
-fn write_text(
-    alloc: Global,
+// Writes the text of the hash, which fills `text`, in any memory.
+fn write_text<M: Memory>(
     password: &[u8],
     salt: &[u8],
     params: &Params,
     text: &mut [u8],
-) -> Result<()>
-    requires room { length text.old ≡ made_text_len params.now (length salt.now) }
-    ensures made { OnOk result (IsMadeHash params.now password.now salt.now text.new) }
-    ensures ascii { OnOk result (IsAscii text.new) }
-    ensures memory { IfErr result (λ e. e ≡ OutOfMemory) }
+    chunks: &mut [u8],
+    rows: &mut M,
+    scratch: &mut [u32],
+    cores: &mut CoreCount,
+)
+    requires text { length text.old ≡ made_text_len params.now (length salt.now) }
+    requires chunks { chunks_bytes params.now.r params.now.p ≤ length chunks.old }
+    requires room { table_words params.now.log_n params.now.r ≤ M.room rows.old }
+    requires scratch { scratch_words params.now.r ≤ length scratch.old }
+    ensures made { IsMadeHash params.now password.now salt.now text.new }
+    ensures ascii { IsAscii text.new }
+    ensures all { cores.new.all ≡ cores.old.all
+        + cost params.now.log_n params.now.r params.now.p }
+    ensures lanes { cores.new.lanes ≡ cores.old.lanes
+        + cost params.now.log_n params.now.r params.now.p }
+    ensures chunks { IsWiped (chunks_bytes params.now.r params.now.p) chunks.old chunks.new }
+    ensures scratch { IsWiped (scratch_words params.now.r) scratch.old scratch.new }
 {
     let key_at = key_at(salt);
     write_costs_and_salt(text, params, salt);
-    let len = key_len_or_default(params);
-    let key = match key_in_array(alloc, password, &text[COSTS_LEN..key_at], params, len) {
-        Ok(key) => key,
-        Err(refused) => return Err(refused),
-    };
+    let letters = &text[COSTS_LEN..key_at];
+    let key = stored_key::<M>(password, letters, params, chunks, rows, scratch, cores);
     write_key(&mut text[key_at..], key.as_bytes());
-    Ok(())
 }
 
 // Writes `$7$`, the letters of the parameters and those of the salt.

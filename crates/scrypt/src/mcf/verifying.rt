@@ -5,9 +5,9 @@ ghost use Rattle.scrypt.specs.McfHash.{Accepts, VerifyIsRefused};
 
 use crate::Scrypt;
 use crate::mcf::reading::read;
-use crate::stored_key::key_in_vec;
+use crate::verifying::verify_allocating;
 use password_hash::mcf::{PasswordHash, PasswordHashRef};
-use password_hash::{Error, PasswordVerifier, Result};
+use password_hash::{PasswordVerifier, Result};
 use std::alloc::Global;
 
 impl<'a> PasswordVerifier<PasswordHashRef<'a>> for Scrypt {
@@ -30,19 +30,17 @@ impl<'a> PasswordVerifier<PasswordHashRef<'a>> for Scrypt {
         password: &[u8],
         hash: &PasswordHashRef<'a>,
     ) -> Result<()> {
-        let stored = match read(hash) {
-            Ok(stored) => stored,
-            Err(malformed) => return Err(malformed),
-        };
-        let len = stored.key_len;
-        let key = match key_in_vec(alloc, password, stored.salt, &stored.params, len) {
-            Ok(key) => key,
-            Err(refused) => return Err(refused),
-        };
-        if !stored.key.base64_matches(key.as_slice()) {
-            return Err(Error::PasswordInvalid);
+        match read(hash) {
+            Ok(stored) => verify_allocating(
+                alloc,
+                password,
+                stored.salt,
+                &stored.params,
+                &stored.key,
+                stored.key_len,
+            ),
+            Err(error) => Err(error),
         }
-        Ok(())
     }
 }
 

@@ -1,19 +1,22 @@
 // Making PHC hashes.
 
-ghost use Rattle.std.specs.Prelude.{◌≡◌, ◌↔◌, length, true, None, Some, unwrap_or, IsTrue};
+ghost use Rattle.std.specs.Prelude.{◌≡◌, ◌↔◌, ◌+◌, ◌≤◌, length, true, None, Some, unwrap_or, IsTrue};
 ghost use Rattle.std.specs.Option.{option_map};
-ghost use Rattle.scrypt.specs.PhcCosts.{written_pairs};
-ghost use Rattle.scrypt.specs.PhcHash.{HashIsRefused, IsMadeHash, IsScryptOrNone, scrypt_id};
+ghost use Rattle.scrypt.specs.Cost.{chunks_bytes, cost, scratch_words, table_words};
+ghost use Rattle.scrypt.specs.InBuffers.{IsWiped};
+ghost use Rattle.scrypt.specs.PhcHash.{HashIsRefused, IsMadeHash, IsScryptOrNone};
 
 mod in_buffers;
 
+use crate::buffers::Buffers;
+use crate::hashing::{check_call, stored_key};
 use crate::phc::ALG_ID;
 use crate::phc::costs::written;
-use crate::stored_key::{key_in_array, key_len_or_default};
-use crate::{Params, Scrypt};
+use crate::{CoreCount, Params, Scrypt};
 pub use in_buffers::hash_with_buffers;
-use password_hash::phc::{Output, PasswordHash, Salt};
+use password_hash::phc::{PasswordHash, Salt};
 use password_hash::{CustomizedPasswordHasher, Error, PasswordHasher, Result, Version};
+use scrypt_kernel::memory::Memory;
 use std::alloc::Global;
 
 impl PasswordHasher<PasswordHash> for Scrypt {
@@ -55,51 +58,52 @@ impl CustomizedPasswordHasher<PasswordHash> for Scrypt {
         version: Option<Version>,
         params: Params,
     ) -> Result<PasswordHash> {
-        if !is_scrypt_or_none(alg_id) {
-            return Err(Error::Algorithm);
-        }
-        if version.is_some() {
-            return Err(Error::Version);
-        }
+        check_call(ALG_ID.as_str(), alg_id, version)?;
         let Ok(salt) = Salt::new(salt) else {
             return Err(Error::SaltInvalid);
         };
-        match key_in_array(
-            alloc,
+        let mut own = Buffers::allocate(alloc, &params)?;
+        let mut cores = CoreCount::new();
+        Ok(hash_of::<Vec<u32>>(
             password,
-            salt.as_bytes(),
+            salt,
             &params,
-            key_len_or_default(&params),
-        ) {
-            Ok(key) => Ok(hash_of_key(&params, salt, key)),
-            Err(refused) => Err(refused),
-        }
+            &mut own.chunks,
+            &mut own.table,
+            &mut own.scratch,
+            &mut cores,
+        ))
     }
 }
 
-// Returns the hash of scrypt with these parameters, this salt and this key.
-fn hash_of_key(params: &Params, salt: Salt, key: Output) -> PasswordHash
-    ensures algorithm { result.algorithm ≡ scrypt_id }
-    ensures version { result.version ≡ None }
-    ensures params { result.params ≡ written_pairs params.now }
-    ensures salt { result.salt ≡ Some salt }
-    ensures key { result.hash ≡ Some key }
+// Hashes a password with a salt, in any memory.
+fn hash_of<M: Memory>(
+    password: &[u8],
+    salt: Salt,
+    params: &Params,
+    chunks: &mut [u8],
+    rows: &mut M,
+    scratch: &mut [u32],
+    cores: &mut CoreCount,
+) -> PasswordHash
+    requires chunks { chunks_bytes params.now.r params.now.p ≤ length chunks.old }
+    requires room { table_words params.now.log_n params.now.r ≤ M.room rows.old }
+    requires scratch { scratch_words params.now.r ≤ length scratch.old }
+    ensures made { IsMadeHash params.now password.now salt result }
+    ensures all { cores.new.all ≡ cores.old.all
+        + cost params.now.log_n params.now.r params.now.p }
+    ensures lanes { cores.new.lanes ≡ cores.old.lanes
+        + cost params.now.log_n params.now.r params.now.p }
+    ensures chunks { IsWiped (chunks_bytes params.now.r params.now.p) chunks.old chunks.new }
+    ensures scratch { IsWiped (scratch_words params.now.r) scratch.old scratch.new }
 {
+    let letters = salt.as_bytes();
+    let key = stored_key::<M>(password, letters, params, chunks, rows, scratch, cores);
     PasswordHash {
         algorithm: ALG_ID,
         version: None,
         params: written(params),
         salt: Some(salt),
         hash: Some(key),
-    }
-}
-
-// Returns whether no algorithm but scrypt is named.
-fn is_scrypt_or_none(alg_id: Option<&str>) -> bool
-    ensures { IsTrue result ↔ IsScryptOrNone (option_map (λ s. s.now) alg_id.entry) }
-{
-    match alg_id {
-        Some(id) => id == ALG_ID.as_str(),
-        None => true,
     }
 }

@@ -1,15 +1,14 @@
 // Verifying PHC hashes.
 
-ghost use Rattle.std.specs.Prelude.{◌≡◌, ◌↔◌, IfErr, IsTrue, OnOk};
-ghost use Rattle.password_hash.specs.Refusal.{PasswordInvalid, refusal};
-ghost use Rattle.scrypt.specs.PhcHash.{Accepts, VerifyIsRefused};
+ghost use Rattle.scrypt.specs.PhcHash.{Accepts, IsWhole, ReadIsRefused, VerifyIsRefused};
 ghost use Rattle.scrypt.specs.StoredRead.{AreParamsOf};
+ghost use Rattle.scrypt.specs.WorkInBuffers.{IsVerified};
 
 use crate::phc::reading::{read_params, stored_of};
-use crate::stored_key::key_in_array;
+use crate::verifying::verify_allocating;
 use crate::{Params, Scrypt};
-use password_hash::phc::{Output, PasswordHash};
-use password_hash::{Error, PasswordVerifier, Result};
+use password_hash::phc::PasswordHash;
+use password_hash::{PasswordVerifier, Result};
 use std::alloc::Global;
 
 impl PasswordVerifier<PasswordHash> for Scrypt {
@@ -39,28 +38,17 @@ pub(crate) fn verify_with_params(
     params: &Result<Params>,
 ) -> Result<()>
     requires { AreParamsOf hash.now params.now }
-    ensures ok { OnOk result (Accepts password.now hash.now) }
-    ensures wrong { IfErr result (λ e. refusal e ≡ PasswordInvalid → ¬ Accepts password.now hash.now) }
-    ensures err { IfErr result (λ e. VerifyIsRefused password.now hash.now (refusal e)) }
+    ensures { IsVerified (IsWhole hash.now) (ReadIsRefused hash.now) password.now result }
 {
-    let stored = match stored_of(hash, params) {
-        Ok(stored) => stored,
-        Err(malformed) => return Err(malformed),
-    };
-    let len = stored.key.len();
-    let key = match key_in_array(alloc, password, stored.salt, &stored.params, len) {
-        Ok(key) => key,
-        Err(refused) => return Err(refused),
-    };
-    if !are_equal(&key, stored.key) {
-        return Err(Error::PasswordInvalid);
+    match stored_of(hash, params) {
+        Ok(stored) => verify_allocating(
+            alloc,
+            password,
+            stored.salt,
+            &stored.params,
+            stored.key,
+            stored.key.len(),
+        ),
+        Err(error) => Err(error),
     }
-    Ok(())
-}
-
-// Returns whether these are the same bytes. Every byte is compared, also after a difference.
-fn are_equal(key: &Output, stored: &Output) -> bool
-    ensures { IsTrue result ↔ (stored.now ≡ key.now) }
-{
-    key == stored
 }

@@ -7,11 +7,11 @@ ghost use Rattle.scrypt.specs.Cost.{chunks_bytes, cost, scratch_words};
 ghost use Rattle.scrypt.specs.InBuffers.{AreEnough, IsCopiedTo, IsWiped};
 ghost use Rattle.scrypt.specs.McfHash.{HashIsRefused, IsMadeHash, made_text_len};
 
-use super::{COSTS_LEN, hash_len, key_at, write_costs_and_salt, write_key};
+use super::{hash_len, write_text};
 use crate::buffers::are_enough;
-use crate::stored_key::{key_in_buffers, key_len_or_default};
 use crate::{CoreCount, Params};
 use password_hash::{Error, Result};
+use scrypt_kernel::memory::Buffer;
 
 /// Hashes `password` as `Scrypt::hash_password_with_params` does, in the caller's buffers. Writes
 /// the text of the hash to the front of `text`, and returns its length. Does not allocate.
@@ -53,46 +53,16 @@ pub fn hash_with_buffers(
     if text.len() < len || !are_enough(params, chunks, table, scratch) {
         return Err(Error::OutOfMemory);
     }
-    write_text(
+    let mut rows = Buffer::new(table);
+    write_text::<Buffer<'_>>(
         password,
         salt,
         params,
         &mut text[..len],
         chunks,
-        table,
+        &mut rows,
         scratch,
         cores,
     );
     Ok(len)
-}
-
-// Writes the text of the hash, which fills `text`, in buffers that are long enough.
-fn write_text(
-    password: &[u8],
-    salt: &[u8],
-    params: &Params,
-    text: &mut [u8],
-    chunks: &mut [u8],
-    table: &mut [u32],
-    scratch: &mut [u32],
-    cores: &mut CoreCount,
-)
-    requires room { length text.old ≡ made_text_len params.now (length salt.now) }
-    requires enough { AreEnough params.now chunks.old table.old scratch.old }
-    ensures made { IsMadeHash params.now password.now salt.now text.new }
-    ensures all { cores.new.all ≡ cores.old.all
-        + cost params.now.log_n params.now.r params.now.p }
-    ensures lanes { cores.new.lanes ≡ cores.old.lanes
-        + cost params.now.log_n params.now.r params.now.p }
-    ensures chunks { IsWiped (chunks_bytes params.now.r params.now.p) chunks.old chunks.new }
-    ensures scratch { IsWiped (scratch_words params.now.r) scratch.old scratch.new }
-{
-    let key_at = key_at(salt);
-    write_costs_and_salt(text, params, salt);
-    let len = key_len_or_default(params);
-    let letters = &text[COSTS_LEN..key_at];
-    let key = key_in_buffers(
-        password, letters, params, len, chunks, table, scratch, cores,
-    );
-    write_key(&mut text[key_at..], key.as_bytes());
 }

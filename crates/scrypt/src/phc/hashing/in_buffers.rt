@@ -7,12 +7,12 @@ ghost use Rattle.scrypt.specs.Cost.{chunks_bytes, cost, scratch_words};
 ghost use Rattle.scrypt.specs.InBuffers.{AreEnough, IsWiped};
 ghost use Rattle.scrypt.specs.PhcHash.{HashIsRefused, IsMadeHash, IsSaltLen};
 
-use super::hash_of_key;
+use super::hash_of;
 use crate::buffers::are_enough;
-use crate::stored_key::{key_in_buffers, key_len_or_default};
 use crate::{CoreCount, Params};
 use password_hash::phc::{PasswordHash, Salt};
 use password_hash::{Error, Result};
+use scrypt_kernel::memory::Buffer;
 
 /// Hashes `password` as `Scrypt::hash_password_with_params` does, in the caller's buffers. Does not
 /// allocate.
@@ -55,10 +55,6 @@ pub fn hash_with_buffers(
     if !are_enough(params, chunks, table, scratch) {
         return Err(Error::OutOfMemory);
     }
-    let len = key_len_or_default(params);
-    let letters = salt.as_bytes();
-    let key = key_in_buffers(
-        password, letters, params, len, chunks, table, scratch, cores,
-    );
-    Ok(hash_of_key(params, salt, key))
+    let mut rows = Buffer::new(table);
+    Ok(hash_of::<Buffer<'_>>(password, salt, params, chunks, &mut rows, scratch, cores))
 }

@@ -1,5 +1,6 @@
 use Rattle.scrypt.specs.StoredHash.{IsWhole, ReadIsRefused}
-use Rattle.scrypt.proofs.StoredHashFacts.{IsVerified, as_mcf, as_phc, mcf_verified, phc_verified}
+use Rattle.scrypt.specs.WorkInBuffers.{IsVerified}
+use Rattle.scrypt.proofs.StoredHashFacts.{as_mcf, as_phc, mcf_verified, phc_verified}
 use Rattle.scrypt.proofs.stored_hash.StoredHash.verify.Goals as goal
 use Rattle.scrypt.proofs.stored_hash.StoredHash.verify.Goals.{After-verify_password, After-verify_with_params}
 
@@ -11,9 +12,7 @@ mcf_at c =
 
 phc_at : (c : After-verify_with_params) → IsVerified (IsWhole c.args.self.now) (ReadIsRefused c.args.self.now) c.args.password.now c.verify_with_params.result
 phc_at c =
-    let told = c.verify_with_params.ensures in
-    phc_verified _ _ c.in-Phc.hash _ (as_phc c.self.view_is c.in-Phc.is c.self.invariant)
-    (record { ok = told.ok; wrong = told.wrong; err = told.err })
+    phc_verified _ _ c.in-Phc.hash _ (as_phc c.self.view_is c.in-Phc.is c.self.invariant) c.verify_with_params.ensures
 
 pub returns-in-Mcf-clause-ok : goal.returns-in-Mcf-clause-ok
 returns-in-Mcf-clause-ok c = let told = mcf_at c in told.ok

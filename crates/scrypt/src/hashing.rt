@@ -1,0 +1,91 @@
+// Hashing, in every format, with any source of memory.
+
+ghost use Rattle.std.specs.Prelude.{◌≡◌, ◌↔◌, ◌+◌, ◌≤◌, None, length, IfErr, IsTrue, OnOk};
+ghost use Rattle.std.specs.Option.{option_map};
+ghost use Rattle.scrypt.specs.Accepted.{IsStoredLen};
+ghost use Rattle.scrypt.specs.Cost.{chunks_bytes, cost, scratch_words, table_words};
+ghost use Rattle.scrypt.specs.InBuffers.{IsWiped};
+ghost use Rattle.scrypt.specs.Hashing.{IsCallRefused, IsNamedOrNone, key_len_or_default};
+ghost use Rattle.scrypt.specs.KeyOfParams.{key_by};
+
+use crate::derivation::derive_in;
+use crate::{BufferLens, CoreCount, Params};
+use password_hash::phc::Output;
+use password_hash::{Error, Result, Version};
+use scrypt_kernel::memory::Memory;
+
+/// Checks what a hashing call names beside its parameters.
+///
+/// Returns `Algorithm` if `alg_id` is given and not `name`, and otherwise `Version` if `version` is
+/// given.
+pub(crate) fn check_call(name: &str, alg_id: Option<&str>, version: Option<Version>) -> Result<()>
+    ensures named { OnOk result (IsNamedOrNone name.now (option_map (λ s. s.now) alg_id.entry)) }
+    ensures none { OnOk result (version ≡ None) }
+    ensures err { IfErr result (IsCallRefused name.now (option_map (λ s. s.now) alg_id.entry) version) }
+{
+    if !is_named_or_none(name, alg_id) {
+        return Err(Error::Algorithm);
+    }
+    if version.is_some() {
+        return Err(Error::Version);
+    }
+    Ok(())
+}
+
+// Returns whether no algorithm but `name` is named.
+fn is_named_or_none(name: &str, alg_id: Option<&str>) -> bool
+    ensures { IsTrue result ↔ IsNamedOrNone name.now (option_map (λ s. s.now) alg_id.entry) }
+{
+    match alg_id {
+        Some(id) => id == name,
+        None => true,
+    }
+}
+
+/// Returns the length in bytes of the key that hashing with these parameters makes.
+pub(crate) fn key_len_or_default(params: &Params) -> usize
+    ensures value { result ≡ key_len_or_default params.now }
+    ensures stored { IsStoredLen result }
+{
+    match params.output_len() {
+        Some(len) => len,
+        None => Params::RECOMMENDED_LEN,
+    }
+}
+
+/// Derives the key that hashing with these parameters stores, in any memory. Afterwards what was
+/// used of the chunks and the scratch is zeros. Does not allocate.
+pub(crate) fn stored_key<M: Memory>(
+    password: &[u8],
+    salt: &[u8],
+    params: &Params,
+    chunks: &mut [u8],
+    rows: &mut M,
+    scratch: &mut [u32],
+    cores: &mut CoreCount,
+) -> Output
+    requires chunks { chunks_bytes params.now.r params.now.p ≤ length chunks.old }
+    requires room { table_words params.now.log_n params.now.r ≤ M.room rows.old }
+    requires scratch { scratch_words params.now.r ≤ length scratch.old }
+    ensures value { result ≡ key_by params.now password.now salt.now (key_len_or_default params.now) }
+    ensures len { IsStoredLen (key_len_or_default params.now) }
+    ensures all { cores.new.all ≡ cores.old.all
+        + cost params.now.log_n params.now.r params.now.p }
+    ensures lanes { cores.new.lanes ≡ cores.old.lanes
+        + cost params.now.log_n params.now.r params.now.p }
+    ensures chunks { IsWiped (chunks_bytes params.now.r params.now.p) chunks.old chunks.new }
+    ensures scratch { IsWiped (scratch_words params.now.r) scratch.old scratch.new }
+{
+    let lens = BufferLens::of(params);
+    let chunks = &mut chunks[..lens.chunks];
+    let scratch = &mut scratch[..lens.scratch];
+    let mut places = [0u8; Output::MAX_LENGTH];
+    let key = &mut places[..key_len_or_default(params)];
+    derive_in::<M>(password, salt, params, 0, chunks, rows, scratch, key, cores);
+    chunks.fill(0);
+    scratch.fill(0);
+    let Ok(key) = Output::new(key) else {
+        unreachable!();
+    };
+    key
+}
