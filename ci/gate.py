@@ -1,5 +1,5 @@
 #!/usr/bin/env python3
-"""Runs `rt ci`, and then calls the library that it proved from C, Python and the drop-in names, for some seconds.
+"""Runs `rt ci`, and then the program that it built and the library that it proved, for some seconds.
 
 `rt ci` proves every crate from nothing, and leaves the libraries that it proved. The static library for C is built over
 these, so that only its own crate is checked once more: `rt lib` takes nothing from `rt ci`, and would prove the crates
@@ -69,6 +69,8 @@ def proved():
 def main():
     without_old_libraries()
     count = proved()
+    if subprocess.call([sys.executable, "ci/program.py", "crates/scrypt_tool/out/scrypt_tool"]):
+        sys.exit("the program answered otherwise")
     if not shutil.which(os.environ.get("CC", "cc")):
         print("No C compiler is here (package gcc): the library was not called.")
     elif build() or any(subprocess.call(it) for it in [["bindings/lib.sh", "built"], ["bindings/callers.sh", "short"]]):

@@ -5,8 +5,6 @@
 #[cfg(test)]
 mod allocations;
 #[cfg(test)]
-mod answers;
-#[cfg(test)]
 mod fault_lines;
 #[cfg(test)]
 mod readers;

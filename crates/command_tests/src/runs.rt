@@ -1,18 +1,14 @@
 // Runs of the commands over readers and writers of the tests, and what several tests compare them with.
 
-use crate::streams::{Input, Page};
+use crate::streams::Page;
 use scrypt_commands::run::{Exit, run};
 use std::alloc::Global;
 use std::io::{Read, Write};
-use std::process::Abort;
 use std::test::Fail;
 
 // The first key of RFC 7914, section 12, and a newline.
 pub const FIRST_KEY: &str =
     "77d6576238657b203b19ca42c18a0497f16b4844e3074ae8dfdffa3fede21442fcd0069ded0948f8326a753a0fc81f17e8d3e0fb2e0d3628cf35e20c38d18906\n";
-
-pub const USAGE: &str =
-    "usage: key LOG_N R P LEN SALT_HEX | hash phc|mcf LOG_N R P SALT_HEX [LEN] | verify HASH | rehash phc|mcf LOG_N R P LEN SALT_HEX HASH\n";
 
 // A command line, its status on the password `password`, the line that it writes, and the reason for the row. The key
 // is that of Python's hashlib, and the `$7$` text is libxcrypt's.
@@ -121,28 +117,6 @@ pub fn words_of(alloc: Global, line: &str) -> Result<Vec<String>, Fail> {
         words.push(String::from_str(alloc, word)?)?;
     }
     Ok(words)
-}
-
-// Runs a command line on a password, whose line goes to the output with status 0 or 1, and else to the
-// faults.
-pub fn prints(
-    rt: &impl Abort,
-    alloc: Global,
-    line: &str,
-    password: &str,
-    (status, written, reason): (u8, &str, &str),
-) -> Result<(), Fail> {
-    let mut input = Input::new(password.as_bytes(), usize::MAX);
-    let printed = run_line(alloc, line, &mut input, Page::new(), Page::new())?;
-    assert_eq!(rt; printed.ended, Exit { status, ..DONE }, "{reason}");
-    let (output, fault) = if status < 2 {
-        (written, "")
-    } else {
-        ("", written)
-    };
-    assert_eq!(rt; printed.output.text(), output.as_bytes(), "{reason}");
-    assert_eq!(rt; printed.faults.text(), fault.as_bytes(), "{reason}");
-    Ok(())
 }
 
 pub const DONE: Exit = Exit {

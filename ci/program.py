@@ -1,0 +1,247 @@
+#!/usr/bin/env python3
+"""Runs the built program on command lines whose answers come from elsewhere, and on each fault once.
+
+The answer of a run is a line on the standard output for the statuses 0 and 1, and else on the standard
+error; nothing is on the other one. The keys are those of RFC 7914, section 12, and of Python's hashlib; the
+hashes are passlib's and libxcrypt's.
+
+usage: program.py PROGRAM
+"""
+
+import subprocess
+import sys
+
+FIRST_KEY = (
+    "77d6576238657b203b19ca42c18a0497f16b4844e3074ae8dfdffa3fede21442"
+    "fcd0069ded0948f8326a753a0fc81f17e8d3e0fb2e0d3628cf35e20c38d18906"
+)
+USAGE = (
+    "usage: key LOG_N R P LEN SALT_HEX | hash phc|mcf LOG_N R P SALT_HEX [LEN] | verify HASH"
+    " | rehash phc|mcf LOG_N R P LEN SALT_HEX HASH"
+)
+
+# Each row has the words between single blanks, the input, the status, the line, and the reason for the row.
+ANSWERS = [
+    ("key 4 1 1 64 ", "", 0, FIRST_KEY, "the first key of RFC 7914"),
+    (
+        "key 4 3 2 33 0a0bFF",
+        "password",
+        0,
+        "16b7ca20bc71b047b152bb150c62dd9e14d23f698eeaade5d0ed74a8e355acd2da",
+        "each parameter is another, and a salt has digits of either case",
+    ),
+    ("key 4 1 1 16 ", "pass\nword\n", 0, "704d1995acb73578bcb377b08d0d622c", "newlines belong to the password"),
+    (
+        "hash phc 16 8 1 68cd79ef5debdd7b2fc5b8b7d65aabd5",
+        "password",
+        0,
+        "$scrypt$ln=16,r=8,p=1$aM15713r3Xsvxbi31lqr1Q$nFNh2CVHVjNldFVKDHDlm4CbdRSCdEBsjjJxD+iCs5E",
+        "passlib's hash",
+    ),
+    (
+        "hash phc 14 8 1 536f6469756d43686c6f72696465",
+        "pleaseletmein",
+        0,
+        "$scrypt$ln=14,r=8,p=1$U29kaXVtQ2hsb3JpZGU$cCO9yzr9c0hGHAbNgf046/2o+7qQT44+qbVD9lRdofI",
+        "the third key of RFC 7914",
+    ),
+    (
+        "hash phc 14 8 1 536f6469756d43686c6f72696465 10",
+        "pleaseletmein",
+        0,
+        "$scrypt$ln=14,r=8,p=1$U29kaXVtQ2hsb3JpZGU$cCO9yzr9c0hGHA",
+        "a last word is the key's length",
+    ),
+    (
+        "hash mcf 4 1 1 ",
+        "",
+        0,
+        "$7$2/..../....$rNxJWVHNv/mCNcgE/f6/L4zO6Fos5c2uTzhyzoisI62",
+        "the empty password and salt",
+    ),
+    (
+        "hash mcf 4 1 1  64",
+        "",
+        0,
+        "$7$2/..../....$rNxJWVHNv/mCNcgE/f6/L4zO6Fos5c2uTzhyzoisI62zEPEbhb.Gs9XOpdn16zl3cDBsvvG1qUmnp6C1s2RW4.",
+        "a longer key",
+    ),
+    (
+        "hash mcf 14 32 1 986d90d343e07e4f7e00864f03040bf3",
+        "pleaseletmein",
+        0,
+        "$7$CU..../....Mq4YHD2syxYT.MsH1Ek0n1$JyHIxez0DOwm0r6.kAIohc8UFBOLU4xX8a1wGBpLrw7",
+        "libxcrypt's hash",
+    ),
+    (
+        "verify $scrypt$ln=16,r=8,p=1$aM15713r3Xsvxbi31lqr1Q$nFNh2CVHVjNldFVKDHDlm4CbdRSCdEBsjjJxD+iCs5E",
+        "password",
+        0,
+        "ok",
+        "the password of a PHC hash",
+    ),
+    (
+        "verify $scrypt$ln=16,r=8,p=1$aM15713r3Xsvxbi31lqr1Q$nFNh2CVHVjNldFVKDHDlm4CbdRSCdEBsjjJxD+iCs5E",
+        "invalid",
+        1,
+        "no",
+        "another password",
+    ),
+    (
+        "verify $scrypt$ln=14,r=8,p=1$U29kaXVtQ2hsb3JpZGU$cCO9yzr9c0hGHA",
+        "pleaseletmein\n",
+        1,
+        "no",
+        "the password and a newline",
+    ),
+    ("verify $scrypt$ln=4$aA", "password", 1, "no", "without a key no password is right"),
+    ("verify $7$2/..../....$rNxJWVHNv/mCNcgE/f6/L4zO6Fos5c2uTzhyzoisI62", "", 0, "ok", "the password of a `$7$` hash"),
+    (
+        "verify $7$86..../....sålt-ключ-塩$JBBPPL5zOCwvCfq6A/PJLkQvgCyERPLs/BfvPFtvhT4",
+        "pässword",
+        0,
+        "ok",
+        "a salt that is not ASCII, by Python's hashlib",
+    ),
+    ("verify $7$2/..../....$rNxJWVHNv/mCNcgE/f6/L4zO6Fos5c2uTzhyzoisI62", "\n", 1, "no", "another password"),
+    ("verify $7$2/..../....$r/", "", 0, "ok", "a shorter key is the beginning of a longer one"),
+    (
+        "verify $7$C6..../....SodiumChloride$kBGj9fHznVYFQMEn/qDCfrDevf9YDtcDdKvEqHJLV8D",
+        "pleaseletmein",
+        0,
+        "ok",
+        "a salt may be a plain text",
+    ),
+]
+
+# Each fault once.
+FAULTS = [
+    ("key 04 1 1 64 ", "", 2, USAGE, "a number with a leading zero"),
+    ("hash md5 4 1 1 00", "", 2, USAGE, "no command"),
+    ("key 4 1 1 64 0", "", 2, "salt is not hexadecimal", "half a byte of salt"),
+    ("key 4 65536 65536 64 ", "", 2, "invalid scrypt parameters", "r * p is 2^32"),
+    ("hash mcf 4 1 1  9", "", 2, "invalid scrypt parameters", "a stored key has at least 10 bytes"),
+    ("rehash phc 57 1 1 32 00 $scrypt", "", 2, "invalid scrypt parameters", "the wanted parameters"),
+    ("key 4 1 1 0 ", "", 2, "invalid output buffer length", "an empty key"),
+    ("hash phc 4 1 1 ", "password", 2, "hash refused: SaltInvalid", "a PHC hash has a salt"),
+    ("verify $8$a", "", 2, "hash refused: EncodingInvalid", "no PHC text"),
+    ("verify $7$", "", 2, "hash refused: EncodingInvalid", "a `$7$` text without parameters"),
+    ("verify $argon2id$ln=4$aA", "password", 2, "hash refused: Algorithm", "another algorithm"),
+    ("verify $scrypt$v=1$ln=4$aA", "password", 2, "hash refused: Version", "a version"),
+    (
+        "verify $scrypt$ln=256,r=8,p=1$aM15713r3Xsvxbi31lqr1Q$nFNh2CVHVjNldFVKDHDlm4CbdRSCdEBsjjJxD+iCs5E",
+        "password",
+        2,
+        "hash refused: ParamInvalid ln",
+        "log_n is above 255",
+    ),
+    ("verify $scrypt$ln=57", "password", 2, "hash refused: ParamsInvalid", "parameters that are not accepted"),
+    ("verify $7$2/..../....$", "password", 2, "hash refused: OutputSize", "an empty key"),
+    ("key 56 1 1 32 ", "", 3, "out of memory", "a table of 2^63 bytes"),
+    ("hash phc 56 1 1 00", "", 3, "out of memory", "the same for a hash"),
+    ("verify $7$s/..../....$r/", "", 3, "out of memory", "the same for a verdict"),
+    (
+        "rehash mcf 56 1 1 32  $7$2/..../....$rNxJWVHNv/mCNcgE/f6/L4zO6Fos5c2uTzhyzoisI62",
+        "",
+        3,
+        "out of memory",
+        "the same for a new hash",
+    ),
+]
+
+REHASHES = [
+    (
+        "rehash mcf 4 1 1 64  $7$2/..../....$rNxJWVHNv/mCNcgE/f6/L4zO6Fos5c2uTzhyzoisI62",
+        "",
+        0,
+        "$7$2/..../....$rNxJWVHNv/mCNcgE/f6/L4zO6Fos5c2uTzhyzoisI62zEPEbhb.Gs9XOpdn16zl3cDBsvvG1qUmnp6C1s2RW4.",
+        "a longer key is wanted",
+    ),
+    (
+        "rehash mcf 4 1 1 32  $7$2/..../....$rNxJWVHNv/mCNcgE/f6/L4zO6Fos5c2uTzhyzoisI62",
+        "",
+        0,
+        "ok",
+        "the hash is as wanted",
+    ),
+    (
+        "rehash phc 4 1 1 32  $7$2/..../....$rNxJWVHNv/mCNcgE/f6/L4zO6Fos5c2uTzhyzoisI62",
+        "",
+        0,
+        "ok",
+        "as wanted, so that neither the other format nor its salt counts",
+    ),
+    (
+        "rehash phc 4 1 1 64  $7$2/..../....$rNxJWVHNv/mCNcgE/f6/L4zO6Fos5c2uTzhyzoisI62",
+        "",
+        2,
+        "hash refused: SaltInvalid",
+        "a PHC hash takes no empty salt",
+    ),
+    (
+        "rehash phc 4 1 1 64  $7$2/..../....$rNxJWVHNv/mCNcgE/f6/L4zO6Fos5c2uTzhyzoisI62",
+        "x",
+        1,
+        "no",
+        "a wrong password comes before a salt that the new hash refuses",
+    ),
+    (
+        "rehash phc 14 8 1 32 536f6469756d43686c6f72696465 $scrypt$ln=14,r=8,p=1$U29kaXVtQ2hsb3JpZGU$cCO9yzr9c0hGHA",
+        "pleaseletmein",
+        0,
+        "$scrypt$ln=14,r=8,p=1$U29kaXVtQ2hsb3JpZGU$cCO9yzr9c0hGHAbNgf046/2o+7qQT44+qbVD9lRdofI",
+        "a key of 10 bytes is replaced by one of 32",
+    ),
+    (
+        "rehash phc 17 8 1 32 00 $scrypt$ln=16,r=8,p=1$aM15713r3Xsvxbi31lqr1Q$nFNh2CVHVjNldFVKDHDlm4CbdRSCdEBsjjJxD+iCs5E",
+        "invalid",
+        1,
+        "no",
+        "passlib's hash, weaker than wanted, and a wrong password",
+    ),
+    (
+        "rehash phc 4 2 1 32 abcd $scrypt$ln=4,r=1,p=1$TmFDbA$rsa3SD7SbgiAK0H0AyCGoOiGvnrEj8/ZL/DO+BCXUvQ",
+        "password",
+        0,
+        "$scrypt$ln=4,r=2,p=1$q80$9fykwGCqc5wuN3VhSk6s2YNL+iQlvqu+X3lrEvZ6nS8",
+        "r is below",
+    ),
+    (
+        "rehash phc 3 1 1 32 abcd $scrypt$ln=4,r=1,p=1$TmFDbA$rsa3SD7SbgiAK0H0AyCGoOiGvnrEj8/ZL/DO+BCXUvQ",
+        "password",
+        0,
+        "ok",
+        "log_n is above",
+    ),
+    (
+        "rehash mcf 5 1 1 32 abcd $scrypt$ln=4,r=1,p=1$TmFDbA$rsa3SD7SbgiAK0H0AyCGoOiGvnrEj8/ZL/DO+BCXUvQ",
+        "password",
+        0,
+        "$7$3/..../....fqA$GSoayDUS/tZpwSg3qA/sOnwx1jjdhVpHN49dfPH6c09",
+        "the new hash has the format that is named",
+    ),
+    ("rehash phc 4 1 1 32 00 $argon2id$ln=4$aA", "password", 2, "hash refused: Algorithm", "verifying refuses"),
+]
+
+
+def answer(program, line, text):
+    """How a run of the program ends: its status, and what it wrote to the output and to the faults."""
+    ran = subprocess.run([program, *line.split(" ")], input=text.encode(), capture_output=True)
+    return ran.returncode, ran.stdout.decode(), ran.stderr.decode()
+
+
+def main():
+    rows = ANSWERS + FAULTS + REHASHES
+    wrong = 0
+    for line, text, status, printed, reason in rows:
+        wanted = (status, printed + "\n", "") if status < 2 else (status, "", printed + "\n")
+        got = answer(sys.argv[1], line, text)
+        if got != wanted:
+            print(f"{line!r} ({reason}): {got}, and not {wanted}")
+            wrong += 1
+    print(f"program: {len(rows) - wrong} of {len(rows)} command lines answered as they should be")
+    sys.exit(1 if wrong else 0)
+
+
+if __name__ == "__main__":
+    main()
