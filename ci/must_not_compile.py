@@ -20,6 +20,9 @@ BY_HAND = [COUNTER + it + "/Proof.antt" for it in ["after_core", "after_lanes_co
 NEW_COUNTS = {
     "crates/promises/src/lengths.rt": 1,
     "crates/scrypt/src/derivation.rt": 1,
+    "crates/scrypt/src/mcf/hashing.rt": 1,
+    "crates/scrypt/src/phc/hashing.rt": 1,
+    "crates/scrypt/src/verifying.rt": 1,
     "crates/scrypt_c/src/in_buffers.rt": 3,
     "crates/scrypt_c/src/keys.rt": 1,
     "crates/verdicts/src/main.rt": 1,
