@@ -97,7 +97,7 @@ static int hash_params(void) {
   uint8_t log_n;
   uint32_t r, p;
   size_t len;
-  return scrypt_hash_params(mcf, mcf_len, &log_n, &r, &p, &len);
+  return scrypt_hash_params(phc, phc_len, &log_n, &r, &p, &len);
 }
 
 /* Memory that is kept holds rows of the table until it is wiped. */
