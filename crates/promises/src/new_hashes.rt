@@ -1,12 +1,13 @@
 //! Hashes that are made in the caller's memory: exactly the definition's, always if the salt is allowed
 //! and every buffer is long enough.
 
-ghost use Rattle.std.specs.Prelude.{◌≡◌, ◌↔◌, ◌+◌, ◌*◌, ◌^◌, ◌≤◌, length, IfOk, IsErrOf, IsOk, OnErr, OnOk};
+ghost use Rattle.std.specs.Prelude.{◌≡◌, ◌↔◌, ◌+◌, ◌*◌, ◌^◌, ◌≤◌, None, length, IfErr, IfOk, IsErrOf, IsOk, OnErr, OnOk};
+ghost use Rattle.password_hash.specs.Refusal.{refusal};
 ghost use Rattle.password_hash.specs.declared.error.Error.TheVariants.{OutOfMemory, SaltInvalid};
 ghost use Rattle.scrypt.specs.Cost.{chunks_bytes, scratch_words};
 ghost use Rattle.scrypt.specs.InBuffers.{AreEnough, IsCopiedTo, IsWiped};
 ghost use Rattle.scrypt.specs.McfHash as mcf_hash;
-ghost use Rattle.scrypt.specs.PhcHash.{IsMadeHash, IsSaltLen};
+ghost use Rattle.scrypt.specs.PhcHash.{HashIsRefused, IsMadeHash, IsSaltLen};
 
 use scrypt::password_hash::Result;
 use scrypt::phc::{self, PasswordHash};
@@ -28,6 +29,7 @@ pub fn phc_hash(
     ensures salt { IsErrOf result SaltInvalid ↔ (¬ IsSaltLen (length salt.now)) }
     ensures short { IsErrOf result OutOfMemory
         ↔ (IsSaltLen (length salt.now) × ¬ AreEnough params.now chunks.old table.old scratch.old) }
+    ensures refused { IfErr result (λ e. HashIsRefused salt.now None None (refusal e)) }
     ensures cores { OnOk result (cores.new.all ≡ cores.old.all + 4 * 2 ^ params.now.log_n * params.now.r * params.now.p) }
     ensures lanes { OnOk result (cores.new.lanes ≡ cores.old.lanes + 4 * 2 ^ params.now.log_n * params.now.r * params.now.p) }
     ensures zeros { OnOk result (IsWiped (chunks_bytes params.now.r params.now.p) chunks.old chunks.new
@@ -54,6 +56,7 @@ pub fn mcf_hash(
         × (mcf_hash.made_text_len params.now (length salt.now) ≤ length text.old)) }
     ensures short { IsErrOf result OutOfMemory ↔ (¬ (AreEnough params.now chunks.old table.old scratch.old
         × (mcf_hash.made_text_len params.now (length salt.now) ≤ length text.old))) }
+    ensures refused { IfErr result (λ e. mcf_hash.HashIsRefused None None (refusal e)) }
     ensures cores { OnOk result (cores.new.all ≡ cores.old.all + 4 * 2 ^ params.now.log_n * params.now.r * params.now.p) }
     ensures lanes { OnOk result (cores.new.lanes ≡ cores.old.lanes + 4 * 2 ^ params.now.log_n * params.now.r * params.now.p) }
     ensures zeros { OnOk result (IsWiped (chunks_bytes params.now.r params.now.p) chunks.old chunks.new

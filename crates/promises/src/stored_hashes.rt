@@ -3,7 +3,7 @@
 
 ghost use Rattle.std.specs.Prelude.{◌≡◌, ◌↔◌, ◌+◌, ◌*◌, ◌^◌, List, ℕ, Option, Some, IfErr, IsErrOf, OnOk};
 ghost use Rattle.password_hash.specs.Refusal.{Refusal, PasswordInvalid, refusal};
-ghost use Rattle.password_hash.specs.declared.error.Error.TheVariants.{OutOfMemory};
+ghost use Rattle.password_hash.specs.declared.error.Error.TheVariants.{OutOfMemory, PasswordInvalid as WrongPassword};
 ghost use Rattle.scrypt.specs.Accepted.{Parameters};
 ghost use Rattle.scrypt.specs.Cost.{chunks_bytes, scratch_words};
 ghost use Rattle.scrypt.specs.InBuffers.{AreCompared, AreEnough, AreTooShort, IsWiped, verdict_of};
@@ -102,6 +102,7 @@ pub fn verdict_within_limits(
     ensures short { IsErrOf result (Hash OutOfMemory)
         ↔ AreTooShort (IsWholeWithin limits.now hash.now) chunks.old table.old scratch.old }
     ensures right { OnOk result (Accepts password.now hash.now) }
+    ensures wrong { IfErr result (λ e. e ≡ Hash WrongPassword → ¬ Accepts password.now hash.now) }
     ensures refused { IfErr result (IsRefusedWithin limits.now password.now hash.now) }
     ensures cores { (c : Parameters) (salt key : List ℕ) → IsWholeWithin limits.now hash.now c salt key
         → AreEnough c chunks.old table.old scratch.old

@@ -54,15 +54,9 @@ pub fn hash_with_buffers(
         return Err(Error::OutOfMemory);
     }
     let mut rows = Buffer::new(table);
+    let text = &mut text[..len];
     write_text::<Buffer<'_>>(
-        password,
-        salt,
-        params,
-        &mut text[..len],
-        chunks,
-        &mut rows,
-        scratch,
-        cores,
+        password, salt, params, text, chunks, &mut rows, scratch, cores,
     );
     Ok(len)
 }
