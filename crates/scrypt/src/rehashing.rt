@@ -9,7 +9,7 @@ ghost use Rattle.scrypt.specs.Rehashing.{IsBelow, IsReadable, IsWeaker};
 ghost use Rattle.scrypt.specs.StoredRead.{AreParamsOf};
 
 use crate::hashing::key_len_or_default;
-use crate::mcf::reading::read;
+use crate::mcf::reading::stored_of_mcf;
 use crate::phc::reading::{read_params, stored_of};
 use crate::{Params, Scrypt};
 use password_hash::{RehashCheck, Result, mcf, phc};
@@ -61,7 +61,7 @@ impl<'a> RehashCheck<mcf::PasswordHashRef<'a>> for Scrypt {
     ///
     /// Returns the same errors as verifying does before it allocates, in the same order.
     fn needs_rehash(&self, hash: &mcf::PasswordHashRef<'a>) -> Result<bool> {
-        match read(hash) {
+        match stored_of_mcf(hash) {
             Ok(stored) => Ok(is_below(&self.params(), &stored.params, stored.key_len)),
             Err(refused) => Err(refused),
         }

@@ -11,7 +11,7 @@ ghost use Rattle.scrypt.specs.StoredRead.{IsHashOf};
 mod in_buffers;
 mod within;
 
-use crate::mcf::reading::read;
+use crate::mcf::reading::stored_of_mcf;
 use crate::phc::reading::read_params;
 use crate::phc::verify_with_params;
 use crate::rehashing::needs_rehash_with_params;
@@ -140,7 +140,7 @@ impl<'a> StoredHash<'a> {
         ensures missing { IfErr result (λ e. refusal e ≢ why.PasswordInvalid) }
     {
         match &self.format {
-            Format::Mcf(hash) => match read(hash) {
+            Format::Mcf(hash) => match stored_of_mcf(hash) {
                 Ok(stored) => Ok((stored.params, stored.key_len)),
                 Err(error) => Err(error),
             },

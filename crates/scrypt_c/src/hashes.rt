@@ -14,7 +14,7 @@ ghost use Rattle.scrypt_c.specs.Texts.{IsReadable, IsRehashStatus, IsVerifyStatu
 use crate::statuses::{
     BUFFER_SIZE, INVALID_PARAMS, MISMATCH, NEEDS_REHASH, OK, OUT_OF_MEMORY, SALT_INVALID, status_of,
 };
-use crate::texts::{copy_to, read};
+use crate::texts::{copy_to, stored_hash};
 use password_hash::{PasswordHasher, Result, mcf, phc};
 use scrypt::laws::{stored_texts_have_one_reading, verdicts_are_one};
 use scrypt::{Params, Scrypt};
@@ -127,7 +127,7 @@ pub extern "C" fn scrypt_hash_params(
     ensures unchanged { result ≢ OK → (log_n.new ≡ log_n.old) × (r.new ≡ r.old) × (p.new ≡ p.old)
         × (key_len.new ≡ key_len.old) }
 {
-    let hash = match read(text) {
+    let hash = match stored_hash(text) {
         Ok(hash) => hash,
         Err(error) => return status_of(error),
     };
@@ -157,7 +157,7 @@ pub extern "C" fn scrypt_verify(alloc: Global, password: &[u8], text: &[u8]) -> 
         → (result ≡ verdict_status verdict) ⊎ ((result ≡ OUT_OF_MEMORY) × IsReadable text.now) }
 {
     verdicts_are_one();
-    match read(text) {
+    match stored_hash(text) {
         Ok(hash) => verified_status(hash.verify(alloc, password)),
         Err(error) => status_of(error),
     }
@@ -180,7 +180,7 @@ pub extern "C" fn scrypt_needs_rehash(text: &[u8], log_n: u8, r: u32, p: u32, ke
     let Ok(wanted) = Params::new_with_output_len(log_n, r, p, key_len) else {
         return INVALID_PARAMS;
     };
-    match read(text) {
+    match stored_hash(text) {
         Ok(hash) => rehash_status(hash.needs_rehash(&wanted)),
         Err(error) => status_of(error),
     }

@@ -12,7 +12,7 @@ ghost use Rattle.scrypt_c.specs.InBuffers.{HasRoom, IsBuffersStatus, buffers_sta
 ghost use Rattle.scrypt_c.specs.Made.{IsCopiedTo, IsTooLong, wanted};
 
 use crate::statuses::{BUFFER_SIZE, INVALID_PARAMS, OK, SALT_INVALID, status_of};
-use crate::texts::{copy_to, read};
+use crate::texts::{copy_to, stored_hash};
 use password_hash::{Error, Result};
 use scrypt::laws::{stored_texts_have_one_reading, verdicts_are_one};
 use scrypt::{CoreCount, Params, mcf, phc, wipe};
@@ -156,7 +156,7 @@ pub extern "C" fn scrypt_verify_with_buffers(
     stored_texts_have_one_reading();
     verdicts_are_one();
     let mut cores = CoreCount::new();
-    match read(text) {
+    match stored_hash(text) {
         Ok(hash) => buffers_status(hash.verify_with_buffers(
             password, chunks, table, scratch, &mut cores,
         )),

@@ -13,7 +13,7 @@ use scrypt::StoredHash;
 /// Reads the text of a hash.
 ///
 /// Returns `EncodingInvalid` if the bytes are not UTF-8 or the text is not one of its format.
-pub fn read(bytes: &[u8]) -> Result<StoredHash<'_>>
+pub fn stored_hash(bytes: &[u8]) -> Result<StoredHash<'_>>
     ensures utf8 { OnOk result (IsUtf8 bytes.now) }
     ensures ok { IfOk result (λ hash. hash ≡ bytes.now) }
     ensures err { IfErr result (λ e. e ≡ EncodingInvalid) }

@@ -43,7 +43,7 @@ impl PasswordHash {
         ensures err { IfErr result (λ e. e ≡ EncodingInvalid) }
         ensures printed_back { IfOk result (λ hash. hash_text hash ≡ text.now) }
     {
-        match read(text) {
+        match parse(text) {
             Some(hash) => Ok(hash),
             None => Err(Error::EncodingInvalid),
         }
@@ -51,7 +51,7 @@ impl PasswordHash {
 }
 
 /// Parses a password hash. Returns `None` if `text` is not one.
-fn read(text: &str) -> Option<PasswordHash>
+fn parse(text: &str) -> Option<PasswordHash>
     ensures found { IfSome result (IsHashText text.now) }
     ensures only { (hash : PasswordHash) → IsHashText text.now hash → result ≡ Some hash }
 {

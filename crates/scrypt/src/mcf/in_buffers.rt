@@ -10,7 +10,7 @@ ghost use Rattle.scrypt.specs.InBuffers.{AreCompared, AreEnough, AreTooShort, Is
 ghost use Rattle.scrypt.specs.McfHash.{Accepts, IsWhole, Verdict, VerifyIsRefused};
 
 use crate::CoreCount;
-use crate::mcf::reading::read;
+use crate::mcf::reading::stored_of_mcf;
 use crate::verifying::verify_in_buffers;
 use password_hash::Result;
 use password_hash::mcf::PasswordHashRef;
@@ -55,7 +55,7 @@ pub fn verify_with_buffers(
     ensures uncounted { ¬ AreCompared (IsWhole (hash_text hash.now)) chunks.old table.old scratch.old
         → (cores.new.all ≡ cores.old.all) × (cores.new.lanes ≡ cores.old.lanes) }
 {
-    match read(hash) {
+    match stored_of_mcf(hash) {
         Ok(stored) => verify_in_buffers(
             password,
             stored.salt,

@@ -4,7 +4,7 @@ ghost use Rattle.password_hash.specs.McfViews.{hash_text};
 ghost use Rattle.scrypt.specs.McfHash.{Accepts, VerifyIsRefused};
 
 use crate::Scrypt;
-use crate::mcf::reading::read;
+use crate::mcf::reading::stored_of_mcf;
 use crate::verifying::verify_allocating;
 use password_hash::mcf::{PasswordHash, PasswordHashRef};
 use password_hash::{PasswordVerifier, Result};
@@ -30,7 +30,7 @@ impl<'a> PasswordVerifier<PasswordHashRef<'a>> for Scrypt {
         password: &[u8],
         hash: &PasswordHashRef<'a>,
     ) -> Result<()> {
-        match read(hash) {
+        match stored_of_mcf(hash) {
             Ok(stored) => verify_allocating(
                 alloc,
                 password,

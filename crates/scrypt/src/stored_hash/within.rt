@@ -11,7 +11,7 @@ ghost use Rattle.scrypt.specs.WithinLimits.{IsRefusedWithin, IsTooCostly, IsWhol
 ghost use Rattle.scrypt.specs.declared.errors.BoundedError.TheVariants.{Hash, TooCostly};
 
 use super::{Format, StoredHash};
-use crate::mcf::reading::read;
+use crate::mcf::reading::stored_of_mcf;
 use crate::phc::reading::stored_of;
 use crate::{BoundedError, CoreCount, Limits, Params};
 use password_hash::Result;
@@ -80,7 +80,7 @@ impl<'a> StoredHash<'a> {
         ensures err { IfErr result (λ e. ReadIsRefused self.now (refusal e)) }
     {
         match &self.format {
-            Format::Mcf(hash) => match read(hash) {
+            Format::Mcf(hash) => match stored_of_mcf(hash) {
                 Ok(stored) => Ok(stored.params),
                 Err(error) => Err(error),
             },

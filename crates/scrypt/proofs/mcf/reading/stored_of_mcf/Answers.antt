@@ -7,8 +7,8 @@ use Rattle.password_hash.specs.McfViews.{fields_left, hash_text, field_text}
 use Rattle.password_hash.specs.declared.mcf.field.Field.{Field}
 use Rattle.password_hash.specs.declared.mcf.fields.Fields.{Fields}
 use Rattle.scrypt.specs.McfHash.{HasCosts, other_id, no_field, bad_costs, no_key, bad_key, third_field, bad_key_len}
-use Rattle.scrypt.proofs.mcf.reading.read.Goals as goal
-use Rattle.scrypt.proofs.mcf.reading.read.Goals.{After-next-2}
+use Rattle.scrypt.proofs.mcf.reading.stored_of_mcf.Goals as goal
+use Rattle.scrypt.proofs.mcf.reading.stored_of_mcf.Goals.{After-next-2}
 
 -- a text by another spelling of its id and its fields
 moved : {text id id' : List ℕ} {fields fields' : List (List ℕ)} → IsMcfText text id fields → id ≡ id' → fields ≡ fields' → IsMcfText text id' fields'

@@ -1,6 +1,6 @@
 use Rattle.scrypt_c.proofs.TextFacts.{no_stored_text}
 use Rattle.scrypt_c.specs.Texts.{no_text}
-use Rattle.scrypt_c.proofs.texts.read.Goals as goal
+use Rattle.scrypt_c.proofs.texts.stored_hash.Goals as goal
 
 pub returns-in-Ok-clause-refused : goal.returns-in-Ok-clause-refused
 returns-in-Ok-clause-refused c =

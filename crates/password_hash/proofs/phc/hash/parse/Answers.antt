@@ -5,8 +5,8 @@ use Rattle.password_hash.specs.Parts.{parts_left}
 use Rattle.password_hash.specs.Phc.{IsHashText}
 use Rattle.password_hash.specs.declared.phc.hash.PasswordHash.{PasswordHash}
 use Rattle.password_hash.proofs.HashFacts.{HasParts, parts_of_hash, hash_of_parts}
-use Rattle.password_hash.proofs.phc.hash.read.Goals as goal
-use Rattle.password_hash.proofs.phc.hash.read.Goals.{After-first_part}
+use Rattle.password_hash.proofs.phc.hash.parse.Goals as goal
+use Rattle.password_hash.proofs.phc.hash.parse.Goals.{After-first_part}
 
 -- hashes with the same parts
 same_hash : {a b : PasswordHash} → a.algorithm ≡ b.algorithm → a.version ≡ b.version → a.params ≡ b.params → a.salt ≡ b.salt → a.hash ≡ b.hash → a ≡ b
