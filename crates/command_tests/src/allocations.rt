@@ -11,7 +11,7 @@ use test_support::failing_allocations::{CallEnd, failing_allocations};
 // cost has a larger table. What comes after a derivation and is no larger than what it gave back can't
 // fail here: the line, and the other buffers of a second derivation.
 const ALLOCATIONS: [&[usize]; 10] = [
-    &[4, 8, 32, 128, 2048, 256],
+    &[4, 8, 64, 128, 2048, 256],
     &[4, 8, 128, 2048, 256],
     &[4, 8, 64, 128, 2048, 256],
     &[8, 128, 2048, 256],

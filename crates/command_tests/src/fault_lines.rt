@@ -73,20 +73,12 @@ fn fault_writers_that_fail(rt: HostRuntime) -> Result<(), Fail> {
             };
             let faults = Page::failing(1, call);
             let printed = run_line(rt.alloc(), line, &mut input, Page::new(), faults)?;
-            let input_failed = failing.is_some();
-            assert_eq!(rt;
-                printed.ended,
-                ended(status, input_failed),
-                "{reason}, at call {call}"
-            );
-            assert_eq!(rt;
-                printed.output.text(),
-                b"".as_slice(),
-                "{reason}, at call {call}"
-            );
-            assert_eq!(rt;
-                printed.faults.text().len(),
-                call,
+            assert!(rt;
+                printed.is(
+                    ended(status, failing.is_some()),
+                    "",
+                    fault.get(..call).unwrap_or("")
+                ),
                 "{reason}, at call {call}"
             );
         }

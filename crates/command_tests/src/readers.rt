@@ -43,15 +43,8 @@ fn readers_that_fail(rt: HostRuntime) -> Result<(), Fail> {
         for (len, kind, reason) in FAILING_READERS {
             let mut input = Input::failing(bytes.get(..len).unwrap_or(&[]), kind);
             let printed = run_line(rt.alloc(), line, &mut input, Page::new(), Page::new())?;
-            assert_eq!(rt; printed.ended, INPUT_FAILED, "{command}: {reason}");
-            assert_eq!(rt;
-                printed.output.text(),
-                b"".as_slice(),
-                "{command}: {reason}"
-            );
-            assert_eq!(rt;
-                printed.faults.text(),
-                b"input failed\n".as_slice(),
+            assert!(rt;
+                printed.is(INPUT_FAILED, "", "input failed\n"),
                 "{command}: {reason}"
             );
         }
@@ -66,10 +59,9 @@ fn long_password_in_pieces(rt: HostRuntime) -> Result<(), Fail> {
         let mut input = Input::new(&password, most);
         let page = Page::new();
         let printed = run_line(rt.alloc(), "key 4 1 1 16 ", &mut input, page, Page::new())?;
-        assert_eq!(rt; printed.ended, DONE, "{most} bytes a call");
-        assert_eq!(rt;
-            printed.output.text(),
-            b"d9d598b48803bb1bbed2d5892c9870b3\n".as_slice()
+        assert!(rt;
+            printed.is(DONE, "d9d598b48803bb1bbed2d5892c9870b3\n", ""),
+            "{most} bytes a call"
         );
     }
     Ok(())
@@ -90,19 +82,8 @@ fn slow_streams(rt: HostRuntime) -> Result<(), Fail> {
             let mut input = Input::new(b"password", read);
             let output = Page::failing(taken, usize::MAX);
             let printed = run_line(rt.alloc(), line, &mut input, output, Page::new())?;
-            assert_eq!(rt;
-                printed.ended,
-                Exit { status, ..DONE },
-                "{command}: {reason}"
-            );
-            assert_eq!(rt;
-                printed.output.text(),
-                written.as_bytes(),
-                "{command}: {reason}"
-            );
-            assert_eq!(rt;
-                printed.faults.text(),
-                b"".as_slice(),
+            assert!(rt;
+                printed.is(Exit { status, ..DONE }, written, ""),
                 "{command}: {reason}"
             );
         }
@@ -173,9 +154,12 @@ fn order_of_reading_and_refusing(rt: HostRuntime) -> Result<(), Fail> {
     for (line, status, fault, reason) in ORDERS {
         let mut input = Input::failing(b"", ErrorKind::Other);
         let printed = run_line(rt.alloc(), line, &mut input, Page::new(), Page::new())?;
-        assert_eq!(rt; printed.ended.status, status, "{reason}");
-        assert_eq!(rt; printed.output.text(), b"".as_slice(), "{reason}");
-        assert_eq!(rt; printed.faults.text(), fault.as_bytes(), "{reason}");
+        let ended = Exit {
+            status,
+            input_failed: status == 4,
+            error_written: true,
+        };
+        assert!(rt; printed.is(ended, "", fault), "{reason}");
     }
     Ok(())
 }

@@ -6,18 +6,14 @@ use std::alloc::Global;
 use std::io::{Read, Write};
 use std::test::Fail;
 
-// The first key of RFC 7914, section 12, and a newline.
-pub const FIRST_KEY: &str =
-    "77d6576238657b203b19ca42c18a0497f16b4844e3074ae8dfdffa3fede21442fcd0069ded0948f8326a753a0fc81f17e8d3e0fb2e0d3628cf35e20c38d18906\n";
-
 // A command line, its status on the password `password`, the line that it writes, and the reason for the row. The key
 // is that of Python's hashlib, and the `$7$` text is libxcrypt's.
 pub const COMMANDS: [(&str, u8, &str, &str); 10] = [
     (
-        "key 4 1 1 32 4e61436c",
+        "key 4 1 1 64 4e61436c",
         0,
-        "aec6b7483ed26e08802b41f4032086a0e886be7ac48fcfd92ff0cef8109752f4\n",
-        "a key",
+        "aec6b7483ed26e08802b41f4032086a0e886be7ac48fcfd92ff0cef8109752f4ac74b077263256a65a99701b7a304d46611c8aa391e799ce10a27753e7e9c09a\n",
+        "a key, in a line of 129 bytes",
     ),
     (
         "hash phc 4 1 1 4e61436c",
@@ -81,6 +77,15 @@ pub struct Printed {
     pub ended: Exit,
     pub output: Page,
     pub faults: Page,
+}
+
+impl Printed {
+    // Whether the run ended so and wrote these texts.
+    pub fn is(&self, ended: Exit, output: &str, faults: &str) -> bool {
+        self.ended == ended
+            && self.output.text() == output.as_bytes()
+            && self.faults.text() == faults.as_bytes()
+    }
 }
 
 // Runs a command line, whose words are separated by single blanks, on two pages.

@@ -1,42 +1,44 @@
 // Writers that fail, under every command.
 
-use crate::runs::{COMMANDS, DONE, FIRST_KEY, OUTPUT_FAILED, run_line};
+use crate::runs::{COMMANDS, DONE, OUTPUT_FAILED, run_line};
 use crate::streams::Page;
 use scrypt_commands::run::Exit;
 use std::io::ErrorKind;
 use std::test::Fail;
 
-// How many bytes a writer takes a call, the call that fails, and the reason for the row.
-const FAILING_WRITERS: [(usize, usize, &str); 4] = [
-    (usize::MAX, 0, "fails at once, with nothing written"),
+// How many bytes a writer takes a call, the call that fails, how many bytes of the line are written, and the
+// reason for the row.
+const FAILING_WRITERS: [(usize, usize, usize, &str); 4] = [
+    (usize::MAX, 0, 0, "fails at once, with nothing written"),
     (
         0,
         usize::MAX,
+        0,
         "takes no bytes, which write_all reports as an error",
     ),
     (
         usize::MAX,
         1,
+        usize::MAX,
         "takes the whole line, and then fails to flush",
     ),
-    (2, 1, "takes the beginning of the line, and then fails"),
+    (2, 1, 2, "takes the beginning of the line, and then fails"),
 ];
+
+// The first bytes of a line, or all of it if it is shorter.
+fn first(line: &str, len: usize) -> &str {
+    line.get(..len).unwrap_or(line)
+}
 
 #[test]
 fn writers_that_fail(rt: HostRuntime) -> Result<(), Fail> {
     for (line, _, written, command) in COMMANDS {
-        for (taken, call, reason) in FAILING_WRITERS {
+        for (taken, call, len, reason) in FAILING_WRITERS {
             let input = &mut b"password".as_slice();
             let output = Page::failing(taken, call);
             let printed = run_line(rt.alloc(), line, input, output, Page::new())?;
-            assert_eq!(rt; printed.ended, OUTPUT_FAILED, "{command}: {reason}");
-            assert_eq!(rt;
-                printed.faults.text(),
-                b"output failed\n".as_slice(),
-                "{command}: {reason}"
-            );
             assert!(rt;
-                written.as_bytes().starts_with(printed.output.text()),
+                printed.is(OUTPUT_FAILED, first(written, len), "output failed\n"),
                 "{command}: {reason}"
             );
         }
@@ -44,54 +46,35 @@ fn writers_that_fail(rt: HostRuntime) -> Result<(), Fail> {
     Ok(())
 }
 
-// With one byte a call, the call after the last byte is the flush. The line of the first key has 129
-// bytes, and so the calls are 0 to 129.
+// With one byte a call, the call after the last byte is the flush. A write that is interrupted is tried again by
+// write_all, as a read is not. A flush is not.
 #[test]
-fn writer_that_fails_at_each_call(rt: HostRuntime) -> Result<(), Fail> {
-    for (line, _, written, command) in COMMANDS.into_iter().chain([(
-        "key 4 1 1 64 ",
-        0,
-        FIRST_KEY,
-        "the first key of RFC 7914",
-    )]) {
-        for call in 0..=written.len() {
-            let input = &mut b"password".as_slice();
-            let printed = run_line(rt.alloc(), line, input, Page::failing(1, call), Page::new())?;
-            assert_eq!(rt; printed.ended, OUTPUT_FAILED, "{command}, at call {call}");
-            assert_eq!(rt;
-                printed.output.text().len(),
-                call,
-                "{command}, at call {call}"
-            );
-            assert_eq!(rt; printed.faults.text(), b"output failed\n".as_slice());
-        }
-    }
-    Ok(())
-}
-
-// A write that is interrupted is tried again by write_all, as a read is not. A flush is not.
-#[test]
-fn interrupted_writes(rt: HostRuntime) -> Result<(), Fail> {
+fn writers_that_fail_at_each_call(rt: HostRuntime) -> Result<(), Fail> {
     for (line, status, written, command) in COMMANDS {
         for call in 0..written.len() {
             let input = &mut b"password".as_slice();
+            let printed = run_line(rt.alloc(), line, input, Page::failing(1, call), Page::new())?;
+            assert!(rt;
+                printed.is(OUTPUT_FAILED, first(written, call), "output failed\n"),
+                "{command}, at call {call}"
+            );
+            let input = &mut b"password".as_slice();
             let output = Page::failing_by(ErrorKind::Interrupted, 1, call);
             let printed = run_line(rt.alloc(), line, input, output, Page::new())?;
-            assert_eq!(rt;
-                printed.ended,
-                Exit { status, ..DONE },
-                "{command}, at call {call}"
-            );
-            assert_eq!(rt;
-                printed.output.text(),
-                written.as_bytes(),
-                "{command}, at call {call}"
+            assert!(rt;
+                printed.is(Exit { status, ..DONE }, written, ""),
+                "{command}, interrupted at call {call}"
             );
         }
-        let input = &mut b"password".as_slice();
-        let output = Page::failing_by(ErrorKind::Interrupted, usize::MAX, 1);
-        let printed = run_line(rt.alloc(), line, input, output, Page::new())?;
-        assert_eq!(rt; printed.ended, OUTPUT_FAILED, "{command}");
+        for kind in [ErrorKind::Other, ErrorKind::Interrupted] {
+            let input = &mut b"password".as_slice();
+            let output = Page::failing_by(kind, 1, written.len());
+            let printed = run_line(rt.alloc(), line, input, output, Page::new())?;
+            assert!(rt;
+                printed.is(OUTPUT_FAILED, written, "output failed\n"),
+                "{command}, at the flush"
+            );
+        }
     }
     Ok(())
 }
