@@ -5,8 +5,8 @@
 #               tested. The first one takes as long as a proof of everything
 #   make test   is the whole gate: the checks of the documents and of what must not compile, every proof from nothing,
 #               the edits of must-fail/, which are wrong bodies that the prover must refuse, every test and program,
-#               the built program on command lines whose answers are known, and a short call of the library from C, Python
-#               and the drop-in names
+#               the built programs on command lines and hashes whose answers are known, and a short call of the library
+#               from C, Python and the drop-in names
 # And besides the gate:
 #   make wrong-bodies tries the edits of wrong-bodies/, more that the prover must refuse
 #   make refused-by-tests tries those of refused-by-tests/, wrong bodies that no clause can refuse, and that the
@@ -58,7 +58,9 @@ proved-scrypt_commands: proved-scrypt
 check: kit documents
 	rt all test
 	cd crates/scrypt_tool && rt run -- key 4 1 1 64 "" < /dev/null
+	cd crates/verdicts && rt run < stdin > /dev/null
 	python3 ci/program.py crates/scrypt_tool/out/scrypt_tool
+	python3 ci/hashes.py crates/scrypt_tool/out/scrypt_tool crates/verdicts/out/verdicts
 
 # The library is built over what `rt ci` proved, so that it isn't proved twice. The count of what passed stays the last
 # line.

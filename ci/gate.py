@@ -69,8 +69,10 @@ def proved():
 def main():
     without_old_libraries()
     count = proved()
-    if subprocess.call([sys.executable, "ci/program.py", "crates/scrypt_tool/out/scrypt_tool"]):
-        sys.exit("the program answered otherwise")
+    tool, verdicts = "crates/scrypt_tool/out/scrypt_tool", "crates/verdicts/out/verdicts"
+    for words in [["ci/program.py", tool], ["ci/hashes.py", tool, verdicts]]:
+        if subprocess.call([sys.executable, *words]):
+            sys.exit("a program answered otherwise")
     if not shutil.which(os.environ.get("CC", "cc")):
         print("No C compiler is here (package gcc): the library was not called.")
     elif build() or any(subprocess.call(it) for it in [["bindings/lib.sh", "built"], ["bindings/callers.sh", "short"]]):

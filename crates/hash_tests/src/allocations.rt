@@ -1,14 +1,12 @@
 // Each allocation of a call fails in turn, and the exact number of them is asserted.
 
-use crate::mcf_texts::{CHANGES, SHORT_TEXTS};
 use password_hash::mcf::{self, Base64};
 use password_hash::{Error, PasswordHasher, PasswordVerifier, phc};
 use scrypt::{Params, Scrypt};
 use std::alloc::Global;
 use std::test::Fail;
 use test_support::failing_allocations::{CallEnd, failing_allocations};
-use test_support::texts::changed;
-use test_support::vectors::{EMPTY_PASSWORD_HASH, LIBXCRYPT_HASH};
+use test_support::vectors::EMPTY_PASSWORD_HASH;
 
 // How a call ended by its answer, if a failure left everything as it was.
 fn ended<T, E: PartialEq + Drop>(
@@ -211,76 +209,81 @@ fn verdict(alloc: Global, text: &str) -> Result<(), Error> {
     }
 }
 
-// Whether the verdict is this one, although every allocation fails.
-fn needs_no_memory(alloc: Global, text: &str, wanted: Result<(), Error>) -> Result<bool, Fail> {
-    let allocations = failing_allocations(alloc, &[], || {
-        if verdict(alloc, text) == wanted {
-            CallEnd::Done
-        } else {
-            CallEnd::Otherwise
-        }
-    })?;
-    Ok(allocations == 0)
-}
-
-// Whether a `$7$` text has this verdict before any memory is taken.
-fn is_refused_first(verdict: Result<(), Error>) -> bool {
-    match verdict {
-        Ok(()) | Err(Error::PasswordInvalid | Error::OutOfMemory) => false,
-        Err(_) => true,
-    }
-}
-
-// PHC texts that are refused before the key is derived.
-const PHC_TEXTS: [(&str, &str, Result<(), Error>); 6] = [
+// Texts that are refused before the key is derived, the error, and the reason for the row.
+const REFUSED: [(&str, Error, &str); 15] = [
+    ("$7", Error::EncodingInvalid, "no field"),
+    ("$7$", Error::EncodingInvalid, "one empty field"),
+    (
+        "$7$2/..../....salt",
+        Error::EncodingInvalid,
+        "no field for the key",
+    ),
+    (
+        "$7$2/..../....salt$z2",
+        Error::EncodingInvalid,
+        "spare bits of the key are set",
+    ),
+    (
+        "$7$2/..../....salt$z1$",
+        Error::EncodingInvalid,
+        "a field after the key",
+    ),
+    ("$7$2/..../....salt$", Error::OutputSize, "the key is empty"),
+    (
+        "$8$2/..../....salt$z1",
+        Error::Algorithm,
+        "another identifier",
+    ),
+    (
+        "$7$*/..../....salt$z1",
+        Error::ParamsInvalid,
+        "log_n is outside the alphabet",
+    ),
+    ("$7$t/..../....salt$z1", Error::ParamsInvalid, "log_n is 57"),
     (
         "$scrypt$ln=4$aA$AAAAAAAAAAAAA",
+        Error::EncodingInvalid,
         "a letter alone",
-        Err(Error::EncodingInvalid),
     ),
     (
         "$argon2id$ln=4$aA$AAAAAAAAAAAAAA",
+        Error::Algorithm,
         "another algorithm",
-        Err(Error::Algorithm),
     ),
     (
         "$scrypt$v=1$ln=4$aA$AAAAAAAAAAAAAA",
+        Error::Version,
         "a version",
-        Err(Error::Version),
     ),
     (
         "$scrypt$ln=57$aA$AAAAAAAAAAAAAA",
+        Error::ParamsInvalid,
         "log_n is 57",
-        Err(Error::ParamsInvalid),
     ),
     (
         "$scrypt$r=x$aA$AAAAAAAAAAAAAA",
+        Error::ParamInvalid { name: "r" },
         "r is no decimal",
-        Err(Error::ParamInvalid { name: "r" }),
     ),
     (
         "$scrypt$ln=4$aA",
+        Error::PasswordInvalid,
         "without a key no password is right",
-        Err(Error::PasswordInvalid),
     ),
 ];
 
 #[test]
 fn refusals_without_memory(rt: HostRuntime) -> Result<(), Fail> {
     let alloc = rt.alloc();
-    for (old, new, reason, answer) in CHANGES {
-        if is_refused_first(answer) {
-            let text = changed(alloc, LIBXCRYPT_HASH, old, new)?;
-            assert!(rt; needs_no_memory(alloc, text.as_str(), answer)?, "{reason}");
-        }
-    }
-    for (text, reason, answer) in SHORT_TEXTS {
-        if is_refused_first(answer) {
-            assert!(rt; needs_no_memory(alloc, text, answer)?, "{reason}");
-        }
-    }
-    for (text, reason, answer) in PHC_TEXTS {
-        assert!(rt; needs_no_memory(alloc, text, answer)?, "{reason}");
+    for (text, refusal, reason) in REFUSED {
+        let allocations = failing_allocations(alloc, &[], || {
+            if verdict(alloc, text) == Err(refusal) {
+                CallEnd::Done
+            } else {
+                CallEnd::Otherwise
+            }
+        })?;
+        assert_eq!(rt; allocations, 0, "{reason}");
     }
     Ok(())
 }

@@ -12,24 +12,12 @@ mod errors;
 #[cfg(test)]
 mod examples;
 #[cfg(test)]
-mod hostile;
+mod hashing;
 #[cfg(test)]
 mod in_buffers;
-#[cfg(test)]
-mod long_passwords;
 #[cfg(test)]
 mod mcf_costs;
 #[cfg(test)]
 mod mcf_fields;
 #[cfg(test)]
-mod mcf_hashes;
-#[cfg(test)]
-mod mcf_texts;
-#[cfg(test)]
-mod names;
-#[cfg(test)]
-mod phc_hashes;
-#[cfg(test)]
 mod phc_texts;
-#[cfg(test)]
-mod rehashing;

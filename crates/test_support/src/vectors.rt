@@ -76,36 +76,18 @@ pub const HMAC_BY_LONG_KEY: &str =
 pub const PASSLIB_HASH: &str =
     "$scrypt$ln=16,r=8,p=1$aM15713r3Xsvxbi31lqr1Q$nFNh2CVHVjNldFVKDHDlm4CbdRSCdEBsjjJxD+iCs5E";
 
-// The third key of RFC 7914 as a PHC hash.
-pub const RFC_KEY_3_HASH: &str =
-    "$scrypt$ln=14,r=8,p=1$U29kaXVtQ2hsb3JpZGU$cCO9yzr9c0hGHAbNgf046/2o+7qQT44+qbVD9lRdofI";
-
-// The same with the first 10 bytes of the key.
+// The first 10 bytes of the third key of RFC 7914 as a PHC hash.
 pub const RFC_KEY_3_SHORT_HASH: &str = "$scrypt$ln=14,r=8,p=1$U29kaXVtQ2hsb3JpZGU$cCO9yzr9c0hGHA";
-
-// By libxcrypt, of the password `pleaseletmein`.
-pub const LIBXCRYPT_HASH: &str =
-    "$7$CU..../....Mq4YHD2syxYT.MsH1Ek0n1$JyHIxez0DOwm0r6.kAIohc8UFBOLU4xX8a1wGBpLrw7";
-
-// The letters of its salt, and the bytes that they encode.
-pub const LIBXCRYPT_SALT_LETTERS: &str = "Mq4YHD2syxYT.MsH1Ek0n1";
-
-pub const LIBXCRYPT_SALT: &str = "986d90d343e07e4f7e00864f03040bf3";
-
-// By libxcrypt, of the password `pleaseletmein`; the salt is a text that other tools write.
-pub const PLAIN_SALT_HASH: &str =
-    "$7$C6..../....SodiumChloride$kBGj9fHznVYFQMEn/qDCfrDevf9YDtcDdKvEqHJLV8D";
 
 // Of the empty password and the empty salt; the key is the first half of RFC 7914's first.
 pub const EMPTY_PASSWORD_HASH: &str = "$7$2/..../....$rNxJWVHNv/mCNcgE/f6/L4zO6Fos5c2uTzhyzoisI62";
 
-// The same with the whole key, and with its first 10 bytes.
-pub const EMPTY_PASSWORD_HASH_64: &str = concat!(
-    "$7$2/..../....$",
-    "rNxJWVHNv/mCNcgE/f6/L4zO6Fos5c2uTzhyzoisI62zEPEbhb.Gs9XOpdn16zl3cDBsvvG1qUmnp6C1s2RW4.",
-);
+// 65 letters `a`, which HMAC hashes first, and their hashes for the salt `NaCl` at (4, 1, 1), by Python's hashlib.
+pub const LONG_PASSWORD: &[u8] =
+    b"aaaaaaaaaaaaaaaaaaaaaaaaaaaaaaaaaaaaaaaaaaaaaaaaaaaaaaaaaaaaaaaaa";
 
-pub const EMPTY_PASSWORD_HASH_10: &str = "$7$2/..../....$rNxJWVHNv/mCN.";
+pub const LONG_PASSWORD_PHC: &str =
+    "$scrypt$ln=4,r=1,p=1$TmFDbA$jTYewGtlfGnAaxJrTpXMgFsNDS/tJqVK4IjzJXWylrY";
 
-// libxcrypt's hash with the first 10 bytes of the key.
-pub const LIBXCRYPT_HASH_10: &str = "$7$CU..../....Mq4YHD2syxYT.MsH1Ek0n1$JyHIxez0DOwm01";
+pub const LONG_PASSWORD_MCF: &str =
+    "$7$2/..../....C3qEg/$0m.G2mErDdlOKfq2C6lbGm8QiT74Q6wUk6LvCfWFNW6";

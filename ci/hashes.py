@@ -1,0 +1,266 @@
+#!/usr/bin/env python3
+"""Verifies, makes and compares hashes by the built programs: those of other programs, and what is changed, cut or long.
+
+The answers come from elsewhere: the hashes are passlib's and libxcrypt's, and all other keys are those of Python's
+hashlib. scrypt_tool takes one hash a run; VERDICTS, the program of crates/verdicts, takes one a line, and gives the
+verdict on the empty password, also within limits.
+
+usage: hashes.py SCRYPT_TOOL VERDICTS
+"""
+
+import hashlib
+import os
+import subprocess
+import sys
+
+sys.path.insert(0, os.path.join(os.path.dirname(os.path.abspath(__file__)), "..", "compare"))
+
+import crypt64
+import unpadded
+
+PHC = "$scrypt$ln=16,r=8,p=1$aM15713r3Xsvxbi31lqr1Q$nFNh2CVHVjNldFVKDHDlm4CbdRSCdEBsjjJxD+iCs5E"
+PHC_KEY = "$nFNh2CVHVjNldFVKDHDlm4CbdRSCdEBsjjJxD+iCs5E"
+SHORT = "$scrypt$ln=14,r=8,p=1$U29kaXVtQ2hsb3JpZGU$cCO9yzr9c0hGHA"
+MCF = "$7$CU..../....Mq4YHD2syxYT.MsH1Ek0n1$JyHIxez0DOwm0r6.kAIohc8UFBOLU4xX8a1wGBpLrw7"
+MCF_KEY = "$JyHIxez0DOwm0r6.kAIohc8UFBOLU4xX8a1wGBpLrw7"
+EMPTY = "$7$2/..../....$rNxJWVHNv/mCNcgE/f6/L4zO6Fos5c2uTzhyzoisI62"
+KEY_AT = EMPTY.rindex("$") + 1
+
+# A hash, what is replaced in it by what, the verdict on its password, and the reason for the row.
+CHANGED = [
+    (PHC, ",r=8,p=1", "", "ok", "missing costs are the recommended ones"),
+    (PHC, "ln=16,r=8,p=1", "p=1,r=8,ln=16", "ok", "costs come in any order"),
+    (PHC, "s5E", "s5F", "EncodingInvalid", "spare bits of the key are set"),
+    (PHC, "$ln", "$v=1$ln", "Version", "no version is supported"),
+    (PHC, "ln=16", "ln=256", "ParamInvalid ln", "log_n is above 255"),
+    (PHC, "ln=16", "ln=016", "ParamInvalid ln", "log_n begins with 0"),
+    (PHC, "r=8", "r=4294967296", "ParamInvalid r", "r is 2^32"),
+    (PHC, "p=1", "p=1,x=1", "ParamsInvalid", "x is not a cost"),
+    (PHC, "ln=16", "ln=57", "ParamsInvalid", "N * r is 2^60"),
+    (PHC, "r=8", "r=0", "ParamsInvalid", "r is 0"),
+    (PHC, "$scrypt", "$argon2id", "Algorithm", "another algorithm"),
+    (PHC, PHC_KEY, "", "no", "no key"),
+    (PHC, "$aM15713r3Xsvxbi31lqr1Q" + PHC_KEY, "", "no", "neither salt nor key"),
+    (MCF, "Mq4", "Mq5", "no", "another salt"),
+    (MCF, "rw7", "rwD", "no", "another key"),
+    (MCF, "rw7", "rwE", "EncodingInvalid", "spare bits of the key are set"),
+    (MCF, MCF_KEY, "$", "OutputSize", "the key is empty"),
+    (MCF, "rw7", "rw7$", "EncodingInvalid", "a field after the key"),
+    (MCF, MCF_KEY, "", "EncodingInvalid", "no field for the key"),
+    (MCF, "$7$", "$8$", "EncodingInvalid", "another identifier is neither format"),
+    (MCF, "$CU", "$*U", "ParamsInvalid", "log_n is outside the alphabet"),
+    (MCF, "CU", "t/", "ParamsInvalid", "log_n is 57"),
+]
+PASSWORDS = {PHC: "password", SHORT: "pleaseletmein", MCF: "pleaseletmein"}
+
+# A text, the verdict on the empty password, and the reason for the row.
+SHORT_TEXTS = [
+    (EMPTY, "ok", "the usual key"),
+    (EMPTY + "z", "ok", "a key of 33 bytes"),
+    ("$7$2/..../....$s/", "no", "another key of one byte"),
+    ("$7", "EncodingInvalid", "no field"),
+    ("$7$", "EncodingInvalid", "one empty field"),
+    ("$7$$r/", "EncodingInvalid", "no costs"),
+    ("$7$é/..../....$r/", "EncodingInvalid", "log_n is not ASCII"),
+    ("$7$*/..../....$r/", "ParamsInvalid", "log_n is outside the alphabet"),
+    ("$7$*/...$r/", "EncodingInvalid", "r has four letters"),
+    ("$7$t/..../....$r/", "ParamsInvalid", "log_n is 57"),
+    ("$7$t/..../....$$", "ParamsInvalid", "the costs come before the key"),
+    ("$7$2/..../....$$", "EncodingInvalid", "the fields come before the key's length"),
+    ("$scrypt$ln=56,r=1,p=1$aA$AAAAAAAAAAAAAA", "out of memory", "the table would have 2^63 bytes"),
+]
+
+# Texts of no hash, and what is wrong.
+UNREAD = [
+    ("", "the empty text"),
+    ("$", "no algorithm"),
+    ("scrypt", "no dollar"),
+    ("$Scrypt", "a capital"),
+    ("$" + "a" * 33, "an algorithm of 33 letters"),
+    ("$scrypt$", "an empty part"),
+    ("$scrypt$$aA", "an empty part before a salt"),
+    ("$scrypt$v=", "an empty version"),
+    ("$scrypt$v=01", "a version with a leading zero"),
+    ("$scrypt$v=4294967296", "a version of 2^32"),
+    ("$scrypt$v=1$v=1", "two versions"),
+    ("$scrypt$ln=", "an empty value"),
+    ("$scrypt$=1", "an empty name"),
+    ("$scrypt$ln=1,", "an empty pair"),
+    ("$scrypt$ln=1,ln=2", "a name twice"),
+    ("$scrypt$ln=1,v=2", "a parameter with the name `v`"),
+    ("$scrypt$x=" + "0" * 126, "128 bytes of parameters"),
+    ("$scrypt$aM", "spare bits of the salt are set"),
+    ("$scrypt$aA==", "padding"),
+    ("$scrypt$" + "A" * 88, "a salt of 66 bytes"),
+    ("$scrypt$aA$AAAAAAAAAAAA", "a key of 9 bytes"),
+    ("$scrypt$aA$" + "A" * 87, "a key of 65 bytes"),
+    ("$scrypt$aA$cCO9yzr9c0hGHA==", "a key with padding"),
+    ("$scrypt$ln=1$v=1", "a version after the parameters"),
+    ("$scrypt$aA$ln=1", "parameters after the salt"),
+    ("$scrypt$aA$AAAAAAAAAAAAAA$", "an empty part at the end"),
+    ("$scrypt$aA$AAAAAAAAAAAAAA$aA", "one part too many"),
+]
+
+# A hash, log_n, r, p and the length that are wanted, whether it is weaker, and the reason for the row.
+REHASHES = [
+    (PHC, (17, 8, 1, 32), True, "log_n of 16 is below the recommended 17"),
+    (PHC, (16, 8, 1, 32), False, "as wanted"),
+    (PHC, (15, 8, 1, 32), False, "stronger"),
+    (PHC, (15, 16, 1, 32), True, "r is below, with an equal product"),
+    (PHC, (16, 8, 2, 32), True, "p is below"),
+    (PHC, (16, 8, 1, 33), True, "the key is shorter"),
+    (PHC, (16, 8, 1, 10), False, "the key is longer"),
+    (SHORT, (14, 8, 1, 32), True, "a key of 10 bytes is below 32"),
+    (MCF, (17, 8, 1, 32), True, "log_n of 14 is below"),
+    (MCF, (14, 8, 1, 32), False, "r of 32 is above"),
+]
+
+# Hashes that cost more than `Limits::USUAL` allow, and the reason for the row.
+COSTLY = [
+    ("$scrypt$ln=40,r=8,p=1$c2FsdHNhbHQ$AAAAAAAAAAAAAAAAAAAA", "a pebibyte"),
+    ("$scrypt$ln=13,r=1,p=8192$c2FsdHNhbHQ$AAAAAAAAAAAAAAAAAAAA", "16 seconds in 3 MiB"),
+    ("$scrypt$ln=14,r=1,p=16384$c2FsdHNhbHQ$AAAAAAAAAAAAAAAAAAAA", "a minute in 4 MiB"),
+    ("$scrypt$ln=20,r=1,p=1048576$c2FsdHNhbHQ$AAAAAAAAAAAAAAAAAAAA", "days in 256 MiB"),
+    ("$scrypt$ln=50,r=1,p=16777216$c2FsdHNhbHQ$AAAAAAAAAAAAAAAAAAAA", "chunks of 2 GiB"),
+    ("$7$c6..../....saltsalt$......................", "a `$7$` text of a pebibyte"),
+]
+
+# How long a password is, around the block of SHA-256 and far beyond it.
+LONG_PASSWORDS = [63, 64, 65, 200, 100_000]
+
+# How long a key is: a stored key is compared in pieces of 96 bytes.
+LONG_KEYS = [65, 95, 96, 97, 192, 200]
+
+# The lengths of the beginnings of EMPTY that are hashes of shorter keys.
+SHORTER_KEYS = [19, 23, 25, 27, 31, 34, 35, 39, 43, 46, 47, 51, 55]
+
+# The lengths of the beginnings of PHC that are PHC texts without a key, which no password is right for.
+WITHOUT_KEY = [7, 12, 13, 17, 21, 26, 30, 33, 34, 38, 42, 44]
+
+# Those of longer ones, whose key is the beginning of PHC's: the empty password is wrong.
+SHORTER_PHC_KEYS = [61, 65, 69, 73, 77, 81, 85]
+
+
+def answer(tool, words, password):
+    """What a run of the program prints: a line of its output, the reason of a refused hash, or another fault."""
+    ran = subprocess.run([tool, *words], input=password, capture_output=True)
+    return (ran.stdout + ran.stderr).decode().strip().removeprefix("hash refused: ")
+
+
+def verify_rows():
+    """Texts with a password, the verdict on it, and the reason."""
+    for base, old, new, verdict, reason in CHANGED:
+        assert base.count(old) == 1
+        yield base.replace(old, new), PASSWORDS[base].encode(), verdict, reason
+    for text, verdict, reason in SHORT_TEXTS:
+        yield text, b"", verdict, reason
+    for length in LONG_KEYS:
+        key = hashlib.scrypt(b"", salt=b"", n=16, r=1, p=1, dklen=length)
+        other = key[:-1] + bytes([key[-1] ^ 1])
+        yield "$7$2/..../....$" + crypt64.letters(key), b"", "ok", f"a key of {length} bytes"
+        yield "$7$2/..../....$" + crypt64.letters(other), b"", "no", f"its last byte of {length} is another"
+
+
+def verdicts(tool):
+    """Compares the verdicts on texts, and returns how many there are and how many differ."""
+    wrong = rows = 0
+    for text, password, verdict, reason in verify_rows():
+        got = answer(tool, ["verify", text], password)
+        rows += 1
+        if got != verdict:
+            print(f"{text} ({reason}): {got}, and not {verdict}")
+            wrong += 1
+    return rows, wrong
+
+
+def rehashes(tool):
+    """Compares which hashes are weaker than wanted; a new hash is verified."""
+    wrong = 0
+    for text, (log_n, r, p, length), weaker, reason in REHASHES:
+        password = PASSWORDS[text].encode()
+        got = answer(tool, ["rehash", "phc", *map(str, (log_n, r, p, length)), "73616c74", text], password)
+        new = got.startswith(f"$scrypt$ln={log_n},r={r},p={p}$c2FsdA$") and answer(tool, ["verify", got], password) == "ok"
+        if not (new if weaker else got == "ok"):
+            print(f"{text} ({reason}): {got}")
+            wrong += 1
+    return len(REHASHES), wrong
+
+
+def made_hashes(tool):
+    """Hashes long passwords in both formats, and compares the hashes with those of hashlib's keys."""
+    wrong = 0
+    for length in LONG_PASSWORDS:
+        password = b"a" * length
+        letters = crypt64.letters(b"NaCl")
+        phc_key = hashlib.scrypt(password, salt=b"NaCl", n=16, r=1, p=1, dklen=32)
+        mcf_key = hashlib.scrypt(password, salt=letters.encode(), n=16, r=1, p=1, dklen=32)
+        for name, text in [
+            ("phc", f"$scrypt$ln=4,r=1,p=1$TmFDbA${unpadded.letters(phc_key)}"),
+            ("mcf", f"$7$2/..../....{letters}${crypt64.letters(mcf_key)}"),
+        ]:
+            made = answer(tool, ["hash", name, "4", "1", "1", b"NaCl".hex()], password)
+            if made != text or answer(tool, ["verify", text], password) != "ok":
+                print(f"a password of {length} bytes: {made}, and not {text}")
+                wrong += 1
+    refused = answer(tool, ["hash", "phc", "4", "1", "1", "00" * 65], b"")
+    if refused != "SaltInvalid":
+        print(f"a salt of 65 bytes: {refused}")
+        wrong += 1
+    return 2 * len(LONG_PASSWORDS) + 1, wrong
+
+
+def beginnings():
+    """Every beginning of two hashes, with its verdict."""
+    for length in range(len(EMPTY) + 1):
+        is_key = length in SHORTER_KEYS or length == len(EMPTY)
+        refusal = "OutputSize" if length == KEY_AT else "EncodingInvalid"
+        yield EMPTY[:length], "Ok(())" if is_key else f"Err({refusal})"
+    for length in range(len(PHC)):
+        verdict = "EncodingInvalid"
+        if 2 <= length <= 6:
+            verdict = "Algorithm"
+        elif length in WITHOUT_KEY + SHORTER_PHC_KEYS:
+            verdict = "PasswordInvalid"
+        yield PHC[:length], f"Err({verdict})"
+
+
+def replaced():
+    """Each hash that has another ASCII character at one place of its key, with its verdict."""
+    for at in range(KEY_AT, len(EMPTY)):
+        for letter in map(chr, range(128)):
+            if letter not in ("\n", EMPTY[at]):
+                value = crypt64.number(letter)
+                is_key = value is not None and (at < len(EMPTY) - 1 or value < 16)
+                yield EMPTY[:at] + letter + EMPTY[at + 1 :], f"Err({'PasswordInvalid' if is_key else 'EncodingInvalid'})"
+
+
+def million():
+    """Texts of a million characters."""
+    yield EMPTY[:KEY_AT] + "." * 1_000_000, "Err(PasswordInvalid)"
+    yield "$7" + "$" * 1_000_000, "Err(EncodingInvalid)"
+
+
+def verdicts_by_line(rows, *words):
+    """Compares the verdicts on texts, one a line."""
+    text = "".join(row[0] + "\n" for row in rows)
+    ran = subprocess.run(words, input=text.encode(), capture_output=True, check=True)
+    got = ran.stdout.decode().splitlines()
+    wrong = [(*row, it) for row, it in zip(rows, got) if row[1] != it]
+    for text, wanted, it in wrong[:10]:
+        print(f"{text[:100]!r}: {it}, and not {wanted}")
+    return len(rows), len(wrong) + abs(len(rows) - len(got))
+
+
+def main():
+    tool, program = sys.argv[1:]
+    counts = [verdicts(tool), rehashes(tool), made_hashes(tool)]
+    counts.append(verdicts_by_line([*beginnings(), *replaced(), *million()], program))
+    counts.append(verdicts_by_line([(text, "Err(EncodingInvalid)") for text, _ in UNREAD], program))
+    counts.append(verdicts_by_line([(text, "Err(TooCostly)") for text, _ in COSTLY], program, "within"))
+    rows, wrong = map(sum, zip(*counts))
+    print(f"hashes: {rows - wrong} of {rows} texts are hashed, verified and compared as they should be")
+    sys.exit(1 if wrong else 0)
+
+
+if __name__ == "__main__":
+    main()

@@ -1,0 +1,142 @@
+// Each call of a hasher and a verifier once in each format, and the names that they refuse. The hashes of other
+// programs and the texts that are refused are in `ci/hashes.py`, which asks the built programs.
+
+use password_hash::phc::ParamsString;
+use password_hash::{
+    CustomizedPasswordHasher, Error, PasswordHasher, PasswordVerifier, RehashCheck, Version, mcf,
+    phc,
+};
+use scrypt::laws::{made_hashes_are_accepted, rehashing_converges};
+use scrypt::phc::ALG_ID;
+use scrypt::{Params, Scrypt};
+use std::test::Fail;
+use test_support::vectors::{LONG_PASSWORD, LONG_PASSWORD_MCF, LONG_PASSWORD_PHC, PASSLIB_HASH};
+
+#[test]
+fn phc_hashes(rt: HostRuntime) -> Result<(), Fail> {
+    let alloc = rt.alloc();
+    made_hashes_are_accepted();
+    rehashing_converges();
+    let params = Params::new(4, 1, 1)?;
+    let (usual, own) = (Scrypt::new(), Scrypt::new_with_params(params));
+    let wanted = phc::PasswordHash::new(LONG_PASSWORD_PHC)?;
+    let made: phc::PasswordHash = own.hash_password_with_salt(alloc, LONG_PASSWORD, b"NaCl")?;
+    assert_eq!(rt; made, wanted);
+    let made: phc::PasswordHash = usual.hash_password_with_params(
+        alloc,
+        LONG_PASSWORD,
+        b"NaCl",
+        params,
+    )?;
+    assert_eq!(rt; made.to_string(alloc)?.as_str(), LONG_PASSWORD_PHC);
+    let drawn: phc::PasswordHash = own.hash_password(alloc, LONG_PASSWORD, [0xff; 16])?;
+    assert_eq!(rt; own.verify_password(alloc, LONG_PASSWORD, &drawn), Ok(()));
+    assert_eq!(rt;
+        own.verify_password(alloc, b"a", &drawn),
+        Err(Error::PasswordInvalid)
+    );
+    assert_eq!(rt; own.needs_rehash(&wanted), Ok(false));
+    assert_eq!(rt; usual.needs_rehash(&wanted), Ok(true));
+    Ok(())
+}
+
+#[test]
+fn mcf_hashes(rt: HostRuntime) -> Result<(), Fail> {
+    let alloc = rt.alloc();
+    let params = Params::new(4, 1, 1)?;
+    let (usual, own) = (Scrypt::new(), Scrypt::new_with_params(params));
+    let made: mcf::PasswordHash = own.hash_password_with_salt(alloc, LONG_PASSWORD, b"NaCl")?;
+    assert_eq!(rt; made.as_str(), LONG_PASSWORD_MCF);
+    let made: mcf::PasswordHash = usual.hash_password_with_params(
+        alloc,
+        LONG_PASSWORD,
+        b"NaCl",
+        params,
+    )?;
+    assert_eq!(rt; made.as_str(), LONG_PASSWORD_MCF);
+    let drawn: mcf::PasswordHash = own.hash_password(alloc, LONG_PASSWORD, [0xff; 16])?;
+    assert!(rt;
+        drawn
+            .as_str()
+            .starts_with("$7$2/..../....zzzzzzzzzzzzzzzzzzzzz1$")
+    );
+    assert_eq!(rt; own.verify_password(alloc, LONG_PASSWORD, &drawn), Ok(()));
+    assert_eq!(rt; own.needs_rehash(&drawn), Ok(false));
+    let borrowed = mcf::PasswordHashRef::new(LONG_PASSWORD_MCF)?;
+    assert_eq!(rt;
+        own.verify_password(alloc, LONG_PASSWORD, &borrowed),
+        Ok(())
+    );
+    assert_eq!(rt;
+        own.verify_password(alloc, b"a", &borrowed),
+        Err(Error::PasswordInvalid)
+    );
+    assert_eq!(rt; usual.needs_rehash(&borrowed), Ok(true));
+    let other = mcf::PasswordHashRef::new("$8$a")?;
+    assert_eq!(rt; own.needs_rehash(&other), Err(Error::Algorithm));
+    Ok(())
+}
+
+const ALGORITHM: Option<Error> = Some(Error::Algorithm);
+
+const VERSION: Option<Error> = Some(Error::Version);
+
+type Row = (
+    Option<&'static str>,
+    Option<Version>,
+    Option<Error>,
+    Option<Error>,
+    &'static str,
+);
+
+// An identifier and a version, the error that a PHC hash of them gives and that of a `$7$` hash, if any, and
+// what the identifier or the version is. The costs are small and the salt is good, so nothing else is refused.
+const NAMES: [Row; 8] = [
+    (None, None, None, None, "the format's own"),
+    (Some("scrypt"), None, None, ALGORITHM, "that of PHC hashes"),
+    (Some("7"), None, ALGORITHM, None, "that of `$7$` hashes"),
+    (Some("scrypt.a"), None, ALGORITHM, ALGORITHM, "a longer one"),
+    (Some("7.a"), None, ALGORITHM, ALGORITHM, "a longer one"),
+    (Some("scrypt"), Some(1), VERSION, ALGORITHM, "no version 1"),
+    (Some("7"), Some(7), ALGORITHM, VERSION, "no version 7"),
+    (None, Some(0), VERSION, VERSION, "no version 0"),
+];
+
+#[test]
+fn names_of_the_algorithm(rt: HostRuntime) -> Result<(), Fail> {
+    let alloc = rt.alloc();
+    let params = Params::new(4, 1, 1)?;
+    let hasher = Scrypt::new();
+    for (id, version, phc_refusal, mcf_refusal, reason) in NAMES {
+        let made: Result<phc::PasswordHash, Error> = hasher.hash_password_customized(
+            alloc, b"", b"salt", id, version, params,
+        );
+        assert_eq!(rt; made.err(), phc_refusal, "PHC: {reason}");
+        let made: Result<mcf::PasswordHash, Error> = hasher.hash_password_customized(
+            alloc, b"", b"salt", id, version, params,
+        );
+        assert_eq!(rt; made.err(), mcf_refusal, "$7$: {reason}");
+    }
+    Ok(())
+}
+
+#[test]
+fn costs_of_hashes(rt: HostRuntime) -> Result<(), Fail> {
+    let hash = phc::PasswordHash::new(PASSLIB_HASH)?;
+    let none = ParamsString::new();
+    let (Ok(sized), Ok(bare), Ok(usual)) = (
+        Params::try_from(&hash),
+        Params::try_from(&hash.params),
+        Params::try_from(&none),
+    ) else {
+        return Err("no costs".into());
+    };
+    assert_eq!(rt; sized, Params::new_with_output_len(16, 8, 1, 32)?);
+    assert_ne!(rt; sized, bare);
+    assert_eq!(rt; bare, Params::new(16, 8, 1)?);
+    assert_eq!(rt; usual, Params::RECOMMENDED);
+    assert_eq!(rt; ParamsString::try_from(sized)?.as_str(), "ln=16,r=8,p=1");
+    assert_eq!(rt; ParamsString::try_from(&sized)?, hash.params);
+    assert_eq!(rt; hash.algorithm, ALG_ID);
+    Ok(())
+}
