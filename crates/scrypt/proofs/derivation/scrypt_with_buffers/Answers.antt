@@ -6,3 +6,6 @@ returns-clause-all c = counted_whole _ _ _ _ _ _ _ c.derive_in.ensures.all
 
 pub returns-clause-lanes : goal.returns-clause-lanes
 returns-clause-lanes c = counted_whole _ _ _ _ _ _ _ c.derive_in.ensures.lanes
+
+pub returns-clause-value : goal.returns-clause-value
+returns-clause-value c = c.derive_in.ensures.value
