@@ -66,6 +66,14 @@ ANSWERS = [
         "$7$2/..../....$rNxJWVHNv/mCNcgE/f6/L4zO6Fos5c2uTzhyzoisI62zEPEbhb.Gs9XOpdn16zl3cDBsvvG1qUmnp6C1s2RW4.",
         "a longer key",
     ),
+    ("hash mcf 4 1 1  10", "", 0, "$7$2/..../....$rNxJWVHNv/mCN.", "the shortest key"),
+    (
+        "hash mcf 14 32 1 986d90d343e07e4f7e00864f03040bf3 10",
+        "pleaseletmein",
+        0,
+        "$7$CU..../....Mq4YHD2syxYT.MsH1Ek0n1$JyHIxez0DOwm01",
+        "libxcrypt's hash with the shortest key",
+    ),
     (
         "hash mcf 14 32 1 986d90d343e07e4f7e00864f03040bf3",
         "pleaseletmein",

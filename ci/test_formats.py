@@ -21,7 +21,7 @@ GRAMMARS = [
     ('t = 1*DIGIT ; a comment "x"\n  SP', ["12 "], ["12"]),
 ]
 
-# what is no grammar, and the word that has to be in its refusal
+# what is not a grammar, and the word that has to be in its refusal
 BROKEN = [
     ("t = v", "no rule for"),
     ('t = "a"\nt = "b"', "second"),
@@ -78,7 +78,7 @@ TEXTS = [
     ("crypt-hash", "$7$CU..../....", False, "no key"),
     ("crypt-hash", "$7$CU..../...", False, "four letters of p"),
     ("crypt-hash", "$7$CU..../....a$z1$", False, "a third field"),
-    ("crypt-hash", "$7$*U..../....a$z1", False, "a first byte that is no letter"),
+    ("crypt-hash", "$7$*U..../....a$z1", False, "a first byte that is not a letter"),
     ("arguments", "key 4 1 1 64 ", True, "a key with an empty salt"),
     ("arguments", "hash phc 14 8 1 Aa 32", True, "a hash with a length"),
     ("arguments", "verify $7$a", True, "a hash to verify"),

@@ -263,7 +263,7 @@ const REFUSED: [(&str, Error, &str); 15] = [
     (
         "$scrypt$r=x$aA$AAAAAAAAAAAAAA",
         Error::ParamInvalid { name: "r" },
-        "r is no decimal",
+        "r is not a decimal",
     ),
     (
         "$scrypt$ln=4$aA",

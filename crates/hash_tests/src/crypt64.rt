@@ -51,7 +51,7 @@ const FIELDS: [(&str, bool, &str); 5] = [
     ("$7$z", false, "a letter alone"),
     ("$7$z2", false, "a bit above the byte"),
     ("$7$zzE", false, "a bit above the second byte"),
-    ("$7$zz=", false, "padding is no letter"),
+    ("$7$zz=", false, "padding is not a letter"),
 ];
 
 #[test]

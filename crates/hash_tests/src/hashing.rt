@@ -37,6 +37,8 @@ fn phc_hashes(rt: HostRuntime) -> Result<(), Fail> {
     );
     assert_eq!(rt; own.needs_rehash(&wanted), Ok(false));
     assert_eq!(rt; usual.needs_rehash(&wanted), Ok(true));
+    let without_key = phc::PasswordHash::new("$scrypt$ln=4$aA")?;
+    assert_eq!(rt; own.needs_rehash(&without_key), Err(Error::PasswordInvalid));
     Ok(())
 }
 
@@ -74,6 +76,8 @@ fn mcf_hashes(rt: HostRuntime) -> Result<(), Fail> {
     assert_eq!(rt; usual.needs_rehash(&borrowed), Ok(true));
     let other = mcf::PasswordHashRef::new("$8$a")?;
     assert_eq!(rt; own.needs_rehash(&other), Err(Error::Algorithm));
+    let empty_key = mcf::PasswordHashRef::new("$7$2/..../....$")?;
+    assert_eq!(rt; own.needs_rehash(&empty_key), Err(Error::OutputSize));
     Ok(())
 }
 

@@ -14,6 +14,8 @@ mod examples;
 #[cfg(test)]
 mod hashing;
 #[cfg(test)]
+mod hostile;
+#[cfg(test)]
 mod in_buffers;
 #[cfg(test)]
 mod mcf_costs;

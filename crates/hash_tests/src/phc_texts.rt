@@ -55,8 +55,8 @@ fn parts_of_a_text(rt: HostRuntime) -> Result<(), Fail> {
 const ADDED: [(&str, &str, &str, &str); 6] = [
     ("r=8", "ln", "r=8,ln=1", "another name"),
     ("ln=1", "ln", "ln=1", "the name is there"),
-    ("ln=1", "v", "ln=1", "`v` is no name"),
-    ("ln=1", "LN", "ln=1", "capitals are no name"),
+    ("ln=1", "v", "ln=1", "`v` is not a name"),
+    ("ln=1", "LN", "ln=1", "capitals are not a name"),
     (
         "x=0000000000000000000000000000000000000000000000000000000000000000000000000000000000000000000000000000000000000000000000000",
         "a",
