@@ -4,14 +4,13 @@
 #   make check  is for daily work: the checks of the documents, and what changed since the last check, proved and
 #               tested. The first one takes as long as a proof of everything
 #   make test   is the whole gate: the checks of the documents and of what must not compile, every proof from nothing,
-#               the edits of must-fail/, which are wrong bodies that the prover must refuse, every test and program,
-#               the built programs on command lines and hashes whose answers are known, and a short call of the library
-#               from C, Python and the drop-in names
+#               every test and program, the built programs on command lines and hashes whose answers are known, the
+#               edits of wrong-bodies/, which the prover must refuse, and a short call of the library from C, Python
+#               and the drop-in names
 # And besides the gate:
-#   make wrong-bodies tries the edits of wrong-bodies/, more that the prover must refuse
+#   make wrong-bodies tries the edits of wrong-bodies/ and of more-wrong-bodies/, in all crates or in CRATES="NAME .."
 #   make refused-by-tests tries those of refused-by-tests/, wrong bodies that no clause can refuse, and that the
 #               tests have to (minutes for each)
-#   make refusals lists the wrong bodies that are refused for no false goal (some 20 seconds for each)
 #   make oracle compares the program with independent implementations on random input, and with a
 #               reader in plain Python on hostile hashes, refuses each of its allocations, and tries
 #               docs/MIGRATION.md and docs/KEY_FILES.md; WORKER=PATH is a program that calls the Rust crate
@@ -37,7 +36,7 @@
 #               make login-test tests it and its faults, and make login-load prints its table of logins a second
 #   make clean  removes what was built
 
-.PHONY: help run check test documents wrong-bodies refused-by-tests refusals oracle lib install uninstall \
+.PHONY: help run check test documents wrong-bodies refused-by-tests oracle lib install uninstall \
   crypt callers bench thin parameters compare-worker clean kit
 
 help:
@@ -72,7 +71,8 @@ documents:
 	python3 ci/test_edits.py
 	python3 ci/test_gate.py
 	python3 ci/test_must_not_compile.py
-	python3 ci/test_refusals.py
+	python3 ci/test_functions.py
+	python3 ci/wrong_bodies.py fit
 	python3 ci/test_docs.py
 	python3 ci/docs.py
 	python3 ci/data_path.py
@@ -84,14 +84,11 @@ documents:
 	@if python3 -c "import sys; sys.path.append('/usr/lib/python3/dist-packages'); import jinja2, pygments" 2> /dev/null; \
 	then python3 doc/make.py; else echo "doc: SKIPPED: Debian's python3-jinja2 and python3-pygments aren't installed"; fi
 
-wrong-bodies: kit
-	python3 ci/wrong_bodies.py
+wrong-bodies: $(LIBRARIES)
+	python3 ci/wrong_bodies.py all $(CRATES)
 
 refused-by-tests: kit
 	python3 ci/refused_by_tests.py
-
-refusals: kit
-	python3 ci/refusals.py
 
 oracle: lib
 	cd crates/scrypt_tool && rt run -- key 0 1 1 1 "" > /dev/null < /dev/null

@@ -3,8 +3,8 @@
 An edit is a file with a line `file: PATH`, from the crate's folder, and then pairs of lines `old: TEXT` and `new: TEXT`.
 Each old text occurs once in that file. Four folders of a crate have edits:
 
-must-fail/          wrong bodies that the prover has to refuse; the gate tries them
-wrong-bodies/       more of these, which `make wrong-bodies` tries
+wrong-bodies/       wrong bodies of different functions that the prover has to refuse; the gate tries them
+more-wrong-bodies/  more of these, which `make wrong-bodies` tries
 refused-by-tests/   wrong bodies that meet every contract, and that a test has to refuse (`make refused-by-tests`)
 must-not-compile/   uses of something private and constants whose `prove!` is false, which the compiler has to refuse
                     before any proof; the gate tries them
@@ -15,6 +15,8 @@ import glob
 import os
 import shutil
 import tempfile
+
+FOLDERS = ["wrong-bodies", "more-wrong-bodies", "refused-by-tests", "must-not-compile"]
 
 
 class BadEdit(Exception):
@@ -50,20 +52,28 @@ def write(path, text):
         file.write(text)
 
 
-def texts_after(edit, crate):
-    """The texts that an edit gives to files of a crate, by their paths."""
-    after, path, old = {}, None, None
+def pairs(edit):
+    """What an edit replaces in which file by what."""
+    path, old = None, None
     for line in read(edit).splitlines():
         word, _, rest = line.partition(": ")
         if word == "file":
-            path = os.path.join(crate, rest)
+            path = rest
         elif word == "old":
             old = rest
         elif word == "new":
-            text = after.get(path) or read(path)
-            if text.count(old) != 1:
-                raise BadEdit(f"{edit}: the old text doesn't occur there once: {old}")
-            after[path] = text.replace(old, rest)
+            yield path, old, rest
+
+
+def texts_after(edit, crate):
+    """The texts that an edit gives to files of a crate, by their paths."""
+    after = {}
+    for name, old, new in pairs(edit):
+        path = os.path.join(crate, name)
+        text = after.get(path) or read(path)
+        if text.count(old) != 1:
+            raise BadEdit(f"{edit}: the old text doesn't occur there once: {old}")
+        after[path] = text.replace(old, new)
     return after
 
 

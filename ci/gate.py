@@ -1,10 +1,10 @@
 #!/usr/bin/env python3
-"""Runs `rt ci`, and then the program that it built and the library that it proved, for some seconds.
+"""Runs `rt ci`, and then what is built over the libraries that it proved.
 
-`rt ci` proves every crate from nothing, and leaves the libraries that it proved. The static library for C is built over
-these, so that only its own crate is checked once more: `rt lib` takes nothing from `rt ci`, and would prove the crates
-below it again. If the clone has libraries of an earlier `rt check` or `rt lib`, `rt ci` gives those back at its end, and
-`rt lib` goes on from them.
+`rt ci` proves every crate from nothing, and leaves the libraries that it proved. The wrong bodies are tried over these,
+and the static library for C is built over them, so that only its own crate is checked once more: `rt lib` takes nothing
+from `rt ci`, and would prove the crates below it again. If the clone has libraries of an earlier `rt check` or `rt lib`,
+`rt ci` gives those back at its end, and `rt lib` goes on from them.
 """
 
 import glob
@@ -13,8 +13,8 @@ import shutil
 import subprocess
 import sys
 
-# The crates below the static library, each after those that it uses.
-BELOW = ["password_hash", "scrypt_kernel", "scrypt"]
+import edits
+import words
 
 
 def left_by_ci(name):
@@ -30,29 +30,25 @@ def without_old_libraries():
             shutil.rmtree(folder)
 
 
-def build_words(kit):
-    """The command that builds the static library over those of `rt ci`, in the folder of its crate."""
-    words = [f"{kit}/bin/rattle", "build", "--crate-name", "scrypt_c", "src/lib.rt", "--crate-type", "staticlib"]
-    words += ["--extern", f"std={kit}/rlibs/std.rlib", "-L", f"dependency={kit}/rlibs"]
-    for name in BELOW:
-        words += ["-L", f"dependency=../{name}/out/rlib"]
-    for name in ["scrypt", "password_hash"]:
-        words += ["--extern", f"{name}=../{name}/out/rlib/{name}.rlib"]
-    words += ["--antt-project", f"{kit}/rattle/logic/antt-project.json", "--logic-built", f"{kit}/logic_built"]
-    return [*words, "--toolchain", f"{kit}/toolchain", "--backend", "llvm", "-o", "out/libscrypt_c.a"]
+def libraries():
+    """Brings libraries of an earlier `rt lib` up to date, and returns whether all are built."""
+    names = [it for name in edits.crates_with("wrong-bodies") for it in words.below(name)]
+    return all(left_by_ci(it) or call(["rt", "lib"], f"crates/{it}") for it in dict.fromkeys(names))
 
 
 def build():
     """Builds the static library for C, as `rt lib` does."""
     os.makedirs("crates/scrypt_c/out", exist_ok=True)
-    words = ["rt", "lib"]
-    if all(left_by_ci(it) for it in BELOW):
-        page = subprocess.run(["rt", "doc"], capture_output=True, text=True, check=True).stdout.strip()
-        words = build_words(os.path.dirname(page))
-    ran = subprocess.run(words, cwd="crates/scrypt_c", capture_output=True, text=True)
+    built = words.of("build", "scrypt_c") + ["--toolchain", f"{words.kit()}/toolchain", "--backend", "llvm"]
+    return call([*built, "-o", "out/libscrypt_c.a"], "crates/scrypt_c")
+
+
+def call(command, folder):
+    """Runs a command, whose output is printed only if it fails, and returns whether it succeeds."""
+    ran = subprocess.run(command, cwd=folder, capture_output=True, text=True)
     if ran.returncode:
         print(ran.stdout + ran.stderr)
-    return ran.returncode
+    return ran.returncode == 0
 
 
 def proved():
@@ -70,12 +66,14 @@ def main():
     without_old_libraries()
     count = proved()
     tool, verdicts = "crates/scrypt_tool/out/scrypt_tool", "crates/verdicts/out/verdicts"
-    for words in [["ci/program.py", tool], ["ci/hashes.py", tool, verdicts]]:
-        if subprocess.call([sys.executable, *words]):
+    for script in [["ci/program.py", tool], ["ci/hashes.py", tool, verdicts]]:
+        if subprocess.call([sys.executable, *script]):
             sys.exit("a program answered otherwise")
+    if not libraries() or subprocess.call([sys.executable, "ci/wrong_bodies.py"]):
+        sys.exit("a wrong body was not refused")
     if not shutil.which(os.environ.get("CC", "cc")):
         print("No C compiler is here (package gcc): the library was not called.")
-    elif build() or any(subprocess.call(it) for it in [["bindings/lib.sh", "built"], ["bindings/callers.sh", "short"]]):
+    elif not build() or any(subprocess.call(it) for it in [["bindings/lib.sh", "built"], ["bindings/callers.sh", "short"]]):
         sys.exit("the library could not be built or called")
     print(count, end="")
 

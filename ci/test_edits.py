@@ -34,8 +34,8 @@ def outcome(crate, edit):
 
 
 def failed_rows(room):
-    crate, edit = os.path.join(room, "crates", "x"), os.path.join(room, "crates", "x", "must-fail", "x.edit")
-    for folder in ("src", "must-fail"):
+    crate, edit = os.path.join(room, "crates", "x"), os.path.join(room, "crates", "x", "wrong-bodies", "x.edit")
+    for folder in ("src", "wrong-bodies"):
         os.makedirs(os.path.join(crate, folder))
     for name, text in (("a", SOURCE), ("b", OTHER)):
         edits.write(os.path.join(crate, "src", name), text)
@@ -52,10 +52,10 @@ def copy_differs(room):
     before = os.getcwd()
     os.chdir(room)
     try:
-        found = edits.crates_with("must-fail"), edits.edits_of("x", "must-fail", "wrong-bodies")
+        found = edits.crates_with("wrong-bodies"), edits.edits_of("x", "wrong-bodies", "more-wrong-bodies")
         with edits.copied("out") as copy:
             here = sorted(os.listdir(os.path.join(copy, "crates", "x")))
-            return found != (["x"], ["crates/x/must-fail/x.edit"]) or here != ["must-fail", "src"] or ".git" in os.listdir(copy)
+            return found != (["x"], ["crates/x/wrong-bodies/x.edit"]) or here != ["src", "wrong-bodies"] or ".git" in os.listdir(copy)
     finally:
         os.chdir(before)
 

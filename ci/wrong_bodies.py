@@ -1,30 +1,120 @@
 #!/usr/bin/env python3
-"""Tries the wrong bodies of crates/NAME/wrong-bodies/, which the prover has to refuse.
+"""Tries wrong bodies, which the prover has to refuse, many of them in one check.
 
-They have the form of the edits in must-fail/, the most telling ones, which the gate tries. On a copy
-of the repository they take the place of those, and `rt must-fail` tries them.
+A function is proved by its own body and the contracts of those that it calls, so the wrong body of one function says
+nothing of another's proof. The edits of a crate are tried in rounds, each of them one check of a copy with at most one
+edit of a function. Each function has to be refused with a goal of its own that isn't shown: that it calls a refused one
+is not enough, nor is a search that gave up, or a name that is gone. Whether the goal is false is for the author to see.
+An edit of a constant, or of a type, has a round of its own.
 
-usage: wrong_bodies.py [NAME..]    the crates, or all that have such a folder
+usage: wrong_bodies.py [NAME..]         the edits of crates/NAME/wrong-bodies/, one round for each crate
+       wrong_bodies.py all [NAME..]     those of more-wrong-bodies/ too, in as many rounds as it takes
+       wrong_bodies.py fit              tries nothing: says which edits of all folders can't be applied, or share a
+                                        function where there is one round
+The libraries below a crate have to be built.
 """
 
-import glob
+import concurrent.futures
 import os
 import shutil
 import subprocess
 import sys
+import tempfile
 
 import edits
+import functions
+import words
+
+FIRST, MORE = "wrong-bodies", "more-wrong-bodies"
+
+# One check takes up to 2 GB.
+AT_ONCE = min(4, os.cpu_count())
+
+
+def changed(edit, crate):
+    """The functions that an edit changes, or none if it changes what stands outside of them."""
+    found, types = set(), functions.homes(crate)
+    for path, old, _ in edits.pairs(edit):
+        text = edits.read(os.path.join(crate, path))
+        if text.count(old) != 1:
+            raise edits.BadEdit(f"{edit}: the old text doesn't occur there once: {old}")
+        at = text.index(old) + len(old) - len(old.lstrip())
+        found.add(functions.function_at(path, text, at, types))
+    return set() if None in found else found
+
+
+def rounds(name, *folders):
+    """The edits of a crate with what they change, so that those of a round change different functions."""
+    made, alone = [], []
+    for edit in edits.edits_of(name, *folders):
+        its = changed(edit, f"crates/{name}")
+        if not its:
+            alone.append({edit: its})
+            continue
+        free = (it for it in made if not any(its & other for other in it.values()))
+        tried = next(free, None)
+        if tried is None:
+            made.append(tried := {})
+        tried[edit] = its
+    return made + alone
+
+
+def check(name, tried):
+    """What a check of a crate prints that has these edits."""
+    with tempfile.TemporaryDirectory() as crate:
+        for part in ("src", "specs", "proofs"):
+            if os.path.isdir(f"crates/{name}/{part}"):
+                shutil.copytree(f"crates/{name}/{part}", f"{crate}/{part}")
+        for edit in tried:
+            for path, text in edits.texts_after(edit, crate).items():
+                edits.write(path, text)
+        only = [it for its in tried.values() for function in its for it in ("--only", function.path())]
+        ran = subprocess.run([*words.of("check", name), *only], cwd=crate, capture_output=True, text=True, errors="replace")
+    return ran.stdout + ran.stderr
+
+
+def verdicts(name, tried):
+    """Each edit of a round with its verdict."""
+    printed = check(name, tried)
+    if not functions.statuses(printed):
+        return {edit: "BAD EDIT: " + printed.strip()[:300] for edit in tried}
+    return {edit: functions.verdict(printed, its) for edit, its in tried.items()}
+
+
+def try_all(names, folders):
+    """Tries the edits of crates, prints each that isn't refused with a goal, and returns how many are and aren't."""
+    with concurrent.futures.ThreadPoolExecutor(AT_ONCE) as lanes:
+        running = [lanes.submit(verdicts, name, it) for name in names for it in rounds(name, *folders)]
+        said = [it for done in concurrent.futures.as_completed(running) for it in done.result().items()]
+    wrong = [it for it in said if it[1] != "refused"]
+    for edit, verdict in sorted(wrong):
+        print(f"{edit}: {verdict}")
+    print(f"wrong bodies: {len(said) - len(wrong)} of {len(said)} refused, each with a goal of its own that isn't shown")
+    return len(said) - len(wrong), len(wrong)
+
+
+def unfit():
+    """What is wrong with the edits, without trying them."""
+    for name in edits.crates_with(*edits.FOLDERS):
+        for edit in edits.edits_of(name, *edits.FOLDERS):
+            try:
+                edits.texts_after(edit, f"crates/{name}")
+            except edits.BadEdit as error:
+                yield str(error)
+    for name in edits.crates_with(FIRST):
+        if len(rounds(name, FIRST)) > 1:
+            yield f"crates/{name}/{FIRST}: two edits change one function, or one changes none: move it to {MORE}"
 
 
 def main():
-    names = sys.argv[1:] or edits.crates_with("wrong-bodies")
-    with edits.copied("out") as copy:
-        for folder in glob.glob(os.path.join(copy, "crates/*/must-fail")):
-            shutil.rmtree(folder)
-        for name in names:
-            crate = os.path.join(copy, "crates", name)
-            os.rename(os.path.join(crate, "wrong-bodies"), os.path.join(crate, "must-fail"))
-        sys.exit(subprocess.run(["rt", "must-fail", *names], cwd=copy).returncode)
+    names = sys.argv[1:]
+    if names == ["fit"]:
+        wrong = list(unfit())
+        print("\n".join([*wrong, f"wrong bodies: {len(wrong)} can't be tried"]))
+        sys.exit(1 if wrong else 0)
+    folders = [FIRST, MORE] if names[:1] == ["all"] else [FIRST]
+    names = names[len(folders) - 1 :] or edits.crates_with(*folders)
+    sys.exit(1 if try_all(names, folders)[1] else 0)
 
 
 if __name__ == "__main__":

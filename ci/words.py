@@ -1,0 +1,43 @@
+"""The words of a `rattle` command on one crate, over the libraries below it that are built."""
+
+import os
+import re
+import shutil
+
+import edits
+
+
+def kit():
+    """The folder of the kit, which has bin/rt."""
+    return os.path.dirname(os.path.dirname(os.path.realpath(shutil.which("rt"))))
+
+
+def crates():
+    """The crates, each with its kind if it is a static library, and the libraries that it uses."""
+    lines = re.findall(r"^(\w+)( staticlib)?: *(.*)$", edits.read("crates.txt"), re.M)
+    return {name: (kind.strip(), used.split()) for name, kind, used in lines}
+
+
+def below(name):
+    """The crates of this repository below a crate, each after those that it uses."""
+    found = []
+    for used in crates()[name][1]:
+        if used in crates():
+            found += [it for it in [*below(used), used] if it not in found]
+    return found
+
+
+def of(command, name):
+    """The words, for any folder that has the crate's src/, specs/ and proofs/."""
+    kind, used = crates()[name]
+    folder, libraries = kit(), os.path.join(os.getcwd(), "crates")
+    root = "src/main.rt" if os.path.isfile(f"crates/{name}/src/main.rt") else "src/lib.rt"
+    words = [f"{folder}/bin/rattle", command, "--crate-name", name, root]
+    words += ["--crate-type", kind] if kind else []
+    for it in ["std", *used]:
+        place = f"{libraries}/{it}/out/rlib" if it in crates() else f"{folder}/rlibs"
+        words += ["--extern", f"{it}={place}/{it}.rlib"]
+    for it in below(name):
+        words += ["-L", f"dependency={libraries}/{it}/out/rlib"]
+    words += ["-L", f"dependency={folder}/rlibs", "--antt-project", f"{folder}/rattle/logic/antt-project.json"]
+    return [*words, "--logic-built", f"{folder}/logic_built"]
