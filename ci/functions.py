@@ -132,13 +132,18 @@ def own_reasons(printed, path):
 
 
 def verdict(printed, changed):
-    """Why a check refuses one of these functions, or what is missing: a refusal, or a goal."""
+    """Whether a check refuses one of these functions, or the crate if there are none, or what is missing."""
+    if not changed:
+        refused = not re.search(r"^logic=proved", printed, re.M)
+        return word_for(refused, unshown_goals(printed))
     found = {path: said for path, said in statuses(printed).items() for it in changed if it.is_printed_as(path)}
     if not found:
         return "BAD EDIT: no such function was checked"
     refused = [path for path, said in found.items() if REFUSED.match(said)]
-    if not refused:
+    return word_for(refused, any(unshown_goals("\n".join(own_reasons(printed, path))) for path in refused))
+
+
+def word_for(is_refused, has_goal):
+    if not is_refused:
         return "NOT REFUSED"
-    if not any(unshown_goals("\n".join(own_reasons(printed, path))) for path in refused):
-        return "REFUSED, BUT NO GOAL IS NAMED"
-    return "refused"
+    return "refused" if has_goal else "REFUSED, BUT NO GOAL IS NAMED"

@@ -98,6 +98,16 @@ VERDICTS = [
     (FOUND + "fn x::walk::steps: not proved\n" + REFUSED, "REFUSED, BUT NO GOAL IS NAMED", "the clause of another one"),
 ]
 
+FACTS = "./proofs/StandardFacts.antt:3:9: error: `letters`: the two sides differ\n"
+
+# What a check prints, the verdict on an edit of a constant, and the reason for the row.
+CONSTANTS = [
+    (FACTS + "logic=not-proved\n", "refused", "a fact about it"),
+    (FOUND + "fn x::walk::step: not proved\nlogic=not-proved\n", "refused", "a function that uses it"),
+    (GAVE_UP + "logic=not-proved\n", "REFUSED, BUT NO GOAL IS NAMED", "a search that gave up"),
+    ("fn x::walk::step: proved\nlogic=proved functions=1\n", "NOT REFUSED", "all is proved"),
+]
+
 CLAUSE = "src/params.rt:40:5: error: it is not proved that `accepted` holds: log_n ≤ 56\n"
 
 # What a check prints, whether that names a goal, and the reason for the row.
@@ -137,11 +147,12 @@ def main():
     step = {functions.Function("walk", "", "step")}
     wrong = [reason for text, wanted, reason in PLACES if place(text) != wanted]
     wrong += [reason for printed, wanted, reason in VERDICTS if functions.verdict(printed, step) != wanted]
+    wrong += [reason for printed, wanted, reason in CONSTANTS if functions.verdict(printed, set()) != wanted]
     wrong += [reason for printed, wanted, reason in GOALS if bool(functions.unshown_goals(printed)) != wanted]
     wrong += [reason for path, wanted, reason in PATHS if COST.is_printed_as(path) != wanted]
     for reason in wrong:
         print(f"functions.py, {reason}: not as it should be")
-    rows = len(PLACES) + len(VERDICTS) + len(GOALS) + len(PATHS)
+    rows = sum(map(len, [PLACES, VERDICTS, CONSTANTS, GOALS, PATHS]))
     print(f"functions.py: {rows - len(wrong)} of {rows} cases as they should be")
     sys.exit(1 if wrong else 0)
 

@@ -82,15 +82,17 @@ def verdicts(name, tried):
 
 
 def try_all(names, folders):
-    """Tries the edits of crates, prints each that isn't refused with a goal, and returns how many are and aren't."""
+    """Tries the edits of crates, prints each that isn't refused with a goal, and returns how many these are."""
+    tried = wrong = 0
     with concurrent.futures.ThreadPoolExecutor(AT_ONCE) as lanes:
         running = [lanes.submit(verdicts, name, it) for name in names for it in rounds(name, *folders)]
-        said = [it for done in concurrent.futures.as_completed(running) for it in done.result().items()]
-    wrong = [it for it in said if it[1] != "refused"]
-    for edit, verdict in sorted(wrong):
-        print(f"{edit}: {verdict}")
-    print(f"wrong bodies: {len(said) - len(wrong)} of {len(said)} refused, each with a goal of its own that isn't shown")
-    return len(said) - len(wrong), len(wrong)
+        for done in concurrent.futures.as_completed(running):
+            said = done.result()
+            bad = {edit: verdict for edit, verdict in said.items() if verdict != "refused"}
+            print("".join(f"{edit}: {verdict}\n" for edit, verdict in bad.items()), end="", flush=True)
+            tried, wrong = tried + len(said), wrong + len(bad)
+    print(f"wrong bodies: {tried - wrong} of {tried} refused, each with a goal of its own that isn't shown")
+    return wrong
 
 
 def unfit():
@@ -114,7 +116,7 @@ def main():
         sys.exit(1 if wrong else 0)
     folders = [FIRST, MORE] if names[:1] == ["all"] else [FIRST]
     names = names[len(folders) - 1 :] or edits.crates_with(*folders)
-    sys.exit(1 if try_all(names, folders)[1] else 0)
+    sys.exit(1 if try_all(names, folders) else 0)
 
 
 if __name__ == "__main__":
