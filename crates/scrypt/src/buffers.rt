@@ -3,16 +3,15 @@
 ghost use Rattle.std.specs.Prelude.{◌≡◌, ◌↔◌, ◌≤◌, length, IfOk, IsTrue};
 ghost use Rattle.std.specs.Vec.{vec_capacity};
 ghost use Rattle.scrypt.specs.Cost.{chunks_bytes, scratch_words, table_words};
-ghost use Rattle.scrypt.specs.InBuffers.{AreEnough};
 
 use crate::{BufferLens, Params};
 use std::alloc::{AllocError, Global};
 
-/// Returns whether the buffers are long enough for these parameters.
-pub(crate) fn are_enough(params: &Params, chunks: &[u8], table: &[u32], scratch: &[u32]) -> bool
-    ensures exact { IsTrue result ↔ AreEnough params.now chunks.now table.now scratch.now }
+/// Returns whether the buffers are at least so long.
+pub(crate) fn are_enough(lens: &BufferLens, chunks: &[u8], table: &[u32], scratch: &[u32]) -> bool
+    ensures exact { IsTrue result ↔ (lens.now.chunks ≤ length chunks.now)
+        × (lens.now.table ≤ length table.now) × (lens.now.scratch ≤ length scratch.now) }
 {
-    let lens = BufferLens::of(params);
     lens.chunks <= chunks.len() && lens.table <= table.len() && lens.scratch <= scratch.len()
 }
 

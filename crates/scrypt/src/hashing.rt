@@ -1,15 +1,14 @@
 // Hashing, in every format, with any source of memory.
 
-ghost use Rattle.std.specs.Prelude.{◌≡◌, ◌↔◌, ◌+◌, ◌≤◌, None, length, IfErr, IsTrue, OnOk};
+ghost use Rattle.std.specs.Prelude.{◌≡◌, ◌↔◌, ◌+◌, ◌≤◌, None, length, replicate, IfErr, IsTrue, OnOk};
 ghost use Rattle.std.specs.Option.{option_map};
 ghost use Rattle.scrypt.specs.Accepted.{IsStoredLen};
 ghost use Rattle.scrypt.specs.Cost.{chunks_bytes, cost, scratch_words, table_words};
-ghost use Rattle.scrypt.specs.InBuffers.{IsWiped};
 ghost use Rattle.scrypt.specs.Hashing.{IsCallRefused, IsNamedOrNone, key_len_or_default};
 ghost use Rattle.scrypt.specs.KeyOfParams.{key_by};
 
 use crate::derivation::derive_in;
-use crate::{BufferLens, CoreCount, Params};
+use crate::{CoreCount, Params};
 use password_hash::phc::Output;
 use password_hash::{Error, Result, Version};
 use scrypt_kernel::memory::Memory;
@@ -53,8 +52,8 @@ pub(crate) fn key_len_or_default(params: &Params) -> usize
     }
 }
 
-/// Derives the key that hashing with these parameters stores, in any memory. Afterwards what was
-/// used of the chunks and the scratch is zeros. Does not allocate.
+/// Derives the key that hashing with these parameters stores, in any memory. Afterwards the chunks
+/// and the scratch are zeros. Does not allocate.
 pub(crate) fn stored_key<M: Memory>(
     password: &[u8],
     salt: &[u8],
@@ -64,21 +63,18 @@ pub(crate) fn stored_key<M: Memory>(
     scratch: &mut [u32],
     cores: &mut CoreCount,
 ) -> Output
-    requires chunks { chunks_bytes params.now.r params.now.p ≤ length chunks.old }
+    requires chunks { length chunks.old ≡ chunks_bytes params.now.r params.now.p }
     requires room { table_words params.now.log_n params.now.r ≤ M.room rows.old }
-    requires scratch { scratch_words params.now.r ≤ length scratch.old }
+    requires scratch { length scratch.old ≡ scratch_words params.now.r }
     ensures value { result ≡ key_by params.now password.now salt.now (key_len_or_default params.now) }
     ensures len { IsStoredLen (key_len_or_default params.now) }
     ensures all { cores.new.all ≡ cores.old.all
         + cost params.now.log_n params.now.r params.now.p }
     ensures lanes { cores.new.lanes ≡ cores.old.lanes
         + cost params.now.log_n params.now.r params.now.p }
-    ensures chunks { IsWiped (chunks_bytes params.now.r params.now.p) chunks.old chunks.new }
-    ensures scratch { IsWiped (scratch_words params.now.r) scratch.old scratch.new }
+    ensures chunks { chunks.new ≡ replicate (chunks_bytes params.now.r params.now.p) 0 }
+    ensures scratch { scratch.new ≡ replicate (scratch_words params.now.r) 0 }
 {
-    let lens = BufferLens::of(params);
-    let chunks = &mut chunks[..lens.chunks];
-    let scratch = &mut scratch[..lens.scratch];
     let mut places = [0u8; Output::MAX_LENGTH];
     let key = &mut places[..key_len_or_default(params)];
     derive_in::<M>(password, salt, params, 0, chunks, rows, scratch, key, cores);

@@ -1,9 +1,8 @@
 // Verifying, in every format, with any source of memory.
 
-ghost use Rattle.std.specs.Prelude.{◌≡◌, ◌↔◌, ℕ, ◌+◌, ◌*◌, ◌^◌, ◌≤◌, List, length, IsTrue};
+ghost use Rattle.std.specs.Prelude.{◌≡◌, ◌↔◌, ℕ, ◌+◌, ◌*◌, ◌^◌, ◌≤◌, List, length, replicate, IsTrue};
 ghost use Rattle.scrypt.specs.Accepted.{IsOutputLen};
 ghost use Rattle.scrypt.specs.Cost.{chunks_bytes, cost, scratch_words, table_words};
-ghost use Rattle.scrypt.specs.InBuffers.{IsWiped};
 ghost use Rattle.scrypt.specs.KeyOfParams.{key_by};
 ghost use Rattle.scrypt.specs.WorkInBuffers.{IsComparing, IsComparison};
 
@@ -16,7 +15,7 @@ use scrypt_kernel::memory::{Buffer, Memory};
 use std::alloc::Global;
 
 // Derives the key of the stored one's length, in any memory, and returns whether it is the stored
-// key. Afterwards what was used of the chunks and the scratch is zeros.
+// key. Afterwards the chunks and the scratch are zeros.
 fn is_key_of<M: Memory, K: StoredKey>(
     password: &[u8],
     salt: &[u8],
@@ -30,21 +29,18 @@ fn is_key_of<M: Memory, K: StoredKey>(
 ) -> bool
     requires len { IsOutputLen key_len }
     requires key { (bytes : List ℕ) × K.is_key key.now bytes × (length bytes ≡ key_len) }
-    requires chunks { chunks_bytes params.now.r params.now.p ≤ length chunks.old }
+    requires chunks { length chunks.old ≡ chunks_bytes params.now.r params.now.p }
     requires room { table_words params.now.log_n params.now.r ≤ M.room rows.old }
-    requires scratch { scratch_words params.now.r ≤ length scratch.old }
+    requires scratch { length scratch.old ≡ scratch_words params.now.r }
     ensures exact { (bytes : List ℕ) → K.is_key key.now bytes → length bytes ≡ key_len
         → IsTrue result ↔ (bytes ≡ key_by params.now password.now salt.now key_len) }
     ensures all { cores.new.all ≡ cores.old.all
         + cost params.now.log_n params.now.r params.now.p }
     ensures lanes { cores.new.lanes ≡ cores.old.lanes
         + cost params.now.log_n params.now.r params.now.p }
-    ensures chunks { IsWiped (chunks_bytes params.now.r params.now.p) chunks.old chunks.new }
-    ensures scratch { IsWiped (scratch_words params.now.r) scratch.old scratch.new }
+    ensures chunks { chunks.new ≡ replicate (chunks_bytes params.now.r params.now.p) 0 }
+    ensures scratch { scratch.new ≡ replicate (scratch_words params.now.r) 0 }
 {
-    let lens = BufferLens::of(params);
-    let chunks = &mut chunks[..lens.chunks];
-    let scratch = &mut scratch[..lens.scratch];
     mix_chunks::<M>(password, salt, params, 0, chunks, rows, scratch, cores);
     let same = is_derived_key(password, chunks, key, key_len);
     chunks.fill(0);
@@ -111,10 +107,13 @@ pub(crate) fn verify_in_buffers<K: StoredKey>(
         (record { chunks = chunks.old; table = table.old; scratch = scratch.old; all = cores.old.all; lanes = cores.old.lanes })
         (record { chunks = chunks.new; table = table.new; scratch = scratch.new; all = cores.new.all; lanes = cores.new.lanes }) }
 {
-    if !are_enough(params, chunks, table, scratch) {
+    let lens = BufferLens::of(params);
+    if !are_enough(&lens, chunks, table, scratch) {
         return Err(Error::OutOfMemory);
     }
+    let chunks = &mut chunks[..lens.chunks];
     let mut rows = Buffer::new(table);
+    let scratch = &mut scratch[..lens.scratch];
     let same = is_key_of::<Buffer<'_>, K>(
         password, salt, params, key, key_len, chunks, &mut rows, scratch, cores,
     );

@@ -1,6 +1,6 @@
 // Making `$7$` hashes.
 
-ghost use Rattle.std.specs.Prelude.{◌≡◌, ◌↔◌, ◌+◌, ◌<◌, ◌≤◌, ◌∷◌, ◌++◌, ℕ, List, None, All, length, drop, IsTrue, IfOk, IfErr};
+ghost use Rattle.std.specs.Prelude.{◌≡◌, ◌↔◌, ◌+◌, ◌<◌, ◌≤◌, ◌∷◌, ◌++◌, ℕ, List, None, All, length, drop, replicate, IsTrue, IfOk, IfErr};
 ghost use Rattle.std.specs.Option.{option_map};
 ghost use Rattle.std.specs.Str.{IsAscii};
 ghost use Rattle.password_hash.specs.Crypt64.{crypt64_of, encoded_len};
@@ -9,7 +9,6 @@ ghost use Rattle.password_hash.specs.Parts.{dollar};
 ghost use Rattle.password_hash.specs.declared.error.Error.TheVariants.{OutOfMemory};
 ghost use Rattle.scrypt.specs.Accepted.{AreAccepted};
 ghost use Rattle.scrypt.specs.Cost.{chunks_bytes, cost, scratch_words, table_words};
-ghost use Rattle.scrypt.specs.InBuffers.{IsWiped};
 ghost use Rattle.scrypt.specs.McfCosts.{costs_text};
 ghost use Rattle.scrypt.specs.Hashing.{key_len_or_default};
 ghost use Rattle.scrypt.specs.McfHash.{HashIsRefused, IsMadeHash, IsMcfOrNone, made_text_len};
@@ -129,17 +128,17 @@ fn write_text<M: Memory>(
     cores: &mut CoreCount,
 )
     requires text { length text.old ≡ made_text_len params.now (length salt.now) }
-    requires chunks { chunks_bytes params.now.r params.now.p ≤ length chunks.old }
+    requires chunks { length chunks.old ≡ chunks_bytes params.now.r params.now.p }
     requires room { table_words params.now.log_n params.now.r ≤ M.room rows.old }
-    requires scratch { scratch_words params.now.r ≤ length scratch.old }
+    requires scratch { length scratch.old ≡ scratch_words params.now.r }
     ensures made { IsMadeHash params.now password.now salt.now text.new }
     ensures ascii { IsAscii text.new }
     ensures all { cores.new.all ≡ cores.old.all
         + cost params.now.log_n params.now.r params.now.p }
     ensures lanes { cores.new.lanes ≡ cores.old.lanes
         + cost params.now.log_n params.now.r params.now.p }
-    ensures chunks { IsWiped (chunks_bytes params.now.r params.now.p) chunks.old chunks.new }
-    ensures scratch { IsWiped (scratch_words params.now.r) scratch.old scratch.new }
+    ensures chunks { chunks.new ≡ replicate (chunks_bytes params.now.r params.now.p) 0 }
+    ensures scratch { scratch.new ≡ replicate (scratch_words params.now.r) 0 }
 {
     let key_at = key_at(salt);
     write_costs_and_salt(text, params, salt);

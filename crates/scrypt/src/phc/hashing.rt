@@ -1,9 +1,8 @@
 // Making PHC hashes.
 
-ghost use Rattle.std.specs.Prelude.{◌≡◌, ◌↔◌, ◌+◌, ◌≤◌, length, true, None, Some, unwrap_or, IsTrue};
+ghost use Rattle.std.specs.Prelude.{◌≡◌, ◌↔◌, ◌+◌, ◌≤◌, length, replicate, true, None, Some, unwrap_or, IsTrue};
 ghost use Rattle.std.specs.Option.{option_map};
 ghost use Rattle.scrypt.specs.Cost.{chunks_bytes, cost, scratch_words, table_words};
-ghost use Rattle.scrypt.specs.InBuffers.{IsWiped};
 ghost use Rattle.scrypt.specs.PhcHash.{HashIsRefused, IsMadeHash, IsScryptOrNone};
 
 mod in_buffers;
@@ -86,16 +85,16 @@ fn hash_of<M: Memory>(
     scratch: &mut [u32],
     cores: &mut CoreCount,
 ) -> PasswordHash
-    requires chunks { chunks_bytes params.now.r params.now.p ≤ length chunks.old }
+    requires chunks { length chunks.old ≡ chunks_bytes params.now.r params.now.p }
     requires room { table_words params.now.log_n params.now.r ≤ M.room rows.old }
-    requires scratch { scratch_words params.now.r ≤ length scratch.old }
+    requires scratch { length scratch.old ≡ scratch_words params.now.r }
     ensures made { IsMadeHash params.now password.now salt result }
     ensures all { cores.new.all ≡ cores.old.all
         + cost params.now.log_n params.now.r params.now.p }
     ensures lanes { cores.new.lanes ≡ cores.old.lanes
         + cost params.now.log_n params.now.r params.now.p }
-    ensures chunks { IsWiped (chunks_bytes params.now.r params.now.p) chunks.old chunks.new }
-    ensures scratch { IsWiped (scratch_words params.now.r) scratch.old scratch.new }
+    ensures chunks { chunks.new ≡ replicate (chunks_bytes params.now.r params.now.p) 0 }
+    ensures scratch { scratch.new ≡ replicate (scratch_words params.now.r) 0 }
 {
     let letters = salt.as_bytes();
     let key = stored_key::<M>(password, letters, params, chunks, rows, scratch, cores);

@@ -9,7 +9,7 @@ ghost use Rattle.scrypt.specs.McfHash.{HashIsRefused, IsMadeHash, made_text_len}
 
 use super::{hash_len, write_text};
 use crate::buffers::are_enough;
-use crate::{CoreCount, Params};
+use crate::{BufferLens, CoreCount, Params};
 use password_hash::{Error, Result};
 use scrypt_kernel::memory::Buffer;
 
@@ -50,11 +50,14 @@ pub fn hash_with_buffers(
     ensures uncounted { OnErr result ((cores.new.all ≡ cores.old.all) × (cores.new.lanes ≡ cores.old.lanes)) }
 {
     let len = hash_len(params, salt);
-    if text.len() < len || !are_enough(params, chunks, table, scratch) {
+    let lens = BufferLens::of(params);
+    if text.len() < len || !are_enough(&lens, chunks, table, scratch) {
         return Err(Error::OutOfMemory);
     }
-    let mut rows = Buffer::new(table);
     let text = &mut text[..len];
+    let chunks = &mut chunks[..lens.chunks];
+    let mut rows = Buffer::new(table);
+    let scratch = &mut scratch[..lens.scratch];
     write_text::<Buffer<'_>>(
         password, salt, params, text, chunks, &mut rows, scratch, cores,
     );

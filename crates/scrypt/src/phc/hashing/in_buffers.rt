@@ -9,7 +9,7 @@ ghost use Rattle.scrypt.specs.PhcHash.{HashIsRefused, IsMadeHash, IsSaltLen};
 
 use super::hash_of;
 use crate::buffers::are_enough;
-use crate::{CoreCount, Params};
+use crate::{BufferLens, CoreCount, Params};
 use password_hash::phc::{PasswordHash, Salt};
 use password_hash::{Error, Result};
 use scrypt_kernel::memory::Buffer;
@@ -52,9 +52,12 @@ pub fn hash_with_buffers(
     let Ok(salt) = Salt::new(salt) else {
         return Err(Error::SaltInvalid);
     };
-    if !are_enough(params, chunks, table, scratch) {
+    let lens = BufferLens::of(params);
+    if !are_enough(&lens, chunks, table, scratch) {
         return Err(Error::OutOfMemory);
     }
+    let chunks = &mut chunks[..lens.chunks];
     let mut rows = Buffer::new(table);
+    let scratch = &mut scratch[..lens.scratch];
     Ok(hash_of::<Buffer<'_>>(password, salt, params, chunks, &mut rows, scratch, cores))
 }
