@@ -33,10 +33,13 @@ static int add(size_t *sum, size_t count, size_t width) {
   return 1;
 }
 
-/* The lengths of the buffers, if they and the cores are within the bounds of the memory. */
-static int measure(const scrypt_memory *memory, uint8_t log_n, uint32_t r, uint32_t p, struct buffers *buffers) {
-  int status = scrypt_buffer_lens(log_n, r, p, 0, &buffers->chunks_len, &buffers->table_len, &buffers->scratch_len);
-  if (status != SCRYPT_OK) return status;
+/* The lengths of the buffers for these parameters. */
+static int measure(uint8_t log_n, uint32_t r, uint32_t p, struct buffers *buffers) {
+  return scrypt_buffer_lens(log_n, r, p, 0, &buffers->chunks_len, &buffers->table_len, &buffers->scratch_len);
+}
+
+/* Whether buffers of these lengths, and the cores, are within the bounds of the memory. */
+static int check_bounds(const scrypt_memory *memory, uint8_t log_n, uint32_t r, uint32_t p, struct buffers *buffers) {
   buffers->bytes = 0;
   if (!add(&buffers->bytes, buffers->table_len, 4) || !add(&buffers->bytes, buffers->scratch_len, 4) ||
       !add(&buffers->bytes, buffers->chunks_len, 1))
@@ -84,9 +87,9 @@ static int map(scrypt_memory *memory, const struct buffers *buffers) {
   return SCRYPT_OK;
 }
 
-/* The buffers for these parameters. */
-static int take(scrypt_memory *memory, uint8_t log_n, uint32_t r, uint32_t p, struct buffers *buffers) {
-  int status = measure(memory, log_n, r, p, buffers);
+/* The buffers for these parameters, whose lengths are measured. */
+static int place(scrypt_memory *memory, uint8_t log_n, uint32_t r, uint32_t p, struct buffers *buffers) {
+  int status = check_bounds(memory, log_n, r, p, buffers);
   if (status == SCRYPT_OK && buffers->bytes > memory->room) status = map(memory, buffers);
   if (status != SCRYPT_OK) return status;
   if (buffers->bytes > memory->used) memory->used = buffers->bytes;
@@ -94,6 +97,12 @@ static int take(scrypt_memory *memory, uint8_t log_n, uint32_t r, uint32_t p, st
   buffers->scratch = buffers->table + buffers->table_len;
   buffers->chunks = (uint8_t *)(buffers->scratch + buffers->scratch_len);
   return SCRYPT_OK;
+}
+
+/* The buffers for these parameters. */
+static int take(scrypt_memory *memory, uint8_t log_n, uint32_t r, uint32_t p, struct buffers *buffers) {
+  int status = measure(log_n, r, p, buffers);
+  return status == SCRYPT_OK ? place(memory, log_n, r, p, buffers) : status;
 }
 
 scrypt_memory *scrypt_memory_new(size_t most_bytes, uint64_t most_cores) {
@@ -119,17 +128,25 @@ void scrypt_memory_free(scrypt_memory *memory) {
   free(memory);
 }
 
+/* Derives a key in buffers whose lengths are measured. */
+static int derive(scrypt_memory *memory, struct buffers *of, const uint8_t *password, size_t password_len,
+                  const uint8_t *salt, size_t salt_len, uint8_t log_n, uint32_t r, uint32_t p, uint8_t *output,
+                  size_t output_len) {
+  int status;
+  if (output_len == 0 || output_len > SCRYPT_MAX_OUTPUT_LEN) return SCRYPT_INVALID_OUTPUT_LEN;
+  status = place(memory, log_n, r, p, of);
+  if (status != SCRYPT_OK) return status;
+  return scrypt_kdf_with_buffers(scrypt_bytes(password), password_len, scrypt_bytes(salt), salt_len, log_n, r, p,
+                                 output, output_len, of->chunks, of->chunks_len, of->table, of->table_len, of->scratch,
+                                 of->scratch_len);
+}
+
 int scrypt_kdf_in(scrypt_memory *memory, const uint8_t *password, size_t password_len, const uint8_t *salt,
                   size_t salt_len, uint8_t log_n, uint32_t r, uint32_t p, uint8_t *output, size_t output_len) {
   struct buffers of;
-  int status = scrypt_buffer_lens(log_n, r, p, 0, &of.chunks_len, &of.table_len, &of.scratch_len);
+  int status = measure(log_n, r, p, &of);
   if (status != SCRYPT_OK) return status;
-  if (output_len == 0 || output_len > SCRYPT_MAX_OUTPUT_LEN) return SCRYPT_INVALID_OUTPUT_LEN;
-  status = take(memory, log_n, r, p, &of);
-  if (status != SCRYPT_OK) return status;
-  return scrypt_kdf_with_buffers(scrypt_bytes(password), password_len, scrypt_bytes(salt), salt_len, log_n, r, p,
-                                 output, output_len, of.chunks, of.chunks_len, of.table, of.table_len, of.scratch,
-                                 of.scratch_len);
+  return derive(memory, &of, password, password_len, salt, salt_len, log_n, r, p, output, output_len);
 }
 
 int scrypt_hash_phc_in(scrypt_memory *memory, const uint8_t *password, size_t password_len, const uint8_t *salt,
@@ -171,12 +188,13 @@ int scrypt_kdf_mapped(const uint8_t *password, size_t password_len, const uint8_
                       uint8_t log_n, uint32_t r, uint32_t p, uint8_t *output, size_t output_len) {
   scrypt_memory memory = {SIZE_MAX, UINT64_MAX, NULL, 0, NULL, 0, 0};
   struct buffers of;
-  int status = scrypt_buffer_lens(log_n, r, p, 0, &of.chunks_len, &of.table_len, &of.scratch_len);
+  int status = measure(log_n, r, p, &of);
+  if (status != SCRYPT_OK) return status;
   /* No huge page fits in such a table, and to map it again takes longer than malloc, which reuses memory. */
-  if (status == SCRYPT_OK && of.table_len < HUGE_PAGE / 4)
+  if (of.table_len < HUGE_PAGE / 4)
     return scrypt_kdf(scrypt_bytes(password), password_len, scrypt_bytes(salt), salt_len, log_n, r, p, output,
                       output_len);
-  status = scrypt_kdf_in(&memory, password, password_len, salt, salt_len, log_n, r, p, output, output_len);
+  status = derive(&memory, &of, password, password_len, salt, salt_len, log_n, r, p, output, output_len);
   unmap(&memory); /* the system writes zeros to what it gives to others */
   return status == SCRYPT_TOO_COSTLY ? SCRYPT_OUT_OF_MEMORY : status;
 }
