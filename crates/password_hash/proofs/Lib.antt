@@ -6,7 +6,7 @@ pub mod IdentifierFacts
 pub mod PairsFacts
 -- One more pair at the end, and the pairs of a text in turn.
 pub mod ParamsFacts
--- Base64 of at most 64 bytes, and its letters.
+-- Base64 of bytes, and the bytes that letters decode to.
 pub mod Base64Facts
 -- Decimal digits.
 pub mod DecimalFacts

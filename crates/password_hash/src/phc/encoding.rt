@@ -14,12 +14,13 @@ pub(super) fn decode<const LEAST: usize>(letters: &str) -> Option<ShortBytes<LEA
     ensures only { (bytes : List ℕ) →
         AreBytesFromTo LEAST 64 bytes → letters.now ≡ base64 bytes → result ≡ Some bytes }
 {
-    let mut places = [0; 64];
-    let Ok(len) = STANDARD_NO_PAD.decode_slice(letters.as_bytes(), &mut places) else {
-        return None;
-    };
-    if len < LEAST {
+    // The encoding of 64 bytes has 86 letters, which decode within 66 places.
+    if letters.len() > 86 {
         return None;
     }
-    Some(ShortBytes { places, len })
+    let mut places = [0; 66];
+    let Ok(len) = STANDARD_NO_PAD.decode_slice_unchecked(letters.as_bytes(), &mut places) else {
+        return None;
+    };
+    ShortBytes::new(&places[..len])
 }

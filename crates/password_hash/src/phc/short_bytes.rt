@@ -2,6 +2,7 @@
 ghost use Rattle.std.specs.Prelude.{◌≡◌, ◌↔◌, ◌≤◌, true, length, nat_eq, IsSome, IfSome};
 ghost use Rattle.std.specs.Cmp.{partial_equiv_from_equiv};
 ghost use Rattle.std.specs.Cmp.Lexicographic.{pointwise, nat_list_eq_equiv};
+ghost use Rattle.password_hash.specs.Stored.{AreBytesFromTo};
 
 use std::marker::Model;
 
@@ -36,6 +37,7 @@ impl<const LEAST: usize, const MOST: usize> ShortBytes<LEAST, MOST> {
     pub(crate) fn new(bytes: &[u8]) -> Option<ShortBytes<LEAST, MOST>>
         ensures exact { IsSome result ↔ ((LEAST ≤ length bytes.now) × (length bytes.now ≤ MOST)) }
         ensures value { IfSome result (λ made. made ≡ bytes.now) }
+        ensures bytes { IfSome result (AreBytesFromTo LEAST MOST) }
     {
         let len = bytes.len();
         if len < LEAST || len > MOST {
