@@ -1,4 +1,4 @@
-//! The text of a password hash, without allocating.
+//! The text of a password hash, printed without allocating.
 ghost use Rattle.std.specs.Prelude.{◌≡◌, ◌+◌, ◌≤◌, ◌∷◌, ◌++◌, Some, length};
 ghost use Rattle.arrayvec.specs.ArrayString.{array_string_len};
 ghost use Rattle.password_hash.specs.Parts.{dollar, parts_text};
@@ -9,7 +9,7 @@ use crate::phc::{Output, ParamsString, PasswordHash, Salt};
 use arrayvec::ArrayString;
 use base64::engine::general_purpose::STANDARD_NO_PAD;
 use itoa::Buffer;
-use std::str;
+use std::{fmt, str};
 
 /// The capacity of a text: every hash fits. The algorithm has at most 33 bytes with its `$`, the
 /// version 43, the parameters 128, and the salt and the key 87 each.
@@ -28,6 +28,17 @@ impl PasswordHash {
             push_salt_and_key(&mut text, salt, &self.hash);
         }
         text
+    }
+}
+
+impl fmt::Display for PasswordHash {
+    ghost use Rattle.std.specs.Prelude.{Some};
+    ghost use Rattle.password_hash.specs.Phc.{hash_text};
+
+    ghost output = { λ hash. Some (hash_text hash) };
+
+    fn fmt<W: fmt::Write>(&self, f: &mut fmt::Formatter<W>) -> fmt::Result {
+        f.write_str(self.to_array_string().as_str())
     }
 }
 
