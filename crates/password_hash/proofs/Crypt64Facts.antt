@@ -1,10 +1,9 @@
 -- What follows from the definitions of crypt Base64.
-use Rattle.std.proofs.Common.{◌≡◌, ◌≢◌, ◌∙◌, sym, ap, subst, refl, arith, ℕ, zero, suc, ◌+◌, ◌-◌, ◌*◌, ◌/◌, ◌%◌, ◌^◌, ◌<◌, ◌≤◌, Option, Some, None, List, [], ◌∷◌, ◌++◌, length, take, drop, set, get_or, append_assoc, add-one, length-drop}
+use Rattle.std.proofs.Common.{◌≡◌, ◌≢◌, ◌∙◌, sym, ap, subst, refl, arith, ℕ, zero, suc, ◌+◌, ◌-◌, ◌*◌, ◌/◌, ◌%◌, ◌^◌, ◌<◌, ◌≤◌, Option, Some, None, List, [], ◌∷◌, ◌++◌, length, drop, set, get_or, append_assoc, add-one, length-drop}
 use Rattle.std.proofs.Math.Nat.{pow-suc, pow-le-pow_right}
 use Rattle.std.specs.List.{All}
 use Rattle.std.proofs.lemmas.Nat.{div_below}
-use Rattle.std.proofs.Math.Seq.{take-length, drop-cons}
-use Rattle.std.proofs.lemmas.List.{append-nil}
+use Rattle.std.proofs.Math.Seq.{drop-cons}
 use Rattle.std.proofs.lemmas.List.Elements.{All-nil, All-cons, All-head, All-tail, All-append}
 use Rattle.password_hash.specs.Crypt64.{letter, letter_value, letters_of, with_digit, number_of, crypt64_of}
 use Rattle.password_hash.proofs.AlphabetFacts.{letter_value-letter, letter-of_value, letter-ascii}
@@ -56,38 +55,6 @@ letters_of-number_of (first ∷ letters) number h =
     let quotient : number / 64 ≡ high = omega arith in
     let fits : high < 64 ^ length letters = rest.1 in
     (rw (remainder, quotient, digit.1, rest.0) refl, rw (pow-suc 64 (length letters)) (omega arith))
-
--- the four cases, by the bytes' places
-
-pub crypt64_of-one : (bytes : List ℕ) (number : ℕ) → 1 ≤ length bytes → length bytes < 2 → number ≡ get_or bytes 0 0
-    → crypt64_of bytes ≡ letters_of 2 number ++ crypt64_of []
-unfolding crypt64_of
-crypt64_of-one [] number some most is = absurd (omega arith)
-crypt64_of-one (a ∷ []) number some most is = ap (letters_of 2) (sym is) ∙ sym (append-nil (letters_of 2 number))
-crypt64_of-one (a ∷ b ∷ bytes) number some most is = absurd (omega arith)
-
-pub crypt64_of-two : (bytes : List ℕ) (number : ℕ) → 2 ≤ length bytes → length bytes < 3
-    → number ≡ get_or bytes 0 0 + get_or bytes 1 0 * 256 + 0 + 0
-    → crypt64_of bytes ≡ letters_of 3 number ++ crypt64_of []
-unfolding crypt64_of
-crypt64_of-two [] number some most is = absurd (omega arith)
-crypt64_of-two (a ∷ []) number some most is = absurd (omega arith)
-crypt64_of-two (a ∷ b ∷ []) number some most is =
-    let same : a + 256 * b ≡ number = omega arith in
-    ap (letters_of 3) same ∙ sym (append-nil (letters_of 3 number))
-crypt64_of-two (a ∷ b ∷ c ∷ bytes) number some most is = absurd (omega arith)
-
-pub crypt64_of-three : (bytes : List ℕ) (number : ℕ) → 3 ≤ length bytes
-    → number ≡ get_or bytes 0 0 + get_or bytes 1 0 * 256 + get_or bytes 2 0 * 65536 + 0
-    → crypt64_of bytes ≡ letters_of 4 number ++ crypt64_of (take (length bytes - 3) (drop 3 bytes))
-unfolding crypt64_of
-crypt64_of-three [] number some is = absurd (omega arith)
-crypt64_of-three (a ∷ []) number some is = absurd (omega arith)
-crypt64_of-three (a ∷ b ∷ []) number some is = absurd (omega arith)
-crypt64_of-three (a ∷ b ∷ c ∷ bytes) number some is =
-    let same : a + 256 * b + 65536 * c ≡ number = omega arith in
-    let count : length (a ∷ b ∷ c ∷ bytes) - 3 ≡ length bytes = omega arith in
-    rw (same, count, take-length bytes) refl
 
 -- the first letter of a number, and those after it
 pub letters_of-first : (count number : ℕ) (rest : List ℕ) → 0 < count

@@ -1,11 +1,11 @@
 -- Bytes and letters by groups: how many there are, and what a group says.
-use Rattle.std.proofs.Common.{◌≡◌, ◌≢◌, ◌⊎◌, inl, inr, ◌∙◌, sym, ap, subst, refl, arith, ℕ, zero, suc, ◌+◌, ◌-◌, ◌*◌, ◌/◌, ◌%◌, ◌^◌, ◌<◌, ◌≤◌, Some, None, List, [], ◌∷◌, ◌++◌, length, take, drop, append_assoc, length-append}
+use Rattle.std.proofs.Common.{◌≡◌, ◌≢◌, inl, inr, ◌∙◌, sym, ap, refl, arith, ℕ, zero, suc, ◌+◌, ◌*◌, ◌/◌, ◌^◌, ◌<◌, ◌≤◌, min, Some, List, [], ◌∷◌, ◌++◌, length, take, drop, replicate, append_assoc, add-one, length-append, length-drop}
 use Rattle.std.proofs.Math.Nat.{pow-suc}
-use Rattle.std.specs.Int.{to_le_bytes, w32}
+use Rattle.std.specs.Int.{to_le_bytes, from_le_bytes, w32}
 use Rattle.std.proofs.lemmas.Bool.{cases_lt}
 use Rattle.std.proofs.Math.Seq.{take-append_seam, drop-append_seam}
-use Rattle.std.proofs.lemmas.List.{nil_from_length, append-nil, take_at, drop_at}
-use Rattle.std.proofs.lemmas.List.Elements.{All-nil, All-cons, All-head, All-tail, All-append, All-take, All-drop}
+use Rattle.std.proofs.lemmas.List.{nil_from_length, append-nil, take_at, drop_at, take_all, drop_all, take_min, drop_min, take-append-drop, length-take, length-take-le}
+use Rattle.std.proofs.lemmas.List.Elements.{All-nil, All-head, All-tail, All-append, All-take, All-drop, All-from_recursion}
 use Rattle.password_hash.specs.Crypt64.{letters_of, number_of, crypt64_of, Crypt64, IsCrypt64, encoded_len, Begins}
 use Rattle.password_hash.proofs.Crypt64Facts.{AreBytes, length-letters_of, number_of-letters_of, letters_of-number_of}
 
@@ -24,6 +24,14 @@ no_letters bytes none =
     let counted : encoded_len (length bytes) ≡ 0 = sym (length-crypt64_of bytes) ∙ ap length none in
     nil_from_length bytes (omega arith)
 
+pub no_crypt64 : crypt64_of [] ≡ []
+unfolding crypt64_of
+no_crypt64 = refl
+
+-- no bytes have no letters
+pub no_bytes : (bytes letters : List ℕ) → Crypt64 bytes letters → bytes ≡ [] → letters ≡ []
+no_bytes bytes letters is none = is.encoding ∙ ap crypt64_of none ∙ no_crypt64
+
 -- two texts cut at the same place are equal where both parts are
 pub append_parts : (xs ys us vs : List ℕ) → length xs ≡ length us → xs ++ ys ≡ us ++ vs → (xs ≡ us) × (ys ≡ vs)
 append_parts xs ys us vs same is = (
@@ -31,267 +39,194 @@ append_parts xs ys us vs same is = (
   sym (drop-append_seam xs ys) ∙ ap (drop (length xs)) is ∙ drop_at us vs (length xs) (sym same),
 )
 
--- what up to three bytes say as one number, the first the lowest
+-- a text cut after n bytes, or at its end
+pub cut_at : (n at : ℕ) (xs : List ℕ) → at ≡ min (length xs) n → (take at xs ≡ take n xs) × (drop at xs ≡ drop n xs)
+cut_at n at xs is = let turned : at ≡ min n (length xs) = omega arith in rw turned (take_min n xs, drop_min n xs)
+
+-- what bytes say as one number, the first the lowest
 abbrev pub le_number : List ℕ → ℕ
 le_number [] = 0
 le_number (byte ∷ bytes) = byte + 256 * le_number bytes
 
--- the first three bytes, or the last one or two
-pub record FirstBytes (front tail : List ℕ) : Type 0 where
-  pub some : 0 < length front
-  pub most : length front ≤ 3
-  pub last : length front < 3 → tail ≡ []
-
-pub first_bytes : (byte : ℕ) (bytes : List ℕ) → (front tail : List ℕ) × ((byte ∷ bytes) ≡ front ++ tail) × FirstBytes front tail
-first_bytes a [] = (a ∷ [], [], refl, record { some = omega arith; most = omega arith; last = λ _. refl })
-first_bytes a (b ∷ []) = (a ∷ b ∷ [], [], refl, record { some = omega arith; most = omega arith; last = λ _. refl })
-first_bytes a (b ∷ c ∷ tail) = (a ∷ b ∷ c ∷ [], tail, refl, record { some = omega arith; most = omega arith; last = λ h. absurd (omega arith) })
-
--- their letters are those of their number, one more than they are
-pub crypt64_of-first : (front tail : List ℕ) → FirstBytes front tail
-    → crypt64_of (front ++ tail) ≡ letters_of (suc (length front)) (le_number front) ++ crypt64_of tail
-unfolding crypt64_of
-crypt64_of-first [] tail first = absurd (omega (arith, first.some))
-crypt64_of-first (a ∷ []) [] first =
-    let whole : a + 256 * 0 ≡ a = omega arith in
-    rw whole (sym (append-nil (letters_of 2 a)))
-crypt64_of-first (a ∷ []) (t ∷ tail) first = absurd (omega (arith, ap length (first.last (omega arith))))
-crypt64_of-first (a ∷ b ∷ []) [] first =
-    let whole : a + 256 * (b + 256 * 0) ≡ a + 256 * b = omega arith in
-    rw whole (sym (append-nil (letters_of 3 (a + 256 * b))))
-crypt64_of-first (a ∷ b ∷ []) (t ∷ tail) first = absurd (omega (arith, ap length (first.last (omega arith))))
-crypt64_of-first (a ∷ b ∷ c ∷ []) tail first =
-    let whole : a + 256 * (b + 256 * (c + 256 * 0)) ≡ a + 256 * b + 65536 * c = omega arith in
-    rw whole refl
-crypt64_of-first (a ∷ b ∷ c ∷ d ∷ front) tail first = absurd (omega (arith, first.most))
-
--- a number of so many bytes
-pub le_number-below : (bytes : List ℕ) → AreBytes bytes → le_number bytes < 256 ^ length bytes
+le_number-below : (bytes : List ℕ) → AreBytes bytes → le_number bytes < 256 ^ length bytes
 le_number-below [] bytes = omega arith
 le_number-below (byte ∷ rest) bytes =
     let head : byte < 256 = All-head (λ b. b < 256) byte rest bytes in
     let tail = le_number-below rest (All-tail (λ b. b < 256) byte rest bytes) in
     rw (pow-suc 256 (length rest)) (omega (arith, tail))
 
--- up to three bytes of a number say it, and are those of what they say
+-- as many bytes are told by their number
+le_number-one : (xs ys : List ℕ) → length xs ≡ length ys → AreBytes xs → AreBytes ys → le_number xs ≡ le_number ys → xs ≡ ys
+le_number-one [] ys count x-bytes y-bytes same = sym (nil_from_length ys (sym count))
+le_number-one (x ∷ xs) [] count x-bytes y-bytes same = absurd (omega arith)
+le_number-one (x ∷ xs) (y ∷ ys) count x-bytes y-bytes same =
+    let x-fits : x < 256 = All-head (λ b. b < 256) x xs x-bytes in
+    let y-fits : y < 256 = All-head (λ b. b < 256) y ys y-bytes in
+    let first : x ≡ y = omega arith in
+    let rest = le_number-one xs ys (omega arith) (All-tail (λ b. b < 256) x xs x-bytes) (All-tail (λ b. b < 256) y ys y-bytes) (omega arith) in
+    rw (first, rest) refl
 
-none_wrong : AreBytes []
-none_wrong = All-nil (λ b. b < 256)
+-- up to three bytes, with zeros after them, as the number that is read of all four
+pub le_number-from_le_bytes : (bytes : List ℕ) → length bytes ≤ 3 → from_le_bytes w32 (bytes ++ drop (length bytes) (replicate 4 0)) ≡ le_number bytes
+le_number-from_le_bytes [] most = refl
+le_number-from_le_bytes (a ∷ []) most = omega arith
+le_number-from_le_bytes (a ∷ b ∷ []) most = omega arith
+le_number-from_le_bytes (a ∷ b ∷ c ∷ []) most = omega arith
+le_number-from_le_bytes (a ∷ b ∷ c ∷ d ∷ bytes) most = absurd (omega arith)
 
-are_bytes-cons : (byte : ℕ) (bytes : List ℕ) → byte < 256 → AreBytes bytes → AreBytes (byte ∷ bytes)
-are_bytes-cons byte bytes = All-cons (λ b. b < 256) byte bytes
+-- the letters of the first three bytes, or of the last one or two
+abbrev pub first_letters : List ℕ → List ℕ
+first_letters bytes = letters_of (suc (length (take 3 bytes))) (le_number (take 3 bytes))
 
-pub le_number-to_le_bytes : (len number : ℕ) → 0 < len → len ≤ 3 → number < 256 ^ len
-    → (length (take len (to_le_bytes w32 number)) ≡ len) × (le_number (take len (to_le_bytes w32 number)) ≡ number) × AreBytes (take len (to_le_bytes w32 number))
-le_number-to_le_bytes zero number some most below = absurd (omega arith)
-le_number-to_le_bytes (suc zero) number some most below =
-    (refl, omega arith, are_bytes-cons (number % 256) [] (omega arith) none_wrong)
-le_number-to_le_bytes (suc (suc zero)) number some most below =
-    (refl, omega arith, are_bytes-cons (number % 256) (number / 256 % 256 ∷ []) (omega arith) (are_bytes-cons (number / 256 % 256) [] (omega arith) none_wrong))
-le_number-to_le_bytes (suc (suc (suc zero))) number some most below = (
-  refl,
-  omega arith,
-  are_bytes-cons (number % 256) (number / 256 % 256 ∷ number / 65536 % 256 ∷ []) (omega arith)
-      (are_bytes-cons (number / 256 % 256) (number / 65536 % 256 ∷ []) (omega arith) (are_bytes-cons (number / 65536 % 256) [] (omega arith) none_wrong)),
-)
-le_number-to_le_bytes (suc (suc (suc (suc len)))) number some most below = absurd (omega arith)
+-- they are the first four letters, or the last two or three
+pub record AreFirst (letters first rest : List ℕ) : Type 0 where
+  pub whole : letters ≡ first ++ rest
+  pub front : take 4 letters ≡ first
+  pub back : drop 4 letters ≡ rest
 
-pub to_le_bytes-le_number : (bytes : List ℕ) → AreBytes bytes → length bytes ≤ 3 → take (length bytes) (to_le_bytes w32 (le_number bytes)) ≡ bytes
-to_le_bytes-le_number [] bytes most = refl
-to_le_bytes-le_number (a ∷ []) bytes most =
-    let a-fits : a < 256 = bytes 0 0 (omega arith) in
-    let first : (a + 256 * 0) % 256 ≡ a = omega arith in
-    rw first refl
-to_le_bytes-le_number (a ∷ b ∷ []) bytes most =
-    let a-fits : a < 256 = bytes 0 0 (omega arith) in
-    let b-fits : b < 256 = bytes 1 0 (omega arith) in
-    let first : (a + 256 * (b + 256 * 0)) % 256 ≡ a = omega arith in
-    let second : (a + 256 * (b + 256 * 0)) / 256 % 256 ≡ b = omega arith in
-    rw (first, second) refl
-to_le_bytes-le_number (a ∷ b ∷ c ∷ []) bytes most =
-    let a-fits : a < 256 = bytes 0 0 (omega arith) in
-    let b-fits : b < 256 = bytes 1 0 (omega arith) in
-    let c-fits : c < 256 = bytes 2 0 (omega arith) in
-    let first : (a + 256 * (b + 256 * (c + 256 * 0))) % 256 ≡ a = omega arith in
-    let second : (a + 256 * (b + 256 * (c + 256 * 0))) / 256 % 256 ≡ b = omega arith in
-    let third : (a + 256 * (b + 256 * (c + 256 * 0))) / 65536 % 256 ≡ c = omega arith in
-    rw (first, second, third) refl
-to_le_bytes-le_number (a ∷ b ∷ c ∷ d ∷ rest) bytes most = absurd (omega arith)
+pub are_first : (bytes : List ℕ) → 0 < length bytes → AreFirst (crypt64_of bytes) (first_letters bytes) (crypt64_of (drop 3 bytes))
+unfolding crypt64_of letters_of
+are_first [] some = absurd (omega arith)
+are_first (a ∷ []) some =
+    let said : a + 256 * 0 ≡ a = omega arith in
+    rw said (record { whole = refl; front = refl; back = refl })
+are_first (a ∷ b ∷ []) some =
+    let said : a + 256 * (b + 256 * 0) ≡ a + 256 * b = omega arith in
+    rw said (record { whole = refl; front = refl; back = refl })
+are_first (a ∷ b ∷ c ∷ bytes) some =
+    let said : a + 256 * (b + 256 * (c + 256 * 0)) ≡ a + 256 * b + 65536 * c = omega arith in
+    rw said (record { whole = refl; front = refl; back = refl })
 
--- the letters have room for the bytes, and a shift by whole bytes tells whether there is more
-letters_have_room : (len : ℕ) → 0 < len → len ≤ 3 → 256 ^ len ≤ 64 ^ suc len
-letters_have_room zero some most = absurd (omega arith)
-letters_have_room (suc zero) some most = omega arith
-letters_have_room (suc (suc zero)) some most = omega arith
-letters_have_room (suc (suc (suc zero))) some most = omega arith
-letters_have_room (suc (suc (suc (suc len)))) some most = absurd (omega arith)
+-- so are those of the number that is read of as many bytes, with zeros after them
+pub letters_of_read : (bytes first rest : List ℕ) (number : ℕ) → first ≡ take 3 bytes → rest ≡ drop 3 bytes → 0 < length first
+    → number ≡ from_le_bytes w32 (first ++ drop (length first) (replicate 4 0)) → crypt64_of bytes ≡ letters_of (length first + 1) number ++ crypt64_of rest
+letters_of_read bytes first rest number cut left some read =
+    let most : length first ≤ 3 = omega (arith, ap length cut, length-take 3 bytes) in
+    let said : number ≡ le_number first = read ∙ le_number-from_le_bytes first most in
+    rw (said, add-one, cut, left) (are_first bytes (omega (arith, ap length cut, length-take 3 bytes))).whole
 
-shifted_out : (len number : ℕ) → len ≤ 3 → number / 2 ^ (8 * len) ≡ 0 → number < 256 ^ len
-shifted_out zero number most none = omega arith
-shifted_out (suc zero) number most none = omega arith
-shifted_out (suc (suc zero)) number most none = omega arith
-shifted_out (suc (suc (suc zero))) number most none = omega arith
-shifted_out (suc (suc (suc (suc len)))) number most none = absurd (omega arith)
+-- these are the letters of one to three bytes
+pub record IsGroup (group bytes : List ℕ) : Type 0 where
+  pub some : 0 < length bytes
+  pub most : length bytes ≤ 3
+  pub are_bytes : AreBytes bytes
+  pub letters : group ≡ letters_of (suc (length bytes)) (le_number bytes)
 
-shifted_in : (len number : ℕ) → len ≤ 3 → number < 256 ^ len → number / 2 ^ (8 * len) ≡ 0
-shifted_in zero number most below = omega arith
-shifted_in (suc zero) number most below = omega arith
-shifted_in (suc (suc zero)) number most below = omega arith
-shifted_in (suc (suc (suc zero))) number most below = omega arith
-shifted_in (suc (suc (suc (suc len)))) number most below = absurd (omega arith)
-
-no_crypt64 : crypt64_of [] ≡ []
-unfolding crypt64_of
-no_crypt64 = refl
-
--- no bytes have no letters
-pub no_bytes : (bytes letters : List ℕ) → Crypt64 bytes letters → bytes ≡ [] → letters ≡ []
-unfolding crypt64_of
-no_bytes bytes letters is none = is.encoding ∙ ap crypt64_of none
-
--- letters cut after the fourth, or at their end
-pub record IsCut (letters group rest : List ℕ) : Type 0 where
-  pub whole : letters ≡ group ++ rest
-  pub most : length group ≤ 4
-  pub last : length group < 4 → rest ≡ []
-
--- the bytes that a group of letters says
-pub record SaysFirst (all group rest front tail : List ℕ) : Type 0 where
-  pub joined : all ≡ front ++ tail
-  pub some : 0 < length front
-  pub most : length front ≤ 3
-  pub count : length group ≡ suc (length front)
-  pub front_bytes : AreBytes front
-  pub tail_bytes : AreBytes tail
-  pub read : number_of group ≡ Some (le_number front)
-  pub after : rest ≡ crypt64_of tail
-
--- both cuts are at one place, since each is full or at the end
-same_count : (letters bytes rest tail : ℕ) → letters + rest ≡ suc bytes + tail → (letters < 4 → rest ≡ 0) → (bytes < 3 → tail ≡ 0)
-    → letters ≤ 4 → bytes ≤ 3 → letters ≡ suc bytes
-same_count letters bytes rest tail sum no_rest no_tail most_letters most_bytes = elim (cases_lt letters 4) [
-  | inl short ↦ elim (cases_lt bytes 3) [
-    | inl few ↦ omega (arith, no_rest short, no_tail few)
-    | inr full ↦ omega (arith, no_rest short)
-  ]
-  | inr four ↦ elim (cases_lt bytes 3) [
-    | inl few ↦ omega (arith, no_tail few)
-    | inr full ↦ omega arith
-  ]
-]
-
--- the first group of the letters of some bytes says the first of them
-says_first : (all letters group rest : List ℕ) → IsCut letters group rest → Crypt64 all letters
-    → (all ≡ []) ⊎ ((front : List ℕ) × (tail : List ℕ) × SaysFirst all group rest front tail)
-says_first [] letters group rest cut is = inl refl
-says_first (byte ∷ bytes) letters group rest cut is =
-    let found = first_bytes byte bytes in
-    let front = found.0 in
-    let tail = found.1 in
-    let joined : (byte ∷ bytes) ≡ front ++ tail = found.2 in
-    let first : FirstBytes front tail = found.3 in
-    let encoded : group ++ rest ≡ letters_of (suc (length front)) (le_number front) ++ crypt64_of tail =
-    sym cut.whole ∙ is.encoding ∙ ap crypt64_of joined ∙ crypt64_of-first front tail first in
-    let both : AreBytes (front ++ tail) = subst AreBytes joined is.are_bytes in
-    let front_bytes : AreBytes front =
-    subst AreBytes (take-append_seam front tail) (All-take (λ b. b < 256) (length front) (front ++ tail) both) in
-    let tail_bytes : AreBytes tail =
-    subst AreBytes (drop-append_seam front tail) (All-drop (λ b. b < 256) (length front) (front ++ tail) both) in
-    let lengths : length group + length rest ≡ suc (length front) + length (crypt64_of tail) =
-    sym (length-append group rest) ∙ ap length encoded
-    ∙ length-append (letters_of (suc (length front)) (le_number front)) (crypt64_of tail)
-    ∙ ap (λ n. n + length (crypt64_of tail)) (length-letters_of (suc (length front)) (le_number front)) in
-    let at_end : length group < 4 → length rest ≡ 0 = λ h. ap length (cut.last h) in
-    let no_tail : length front < 3 → length (crypt64_of tail) ≡ 0 = λ h. length-crypt64_of tail ∙ ap encoded_len (ap length (first.last h)) in
-    let some : 0 < length front = first.some in
-    let most : length front ≤ 3 = first.most in
-    let four : length group ≤ 4 = cut.most in
-    let count : length group ≡ suc (length front) = same_count _ _ _ _ lengths at_end no_tail four most in
-    let parts = append_parts group rest (letters_of (suc (length front)) (le_number front)) (crypt64_of tail)
-    (count ∙ sym (length-letters_of (suc (length front)) (le_number front))) encoded in
-    let below : le_number front < 256 ^ length front = le_number-below front front_bytes in
-    let room : 256 ^ length front ≤ 64 ^ suc (length front) = letters_have_room (length front) some most in
-    inr (
-      front,
-      tail,
+-- the first bytes have the first letters, and the rest the rest
+pub first_group : (bytes letters : List ℕ) → Crypt64 bytes letters → 0 < length bytes → IsGroup (take 4 letters) (take 3 bytes) × Crypt64 (drop 3 bytes) (drop 4 letters)
+first_group bytes letters is some =
+    let first = are_first bytes some in (
       record {
-        joined = joined;
-        some = some;
-        most = most;
-        count = count;
-        front_bytes = front_bytes;
-        tail_bytes = tail_bytes;
-        read = ap number_of parts.0 ∙ number_of-letters_of (suc (length front)) (le_number front) (omega arith);
-        after = parts.1;
+        some = omega (arith, length-take 3 bytes);
+        most = omega (arith, length-take 3 bytes);
+        are_bytes = All-take (λ b. b < 256) 3 bytes is.are_bytes;
+        letters = ap (take 4) is.encoding ∙ first.front;
       },
+      record { are_bytes = All-drop (λ b. b < 256) 3 bytes is.are_bytes; encoding = ap (drop 4) is.encoding ∙ first.back },
     )
 
--- letters without a number, a lone letter, and a number with more bits than its bytes have: no bytes have such letters
+-- what holds of one, two and three
+one_to_three : (P : ℕ → Type 0) → P 1 → P 2 → P 3 → (n : ℕ) → 0 < n → n ≤ 3 → P n
+one_to_three P one two three zero some most = absurd (omega arith)
+one_to_three P one two three (suc zero) some most = one
+one_to_three P one two three (suc (suc zero)) some most = two
+one_to_three P one two three (suc (suc (suc zero))) some most = three
+one_to_three P one two three (suc (suc (suc (suc n)))) some most = absurd (omega arith)
 
-pub refuses_no_number : (letters group rest : List ℕ) → IsCut letters group rest → number_of group ≡ None
+-- a shift by whole bytes tells whether a number has more bits than they
+record HasBytes (len : ℕ) : Type 0 where
+  room : 256 ^ len ≤ 64 ^ suc len
+  shifted_out : (number : ℕ) → number / 2 ^ (8 * len) ≡ 0 → number < 256 ^ len
+  shifted_in : (number : ℕ) → number < 256 ^ len → number / 2 ^ (8 * len) ≡ 0
+  written : (number : ℕ) → number < 256 ^ len → le_number (take len (to_le_bytes w32 number)) ≡ number
+
+has_bytes : (len : ℕ) → 0 < len → len ≤ 3 → HasBytes len
+has_bytes = one_to_three HasBytes
+    (record { room = omega arith; shifted_out = λ number none. omega arith; shifted_in = λ number below. omega arith; written = λ number below. omega arith })
+    (record { room = omega arith; shifted_out = λ number none. omega arith; shifted_in = λ number below. omega arith; written = λ number below. omega arith })
+    (record { room = omega arith; shifted_out = λ number none. omega arith; shifted_in = λ number below. omega arith; written = λ number below. omega arith })
+
+-- a group says the number of its bytes
+pub record Says (group bytes : List ℕ) : Type 0 where
+  pub count : length group ≡ suc (length bytes)
+  pub number : number_of group ≡ Some (le_number bytes)
+  pub no_more : le_number bytes / 2 ^ (8 * length bytes) ≡ 0
+
+pub says : (group bytes : List ℕ) → IsGroup group bytes → Says group bytes
+says group bytes is =
+    let below = le_number-below bytes is.are_bytes in
+    let has = has_bytes (length bytes) is.some is.most in
+    record {
+      count = ap length is.letters ∙ length-letters_of (suc (length bytes)) (le_number bytes);
+      number = ap number_of is.letters ∙ number_of-letters_of (suc (length bytes)) (le_number bytes) (omega (arith, below, has.room));
+      no_more = has.shifted_in (le_number bytes) below;
+    }
+
+-- so it is the group of no other bytes
+group-one : (group xs ys : List ℕ) → IsGroup group xs → IsGroup group ys → xs ≡ ys
+group-one group xs ys is is' =
+    let x-says = says group xs is in
+    let y-says = says group ys is' in
+    let both = sym x-says.number ∙ y-says.number in
+    le_number-one xs ys (omega (arith, x-says.count, y-says.count)) is.are_bytes is'.are_bytes (cc)
+
+-- letters whose number has no more bits than so many bytes are their group
+pub is_group : (group : List ℕ) (number len : ℕ) → number_of group ≡ Some number → length group ≡ suc len → 0 < len → len ≤ 3
+    → number / 2 ^ (8 * len) ≡ 0 → IsGroup group (take len (to_le_bytes w32 number))
+is_group group number len read count some most none =
+    let has = has_bytes len some most in
+    let said : le_number (take len (to_le_bytes w32 number)) ≡ number = has.written number (has.shifted_out number none) in
+    let as_many : length (take len (to_le_bytes w32 number)) ≡ len = length-take-le len (to_le_bytes w32 number) (omega arith) in
+    record {
+      some = rw as_many some;
+      most = rw as_many most;
+      are_bytes = All-take (λ b. b < 256) len (to_le_bytes w32 number)
+          (All-from_recursion (λ b. b < 256) (to_le_bytes w32 number) (omega arith, (omega arith, (omega arith, (omega arith, tt)))));
+      letters = rw (as_many, said, ← count) (sym (letters_of-number_of group number read).0);
+    }
+
+-- no bytes have letters that begin with no group
+pub refuses : (letters group : List ℕ) → group ≡ take 4 letters → ((bytes : List ℕ) → Says group bytes → 0 < length bytes → ⊥)
     → (all : List ℕ) → Crypt64 all letters → all ≡ []
-refuses_no_number letters group rest cut none all is = elim (says_first all letters group rest cut is) [
-  | inl empty ↦ empty
-  | inr found ↦ let read = found.2.read in absurd (cc)
-]
-
-pub refuses_lone : (letters group rest : List ℕ) → IsCut letters group rest → length group ≤ 1
-    → (all : List ℕ) → Crypt64 all letters → all ≡ []
-refuses_lone letters group rest cut lone all is = elim (says_first all letters group rest cut is) [
-  | inl empty ↦ empty
-  | inr found ↦ absurd (omega (arith, found.2.count, found.2.some))
-]
-
-pub refuses_more_bits : (letters group rest : List ℕ) (number : ℕ) → IsCut letters group rest → number_of group ≡ Some number
-    → number / 2 ^ (8 * (length group - 1)) ≢ 0 → (all : List ℕ) → Crypt64 all letters → all ≡ []
-refuses_more_bits letters group rest number cut read more all is = elim (says_first all letters group rest cut is) [
-  | inl empty ↦ empty
-  | inr found ↦
-      let front = found.0 in
-      let said = found.2 in
-      let same : Some number ≡ Some (le_number front) = sym read ∙ said.read in
-      let number_is : number ≡ le_number front = cc in
-      let len_is : length group - 1 ≡ length front = omega (arith, said.count) in
-      absurd (more (rw (number_is, len_is) (shifted_in (length front) (le_number front) said.most (le_number-below front said.front_bytes))))
-]
+refuses letters group cut none [] is = refl
+refuses letters group cut none (byte ∷ bytes) is =
+    let first = (first_group (byte ∷ bytes) letters is (omega arith)).0 in
+    absurd (none (take 3 (byte ∷ bytes)) (says _ _ (rw cut first)) first.some)
 
 -- otherwise the letters begin with the group's bytes
-pub begins_with_group : (letters group rest : List ℕ) (number len : ℕ) → IsCut letters group rest → number_of group ≡ Some number
-    → len ≡ length group - 1 → 0 < len → number / 2 ^ (8 * len) ≡ 0
-    → Begins letters (take len (to_le_bytes w32 number)) rest
-begins_with_group letters group rest number len cut read is_len some none =
-    let most : len ≤ 3 = omega (arith, cut.most) in
-    let count : length group ≡ suc len = omega arith in
-    let below : number < 256 ^ len = shifted_out len number most none in
-    let front = take len (to_le_bytes w32 number) in
-    let facts = le_number-to_le_bytes len number some most below in
+begins-forth : (letters front more : List ℕ) → IsGroup (take 4 letters) front → Crypt64 more (drop 4 letters) → Crypt64 (front ++ more) letters
+begins-forth letters front more group is =
+    let said = says (take 4 letters) front group in
+    let cut : (take 3 (front ++ more) ≡ front) × (drop 3 (front ++ more) ≡ more) = elim (cases_lt (length front) 3) [
+      | inl short ↦
+          let ends : drop 4 letters ≡ [] = nil_from_length _ (omega (arith, said.count, length-take 4 letters, length-drop 4 letters)) in
+          let none : more ≡ [] = no_letters more (sym is.encoding ∙ ends) in
+          rw (none, append-nil) (take_all 3 front (omega arith), drop_all 3 front (omega arith))
+      | inr full ↦ (take_at front more 3 (omega (arith, group.most)), drop_at front more 3 (omega (arith, group.most)))
+    ] in
+    let first = are_first (front ++ more) (omega (arith, length-append front more, group.some)) in
+    let whole = rw (cut.0, cut.1) at first.whole in
     record {
-      forth = λ more is.
-          let first : FirstBytes front more = record {
-            some = rw facts.0 some;
-            most = rw facts.0 most;
-            last = λ short.
-                let no_rest : rest ≡ [] = cut.last (omega (arith, facts.0)) in
-                no_letters more (sym is.encoding ∙ no_rest);
-          } in
-          let group_is : letters_of (suc len) number ≡ group = rw (← count) (letters_of-number_of group number read).0 in
-          record {
-            are_bytes = All-append (λ b. b < 256) front more facts.2 is.are_bytes;
-            encoding = cut.whole ∙ sym (crypt64_of-first front more first ∙ rw (facts.0, facts.1, group_is, ← is.encoding) refl);
-          };
-      back = λ all is. elim (says_first all letters group rest cut is) [
-        | inl empty ↦
-            let joined : group ++ rest ≡ [] = sym cut.whole ∙ no_bytes all letters is empty in
-            absurd (omega (arith, length-append group rest, ap length joined))
-        | inr found ↦
-            let said = found.2 in
-            let same : Some number ≡ Some (le_number found.0) = sym read ∙ said.read in
-            let number_is : number ≡ le_number found.0 = cc in
-            let len_is : len ≡ length found.0 = omega (arith, said.count) in
-            let front_is : front ≡ found.0 = rw (number_is, len_is) (to_le_bytes-le_number found.0 said.front_bytes said.most) in
-            (found.1, rw front_is said.joined, record { are_bytes = said.tail_bytes; encoding = said.after })
-      ];
+      are_bytes = All-append (λ b. b < 256) front more group.are_bytes is.are_bytes;
+      encoding = sym (take-append-drop 4 letters) ∙ rw (group.letters, is.encoding) (sym whole);
     }
+
+begins-back : (letters front all : List ℕ) → IsGroup (take 4 letters) front → Crypt64 all letters
+    → (more : List ℕ) × (all ≡ front ++ more) × Crypt64 more (drop 4 letters)
+begins-back letters front [] group is =
+    absurd (omega (arith, (says _ _ group).count, ap length (no_bytes [] letters is refl), length-take 4 letters))
+begins-back letters front (byte ∷ bytes) group is =
+    let first = first_group (byte ∷ bytes) letters is (omega arith) in
+    let same : take 3 (byte ∷ bytes) ≡ front = group-one _ _ _ first.0 group in
+    (drop 3 (byte ∷ bytes), sym (take-append-drop 3 (byte ∷ bytes)) ∙ ap (λ first. first ++ drop 3 (byte ∷ bytes)) same, first.1)
+
+pub begins_with_group : (letters group rest front : List ℕ) → group ≡ take 4 letters → rest ≡ drop 4 letters → IsGroup group front → Begins letters front rest
+begins_with_group letters group rest front cut left is =
+    let first : IsGroup (take 4 letters) front = rw (← cut) is in
+    rw left (record {
+      forth = λ more has. begins-forth letters front more first has;
+      back = λ all has. begins-back letters front all first has;
+    })
 
 -- letters that are read group by group
 
@@ -308,7 +243,7 @@ begins-more letters bytes rest front after first second = record {
 -- where nothing is left, the bytes are those of the letters
 pub begins-end : (letters bytes rest : List ℕ) → Begins letters bytes rest → rest ≡ [] → Crypt64 bytes letters
 begins-end letters bytes rest begins none =
-    rw append-nil at (begins.forth [] (record { are_bytes = none_wrong; encoding = none ∙ sym no_crypt64 }))
+    rw append-nil at (begins.forth [] (record { are_bytes = All-nil (λ b. b < 256); encoding = none ∙ sym no_crypt64 }))
 
 -- where what is left begins with no group, no bytes have these letters
 pub begins-stuck : (letters bytes rest : List ℕ) → Begins letters bytes rest → ((more : List ℕ) → Crypt64 more rest → more ≡ [])

@@ -1,19 +1,18 @@
 -- A text has at most one reading.
-use Rattle.std.proofs.Common.{◌≡◌, ℕ, ◌<◌, ◌==◌, ◌+◌, ◌*◌, false, List, [], ◌∷◌, ◌++◌, length, get_or, drop, codes, refl, sym, ap, subst, ◌∙◌, arith}
+use Rattle.std.proofs.Common.{◌≡◌, ℕ, zero, suc, ◌<◌, ◌≤◌, ◌==◌, false, List, [], ◌∷◌, ◌++◌, length, get_or, take, drop, codes, refl, sym, ap, subst, ◌∙◌, arith}
 use Rattle.std.specs.Prelude.{All, Option, None, Some, IfSome, OnSome, IsSome, decimal}
 use Rattle.std.specs.List.{slice_split}
 use Rattle.std.proofs.lemmas.Bool.{false≢true, eq-eqb}
 use Rattle.std.proofs.lemmas.Fmt.{decimal_injective}
-use Rattle.std.proofs.lemmas.List.{length-append, get_or_at}
-use Rattle.std.proofs.lemmas.List.Elements.{All-head, All-get_or, All-drop}
-use Rattle.password_hash.specs.Crypt64.{Crypt64, crypt64_of, encoded_len, letters_of, number_of}
+use Rattle.std.proofs.lemmas.List.{length-append, length-drop, take-append-drop, get_or_at}
+use Rattle.std.proofs.lemmas.List.Elements.{All-head, All-get_or}
+use Rattle.password_hash.specs.Crypt64.{Crypt64}
 use Rattle.password_hash.specs.Pairs.{pairs_text, ArePairs}
 use Rattle.password_hash.specs.PhcParts.{IsVersion, LackVersion, LackEquals}
 use Rattle.password_hash.specs.Phc.{base64, version_part, params_part, key_part, salt_and_key_parts, hash_parts, hash_text, IsSalt, IsKey, IsHashText}
 use Rattle.password_hash.specs.declared.phc.hash.PasswordHash.{PasswordHash}
 use Rattle.password_hash.proofs.Base64Facts.{base64_injective}
-use Rattle.password_hash.proofs.Crypt64Facts.{AreBytes, length-letters_of, number_of-letters_of}
-use Rattle.password_hash.proofs.GroupFacts.{append_parts, length-crypt64_of}
+use Rattle.password_hash.proofs.GroupFacts.{no_crypt64, no_letters, first_group, begins_with_group}
 use Rattle.password_hash.proofs.HashFacts.{parts_of_hash, parts_lack}
 use Rattle.password_hash.proofs.PairsFacts.{Lacks}
 use Rattle.password_hash.proofs.ParamsFacts.{same_pairs}
@@ -87,58 +86,14 @@ one_reading text a b ha hb =
     λ i. record { algorithm = of_b.algorithm i; version = version.0 i; params = params.0 i; salt = both.0 i; hash = both.1 i }
 
 -- one text is the encoding of one list of bytes
-crypt64_of-injective : (xs ys : List ℕ) → AreBytes xs → AreBytes ys → length xs ≡ length ys → crypt64_of xs ≡ crypt64_of ys → xs ≡ ys
-unfolding crypt64_of
-crypt64_of-injective [] [] x-bytes y-bytes len same = refl
-crypt64_of-injective [] (y ∷ ys) x-bytes y-bytes len same = absurd (omega arith)
-crypt64_of-injective (x ∷ xs) [] x-bytes y-bytes len same = absurd (omega arith)
-crypt64_of-injective (a ∷ []) (d ∷ []) x-bytes y-bytes len same =
-    let fits : a < 256 = x-bytes 0 0 (omega arith) in
-    let fits' : d < 256 = y-bytes 0 0 (omega arith) in
-    let numbers : Some a ≡ Some d =
-    sym (number_of-letters_of 2 a (omega arith)) ∙ ap number_of same ∙ number_of-letters_of 2 d (omega arith) in
-    let equal : a ≡ d = cc in
-    rw equal refl
-crypt64_of-injective (a ∷ []) (d ∷ e ∷ ys) x-bytes y-bytes len same = absurd (omega arith)
-crypt64_of-injective (a ∷ b ∷ []) (d ∷ []) x-bytes y-bytes len same = absurd (omega arith)
-crypt64_of-injective (a ∷ b ∷ []) (d ∷ e ∷ []) x-bytes y-bytes len same =
-    let a-fits : a < 256 = x-bytes 0 0 (omega arith) in
-    let b-fits : b < 256 = x-bytes 1 0 (omega arith) in
-    let d-fits : d < 256 = y-bytes 0 0 (omega arith) in
-    let e-fits : e < 256 = y-bytes 1 0 (omega arith) in
-    let numbers : Some (a + 256 * b) ≡ Some (d + 256 * e) =
-    sym (number_of-letters_of 3 (a + 256 * b) (omega arith)) ∙ ap number_of same ∙ number_of-letters_of 3 (d + 256 * e) (omega arith) in
-    let equal : a + 256 * b ≡ d + 256 * e = cc in
-    let first : a ≡ d = omega arith in
-    let second : b ≡ e = omega arith in
-    rw (first, second) refl
-crypt64_of-injective (a ∷ b ∷ []) (d ∷ e ∷ f ∷ ys) x-bytes y-bytes len same = absurd (omega arith)
-crypt64_of-injective (a ∷ b ∷ c ∷ xs) (d ∷ []) x-bytes y-bytes len same = absurd (omega arith)
-crypt64_of-injective (a ∷ b ∷ c ∷ xs) (d ∷ e ∷ []) x-bytes y-bytes len same = absurd (omega arith)
-crypt64_of-injective (a ∷ b ∷ c ∷ xs) (d ∷ e ∷ f ∷ ys) x-bytes y-bytes len same =
-    let a-fits : a < 256 = x-bytes 0 0 (omega arith) in
-    let b-fits : b < 256 = x-bytes 1 0 (omega arith) in
-    let c-fits : c < 256 = x-bytes 2 0 (omega arith) in
-    let d-fits : d < 256 = y-bytes 0 0 (omega arith) in
-    let e-fits : e < 256 = y-bytes 1 0 (omega arith) in
-    let f-fits : f < 256 = y-bytes 2 0 (omega arith) in
-    let left = a + 256 * b + 65536 * c in
-    let right = d + 256 * e + 65536 * f in
-    let parts = append_parts (letters_of 4 left) (crypt64_of xs) (letters_of 4 right) (crypt64_of ys)
-    (length-letters_of 4 left ∙ sym (length-letters_of 4 right)) same in
-    let numbers : Some left ≡ Some right =
-    sym (number_of-letters_of 4 left (omega arith)) ∙ ap number_of parts.0 ∙ number_of-letters_of 4 right (omega arith) in
-    let equal : a + 256 * b + 65536 * c ≡ d + 256 * e + 65536 * f = cc in
-    let first : a ≡ d = omega arith in
-    let second : b ≡ e = omega arith in
-    let third : c ≡ f = omega arith in
-    let rest : xs ≡ ys = crypt64_of-injective xs ys (All-drop (λ n. n < 256) 3 (a ∷ b ∷ c ∷ xs) x-bytes)
-    (All-drop (λ n. n < 256) 3 (d ∷ e ∷ f ∷ ys) y-bytes) (omega arith) parts.1 in
-    rw (first, second, third, rest) refl
+Crypt64-one_of : (n : ℕ) (letters xs ys : List ℕ) → length xs ≤ n → Crypt64 xs letters → Crypt64 ys letters → xs ≡ ys
+Crypt64-one_of n letters [] ys most is is' = sym (no_letters ys (sym is'.encoding ∙ is.encoding ∙ no_crypt64))
+Crypt64-one_of zero letters (x ∷ xs) ys most is is' = absurd (omega arith)
+Crypt64-one_of (suc n) letters (x ∷ xs) ys most is is' =
+    let first = first_group (x ∷ xs) letters is (omega arith) in
+    let second = (begins_with_group letters _ _ (take 3 (x ∷ xs)) refl refl first.0).back ys is' in
+    let rest = Crypt64-one_of n (drop 4 letters) (drop 3 (x ∷ xs)) second.0 (omega (arith, length-drop 3 (x ∷ xs))) first.1 second.2 in
+    sym (take-append-drop 3 (x ∷ xs)) ∙ ap (λ rest. take 3 (x ∷ xs) ++ rest) rest ∙ sym second.1
 
 pub Crypt64-one : (letters xs ys : List ℕ) → Crypt64 xs letters → Crypt64 ys letters → xs ≡ ys
-Crypt64-one letters xs ys is is' =
-    let same : crypt64_of xs ≡ crypt64_of ys = sym is.encoding ∙ is'.encoding in
-    let counts : encoded_len (length xs) ≡ encoded_len (length ys) =
-    sym (length-crypt64_of xs) ∙ ap length same ∙ length-crypt64_of ys in
-    crypt64_of-injective xs ys is.are_bytes is'.are_bytes (omega arith) same
+Crypt64-one letters xs ys = Crypt64-one_of (length xs) letters xs ys (omega arith)

@@ -1,10 +1,11 @@
 -- Texts, read and printed by the definitions alone, so that a wrong letter, order or bound in a
 -- definition does not check.
-use Rattle.std.proofs.Common.{◌≡◌, ◌&&◌, ◌≤◌, ◌<◌, ℕ, true, false, nat_lt, List, [], ◌∷◌, length, map, take, codes, None, Some, refl, sym, ap, ◌∙◌, arith, lit<, lit≤}
+use Rattle.std.proofs.Common.{◌≡◌, ◌&&◌, ◌||◌, ◌==◌, ◌-◌, ◌*◌, ◌/◌, ◌^◌, ◌<◌, ℕ, Bool, not, true, false, nat_lt, Option, List, [], ◌∷◌, length, map, take, codes, None, Some, refl, sym, ap, ◌∙◌, arith}
 use Rattle.std.specs.Fmt.{digits}
 use Rattle.std.specs.List.{list_all}
-use Rattle.std.proofs.lemmas.Bool.{and_from, false≢true, ltb-true, lt-ltb}
-use Rattle.std.proofs.lemmas.List.{append-nil}
+use Rattle.std.proofs.lemmas.Bool.{and_from, and_parts, false≢true, ltb-true, lt-ltb}
+use Rattle.std.proofs.lemmas.Bool.Decides.{nat_tests}
+use Rattle.std.specs.Prelude.{All}
 use Rattle.base64.specs.Rfc4648.{encode_symbols}
 use Rattle.password_hash.specs.Crypt64.{letter, letter_value, letters_of, number_of, crypt64_of, Crypt64, IsCrypt64}
 use Rattle.password_hash.specs.Decimal.{decimal_below, has_plus_or_leading_zero}
@@ -12,9 +13,9 @@ use Rattle.password_hash.specs.Letters.{is_identifier_letter}
 use Rattle.password_hash.specs.Mcf.{IsMcf, IsMcfText, id_of}
 use Rattle.password_hash.specs.Parts.{parts_of}
 use Rattle.password_hash.specs.Phc.{hash_text, IsHashText}
-use Rattle.password_hash.proofs.GroupFacts.{IsCut, no_bytes, refuses_no_number, refuses_lone, refuses_more_bits}
+use Rattle.password_hash.proofs.GroupFacts.{Says, no_bytes, refuses}
 use Rattle.password_hash.proofs.McfFacts.{IsMcfText-from_parts, IsMcfText-one}
-use Rattle.password_hash.proofs.TextTests.{crypt64_shown, reads}
+use Rattle.password_hash.proofs.TextTests.{all_shown, crypt64_shown, reads}
 
 -- PHC texts
 
@@ -173,31 +174,39 @@ pub letters_of_61_bytes : Crypt64 (take 61 stepped) (codes "9.HJux7ldvkAMpbc5nS2
 unfolding crypt64_of letters_of letter
 letters_of_61_bytes = crypt64_shown _ _ refl refl
 
--- letters that no bytes have: they would say no byte
+-- letters that no bytes have: their first four say no byte
 
-no_bytes_have : (letters : List ℕ) → 0 < length letters → ((all : List ℕ) → Crypt64 all letters → all ≡ []) → ¬ IsCrypt64 letters
-no_bytes_have letters some none is = absurd (omega (arith, some, ap length (no_bytes is.0 letters is.1 (none is.0 is.1))))
+abbrev says_none : ℕ → Option ℕ → Bool
+says_none len None = true
+says_none len (Some number) = (len == 0) || not (number / 2 ^ (8 * len) == 0)
 
-one_group : (letters : List ℕ) → length letters ≤ 4 → IsCut letters letters []
-one_group letters most = record { whole = sym (append-nil letters); most = most; last = λ _. refl }
+abbrev is_refused : List ℕ → Bool
+is_refused letters = nat_lt 0 (length letters) && says_none (length (take 4 letters) - 1) (number_of (take 4 letters))
 
--- a letter alone
-pub lone_letter_refused : ¬ IsCrypt64 (codes "z")
-lone_letter_refused = no_bytes_have (codes "z") (lit< tt) (refuses_lone (codes "z") (codes "z") [] (one_group (codes "z") (lit≤ tt)) (lit≤ tt))
+refused_shown : (letters : List ℕ) → is_refused letters ≡ true → ¬ IsCrypt64 letters
+refused_shown letters refused is =
+    let parts = and_parts (nat_lt 0 (length letters)) (says_none (length (take 4 letters) - 1) (number_of (take 4 letters))) refused in
+    let empty = refuses letters (take 4 letters) refl (λ bytes said some. says_some bytes said some parts.1) is.0 is.1 in
+    absurd (omega (arith, ltb-true 0 (length letters) parts.0, ap length (no_bytes is.0 letters is.1 empty)))
+  where
+    says_some : (bytes : List ℕ) → Says (take 4 letters) bytes → 0 < length bytes → says_none (length (take 4 letters) - 1) (number_of (take 4 letters)) ≡ true → ⊥
+    says_some bytes said some none =
+        let len : length (take 4 letters) - 1 ≡ length bytes = omega (arith, said.count) in
+        let says = rw (len, said.number) at none in
+        grind (arith, nat_tests, said.no_more, says)
 
--- a bit above the last byte
-pub spare_bit_refused : ¬ IsCrypt64 (codes "z2")
+abbrev refused_letters : List (List ℕ)
+refused_letters =
+    -- a letter alone
+    codes "z"
+    -- a bit above the last byte
+    ∷ codes "z2" ∷ codes "zzE"
+    -- padding is not a letter
+    ∷ codes "zz=" ∷ []
+
+pub letters_refused : All (λ letters. ¬ IsCrypt64 letters) refused_letters
 unfolding number_of letter_value
-spare_bit_refused = no_bytes_have (codes "z2") (lit< tt) (refuses_more_bits (codes "z2") (codes "z2") [] 319 (one_group (codes "z2") (lit≤ tt)) refl (λ e. absurd (omega (arith, e))))
-
-pub spare_bit_of_two_refused : ¬ IsCrypt64 (codes "zzE")
-unfolding number_of letter_value
-spare_bit_of_two_refused = no_bytes_have (codes "zzE") (lit< tt) (refuses_more_bits (codes "zzE") (codes "zzE") [] 69631 (one_group (codes "zzE") (lit≤ tt)) refl (λ e. absurd (omega (arith, e))))
-
--- padding is not a letter
-pub padding_refused : ¬ IsCrypt64 (codes "zz=")
-unfolding number_of letter_value
-padding_refused = no_bytes_have (codes "zz=") (lit< tt) (refuses_no_number (codes "zz=") (codes "zz=") [] (one_group (codes "zz=") (lit≤ tt)) refl)
+letters_refused = all_shown is_refused (λ letters. ¬ IsCrypt64 letters) refused_shown refused_letters refl
 
 -- MCF texts
 

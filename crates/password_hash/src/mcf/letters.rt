@@ -36,24 +36,17 @@ impl<'a> Letters<'a> {
         ensures same { IfSome result (λ letters. crypt64_of bytes.now
             ≡ letters_of letters.pending letters.number ++ crypt64_of letters.bytes.now) }
     {
-        match bytes {
-            [] => None,
-            [a] => Some(Letters {
-                pending: 2,
-                number: u32::from(*a),
-                bytes: &[],
-            }),
-            [a, b] => Some(Letters {
-                pending: 3,
-                number: u32::from_le_bytes([*a, *b, 0, 0]),
-                bytes: &[],
-            }),
-            [a, b, c, rest @ ..] => Some(Letters {
-                pending: 4,
-                number: u32::from_le_bytes([*a, *b, *c, 0]),
-                bytes: rest,
-            }),
+        let (group, rest) = bytes.split_at(bytes.len().min(3));
+        if group.is_empty() {
+            return None;
         }
+        let mut number = [0; 4];
+        number[..group.len()].copy_from_slice(group);
+        Some(Letters {
+            pending: group.len() + 1,
+            number: u32::from_le_bytes(number),
+            bytes: rest,
+        })
     }
 }
 

@@ -1,14 +1,11 @@
-use Rattle.password_hash.proofs.Crypt64Facts.{crypt64_of-one, crypt64_of-two, crypt64_of-three}
+use Rattle.std.proofs.Common.{◌<◌, ◌∙◌, length, arith}
+use Rattle.std.proofs.lemmas.Bool.Decides.{nat_tests}
+use Rattle.password_hash.proofs.GroupFacts.{cut_at, letters_of_read}
 use Rattle.password_hash.proofs.mcf.letters.Letters.of_first_group.Goals as goal
 
-pub returns-in-len1-clause-same : goal.returns-in-len1-clause-same
-returns-in-len1-clause-same c =
-    crypt64_of-one c.args.bytes.now _ c.in-len1.len_at_least c.in-len1.len_below c.from.ensures
-
-pub returns-in-len2-clause-same : goal.returns-in-len2-clause-same
-returns-in-len2-clause-same c =
-    crypt64_of-two c.args.bytes.now _ c.in-len2.len_at_least c.in-len2.len_below c.from_le_bytes.ensures
-
-pub returns-in-len3-up-clause-same : goal.returns-in-len3-up-clause-same
-returns-in-len3-up-clause-same c =
-    crypt64_of-three c.args.bytes.now _ c.in-len3-up.len_at_least c.from_le_bytes-in-len3-up.ensures
+pub returns-clause-same : goal.returns-clause-same
+returns-clause-same c =
+    let cut = cut_at 3 c.min.result c.args.bytes.now c.min.ensures in
+    let some : 0 < length c.split_at.result.0.now = grind (arith, nat_tests) in
+    letters_of_read _ _ _ _ (c.split_at.ensures.front ∙ cut.0) (c.split_at.ensures.back ∙ cut.1) some
+    (rw c.copy_from_slice.ensures.after at c.from_le_bytes.ensures)
