@@ -23,60 +23,43 @@ bytes digits = []
 
 -- PHC texts
 
-abbrev passlib_salt : List ℕ
-passlib_salt = bytes (codes "68cd79ef5debdd7b2fc5b8b7d65aabd5")
-
-abbrev passlib_key : List ℕ
-passlib_key = bytes (codes "9c5361d8254756336574554a0c70e59b809b75148274406c8e32710fe882b391")
-
-abbrev argon_salt : List ℕ
-argon_salt = bytes (codes "819895fccd603dcdb6125007fc98751f")
-
-abbrev argon_key : List ℕ
-argon_key = bytes (codes "0963ab928a3ba09050fe2ca1eee2742ced9a2c47eb1f04d6965480c53d33467a")
-
 abbrev sodium_key : List ℕ
 sodium_key = bytes (codes "7023bdcb3afd7348461c06cd81fd38ebfda8fbba904f8e3ea9b543f6545da1f2")
 
--- a hash of these parts
-abbrev hash_of : List ℕ → Option ℕ → List (List ℕ × List ℕ) → Option (List ℕ) → Option (List ℕ) → PasswordHash
-hash_of algorithm version params salt key = record { algorithm = algorithm; version = version; params = params; salt = salt; hash = key }
+-- a text, and the hash of these parts
+abbrev read_as : List ℕ → List ℕ → Option ℕ → List (List ℕ × List ℕ) → Option (List ℕ) → Option (List ℕ) → List ℕ × PasswordHash
+read_as text algorithm version params salt key =
+    (text, record { algorithm = algorithm; version = version; params = params; salt = salt; hash = key })
 
 -- texts, and the hashes that they are read as and printed of
 abbrev hash_texts : List (List ℕ × PasswordHash)
 hash_texts =
     -- `passlib`'s hash of `password`
-    (
-      codes "$scrypt$ln=16,r=8,p=1$aM15713r3Xsvxbi31lqr1Q$nFNh2CVHVjNldFVKDHDlm4CbdRSCdEBsjjJxD+iCs5E",
-      hash_of (codes "scrypt") None ((codes "ln", codes "16") ∷ (codes "r", codes "8") ∷ (codes "p", codes "1") ∷ [])
-          (Some passlib_salt) (Some passlib_key),
-    )
+    read_as (codes "$scrypt$ln=16,r=8,p=1$aM15713r3Xsvxbi31lqr1Q$nFNh2CVHVjNldFVKDHDlm4CbdRSCdEBsjjJxD+iCs5E")
+    (codes "scrypt") None ((codes "ln", codes "16") ∷ (codes "r", codes "8") ∷ (codes "p", codes "1") ∷ [])
+    (Some (bytes (codes "68cd79ef5debdd7b2fc5b8b7d65aabd5")))
+    (Some (bytes (codes "9c5361d8254756336574554a0c70e59b809b75148274406c8e32710fe882b391")))
     -- the hash of the PHC documents, by another algorithm
-    ∷ (
-      codes "$argon2id$v=19$m=65536,t=2,p=1$gZiV/M1gPc22ElAH/Jh1Hw$CWOrkoo7oJBQ/iyh7uJ0LO2aLEfrHwTWllSAxT0zRno",
-      hash_of (codes "argon2id") (Some 19) ((codes "m", codes "65536") ∷ (codes "t", codes "2") ∷ (codes "p", codes "1") ∷ [])
-          (Some argon_salt) (Some argon_key),
-    )
+    ∷ read_as (codes "$argon2id$v=19$m=65536,t=2,p=1$gZiV/M1gPc22ElAH/Jh1Hw$CWOrkoo7oJBQ/iyh7uJ0LO2aLEfrHwTWllSAxT0zRno")
+    (codes "argon2id") (Some 19) ((codes "m", codes "65536") ∷ (codes "t", codes "2") ∷ (codes "p", codes "1") ∷ [])
+    (Some (bytes (codes "819895fccd603dcdb6125007fc98751f")))
+    (Some (bytes (codes "0963ab928a3ba09050fe2ca1eee2742ced9a2c47eb1f04d6965480c53d33467a")))
     -- no version and no parameters
-    ∷ (
-      codes "$a$U29kaXVtQ2hsb3JpZGU$cCO9yzr9c0hGHAbNgf046/2o+7qQT44+qbVD9lRdofI",
-      hash_of (codes "a") None [] (Some (codes "SodiumChloride")) (Some sodium_key),
-    )
+    ∷ read_as (codes "$a$U29kaXVtQ2hsb3JpZGU$cCO9yzr9c0hGHAbNgf046/2o+7qQT44+qbVD9lRdofI")
+    (codes "a") None [] (Some (codes "SodiumChloride")) (Some sodium_key)
     -- the shortest salt and the shortest key
-    ∷ (
-      codes "$scrypt$v=1$ln=1$aA$AAAAAAAAAAAAAA",
-      hash_of (codes "scrypt") (Some 1) ((codes "ln", codes "1") ∷ []) (Some (codes "h")) (Some (replicate 10 0)),
-    )
+    ∷ read_as (codes "$scrypt$v=1$ln=1$aA$AAAAAAAAAAAAAA")
+    (codes "scrypt") (Some 1) ((codes "ln", codes "1") ∷ []) (Some (codes "h")) (Some (replicate 10 0))
     -- the algorithm alone
-    ∷ (codes "$scrypt", hash_of (codes "scrypt") None [] None None)
+    ∷ read_as (codes "$scrypt") (codes "scrypt") None [] None None
     -- a version, and no more
-    ∷ (codes "$scrypt$v=0", hash_of (codes "scrypt") (Some 0) [] None None)
+    ∷ read_as (codes "$scrypt$v=0") (codes "scrypt") (Some 0) [] None None
     -- the greatest version, and a salt without a key
-    ∷ (codes "$a$v=4294967295$aA", hash_of (codes "a") (Some 4294967295) [] (Some (codes "h")) None)
+    ∷ read_as (codes "$a$v=4294967295$aA") (codes "a") (Some 4294967295) [] (Some (codes "h")) None
     -- parameters keep their order
-    ∷ (codes "$a$b=1,a=2", hash_of (codes "a") None ((codes "b", codes "1") ∷ (codes "a", codes "2") ∷ []) None None)
+    ∷ read_as (codes "$a$b=1,a=2") (codes "a") None ((codes "b", codes "1") ∷ (codes "a", codes "2") ∷ []) None None
     -- the longest text of parameters
-    ∷ (codes "$scrypt$x=" ++ replicate 125 48, hash_of (codes "scrypt") None ((codes "x", replicate 125 48) ∷ []) None None)
+    ∷ read_as (codes "$scrypt$x=" ++ replicate 125 48) (codes "scrypt") None ((codes "x", replicate 125 48) ∷ []) None None
     ∷ []
 
 pub hash_texts_read : All (λ (row : List ℕ × PasswordHash). IsHashText row.0 row.1) hash_texts
@@ -84,7 +67,9 @@ unfolding encode_symbols digits
 hash_texts_read = all_shown is_hash_text (λ (row : List ℕ × PasswordHash). IsHashText row.0 row.1) hash_text_shown hash_texts refl
 
 -- without a salt, a key is not printed
-pub key_not_printed : hash_text (hash_of (codes "scrypt") (Some 2) ((codes "b", codes "1") ∷ (codes "a", codes "2") ∷ []) None (Some sodium_key)) ≡ codes "$scrypt$v=2$b=1,a=2"
+pub key_not_printed :
+    hash_text (read_as [] (codes "scrypt") (Some 2) ((codes "b", codes "1") ∷ (codes "a", codes "2") ∷ []) None (Some sodium_key)).1
+    ≡ codes "$scrypt$v=2$b=1,a=2"
 unfolding digits
 key_not_printed = refl
 
