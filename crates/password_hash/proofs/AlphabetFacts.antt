@@ -1,5 +1,5 @@
 -- The alphabet's table: each letter has its value, and no other byte has one.
-use Rattle.std.proofs.Common.{◌≡◌, ◌≢◌, ap, refl, arith, ℕ, ◌+◌, ◌-◌, ◌<◌, ◌≤◌, true, cond, ◌&&◌, not, nat_le, nat_lt, eqb, Option, Some, None, get_or}
+use Rattle.std.proofs.Common.{◌≡◌, ◌≢◌, ap, refl, ℕ, ◌+◌, ◌-◌, ◌<◌, true, cond, ◌&&◌, not, nat_le, nat_lt, eqb, Option, Some, None, get_or}
 use Rattle.std.specs.Option.{option_eq}
 use Rattle.std.proofs.lemmas.Bool.{agree_below_at, eqb-true, ltb-true, eqb-false, not-true, and_parts, false≢true}
 use Rattle.std.proofs.lemmas.Bool.Decides.{nat_tests}
@@ -20,9 +20,9 @@ same_option (Some x) None h = absurd (false≢true h)
 same_option (Some x) (Some y) h = ap Some (eqb-true x y h)
 
 -- the ranges give each byte its value
-pub letter_value-byte : (byte : ℕ) → byte < 256 → letter_value byte ≡ value_by_range byte
+pub value_of_byte : (byte : ℕ) → byte < 256 → letter_value byte ≡ value_by_range byte
 unfolding letter_value
-letter_value-byte byte below =
+value_of_byte byte below =
     same_option (letter_value byte) (value_by_range byte)
     (agree_below_at (λ b. option_eq eqb (letter_value b) (value_by_range b)) (λ _. true) 256 byte refl below)
 
@@ -48,16 +48,5 @@ letter-ascii value below =
     (agree_below_at (λ v. nat_lt (letter v) 128 && not (eqb (letter v) 36)) (λ _. true) 64 value refl below) in
     (ltb-true (letter value) 128 parts.0, eqb-false (letter value) 36 (not-true (eqb (letter value) 36) parts.1))
 
--- the three ranges, one by one
-pub low_value : (byte : ℕ) → byte < 256 → 46 ≤ byte → byte ≤ 57 → Some (byte - 46) ≡ letter_value byte
-low_value byte small from to = rw (letter_value-byte byte small) (grind (arith, nat_tests))
-
-pub upper_value : (byte : ℕ) → byte < 256 → 65 ≤ byte → byte ≤ 90 → Some (byte - 65 + 12) ≡ letter_value byte
-upper_value byte small from to = rw (letter_value-byte byte small) (grind (arith, nat_tests))
-
-pub lower_value : (byte : ℕ) → byte < 256 → 97 ≤ byte → byte ≤ 122 → Some (byte - 97 + 38) ≡ letter_value byte
-lower_value byte small from to = rw (letter_value-byte byte small) (grind (arith, nat_tests))
-
--- a byte outside of them has no value
-pub no_value : (byte : ℕ) → byte < 256 → (46 ≤ byte → 57 < byte) → (65 ≤ byte → 90 < byte) → (97 ≤ byte → 122 < byte) → None ≡ letter_value byte
-no_value byte small low upper lower = rw (letter_value-byte byte small) (grind (arith, nat_tests))
+-- so a byte's value is told by the ranges that it is in
+pub ruleset byte_values = (value_of_byte, nat_tests)

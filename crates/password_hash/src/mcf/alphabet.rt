@@ -6,6 +6,7 @@ ghost use Rattle.password_hash.specs.Crypt64.{letter, letter_value, number_of};
 const ALPHABET: [u8; 64] = *b"./0123456789ABCDEFGHIJKLMNOPQRSTUVWXYZabcdefghijklmnopqrstuvwxyz";
 
 /// Returns the letter of a value below 64.
+#[tactic(auto, unfolding(crate::specs::Crypt64::letter))]
 pub fn letter(value: u32) -> u8
     requires small { value < 64 }
     ensures value { result ≡ letter value }
@@ -14,6 +15,7 @@ pub fn letter(value: u32) -> u8
 }
 
 /// Returns the value of a letter, from 0 to 63, or `None` if the byte is not a letter of crypt(5).
+#[tactic(auto, using(crate::proofs::AlphabetFacts::byte_values))]
 pub fn value(byte: u8) -> Option<u8>
     ensures value { result ≡ letter_value byte }
 {
