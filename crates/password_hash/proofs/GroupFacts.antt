@@ -18,6 +18,8 @@ length-crypt64_of (a ∷ b ∷ []) = length-letters_of 3 (a + 256 * b)
 length-crypt64_of (a ∷ b ∷ c ∷ rest) =
     simp (length-append, length-letters_of) (omega (arith, length-crypt64_of rest))
 
+pub ruleset lengths = (length-crypt64_of)
+
 -- only no bytes have no letters
 pub no_letters : (bytes : List ℕ) → crypt64_of bytes ≡ [] → bytes ≡ []
 no_letters bytes none =
@@ -230,9 +232,9 @@ begins_with_group letters group rest front cut left is =
 
 -- letters that are read group by group
 
-pub begins-more : (letters bytes rest front after : List ℕ) → Begins letters bytes rest → Begins rest front after
+pub begins_more : (letters bytes rest front after : List ℕ) → Begins letters bytes rest → Begins rest front after
     → Begins letters (bytes ++ front) after
-begins-more letters bytes rest front after first second = record {
+begins_more letters bytes rest front after first second = record {
   forth = λ more is. rw append_assoc (first.forth (front ++ more) (second.forth more is));
   back = λ all is.
       let outer = first.back all is in

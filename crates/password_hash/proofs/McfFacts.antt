@@ -65,19 +65,19 @@ IsMcfText-from_parts text id fields parts is =
     tail_is : (text : List ℕ) (parts : List (List ℕ)) → dollar ∷ text ≡ parts_text ([] ∷ parts) → text ≡ parts_text parts
     tail_is text parts e = cc
 
-pub id_of-parts : (text id : List ℕ) (fields : List (List ℕ)) → parts_of text ≡ [] ∷ id ∷ fields → id_of text ≡ id
+pub id_of_parts : (text id : List ℕ) (fields : List (List ℕ)) → parts_of text ≡ [] ∷ id ∷ fields → id_of text ≡ id
 unfolding id_of
-id_of-parts text id fields parts = rw parts refl
+id_of_parts text id fields parts = rw parts refl
 
-pub fields_of-parts : (text id : List ℕ) (fields : List (List ℕ)) → parts_of text ≡ [] ∷ id ∷ fields → fields_of text ≡ fields
+pub fields_of_parts : (text id : List ℕ) (fields : List (List ℕ)) → parts_of text ≡ [] ∷ id ∷ fields → fields_of text ≡ fields
 unfolding fields_of
-fields_of-parts text id fields parts = rw parts refl
+fields_of_parts text id fields parts = rw parts refl
 
 -- an MCF text has one id and one list of fields
 pub IsMcfText-one : (text id : List ℕ) (fields : List (List ℕ)) → IsMcfText text id fields → (id_of text ≡ id) × (fields_of text ≡ fields)
 IsMcfText-one text id fields is =
     let parts = parts_of-IsMcfText text id fields is in
-    (id_of-parts text id fields parts, fields_of-parts text id fields parts)
+    (id_of_parts text id fields parts, fields_of_parts text id fields parts)
 
 -- it is the text of its own id and fields
 pub IsMcfText-read : (text : List ℕ) → IsMcf text → IsMcfText text (id_of text) (fields_of text)
@@ -104,7 +104,7 @@ IsMcfText-more text id field fields is good = record {
 -- the id of an MCF text is an id
 pub IsId-parts : (text id : List ℕ) (fields : List (List ℕ)) → parts_of text ≡ [] ∷ id ∷ fields → IsMcf text → IsId id
 IsId-parts text id fields parts is =
-    let same : is.0 ≡ id = sym (IsMcfText-one text is.0 is.1 is.2).0 ∙ id_of-parts text id fields parts in
+    let same : is.0 ≡ id = sym (IsMcfText-one text is.0 is.1 is.2).0 ∙ id_of_parts text id fields parts in
     subst IsId same is.2.is_id
 
 -- the text after a push

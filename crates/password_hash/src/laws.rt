@@ -4,6 +4,7 @@ ghost use Rattle.password_hash.specs.Decimal.{DecimalGives, UnsignedGives, decim
 
 /// `read_decimal` for an unsigned integer type of this many bits returns the number of a decimal
 /// text, if it is below the type's bound, and `None` for every other text.
+#[tactic(auto, using(crate::proofs::DecimalFacts::decimal_gives))]
 pub fn decimals_are_read()
     ensures gives { (bits : ℕ) (text : List ℕ) (answer : Option ℕ) → DecimalGives (UnsignedGives bits) text answer
         → answer ≡ decimal_below (2 ^ bits) text }

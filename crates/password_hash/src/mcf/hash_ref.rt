@@ -40,6 +40,7 @@ impl<'a> PasswordHashRef<'a> {
     }
 
     /// Returns the id: one or more of `a-z0-9-`.
+    #[tactic(auto, using(crate::proofs::McfFacts::id_of_parts))]
     pub fn id(&self) -> &'a str
         ensures value { result.now ≡ id_of (hash_text self.now) }
         ensures reading { IsMcfText (hash_text self.now) result.now (fields_of (hash_text self.now)) }
@@ -48,6 +49,7 @@ impl<'a> PasswordHashRef<'a> {
     }
 
     /// Returns an iterator over the fields, in order.
+    #[tactic(auto, using(crate::proofs::McfFacts::fields_of_parts))]
     pub fn fields(&self) -> Fields<'a>
         ensures value { fields_left result ≡ fields_of (hash_text self.now) }
         ensures reading { IsMcfText (hash_text self.now) (id_of (hash_text self.now)) (fields_left result) }

@@ -1,7 +1,7 @@
 use Rattle.std.proofs.Common.{◌≡◌, sym, ap, arith, [], length, length-append, ◌++◌, take}
 use Rattle.std.proofs.lemmas.Bool.{eqb-true, eqb-false}
 use Rattle.std.proofs.lemmas.List.{nil_from_length}
-use Rattle.password_hash.proofs.GroupFacts.{begins-more, begins-end, begins-stuck}
+use Rattle.password_hash.proofs.GroupFacts.{begins_more, begins-end, begins-stuck}
 use Rattle.password_hash.proofs.mcf.crypt64.decoded_len.Goals as goal
 
 pub loop-group-preserved : goal.loop-group-preserved
@@ -11,7 +11,7 @@ loop-group-preserved c =
     record {
       begins = (
         before.0 ++ front,
-        begins-more _ _ _ _ _ before.1 c.in-Some.ensures.split,
+        begins_more _ _ _ _ _ before.1 c.in-Some.ensures.split,
         omega (arith, length-append before.0 front, before.2, ap length c.as_bytes.ensures),
       );
       fits = omega (arith, c.loop-group.invariant.fits, c.in-Some.ensures.shorter, ap length c.as_bytes.ensures);
