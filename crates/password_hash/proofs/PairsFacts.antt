@@ -3,17 +3,16 @@ use Rattle.std.proofs.Common.{◌≡◌, ◌≢◌, ℕ, suc, ◌+◌, ◌<◌, 
 use Rattle.std.specs.Prelude.{All}
 use Rattle.std.specs.List.{list_all, join_with_byte, slice_split, before_first, after_first, position_or_len}
 use Rattle.std.proofs.lemmas.Bool.{ne_eqb, eq-eqb, false≢true}
-use Rattle.std.proofs.lemmas.List.{take_all, drop_all, take_at, drop_at, append_assoc, length-append, get_or_append_left, get_or_at, length_push}
-use Rattle.std.proofs.lemmas.List.Sums.{position_or_len_is}
+use Rattle.std.proofs.lemmas.List.{take_all, drop_all, take_at, drop_at, append_assoc, length-append, length-drop, get_or_append_left, get_or_at, length_push}
+use Rattle.std.proofs.lemmas.List.Sums.{position_or_len_is, AllPass-from_list_all}
 use Rattle.std.proofs.lemmas.List.Splits.{slice_split_none, slice_split_at}
-use Rattle.std.proofs.lemmas.List.Elements.{All-nil, All-cons, All-head, All-tail, All-append, All-get_or}
+use Rattle.std.proofs.lemmas.List.Elements.{All-cons, All-head, All-tail, All-append, All-get_or, All-map, All-weaker}
 use Rattle.std.specs.Bool.{Decides}
 use Rattle.std.specs.Prelude.{nat_eq}
 use Rattle.std.specs.Cmp.Lexicographic.{pointwise}
 use Rattle.std.proofs.lemmas.Slice.Eq.{bytes_eq-Decides, slice_eq-Decides}
 use Rattle.password_hash.specs.Letters.{IsIdentifier, is_identifier_letter, is_value_letter}
 use Rattle.password_hash.specs.Pairs.{IsPair, pair_text, pairs_text, ArePairs, pair_eq, pair_of, pairs_of, IsPairsText}
-use Rattle.password_hash.proofs.IdentifierFacts.{list_all_parts}
 
 -- no byte is c
 abbrev pub Lacks : ℕ → List ℕ → Type 0
@@ -24,10 +23,8 @@ other_letter p c x is_none is_one e = false≢true (sym is_none ∙ (rw e at is_
 
 -- letters of a kind lack a byte of another kind
 pub letters_lack : (p : ℕ → Bool) (c : ℕ) → p c ≡ false → (xs : List ℕ) → IsTrue (list_all p xs) → Lacks c xs
-letters_lack p c is_none [] h = All-nil (λ b. (b == c) ≡ false)
-letters_lack p c is_none (x ∷ xs) h =
-    let parts = list_all_parts p x xs h in
-    All-cons (λ b. (b == c) ≡ false) x xs (ne_eqb x c (other_letter p c x is_none parts.0)) (letters_lack p c is_none xs parts.1)
+letters_lack p c is_none xs h =
+    All-weaker (λ x. p x ≡ true) (λ x. (x == c) ≡ false) (λ x is_one. ne_eqb x c (other_letter p c x is_none is_one)) xs (AllPass-from_list_all p xs h)
 
 -- the first c comes after bytes that lack it
 pub position_at : (c : ℕ) (xs ys : List ℕ) → Lacks c xs → position_or_len (λ b. b == c) (xs ++ (c ∷ ys)) ≡ length xs
@@ -75,10 +72,8 @@ slice_split-join c piece (next ∷ pieces) none =
 
 -- each text of a pair lacks a byte that no pair has
 pub texts_lack : (c : ℕ) → is_identifier_letter c ≡ false → is_value_letter c ≡ false → (61 == c) ≡ false → (pairs : List (List ℕ × List ℕ)) → All IsPair pairs → All (Lacks c) (map pair_text pairs)
-texts_lack c name value equals [] h = All-nil (Lacks c)
-texts_lack c name value equals (pair ∷ pairs) h =
-    All-cons (Lacks c) (pair_text pair) (map pair_text pairs) (pair_text_lacks c name value equals pair (All-head IsPair pair pairs h))
-    (texts_lack c name value equals pairs (All-tail IsPair pair pairs h))
+texts_lack c name value equals pairs h =
+    All-map (Lacks c) pair_text pairs (All-weaker IsPair (λ pair. Lacks c (pair_text pair)) (pair_text_lacks c name value equals) pairs h)
 
 -- the pairs are told by their texts
 pub map-pair_of : (pairs : List (List ℕ × List ℕ)) → All IsPair pairs → map pair_of (map pair_text pairs) ≡ pairs
@@ -127,49 +122,36 @@ before_first_none c xs none = rw (position_none c xs none) (take_all (length xs)
 pub after_first_none : (c : ℕ) (xs : List ℕ) → Lacks c xs → after_first (λ b. b == c) xs ≡ []
 after_first_none c xs none = rw (position_none c xs none) (drop_all (length xs + 1) xs (omega arith))
 
-shorter_tail : (pair : List ℕ × List ℕ) (pairs : List (List ℕ × List ℕ)) → length (pairs_text (pair ∷ pairs)) ≤ 127 → length (pairs_text pairs) ≤ 127
-shorter_tail pair [] short = omega arith
-shorter_tail pair (next ∷ pairs) short =
-    omega (arith, short, length-append (pair_text pair) (44 ∷ pairs_text (next ∷ pairs)))
-
--- parameters without the first
-pub ArePairs-tail : (pair : List ℕ × List ℕ) (pairs : List (List ℕ × List ℕ)) → ArePairs (pair ∷ pairs) → ArePairs pairs
-ArePairs-tail pair pairs h = record {
-  each = All-tail IsPair pair pairs h.each;
-  once = λ i j d before below. h.once (suc i) (suc j) d (omega arith) (omega arith);
-  short = shorter_tail pair pairs h.short;
-}
-
 -- the first pair of a text, and the text of the others
 pub record IsFirstPair (text pair rest : List ℕ) : Type 0 where
   pub head : pairs_of text ≡ pair_of pair ∷ pairs_of rest
   pub name : IsIdentifier (pair_of pair).0
   pub others : IsPairsText rest
 
-name_of : (pair : List ℕ × List ℕ) → IsPair pair → pair_of (pair_text pair) ≡ pair → IsIdentifier (pair_of (pair_text pair)).0
-name_of pair h same = subst (λ (p : List ℕ × List ℕ). IsIdentifier p.0) (sym same) h.name
+-- they are before and after its first `,`
+cut_at_comma : (pair : List ℕ × List ℕ) (pairs : List (List ℕ × List ℕ)) → Lacks 44 (pair_text pair)
+    → (before_first (λ b. b == 44) (pairs_text (pair ∷ pairs)) ≡ pair_text pair) × (after_first (λ b. b == 44) (pairs_text (pair ∷ pairs)) ≡ pairs_text pairs)
+cut_at_comma pair [] none = (before_first_none 44 (pair_text pair) none, after_first_none 44 (pair_text pair) none)
+cut_at_comma pair (next ∷ pairs) none =
+    (before_first_at 44 (pair_text pair) (pairs_text (next ∷ pairs)) none, after_first_at 44 (pair_text pair) (pairs_text (next ∷ pairs)) none)
 
 first_pair_of : (pairs : List (List ℕ × List ℕ)) (text : List ℕ) → ArePairs pairs → pairs_text pairs ≡ text → 0 < length text → IsFirstPair text (before_first (λ b. b == 44) text) (after_first (λ b. b == 44) text)
 first_pair_of [] text h e some = absurd (omega (arith, ap length e))
-first_pair_of (pair ∷ []) text h e some =
-    let is_pair : IsPair pair = All-head IsPair pair [] h.each in
-    let none : Lacks 44 (pair_text pair) = pair_text_lacks 44 refl refl refl pair is_pair in
-    let before : before_first (λ b. b == 44) (pair_text pair) ≡ pair_text pair = before_first_none 44 (pair_text pair) none in
-    let after : after_first (λ b. b == 44) (pair_text pair) ≡ [] = after_first_none 44 (pair_text pair) none in
-    let all = pairs_of-pairs_text (pair ∷ []) h.each in
+first_pair_of (pair ∷ pairs) text h e some =
+    let is_pair : IsPair pair = All-head IsPair pair pairs h.each in
     let same : pair_of (pair_text pair) ≡ pair = pair_of-pair_text pair is_pair in
-    let others = kept_as_text [] [] refl (ArePairs-tail pair [] h) in
-    rw (← e, before, after) (record { head = all ∙ rw same refl; name = name_of pair is_pair same; others = others.0 })
-first_pair_of (pair ∷ next ∷ pairs) text h e some =
-    let is_pair : IsPair pair = All-head IsPair pair (next ∷ pairs) h.each in
-    let none : Lacks 44 (pair_text pair) = pair_text_lacks 44 refl refl refl pair is_pair in
-    let rest : List ℕ = pairs_text (next ∷ pairs) in
-    let before : before_first (λ b. b == 44) (pair_text pair ++ (44 ∷ rest)) ≡ pair_text pair = before_first_at 44 (pair_text pair) rest none in
-    let after : after_first (λ b. b == 44) (pair_text pair ++ (44 ∷ rest)) ≡ rest = after_first_at 44 (pair_text pair) rest none in
-    let all = pairs_of-pairs_text (pair ∷ next ∷ pairs) h.each in
-    let same : pair_of (pair_text pair) ≡ pair = pair_of-pair_text pair is_pair in
-    let others = kept_as_text rest (next ∷ pairs) refl (ArePairs-tail pair (next ∷ pairs) h) in
-    rw (← e, before, after) (record { head = all ∙ rw (same, others.1) refl; name = name_of pair is_pair same; others = others.0 })
+    let cut = cut_at_comma pair pairs (pair_text_lacks 44 refl refl refl pair is_pair) in
+    let whole : List ℕ = pairs_text (pair ∷ pairs) in
+    let others = kept_as_text (pairs_text pairs) pairs refl (record {
+      each = All-tail IsPair pair pairs h.each;
+      once = λ i j d before below. h.once (suc i) (suc j) d (omega arith) (omega arith);
+      short = omega (arith, h.short, ap length cut.1, length-drop (position_or_len (λ b. b == 44) whole + 1) whole);
+    }) in
+    rw (← e, cut.0, cut.1) (record {
+      head = pairs_of-pairs_text (pair ∷ pairs) h.each ∙ rw (same, others.1) refl;
+      name = subst (λ (p : List ℕ × List ℕ). IsIdentifier p.0) (sym same) is_pair.name;
+      others = others.0;
+    })
 
 -- what comes before and after the first `,` of a text of pairs
 pub first_pair : (text pair rest : List ℕ) → IsPairsText text → 0 < length text → pair ≡ before_first (λ b. b == 44) text → rest ≡ after_first (λ b. b == 44) text → IsFirstPair text pair rest

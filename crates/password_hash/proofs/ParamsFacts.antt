@@ -1,9 +1,9 @@
 -- One more pair at the end, and the pairs of a text in turn.
-use Rattle.std.proofs.Common.{◌≡◌, ◌≢◌, ℕ, ◌+◌, ◌<◌, ◌≤◌, ◌==◌, Bool, List, [], ◌∷◌, ◌++◌, length, take, drop, map, get_or, refl, sym, ap, subst, ◌∙◌, arith}
+use Rattle.std.proofs.Common.{◌≡◌, ◌≢◌, ℕ, ◌+◌, ◌<◌, ◌≤◌, ◌==◌, Bool, List, [], ◌∷◌, ◌++◌, min, length, take, drop, map, get_or, refl, sym, ap, subst, ◌∙◌, arith}
 use Rattle.std.specs.Prelude.{◌↔◌, All, Result, Ok, Err, IsOk, OnOk, OnErr}
 use Rattle.std.specs.List.{join_with_byte, slice_split, before_first, after_first, position_or_len}
 use Rattle.std.proofs.lemmas.Bool.{eqb-true, false≢true}
-use Rattle.std.proofs.lemmas.List.{append_assoc, length-append, length-map, get_or_append_left, get_or_push, length_push, take-append-drop, take_more, take-map, get_or-map, map-append, map_push, length-drop}
+use Rattle.std.proofs.lemmas.List.{append_assoc, length-append, length-map, get_or_append_left, get_or_push, length_push, take-append-drop, length-take, get_or-take, take_more, take-map, get_or-map, map-append, map_push, length-drop}
 use Rattle.std.proofs.lemmas.List.Sums.{split_at_first, passes_at_first}
 use Rattle.std.proofs.lemmas.List.Elements.{All-head, All-push, All-take}
 use Rattle.std.proofs.lemmas.List.Quantifiers.{all_pairs_push}
@@ -62,20 +62,17 @@ length_front c (x ∷ next ∷ xs) ys =
     omega (arith, length_front c (next ∷ xs) ys, length-append x (c ∷ join_with_byte c (next ∷ xs)), length-append x (c ∷ join_with_byte c ((next ∷ xs) ++ ys)))
 
 -- the first of some parameters
-pub ArePairs-front : (xs ys : List (List ℕ × List ℕ)) → ArePairs (xs ++ ys) → ArePairs xs
-ArePairs-front xs ys h =
-    let longer = length-append xs ys in
-    let texts = map-append pair_text xs ys in
-    let front = rw (← texts) at (length_front 44 (map pair_text xs) (map pair_text ys)) in
-    record {
-      each = λ k d below. subst IsPair (get_or_append_left xs ys d k below) (h.each k d (omega arith));
-      once = λ i j d before below. subst (λ (p : List ℕ × List ℕ). (get_or xs i d).0 ≢ p.0) (get_or_append_left xs ys d j below)
-          (subst (λ (p : List ℕ × List ℕ). p.0 ≢ (get_or (xs ++ ys) j d).0) (get_or_append_left xs ys d i (omega arith)) (h.once i j d before (omega arith)));
-      short = omega (arith, front, h.short);
-    }
-
 pub ArePairs-take : (n : ℕ) (pairs : List (List ℕ × List ℕ)) → ArePairs pairs → ArePairs (take n pairs)
-ArePairs-take n pairs h = ArePairs-front (take n pairs) (drop n pairs) (rw (take-append-drop n pairs) h)
+ArePairs-take n pairs h =
+    let texts : map pair_text (take n pairs) ++ map pair_text (drop n pairs) ≡ map pair_text pairs =
+    sym (map-append pair_text (take n pairs) (drop n pairs)) ∙ ap (map pair_text) (take-append-drop n pairs) in
+    record {
+      each = All-take IsPair n pairs h.each;
+      once = λ i j d before below.
+          let inside : j < min n (length pairs) = omega (arith, below, length-take n pairs) in
+          rw (get_or-take n pairs i d (omega arith), get_or-take n pairs j d (omega arith)) (h.once i j d before (omega arith));
+      short = omega (arith, h.short, ap (λ texts. length (join_with_byte 44 texts)) texts, length_front 44 (map pair_text (take n pairs)) (map pair_text (drop n pairs)));
+    }
 
 -- what is kept after a pair was put after others, or there was no room
 pub record IsAdded {E : Type 0} (r : Result (Unit {0}) E) (pairs : List (List ℕ × List ℕ)) (pair : List ℕ × List ℕ) (text : List ℕ) : Type 0 where
