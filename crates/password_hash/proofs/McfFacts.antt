@@ -85,42 +85,30 @@ IsMcfText-read text is =
     let one = IsMcfText-one text is.0 is.1 is.2 in
     rw (one.0, one.1) is.2
 
--- an id alone is an MCF text, and a field after a dollar is one field more
-pub IsMcfText-id : (id : List ℕ) → IsId id → IsMcfText (dollar ∷ id) id []
-IsMcfText-id id is = record {
-  is_id = is;
-  are_fields = All-nil IsField;
-  written = sym (append-nil (dollar ∷ id));
-}
-
-pub IsMcfText-more : (text id field : List ℕ) (fields : List (List ℕ)) → IsMcfText text id fields → IsField field
-    → IsMcfText (text ++ dollar ∷ field) id (fields ++ field ∷ [])
-IsMcfText-more text id field fields is good = record {
-  is_id = is.is_id;
-  are_fields = All-push IsField fields field is.are_fields good;
-  written = ap (λ before. before ++ dollar ∷ field) is.written ∙ sym (parts_text-push (id ∷ fields) field);
-}
-
 -- the id of an MCF text is an id
 pub IsId-parts : (text id : List ℕ) (fields : List (List ℕ)) → parts_of text ≡ [] ∷ id ∷ fields → IsMcf text → IsId id
 IsId-parts text id fields parts is =
     let same : is.0 ≡ id = sym (IsMcfText-one text is.0 is.1 is.2).0 ∙ id_of_parts text id fields parts in
     subst IsId same is.2.is_id
 
--- the text after a push
+-- a text with a field after a dollar has one field more
 pub IsMcfText-pushed : (text new field : List ℕ) → new ≡ text ++ dollar ∷ field → IsMcfText text (id_of text) (fields_of text) → IsField field
     → IsMcfText new (id_of new) (fields_of new)
 IsMcfText-pushed text new field written is good =
     IsMcfText-read new (
       id_of text,
       fields_of text ++ field ∷ [],
-      subst (λ pushed. IsMcfText pushed (id_of text) (fields_of text ++ field ∷ [])) (sym written) (IsMcfText-more text (id_of text) field (fields_of text) is good),
+      record {
+        is_id = is.is_id;
+        are_fields = All-push IsField (fields_of text) field is.are_fields good;
+        written = written ∙ ap (λ before. before ++ dollar ∷ field) is.written ∙ sym (parts_text-push (id_of text ∷ fields_of text) field);
+      },
     )
 
--- the text of an id
+-- an id after a dollar is a text without fields
 pub IsMcfText-of_id : (new id : List ℕ) → new ≡ dollar ∷ id → IsId id → IsMcfText new (id_of new) (fields_of new)
 IsMcfText-of_id new id written is =
-    IsMcfText-read new (id, [], subst (λ made. IsMcfText made id []) (sym written) (IsMcfText-id id is))
+    IsMcfText-read new (id, [], record { is_id = is; are_fields = All-nil IsField; written = written ∙ sym (append-nil (dollar ∷ id)) })
 
 -- a search for a dollar tells whether a text is a field
 pub IsField-search : (found : Bool) (text : List ℕ) → (found ≡ true → (k : ℕ) × (k < length text) × (get_or text k 0 ≡ dollar))
