@@ -81,25 +81,22 @@ pub record IsAdded {E : Type 0} (r : Result (Unit {0}) E) (pairs : List (List �
   pub ok : OnOk r (pairs_of text ≡ pairs ++ pair ∷ [])
   pub unchanged : OnErr r (pairs_of text ≡ pairs)
 
+with_pair-kept : (pairs : List (List ℕ × List ℕ)) (pair : List ℕ × List ℕ) (text : List ℕ) → IsPairsText text → pairs_of text ≡ pairs
+    → with_pair text pair ≡ pairs_text (pairs ++ pair ∷ [])
+with_pair-kept pairs pair text h view =
+    let each : All IsPair pairs = rw view at h.pairs.each in
+    ap (λ t. with_pair t pair) (sym h.whole ∙ ap pairs_text view) ∙ with_pair-pairs_text pairs pair each
+
 pub added : {E : Type 0} (r : Result (Unit {0}) E) (pairs : List (List ℕ × List ℕ)) (pair : List ℕ × List ℕ) (old new : List ℕ) → IsPairsText old → pairs_of old ≡ pairs → IsPair pair → All (λ other. other.0 ≢ pair.0) pairs → (IsOk r ↔ (length (with_pair old pair) ≤ 127)) → OnOk r (new ≡ with_pair old pair) → OnErr r (new ≡ old) → IsAdded r pairs pair new
 added (Ok u) pairs pair old new h view is_pair others exact ok unchanged =
+    let text = with_pair-kept pairs pair old h view in
     let before : ArePairs pairs = rw view at h.pairs in
-    let text : with_pair old pair ≡ pairs_text (pairs ++ pair ∷ []) =
-    ap (λ t. with_pair t pair) (sym h.whole ∙ ap pairs_text view) ∙ with_pair-pairs_text pairs pair before.each in
-    let short : length (with_pair old pair) ≤ 127 = exact.0 refl in
-    let after = ArePairs-push pairs pair before is_pair others (rw text at short) in
+    let after = ArePairs-push pairs pair before is_pair others (rw text at (exact.0 refl)) in
     let kept = kept_as_text new (pairs ++ pair ∷ []) (ok ∙ text) after in
     record { kept = kept.0; exact = (λ _. after, λ _. refl); ok = kept.1; unchanged = tt }
 added (Err e) pairs pair old new h view is_pair others exact ok unchanged =
-    let before : ArePairs pairs = rw view at h.pairs in
-    let text : with_pair old pair ≡ pairs_text (pairs ++ pair ∷ []) =
-    ap (λ t. with_pair t pair) (sym h.whole ∙ ap pairs_text view) ∙ with_pair-pairs_text pairs pair before.each in
-    record {
-      kept = rw unchanged h;
-      exact = (λ e. absurd (false≢true e), λ after. exact.1 (rw text after.short));
-      ok = tt;
-      unchanged = rw unchanged view;
-    }
+    let exact_after = λ (after : ArePairs (pairs ++ pair ∷ [])). exact.1 (rw (with_pair-kept pairs pair old h view) after.short) in
+    record { kept = rw unchanged h; exact = (λ e. absurd (false≢true e), exact_after); ok = tt; unchanged = rw unchanged view }
 
 -- a piece with something after its first `=` is the text of its pair
 pub pair_text-pair_of : (piece : List ℕ) → 0 < length (after_first (λ b. b == 61) piece) → pair_text (pair_of piece) ≡ piece
