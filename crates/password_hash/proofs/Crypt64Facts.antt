@@ -1,10 +1,11 @@
 -- What follows from the definitions of crypt Base64.
-use Rattle.std.proofs.Common.{◌≡◌, ◌≢◌, ◌∙◌, sym, ap, subst, refl, arith, ℕ, zero, suc, ◌+◌, ◌-◌, ◌*◌, ◌/◌, ◌%◌, ◌^◌, ◌<◌, ◌≤◌, Option, Some, None, List, [], ◌∷◌, ◌++◌, length, drop, set, get_or, append_assoc, add-one, length-drop}
+use Rattle.std.proofs.Common.{◌≡◌, ◌≢◌, ◌∙◌, sym, ap, refl, arith, ℕ, zero, suc, ◌+◌, ◌-◌, ◌*◌, ◌/◌, ◌%◌, ◌^◌, ◌<◌, ◌≤◌, Option, Some, None, List, [], ◌∷◌, ◌++◌, length, drop, set, get_or, append_assoc, add-one, length-drop}
 use Rattle.std.proofs.Math.Nat.{pow-suc, pow-le-pow_right}
 use Rattle.std.specs.List.{All}
 use Rattle.std.proofs.lemmas.Nat.{div_below}
-use Rattle.std.proofs.Math.Seq.{drop-cons}
-use Rattle.std.proofs.lemmas.List.Elements.{All-nil, All-cons, All-head, All-tail, All-append}
+use Rattle.std.proofs.Math.Seq.{drop-append_seam, drop-cons}
+use Rattle.std.proofs.lemmas.List.{set_at}
+use Rattle.std.proofs.lemmas.List.Elements.{All-nil, All-cons, All-head, All-drop, All-append, All-same}
 use Rattle.password_hash.specs.Crypt64.{letter, letter_value, letters_of, with_digit, number_of, crypt64_of}
 use Rattle.password_hash.proofs.AlphabetFacts.{letter_value-letter, letter-of_value, letter-ascii}
 
@@ -130,23 +131,16 @@ crypt64_of-plain (a ∷ b ∷ c ∷ rest) =
 
 -- a loop over the letters: one goes from those that are left to those that are done
 
-pub all_middle : (P : ℕ → Type 0) (done left : List ℕ) (x : ℕ) → All P (done ++ (x ∷ left)) → P x
-all_middle P [] left x each = All-head P x left each
-all_middle P (y ∷ done) left x each = all_middle P done left x (All-tail P y (done ++ (x ∷ left)) each)
-
 pub letter_done : (done left left' all : List ℕ) (x : ℕ) → done ++ left ≡ all → left ≡ x ∷ left' → (done ++ (x ∷ [])) ++ left' ≡ all
 letter_done done left left' all x same next = append_assoc done (x ∷ []) left' ∙ ap (λ more. done ++ more) (sym next) ∙ same
 
 pub letter-is_plain : (done left left' bytes : List ℕ) (x : ℕ) → done ++ left ≡ crypt64_of bytes → left ≡ x ∷ left' → IsPlain x
 letter-is_plain done left left' bytes x same next =
-    all_middle IsPlain done left' x (subst (All IsPlain) (sym same ∙ ap (λ more. done ++ more) next) (crypt64_of-plain bytes))
+    let each = All-drop IsPlain (length done) (crypt64_of bytes) (crypt64_of-plain bytes) in
+    All-head IsPlain x left' (All-same IsPlain (x ∷ left') _ (sym next ∙ sym (drop-append_seam done left) ∙ ap (drop (length done)) same) each)
 
 -- a write after what is done
 pub set-after : (done old : List ℕ) (len x : ℕ) → length done ≡ len → len < length old
     → set (done ++ drop len old) len x ≡ (done ++ (x ∷ [])) ++ drop (len + 1) old
 set-after done old len x count inside =
-    rw (add-one, drop-cons old len 0, ← count) (set_middle done (get_or old (length done) 0) x (drop (suc (length done)) old))
-  where
-    set_middle : (done : List ℕ) (y x : ℕ) (rest : List ℕ) → set (done ++ (y ∷ rest)) (length done) x ≡ (done ++ (x ∷ [])) ++ rest
-    set_middle [] y x rest = refl
-    set_middle (d ∷ done) y x rest = ap (λ more. d ∷ more) (set_middle done y x rest)
+    rw (add-one, drop-cons old len 0) (set_at done (get_or old len 0) (drop (suc len) old) x len count ∙ sym (append_assoc done (x ∷ []) (drop (suc len) old)))
