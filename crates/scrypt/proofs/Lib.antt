@@ -32,10 +32,10 @@ pub mod McfRefusalFacts
 pub mod InBuffersFacts
 -- The text that hashing writes is that of the hash.
 pub mod McfTextFacts
+-- What holds of hashes that are read in one sense, where they are read alike in another: by a hash, and by its text.
+pub mod AlikeFacts
 -- Facts on stored hashes of either format: a text has one hash, and what holds of the hash holds of the text.
 pub mod StoredHashFacts
--- Verifying with stored hashes of either format in the caller's buffers.
-pub mod StoredInBuffersFacts
 -- Verifying within limits: a hash that is not too costly is verified, and any other is refused before.
 pub mod WithinFacts
 -- Hashing is refused for one thing.

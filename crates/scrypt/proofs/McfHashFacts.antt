@@ -7,9 +7,8 @@ use Rattle.password_hash.specs.Parts.{parts_text}
 use Rattle.password_hash.specs.Refusal.{Refusal}
 use Rattle.password_hash.proofs.McfFacts.{IsMcfText-one}
 use Rattle.password_hash.proofs.OneReading.{Crypt64-one}
-use Rattle.scrypt.specs.Accepted.{Parameters}
+use Rattle.scrypt.specs.Accepted.{Parameters, without_len}
 use Rattle.scrypt.specs.KeyOfParams.{key_by}
-use Rattle.scrypt.specs.Accepted.{without_len}
 use Rattle.scrypt.proofs.KeyFacts.{length-key_by}
 use Rattle.scrypt.proofs.McfCostsFacts.{field_is}
 use Rattle.scrypt.specs.McfCosts.{EncodesCosts, cost_letters, ReadsField, malformed, not_accepted, accepted}

@@ -3,11 +3,12 @@ use Rattle.std.proofs.Common.{◌≡◌, ◌≢◌, ◌⊎◌, List, ℕ, [], �
 use Rattle.std.specs.Prelude.{IfErr, Result}
 use Rattle.password_hash.specs.Crypt64.{Crypt64, IsCrypt64}
 use Rattle.password_hash.specs.Mcf.{IsMcfText}
-use Rattle.password_hash.specs.Refusal.{Refusal, Algorithm, EncodingInvalid, OutputSize, PasswordInvalid}
+use Rattle.password_hash.specs.Refusal.{Refusal, Algorithm, EncodingInvalid, OutOfMemory, OutputSize, PasswordInvalid}
 use Rattle.scrypt.specs.Accepted.{IsOutputLen, Parameters}
 use Rattle.scrypt.specs.McfCosts.{ReadsField, malformed, not_accepted, accepted}
-use Rattle.scrypt.specs.McfHash.{mcf_id, ReadIsRefused, other_id, no_field, bad_costs, no_key, bad_key, third_field, bad_key_len}
-use Rattle.scrypt.proofs.McfHashFacts.{field_once, fields_once}
+use Rattle.scrypt.specs.McfHash.{mcf_id, IsWhole, ReadIsRefused, other_id, no_field, bad_costs, no_key, bad_key, third_field, bad_key_len}
+use Rattle.scrypt.proofs.McfHashFacts.{field_once, fields_once, not_both, whole_once}
+use Rattle.scrypt.proofs.VerdictFacts.{IsReadOnce}
 
 -- What the second field and those after it are refused by, and what all are: the first field decides first.
 
@@ -70,19 +71,23 @@ refused_once {why = why} {why' = why'} first second = elim (fields_refused first
   ]
 ]
 
--- a field is never refused as a wrong password
+-- a text is read in one way
+pub read_once : (text : List ℕ) → IsReadOnce (IsWhole text) (ReadIsRefused text)
+read_once text = record { whole_once = λ _ _ _ _ _ _. whole_once; refused_once = λ _ _. refused_once; not_both = λ _ _ _ _. not_both }
+
+-- a field is refused neither as a wrong password nor for memory
 field_refused_otherwise : {field : List ℕ} {out : Result (Parameters × List ℕ) Refusal} → ReadsField field out
-    → IfErr out (λ why. why ≢ PasswordInvalid)
-field_refused_otherwise (malformed none) = λ is. absurd cc
-field_refused_otherwise (not_accepted says refused) = λ is. absurd cc
+    → IfErr out (λ why. (why ≢ PasswordInvalid) × (why ≢ OutOfMemory))
+field_refused_otherwise (malformed none) = (λ is. absurd cc, λ is. absurd cc)
+field_refused_otherwise (not_accepted says refused) = (λ is. absurd cc, λ is. absurd cc)
 field_refused_otherwise (accepted says fits) = tt
 
 -- nor is a text
-pub refused_otherwise : {text : List ℕ} {why : Refusal} → ReadIsRefused text why → why ≢ PasswordInvalid
-refused_otherwise (other_id parts other) = λ is. absurd cc
-refused_otherwise (no_field parts) = λ is. absurd cc
+pub refused_otherwise : {text : List ℕ} {why : Refusal} → ReadIsRefused text why → (why ≢ PasswordInvalid) × (why ≢ OutOfMemory)
+refused_otherwise (other_id parts other) = (λ is. absurd cc, λ is. absurd cc)
+refused_otherwise (no_field parts) = (λ is. absurd cc, λ is. absurd cc)
 refused_otherwise (bad_costs parts h) = field_refused_otherwise h
-refused_otherwise (no_key costs) = λ is. absurd cc
-refused_otherwise (bad_key costs none) = λ is. absurd cc
-refused_otherwise (third_field costs good) = λ is. absurd cc
-refused_otherwise (bad_key_len costs is none) = λ is. absurd cc
+refused_otherwise (no_key costs) = (λ is. absurd cc, λ is. absurd cc)
+refused_otherwise (bad_key costs none) = (λ is. absurd cc, λ is. absurd cc)
+refused_otherwise (third_field costs good) = (λ is. absurd cc, λ is. absurd cc)
+refused_otherwise (bad_key_len costs is none) = (λ is. absurd cc, λ is. absurd cc)

@@ -12,10 +12,9 @@ use Rattle.password_hash.proofs.AlphabetFacts.{letter-ascii, letter_value-letter
 use Rattle.password_hash.proofs.Crypt64Facts.{IsPlain, crypt64_of-plain, length-letters_of, letters_of-plain}
 use Rattle.password_hash.proofs.GroupFacts.{length-crypt64_of}
 use Rattle.password_hash.proofs.McfFacts.{IsField-crypt64_of}
-use Rattle.scrypt.specs.Accepted.{AreAccepted, IsOutputLen, IsStoredLen, Parameters}
+use Rattle.scrypt.specs.Accepted.{AreAccepted, IsOutputLen, IsStoredLen, Parameters, without_len}
 use Rattle.scrypt.specs.KeyOfParams.{key_by}
 use Rattle.scrypt.proofs.KeyFacts.{key_by-are_bytes, length-key_by}
-use Rattle.scrypt.specs.Accepted.{without_len}
 use Rattle.scrypt.specs.McfCosts.{five_letter_number, cost_letters, costs_text, EncodesCosts, ReadsField, accepted}
 use Rattle.scrypt.specs.McfHash.{IsWhole, IsMadeHash, made_text_len}
 use Rattle.scrypt.specs.Hashing.{key_len_or_default}

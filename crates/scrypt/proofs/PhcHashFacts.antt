@@ -1,13 +1,12 @@
 -- Facts on PHC hashes of scrypt.
-use Rattle.std.proofs.Common.{◌≡◌, ℕ, List, refl, sym, ap, subst, ◌∙◌, arith, lit≤, None, Ok, Err, inl, inr}
+use Rattle.std.proofs.Common.{◌≡◌, ◌≢◌, ℕ, List, refl, sym, ap, subst, ◌∙◌, arith, lit≤, None, Ok, Err, inl, inr}
 use Rattle.std.specs.Prelude.{IfSome, IsSome, Option, Result}
 use Rattle.password_hash.specs.Phc.{IsHashText, IsSalt, hash_text}
-use Rattle.password_hash.specs.Refusal.{Refusal}
+use Rattle.password_hash.specs.Refusal.{Refusal, OutOfMemory}
 use Rattle.password_hash.specs.declared.error.Error.{Error}
 use Rattle.password_hash.specs.declared.phc.hash.PasswordHash.{PasswordHash}
-use Rattle.scrypt.specs.Accepted.{AreAccepted, IsStoredLen, Parameters}
+use Rattle.scrypt.specs.Accepted.{AreAccepted, IsStoredLen, Parameters, without_len}
 use Rattle.scrypt.specs.KeyOfParams.{key_by}
-use Rattle.scrypt.specs.Accepted.{without_len}
 use Rattle.scrypt.specs.PhcCosts.{ReadsCosts}
 use Rattle.scrypt.specs.PhcConversions.{IsReadAs}
 use Rattle.scrypt.specs.PhcHash.{Accepts, IsMadeHash, IsOfCosts, IsWhole, ReadIsRefused, algorithm, version, costs, missing, scrypt_id}
@@ -17,6 +16,7 @@ use Rattle.scrypt.proofs.AcceptedFacts.{key_len_or_default_stored, small_costs}
 use Rattle.scrypt.proofs.KeyFacts.{key_by-are_bytes, length-key_by}
 use Rattle.scrypt.proofs.PhcCostsFacts.{three_pairs}
 use Rattle.scrypt.proofs.PhcReadingFacts.{reads_once, refused_otherwise, written_read}
+use Rattle.scrypt.proofs.VerdictFacts.{IsReadOnce}
 
 -- parameters that are refused are not accepted too
 not_read : {pairs : List (List ℕ × List ℕ)} {why : Refusal} {c : Parameters}
@@ -67,11 +67,22 @@ refused_once (missing of_costs gone) (version is' some') = absurd (versioned som
 refused_once (missing of_costs gone) (costs is' none' refused') = absurd (not_read refused' of_costs.costs)
 refused_once (missing of_costs gone) (missing of_costs' gone') = refl
 
+-- a hash is read in one way
+pub read_once : (hash : PasswordHash) → IsReadOnce (IsWhole hash) (ReadIsRefused hash)
+read_once hash = record { whole_once = λ _ _ _ _ _ _. whole_once; refused_once = λ _ _. refused_once; not_both = λ _ _ _ _. not_both }
+
+-- and never refused for memory
+pub not_memory : {hash : PasswordHash} {why : Refusal} → ReadIsRefused hash why → why ≢ OutOfMemory
+not_memory (algorithm other) is = absurd cc
+not_memory (version same some) is = absurd cc
+not_memory (costs same none read) is = (refused_otherwise read).1 is
+not_memory (missing of_costs gone) is = absurd cc
+
 -- what is read as the parameters of a hash of scrypt without a version
 pub params_are : (hash : PasswordHash) (out : Result Parameters Error) → hash.algorithm ≡ scrypt_id → hash.version ≡ None
     → IsReadAs hash.params out → AreParamsOf hash out
 params_are hash (Ok c) is none read = record { ok = record { algorithm = is; version = none; costs = read }; err = tt; missing = tt }
-params_are hash (Err e) is none refused = record { ok = tt; err = costs is none refused; missing = refused_otherwise refused }
+params_are hash (Err e) is none refused = record { ok = tt; err = costs is none refused; missing = (refused_otherwise refused).0 }
 
 -- a made hash is whole
 pub made_whole : (c : Parameters) (password salt : List ℕ) (hash : PasswordHash) → AreAccepted c.log_n c.r c.p

@@ -1,17 +1,19 @@
 -- A hash that is whole is weaker than wanted where its own costs and key are, and a made one is not.
 use Rattle.std.proofs.Common.{◌≡◌, ℕ, List, length, inl, inr, subst, sym, arith}
+use Rattle.password_hash.specs.Refusal.{Refusal}
 use Rattle.scrypt.specs.Accepted.{Parameters, without_len}
 use Rattle.scrypt.specs.Hashing.{key_len_or_default}
 use Rattle.scrypt.specs.Rehashing.{IsBelow, IsWeaker}
-use Rattle.scrypt.proofs.VerdictFacts.{IsWholeOnce}
+use Rattle.scrypt.proofs.VerdictFacts.{IsReadOnce}
 
-module _ {IsWhole : Parameters → List ℕ → List ℕ → Type 0} (once : IsWholeOnce IsWhole) (wanted : Parameters) where
-  pub below_is_weaker : (c : Parameters) (salt key : List ℕ) → IsWhole c salt key → IsBelow wanted c (length key) → IsWeaker IsWhole wanted
-  below_is_weaker c salt key whole below = record { costs = c; salt = salt; key = key; whole = whole; below = below }
+module _ {IsWhole : Parameters → List ℕ → List ℕ → Type 0} {IsRefused : Refusal → Type 0} (one : IsReadOnce IsWhole IsRefused)
+    {wanted c : Parameters} {salt key : List ℕ} (whole : IsWhole c salt key) where
+  pub below_is_weaker : IsBelow wanted c (length key) → IsWeaker IsWhole wanted
+  below_is_weaker below = record { costs = c; salt = salt; key = key; whole = whole; below = below }
 
-  pub weaker_is_below : (c : Parameters) (salt key : List ℕ) → IsWhole c salt key → IsWeaker IsWhole wanted → IsBelow wanted c (length key)
-  weaker_is_below c salt key whole weaker =
-      let same = once _ _ _ _ _ _ whole weaker.whole in
+  pub weaker_is_below : IsWeaker IsWhole wanted → IsBelow wanted c (length key)
+  weaker_is_below weaker =
+      let same = one.whole_once _ _ _ _ _ _ whole weaker.whole in
       subst (λ z. IsBelow wanted z (length key)) (sym same.0)
       (subst (λ k. IsBelow wanted weaker.costs (length k)) (sym same.2) weaker.below)
 
@@ -27,7 +29,6 @@ not_below c len is (inr (inr (inl below))) = absurd (omega (arith, below))
 not_below c len is (inr (inr (inr below))) = absurd (omega (arith, below, is))
 
 -- a hash of these costs, with a key of the length that hashing makes, is not weaker than they ask for
-pub made_is_not_weaker : {IsWhole : Parameters → List ℕ → List ℕ → Type 0} → IsWholeOnce IsWhole → (c : Parameters) (salt key : List ℕ)
-    → IsWhole (without_len c) salt key → length key ≡ key_len_or_default c → IsWeaker IsWhole c → ⊥
-made_is_not_weaker {IsWhole} once c salt key whole long weaker =
-    not_below c (length key) long (weaker_is_below {IsWhole = IsWhole} once c (without_len c) salt key whole weaker)
+pub made_is_not_weaker : {IsWhole : Parameters → List ℕ → List ℕ → Type 0} {IsRefused : Refusal → Type 0} → IsReadOnce IsWhole IsRefused
+    → (c : Parameters) {salt key : List ℕ} → IsWhole (without_len c) salt key → length key ≡ key_len_or_default c → IsWeaker IsWhole c → ⊥
+made_is_not_weaker one c {salt} {key} whole long weaker = not_below c (length key) long (weaker_is_below one whole weaker)

@@ -6,11 +6,12 @@ use Rattle.password_hash.specs.Refusal.{Refusal, refusal}
 use Rattle.password_hash.specs.declared.error.Error.{Error}
 use Rattle.password_hash.specs.declared.error.Error.TheVariants as error
 use Rattle.scrypt.specs.Accepted.{Parameters}
-use Rattle.scrypt.specs.InBuffers.{AreCompared, AreTooShort}
+use Rattle.scrypt.specs.Cost.{chunks_bytes, cost, scratch_words}
+use Rattle.scrypt.specs.InBuffers.{AreCompared, AreTooShort, IsWiped}
 use Rattle.scrypt.specs.Limits.{AreWithin}
 use Rattle.scrypt.specs.StoredHash.{Accepts, IsWhole, ReadIsRefused, Verdict}
 use Rattle.scrypt.specs.WithinLimits.{IsRefusedWithin, IsTooCostly, IsWholeWithin, of_hash, too_costly, verdict_within}
-use Rattle.scrypt.specs.WorkInBuffers.{HasRoom, IsDone, IsSame, IsVerifying, Work}
+use Rattle.scrypt.specs.WorkInBuffers.{AreSame, HasRoom, IsUncounted, IsVerifying, Work}
 use Rattle.scrypt.specs.declared.errors.BoundedError.{BoundedError}
 use Rattle.scrypt.specs.declared.errors.BoundedError.TheVariants.{Hash, TooCostly}
 use Rattle.scrypt.specs.declared.limits.Limits.{Limits}
@@ -69,8 +70,14 @@ pub record IsVerifyingWithin (limits : Limits) (password text : List ℕ) (out :
   pub short : IsErrOf out (Hash error.OutOfMemory) ↔ AreTooShort (IsWholeWithin limits text) before.chunks before.table before.scratch
   pub exact : ¬ IsTooCostly limits text → ¬ AreTooShort (IsWhole text) before.chunks before.table before.scratch
       → (verdict : Option Refusal) → Verdict password text verdict → verdict_within out ≡ Some verdict
-  pub done : (c : Parameters) (salt key : List ℕ) → IsWholeWithin limits text c salt key → HasRoom c before → IsDone c before after
-  pub unchanged : ¬ AreCompared (IsWholeWithin limits text) before.chunks before.table before.scratch → IsSame before after
+  pub all : (c : Parameters) (salt key : List ℕ) → IsWholeWithin limits text c salt key → HasRoom c before
+      → after.all ≡ before.all + cost c.log_n c.r c.p
+  pub lanes : (c : Parameters) (salt key : List ℕ) → IsWholeWithin limits text c salt key → HasRoom c before
+      → after.lanes ≡ before.lanes + cost c.log_n c.r c.p
+  pub wiped : (c : Parameters) (salt key : List ℕ) → IsWholeWithin limits text c salt key → HasRoom c before
+      → IsWiped (chunks_bytes c.r c.p) before.chunks after.chunks × IsWiped (scratch_words c.r) before.scratch after.scratch
+  pub unchanged : ¬ AreCompared (IsWholeWithin limits text) before.chunks before.table before.scratch → AreSame before after
+  pub uncounted : ¬ AreCompared (IsWholeWithin limits text) before.chunks before.table before.scratch → IsUncounted before after
 
 -- a hash that is too costly is refused, and nothing changes
 pub refused_within : (limits : Limits) (password text : List ℕ) (before : Work) → IsTooCostly limits text
@@ -85,8 +92,11 @@ refused_within limits password text before costly =
       err = too_costly costly;
       short = (λ is. absurd cc, λ short. absurd (never short.0 short.1 short.2 short.3));
       exact = λ cheap. absurd (cheap costly);
-      done = λ c salt key at. absurd (never c salt key at);
-      unchanged = λ none. (refl, refl, refl, refl, refl);
+      all = λ c salt key at. absurd (never c salt key at);
+      lanes = λ c salt key at. absurd (never c salt key at);
+      wiped = λ c salt key at. absurd (never c salt key at);
+      unchanged = λ none. (refl, refl, refl);
+      uncounted = λ none. (refl, refl);
     }
 
 -- what does not depend on the result of verifying a hash that is not too costly
@@ -98,21 +108,24 @@ module _ (limits : Limits) (password text : List ℕ) (before after : Work) (che
     λ short. (short.0, short.1, short.2, short.3.whole, short.4),
   )
 
-  unchanged_as : (out : Result ⊤ Error) → IsVerifying (IsWhole text) (ReadIsRefused text) password out before after
-      → ¬ AreCompared (IsWholeWithin limits text) before.chunks before.table before.scratch → IsSame before after
-  unchanged_as out v none = v.unchanged (λ at. none (at.0, at.1, at.2, whole_within limits text at.0 at.1 at.2 cheap at.3, at.4))
+  none_as : ¬ AreCompared (IsWholeWithin limits text) before.chunks before.table before.scratch
+      → ¬ AreCompared (IsWhole text) before.chunks before.table before.scratch
+  none_as none at = none (at.0, at.1, at.2, whole_within limits text at.0 at.1 at.2 cheap at.3, at.4)
 
   pub right_within : IsVerifying (IsWhole text) (ReadIsRefused text) password (Ok tt) before after
       → IsVerifyingWithin limits password text (Ok tt) before after
   right_within v = record {
     costly = (λ is. absurd cc, λ costly. absurd (cheap costly));
-    ok = v.ok;
+    ok = v.verified.ok;
     wrong = tt;
     err = tt;
     short = (λ is. absurd cc, λ short. let is = v.short.1 (short_as.1 short) in absurd cc);
     exact = λ _ long verdict is. ap Some (v.exact long verdict is);
-    done = λ c salt key at room. v.done c salt key at.whole room;
-    unchanged = unchanged_as (Ok tt) v;
+    all = λ c salt key at. v.all c salt key at.whole;
+    lanes = λ c salt key at. v.lanes c salt key at.whole;
+    wiped = λ c salt key at. v.wiped c salt key at.whole;
+    unchanged = λ none. v.unchanged (none_as none);
+    uncounted = λ none. v.uncounted (none_as none);
   }
 
   pub error_within : (e : Error) → IsVerifying (IsWhole text) (ReadIsRefused text) password (Err e) before after
@@ -120,13 +133,16 @@ module _ (limits : Limits) (password text : List ℕ) (before after : Work) (che
   error_within e v = record {
     costly = (λ is. absurd cc, λ costly. absurd (cheap costly));
     ok = tt;
-    wrong = λ is. v.wrong (let same : e ≡ error.PasswordInvalid = cc in ap refusal same);
-    err = of_hash cheap v.err;
+    wrong = λ is. v.verified.wrong (let same : e ≡ error.PasswordInvalid = cc in ap refusal same);
+    err = of_hash cheap v.verified.err;
     short = (
       λ is. let same : e ≡ error.OutOfMemory = cc in short_as.0 (v.short.0 (ap Err same)),
       λ short. let is = v.short.1 (short_as.1 short) in let same : e ≡ error.OutOfMemory = cc in ap (λ z. Err (Hash z)) same,
     );
     exact = λ _ long verdict is. ap Some (v.exact long verdict is);
-    done = λ c salt key at room. v.done c salt key at.whole room;
-    unchanged = unchanged_as (Err e) v;
+    all = λ c salt key at. v.all c salt key at.whole;
+    lanes = λ c salt key at. v.lanes c salt key at.whole;
+    wiped = λ c salt key at. v.wiped c salt key at.whole;
+    unchanged = λ none. v.unchanged (none_as none);
+    uncounted = λ none. v.uncounted (none_as none);
   }

@@ -21,10 +21,13 @@ pub record Work : Type 0 where
 abbrev pub HasRoom : Parameters → Work → Type 0
 HasRoom c w = AreEnough c w.chunks w.table w.scratch
 
--- nothing changed
-abbrev pub IsSame : Work → Work → Type 0
-IsSame before after = (after.chunks ≡ before.chunks) × (after.table ≡ before.table) × (after.scratch ≡ before.scratch)
-    × (after.all ≡ before.all) × (after.lanes ≡ before.lanes)
+-- no buffer changed
+abbrev pub AreSame : Work → Work → Type 0
+AreSame before after = (after.chunks ≡ before.chunks) × (after.table ≡ before.table) × (after.scratch ≡ before.scratch)
+
+-- nothing was counted
+abbrev pub IsUncounted : Work → Work → Type 0
+IsUncounted before after = (after.all ≡ before.all) × (after.lanes ≡ before.lanes)
 
 -- a derivation with these parameters was counted, and what it left in the chunks and the scratch is zeros
 pub record IsDone (c : Parameters) (before after : Work) : Type 0 where
@@ -44,7 +47,8 @@ pub record IsComparing (c : Parameters) (salt key password : List ℕ) (out : Re
   pub compared : IsComparison c salt key password out
   pub short : IsErrOf out error.OutOfMemory ↔ (¬ HasRoom c before)
   pub done : HasRoom c before → IsDone c before after
-  pub unchanged : ¬ HasRoom c before → IsSame before after
+  pub unchanged : ¬ HasRoom c before → AreSame before after
+  pub uncounted : ¬ HasRoom c before → IsUncounted before after
 
 -- the result of verifying with a hash
 pub record IsVerified (IsWhole : Parameters → List ℕ → List ℕ → Type 0) (IsRefused : Refusal → Type 0)
@@ -56,11 +60,13 @@ pub record IsVerified (IsWhole : Parameters → List ℕ → List ℕ → Type 0
 -- the result of verifying with a hash in buffers, and what it does
 pub record IsVerifying (IsWhole : Parameters → List ℕ → List ℕ → Type 0) (IsRefused : Refusal → Type 0)
     (password : List ℕ) (out : Result ⊤ Error) (before after : Work) : Type 0 where
-  pub ok : OnOk out (IsAccepted IsWhole password)
-  pub wrong : IfErr out (λ e. refusal e ≡ PasswordInvalid → ¬ IsAccepted IsWhole password)
-  pub err : IfErr out (λ e. IsRefusedBy IsWhole IsRefused password (refusal e))
+  pub verified : IsVerified IsWhole IsRefused password out
   pub short : IsErrOf out error.OutOfMemory ↔ AreTooShort IsWhole before.chunks before.table before.scratch
   pub exact : ¬ AreTooShort IsWhole before.chunks before.table before.scratch
       → (verdict : Option Refusal) → VerdictOf IsWhole IsRefused password verdict → verdict_of out ≡ verdict
-  pub done : (c : Parameters) (salt key : List ℕ) → IsWhole c salt key → HasRoom c before → IsDone c before after
-  pub unchanged : ¬ AreCompared IsWhole before.chunks before.table before.scratch → IsSame before after
+  pub all : (c : Parameters) (salt key : List ℕ) → IsWhole c salt key → HasRoom c before → after.all ≡ before.all + cost c.log_n c.r c.p
+  pub lanes : (c : Parameters) (salt key : List ℕ) → IsWhole c salt key → HasRoom c before → after.lanes ≡ before.lanes + cost c.log_n c.r c.p
+  pub wiped : (c : Parameters) (salt key : List ℕ) → IsWhole c salt key → HasRoom c before
+      → IsWiped (chunks_bytes c.r c.p) before.chunks after.chunks × IsWiped (scratch_words c.r) before.scratch after.scratch
+  pub unchanged : ¬ AreCompared IsWhole before.chunks before.table before.scratch → AreSame before after
+  pub uncounted : ¬ AreCompared IsWhole before.chunks before.table before.scratch → IsUncounted before after

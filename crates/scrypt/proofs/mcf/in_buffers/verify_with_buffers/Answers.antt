@@ -1,49 +1,21 @@
+use Rattle.std.proofs.Common.{rules}
 use Rattle.password_hash.specs.McfViews.{hash_text}
-use Rattle.scrypt.specs.McfHash.{IsWhole, ReadIsRefused}
 use Rattle.scrypt.specs.WorkInBuffers.{Work}
-use Rattle.scrypt.proofs.InBuffersFacts.{mcf_not_memory, refused_verified, whole_verified}
-use Rattle.scrypt.proofs.McfHashFacts.{not_both, whole_once}
-use Rattle.scrypt.proofs.McfRefusalFacts.{refused_once}
+use Rattle.scrypt.proofs.InBuffersFacts.{refused_verified, whole_verified}
+use Rattle.scrypt.proofs.McfRefusalFacts.{read_once, refused_otherwise}
 use Rattle.scrypt.proofs.mcf.in_buffers.verify_with_buffers.Goals as goal
 
 pub returns-in-Ok : goal.returns-in-Ok
 returns-in-Ok c =
-    let hash = hash_text c.args.hash.now in
-    let made = c.verify_in_buffers.new in
-    let before : Work = record { chunks = c.args.chunks.now; table = c.args.table.now; scratch = c.args.scratch.now; all = c.args.cores.now.all; lanes = c.args.cores.now.lanes } in
-    let after : Work = record { chunks = made.chunks; table = made.table; scratch = made.scratch; all = made.cores.all; lanes = made.cores.lanes } in
+    let stored = c.in-Ok.stored in
     let read = c.in-Ok.ensures.ok in
-    let v = whole_verified (IsWhole hash) (ReadIsRefused hash) c.args.password.now c.in-Ok.stored.salt.now read.0 c.in-Ok.stored.params
-    c.verify_in_buffers.result before after (λ _ _ _ _ _ _. whole_once) (λ _ _. refused_once) (λ _ _ _ _. not_both) read.3
-    (c.verify_in_buffers.ensures.compared read.0 read.1 read.2) in
-    record {
-      ok = v.ok;
-      wrong = v.wrong;
-      err = v.err;
-      short = v.short;
-      exact = v.exact;
-      all = λ z s k whole room. (v.done z s k whole room).all;
-      lanes = λ z s k whole room. (v.done z s k whole room).lanes;
-      wiped = λ z s k whole room. ((v.done z s k whole room).chunks, (v.done z s k whole room).scratch);
-      unchanged = λ none. let same = v.unchanged none in (same.0, same.1, same.2);
-      uncounted = λ none. let same = v.unchanged none in (same.3, same.4);
-    }
+    let v = whole_verified (read_once (hash_text c.args.hash.now)) c.args.password.now stored.params stored.salt.now read.0
+    c.verify_in_buffers.result _ _ read.3 (c.verify_in_buffers.ensures.compared read.0 read.1 read.2) in
+    search rules
 
 pub returns-in-Err : goal.returns-in-Err
 returns-in-Err c =
-    let hash = hash_text c.args.hash.now in
     let before : Work = record { chunks = c.args.chunks.now; table = c.args.table.now; scratch = c.args.scratch.now; all = c.args.cores.now.all; lanes = c.args.cores.now.lanes } in
-    let v = refused_verified (IsWhole hash) (ReadIsRefused hash) c.args.password.now c.in-Err.error before
-    (λ _ _ _ _ _ _. whole_once) (λ _ _. refused_once) (λ _ _ _ _. not_both) c.in-Err.ensures.err (mcf_not_memory c.in-Err.ensures.err) in
-    record {
-      ok = v.ok;
-      wrong = v.wrong;
-      err = v.err;
-      short = v.short;
-      exact = v.exact;
-      all = λ z s k whole room. (v.done z s k whole room).all;
-      lanes = λ z s k whole room. (v.done z s k whole room).lanes;
-      wiped = λ z s k whole room. ((v.done z s k whole room).chunks, (v.done z s k whole room).scratch);
-      unchanged = λ none. let same = v.unchanged none in (same.0, same.1, same.2);
-      uncounted = λ none. let same = v.unchanged none in (same.3, same.4);
-    }
+    let why = c.in-Err.ensures.err in
+    let v = refused_verified (read_once (hash_text c.args.hash.now)) c.args.password.now c.in-Err.error before why (refused_otherwise why).1 in
+    search rules

@@ -1,16 +1,14 @@
 use Rattle.std.proofs.Common.{sym}
 use Rattle.scrypt.specs.StoredHash.{phc}
 use Rattle.scrypt.proofs.McfRefusalFacts.{refused_otherwise}
-use Rattle.scrypt.proofs.StoredHashFacts.{as_mcf, as_phc, mcf_refused, params_of_phc, phc_refused}
+use Rattle.scrypt.proofs.StoredHashFacts.{as_phc, mcf_alike, params_of_phc, phc_alike}
 use Rattle.scrypt.proofs.stored_hash.StoredHash.params_and_key_len.Goals as goal
 
 pub returns-in-Err-clause-err : goal.returns-in-Err-clause-err
-returns-in-Err-clause-err c =
-    let read = as_mcf c.self.view_is c.in-Mcf.is c.self.invariant in
-    mcf_refused read.0 read.1 _ (rw read.2 at c.in-Err.ensures.err)
+returns-in-Err-clause-err c = (mcf_alike c.self.view_is c.in-Mcf.is c.self.invariant).over _ c.in-Err.ensures.err
 
 pub returns-in-Err-clause-missing : goal.returns-in-Err-clause-missing
-returns-in-Err-clause-missing c = refused_otherwise c.in-Err.ensures.err
+returns-in-Err-clause-missing c = (refused_otherwise c.in-Err.ensures.err).0
 
 pub returns-in-Ok-params-clause-ok : goal.returns-in-Ok-params-clause-ok
 returns-in-Ok-params-clause-ok c =
@@ -20,8 +18,8 @@ returns-in-Ok-params-clause-ok c =
 
 pub returns-in-Err-params-clause-err : goal.returns-in-Err-params-clause-err
 returns-in-Err-params-clause-err c =
-    let read = as_phc c.self.view_is c.in-Phc.is c.self.invariant in
-    phc_refused read.0 read.1 _ (rw c.in-Err-params.is at (params_of_phc _ c.in-Phc.is c.self.invariant).err)
+    (phc_alike c.self.view_is c.in-Phc.is c.self.invariant).over _
+    (rw c.in-Err-params.is at (params_of_phc _ c.in-Phc.is c.self.invariant).err)
 
 pub returns-in-Err-params-clause-missing : goal.returns-in-Err-params-clause-missing
 returns-in-Err-params-clause-missing c = rw c.in-Err-params.is at (params_of_phc _ c.in-Phc.is c.self.invariant).missing
