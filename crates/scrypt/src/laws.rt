@@ -28,6 +28,7 @@ ghost use Rattle.scrypt.specs.Rehashing.{IsWeaker};
 ghost use Rattle.scrypt.specs.StoredHash.{Accepts as TextAccepts, HasParameters, IsWeakerText, IsWhole as IsWholeText, ReadIsRefused as TextReadIsRefused, Verdict as TextVerdict, VerifyIsRefused as TextVerifyIsRefused, is_mcf_text};
 
 /// A shorter key is the beginning of a longer one, for any two lengths.
+#[tactic(auto, using(crate::proofs::KeyFacts::key_prefix))]
 pub fn shorter_key_is_prefix()
     ensures prefix { (password salt : List ℕ) (log_n r p m n : ℕ) → m ≤ n
         → derived_key password salt log_n r p m ≡ take m (derived_key password salt log_n r p n) }
@@ -43,6 +44,7 @@ pub fn zero_byte_and_digest_passwords_collide()
 {}
 
 /// The chunks may be mixed one after another in any order that names each of them once.
+#[tactic(auto, using(crate::proofs::ChunkFacts::any_order))]
 pub fn chunks_in_any_order()
     ensures same { (b order : List ℕ) (log_n r p : ℕ) → 0 < r → length b ≡ p * (128 * r) → NamesEachOnce p order
         → mixed_in_order log_n r b order ≡ mixed_chunks b log_n r p }
@@ -111,6 +113,7 @@ pub fn stored_texts_have_one_reading()
 {}
 
 /// A `$7$` text is read in its format, and so is the text of a PHC hash of scrypt.
+#[tactic(auto, using(crate::proofs::StoredHashFacts::mcf_is_seven, crate::proofs::StoredHashFacts::scrypt_is_phc))]
 pub fn formats_are_told_apart()
     ensures mcf { (text : List ℕ) (fields : List (List ℕ)) → IsMcfText text mcf_id fields → is_mcf_text text ≡ true }
     ensures phc { (text : List ℕ) (hash : PasswordHash) → IsHashText text hash → hash.algorithm ≡ scrypt_id
@@ -133,6 +136,7 @@ pub fn made_texts_are_accepted()
 {}
 
 /// Hashing with refused arguments has only one error.
+#[tactic(auto, using(crate::proofs::HashingFacts::refused_once))]
 pub fn hashing_refusals_are_one()
     ensures phc { (salt : List ℕ) (alg_id : Option (List ℕ)) (version : Option ℕ) (one other : Refusal)
         → HashIsRefused salt alg_id version one → HashIsRefused salt alg_id version other → one ≡ other }

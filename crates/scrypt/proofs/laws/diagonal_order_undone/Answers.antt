@@ -7,6 +7,3 @@ returns-clause-undone c = in_then_out pivot inverse_pivot diagonal_inverse
 
 pub returns-clause-redone : goal.returns-clause-redone
 returns-clause-redone c = out_then_in pivot inverse_pivot diagonal_inverse
-
-pub returns-clause-tables : goal.returns-clause-tables
-returns-clause-tables c = diagonal_inverse

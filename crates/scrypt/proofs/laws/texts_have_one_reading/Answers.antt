@@ -7,17 +7,11 @@ use Rattle.scrypt.proofs.laws.texts_have_one_reading.Goals as goal
 pub returns-clause-phc_reading : goal.returns-clause-phc_reading
 returns-clause-phc_reading c = one_reading
 
-pub returns-clause-phc_text : goal.returns-clause-phc_text
-returns-clause-phc_text c hash one other is again = is.whole ∙ sym again.whole
-
 pub returns-clause-modular_reading : goal.returns-clause-modular_reading
 returns-clause-modular_reading c text one other fields more is again =
     let first = IsMcfText-one text one fields is in
     let second = IsMcfText-one text other more again in
     (sym first.0 ∙ second.0, sym first.1 ∙ second.1)
-
-pub returns-clause-modular_text : goal.returns-clause-modular_text
-returns-clause-modular_text c id one other fields is again = is.written ∙ sym again.written
 
 pub returns-clause-mcf_reading : goal.returns-clause-mcf_reading
 returns-clause-mcf_reading c text salt more_salt stored more_stored one other is again = whole_once is again
@@ -27,6 +21,3 @@ returns-clause-mcf_text c one other salt stored costs is again = text_of is ∙ 
 
 pub returns-clause-crypt64_reading : goal.returns-clause-crypt64_reading
 returns-clause-crypt64_reading c = Crypt64-one
-
-pub returns-clause-crypt64_text : goal.returns-clause-crypt64_text
-returns-clause-crypt64_text c bytes one other is again = is.encoding ∙ sym again.encoding

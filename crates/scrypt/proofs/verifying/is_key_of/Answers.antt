@@ -1,4 +1,3 @@
-use Rattle.scrypt.proofs.CostFacts.{counted_whole}
 use Rattle.scrypt.specs.Key.{derived_key}
 use Rattle.scrypt.proofs.verifying.is_key_of.Goals as goal
 
@@ -6,9 +5,3 @@ pub returns-clause-exact : goal.returns-clause-exact
 unfolding derived_key
 returns-clause-exact g c bytes is long =
     rw c.mix_chunks.ensures.value at (c.is_derived_key-same.ensures.exact bytes is long)
-
-pub returns-clause-all : goal.returns-clause-all
-returns-clause-all g c = counted_whole _ _ _ _ _ _ _ c.mix_chunks.ensures.all
-
-pub returns-clause-lanes : goal.returns-clause-lanes
-returns-clause-lanes g c = counted_whole _ _ _ _ _ _ _ c.mix_chunks.ensures.lanes

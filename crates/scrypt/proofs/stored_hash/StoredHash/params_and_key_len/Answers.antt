@@ -20,6 +20,3 @@ pub returns-in-Err-params-clause-err : goal.returns-in-Err-params-clause-err
 returns-in-Err-params-clause-err c =
     (phc_alike c.self.view_is c.in-Phc.is c.self.invariant).over _
     (rw c.in-Err-params.is at (params_of_phc _ c.in-Phc.is c.self.invariant).err)
-
-pub returns-in-Err-params-clause-missing : goal.returns-in-Err-params-clause-missing
-returns-in-Err-params-clause-missing c = rw c.in-Err-params.is at (params_of_phc _ c.in-Phc.is c.self.invariant).missing

@@ -1,11 +1,10 @@
-use Rattle.std.specs.Prelude.{None}
 use Rattle.std.proofs.Common.{◌≡◌}
 use Rattle.std.specs.Option.{option_map}
-use Rattle.std.proofs.lemmas.Result.{IfErr-weaker, IfOk-weaker, err_from_is_err_and}
+use Rattle.std.proofs.lemmas.Result.{IfErr-weaker, err_from_is_err_and}
 use Rattle.password_hash.specs.Refusal.{refusal}
 use Rattle.password_hash.specs.declared.error.Error.TheVariants.{OutOfMemory}
 use Rattle.scrypt.specs.Hashing.{by_memory}
-use Rattle.scrypt.specs.McfHash.{HashIsRefused, IsMadeHash, IsMcfOrNone}
+use Rattle.scrypt.specs.McfHash.{HashIsRefused}
 use Rattle.scrypt.proofs.HashingFacts.{refused_call}
 use Rattle.scrypt.proofs.mcf.hashing.ScryptCustomizedPasswordHasherPasswordHash.hash_password_customized.Goals as goal
 
@@ -18,10 +17,3 @@ pub returns-clause-err : goal.returns-clause-err
 returns-clause-err c =
     IfErr-weaker c.hash_of.result (λ e. e ≡ OutOfMemory) (λ e. HashIsRefused (option_map (λ s. s.now) c.args.alg_id) c.args.version (refusal e))
     (λ e is. rw is (by_memory c.in_ok-check_call.ensures.named c.in_ok-check_call.ensures.none tt)) c.hash_of.ensures.memory
-
-pub returns-clause-ok : goal.returns-clause-ok
-returns-clause-ok c =
-    IfOk-weaker c.hash_of.result (λ hash. IsMadeHash c.args.params c.args.password.now c.args.salt.now hash)
-    (λ hash. IsMcfOrNone (option_map (λ s. s.now) c.args.alg_id) × (c.args.version ≡ None)
-    × IsMadeHash c.args.params c.args.password.now c.args.salt.now hash)
-    (λ _ made. (c.in_ok-check_call.ensures.named, c.in_ok-check_call.ensures.none, made)) c.hash_of.ensures.value

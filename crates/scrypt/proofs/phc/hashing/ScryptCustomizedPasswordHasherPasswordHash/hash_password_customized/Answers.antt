@@ -18,6 +18,3 @@ returns-in_err-own-clause-err c =
     let out = err_from_is_err_and c.from_residual-in_err-own.result c.from_residual-in_err-own.ensures.1 in
     rw (out.1, out.2) (by_memory
     (rw c.as_str.ensures.value at c.in_ok-check_call.ensures.named) c.in_ok-check_call.ensures.none (c.in-Ok.ensures.exact.0 refl))
-
-pub returns-clause-ok : goal.returns-clause-ok
-returns-clause-ok c = ((rw c.as_str.ensures.value at c.in_ok-check_call.ensures.named), c.in_ok-check_call.ensures.none, rw c.in-Ok.ensures.value at c.hash_of.ensures.made)

@@ -1,8 +1,0 @@
-use Rattle.scrypt.proofs.CostFacts.{counted_whole}
-use Rattle.scrypt.proofs.derivation.scrypt_counted.Goals as goal
-
-pub returns-clause-all : goal.returns-clause-all
-returns-clause-all c = counted_whole _ _ _ _ _ _ _ c.derive_in.ensures.all
-
-pub returns-clause-lanes : goal.returns-clause-lanes
-returns-clause-lanes c = counted_whole _ _ _ _ _ _ _ c.derive_in.ensures.lanes
