@@ -26,60 +26,55 @@ first_letters a b xs ys other e = other (ap (λ zs. get_or zs 0 0) e)
 abbrev Differ : List ℕ × List ℕ → List ℕ × List ℕ → Type 0
 Differ first second = first.0 ≢ second.0
 
-ln_pair : (n : ℕ) → n < 2 ^ 32 → IsPair (number_pair (codes "ln") n)
+-- the three pairs
+
+abbrev ln : ℕ → List ℕ × List ℕ
+ln n = number_pair (codes "ln") n
+
+abbrev r : ℕ → List ℕ × List ℕ
+r n = number_pair (codes "r") n
+
+abbrev p : ℕ → List ℕ × List ℕ
+p n = number_pair (codes "p") n
+
+ln_pair : (n : ℕ) → n < 2 ^ 32 → IsPair (ln n)
 ln_pair n small = is_pair (codes "ln") n (record { some = lit≤ tt; short = lit≤ tt; letters = refl }) (λ e. cc) small
 
-r_pair : (n : ℕ) → n < 2 ^ 32 → IsPair (number_pair (codes "r") n)
+r_pair : (n : ℕ) → n < 2 ^ 32 → IsPair (r n)
 r_pair n small =
     is_pair (codes "r") n (record { some = lit≤ tt; short = lit≤ tt; letters = refl })
     (first_letters 114 118 [] [] (λ e. absurd (omega (arith, e)))) small
 
-p_pair : (n : ℕ) → n < 2 ^ 32 → IsPair (number_pair (codes "p") n)
+p_pair : (n : ℕ) → n < 2 ^ 32 → IsPair (p n)
 p_pair n small =
     is_pair (codes "p") n (record { some = lit≤ tt; short = lit≤ tt; letters = refl })
     (first_letters 112 118 [] [] (λ e. absurd (omega (arith, e)))) small
 
-no_pairs : AllPairs Differ []
-no_pairs i j d before inside = absurd (omega arith)
-
 alone : (pair : List ℕ × List ℕ) → AllPairs Differ (pair ∷ [])
-alone pair = AllPairs-cons Differ pair [] (All-nil (Differ pair)) no_pairs
+alone pair = AllPairs-cons Differ pair [] (All-nil (Differ pair)) (λ i j d before inside. absurd (omega arith))
 
-module _ (log_n r p : ℕ) (small_log_n : log_n < 2 ^ 32) (small_r : r < 2 ^ 32) (small_p : p < 2 ^ 32) where
-  abbrev ln_is : List ℕ × List ℕ
-  ln_is = number_pair (codes "ln") log_n
+pub one_pair : (m : ℕ) → m < 2 ^ 32 → ArePairs (ln m ∷ [])
+one_pair m small_m = record {
+  each = All-cons IsPair (ln m) [] (ln_pair m small_m) (All-nil IsPair);
+  once = alone (ln m);
+  short = simp length-append (omega (arith, short m small_m));
+}
 
-  abbrev r_is : List ℕ × List ℕ
-  r_is = number_pair (codes "r") r
+pub two_pairs : (m n : ℕ) → m < 2 ^ 32 → n < 2 ^ 32 → ArePairs (ln m ∷ r n ∷ [])
+two_pairs m n small_m small_n = record {
+  each = All-cons IsPair (ln m) (r n ∷ []) (ln_pair m small_m) (All-cons IsPair (r n) [] (r_pair n small_n) (All-nil IsPair));
+  once = AllPairs-cons Differ (ln m) (r n ∷ []) (All-cons (Differ (ln m)) (r n) [] (λ e. cc) (All-nil (Differ (ln m)))) (alone (r n));
+  short = simp length-append (omega (arith, short m small_m, short n small_n));
+}
 
-  abbrev p_is : List ℕ × List ℕ
-  p_is = number_pair (codes "p") p
-
-  pub one_pair : ArePairs (ln_is ∷ [])
-  one_pair = record {
-    each = All-cons IsPair ln_is [] (ln_pair log_n small_log_n) (All-nil IsPair);
-    once = alone ln_is;
-    short = simp length-append (omega (arith, short log_n small_log_n));
-  }
-
-  pub two_pairs : ArePairs (ln_is ∷ r_is ∷ [])
-  two_pairs = record {
-    each = All-cons IsPair ln_is (r_is ∷ []) (ln_pair log_n small_log_n)
-        (All-cons IsPair r_is [] (r_pair r small_r) (All-nil IsPair));
-    once = AllPairs-cons Differ ln_is (r_is ∷ [])
-        (All-cons (Differ ln_is) r_is [] (λ e. cc) (All-nil (Differ ln_is))) (alone r_is);
-    short = simp length-append (omega (arith, short log_n small_log_n, short r small_r));
-  }
-
-  pub three_pairs : ArePairs (ln_is ∷ r_is ∷ p_is ∷ [])
-  three_pairs = record {
-    each = All-cons IsPair ln_is (r_is ∷ p_is ∷ []) (ln_pair log_n small_log_n)
-        (All-cons IsPair r_is (p_is ∷ []) (r_pair r small_r)
-        (All-cons IsPair p_is [] (p_pair p small_p) (All-nil IsPair)));
-    once = AllPairs-cons Differ ln_is (r_is ∷ p_is ∷ [])
-        (All-cons (Differ ln_is) r_is (p_is ∷ []) (λ e. cc)
-        (All-cons (Differ ln_is) p_is [] (λ e. cc) (All-nil (Differ ln_is))))
-        (AllPairs-cons Differ r_is (p_is ∷ [])
-        (All-cons (Differ r_is) p_is [] (first_letters 114 112 [] [] (λ e. absurd (omega (arith, e)))) (All-nil (Differ r_is))) (alone p_is));
-    short = simp length-append (omega (arith, short log_n small_log_n, short r small_r, short p small_p));
-  }
+pub three_pairs : (m n k : ℕ) → m < 2 ^ 32 → n < 2 ^ 32 → k < 2 ^ 32 → ArePairs (ln m ∷ r n ∷ p k ∷ [])
+three_pairs m n k small_m small_n small_k = record {
+  each = All-cons IsPair (ln m) (r n ∷ p k ∷ []) (ln_pair m small_m)
+      (All-cons IsPair (r n) (p k ∷ []) (r_pair n small_n) (All-cons IsPair (p k) [] (p_pair k small_k) (All-nil IsPair)));
+  once = AllPairs-cons Differ (ln m) (r n ∷ p k ∷ [])
+      (All-cons (Differ (ln m)) (r n) (p k ∷ []) (λ e. cc)
+      (All-cons (Differ (ln m)) (p k) [] (λ e. cc) (All-nil (Differ (ln m)))))
+      (AllPairs-cons Differ (r n) (p k ∷ []) (All-cons (Differ (r n)) (p k) []
+      (first_letters 114 112 [] [] (λ e. absurd (omega (arith, e)))) (All-nil (Differ (r n)))) (alone (p k)));
+  short = simp length-append (omega (arith, short m small_m, short n small_n, short k small_k));
+}

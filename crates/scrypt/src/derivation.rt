@@ -71,7 +71,7 @@ impl BufferLens {
     }
 
     // The lengths with a table of `2^log_rows` rows, and with a scratch of so many rows.
-    #[tactic(auto, using(crate::proofs::AcceptedFacts::small_chunks, crate::proofs::AcceptedFacts::small_rows))]
+    #[tactic(auto, using(crate::proofs::AcceptedFacts::small_log_n, crate::proofs::AcceptedFacts::small_chunks, crate::proofs::AcceptedFacts::small_rows))]
     fn with_rows(params: &Params, log_rows: u8, scratch_rows: usize) -> BufferLens
         requires fewer { log_rows ≤ params.now.log_n }
         requires few { scratch_rows ≤ 3 }
@@ -247,6 +247,7 @@ pub fn scrypt_thin(
 }
 
 /// Steps 1 to 3, in any memory, with a table that keeps one row in `2^s`.
+#[tactic(auto, unfolding(crate::specs::Key::derived_key))]
 pub(crate) fn derive_in<M: Memory>(
     password: &[u8],
     salt: &[u8],

@@ -17,6 +17,7 @@ use scrypt_kernel::memory::Memory;
 ///
 /// Returns `Algorithm` if `alg_id` is given and not `name`, and otherwise `Version` if `version` is
 /// given.
+#[tactic(auto, using(crate::specs::Hashing::of_algorithm, crate::specs::Hashing::of_version))]
 pub(crate) fn check_call(name: &str, alg_id: Option<&str>, version: Option<Version>) -> Result<()>
     ensures named { OnOk result (IsNamedOrNone name.now (option_map (λ s. s.now) alg_id.entry)) }
     ensures none { OnOk result (version ≡ None) }

@@ -46,6 +46,7 @@ pub fn encode64_uint32(out: &mut [u8], number: u32) -> Result<()>
 }
 
 /// Returns the five letters of a number modulo 2^30.
+#[tactic(auto, unfolding(password_hash::specs::Crypt64::letters_of))]
 pub(super) fn five_letters(number: u32) -> [u8; 5]
     ensures { result ≡ letters_of 5 number }
 {

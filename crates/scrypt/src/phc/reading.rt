@@ -22,6 +22,7 @@ pub(crate) struct Stored<'a> {
 ///
 /// Returns the error of reading the parameters, or `PasswordInvalid` if the salt or the key is
 /// missing.
+#[tactic(auto, using(crate::specs::PhcHash::missing))]
 pub(crate) fn stored_of<'a>(hash: &'a PasswordHash, params: &Result<Params>) -> Result<Stored<'a>>
     requires { AreParamsOf hash.now params.now }
     ensures ok { IfOk result (λ stored. IsWhole hash.now stored.params stored.salt.now stored.key.now) }

@@ -3,11 +3,6 @@ use Rattle.std.proofs.lemmas.Nat.{one_shl}
 use Rattle.scrypt.proofs.AcceptedFacts.{small_log_n, small_rows}
 use Rattle.scrypt.proofs.derivation.BufferLens.with_rows.Goals as goal
 
-pub overflow_shl-result : goal.overflow_shl-result
-overflow_shl-result c =
-    let small = small_log_n c.args.params.now.log_n c.r.result c.r.ensures.some c.r.ensures.table in
-    omega (arith, small, c.requires.fewer)
-
 pub overflow_mul-result-3 : goal.overflow_mul-result-3
 overflow_mul-result-3 c =
     let log_rows = c.args.log_rows in

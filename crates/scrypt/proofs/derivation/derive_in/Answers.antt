@@ -1,9 +1,0 @@
-use Rattle.std.proofs.Common.{ap, ◌∙◌, length}
-use Rattle.scrypt_kernel.specs.Pbkdf2.{pbkdf2}
-use Rattle.scrypt.specs.Key.{derived_key}
-use Rattle.scrypt.proofs.derivation.derive_in.Goals as goal
-
-pub returns-clause-value : goal.returns-clause-value
-unfolding derived_key
-returns-clause-value g c =
-    c.pbkdf2_one.ensures.value ∙ ap (λ b. pbkdf2 c.args.password.now b (length c.args.output.now)) c.mix_chunks.ensures.value
