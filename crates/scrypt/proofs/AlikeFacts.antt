@@ -8,29 +8,31 @@ use Rattle.scrypt.specs.Rehashing.{IsReadable, IsWeaker}
 use Rattle.scrypt.specs.Verifying.{IsAccepted, IsRefusedBy, VerdictOf, by_verdict, for_memory, refused, right, wrong}
 use Rattle.scrypt.specs.WorkInBuffers.{IsVerified, IsVerifying, Work}
 use Rattle.scrypt.proofs.InBuffersFacts.{exact}
-use Rattle.scrypt.proofs.VerdictFacts.{IsReadOnce}
+use Rattle.scrypt.proofs.VerdictFacts.{IsReadOnce, OfParts}
+
+-- what is whole in one sense is so in another
+abbrev pub Implies : OfParts → OfParts → Type 0
+Implies W V = (c : Parameters) (salt key : List ℕ) → W c salt key → V c salt key
 
 -- what is whole or refused in one sense is so in another, and what is whole in the other is so in the one
-pub record AreAlike (W V : Parameters → List ℕ → List ℕ → Type 0) (R S : Refusal → Type 0) : Type 0 where
-  pub to : (c : Parameters) (salt key : List ℕ) → W c salt key → V c salt key
-  pub from : (c : Parameters) (salt key : List ℕ) → V c salt key → W c salt key
+pub record AreAlike (W V : OfParts) (R S : Refusal → Type 0) : Type 0 where
+  pub to : Implies W V
+  pub from : Implies V W
   pub over : (why : Refusal) → R why → S why
 
-pub accepted_as : {W V : Parameters → List ℕ → List ℕ → Type 0} {password : List ℕ}
-    → ((c : Parameters) (salt key : List ℕ) → W c salt key → V c salt key) → IsAccepted W password → IsAccepted V password
+pub accepted_as : {W V : OfParts} {password : List ℕ} → Implies W V → IsAccepted W password → IsAccepted V password
 accepted_as to h = record { costs = h.costs; salt = h.salt; stored = h.stored; whole = to _ _ _ h.whole; right = h.right }
 
-weaker_as : {W V : Parameters → List ℕ → List ℕ → Type 0} {wanted : Parameters}
-    → ((c : Parameters) (salt key : List ℕ) → W c salt key → V c salt key) → IsWeaker W wanted → IsWeaker V wanted
+weaker_as : {W V : OfParts} {wanted : Parameters} → Implies W V → IsWeaker W wanted → IsWeaker V wanted
 weaker_as to h = record { costs = h.costs; salt = h.salt; key = h.key; whole = to _ _ _ h.whole; below = h.below }
 
 -- what comparing a hash with wanted parameters returns
-pub record IsCompared (W : Parameters → List ℕ → List ℕ → Type 0) (R : Refusal → Type 0) (wanted : Parameters) (out : Result Bool Error) : Type 0 where
+pub record IsCompared (W : OfParts) (R : Refusal → Type 0) (wanted : Parameters) (out : Result Bool Error) : Type 0 where
   pub ok : OnOk out (IsReadable W)
   pub weak : IfOk out (λ weak. IsTrue weak ↔ IsWeaker W wanted)
   pub err : IfErr out (λ e. R (refusal e))
 
-module _ {W V : Parameters → List ℕ → List ℕ → Type 0} {R S : Refusal → Type 0} (alike : AreAlike W V R S) where
+module _ {W V : OfParts} {R S : Refusal → Type 0} (alike : AreAlike W V R S) where
   verdict_as : {password : List ℕ} {out : Option Refusal} → VerdictOf W R password out → VerdictOf V S password out
   verdict_as (refused h) = refused (alike.over _ h)
   verdict_as (wrong whole differs) = wrong (alike.to _ _ _ whole) differs

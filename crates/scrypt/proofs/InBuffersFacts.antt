@@ -8,7 +8,7 @@ use Rattle.scrypt.specs.Accepted.{Parameters}
 use Rattle.scrypt.specs.InBuffers.{verdict_of}
 use Rattle.scrypt.specs.Verifying.{IsRefusedBy, VerdictOf, by_verdict, for_memory, refused, right, wrong}
 use Rattle.scrypt.specs.WorkInBuffers.{HasRoom, IsComparing, IsComparison, IsDone, IsVerified, IsVerifying, Work}
-use Rattle.scrypt.proofs.VerdictFacts.{IsReadOnce, accepted_key, verdict_once}
+use Rattle.scrypt.proofs.VerdictFacts.{IsReadOnce, OfParts, accepted_key, verdict_once}
 
 -- an error with the value of a failed allocation is one
 memory_error : (e : Error) → refusal e ≡ OutOfMemory → e ≡ error.OutOfMemory
@@ -26,7 +26,7 @@ memory_error error.OutOfMemory is = refl
 memory_differs : {e : Error} → e ≡ error.OutOfMemory → refusal e ≡ PasswordInvalid → ⊥
 memory_differs is wrong_is = let memory : OutOfMemory ≡ PasswordInvalid = sym (ap refusal is) ∙ wrong_is in absurd cc
 
-module _ {W : Parameters → List ℕ → List ℕ → Type 0} {R : Refusal → Type 0} (one : IsReadOnce W R) (password : List ℕ) where
+module _ {W : OfParts} {R : Refusal → Type 0} (one : IsReadOnce W R) (password : List ℕ) where
   -- a result that is not for memory is the verdict
 
   err_exact : (e : Error) (why : Refusal) → refusal e ≡ why → e ≢ error.OutOfMemory → IsRefusedBy W R password why
@@ -40,8 +40,8 @@ module _ {W : Parameters → List ℕ → List ℕ → Type 0} {R : Refusal → 
   exact (Err e) long told verdict is = err_exact e (refusal e) refl (λ same. long (ap Err same)) told.err verdict is
 
   -- the result of comparing the key of a whole hash is that of verifying
-  pub whole_compared : (c : Parameters) (salt key : List ℕ) (out : Result ⊤ Error) → W c salt key → IsComparison c salt key password out
-      → IsVerified W R password out
+  pub whole_compared : (c : Parameters) (salt key : List ℕ) (out : Result ⊤ Error) → W c salt key
+      → IsComparison c salt key password out → IsVerified W R password out
   whole_compared c salt key (Ok u) whole compared = record {
     ok = record { costs = c; salt = salt; stored = key; whole = whole; right = compared.right };
     wrong = tt;
@@ -56,7 +56,8 @@ module _ {W : Parameters → List ℕ → List ℕ → Type 0} {R : Refusal → 
     | inr invalid ↦ record {
       ok = tt;
       wrong = λ is accepts. compared.wrong invalid (accepted_key one whole accepts);
-      err = subst (λ z. IsRefusedBy W R password (refusal z)) (sym invalid) (by_verdict (wrong whole (compared.wrong invalid)));
+      err = subst (λ z. IsRefusedBy W R password (refusal z)) (sym invalid)
+          (by_verdict (wrong whole (compared.wrong invalid)));
     }
   ]
 
@@ -73,7 +74,8 @@ module _ {W : Parameters → List ℕ → List ℕ → Type 0} {R : Refusal → 
         verified = told;
         short = (
           λ is. (c, salt, key, whole, done.short.0 is),
-          λ short. done.short.1 (λ room. short.4 (subst (λ z. HasRoom z before) (same_costs short.0 short.1 short.2 short.3) room)),
+          λ short. done.short.1 (λ room. short.4
+              (subst (λ z. HasRoom z before) (same_costs short.0 short.1 short.2 short.3) room)),
         );
         exact = λ long. exact out (λ is. long (c, salt, key, whole, done.short.0 is)) told;
         all = λ z s k w room. (counted z s k w room).all;
@@ -92,7 +94,8 @@ module _ {W : Parameters → List ℕ → List ℕ → Type 0} {R : Refusal → 
   }
 
   -- in buffers too: nothing changes
-  pub refused_verified : (e : Error) (before : Work) → R (refusal e) → refusal e ≢ OutOfMemory → IsVerifying W R password (Err e) before before
+  pub refused_verified : (e : Error) (before : Work) → R (refusal e) → refusal e ≢ OutOfMemory
+      → IsVerifying W R password (Err e) before before
   refused_verified e before why not_memory = record {
     verified = refused_read e why;
     short = (

@@ -73,7 +73,8 @@ refused_once {why = why} {why' = why'} first second = elim (fields_refused first
 
 -- a text is read in one way
 pub read_once : (text : List ℕ) → IsReadOnce (IsWhole text) (ReadIsRefused text)
-read_once text = record { whole_once = λ _ _ _ _ _ _. whole_once; refused_once = λ _ _. refused_once; not_both = λ _ _ _ _. not_both }
+read_once text =
+    record { whole_once = λ _ _ _ _ _ _. whole_once; refused_once = λ _ _. refused_once; not_both = λ _ _ _ _. not_both }
 
 -- a field is refused neither as a wrong password nor for memory
 field_refused_otherwise : {field : List ℕ} {out : Result (Parameters × List ℕ) Refusal} → ReadsField field out
@@ -83,7 +84,8 @@ field_refused_otherwise (not_accepted says refused) = (λ is. absurd cc, λ is. 
 field_refused_otherwise (accepted says fits) = tt
 
 -- nor is a text
-pub refused_otherwise : {text : List ℕ} {why : Refusal} → ReadIsRefused text why → (why ≢ PasswordInvalid) × (why ≢ OutOfMemory)
+pub refused_otherwise : {text : List ℕ} {why : Refusal} → ReadIsRefused text why
+    → (why ≢ PasswordInvalid) × (why ≢ OutOfMemory)
 refused_otherwise (other_id parts other) = (λ is. absurd cc, λ is. absurd cc)
 refused_otherwise (no_field parts) = (λ is. absurd cc, λ is. absurd cc)
 refused_otherwise (bad_costs parts h) = field_refused_otherwise h

@@ -69,7 +69,8 @@ refused_once (missing of_costs gone) (missing of_costs' gone') = refl
 
 -- a hash is read in one way
 pub read_once : (hash : PasswordHash) → IsReadOnce (IsWhole hash) (ReadIsRefused hash)
-read_once hash = record { whole_once = λ _ _ _ _ _ _. whole_once; refused_once = λ _ _. refused_once; not_both = λ _ _ _ _. not_both }
+read_once hash =
+    record { whole_once = λ _ _ _ _ _ _. whole_once; refused_once = λ _ _. refused_once; not_both = λ _ _ _ _. not_both }
 
 -- and never refused for memory
 pub not_memory : {hash : PasswordHash} {why : Refusal} → ReadIsRefused hash why → why ≢ OutOfMemory

@@ -81,8 +81,12 @@ decided (r_refused name none) =
     (passed _ (λ e. cc) name, refuses _ (λ n is _. none n is) refl, passed _ r_p name, λ _ no _. absurd (no name))
 decided (p n name is rest) =
     (passed _ (λ e. cc) name, passed _ (λ e. r_p (sym e)) name, taken _ n is tt rest, λ _ _ no. absurd (no name))
-decided (p_refused name none) =
-    (passed _ (λ e. cc) name, passed _ (λ e. r_p (sym e)) name, refuses _ (λ n is _. none n is) refl, λ _ _ no. absurd (no name))
+decided (p_refused name none) = (
+  passed _ (λ e. cc) name,
+  passed _ (λ e. r_p (sym e)) name,
+  refuses _ (λ n is _. none n is) refl,
+  λ _ _ no. absurd (no name),
+)
 decided (unknown no_ln no_r no_p) = (λ is. absurd (no_ln is), λ is. absurd (no_r is), λ is. absurd (no_p is), λ _ _ _. refl)
 
 -- the pairs have one reading alone

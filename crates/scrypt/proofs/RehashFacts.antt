@@ -4,9 +4,9 @@ use Rattle.password_hash.specs.Refusal.{Refusal}
 use Rattle.scrypt.specs.Accepted.{Parameters, without_len}
 use Rattle.scrypt.specs.Hashing.{key_len_or_default}
 use Rattle.scrypt.specs.Rehashing.{IsBelow, IsWeaker}
-use Rattle.scrypt.proofs.VerdictFacts.{IsReadOnce}
+use Rattle.scrypt.proofs.VerdictFacts.{IsReadOnce, OfParts}
 
-module _ {IsWhole : Parameters → List ℕ → List ℕ → Type 0} {IsRefused : Refusal → Type 0} (one : IsReadOnce IsWhole IsRefused)
+module _ {IsWhole : OfParts} {IsRefused : Refusal → Type 0} (one : IsReadOnce IsWhole IsRefused)
     {wanted c : Parameters} {salt key : List ℕ} (whole : IsWhole c salt key) where
   pub below_is_weaker : IsBelow wanted c (length key) → IsWeaker IsWhole wanted
   below_is_weaker below = record { costs = c; salt = salt; key = key; whole = whole; below = below }
@@ -29,6 +29,8 @@ not_below c len is (inr (inr (inl below))) = absurd (omega (arith, below))
 not_below c len is (inr (inr (inr below))) = absurd (omega (arith, below, is))
 
 -- a hash of these costs, with a key of the length that hashing makes, is not weaker than they ask for
-pub made_is_not_weaker : {IsWhole : Parameters → List ℕ → List ℕ → Type 0} {IsRefused : Refusal → Type 0} → IsReadOnce IsWhole IsRefused
-    → (c : Parameters) {salt key : List ℕ} → IsWhole (without_len c) salt key → length key ≡ key_len_or_default c → IsWeaker IsWhole c → ⊥
-made_is_not_weaker one c {salt} {key} whole long weaker = not_below c (length key) long (weaker_is_below one whole weaker)
+pub made_is_not_weaker : {IsWhole : OfParts} {IsRefused : Refusal → Type 0} → IsReadOnce IsWhole IsRefused
+    → (c : Parameters) {salt key : List ℕ} → IsWhole (without_len c) salt key → length key ≡ key_len_or_default c
+    → IsWeaker IsWhole c → ⊥
+made_is_not_weaker one c {salt} {key} whole long weaker =
+    not_below c (length key) long (weaker_is_below one whole weaker)

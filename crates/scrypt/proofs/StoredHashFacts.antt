@@ -74,7 +74,8 @@ parameters_once = of_both _
 
 -- a text is read in one way
 pub read_once : (text : List ℕ) → IsReadOnce (IsWhole text) (ReadIsRefused text)
-read_once text = record { whole_once = λ _ _ _ _ _ _. whole_once; refused_once = λ _ _. refused_once; not_both = λ _ _ _ _. not_both }
+read_once text =
+    record { whole_once = λ _ _ _ _ _ _. whole_once; refused_once = λ _ _. refused_once; not_both = λ _ _ _ _. not_both }
 
 -- the text of a hash that was read is stored
 pub stored_as : {text self : List ℕ} (format : Format) → text ≡ self → IsHashOf text format → IsStoredText self
@@ -96,8 +97,8 @@ as_phc {text} {self} {format} {hash} {params} same is read =
 
 -- the hash and the text are read alike
 
-pub mcf_alike : {text self : List ℕ} {format : Format} {hash : PasswordHashRef} → text ≡ self → format ≡ Mcf hash → IsHashOf text format
-    → AreAlike (IsMcfWhole (hash_text hash)) (IsWhole self) (McfReadIsRefused (hash_text hash)) (ReadIsRefused self)
+pub mcf_alike : {text self : List ℕ} {format : Format} {hash : PasswordHashRef} → text ≡ self → format ≡ Mcf hash
+    → IsHashOf text format → AreAlike (IsMcfWhole (hash_text hash)) (IsWhole self) (McfReadIsRefused (hash_text hash)) (ReadIsRefused self)
 mcf_alike same is read =
     let read = as_mcf same is read in
     rw read.2 (record {
@@ -107,7 +108,8 @@ mcf_alike same is read =
     })
 
 pub phc_alike : {text self : List ℕ} {format : Format} {hash : PasswordHash} {params : Result Parameters Error} → text ≡ self
-    → format ≡ Phc hash params → IsHashOf text format → AreAlike (IsPhcWhole hash) (IsWhole self) (PhcReadIsRefused hash) (ReadIsRefused self)
+    → format ≡ Phc hash params → IsHashOf text format
+    → AreAlike (IsPhcWhole hash) (IsWhole self) (PhcReadIsRefused hash) (ReadIsRefused self)
 phc_alike same is read =
     let read = as_phc same is read in
     record {

@@ -3,6 +3,7 @@ use Rattle.std.specs.Prelude.{◌≡◌, ◌≢◌, ◌⊎◌, ◌↔◌, ℕ, �
 use Rattle.password_hash.specs.Refusal.{Refusal, PasswordInvalid, refusal}
 use Rattle.password_hash.specs.declared.error.Error.{Error}
 use Rattle.password_hash.specs.declared.error.Error.TheVariants as error
+use Rattle.scrypt_kernel.specs.declared.cores.CoreCount.{CoreCount}
 use Rattle.scrypt.specs.Accepted.{Parameters}
 use Rattle.scrypt.specs.Cost.{chunks_bytes, cost, scratch_words}
 use Rattle.scrypt.specs.InBuffers.{AreCompared, AreEnough, AreTooShort, IsWiped, verdict_of}
@@ -16,6 +17,10 @@ pub record Work : Type 0 where
   pub scratch : List ℕ
   pub all : ℕ
   pub lanes : ℕ
+
+abbrev pub work_in : List ℕ → List ℕ → List ℕ → CoreCount → Work
+work_in chunks table scratch cores =
+    record { chunks = chunks; table = table; scratch = scratch; all = cores.all; lanes = cores.lanes }
 
 -- the buffers are long enough
 abbrev pub HasRoom : Parameters → Work → Type 0

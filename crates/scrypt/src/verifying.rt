@@ -4,7 +4,7 @@ ghost use Rattle.std.specs.Prelude.{◌≡◌, ◌↔◌, ℕ, ◌+◌, ◌*◌,
 ghost use Rattle.scrypt.specs.Accepted.{IsOutputLen};
 ghost use Rattle.scrypt.specs.Cost.{chunks_bytes, cost, scratch_words, table_words};
 ghost use Rattle.scrypt.specs.KeyOfParams.{key_by};
-ghost use Rattle.scrypt.specs.WorkInBuffers.{IsComparing, IsComparison};
+ghost use Rattle.scrypt.specs.WorkInBuffers.{IsComparing, IsComparison, work_in};
 
 use crate::buffers::{Buffers, are_enough};
 use crate::comparing::{StoredKey, is_derived_key};
@@ -105,8 +105,7 @@ pub(crate) fn verify_in_buffers<K: StoredKey>(
     requires key { (bytes : List ℕ) × K.is_key key.now bytes × (length bytes ≡ key_len) }
     ensures compared { (bytes : List ℕ) → K.is_key key.now bytes → length bytes ≡ key_len
         → IsComparing params.now salt.now bytes password.now result
-        (record { chunks = chunks.old; table = table.old; scratch = scratch.old; all = cores.old.all; lanes = cores.old.lanes })
-        (record { chunks = chunks.new; table = table.new; scratch = scratch.new; all = cores.new.all; lanes = cores.new.lanes }) }
+        (work_in chunks.old table.old scratch.old cores.old) (work_in chunks.new table.new scratch.new cores.new) }
 {
     let lens = BufferLens::of(params);
     if !are_enough(&lens, chunks, table, scratch) {

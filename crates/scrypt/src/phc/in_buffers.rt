@@ -8,7 +8,7 @@ ghost use Rattle.scrypt.specs.Cost.{chunks_bytes, cost, scratch_words};
 ghost use Rattle.scrypt.specs.InBuffers.{AreCompared, AreEnough, AreTooShort, IsWiped, verdict_of};
 ghost use Rattle.scrypt.specs.PhcHash.{Accepts, IsWhole, ReadIsRefused, Verdict, VerifyIsRefused};
 ghost use Rattle.scrypt.specs.StoredRead.{AreParamsOf};
-ghost use Rattle.scrypt.specs.WorkInBuffers.{IsVerifying};
+ghost use Rattle.scrypt.specs.WorkInBuffers.{IsVerifying, work_in};
 
 use crate::phc::reading::{read_params, stored_of};
 use crate::verifying::verify_in_buffers;
@@ -73,8 +73,7 @@ pub(crate) fn verify_with_params_in_buffers(
 ) -> Result<()>
     requires { AreParamsOf hash.now params.now }
     ensures { IsVerifying (IsWhole hash.now) (ReadIsRefused hash.now) password.now result
-        (record { chunks = chunks.old; table = table.old; scratch = scratch.old; all = cores.old.all; lanes = cores.old.lanes })
-        (record { chunks = chunks.new; table = table.new; scratch = scratch.new; all = cores.new.all; lanes = cores.new.lanes }) }
+        (work_in chunks.old table.old scratch.old cores.old) (work_in chunks.new table.new scratch.new cores.new) }
 {
     match stored_of(hash, params) {
         Ok(stored) => verify_in_buffers(

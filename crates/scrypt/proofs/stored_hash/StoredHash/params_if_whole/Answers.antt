@@ -12,7 +12,9 @@ returns-in-Err-clause-err c = (mcf_alike c.self.view_is c.in-Mcf.is c.self.invar
 pub returns-in-Ok-stored_of-clause-ok : goal.returns-in-Ok-stored_of-clause-ok
 returns-in-Ok-stored_of-clause-ok c =
     let stored = c.in-Ok-stored_of.stored in
-    (stored.salt.now, stored.key.now, (phc_alike c.self.view_is c.in-Phc.is c.self.invariant).to _ _ _ c.in-Ok-stored_of.ensures.ok)
+    let alike = phc_alike c.self.view_is c.in-Phc.is c.self.invariant in
+    (stored.salt.now, stored.key.now, alike.to _ _ _ c.in-Ok-stored_of.ensures.ok)
 
 pub returns-in-Err-stored_of-clause-err : goal.returns-in-Err-stored_of-clause-err
-returns-in-Err-stored_of-clause-err c = (phc_alike c.self.view_is c.in-Phc.is c.self.invariant).over _ c.in-Err-stored_of.ensures.err
+returns-in-Err-stored_of-clause-err c =
+    (phc_alike c.self.view_is c.in-Phc.is c.self.invariant).over _ c.in-Err-stored_of.ensures.err

@@ -11,5 +11,6 @@ returns-in-Mcf c =
 
 pub returns-in-Phc : goal.returns-in-Phc
 returns-in-Phc c =
-    let v = verified_as (phc_alike c.self.view_is c.in-Phc.is c.self.invariant) c.verify_with_params.result c.verify_with_params.ensures in
+    let alike = phc_alike c.self.view_is c.in-Phc.is c.self.invariant in
+    let v = verified_as alike c.verify_with_params.result c.verify_with_params.ensures in
     record { ok = v.ok; wrong = v.wrong; err = v.err }

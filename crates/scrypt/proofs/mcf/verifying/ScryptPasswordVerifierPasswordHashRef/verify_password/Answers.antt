@@ -7,11 +7,13 @@ pub returns-in-Ok : goal.returns-in-Ok
 returns-in-Ok c =
     let stored = c.in-Ok.stored in
     let read = c.in-Ok.ensures.ok in
-    let v = whole_compared (read_once (hash_text c.args.hash.now)) c.args.password.now stored.params stored.salt.now read.0
+    let one = read_once (hash_text c.args.hash.now) in
+    let v = whole_compared one c.args.password.now stored.params stored.salt.now read.0
     c.verify_allocating.result read.3 (c.verify_allocating.ensures.compared read.0 read.1 read.2) in
     record { ok = v.ok; wrong = v.wrong; err = v.err }
 
 pub returns-in-Err : goal.returns-in-Err
 returns-in-Err c =
-    let v = refused_read (read_once (hash_text c.args.hash.now)) c.args.password.now c.in-Err.error c.in-Err.ensures.err in
+    let one = read_once (hash_text c.args.hash.now) in
+    let v = refused_read one c.args.password.now c.in-Err.error c.in-Err.ensures.err in
     record { ok = v.ok; wrong = v.wrong; err = v.err }
