@@ -30,8 +30,8 @@ letters_of-modulo number =
     rw (first, second, third, fourth, fifth) refl
 
 -- the number modulo 2^30 is read back from a text that begins with its five letters
-pub five_letter_number-letters_of : (number : ℕ) (rest : List ℕ) → five_letter_number (letters_of 5 number ++ rest) ≡ Some (number % 2 ^ 30)
-five_letter_number-letters_of number rest =
+pub five_letter_number_letters_of : (number : ℕ) (rest : List ℕ) → five_letter_number (letters_of 5 number ++ rest) ≡ Some (number % 2 ^ 30)
+five_letter_number_letters_of number rest =
     let count : length (letters_of 5 number) ≡ 5 = length-letters_of 5 number in
     let some : 5 ≤ length (letters_of 5 number ++ rest) = omega (arith, length-append (letters_of 5 number) rest, count) in
     let front : take 5 (letters_of 5 number ++ rest) ≡ letters_of 5 number = rw count at (take-append_seam (letters_of 5 number) rest) in
@@ -49,15 +49,15 @@ empty_says_none [] none says = let r_is = says.r_is in cc
 empty_says_none (first ∷ field) none says = absurd (cc)
 
 -- numbers below 2^30 are read back from their five letters alone
-pub five_letters-read_back : (number : ℕ) → number < 2 ^ 30 → five_letter_number (letters_of 5 number) ≡ Some number
-five_letters-read_back number below =
+pub five_letters_read_back : (number : ℕ) → number < 2 ^ 30 → five_letter_number (letters_of 5 number) ≡ Some number
+five_letters_read_back number below =
     let whole : number % 2 ^ 30 ≡ number = omega arith in
-    ap five_letter_number (sym (append-nil (letters_of 5 number))) ∙ five_letter_number-letters_of number [] ∙ ap Some whole
+    ap five_letter_number (sym (append-nil (letters_of 5 number))) ∙ five_letter_number_letters_of number [] ∙ ap Some whole
 
 -- five letters are those of the number that they say
-pub five_letters-written_back : (letters : List ℕ) (number : ℕ) → length letters ≡ 5 → five_letter_number letters ≡ Some number
+pub five_letters_written_back : (letters : List ℕ) (number : ℕ) → length letters ≡ 5 → five_letter_number letters ≡ Some number
     → (letters_of 5 number ≡ letters) × (number < 2 ^ 30)
-five_letters-written_back letters number five says =
+five_letters_written_back letters number five says =
     let read : number_of letters ≡ Some number =
     ap number_of (sym (take_all 5 letters (omega arith))) ∙ sym (five_letter_number-some letters (omega arith)) ∙ says in
     let both = letters_of-number_of letters number read in
@@ -77,9 +77,9 @@ number_said (first ∷ letters) each =
     both (Some value) None h k = k
     both (Some value) (Some above) h k = refl
 
-pub five_letters-said : (letters : List ℕ) → length letters ≡ 5 → All (λ byte. IsSome (letter_value byte)) letters
+pub five_letters_said : (letters : List ℕ) → length letters ≡ 5 → All (λ byte. IsSome (letter_value byte)) letters
     → IsSome (five_letter_number letters)
-five_letters-said letters five each =
+five_letters_said letters five each =
     let is : five_letter_number letters ≡ number_of letters =
     five_letter_number-some letters (omega arith) ∙ ap number_of (take_all 5 letters (omega arith)) in
     rw is (number_said letters each)
@@ -90,16 +90,16 @@ letter-once value other below other_below same =
     let values : Some value ≡ Some other = sym (letter_value-letter value below) ∙ ap letter_value same ∙ letter_value-letter other other_below in
     cc
 
-five_letters-once : (number other : ℕ) → number < 2 ^ 30 → other < 2 ^ 30 → letters_of 5 number ≡ letters_of 5 other → number ≡ other
-five_letters-once number other below other_below same =
+five_letters_once : (number other : ℕ) → number < 2 ^ 30 → other < 2 ^ 30 → letters_of 5 number ≡ letters_of 5 other → number ≡ other
+five_letters_once number other below other_below same =
     let numbers : Some number ≡ Some other =
-    sym (five_letters-read_back number below) ∙ ap five_letter_number same ∙ five_letters-read_back other other_below in
+    sym (five_letters_read_back number below) ∙ ap five_letter_number same ∙ five_letters_read_back other other_below in
     cc
 
 -- the letters of accepted costs are those of one log_n, one r and one p
-pub cost_letters-once : (log_n r p other_log_n other_r other_p : ℕ) → AreAccepted log_n r p → AreAccepted other_log_n other_r other_p
+pub cost_letters_once : (log_n r p other_log_n other_r other_p : ℕ) → AreAccepted log_n r p → AreAccepted other_log_n other_r other_p
     → cost_letters log_n r p ≡ cost_letters other_log_n other_r other_p → (log_n ≡ other_log_n) × (r ≡ other_r) × (p ≡ other_p)
-cost_letters-once log_n r p other_log_n other_r other_p fits other_fits same =
+cost_letters_once log_n r p other_log_n other_r other_p fits other_fits same =
     let small = small_costs log_n r p fits in
     let other_small = small_costs other_log_n other_r other_p other_fits in
     let first : letter log_n ≡ letter other_log_n = cc in
@@ -107,8 +107,8 @@ cost_letters-once log_n r p other_log_n other_r other_p fits other_fits same =
     let parts = append_parts (letters_of 5 r) (letters_of 5 p) (letters_of 5 other_r) (letters_of 5 other_p)
     (length-letters_of 5 r ∙ sym (length-letters_of 5 other_r)) after in (
       letter-once log_n other_log_n (omega (arith, small.0)) (omega (arith, other_small.0)) first,
-      five_letters-once r other_r small.1 other_small.1 parts.0,
-      five_letters-once p other_p small.2 other_small.2 parts.1,
+      five_letters_once r other_r small.1 other_small.1 parts.0,
+      five_letters_once p other_p small.2 other_small.2 parts.1,
     )
 
 -- a text that says a number begins with its five letters

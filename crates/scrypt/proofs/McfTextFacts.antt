@@ -19,7 +19,7 @@ use Rattle.scrypt.specs.McfCosts.{five_letter_number, cost_letters, costs_text, 
 use Rattle.scrypt.specs.McfHash.{IsWhole, IsMadeHash, made_text_len}
 use Rattle.scrypt.specs.Hashing.{key_len_or_default}
 use Rattle.scrypt.proofs.AcceptedFacts.{key_len_or_default_stored, small_costs, small_log_n}
-use Rattle.scrypt.proofs.McfCostsFacts.{five_letter_number-letters_of, to_the_end}
+use Rattle.scrypt.proofs.McfCostsFacts.{five_letter_number_letters_of, to_the_end}
 use Rattle.scrypt.proofs.McfHashFacts.{text_of}
 
 -- what is left by a write from one place to the end
@@ -87,8 +87,8 @@ letters_say log_n r p salt small small_r small_p =
     record {
       first_byte = (letter-ascii log_n small).0;
       log_n_is = ap (λ value. unwrap_or value 255) (letter_value-letter log_n small);
-      r_is = ap five_letter_number from_r ∙ five_letter_number-letters_of r (p_letters ++ salt) ∙ ap Some r_is;
-      p_is = ap five_letter_number from_p ∙ five_letter_number-letters_of p salt ∙ ap Some p_is;
+      r_is = ap five_letter_number from_r ∙ five_letter_number_letters_of r (p_letters ++ salt) ∙ ap Some r_is;
+      p_is = ap five_letter_number from_p ∙ five_letter_number_letters_of p salt ∙ ap Some p_is;
     }
 
 -- so the field is read as the costs and the salt

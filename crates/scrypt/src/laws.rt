@@ -53,6 +53,7 @@ pub fn chunks_in_any_order()
 
 /// Parameters that are written to a PHC text are read back as the same `log_n`, `r` and `p`, and in
 /// no other way.
+#[tactic(auto, using(crate::proofs::PhcReadingFacts::written_read))]
 pub fn written_costs_read_back()
     ensures read { (c : Parameters) → AreAccepted c.log_n c.r c.p → ReadsCosts (written_pairs c) (Ok (without_len c)) }
     ensures only { (c : Parameters) (out : Result Parameters Refusal) → AreAccepted c.log_n c.r c.p
@@ -163,6 +164,7 @@ pub fn verdicts_are_one()
 
 /// A hash that accepts a password can be read, so checking whether it is weaker than wanted returns
 /// no error. A hash that was made with the wanted parameters is not weaker than wanted.
+#[tactic(auto, using(crate::proofs::PhcHashFacts::not_both))]
 pub fn rehashing_converges()
     ensures phc_readable { (password : List ℕ) (hash : PasswordHash) (why : Refusal) → Accepts password hash
         → ¬ ReadIsRefused hash why }
@@ -176,6 +178,7 @@ pub fn rehashing_converges()
 
 /// Numbers below 2^30 and their five letters determine each other, any five letters encode a
 /// number, and accepted `r` and `p` are below 2^30.
+#[tactic(auto, using(crate::proofs::McfCostsFacts::five_letters_read_back, crate::proofs::McfCostsFacts::five_letters_said))]
 pub fn five_letters_are_inverse()
     ensures read_back { (number : ℕ) → number < 2 ^ 30 → five_letter_number (letters_of 5 number) ≡ Some number }
     ensures written_back { (letters : List ℕ) (number : ℕ) → length letters ≡ 5 → five_letter_number letters ≡ Some number
@@ -187,6 +190,7 @@ pub fn five_letters_are_inverse()
 
 /// The eleven letters that encode accepted parameters in `$7$` texts are equal exactly if `log_n`, `r`
 /// and `p` are.
+#[tactic(auto, using(crate::proofs::McfCostsFacts::cost_letters_once))]
 pub fn costs_prefix_is_injective()
     ensures injective { (log_n r p other_log_n other_r other_p : ℕ) → AreAccepted log_n r p → AreAccepted other_log_n other_r other_p
         → (cost_letters log_n r p ≡ cost_letters other_log_n other_r other_p)

@@ -62,6 +62,7 @@ impl CustomizedPasswordHasher<PasswordHash> for Scrypt {
     ///
     /// Returns the first of these errors: `Algorithm` if `alg_id` is given and not `7`, `Version`
     /// if `version` is given, and `OutOfMemory` if an allocation fails.
+    #[tactic(auto, using(crate::proofs::HashingFacts::refused_call, crate::specs::Hashing::by_memory))]
     fn hash_password_customized(
         &self,
         alloc: Global,
@@ -174,6 +175,7 @@ fn cost_letters(params: &Params) -> [u8; COSTS_LEN]
 }
 
 // Writes `$` and the letters of the key, which fill `out`.
+#[tactic(auto, using(crate::proofs::McfTextFacts::put_after_dollar))]
 fn write_key(out: &mut [u8], key: &[u8])
     requires { length out.old ≡ 1 + length (crypt64_of key.now) }
     ensures written { out.new ≡ dollar ∷ crypt64_of key.now }

@@ -2,12 +2,9 @@ use Rattle.scrypt.specs.Hashing.{key_len_or_default}
 use Rattle.scrypt.proofs.KeyFacts.{length-key_by}
 use Rattle.scrypt.proofs.McfHashFacts.{not_both as mcf_not_both}
 use Rattle.scrypt.proofs.McfRefusalFacts.{read_once as mcf_read_once}
-use Rattle.scrypt.proofs.PhcHashFacts.{made_whole, not_both, read_once}
+use Rattle.scrypt.proofs.PhcHashFacts.{made_whole, read_once}
 use Rattle.scrypt.proofs.RehashFacts.{made_is_not_weaker}
 use Rattle.scrypt.proofs.laws.rehashing_converges.Goals as goal
-
-pub returns-clause-phc_readable : goal.returns-clause-phc_readable
-returns-clause-phc_readable c password hash why accepts refused = not_both refused accepts.whole
 
 pub returns-clause-mcf_readable : goal.returns-clause-mcf_readable
 returns-clause-mcf_readable c password text why accepts refused = mcf_not_both refused accepts.whole

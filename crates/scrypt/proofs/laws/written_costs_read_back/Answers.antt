@@ -1,8 +1,5 @@
 use Rattle.scrypt.proofs.PhcReadingFacts.{reads_once, written_read}
 use Rattle.scrypt.proofs.laws.written_costs_read_back.Goals as goal
 
-pub returns-clause-read : goal.returns-clause-read
-returns-clause-read c costs fits = written_read costs fits
-
 pub returns-clause-only : goal.returns-clause-only
 returns-clause-only c costs out fits read = reads_once read (written_read costs fits)
