@@ -18,6 +18,7 @@ pub record Work : Type 0 where
   pub all : ℕ
   pub lanes : ℕ
 
+-- these buffers and this count
 abbrev pub work_in : List ℕ → List ℕ → List ℕ → CoreCount → Work
 work_in chunks table scratch cores =
     record { chunks = chunks; table = table; scratch = scratch; all = cores.all; lanes = cores.lanes }
