@@ -30,6 +30,7 @@ impl TryFrom<&ParamsString> for Params {
 }
 
 // Reads `ln`, `r` and `p`.
+#[tactic(auto, using(crate::proofs::PhcReadingFacts::reading_steps))]
 fn read_costs(text: &ParamsString) -> Result<Params>
     ensures { IsReadAs text.now result }
 {
@@ -89,6 +90,7 @@ impl TryFrom<&PasswordHash> for Params {
     ///
     /// Returns `Version` if the hash has a version, and otherwise the errors of reading its
     /// parameters.
+    #[tactic(auto, using(crate::proofs::PhcReadingFacts::without_len_is, crate::proofs::PhcReadingFacts::read_without_len))]
     fn try_from(hash: &PasswordHash) -> Result<Params> {
         if hash.version.is_some() {
             return Err(Error::Version);

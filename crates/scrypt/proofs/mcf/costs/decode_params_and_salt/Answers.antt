@@ -1,32 +1,10 @@
-use Rattle.std.proofs.Common.{◌≡◌, ◌≤◌, ◌∙◌, ap, sym, refl, arith}
+use Rattle.std.proofs.Common.{◌≡◌, ◌∙◌, ap, sym, refl}
 use Rattle.std.specs.Prelude.{slice_index}
-use Rattle.std.proofs.lemmas.Bool.{ltb-false, ltb-true}
-use Rattle.scrypt.specs.McfCosts.{five_letter_number, malformed, not_accepted, accepted, EncodesCosts}
-use Rattle.scrypt.proofs.McfCostsFacts.{empty_says_none, to_the_end}
+use Rattle.std.proofs.lemmas.Bool.{ltb-true}
+use Rattle.scrypt.specs.McfCosts.{five_letter_number, not_accepted, accepted, EncodesCosts}
+use Rattle.scrypt.proofs.McfCostsFacts.{to_the_end}
 use Rattle.scrypt.proofs.mcf.costs.decode_params_and_salt.Goals as goal
 use Rattle.scrypt.proofs.mcf.costs.decode_params_and_salt.Goals.{After-new}
-
-pub returns-in_default-clause-err : goal.returns-in_default-clause-err
-returns-in_default-clause-err c =
-    malformed (λ log_n r p says. empty_says_none c.args.text.now (rw (← c.as_bytes-bytes.ensures.value) (sym c.in_default.ensures.value)) says)
-
-pub returns-then-not-is_ascii-clause-err : goal.returns-then-not-is_ascii-clause-err
-returns-then-not-is_ascii-clause-err c = malformed (λ log_n r p says.
-    let first : c.in-Some.first.now ≡ slice_index c.args.text.now 0 = rw (← c.as_bytes-bytes.ensures.value) (c.in-Some.ensures.item.3.1 0) in
-    let high : 128 ≤ c.in-Some.first.now = ltb-false c.in-Some.first.now 128 (sym c.is_ascii.ensures ∙ c.if-not-is_ascii.true) in
-    absurd (omega (arith, first, high, says.first_byte)))
-
-pub returns-in_default-decode64_uint32-clause-err : goal.returns-in_default-decode64_uint32-clause-err
-returns-in_default-decode64_uint32-clause-err c = malformed (λ log_n r p says.
-    let none = ap five_letter_number (sym (to_the_end _ _ 1 c.as_bytes-bytes.ensures.value)) ∙ c.in_default-decode64_uint32.ensures.none in
-    let r_is = says.r_is in
-    cc)
-
-pub returns-in_default-decode64_uint32-2-clause-err : goal.returns-in_default-decode64_uint32-2-clause-err
-returns-in_default-decode64_uint32-2-clause-err c = malformed (λ log_n r p says.
-    let none = ap five_letter_number (sym (to_the_end _ _ 6 c.as_bytes-bytes.ensures.value)) ∙ c.in_default-decode64_uint32-2.ensures.none in
-    let p_is = says.p_is in
-    cc)
 
 -- what the eleven bytes say
 says_at : (c : After-new) → EncodesCosts c.args.text.now c.unwrap_or-log_n.result c.in-Ok.r c.in-Ok-decode64_uint32.p
