@@ -20,12 +20,6 @@ whole_table_cost password salt log_n r p =
     let none = none_of_chunks (pbkdf2 password salt (p * (128 * r))) log_n r p in
     ap (λ e. cost log_n r p + 2 * r * e) none ∙ omega arith
 
--- the count of a derivation with such a table
-pub counted_whole : (password salt : List ℕ) (log_n r p before after : ℕ)
-    → after ≡ before + thin_cost password salt log_n r p 0 → after ≡ before + cost log_n r p
-counted_whole password salt log_n r p before after counted =
-    counted ∙ ap (λ n. before + n) (whole_table_cost password salt log_n r p)
-
 -- one more chunk
 more_chunks : (b : List ℕ) (log_n s r i : ℕ) → extra_rows_of_chunks b log_n s r (i + 1)
     ≡ extra_rows_of_chunks b log_n s r i + extra_rows (words_of (part (128 * r) b i)) log_n s (2 ^ log_n)

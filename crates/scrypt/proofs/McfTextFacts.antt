@@ -157,28 +157,20 @@ text_ascii c salt key good =
     (All-cons (λ byte. byte < 128) 36 (55 ∷ 36 ∷ rest) (lit< tt)
     (All-cons (λ byte. byte < 128) 55 (36 ∷ rest) (lit< tt) (All-cons (λ byte. byte < 128) 36 rest (lit< tt) whole)))
 
--- a text in three parts, cut where the third begins
-
-pub between_cuts : (front salt rest : List ℕ) (at : ℕ) → length front ≡ 14 → at ≡ 14 + length salt → take (at - 14) (drop 14 (front ++ (salt ++ rest))) ≡ salt
-between_cuts front salt rest at count is =
-    ap (take (at - 14)) (drop_at front (salt ++ rest) 14 count) ∙ take_at salt rest (at - 14) (omega arith)
-
-pub before_cut : (front salt rest : List ℕ) (at : ℕ) → length front ≡ 14 → at ≡ 14 + length salt → take at (front ++ (salt ++ rest)) ≡ front ++ salt
-before_cut front salt rest at count is =
-    ap (take at) (sym (append_assoc front salt rest)) ∙ take_at (front ++ salt) rest at (omega (arith, length-append front salt))
-
 -- the text whose key is written at its end, after the costs and the salt
 
 pub salt_letters : (c : Parameters) (salt rest text : List ℕ) (at : ℕ) → text ≡ costs_text c ++ (salt ++ rest) → at ≡ 14 + length salt
     → take (at - 14) (drop 14 text) ≡ salt
 salt_letters c salt rest text at written is =
-    ap (λ t. take (at - 14) (drop 14 t)) written ∙ between_cuts (costs_text c) salt rest at (count_text c) is
+    ap (λ t. take (at - 14) (drop 14 t)) written
+    ∙ ap (take (at - 14)) (drop_at (costs_text c) (salt ++ rest) 14 (count_text c)) ∙ take_at salt rest (at - 14) (omega arith)
 
 pub key_put : (c : Parameters) (salt rest text key : List ℕ) (at : ℕ) → text ≡ costs_text c ++ (salt ++ rest) → at ≡ 14 + length salt
     → at ≤ length text → put_mid at (length text - at) text key ≡ costs_text c ++ (salt ++ key)
 key_put c salt rest text key at written is inside =
     put_to_the_end at text key inside
-    ∙ ap (λ front. front ++ key) (ap (take at) written ∙ before_cut (costs_text c) salt rest at (count_text c) is)
+    ∙ ap (λ front. front ++ key) (ap (take at) (written ∙ sym (append_assoc (costs_text c) salt rest))
+    ∙ take_at (costs_text c ++ salt) rest at (omega (arith, length-append (costs_text c) salt, count_text c)))
     ∙ append_assoc (costs_text c) salt key
 
 -- and its length
