@@ -81,3 +81,9 @@ stored_or_32 (Some len) fits = fits
 
 pub key_len_or_default_stored : (c : Parameters) → IfSome c.output_len IsStoredLen → IsStoredLen (key_len_or_default c)
 key_len_or_default_stored c fits = stored_or_32 c.output_len fits
+
+-- the lengths of the buffers are small
+pub ruleset small_lens = (small_log_n, small_chunks, small_rows)
+
+-- the number of cores is small
+pub ruleset small_cores = (small_blocks, small_factor, small_cost)

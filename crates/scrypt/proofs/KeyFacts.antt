@@ -10,7 +10,7 @@ use Rattle.scrypt.specs.Accepted.{Parameters}
 use Rattle.scrypt.specs.KeyOfParams.{key_by}
 use Rattle.scrypt.specs.Key.{derived_key, mixed_chunk, mixed_chunks}
 use Rattle.scrypt_kernel.proofs.PartFacts.{part_of_slice, part_put_same, part_put_other, parts_all}
-use Rattle.scrypt_kernel.proofs.Pbkdf2Facts.{length-pbkdf2, pbkdf2-are_bytes, same_pbkdf2}
+use Rattle.scrypt_kernel.proofs.Pbkdf2Facts.{length-pbkdf2, padded_digest, padded_zero_byte, pbkdf2-are_bytes, same_pbkdf2}
 
 -- the first i chunks of x are those of b after scryptROMix, and the others are those of b
 pub record AreMixed (b : List ℕ) (log_n r i : ℕ) (x : List ℕ) : Type 0 where
@@ -62,3 +62,6 @@ length-key_by c password salt n = length-pbkdf2 password _ n
 pub key_by-are_bytes : (c : Parameters) (password salt : List ℕ) (n i : ℕ) → slice_index (key_by c password salt n) i < 256
 unfolding derived_key
 key_by-are_bytes c password salt n i = pbkdf2-are_bytes password _ n i
+
+-- the passwords of one key
+pub ruleset same_keys = (same_key, padded_digest, padded_zero_byte)

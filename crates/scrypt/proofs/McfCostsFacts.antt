@@ -11,7 +11,7 @@ use Rattle.password_hash.proofs.Crypt64Facts.{length-letters_of, letters_of-numb
 use Rattle.password_hash.proofs.GroupFacts.{append_parts}
 use Rattle.password_hash.proofs.AlphabetFacts.{letter_value-letter, letter-of_value}
 use Rattle.scrypt.specs.Accepted.{AreAccepted}
-use Rattle.scrypt.specs.McfCosts.{cost_letters, five_letter_number, EncodesCosts}
+use Rattle.scrypt.specs.McfCosts.{cost_letters, five_letter_number, EncodesCosts, malformed}
 use Rattle.scrypt.proofs.AcceptedFacts.{small_costs}
 
 -- where there are five letters, they say the number
@@ -140,3 +140,6 @@ field_is (first ∷ rest) log_n r p says fits =
     ∙ ap (λ z. letter log_n ∷ z)
     (of_r ∙ ap (λ z. letters_of 5 r ++ z) (of_p ∙ ap (λ z. letters_of 5 p ++ z) (drop-drop 5 5 rest))
     ∙ sym (append_assoc (letters_of 5 r) (letters_of 5 p) (drop 10 rest)))
+
+-- how the costs and the salt of a field are read
+pub ruleset reading_field = (malformed, empty_says_none, to_the_end)

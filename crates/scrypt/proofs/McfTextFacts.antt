@@ -21,6 +21,7 @@ use Rattle.scrypt.specs.Hashing.{key_len_or_default}
 use Rattle.scrypt.proofs.AcceptedFacts.{key_len_or_default_stored, small_costs, small_log_n}
 use Rattle.scrypt.proofs.McfCostsFacts.{five_letter_number_letters_of, to_the_end}
 use Rattle.scrypt.proofs.McfHashFacts.{text_of}
+use Rattle.scrypt.proofs.PhcHashFacts.{made_accepts, made_is_text}
 
 -- what is left by a write from one place to the end
 pub put_to_the_end : (place : ℕ) (text new : List ℕ) → place ≤ length text → put_mid place (length text - place) text new ≡ take place text ++ new
@@ -194,3 +195,6 @@ pub made_length : (c : Parameters) (password salt text : List ℕ) → AreAccept
     → IsMadeHash c password salt text → length text ≡ made_text_len c (length salt)
 made_length c password salt text good stored made =
     ap length (text_of made ∙ sym (text_of (stored_text c password salt good stored))) ∙ length-made_text c password salt
+
+-- hashes that were made, in both formats
+pub ruleset made_hashes = (made_accepts, made_is_text, made_text)

@@ -129,3 +129,6 @@ made_is_text c password salt hash fits len salted made =
       });
       key_after_salt = rw (made.key_is, made.salt_is) refl;
     }
+
+-- what the parameters of a hash are, or are refused for
+pub ruleset reading_params = (params_are, algorithm, version)

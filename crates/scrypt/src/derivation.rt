@@ -71,7 +71,7 @@ impl BufferLens {
     }
 
     // The lengths with a table of `2^log_rows` rows, and with a scratch of so many rows.
-    #[tactic(auto, using(crate::proofs::AcceptedFacts::small_log_n, crate::proofs::AcceptedFacts::small_chunks, crate::proofs::AcceptedFacts::small_rows))]
+    #[tactic(auto, using(crate::proofs::AcceptedFacts::small_lens))]
     fn with_rows(params: &Params, log_rows: u8, scratch_rows: usize) -> BufferLens
         requires fewer { log_rows ≤ params.now.log_n }
         requires few { scratch_rows ≤ 3 }

@@ -36,7 +36,7 @@ pub fn shorter_key_is_prefix()
 
 /// A password shorter than 64 bytes has the same key as this password with a zero byte after it,
 /// and a password longer than 64 bytes has the same key as its SHA-256 digest.
-#[tactic(auto, using(crate::proofs::KeyFacts::same_key, scrypt_kernel::proofs::Pbkdf2Facts::padded_digest, scrypt_kernel::proofs::Pbkdf2Facts::padded_zero_byte))]
+#[tactic(auto, using(crate::proofs::KeyFacts::same_keys))]
 pub fn zero_byte_and_digest_passwords_collide()
     ensures zero_byte { (password salt : List ℕ) (log_n r p n : ℕ) → length password < 64
         → derived_key (password ++ 0 ∷ []) salt log_n r p n ≡ derived_key password salt log_n r p n }
@@ -84,7 +84,7 @@ pub fn texts_have_one_reading()
 /// A hash made from a password with accepted parameters verifies against that password. A PHC hash
 /// does so also after it has been printed and parsed. A `$7$` text consists of the letters of the
 /// parameters, of the salt and of the key.
-#[tactic(auto, using(crate::proofs::PhcHashFacts::made_accepts, crate::proofs::PhcHashFacts::made_is_text, crate::proofs::McfTextFacts::made_text))]
+#[tactic(auto, using(crate::proofs::McfTextFacts::made_hashes))]
 pub fn made_hashes_are_accepted()
     ensures phc { (c : Parameters) (password salt : List ℕ) (hash : PasswordHash) → AreAccepted c.log_n c.r c.p
         → IsMadeHash c password salt hash → Accepts password hash }
@@ -214,7 +214,7 @@ pub fn extra_rows_are_bounded()
 
 /// The diagonal order and the standard order are inverse to each other on whole blocks, and so are
 /// the two tables of places. So what is proved of words in diagonal order covers every input.
-#[tactic(auto, using(scrypt_kernel::proofs::OrderFacts::in_then_out, scrypt_kernel::proofs::OrderFacts::out_then_in, scrypt_kernel::proofs::OrderFacts::diagonal_inverse))]
+#[tactic(auto, using(scrypt_kernel::proofs::OrderFacts::orders_are_inverse))]
 pub fn diagonal_order_undone()
     ensures undone { (x : List ℕ) → length x % 16 ≡ 0 → standard_order (diagonal_order x) ≡ x }
     ensures redone { (x : List ℕ) → length x % 16 ≡ 0 → diagonal_order (standard_order x) ≡ x }

@@ -179,7 +179,7 @@ impl Params {
 
     /// Returns the number of Salsa20/8 cores that a derivation runs, `4 * N * r * p`, which is below
     /// `2^89`.
-    #[tactic(auto, using(crate::proofs::AcceptedFacts::small_blocks, crate::proofs::AcceptedFacts::small_factor, crate::proofs::AcceptedFacts::small_cost))]
+    #[tactic(auto, using(crate::proofs::AcceptedFacts::small_cores))]
     pub fn cores(&self) -> u128
         ensures value { result ≡ cost self.now.log_n self.now.r self.now.p }
         ensures small { result < 2 ^ 89 }

@@ -150,3 +150,6 @@ module _ (p q : List ℕ) (inverse : AreInverse p q) where
 -- the tables of the diagonal order
 pub diagonal_inverse : AreInverse pivot inverse_pivot
 diagonal_inverse = record { places = refl; inverse_places = refl; undone = refl; redone = refl }
+
+-- the two orders of words, and the two tables of places
+pub ruleset orders_are_inverse = (in_then_out, out_then_in, diagonal_inverse)

@@ -17,7 +17,7 @@ use password_hash::{Error, Result};
 /// `p` has fewer than five bytes or a byte outside the alphabet. Otherwise returns `ParamsInvalid`
 /// if [`Params::new`] does not accept the parameters. A first byte below 128 that is outside the
 /// alphabet reads as `log_n` 255, so the error is `ParamsInvalid`, not `EncodingInvalid`.
-#[tactic(auto, using(crate::specs::McfCosts::malformed, crate::proofs::McfCostsFacts::empty_says_none, crate::proofs::McfCostsFacts::to_the_end))]
+#[tactic(auto, using(crate::proofs::McfCostsFacts::reading_field))]
 pub fn decode_params_and_salt(text: &str) -> Result<(Params, &[u8])>
     ensures ok { IfOk result (λ read. ReadsField text.now (Ok (read.0, read.1.now))) }
     ensures err { IfErr result (λ e. ReadsField text.now (Err (refusal e))) }

@@ -136,7 +136,7 @@ impl TryFrom<Params> for ParamsString {
 }
 
 // Writes the parameters of a hash.
-#[tactic(auto, using(crate::proofs::PhcCostsFacts::one_pair, crate::proofs::PhcCostsFacts::two_pairs, crate::proofs::PhcCostsFacts::three_pairs))]
+#[tactic(auto, using(crate::proofs::PhcCostsFacts::pairs_added))]
 pub(super) fn written(params: &Params) -> ParamsString
     ensures { result ≡ written_pairs params.now }
 {

@@ -50,7 +50,7 @@ pub(crate) fn stored_of<'a>(hash: &'a PasswordHash, params: &Result<Params>) -> 
 ///
 /// Returns the first of these errors: `Algorithm` if the algorithm is not `scrypt`, `Version` if
 /// there is a version, and the errors of reading the parameters.
-#[tactic(auto, using(crate::proofs::PhcHashFacts::params_are, crate::specs::PhcHash::algorithm, crate::specs::PhcHash::version))]
+#[tactic(auto, using(crate::proofs::PhcHashFacts::reading_params))]
 pub(crate) fn read_params(hash: &PasswordHash) -> Result<Params>
     ensures { AreParamsOf hash.now result }
 {
