@@ -44,7 +44,7 @@ pub(crate) fn needs_rehash_with_params(
 {
     match stored_of(hash, params) {
         Ok(stored) => Ok(is_below(wanted, &stored.params, stored.key.len())),
-        Err(refused) => Err(refused),
+        Err(error) => Err(error),
     }
 }
 

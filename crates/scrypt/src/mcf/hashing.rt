@@ -162,7 +162,6 @@ fn write_costs_and_salt(out: &mut [u8], params: &Params, salt: &[u8])
 }
 
 // Returns `$7$` and the eleven letters of the parameters.
-#[tactic(auto, unfolding(password_hash::specs::Crypt64::letters_of))]
 fn cost_letters(params: &Params) -> [u8; COSTS_LEN]
     ensures value { result ≡ costs_text params.now }
     ensures accepted { AreAccepted params.now.log_n params.now.r params.now.p }

@@ -13,3 +13,6 @@ returns-in-Ok-clause-weak c =
       λ yes. below_is_weaker one whole (subst below len (c.is_below.ensures.0 yes)),
       λ weaker. c.is_below.ensures.1 (subst below (sym len) (weaker_is_below one whole weaker)),
     )
+
+pub returns-in-Err-clause-err : goal.returns-in-Err-clause-err
+returns-in-Err-clause-err c = c.in-Err.ensures.err
