@@ -65,15 +65,23 @@ def pairs(edit):
             yield path, old, rest
 
 
-def texts_after(edit, crate):
-    """The texts that an edit gives to files of a crate, by their paths."""
-    after = {}
+def texts_after(edit, crate, others=()):
+    """The texts that an edit gives to files of a crate, by their paths, over those that other edits gave to it."""
+    after = dict(others)
     for name, old, new in pairs(edit):
         path = os.path.join(crate, name)
         text = after.get(path) or read(path)
         if text.count(old) != 1:
             raise BadEdit(f"{edit}: the old text doesn't occur there once: {old}")
         after[path] = text.replace(old, new)
+    return after
+
+
+def texts_after_all(tried, crate):
+    """The texts that edits give to files of a crate, one after another, by their paths."""
+    after = {}
+    for edit in tried:
+        after = texts_after(edit, crate, after)
     return after
 
 

@@ -45,6 +45,20 @@ def failed_rows(room):
             yield reason
 
 
+def not_one_after_another(room):
+    """Whether an edit is applied otherwise than over the text of the edit before it, which has its old text once more."""
+    crate = os.path.join(room, "crates", "x")
+    first, second = (os.path.join(room, name) for name in ("first.edit", "second.edit"))
+    edits.write(first, "file: src/a\nold: three\nnew: one\n")
+    edits.write(second, "file: src/a\nold: one\nnew: 1\n")
+    both = edits.texts_after_all([second, first], crate)
+    try:
+        edits.texts_after_all([first, second], crate)
+    except edits.BadEdit:
+        return both != {os.path.join(crate, "src/a"): "1\ntwo\ntwo one\n"}
+    return True
+
+
 def copy_differs(room):
     """Whether a copy of this folder has other files than it should, or edits aren't found in it."""
     os.makedirs(os.path.join(room, ".git"))
@@ -63,11 +77,13 @@ def copy_differs(room):
 def main():
     with tempfile.TemporaryDirectory() as room:
         failed = list(failed_rows(room))
+        if not_one_after_another(room):
+            failed.append("two edits, one after another")
         if copy_differs(room):
             failed.append("a copy of the repository")
     for reason in failed:
         print(f"edits.py, {reason}: not as it should be")
-    cases = len(ROWS) + 1
+    cases = len(ROWS) + 2
     print(f"edits.py: {cases - len(failed)} of {cases} cases as they should be")
     sys.exit(1 if failed else 0)
 

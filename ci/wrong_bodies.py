@@ -43,16 +43,26 @@ def changed(edit, crate):
     return set() if None in found else found
 
 
+def takes(tried, edit, its, crate):
+    """Whether a round takes an edit: it changes other functions, and its old texts still occur once."""
+    if any(its & other for other in tried.values()):
+        return False
+    try:
+        edits.texts_after_all([*tried, edit], crate)
+    except edits.BadEdit:
+        return False
+    return True
+
+
 def rounds(name, *folders):
     """The edits of a crate with what they change, so that those of a round change different functions."""
-    made, alone = [], []
+    made, alone, crate = [], [], f"crates/{name}"
     for edit in edits.edits_of(name, *folders):
-        its = changed(edit, f"crates/{name}")
+        its = changed(edit, crate)
         if not its:
             alone.append({edit: its})
             continue
-        free = (it for it in made if not any(its & other for other in it.values()))
-        tried = next(free, None)
+        tried = next((it for it in made if takes(it, edit, its, crate)), None)
         if tried is None:
             made.append(tried := {})
         tried[edit] = its
@@ -65,9 +75,8 @@ def check(name, tried):
         for part in ("src", "specs", "proofs"):
             if os.path.isdir(f"crates/{name}/{part}"):
                 shutil.copytree(f"crates/{name}/{part}", f"{crate}/{part}")
-        for edit in tried:
-            for path, text in edits.texts_after(edit, crate).items():
-                edits.write(path, text)
+        for path, text in edits.texts_after_all(tried, crate).items():
+            edits.write(path, text)
         only = [it for its in tried.values() for function in its for it in ("--only", function.path())]
         ran = subprocess.run([*words.of("check", name), *only], cwd=crate, capture_output=True, text=True, errors="replace")
     return ran.stdout + ran.stderr
@@ -105,7 +114,7 @@ def unfit():
                 yield str(error)
     for name in edits.crates_with(FIRST):
         if len(rounds(name, FIRST)) > 1:
-            yield f"crates/{name}/{FIRST}: two edits change one function, or one changes none: move it to {MORE}"
+            yield f"crates/{name}/{FIRST}: two edits change one function or one text, or one changes none: move it to {MORE}"
 
 
 def main():
