@@ -93,8 +93,10 @@ def verdicts(name, tried):
 def try_all(names, folders):
     """Tries the edits of crates, prints each that isn't refused with a goal, and returns how many these are."""
     tried = wrong = 0
+    # The longest begin first.
+    all_rounds = sorted(((name, it) for name in names for it in rounds(name, *folders)), key=lambda it: -len(it[1]))
     with concurrent.futures.ThreadPoolExecutor(AT_ONCE) as lanes:
-        running = [lanes.submit(verdicts, name, it) for name in names for it in rounds(name, *folders)]
+        running = [lanes.submit(verdicts, *it) for it in all_rounds]
         for done in concurrent.futures.as_completed(running):
             said = done.result()
             bad = {edit: verdict for edit, verdict in said.items() if verdict != "refused"}
