@@ -48,5 +48,5 @@ letter-ascii value below =
     (agree_below_at (λ v. nat_lt (letter v) 128 && not (eqb (letter v) 36)) (λ _. true) 64 value refl below) in
     (ltb-true (letter value) 128 parts.0, eqb-false (letter value) 36 (not-true (eqb (letter value) 36) parts.1))
 
--- so a byte's value is told by the ranges that it is in
+-- the ranges that a byte is in determine its value
 pub ruleset byte_values = (value_of_byte, nat_tests)

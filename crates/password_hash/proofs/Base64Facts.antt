@@ -18,17 +18,17 @@ length-base64 bytes = rw append-nil (length-encode_symbols standard_no_pad.encod
 decode_of-base64 : (letters bytes : List ℕ) → IsBytes bytes → letters ≡ base64 bytes → decode_of standard_no_pad letters ≡ Ok bytes
 decode_of-base64 letters bytes are same = ap (decode_of standard_no_pad) same ∙ decode_of-encode_of standard_no_pad bytes refl are
 
--- so bytes are told by their letters
+-- different bytes have different letters
 pub base64_injective : (xs ys : List ℕ) → IsBytes xs → IsBytes ys → base64 xs ≡ base64 ys → xs ≡ ys
 base64_injective xs ys hx hy e =
     let both = sym (decode_of-base64 (base64 ys) xs hx (sym e)) ∙ decode_of-base64 (base64 ys) ys hy refl in
     cc
 
--- and letters that were refused are those of no bytes
+-- letters that are refused do not encode any bytes
 pub refused : (letters bytes : List ℕ) (e : DecodeError) → decode_of standard_no_pad letters ≡ Err e → IsBytes bytes → letters ≢ base64 bytes
 refused letters bytes e told are same = let both = sym told ∙ decode_of-base64 letters bytes are same in cc
 
--- what is made of the bytes that were read has their letters, and is made of each list of bytes in its bounds
+-- letters that are read and kept encode what is kept, and if they encode bytes within the bounds, these are kept
 pub made_of_read : (least : ℕ) (letters read : List ℕ) (made : Option (List ℕ)) → IsBytes letters → decode_of standard_no_pad letters ≡ Ok read
     → (IsSome made ↔ (least ≤ length read) × (length read ≤ 64)) → IfSome made (λ bytes. bytes ≡ read) → IfSome made (AreBytesFromTo least 64)
     → IfSome made (λ bytes. letters ≡ base64 bytes)

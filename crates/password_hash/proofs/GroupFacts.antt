@@ -1,4 +1,4 @@
--- Bytes and letters by groups: how many there are, and what a group says.
+-- Bytes and letters by groups: how many there are, and what a group encodes.
 use Rattle.std.proofs.Common.{◌≡◌, ◌≢◌, inl, inr, ◌∙◌, sym, ap, refl, arith, ℕ, zero, suc, ◌+◌, ◌*◌, ◌/◌, ◌^◌, ◌<◌, ◌≤◌, min, Some, List, [], ◌∷◌, ◌++◌, length, take, drop, replicate, append_assoc, add-one, length-append, length-drop}
 use Rattle.std.proofs.Math.Nat.{pow-suc}
 use Rattle.std.specs.Int.{to_le_bytes, from_le_bytes, w32}
@@ -45,7 +45,7 @@ append_parts xs ys us vs same is = (
 pub cut_at : (n at : ℕ) (xs : List ℕ) → at ≡ min (length xs) n → (take at xs ≡ take n xs) × (drop at xs ≡ drop n xs)
 cut_at n at xs is = let turned : at ≡ min n (length xs) = omega arith in rw turned (take_min n xs, drop_min n xs)
 
--- what bytes say as one number, the first the lowest
+-- bytes as one number, the lowest first
 abbrev pub le_number : List ℕ → ℕ
 le_number [] = 0
 le_number (byte ∷ bytes) = byte + 256 * le_number bytes
@@ -57,7 +57,7 @@ le_number-below (byte ∷ rest) bytes =
     let tail = le_number-below rest (All-tail (λ b. b < 256) byte rest bytes) in
     rw (pow-suc 256 (length rest)) (omega (arith, tail))
 
--- as many bytes are told by their number
+-- the number and the length determine the bytes
 le_number-one : (xs ys : List ℕ) → length xs ≡ length ys → AreBytes xs → AreBytes ys → le_number xs ≡ le_number ys → xs ≡ ys
 le_number-one [] ys count x-bytes y-bytes same = sym (nil_from_length ys (sym count))
 le_number-one (x ∷ xs) [] count x-bytes y-bytes same = absurd (omega arith)
@@ -135,7 +135,7 @@ one_to_three P one two three (suc (suc zero)) some most = two
 one_to_three P one two three (suc (suc (suc zero))) some most = three
 one_to_three P one two three (suc (suc (suc (suc n)))) some most = absurd (omega arith)
 
--- a shift by whole bytes tells whether a number has more bits than they
+-- a number fits into so many bytes exactly if a shift by their bits leaves 0
 record HasBytes (len : ℕ) : Type 0 where
   room : 256 ^ len ≤ 64 ^ suc len
   shifted_out : (number : ℕ) → number / 2 ^ (8 * len) ≡ 0 → number < 256 ^ len
@@ -148,14 +148,14 @@ has_bytes = one_to_three HasBytes
     (record { room = omega arith; shifted_out = λ number none. omega arith; shifted_in = λ number below. omega arith; written = λ number below. omega arith })
     (record { room = omega arith; shifted_out = λ number none. omega arith; shifted_in = λ number below. omega arith; written = λ number below. omega arith })
 
--- a group says the number of its bytes
-pub record Says (group bytes : List ℕ) : Type 0 where
+-- what a group of letters encodes
+pub record Encodes (group bytes : List ℕ) : Type 0 where
   pub count : length group ≡ suc (length bytes)
   pub number : number_of group ≡ Some (le_number bytes)
   pub no_more : le_number bytes / 2 ^ (8 * length bytes) ≡ 0
 
-pub says : (group bytes : List ℕ) → IsGroup group bytes → Says group bytes
-says group bytes is =
+pub encodes : (group bytes : List ℕ) → IsGroup group bytes → Encodes group bytes
+encodes group bytes is =
     let below = le_number-below bytes is.are_bytes in
     let has = has_bytes (length bytes) is.some is.most in
     record {
@@ -164,15 +164,15 @@ says group bytes is =
       no_more = has.shifted_in (le_number bytes) below;
     }
 
--- so it is the group of no other bytes
+-- a group encodes one list of bytes
 group-one : (group xs ys : List ℕ) → IsGroup group xs → IsGroup group ys → xs ≡ ys
 group-one group xs ys is is' =
-    let x-says = says group xs is in
-    let y-says = says group ys is' in
-    let both = sym x-says.number ∙ y-says.number in
-    le_number-one xs ys (omega (arith, x-says.count, y-says.count)) is.are_bytes is'.are_bytes (cc)
+    let x-encodes = encodes group xs is in
+    let y-encodes = encodes group ys is' in
+    let both = sym x-encodes.number ∙ y-encodes.number in
+    le_number-one xs ys (omega (arith, x-encodes.count, y-encodes.count)) is.are_bytes is'.are_bytes (cc)
 
--- letters whose number has no more bits than so many bytes are their group
+-- letters are the group of so many bytes if their number fits into them
 pub is_group : (group : List ℕ) (number len : ℕ) → number_of group ≡ Some number → length group ≡ suc len → 0 < len → len ≤ 3
     → number / 2 ^ (8 * len) ≡ 0 → IsGroup group (take len (to_le_bytes w32 number))
 is_group group number len read count some most none =
@@ -188,17 +188,17 @@ is_group group number len read count some most none =
     }
 
 -- no bytes have letters that begin with no group
-pub refuses : (letters group : List ℕ) → group ≡ take 4 letters → ((bytes : List ℕ) → Says group bytes → 0 < length bytes → ⊥)
+pub refuses : (letters group : List ℕ) → group ≡ take 4 letters → ((bytes : List ℕ) → Encodes group bytes → 0 < length bytes → ⊥)
     → (all : List ℕ) → Crypt64 all letters → all ≡ []
 refuses letters group cut none [] is = refl
 refuses letters group cut none (byte ∷ bytes) is =
     let first = (first_group (byte ∷ bytes) letters is (omega arith)).0 in
-    absurd (none (take 3 (byte ∷ bytes)) (says _ _ (rw cut first)) first.some)
+    absurd (none (take 3 (byte ∷ bytes)) (encodes _ _ (rw cut first)) first.some)
 
 -- otherwise the letters begin with the group's bytes
 begins-forth : (letters front more : List ℕ) → IsGroup (take 4 letters) front → Crypt64 more (drop 4 letters) → Crypt64 (front ++ more) letters
 begins-forth letters front more group is =
-    let said = says (take 4 letters) front group in
+    let said = encodes (take 4 letters) front group in
     let cut : (take 3 (front ++ more) ≡ front) × (drop 3 (front ++ more) ≡ more) = elim (cases_lt (length front) 3) [
       | inl short ↦
           let ends : drop 4 letters ≡ [] = nil_from_length _ (omega (arith, said.count, length-take 4 letters, length-drop 4 letters)) in
@@ -216,7 +216,7 @@ begins-forth letters front more group is =
 begins-back : (letters front all : List ℕ) → IsGroup (take 4 letters) front → Crypt64 all letters
     → (more : List ℕ) × (all ≡ front ++ more) × Crypt64 more (drop 4 letters)
 begins-back letters front [] group is =
-    absurd (omega (arith, (says _ _ group).count, ap length (no_bytes [] letters is refl), length-take 4 letters))
+    absurd (omega (arith, (encodes _ _ group).count, ap length (no_bytes [] letters is refl), length-take 4 letters))
 begins-back letters front (byte ∷ bytes) group is =
     let first = first_group (byte ∷ bytes) letters is (omega arith) in
     let same : take 3 (byte ∷ bytes) ≡ front = group-one _ _ _ first.0 group in

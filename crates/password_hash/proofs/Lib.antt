@@ -20,7 +20,7 @@ pub mod HashFacts
 pub mod AlphabetFacts
 -- What follows from the definitions of crypt Base64.
 pub mod Crypt64Facts
--- Bytes and letters by groups: how many there are, and what a group says.
+-- Bytes and letters by groups: how many there are, and what a group encodes.
 pub mod GroupFacts
 -- What follows from the definition of MCF texts: each has one id and one list of fields, and texts put together by parts are MCF texts.
 pub mod McfFacts

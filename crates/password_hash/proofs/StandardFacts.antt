@@ -13,7 +13,7 @@ use Rattle.password_hash.specs.Decimal.{decimal_below, has_plus_or_leading_zero}
 use Rattle.password_hash.specs.Mcf.{IsMcf, IsMcfText, id_of}
 use Rattle.password_hash.specs.Phc.{hash_text, IsHashText}
 use Rattle.password_hash.specs.declared.phc.hash.PasswordHash.{PasswordHash}
-use Rattle.password_hash.proofs.GroupFacts.{Says, no_bytes, refuses}
+use Rattle.password_hash.proofs.GroupFacts.{Encodes, no_bytes, refuses}
 use Rattle.password_hash.proofs.TextTests.{all_shown, crypt64_shown, hash_text_shown, has_no_id, is_crypt64, is_hash_text, is_mcf_text, mcf_text_shown, no_id_shown}
 
 -- the bytes that hexadecimal digits spell, two for each
@@ -112,26 +112,26 @@ pub crypt64_letters_written : All (λ (row : List ℕ × List ℕ). Crypt64 row.
 unfolding crypt64_of letters_of letter
 crypt64_letters_written = all_shown is_crypt64 (λ (row : List ℕ × List ℕ). Crypt64 row.0 row.1) crypt64_shown crypt64_letters refl
 
--- letters that no bytes have: their first four say no byte
+-- letters that are not an encoding, by the first four of them
 
-abbrev says_none : ℕ → Option ℕ → Bool
-says_none len None = true
-says_none len (Some number) = (len == 0) || not (number / 2 ^ (8 * len) == 0)
+abbrev encodes_none : ℕ → Option ℕ → Bool
+encodes_none len None = true
+encodes_none len (Some number) = (len == 0) || not (number / 2 ^ (8 * len) == 0)
 
 abbrev is_refused : List ℕ → Bool
-is_refused letters = nat_lt 0 (length letters) && says_none (length (take 4 letters) - 1) (number_of (take 4 letters))
+is_refused letters = nat_lt 0 (length letters) && encodes_none (length (take 4 letters) - 1) (number_of (take 4 letters))
 
 refused_shown : (letters : List ℕ) → is_refused letters ≡ true → ¬ IsCrypt64 letters
 refused_shown letters refused is =
-    let parts = and_parts (nat_lt 0 (length letters)) (says_none (length (take 4 letters) - 1) (number_of (take 4 letters))) refused in
-    let empty = refuses letters (take 4 letters) refl (λ bytes said some. says_some bytes said some parts.1) is.0 is.1 in
+    let parts = and_parts (nat_lt 0 (length letters)) (encodes_none (length (take 4 letters) - 1) (number_of (take 4 letters))) refused in
+    let empty = refuses letters (take 4 letters) refl (λ bytes said some. encodes_some bytes said some parts.1) is.0 is.1 in
     absurd (omega (arith, ltb-true 0 (length letters) parts.0, ap length (no_bytes is.0 letters is.1 empty)))
   where
-    says_some : (bytes : List ℕ) → Says (take 4 letters) bytes → 0 < length bytes → says_none (length (take 4 letters) - 1) (number_of (take 4 letters)) ≡ true → ⊥
-    says_some bytes said some none =
+    encodes_some : (bytes : List ℕ) → Encodes (take 4 letters) bytes → 0 < length bytes → encodes_none (length (take 4 letters) - 1) (number_of (take 4 letters)) ≡ true → ⊥
+    encodes_some bytes said some none =
         let len : length (take 4 letters) - 1 ≡ length bytes = omega (arith, said.count) in
-        let says = rw (len, said.number) at none in
-        grind (arith, nat_tests, said.no_more, says)
+        let encodes = rw (len, said.number) at none in
+        grind (arith, nat_tests, said.no_more, encodes)
 
 abbrev refused_letters : List (List ℕ)
 refused_letters =

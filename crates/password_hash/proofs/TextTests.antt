@@ -140,7 +140,7 @@ mcf_text_shown (text, (id, fields)) h =
     let parts = slice_eq-Decides bytes_eq-Decides (parts_of text) ([] ∷ id ∷ fields) (pointwise (pointwise nat_eq) (parts_of text) ([] ∷ id ∷ fields)) refl in
     IsMcfText-from_parts text id fields (parts.0 (grind arith)) (grind (arith, nat_tests), grind arith)
 
--- what is between the first two dollars is no id
+-- the text between the first two dollars is not an id
 abbrev pub has_no_id : List ℕ → Bool
 has_no_id text = not (nat_lt 0 (length (id_of text)) && list_all is_identifier_letter (id_of text))
 

@@ -11,17 +11,17 @@ cut c =
 pub returns-in_err-number-clause-split : goal.returns-in_err-number-clause-split
 returns-in_err-number-clause-split c =
     let at = (goal.at.returns-in_err-number-clause-split c).After-split_at in
-    rw c.from_residual.ensures (refuses _ _ (cut at).0 (λ bytes says some. cc (c.in_err-number.ensures.value, says.number)))
+    rw c.from_residual.ensures (refuses _ _ (cut at).0 (λ bytes encodes some. cc (c.in_err-number.ensures.value, encodes.number)))
 
 pub returns-then-len-eq0-clause-split : goal.returns-then-len-eq0-clause-split
 returns-then-len-eq0-clause-split c =
     let at = (goal.at.returns-then-len-eq0-clause-split c).After-split_at in
-    refuses _ _ (cut at).0 (λ bytes says some. elim c.then-len-eq0.branch [
-      | then-len-eq0-via-then-len-eq0 w ↦ omega (arith, says.count, w.if-len-eq0.true)
+    refuses _ _ (cut at).0 (λ bytes encodes some. elim c.then-len-eq0.branch [
+      | then-len-eq0-via-then-len-eq0 w ↦ omega (arith, encodes.count, w.if-len-eq0.true)
       | then-len-eq0-via-else-len-eq0+then-number-len-ne0 w ↦
-          let number : c.in_ok-number.number ≡ le_number bytes = cc (c.in_ok-number.ensures.value, says.number) in
-          let len : c.saturating_sub-len.result ≡ length bytes = omega (arith, says.count) in
-          w.if-number-len-ne0.true (rw (number, len) says.no_more)
+          let number : c.in_ok-number.number ≡ le_number bytes = cc (c.in_ok-number.ensures.value, encodes.number) in
+          let len : c.saturating_sub-len.result ≡ length bytes = omega (arith, encodes.count) in
+          w.if-number-len-ne0.true (rw (number, len) encodes.no_more)
     ])
 
 pub returns-clause-split : goal.returns-clause-split
