@@ -115,7 +115,6 @@ pub fn scrypt(
 /// Does what [`scrypt`] does, and counts the `4 * N * r * p` Salsa20/8 cores.
 ///
 /// On an error the count is unchanged too.
-#[tactic(auto, using(crate::proofs::CostFacts::whole_table_cost))]
 pub fn scrypt_counted(
     alloc: Global,
     password: &[u8],
@@ -161,7 +160,6 @@ pub fn scrypt_counted(
 ///
 /// Returns `InvalidOutputLen`, and changes nothing, exactly if the length of `output` is
 /// not allowed ([`output_len_ok`](crate::output_len_ok)).
-#[tactic(auto, using(crate::proofs::CostFacts::whole_table_cost))]
 pub fn scrypt_with_buffers(
     password: &[u8],
     salt: &[u8],

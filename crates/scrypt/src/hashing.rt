@@ -55,7 +55,6 @@ pub(crate) fn key_len_or_default(params: &Params) -> usize
 
 /// Derives the key that hashing with these parameters stores, in any memory. Afterwards the chunks
 /// and the scratch are zeros. Does not allocate.
-#[tactic(auto, using(crate::proofs::CostFacts::whole_table_cost))]
 pub(crate) fn stored_key<M: Memory>(
     password: &[u8],
     salt: &[u8],

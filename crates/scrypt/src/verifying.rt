@@ -16,7 +16,6 @@ use std::alloc::Global;
 
 // Derives the key of the stored one's length, in any memory, and returns whether it is the stored
 // key. Afterwards the chunks and the scratch are zeros.
-#[tactic(auto, using(crate::proofs::CostFacts::whole_table_cost))]
 fn is_key_of<M: Memory, K: StoredKey>(
     password: &[u8],
     salt: &[u8],
