@@ -22,7 +22,7 @@ fn ended<T, E: PartialEq + Drop>(
 }
 
 // The calls that derive a key.
-#[derive(Drop)]
+#[derive(Clone, Copy)]
 enum Deriving {
     HashPhc,
     HashMcf,
@@ -98,7 +98,7 @@ fn end_of_deriving(
 #[test]
 fn hashing_and_verifying(rt: HostRuntime) -> Result<(), Fail> {
     let alloc = rt.alloc();
-    for (call, len, sizes, reason) in DERIVING {
+    for &(call, len, sizes, reason) in &DERIVING {
         let hasher = Scrypt::from(Params::new_with_output_len(4, 1, 1, len)?);
         let phc_hash: phc::PasswordHash = hasher.hash_password_with_salt(alloc, b"", b"salt")?;
         let mcf_hash = mcf::PasswordHash::new(alloc, EMPTY_PASSWORD_HASH)?;
@@ -116,7 +116,7 @@ const LETTERS: usize = 2000;
 const BYTES: usize = 1500;
 
 // The calls that make texts, letters and bytes.
-#[derive(Drop)]
+#[derive(Clone, Copy)]
 enum Making {
     New,
     FromId,
@@ -188,7 +188,7 @@ fn texts_letters_and_bytes(rt: HostRuntime) -> Result<(), Fail> {
     let letters = format!(in alloc; "$7${}", "z".repeat(alloc, LETTERS)?)?;
     let hash = mcf::PasswordHashRef::new(letters.as_str())?;
     let field = hash.fields().next().ok_or("no field")?;
-    for (call, sizes, reason) in MAKING {
+    for &(call, sizes, reason) in &MAKING {
         let allocations = failing_allocations(alloc, sizes, || {
             end_of_making(&call, alloc, text.as_str(), &bytes, &field)
         })?;
@@ -275,7 +275,7 @@ const REFUSED: [(&str, Error, &str); 15] = [
 #[test]
 fn refusals_without_memory(rt: HostRuntime) -> Result<(), Fail> {
     let alloc = rt.alloc();
-    for (text, refusal, reason) in REFUSED {
+    for &(text, refusal, reason) in &REFUSED {
         let allocations = failing_allocations(alloc, &[], || {
             if verdict(alloc, text) == Err(refusal) {
                 CallEnd::Done

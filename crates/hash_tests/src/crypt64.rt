@@ -18,7 +18,7 @@ const LETTERS: [(&[u8], &str, &str); 3] = [
 #[test]
 fn letters_of_bytes(rt: HostRuntime) -> Result<(), Fail> {
     let alloc = rt.alloc();
-    for (bytes, letters, reason) in LETTERS {
+    for &(bytes, letters, reason) in &LETTERS {
         assert_eq!(rt;
             Base64::Crypt.encode_string(alloc, bytes)?.as_str(),
             letters,
@@ -30,19 +30,27 @@ fn letters_of_bytes(rt: HostRuntime) -> Result<(), Fail> {
             "{reason}"
         );
     }
-    for (bytes, letters) in [(0, 0), (1, 2), (2, 3), (3, 4), (32, 43), (64, 86)] {
+    Ok(())
+}
+
+#[test]
+fn letters_in_a_slice(rt: HostRuntime) {
+    let mut five = [0xaau8; 5];
+    let refused = Base64::Crypt.encode_slice(&[1, 2, 3], &mut five[..3]);
+    assert_eq!(rt; (refused, five), (Err(Error::EncodingInvalid), [0xaa; 5]));
+    let written = Base64::Crypt.encode_slice(&[1, 2, 3], &mut five);
+    assert_eq!(rt; (written, five), (Ok(4), [b'/', b'6', b'k', b'.', 0xaa]));
+}
+
+#[test]
+fn numbers_of_letters(rt: HostRuntime) {
+    for &(bytes, letters) in &[(0, 0), (1, 2), (2, 3), (3, 4), (32, 43), (64, 86)] {
         assert_eq!(rt;
             Base64::Crypt.encoded_len(bytes),
             letters,
             "of {bytes} bytes"
         );
     }
-    let mut five = [0xaau8; 5];
-    let refused = Base64::Crypt.encode_slice(&[1, 2, 3], &mut five[..3]);
-    assert_eq!(rt; (refused, five), (Err(Error::EncodingInvalid), [0xaa; 5]));
-    let written = Base64::Crypt.encode_slice(&[1, 2, 3], &mut five);
-    assert_eq!(rt; (written, five), (Ok(4), [b'/', b'6', b'k', b'.', 0xaa]));
-    Ok(())
 }
 
 // Fields of one byte 0xff, if they have letters of any bytes, and the reason for the row.
@@ -56,7 +64,7 @@ const FIELDS: [(&str, bool, &str); 5] = [
 
 #[test]
 fn letters_of_fields(rt: HostRuntime) -> Result<(), Fail> {
-    for (text, is_read, reason) in FIELDS {
+    for &(text, is_read, reason) in &FIELDS {
         let hash = PasswordHashRef::new(text)?;
         let field = hash.fields().next().ok_or("no field")?;
         let bytes = field.decode_base64(rt.alloc(), Base64::Crypt);

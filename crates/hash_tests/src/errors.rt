@@ -6,7 +6,7 @@ use std::test::Fail;
 #[test]
 fn texts_of_errors(rt: HostRuntime) -> Result<(), Fail> {
     let alloc = rt.alloc();
-    for (error, text) in [
+    for &(error, text) in &[
         (Error::Algorithm, "unsupported algorithm"),
         (Error::EncodingInvalid, "invalid encoding"),
         (Error::OutputSize, "invalid key length"),

@@ -12,72 +12,107 @@ use scrypt::{Params, Scrypt};
 use std::test::Fail;
 use test_support::vectors::{LONG_PASSWORD, LONG_PASSWORD_MCF, LONG_PASSWORD_PHC, PASSLIB_HASH};
 
+// A hasher with small costs.
+fn small() -> Result<Scrypt, Fail> {
+    Ok(Scrypt::new_with_params(Params::new(4, 1, 1)?))
+}
+
 #[test]
 fn phc_hashes(rt: HostRuntime) -> Result<(), Fail> {
-    let alloc = rt.alloc();
-    made_hashes_are_accepted();
-    rehashing_converges();
-    let params = Params::new(4, 1, 1)?;
-    let (usual, own) = (Scrypt::new(), Scrypt::new_with_params(params));
-    let wanted = phc::PasswordHash::new(LONG_PASSWORD_PHC)?;
-    let made: phc::PasswordHash = own.hash_password_with_salt(alloc, LONG_PASSWORD, b"NaCl")?;
-    assert_eq!(rt; made, wanted);
-    let made: phc::PasswordHash = usual.hash_password_with_params(
+    let (alloc, hasher) = (rt.alloc(), small()?);
+    let made: phc::PasswordHash = hasher.hash_password_with_salt(alloc, LONG_PASSWORD, b"NaCl")?;
+    assert_eq!(rt; made, phc::PasswordHash::new(LONG_PASSWORD_PHC)?);
+    let made: phc::PasswordHash = Scrypt::new().hash_password_with_params(
         alloc,
         LONG_PASSWORD,
         b"NaCl",
-        params,
+        Params::new(4, 1, 1)?,
     )?;
     assert_eq!(rt; made.to_string(alloc)?.as_str(), LONG_PASSWORD_PHC);
-    let drawn: phc::PasswordHash = own.hash_password(alloc, LONG_PASSWORD, [0xff; 16])?;
-    assert_eq!(rt; own.verify_password(alloc, LONG_PASSWORD, &drawn), Ok(()));
-    assert_eq!(rt;
-        own.verify_password(alloc, b"a", &drawn),
-        Err(Error::PasswordInvalid)
-    );
-    assert_eq!(rt; own.needs_rehash(&wanted), Ok(false));
-    assert_eq!(rt; usual.needs_rehash(&wanted), Ok(true));
-    let without_key = phc::PasswordHash::new("$scrypt$ln=4$aA")?;
-    assert_eq!(rt; own.needs_rehash(&without_key), Err(Error::PasswordInvalid));
     Ok(())
 }
 
 #[test]
 fn mcf_hashes(rt: HostRuntime) -> Result<(), Fail> {
-    let alloc = rt.alloc();
-    let params = Params::new(4, 1, 1)?;
-    let (usual, own) = (Scrypt::new(), Scrypt::new_with_params(params));
-    let made: mcf::PasswordHash = own.hash_password_with_salt(alloc, LONG_PASSWORD, b"NaCl")?;
+    let (alloc, hasher) = (rt.alloc(), small()?);
+    let made: mcf::PasswordHash = hasher.hash_password_with_salt(alloc, LONG_PASSWORD, b"NaCl")?;
     assert_eq!(rt; made.as_str(), LONG_PASSWORD_MCF);
-    let made: mcf::PasswordHash = usual.hash_password_with_params(
+    let made: mcf::PasswordHash = Scrypt::new().hash_password_with_params(
         alloc,
         LONG_PASSWORD,
         b"NaCl",
-        params,
+        Params::new(4, 1, 1)?,
     )?;
     assert_eq!(rt; made.as_str(), LONG_PASSWORD_MCF);
-    let drawn: mcf::PasswordHash = own.hash_password(alloc, LONG_PASSWORD, [0xff; 16])?;
-    assert!(rt;
-        drawn
-            .as_str()
-            .starts_with("$7$2/..../....zzzzzzzzzzzzzzzzzzzzz1$")
-    );
-    assert_eq!(rt; own.verify_password(alloc, LONG_PASSWORD, &drawn), Ok(()));
-    assert_eq!(rt; own.needs_rehash(&drawn), Ok(false));
-    let borrowed = mcf::PasswordHashRef::new(LONG_PASSWORD_MCF)?;
+    Ok(())
+}
+
+#[test]
+fn phc_hashes_with_drawn_salts(rt: HostRuntime) -> Result<(), Fail> {
+    made_hashes_are_accepted();
+    let (alloc, hasher) = (rt.alloc(), small()?);
+    let drawn: phc::PasswordHash = hasher.hash_password(alloc, LONG_PASSWORD, [0xff; 16])?;
     assert_eq!(rt;
-        own.verify_password(alloc, LONG_PASSWORD, &borrowed),
+        hasher.verify_password(alloc, LONG_PASSWORD, &drawn),
         Ok(())
     );
     assert_eq!(rt;
-        own.verify_password(alloc, b"a", &borrowed),
+        hasher.verify_password(alloc, b"a", &drawn),
         Err(Error::PasswordInvalid)
     );
-    assert_eq!(rt; usual.needs_rehash(&borrowed), Ok(true));
-    let other = mcf::PasswordHashRef::new("$8$a")?;
-    assert_eq!(rt; own.needs_rehash(&other), Err(Error::Algorithm));
-    let empty_key = mcf::PasswordHashRef::new("$7$2/..../....$")?;
-    assert_eq!(rt; own.needs_rehash(&empty_key), Err(Error::OutputSize));
+    Ok(())
+}
+
+#[test]
+fn mcf_hashes_with_drawn_salts(rt: HostRuntime) -> Result<(), Fail> {
+    let (alloc, hasher) = (rt.alloc(), small()?);
+    let drawn: mcf::PasswordHash = hasher.hash_password(alloc, LONG_PASSWORD, [0xff; 16])?;
+    let beginning = "$7$2/..../....zzzzzzzzzzzzzzzzzzzzz1$";
+    assert!(rt; drawn.as_str().starts_with(beginning));
+    assert_eq!(rt;
+        hasher.verify_password(alloc, LONG_PASSWORD, &drawn),
+        Ok(())
+    );
+    assert_eq!(rt; hasher.needs_rehash(&drawn), Ok(false));
+    Ok(())
+}
+
+#[test]
+fn borrowed_mcf_hashes(rt: HostRuntime) -> Result<(), Fail> {
+    let (alloc, hasher) = (rt.alloc(), small()?);
+    let hash = mcf::PasswordHashRef::new(LONG_PASSWORD_MCF)?;
+    assert_eq!(rt; hasher.verify_password(alloc, LONG_PASSWORD, &hash), Ok(()));
+    assert_eq!(rt;
+        hasher.verify_password(alloc, b"a", &hash),
+        Err(Error::PasswordInvalid)
+    );
+    Ok(())
+}
+
+#[test]
+fn phc_rehash_checks(rt: HostRuntime) -> Result<(), Fail> {
+    rehashing_converges();
+    let hash = phc::PasswordHash::new(LONG_PASSWORD_PHC)?;
+    assert_eq!(rt; small()?.needs_rehash(&hash), Ok(false));
+    assert_eq!(rt; Scrypt::new().needs_rehash(&hash), Ok(true));
+    let without_key = phc::PasswordHash::new("$scrypt$ln=4$aA")?;
+    assert_eq!(rt;
+        small()?.needs_rehash(&without_key),
+        Err(Error::PasswordInvalid)
+    );
+    Ok(())
+}
+
+#[test]
+fn mcf_rehash_checks(rt: HostRuntime) -> Result<(), Fail> {
+    for &(text, wanted, reason) in &[
+        (LONG_PASSWORD_MCF, Ok(true), "cheaper than recommended"),
+        ("$8$a", Err(Error::Algorithm), "another identifier"),
+        ("$7$2/..../....$", Err(Error::OutputSize), "an empty key"),
+    ] {
+        let hash = mcf::PasswordHashRef::new(text)?;
+        assert_eq!(rt; Scrypt::new().needs_rehash(&hash), wanted, "{reason}");
+    }
     Ok(())
 }
 
@@ -111,7 +146,7 @@ fn names_of_the_algorithm(rt: HostRuntime) -> Result<(), Fail> {
     let alloc = rt.alloc();
     let params = Params::new(4, 1, 1)?;
     let hasher = Scrypt::new();
-    for (id, version, phc_refusal, mcf_refusal, reason) in NAMES {
+    for &(id, version, phc_refusal, mcf_refusal, reason) in &NAMES {
         let made: Result<phc::PasswordHash, Error> = hasher.hash_password_customized(
             alloc, b"", b"salt", id, version, params,
         );
@@ -127,20 +162,25 @@ fn names_of_the_algorithm(rt: HostRuntime) -> Result<(), Fail> {
 #[test]
 fn costs_of_hashes(rt: HostRuntime) -> Result<(), Fail> {
     let hash = phc::PasswordHash::new(PASSLIB_HASH)?;
-    let none = ParamsString::new();
-    let (Ok(sized), Ok(bare), Ok(usual)) = (
+    assert_eq!(rt;
         Params::try_from(&hash),
-        Params::try_from(&hash.params),
-        Params::try_from(&none),
-    ) else {
-        return Err("no costs".into());
-    };
-    assert_eq!(rt; sized, Params::new_with_output_len(16, 8, 1, 32)?);
-    assert_ne!(rt; sized, bare);
-    assert_eq!(rt; bare, Params::new(16, 8, 1)?);
-    assert_eq!(rt; usual, Params::RECOMMENDED);
-    assert_eq!(rt; ParamsString::try_from(sized)?.as_str(), "ln=16,r=8,p=1");
-    assert_eq!(rt; ParamsString::try_from(&sized)?, hash.params);
+        Ok(Params::new_with_output_len(16, 8, 1, 32)?)
+    );
+    assert_eq!(rt; Params::try_from(&hash.params), Ok(Params::new(16, 8, 1)?));
+    assert_eq!(rt;
+        Params::try_from(&ParamsString::new()),
+        Ok(Params::RECOMMENDED)
+    );
+    Ok(())
+}
+
+#[test]
+fn costs_as_parameters(rt: HostRuntime) -> Result<(), Fail> {
+    let hash = phc::PasswordHash::new(PASSLIB_HASH)?;
+    let params = Params::new_with_output_len(16, 8, 1, 32)?;
+    assert_ne!(rt; params, Params::new(16, 8, 1)?);
+    assert_eq!(rt; ParamsString::try_from(params)?.as_str(), "ln=16,r=8,p=1");
+    assert_eq!(rt; ParamsString::try_from(&params)?, hash.params);
     assert_eq!(rt; hash.algorithm, ALG_ID);
     Ok(())
 }

@@ -5,8 +5,7 @@ use scrypt::{CoreCount, Params, StoredHash, mcf, phc};
 use std::test::Fail;
 use test_support::vectors::{LONG_PASSWORD, LONG_PASSWORD_MCF, LONG_PASSWORD_PHC};
 
-// Each with the verdict on the long password, in buffers that are one element longer than (4, 1, 1) needs, and the
-// reason for the row.
+// Each with the verdict on the long password, in buffers for (4, 1, 1), and the reason for the row.
 const TEXTS: [(&str, Result<(), Error>, &str); 5] = [
     (LONG_PASSWORD_PHC, Ok(()), "a PHC hash"),
     (LONG_PASSWORD_MCF, Ok(()), "a `$7$` hash"),
@@ -27,21 +26,33 @@ const TEXTS: [(&str, Result<(), Error>, &str); 5] = [
     ),
 ];
 
+// Buffers that are one element longer than (4, 1, 1) needs, and hold no zeros.
+const CHUNKS: [u8; 129] = [0xff; 129];
+
+const TABLE: [u32; 513] = [u32::MAX; 513];
+
+const SCRATCH: [u32; 65] = [u32::MAX; 65];
+
 #[test]
-fn hashes_in_buffers(rt: HostRuntime) -> Result<(), Fail> {
-    let (mut chunks, mut table, mut scratch) = ([0xffu8; 129], [u32::MAX; 513], [u32::MAX; 65]);
-    let mut cores = CoreCount::new();
-    let params = Params::new(4, 1, 1)?;
+fn phc_hashes(rt: HostRuntime) -> Result<(), Fail> {
+    let (mut chunks, mut table, mut scratch) = (CHUNKS, TABLE, SCRATCH);
     let hash = phc::hash_with_buffers(
         LONG_PASSWORD,
         b"NaCl",
-        &params,
+        &Params::new(4, 1, 1)?,
         &mut chunks,
         &mut table,
         &mut scratch,
-        &mut cores,
+        &mut CoreCount::new(),
     )?;
     assert_eq!(rt; hash.to_array_string().as_str(), LONG_PASSWORD_PHC);
+    Ok(())
+}
+
+#[test]
+fn mcf_hashes(rt: HostRuntime) -> Result<(), Fail> {
+    let (mut chunks, mut table, mut scratch) = (CHUNKS, TABLE, SCRATCH);
+    let params = Params::new(4, 1, 1)?;
     let mut text = [b'!'; 64];
     let len = mcf::hash_with_buffers(
         LONG_PASSWORD,
@@ -51,11 +62,18 @@ fn hashes_in_buffers(rt: HostRuntime) -> Result<(), Fail> {
         &mut chunks,
         &mut table,
         &mut scratch,
-        &mut cores,
+        &mut CoreCount::new(),
     )?;
     assert_eq!(rt; text.get(..len), Some(LONG_PASSWORD_MCF.as_bytes()));
     assert_eq!(rt; len, mcf::hash_len(&params, b"NaCl"));
-    for (text, wanted, reason) in TEXTS {
+    Ok(())
+}
+
+#[test]
+fn verdicts(rt: HostRuntime) -> Result<(), Fail> {
+    let (mut chunks, mut table, mut scratch) = (CHUNKS, TABLE, SCRATCH);
+    let mut cores = CoreCount::new();
+    for &(text, wanted, reason) in &TEXTS {
         let verdict = StoredHash::read(text)?.verify_with_buffers(
             LONG_PASSWORD,
             &mut chunks,

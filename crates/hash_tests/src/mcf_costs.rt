@@ -7,7 +7,7 @@ use std::test::Fail;
 
 #[test]
 fn numbers_of_five_letters(rt: HostRuntime) {
-    for (number, letters, reason) in [
+    for &(number, letters, reason) in &[
         (32, b"U....", "libxcrypt's r"),
         (1, b"/....", "the lowest digit comes first"),
         (1_073_741_823, b"zzzzz", "the greatest number"),
@@ -18,6 +18,10 @@ fn numbers_of_five_letters(rt: HostRuntime) {
         assert_eq!(rt; out, *letters, "{reason}");
         assert_eq!(rt; decode64_uint32(letters), Ok(number), "{reason}");
     }
+}
+
+#[test]
+fn numbers_of_no_five_letters(rt: HostRuntime) {
     // From 2^30 on the number is taken modulo 2^30.
     let mut out = [0; 5];
     assert_eq!(rt; encode64_uint32(&mut out, 1_073_741_824), Ok(()));
@@ -62,17 +66,26 @@ fn refusal(text: &str) -> Option<Error> {
 
 #[test]
 fn costs_and_salts(rt: HostRuntime) -> Result<(), Fail> {
-    for (text, (log_n, r, p), rest, reason) in ACCEPTED {
+    for &(text, (log_n, r, p), rest, reason) in &ACCEPTED {
         let Ok((params, salt)) = decode_params_and_salt(text) else {
             return Err("refused".into());
         };
         assert_eq!(rt; params, Params::new(log_n, r, p)?, "{reason}");
         assert_eq!(rt; salt, rest.as_bytes(), "{reason}");
     }
-    for (text, refused, reason) in REFUSED {
+    Ok(())
+}
+
+#[test]
+fn refused_costs(rt: HostRuntime) {
+    for &(text, refused, reason) in &REFUSED {
         assert_eq!(rt; refusal(text), Some(refused), "{reason}");
     }
-    // Each letter of r and of p, replaced by a byte outside the alphabet.
+}
+
+// Each letter of r and of p, replaced by a byte outside the alphabet.
+#[test]
+fn letters_outside_the_alphabet(rt: HostRuntime) -> Result<(), Fail> {
     for at in 1..11 {
         for byte in *b"$* -" {
             let mut letters = *b"CU..../....";

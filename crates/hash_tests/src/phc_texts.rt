@@ -22,7 +22,7 @@ const TEXTS: [(&str, &str); 4] = [
 
 #[test]
 fn texts_are_read_and_printed(rt: HostRuntime) -> Result<(), Fail> {
-    for (text, reason) in TEXTS {
+    for &(text, reason) in &TEXTS {
         let hash = PasswordHash::new(text)?;
         assert_eq!(rt; hash.to_string(rt.alloc())?.as_str(), text, "{reason}");
     }
@@ -73,7 +73,7 @@ const ADDED: [(&str, &str, &str, &str); 6] = [
 
 #[test]
 fn decimals_are_put_last(rt: HostRuntime) -> Result<(), Fail> {
-    for (text, name, wanted, reason) in ADDED {
+    for &(text, name, wanted, reason) in &ADDED {
         let mut params = ParamsString::parse(text)?;
         let added = params.add_decimal(name, 1);
         if wanted == text {
@@ -90,7 +90,7 @@ fn decimals_are_put_last(rt: HostRuntime) -> Result<(), Fail> {
 fn pairs_in_their_order(rt: HostRuntime) -> Result<(), Fail> {
     let params = ParamsString::parse("r=8,ln=016")?;
     let mut pairs = params.iter();
-    for (name, text, number) in [
+    for &(name, text, number) in &[
         ("r", "8", Ok(8)),
         ("ln", "016", Err(Error::EncodingInvalid)),
     ] {

@@ -9,7 +9,7 @@ use test_support::failing_allocations::{CallEnd, failing_allocations};
 const BUFFERS: [usize; 3] = [128, 2048, 256];
 
 // The calls that derive a key in memory of their own.
-#[derive(Drop)]
+#[derive(Clone, Copy)]
 enum Call {
     Scrypt,
     ScryptCounted,
@@ -40,7 +40,7 @@ fn end_of(call: &Call, alloc: Global, params: &Params) -> CallEnd {
 #[test]
 fn derivations(rt: HostRuntime) -> Result<(), Fail> {
     let params = Params::new(4, 1, 1)?;
-    for (call, reason) in [
+    for &(call, reason) in &[
         (Call::Scrypt, "the three buffers"),
         (Call::ScryptCounted, "counting takes no memory"),
         (Call::DeriveKey, "the trait adds none"),

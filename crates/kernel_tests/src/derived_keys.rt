@@ -32,7 +32,7 @@ fn key_by<K: Pbkdf>(alloc: Global, function: &K, out: &mut [u8]) -> kdf::Result<
 #[test]
 fn rfc_7914_keys(rt: HostRuntime) -> Result<(), Fail> {
     let alloc = rt.alloc();
-    for (password, salt, costs, wanted) in [
+    for &(password, salt, costs, wanted) in &[
         ("", "", (4, 1, 1), RFC_KEY_1),
         ("password", "NaCl", (10, 8, 16), RFC_KEY_2),
         ("pleaseletmein", "SodiumChloride", (14, 8, 1), RFC_KEY_3),
@@ -72,7 +72,7 @@ fn passwords_that_share_a_key(rt: HostRuntime) -> Result<(), Fail> {
     let mut trailing_zero = [b'a'; 64];
     trailing_zero[63] = 0;
     let digest = <[u8; 32]>::from_hex(DIGEST_OF_65)?;
-    for (password, wanted, reason) in [
+    for &(password, wanted, reason) in &[
         ([b'a'; 63].as_slice(), SHORT_PASSWORD_KEY, "below a block"),
         (&trailing_zero, SHORT_PASSWORD_KEY, "a zero byte after it"),
         (&[b'a'; 65], LONG_PASSWORD_KEY, "above a block"),
@@ -86,7 +86,7 @@ fn passwords_that_share_a_key(rt: HostRuntime) -> Result<(), Fail> {
 
 #[test]
 fn refusals(rt: HostRuntime) -> Result<(), Fail> {
-    for (len, allowed, reason) in [
+    for &(len, allowed, reason) in &[
         (0, false, "an empty key is refused"),
         (1, true, "the shortest key"),
         (137_438_953_440, true, "the last block has number 2^32 - 1"),

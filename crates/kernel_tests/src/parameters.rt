@@ -5,7 +5,7 @@ use std::test::Fail;
 
 #[test]
 fn accepted_parameters(rt: HostRuntime) {
-    for (log_n, r, p, accepted, reason) in [
+    for &(log_n, r, p, accepted, reason) in &[
         (0, 1, 1, true, "the smallest parameters"),
         (56, 1, 1, true, "the greatest N"),
         (57, 1, 1, false, "N * r is 2^57"),
@@ -28,7 +28,7 @@ fn accepted_parameters(rt: HostRuntime) {
         let made = Params::new(log_n, r, p);
         assert_eq!(rt; made.is_ok(), accepted, "{reason}");
     }
-    for (len, accepted, reason) in [
+    for &(len, accepted, reason) in &[
         (9, false, "a stored key has at least 10 bytes"),
         (10, true, "the shortest"),
         (64, true, "the longest"),
@@ -56,7 +56,7 @@ const TABLES: [(u8, u32, Option<u8>, Option<usize>, &str); 5] = [
 
 #[test]
 fn buffer_lengths(rt: HostRuntime) -> Result<(), Fail> {
-    for (log_n, r, s, table, reason) in TABLES {
+    for &(log_n, r, s, table, reason) in &TABLES {
         let params = Params::new(log_n, r, 1)?;
         assert_eq!(rt; (params.log_n(), params.r(), params.p()), (log_n, r, 1));
         assert_eq!(rt; params.n(), 1u64 << u32::from(log_n).min(63));

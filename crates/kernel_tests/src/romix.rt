@@ -59,7 +59,7 @@ fn integerify_beyond_32_bits(rt: HostRuntime) {
     let mut diagonal = [9u32; 32];
     diagonal[16] = 5;
     diagonal[29] = 3;
-    for (log_n, row, reason) in [
+    for &(log_n, row, reason) in &[
         (0, 0, "a single row"),
         (4, 5, "bits of the first word"),
         (33, 4_294_967_301, "one bit of the second word"),

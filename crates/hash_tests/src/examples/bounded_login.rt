@@ -63,7 +63,7 @@ const LOGINS: [(&str, &str, usize, u64, Result<bool, BoundedError>, &str); 7] = 
 #[test]
 fn logins(rt: HostRuntime) -> Result<(), Fail> {
     let (mut chunks, mut table, mut scratch) = ([0u8; 128], [0u32; 512], [0u32; 64]);
-    for (stored, password, most_bytes, most_cores, wanted, reason) in LOGINS {
+    for &(stored, password, most_bytes, most_cores, wanted, reason) in &LOGINS {
         let login = log_in(
             stored,
             password.as_bytes(),

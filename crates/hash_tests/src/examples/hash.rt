@@ -27,7 +27,7 @@ const VERDICTS: [(&str, &str, Result<(), Error>, &str); 4] = [
 fn hashes_and_verdicts(rt: HostRuntime) -> Result<(), Fail> {
     let text = stored_text(rt.alloc(), b"correct horse", SALT)?;
     assert_eq!(rt; text.as_str(), RECOMMENDED);
-    for (stored, password, verdict, reason) in VERDICTS {
+    for &(stored, password, verdict, reason) in &VERDICTS {
         assert_eq!(rt;
             verify(rt.alloc(), stored, password.as_bytes()),
             verdict,

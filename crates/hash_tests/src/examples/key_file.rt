@@ -42,7 +42,7 @@ fn wrap_keys_of_age_files(rt: HostRuntime) -> Result<(), Fail> {
     )?;
     let key = "a7acb279834ad00f7b2114734492757a407e761be7885656d43ec8c3de2e21e4";
     assert_eq!(rt; made, <[u8; 32]>::from_hex(key)?);
-    for (log_n, error, reason) in [
+    for &(log_n, error, reason) in &[
         (54, Error::ParamsInvalid, "a table of 2^64 bytes"),
         (53, Error::OutOfMemory, "a table that no machine has"),
     ] {

@@ -47,11 +47,7 @@ const LOGINS: [(&str, &str, u8, bool, Option<&str>, &str); 6] = [
 #[test]
 fn logins(rt: HostRuntime) -> Result<(), Fail> {
     let alloc = rt.alloc();
-    assert_eq!(rt; Logins::new(4, 0, 1).err(), Some(InvalidParams));
-    let usual = Logins::new(4, 1, 1)?;
-    let enrolled = usual.enroll(alloc, b"correct horse", SALT)?;
-    assert_eq!(rt; enrolled.as_str(), NEW);
-    for (stored, password, log_n, is_in, new, reason) in LOGINS {
+    for &(stored, password, log_n, is_in, new, reason) in &LOGINS {
         let login = Logins::new(log_n, 1, 1)?.log_in(alloc, stored, password.as_bytes(), SALT)?;
         assert_eq!(rt; !matches!(login, Login::Refused), is_in, "{reason}");
         let text = match &login {
@@ -60,7 +56,16 @@ fn logins(rt: HostRuntime) -> Result<(), Fail> {
         };
         assert_eq!(rt; text, new, "{reason}");
     }
-    let refused = usual.log_in(alloc, "$7$2/..../....", b"", SALT);
+    Ok(())
+}
+
+#[test]
+fn enrolled_texts_and_refusals(rt: HostRuntime) -> Result<(), Fail> {
+    assert_eq!(rt; Logins::new(4, 0, 1).err(), Some(InvalidParams));
+    let logins = Logins::new(4, 1, 1)?;
+    let enrolled = logins.enroll(rt.alloc(), b"correct horse", SALT)?;
+    assert_eq!(rt; enrolled.as_str(), NEW);
+    let refused = logins.log_in(rt.alloc(), "$7$2/..../....", b"", SALT);
     assert!(rt; refused.err() == Some(Error::EncodingInvalid), "no key");
     Ok(())
 }

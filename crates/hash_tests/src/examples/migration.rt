@@ -10,7 +10,7 @@ use std::test::Fail;
 #[test]
 fn costs_of_texts(rt: HostRuntime) -> Result<(), Fail> {
     let params = Params::new(4, 1, 1)?;
-    for (text, key_len, reason) in [
+    for &(text, key_len, reason) in &[
         (SHORT_KEY, 16, "a PHC text with a short key"),
         ("$scrypt$ln=4,r=1,p=1", 0, "a PHC text without a key"),
         (MCF, 32, "a `$7$` text"),
@@ -20,7 +20,7 @@ fn costs_of_texts(rt: HostRuntime) -> Result<(), Fail> {
             "{reason}"
         );
     }
-    for (text, refused, reason) in [
+    for &(text, refused, reason) in &[
         ("$7", Error::EncodingInvalid, "no field"),
         ("$7$2...../....", Error::ParamsInvalid, "r is 0"),
         ("$argon2id$ln=4$aA", Error::Algorithm, "another algorithm"),
@@ -52,7 +52,7 @@ const REWRITTEN: [(&str, &str, u8, Result<&str, Error>, &str); 4] = [
 
 #[test]
 fn rewritten_texts(rt: HostRuntime) -> Result<(), Fail> {
-    for (text, password, log_n, new, reason) in REWRITTEN {
+    for &(text, password, log_n, new, reason) in &REWRITTEN {
         let wanted = Logins::new(log_n, 1, 1)?;
         let told = rewrite(rt.alloc(), &wanted, text, password.as_bytes(), SALT);
         let told = match &told {
