@@ -26,7 +26,7 @@ const ALLOCATIONS: [&[usize]; 10] = [
 #[test]
 fn allocations_of_every_command(rt: HostRuntime) -> Result<(), Fail> {
     let alloc = rt.alloc();
-    for ((line, status, written, command), sizes) in COMMANDS.into_iter().zip(ALLOCATIONS) {
+    for (&(line, status, written, command), &sizes) in COMMANDS.iter().zip(&ALLOCATIONS) {
         let words = words_of(alloc, line)?;
         let allocations = failing_allocations(alloc, sizes, || {
             let mut output = Page::new();

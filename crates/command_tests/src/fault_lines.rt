@@ -65,7 +65,7 @@ fn ended(status: u8, input_failed: bool) -> Exit {
 // The status stays the same if the fault line can't be written.
 #[test]
 fn fault_writers_that_fail(rt: HostRuntime) -> Result<(), Fail> {
-    for (line, failing, status, fault, reason) in FAULTS {
+    for &(line, failing, status, fault, reason) in &FAULTS {
         for call in 0..fault.len() {
             let mut input = match failing {
                 Some(bytes) => Input::failing(bytes, ErrorKind::Other),
@@ -94,7 +94,7 @@ const NO_CALLS: Calls = Calls {
 
 #[test]
 fn calls_of_a_good_run(rt: HostRuntime) -> Result<(), Fail> {
-    for (line, status, written, command) in COMMANDS {
+    for &(line, status, written, command) in &COMMANDS {
         let (mut output, mut faults) = (CountedPage::new(), CountedPage::new());
         let input = &mut b"password".as_slice();
         let ended = run_over(rt.alloc(), line, input, &mut output, &mut faults)?;
@@ -116,7 +116,7 @@ fn calls_of_a_good_run(rt: HostRuntime) -> Result<(), Fail> {
 
 #[test]
 fn calls_of_a_refusal(rt: HostRuntime) -> Result<(), Fail> {
-    for (line, failing, status, fault, reason) in FAULTS {
+    for &(line, failing, status, fault, reason) in &FAULTS {
         let (mut output, mut faults) = (CountedPage::new(), CountedPage::new());
         let mut input = match failing {
             Some(bytes) => Input::failing(bytes, ErrorKind::Other),

@@ -39,8 +39,8 @@ const FAILING_READERS: [(usize, ErrorKind, &str); 6] = [
 #[test]
 fn readers_that_fail(rt: HostRuntime) -> Result<(), Fail> {
     let bytes = vec![in rt.alloc(); b'x'; 99_999]?;
-    for (line, _, _, command) in COMMANDS {
-        for (len, kind, reason) in FAILING_READERS {
+    for &(line, _, _, command) in &COMMANDS {
+        for &(len, kind, reason) in &FAILING_READERS {
             let mut input = Input::failing(bytes.get(..len).unwrap_or(&[]), kind);
             let printed = run_line(rt.alloc(), line, &mut input, Page::new(), Page::new())?;
             assert!(rt;
@@ -77,8 +77,8 @@ const SLOW_STREAMS: [(usize, usize, &str); 4] = [
 
 #[test]
 fn slow_streams(rt: HostRuntime) -> Result<(), Fail> {
-    for (line, status, written, command) in COMMANDS {
-        for (read, taken, reason) in SLOW_STREAMS {
+    for &(line, status, written, command) in &COMMANDS {
+        for &(read, taken, reason) in &SLOW_STREAMS {
             let mut input = Input::new(b"password", read);
             let output = Page::failing(taken, usize::MAX);
             let printed = run_line(rt.alloc(), line, &mut input, output, Page::new())?;
@@ -151,7 +151,7 @@ const ORDERS: [(&str, u8, &str, &str); 9] = [
 
 #[test]
 fn order_of_reading_and_refusing(rt: HostRuntime) -> Result<(), Fail> {
-    for (line, status, fault, reason) in ORDERS {
+    for &(line, status, fault, reason) in &ORDERS {
         let mut input = Input::failing(b"", ErrorKind::Other);
         let printed = run_line(rt.alloc(), line, &mut input, Page::new(), Page::new())?;
         let ended = Exit {

@@ -32,8 +32,8 @@ fn first(line: &str, len: usize) -> &str {
 
 #[test]
 fn writers_that_fail(rt: HostRuntime) -> Result<(), Fail> {
-    for (line, _, written, command) in COMMANDS {
-        for (taken, call, len, reason) in FAILING_WRITERS {
+    for &(line, _, written, command) in &COMMANDS {
+        for &(taken, call, len, reason) in &FAILING_WRITERS {
             let input = &mut b"password".as_slice();
             let output = Page::failing(taken, call);
             let printed = run_line(rt.alloc(), line, input, output, Page::new())?;
@@ -50,7 +50,7 @@ fn writers_that_fail(rt: HostRuntime) -> Result<(), Fail> {
 // write_all, as a read is not. A flush is not.
 #[test]
 fn writers_that_fail_at_each_call(rt: HostRuntime) -> Result<(), Fail> {
-    for (line, status, written, command) in COMMANDS {
+    for &(line, status, written, command) in &COMMANDS {
         for call in 0..written.len() {
             let input = &mut b"password".as_slice();
             let printed = run_line(rt.alloc(), line, input, Page::failing(1, call), Page::new())?;
@@ -66,7 +66,7 @@ fn writers_that_fail_at_each_call(rt: HostRuntime) -> Result<(), Fail> {
                 "{command}, interrupted at call {call}"
             );
         }
-        for kind in [ErrorKind::Other, ErrorKind::Interrupted] {
+        for &kind in &[ErrorKind::Other, ErrorKind::Interrupted] {
             let input = &mut b"password".as_slice();
             let output = Page::failing_by(kind, 1, written.len());
             let printed = run_line(rt.alloc(), line, input, output, Page::new())?;
