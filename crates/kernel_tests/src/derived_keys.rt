@@ -40,7 +40,12 @@ fn rfc_7914_keys(rt: HostRuntime) -> Result<(), Fail> {
         let key = key_of(alloc, password.as_bytes(), salt.as_bytes(), costs)?;
         assert_eq!(rt; key.as_str(), wanted, "of {password}");
     }
-    let params = Params::new(4, 1, 1)?;
+    Ok(())
+}
+
+#[test]
+fn the_first_key_by_other_calls(rt: HostRuntime) -> Result<(), Fail> {
+    let (alloc, params) = (rt.alloc(), Params::new(4, 1, 1)?);
     let mut key = [0u8; 64];
     scrypt_counted(alloc, b"", b"", &params, &mut key, &mut CoreCount::new())?;
     assert_eq!(rt; encode(alloc, key)?.as_str(), RFC_KEY_1, "counted");
@@ -85,7 +90,7 @@ fn passwords_that_share_a_key(rt: HostRuntime) -> Result<(), Fail> {
 }
 
 #[test]
-fn refusals(rt: HostRuntime) -> Result<(), Fail> {
+fn lengths_of_keys(rt: HostRuntime) {
     for &(len, allowed, reason) in &[
         (0, false, "an empty key is refused"),
         (1, true, "the shortest key"),
@@ -95,6 +100,10 @@ fn refusals(rt: HostRuntime) -> Result<(), Fail> {
     ] {
         assert_eq!(rt; output_len_ok(len), allowed, "{reason}");
     }
+}
+
+#[test]
+fn refusals(rt: HostRuntime) -> Result<(), Fail> {
     let alloc = rt.alloc();
     let small = Params::new(4, 1, 1)?;
     let refused = scrypt(alloc, b"", b"", &small, &mut []);
