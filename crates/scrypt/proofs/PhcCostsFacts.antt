@@ -78,6 +78,3 @@ three_pairs m n k small_m small_n small_k = record {
       (first_letters 114 112 [] [] (λ e. absurd (omega (arith, e)))) (All-nil (Differ (r n)))) (alone (p k)));
   short = simp length-append (omega (arith, short m small_m, short n small_n, short k small_k));
 }
-
--- one pair after another
-pub ruleset pairs_added = (one_pair, two_pairs, three_pairs)

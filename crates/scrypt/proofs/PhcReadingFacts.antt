@@ -9,9 +9,6 @@ use Rattle.scrypt.proofs.AcceptedFacts.{small_costs}
 use Rattle.scrypt.proofs.PhcCostsFacts.{first_letters}
 use Rattle.scrypt.specs.PhcCosts.{Reads, ReadsCosts, written_pairs, accepted, not_accepted, ln, ln_refused, r, r_refused, p, p_refused, unknown}
 
--- how pairs are read, step by step
-pub ruleset reading_steps = (accepted, not_accepted, ln, ln_refused, r, r_refused, p, p_refused, unknown)
-
 -- costs that were read have no length
 pub read_without_len : {log_n r p : ℕ} {pairs : List (List ℕ × List ℕ)} {out : Result Parameters Refusal}
     → Reads log_n r p pairs out → IfOk out (λ c. c.output_len ≡ None)

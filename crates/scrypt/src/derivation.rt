@@ -207,7 +207,6 @@ pub fn scrypt_with_buffers(
 ///
 /// Returns `InvalidOutputLen`, and changes nothing, exactly if the length of `output` is
 /// not allowed ([`output_len_ok`](crate::output_len_ok)).
-#[tactic(auto, using(crate::proofs::AcceptedFacts::small_log_n))]
 pub fn scrypt_thin(
     password: &[u8],
     salt: &[u8],
@@ -277,7 +276,6 @@ pub(crate) fn derive_in<M: Memory>(
 
 /// Steps 1 and 2, in any memory, with a table that keeps one row in `2^s`: `chunks` becomes B after
 /// its chunks were mixed.
-#[tactic(auto, using(crate::proofs::AcceptedFacts::small_chunks, crate::proofs::AcceptedFacts::small_log_n))]
 pub(crate) fn mix_chunks<M: Memory>(
     password: &[u8],
     salt: &[u8],

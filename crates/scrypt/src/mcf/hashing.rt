@@ -62,7 +62,6 @@ impl CustomizedPasswordHasher<PasswordHash> for Scrypt {
     ///
     /// Returns the first of these errors: `Algorithm` if `alg_id` is given and not `7`, `Version`
     /// if `version` is given, and `OutOfMemory` if an allocation fails.
-    #[tactic(auto, using(crate::proofs::HashingFacts::refused_call, crate::specs::Hashing::by_memory))]
     fn hash_password_customized(
         &self,
         alloc: Global,

@@ -29,7 +29,6 @@ pub(crate) struct Stored<'a> {
 /// first field is missing, the errors of reading the first field, `EncodingInvalid` if the second
 /// field is missing, if it is not crypt Base64 or if a third field follows, and `OutputSize` if a
 /// key of this length cannot be derived.
-#[tactic(auto, using(crate::specs::McfHash::other_id, crate::specs::McfHash::no_field, crate::specs::McfHash::bad_costs))]
 pub(crate) fn stored_of_mcf<'a>(hash: &PasswordHashRef<'a>) -> Result<Stored<'a>>
     ensures ok { IfOk result (λ stored. (key : List ℕ) × Crypt64 key (field_text stored.key) × (length key ≡ stored.key_len)
         × IsWhole (hash_text hash.now) stored.params stored.salt.now key) }

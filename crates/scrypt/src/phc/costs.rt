@@ -30,7 +30,6 @@ impl TryFrom<&ParamsString> for Params {
 }
 
 // Reads `ln`, `r` and `p`.
-#[tactic(auto, using(crate::proofs::PhcReadingFacts::reading_steps))]
 fn read_costs(text: &ParamsString) -> Result<Params>
     ensures { IsReadAs text.now result }
 {
@@ -136,7 +135,6 @@ impl TryFrom<Params> for ParamsString {
 }
 
 // Writes the parameters of a hash.
-#[tactic(auto, using(crate::proofs::PhcCostsFacts::pairs_added))]
 pub(super) fn written(params: &Params) -> ParamsString
     ensures { result ≡ written_pairs params.now }
 {

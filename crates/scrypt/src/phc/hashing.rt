@@ -48,7 +48,6 @@ impl CustomizedPasswordHasher<PasswordHash> for Scrypt {
     /// Returns the first of these errors: `Algorithm` if `alg_id` is given and not `scrypt`,
     /// `Version` if `version` is given, `SaltInvalid` if `salt` does not have 1 to 64 bytes, and
     /// `OutOfMemory` if an allocation fails.
-    #[tactic(auto, using(crate::proofs::HashingFacts::refusals))]
     fn hash_password_customized(
         &self,
         alloc: Global,

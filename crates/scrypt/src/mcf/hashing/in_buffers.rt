@@ -23,7 +23,6 @@ use scrypt_kernel::memory::Buffer;
 /// cores of `params`.
 ///
 /// Returns `OutOfMemory` exactly if `text` or another buffer is too short, and then changes nothing.
-#[tactic(auto, using(crate::specs::Hashing::by_memory))]
 pub fn hash_with_buffers(
     password: &[u8],
     salt: &[u8],

@@ -24,7 +24,6 @@ use scrypt_kernel::memory::Buffer;
 ///
 /// Returns `SaltInvalid` if `salt` does not have 1 to 64 bytes, and otherwise `OutOfMemory` exactly
 /// if a buffer is too short. On an error the buffers and the count are unchanged.
-#[tactic(auto, using(crate::specs::Hashing::by_memory, crate::specs::Hashing::by_salt))]
 pub fn hash_with_buffers(
     password: &[u8],
     salt: &[u8],

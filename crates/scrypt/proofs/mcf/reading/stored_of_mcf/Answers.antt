@@ -6,7 +6,7 @@ use Rattle.password_hash.specs.Mcf.{IsMcfText}
 use Rattle.password_hash.specs.McfViews.{fields_left, hash_text, field_text}
 use Rattle.password_hash.specs.declared.mcf.field.Field.{Field}
 use Rattle.password_hash.specs.declared.mcf.fields.Fields.{Fields}
-use Rattle.scrypt.specs.McfHash.{HasCosts, no_key, bad_key, third_field, bad_key_len}
+use Rattle.scrypt.specs.McfHash.{HasCosts, other_id, no_field, bad_costs, no_key, bad_key, third_field, bad_key_len}
 use Rattle.scrypt.proofs.mcf.reading.stored_of_mcf.Goals as goal
 use Rattle.scrypt.proofs.mcf.reading.stored_of_mcf.Goals.{After-next-2}
 
@@ -35,6 +35,18 @@ no_other : (fields rest : Fields) (next : Option Field) → YieldsFirstBy field_
     → fields_left fields ≡ []
 no_other fields rest None steps none = steps.0
 no_other fields rest (Some field) steps none = absurd (false≢true (sym none))
+
+pub returns-then-not-is_mcf-clause-err : goal.returns-then-not-is_mcf-clause-err
+returns-then-not-is_mcf-clause-err c = other_id c.id.ensures.reading (λ h. let yes = c.is_mcf.ensures.1 h in cc)
+
+pub returns-in_default-clause-err : goal.returns-in_default-clause-err
+returns-in_default-clause-err c =
+    no_field (moved c.fields-fields.ensures.reading (sym c.id.ensures.value ∙ c.is_mcf.ensures.0 c.if-not-is_mcf.false) c.in_default.ensures.steps.0)
+
+pub returns-in-Err-clause-err : goal.returns-in-Err-clause-err
+returns-in-Err-clause-err c =
+    bad_costs (moved c.fields-fields.ensures.reading (sym c.id.ensures.value ∙ c.is_mcf.ensures.0 c.if-not-is_mcf.false)
+    (c.in-Some.ensures.steps ∙ ap (λ field. field ∷ fields_left c.next.new.self) (sym c.as_str.ensures.value))) c.in-Err.ensures.err
 
 pub returns-in_default-next-clause-err : goal.returns-in_default-next-clause-err
 returns-in_default-next-clause-err c =
