@@ -35,7 +35,6 @@ impl Base64 {
     /// Returns `EncodingInvalid`, without allocating, if `letters` are not an encoding: one of them
     /// is not in the alphabet, the last group has only one letter, or bits above the last byte are
     /// set. Returns `OutOfMemory` if the allocation fails.
-    #[tactic(auto, using(crate::proofs::GroupFacts::begins_more))]
     pub fn decode_vec(self, alloc: Global, letters: &str) -> Result<Vec<u8>>
         ensures ok { IfOk result (λ bytes. Crypt64 bytes.items letters.now) }
         ensures invalid { IsErrOf result Error.EncodingInvalid ↔ (¬ IsCrypt64 letters.now) }

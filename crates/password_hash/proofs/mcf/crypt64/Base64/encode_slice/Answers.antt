@@ -28,6 +28,9 @@ room c =
 pub bounds-out-len : goal.bounds-out-len
 bounds-out-len c = omega (arith, room c, c.loop-letter.auto.out)
 
+pub overflow_add-len : goal.overflow_add-len
+overflow_add-len c = omega (arith, room c)
+
 pub loop-letter-preserved : goal.loop-letter-preserved
 loop-letter-preserved c =
     let before = c.loop-letter.invariant in (
@@ -36,3 +39,6 @@ loop-letter-preserved c =
       rw before.2 (set-after before.0 c.args.out.now c.loop-letter.len c.in-Some.letter before.3 (room c)),
       length-append before.0 (c.in-Some.letter ∷ []) ∙ ap (λ n. n + 1) before.3,
     )
+
+pub returns-clause-exact : goal.returns-clause-exact
+returns-clause-exact c = grind (arith, length-append)
