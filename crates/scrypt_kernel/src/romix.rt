@@ -58,7 +58,6 @@ pub fn thin_ro_mix(
 /// counted as a SIMD core.
 ///
 /// The lengths are those of [`scrypt_ro_mix`].
-#[tactic(auto, using(crate::proofs::WalkFacts::whole_cost))]
 pub fn plain_ro_mix(b: &mut [u8], v: &mut [u32], t: &mut [u32], log_n: u8, cores: &mut CoreCount)
     requires lens { AreRoMixLens log_n (length b.old) (length v.old) (length t.old) }
     ensures value { b.new ≡ bytes_of (ro_mix (words_of b.old) log_n) }

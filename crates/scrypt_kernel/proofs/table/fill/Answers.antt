@@ -1,6 +1,6 @@
 use Rattle.std.proofs.Common.{◌≡◌, ◌≤◌, ◌<◌, ℕ, length, ◌*◌, ◌/◌, ◌%◌, ◌+◌, ◌-◌, ◌^◌, ◌++◌, [], refl, sym, ap, ap₂, ◌∙◌, arith}
 use Rattle.std.proofs.lemmas.Nat.{one_shl, pow-add, pow_pos}
-use Rattle.std.proofs.Math.Nat.{lt_of_mul-lt-mul_left}
+use Rattle.std.proofs.Math.Nat.{lt_of_mul-lt-mul_left, mul-le-mul_right}
 use Rattle.scrypt_kernel.specs.Words.{part}
 use Rattle.scrypt_kernel.specs.RoMix.{row}
 use Rattle.scrypt_kernel.specs.Diagonal.{permuted}
@@ -51,6 +51,11 @@ rows-init g c =
       all = omega arith;
       lanes = no_cores _ g.O.Order.lanes_of_core (2 ^ c.args.s) (2 * (length x / 32));
     }
+
+pub append_next-requires-clause-room : goal.append_next-requires-clause-room
+append_next-requires-clause-room g c =
+    let fits : c.rows.m + 2 ≤ 2 ^ (c.args.log_n - c.args.s) = omega (arith, kept c.args.log_n c.args.s _ c.requires.small refl) in
+    rw c.rows.auto.x (omega (arith, mul-le-mul_right (length c.args.x.now) fits))
 
 pub rows-preserved : goal.rows-preserved
 rows-preserved g c =
