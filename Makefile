@@ -1,6 +1,5 @@
 # On a machine with the Rattle kit, three commands do everything:
-#   make run    proves and builds the program, and prints the first key of RFC 7914, section 12. With memory for two
-#               checks, make -j2 run proves the two lowest crates side by side
+#   make run    proves and builds the program, and prints the first key of RFC 7914, section 12
 #   make check  is for daily work: the checks of the documents, and what changed since the last check, proved and
 #               tested. The first one takes as long as a proof of everything
 #   make test   is the whole gate: the checks of the documents and of what must not compile, every proof from nothing,
@@ -42,15 +41,22 @@
 help:
 	@sed -n '/^#/!q; s/^# \{0,1\}//p' Makefile
 
-run: proved-scrypt_commands
+run: kit
+	$(MAKE) -j$(SIDE_BY_SIDE) $(LIBRARIES)
 	cd crates/scrypt_tool && rt run -- key 4 1 1 64 "" < /dev/null
 
 # The libraries below the program, each after those that it uses. Where all are built already, rt doesn't read all
-# sources once more before it begins with the program.
+# sources once more before it begins with the program. With four processors and 12 GB of free memory, the two lowest,
+# which need nothing of each other, are proved side by side. There two jobs each take as long as the four that rt
+# chooses, and a fifth less of processor time, and so it is for scrypt.
 LIBRARIES = proved-password_hash proved-scrypt_kernel proved-scrypt proved-scrypt_commands
+HAS_ROOM = $(shell test $$(nproc) -ge 4 && awk '/^MemAvailable/ && $$2 > 12000000 { print "yes" }' /proc/meminfo)
+SIDE_BY_SIDE = $(if $(HAS_ROOM),2,1)
+JOBS = $(if $(HAS_ROOM),--jobs 2)
+proved-scrypt_commands: private JOBS =
 .PHONY: $(LIBRARIES)
 $(LIBRARIES): proved-%: kit
-	cd crates/$* && rt lib
+	cd crates/$* && rt lib $(JOBS)
 proved-scrypt: proved-password_hash proved-scrypt_kernel
 proved-scrypt_commands: proved-scrypt
 
@@ -102,6 +108,7 @@ oracle: lib
 	python3 compare/thin_cost.py
 
 lib: kit
+	$(MAKE) -j$(SIDE_BY_SIDE) proved-scrypt
 	bindings/lib.sh
 
 # Where `make install` puts what is built, by the names that other projects use; PREFIX is another name for prefix.
