@@ -69,7 +69,7 @@ counted_all a s words i n before after step same until is =
 
 -- the row after one that is in another order
 module _ (p q : List ℕ) (inverse : AreInverse p q) where
-  -- which is row 0 of itself
+  -- the first row is the block itself
   pub row_zero_in : (x : List ℕ) → length x % 16 ≡ 0 → x ≡ permuted p (row (permuted q x) 0)
   unfolding row
   row_zero_in x whole = sym (out_then_in p q inverse x whole)
