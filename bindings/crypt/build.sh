@@ -17,7 +17,7 @@ fi
 $CC $flags -Wl,--exclude-libs,ALL -Wl,-soname,libscrypt_crypt.so -I"$out" -o "$out/libscrypt_crypt.so" \
   bindings/crypt/crypt.c "$out/libscrypt_c.a" -Wl,--no-as-needed -lcrypt -ldl
 if has_header security/pam_modules.h; then
-  $CC $flags -o "$out/pam_scrypt.so" bindings/crypt/pam_scrypt.c -lcrypt -lpam
+  $CC $flags -o "$out/pam_scrypt.so" bindings/crypt/pam_scrypt.c bindings/crypt/shadow_file.c -lcrypt -lpam
 else
   echo "security/pam_modules.h is not here (package libpam0g-dev): pam_scrypt.so was not built"
 fi

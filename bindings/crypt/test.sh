@@ -50,6 +50,20 @@ if has gcc gcc; then
   complaints
   [ $compared = 0 ]
 fi
+# In a mount namespace of its own, where /etc is an empty file system in memory.
+shadow_file() {
+  has gcc gcc && has strace strace && has setfacl acl || return 0
+  if [ "$(id -u)" != 0 ] || ! unshare --mount true 2> /dev/null; then
+    echo "a mount namespace of its own needs root: changes of /etc/shadow were not tried"
+    return 0
+  fi
+  sources="bindings/crypt/shadow_client.c bindings/crypt/shadow_file.c"
+  gcc -O2 -Wall -Wextra -Werror $sources -o "$room/store"
+  gcc -g -O1 -Wall -Wextra -Werror $sanitized $sources -o "$room/checked_store"
+  unshare --mount --propagation private sh -c 'mount -t tmpfs -o mode=755 tmpfs /etc && exec python3 -B "$@"' sh \
+    bindings/crypt/test_shadow.py "$room/store" "$room/checked_store"
+}
+shadow_file
 if [ ! -e "$lib/pam_scrypt.so" ]; then
   echo "pam_scrypt.so is not built (package libpam0g-dev): the login was not tried"
 elif [ ! -x "$tool" ]; then

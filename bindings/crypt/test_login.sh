@@ -62,10 +62,7 @@ for service in su pamtester; do
   printf '%s\n' 'auth required pam_unix.so nodelay' 'account required pam_unix.so' 'session required pam_permit.so' \
     > "$room/etc/pam.d/$service"
 done
-# pam_unix has no option for scrypt, and refuses a hash of another method than that of its option. So it asks for the
-# passwords, checks the old one and stores a hash of yescrypt, and pam_scrypt stores that of scrypt instead.
-printf '%s\n' 'password requisite pam_unix.so yescrypt' 'password required /run/pam_scrypt.so' \
-  > "$room/etc/pam.d/passwd"
+echo 'password required /run/pam_scrypt.so' > "$room/etc/pam.d/passwd"
 mount --bind "$room/etc" /etc
 mount --bind "$room/log" /var/log
 mount --bind "$room/run" /run
@@ -102,7 +99,13 @@ by_pamtester() { printf '%s\n' "$2" | pamtester pamtester "$1" authenticate acct
 # From another user, whose su is setuid, and who may not read /etc/shadow.
 by_su() { printf '%s\n' "$2" | setpriv --reuid=7005 --regid=7005 --clear-groups su "$1" -c 'test "$(id -un)" = '"$1"; }
 by_passwd() {
-  printf '%s\n%s\n%s\n' "$2" "$3" "$3" | setpriv --reuid="$1" --regid=7001 --clear-groups passwd
+  printf '%s\n%s\n%s\n' "$2" "$3" "${4-$3}" | setpriv --reuid="$1" --regid=7001 --clear-groups passwd
+}
+by_root() { printf '%s\n%s\n' "$2" "$2" | passwd "$1"; }
+# The old password is checked, then the program changes it, and then the user goes on.
+by_passwd_late() {
+  { printf '%s\n' "$2"; sleep 2; set_hash scrypt "$old"; printf '%s\n%s\n' "$3" "$3"; } |
+    setpriv --reuid="$1" --regid=7001 --clear-groups passwd
 }
 
 logins() {
@@ -124,18 +127,38 @@ expect yes 'pam_unix calls this library' grep -q 'pam_unix.so .* to /run/libscry
 expect yes 'this library is loaded by setuid programs' sh -c 'printf "first password\n" |
   setpriv --reuid=7005 --regid=7005 --clear-groups su scrypt -c "cat /proc/self/maps" | grep -q libscrypt_crypt'
 
-# A new password, by the user.
-old=$(hash_of scrypt) others=$(grep -v ^scrypt: /etc/shadow)
+# A new password, by the user, and lines of others that no program can read.
+sed -i '2i # a comment\n+@nis\nbad:*:number::::::\ntrailing:*:20000::::::text' /etc/shadow
+printf 'last:*:20000::::::' >> /etc/shadow
+others() { grep -v ^scrypt: /etc/shadow | od -c; }
+old=$(hash_of scrypt) before=$(others)
 expect no 'passwd with a wrong password' by_passwd 7001 'no password' 'Second 2 password'
-expect yes 'the hash is unchanged' test "$old" = "$(hash_of scrypt)"
+expect no 'passwd with two new passwords' by_passwd 7001 'first password' 'Second 2 password' 'Third 3 password'
+expect no 'passwd without a new password' by_passwd 7001 'first password' ''
+expect no 'passwd of a locked user' by_passwd 7004 'first password' 'Second 2 password'
+expect no 'passwd of a user whose hash is cut' by_passwd 7005 'first password' 'Second 2 password'
+chage -m 100 -d "$(date +%F)" scrypt
+expect no 'passwd on the day of the last change' by_passwd 7001 'first password' 'Second 2 password'
+chage -m -1 -d 2020-01-01 scrypt
+expect yes 'the file is unchanged' test "$old $before" = "$(hash_of scrypt) $(others)"
 expect yes 'passwd' by_passwd 7001 'first password' 'Second 2 password'
 new=$(hash_of scrypt)
 expect yes 'another hash' test "$old" != "$new"
 expect yes 'the new hash is of scrypt' test "${new#\$7\$CU..../....}" != "$new"
-expect yes 'the other hashes are as they were' test "$others" = "$(grep -v ^scrypt: /etc/shadow)"
+expect yes 'every other line is as it was' test "$before" = "$(others)"
 expect yes 'and so are owner and mode' test "$(stat -c '%u %g %a' /etc/shadow)" = '0 42 640'
 expect no 'the old password' by_pamtester scrypt 'first password'
 logins scrypt 'Second 2 password'
 expect yes 'the program verifies it' sh -c 'printf %s "Second 2 password" | /run/scrypt_tool verify "$0"' "$new"
+expect no 'passwd after another change' by_passwd_late 7001 'Second 2 password' 'Late 4 password'
+expect yes 'it is that other change that holds' test "$old" = "$(hash_of scrypt)"
+expect yes 'passwd by root' by_root scrypt 'Third 3 password'
+expect yes 'the password that root chose' by_pamtester scrypt 'Third 3 password'
+
+# After pam_unix, which stores its own hash between the two.
+sed -i '1i password requisite pam_unix.so yescrypt' /etc/pam.d/passwd
+expect yes 'passwd by both modules' by_passwd 7001 'Third 3 password' 'Fifth 5 password'
+expect yes 'a hash of scrypt' sh -c 'grep -q "^scrypt:.7.CU" /etc/shadow'
+expect yes 'the password of both' by_pamtester scrypt 'Fifth 5 password'
 
 echo "logins by pamtester and su, and a new password by passwd: $tried tried, each as expected"
