@@ -1,7 +1,8 @@
 /* crypt(3) over this library: settings that begin with $7$ are hashed here, and every other one by the system's
  * libcrypt, which the dynamic linker finds after this library. The key is derived by scrypt_kdf, which is proved.
  * Reading a setting and writing a hash are in C and not proved; limits, failure tokens and errors are those of
- * libxcrypt, but for ENOMEM, which crypt(3) documents and libxcrypt reports as EINVAL. */
+ * libxcrypt, but for ENOMEM, which crypt(3) documents and libxcrypt reports as EINVAL, and for ENOSYS, which crypt(3)
+ * documents for a method that can't be used, on an older processor. */
 #define _GNU_SOURCE
 #include "scrypt_c.h"
 
@@ -29,6 +30,10 @@ enum {
 };
 
 static const char LETTERS[] = "./0123456789ABCDEFGHIJKLMNOPQRSTUVWXYZabcdefghijklmnopqrstuvwxyz";
+
+/* Set by cpu.c if the processor is older than x86-64-v2, which the proved code needs. Every program may load this
+ * library by ld.so.preload, so it can't refuse to be loaded there. */
+__attribute__((visibility("hidden"))) int scrypt_is_refused_at_calls = 0;
 
 /* A setting is a prefix, or a whole hash, whose key is not read. */
 static int is_scrypt(const char *setting) { return setting != NULL && strncmp(setting, "$7$", 3) == 0; }
@@ -92,6 +97,7 @@ static size_t salt_end(const char *setting) {
 static int derive(const char *phrase, const char *setting, size_t end, uint8_t key[KEY_LEN]) {
   uint32_t log_n = number_at(setting + LOG_N_AT, 1), r = number_at(setting + R_AT, 5), p = number_at(setting + P_AT, 5);
   if (log_n < 2 || log_n == UINT32_MAX || r == UINT32_MAX || p == UINT32_MAX || !has_salt(setting)) return EINVAL;
+  if (scrypt_is_refused_at_calls) return ENOSYS;
   switch (scrypt_kdf(scrypt_bytes(phrase), strlen(phrase), scrypt_bytes(setting + SALT_AT), end - SALT_AT,
                      (uint8_t)log_n, r, p, key, KEY_LEN)) {
     case SCRYPT_OK: return 0;

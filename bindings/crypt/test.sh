@@ -50,6 +50,34 @@ if has gcc gcc; then
   complaints
   [ $compared = 0 ]
 fi
+# An older processor than x86-64-v2, which Debian's emulator has. There every program runs with the library preloaded, and
+# nothing but hashes of scrypt fails: by the failure token and ENOSYS.
+older_processor() {
+  emulator=$(command -v qemu-x86_64-static || command -v qemu-x86_64) || has qemu-x86_64 qemu-user || return 0
+  has gcc gcc || return 0
+  emulated="$emulator -cpu core2duo -E LD_PRELOAD=$ours"
+  $emulated /bin/ls / > "$room/listed"
+  hex() { printf %s "$1" | od -An -v -tx1 | tr -d ' \n'; }
+  for setting in '$7$4/..../....salt' '$7$4/..../...' '$6$rounds=1000$salt' '$y$j75$salt' '$1$salt'; do
+    echo "h x$(hex password) x$(hex "$setting")"
+  done > "$room/settings"
+  "$room/client" < "$room/settings" > "$room/theirs"
+  $emulated "$room/client" < "$room/settings" > "$room/older"
+  sed '1s/.*/*0 38|*0 38|NULL 38|*0 38|NULL 38|*0 38|32768 0/; 2s/ [0-9]*|/ 22|/g' "$room/theirs" > "$room/wanted"
+  diff "$room/wanted" "$room/older"
+  # A program that calls the C library itself ends by its name there, whoever links it: gold makes an address of its own
+  # of a symbol that nobody defines.
+  for linker in bfd gold lld; do
+    gcc -fuse-ld=$linker -I"$lib" bindings/c/test.c -o "$room/caller" "$lib/libscrypt_c.a" 2> /dev/null || continue
+    if $emulator -cpu core2duo "$room/caller" small > "$room/refused" 2>&1; then
+      echo "a program that $linker linked was not refused" >&2
+      exit 1
+    fi
+    grep -q "lacks a feature of x86-64-v2" "$room/refused"
+  done
+  echo "on a processor older than x86-64-v2: ls, hashes of other methods, and ENOSYS for those of scrypt"
+}
+older_processor
 # In a mount namespace of its own, where /etc is an empty file system in memory.
 shadow_file() {
   has gcc gcc && has strace strace && has setfacl acl || return 0
