@@ -20,7 +20,7 @@
 #   make dist-test  installs, uses and removes them in a fresh root of Debian packages (needs root, mmdebstrap, lintian)
 #   make callers calls them from each language of bindings/ that is installed here, and from programs that
 #               know the names of libsodium, libscrypt-kdf and crypt(3)
-#   make crypt  builds libscrypt_crypt.so, which has the names of crypt(3), into build/lib
+#   make crypt  builds libscrypt_crypt.so, which has the names of crypt(3), and the PAM module into build/lib
 #   make bench  measures the library and the program against other implementations on this machine.
 #               Other programs join by WORKERS="--worker NAME=PATH ..", as bench/bench.py describes,
 #               and WORKERS="--callgrind" counts instructions

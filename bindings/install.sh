@@ -1,7 +1,7 @@
 #!/bin/sh
 # Installs what is built, or removes it: the libraries of build/lib with the header and the files for pkg-config and
-# CMake, the Python package, the licence, and if they are built the library for crypt(3) and the program with its man page
-# and its completions.
+# CMake, the Python package, the licence, and if they are built the library for crypt(3), the PAM module, and the program
+# with its man page and its completions.
 # usage: install.sh install|uninstall, by the Makefile, which hands the places in the environment. DESTDIR goes before
 # each place where files are written, and into none of the files.
 set -eu
@@ -60,8 +60,9 @@ if [ "$action" = install ] && [ ! -e build/lib/libscrypt_c.a ]; then
   exit 1
 fi
 libraries
-crypt=build/lib/libscrypt_crypt.so
-if [ "$action" = uninstall ] || [ -e $crypt ]; then put 755 $crypt "$libdir/libscrypt_crypt.so"; fi
+for file in libscrypt_crypt.so pam_scrypt.so; do
+  if [ "$action" = uninstall ] || [ -e build/lib/$file ]; then put 755 build/lib/$file "$libdir/$file"; fi
+done
 python_package
 if [ "$action" = uninstall ] || [ -e "$program" ]; then
   program

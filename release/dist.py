@@ -77,8 +77,10 @@ class Release:
         shutil.rmtree(PARTS, ignore_errors=True)
         os.makedirs(DIST)
         self.install(self.usr, prefix="/usr", libdir=f"/{LIBDIR}", pythondir="/python")
-        # The library for crypt(3) needs libxcrypt and is not part of a release; `make crypt` may have built it here.
-        pathlib.Path(self.usr, LIBDIR, "libscrypt_crypt.so").unlink(missing_ok=True)
+        # The library for crypt(3) needs libxcrypt, and the PAM module needs PAM: they are not part of a release, and
+        # `make crypt` may have built them here.
+        for file in ("libscrypt_crypt.so", "pam_scrypt.so"):
+            pathlib.Path(self.usr, LIBDIR, file).unlink(missing_ok=True)
         drop_in = os.path.join(self.usr, DROP_IN)
         os.makedirs(os.path.dirname(drop_in))
         os.rename(os.path.join(self.usr, LIBDIR, "libscrypt_drop_in.so"), drop_in)

@@ -50,6 +50,15 @@ if has gcc gcc; then
   complaints
   [ $compared = 0 ]
 fi
+# make install puts what is built where the page names it, and make uninstall removes it.
+make -s install DESTDIR="$room/stage" > /dev/null
+built="$ours"
+if [ -e "$lib/pam_scrypt.so" ]; then built="$built $lib/pam_scrypt.so"; fi
+for file in $built; do cmp "$file" "$room/stage/usr/local/lib/${file##*/}"; done
+make -s uninstall DESTDIR="$room/stage" > /dev/null
+test -z "$(find "$room/stage" -type f -o -type l)"
+echo "installed and uninstalled: $(basename -a $built | paste -sd " ")"
+
 # An older processor than x86-64-v2, which Debian's emulator has. There every program runs with the library preloaded, and
 # nothing but hashes of scrypt fails: by the failure token and ENOSYS.
 older_processor() {
