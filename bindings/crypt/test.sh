@@ -97,8 +97,11 @@ shadow_file() {
   sources="bindings/crypt/shadow_client.c bindings/crypt/shadow_file.c"
   gcc -O2 -Wall -Wextra -Werror $sources -o "$room/store"
   gcc -g -O1 -Wall -Wextra -Werror $sanitized $sources -o "$room/checked_store"
-  unshare --mount --propagation private sh -c 'mount -t tmpfs -o mode=755 tmpfs /etc && exec python3 -B "$@"' sh \
-    bindings/crypt/test_shadow.py "$room/store" "$room/checked_store"
+  in_own_etc() {
+    unshare --mount --propagation private sh -c 'mount -t tmpfs -o mode=755 tmpfs /etc && exec python3 -B "$@"' sh "$@"
+  }
+  in_own_etc bindings/crypt/test_shadow.py "$room/store" "$room/checked_store"
+  if has chpasswd passwd; then in_own_etc bindings/crypt/compare_shadow.py "$room/checked_store"; fi
 }
 shadow_file
 if [ ! -e "$lib/pam_scrypt.so" ]; then
