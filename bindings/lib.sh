@@ -27,17 +27,22 @@ awk '/^scrypt_/ { print $1 }' bindings/c/abi > "$parts/symbols"
 nm -g --defined-only "$parts"/libscrypt_c/*.o |
   awk '$2 == "T" && $3 !~ /^scrypt_(buffer_lens|wipe)$/ { print $3, "proved_" $3 }' > "$parts/proved"
 objcopy --redefine-syms="$parts/proved" "$parts"/libscrypt_c/*.o
-objcopy --redefine-sym free=clearing_free --redefine-sym realloc=clearing_realloc "$parts"/liblibc_c/*.o
+for name in malloc realloc free memcpy memmove memset; do echo "$name clearing_$name"; done > "$parts/clearing"
+for object in "$parts"/*/*.o; do objcopy --redefine-syms="$parts/clearing" "$object"; done
+# Functions of the C library are bound when a program is loaded, also with the static library, as blocks.c explains.
+flags="-O2 -Wall -Wextra -fPIC -fno-plt -Ibindings/c -I$parts"
+for part in blocks registers cpu memory salt stack_lens; do
+  $CC -std=c99 -pedantic $flags -c -o "$parts/$part.o" bindings/c/$part.c
+done
+# How much of the stack each proved call uses is measured, and cleared by what is compiled then.
+$CC -std=c99 $flags -Wl,-z,now -o "$parts/stack_lens" bindings/c/test.c "$parts"/*/*.o "$parts/stack_lens.o" \
+  "$parts/blocks.o" "$parts/memory.o" "$parts/salt.o"
+"$parts/stack_lens" small > "$parts/stack_lens.h"
+$CC -std=c99 -pedantic $flags -c -o "$parts/clearing.o" bindings/c/clearing.c
 # The test of the processor is in it, so that each program that calls anything has it, also by the static library.
-for part in clearing registers cpu; do
-  $CC -std=c99 -O2 -Wall -Wextra -pedantic -fPIC -Ibindings/c -c -o "$parts/$part.o" bindings/c/$part.c
-done
-ld -r -o "$parts/all.o" "$parts"/*/*.o "$parts"/clearing.o "$parts"/registers.o "$parts"/cpu.o
+ld -r -o "$parts/all.o" "$parts"/*/*.o "$parts"/clearing.o "$parts"/blocks.o "$parts"/registers.o "$parts"/cpu.o
 objcopy --keep-global-symbols="$parts/symbols" "$parts/all.o" "$parts/scrypt_c.o"
-# The calls that are written in C and not proved.
-for call in memory salt; do
-  $CC -std=c99 -O2 -Wall -Wextra -pedantic -fPIC -Ibindings/c -c -o "$parts/$call.o" bindings/c/$call.c
-done
+# The calls that are written in C and not proved are beside it.
 objects="$parts/scrypt_c.o $parts/memory.o $parts/salt.o"
 ar rcs "$out/libscrypt_c.a" $objects
 {
@@ -53,8 +58,8 @@ ln -s "$shared" "$out/$soname"
 ln -s "$soname" "$out/libscrypt_c.so"
 cp bindings/c/scrypt_c.h "$out/"
 # The names of other libraries, in a library of their own. It isn't unloaded while threads have memory of it.
-$CC -O2 -Wall -Wextra -fPIC -shared -fvisibility=hidden -Wl,--exclude-libs,ALL -Wl,-z,nodelete -Ibindings/c \
-  -o "$out/libscrypt_drop_in.so" bindings/drop_in/drop_in.c bindings/drop_in/kept.c "$out/libscrypt_c.a" -lpthread
+$CC -O2 -Wall -Wextra -fPIC -shared -fvisibility=hidden -Wl,--exclude-libs,ALL -Wl,-z,nodelete -Wl,-z,now \
+  -Ibindings/c -o "$out/libscrypt_drop_in.so" bindings/drop_in/drop_in.c bindings/drop_in/kept.c "$out/libscrypt_c.a" -lpthread
 bindings/c/found.sh "$PWD/$out" "$PWD/$out" "$out" "$out"
 # The Go module is whole with the header and the static library in its folder.
 cp "$out/libscrypt_c.a" "$out/scrypt_c.h" bindings/go/

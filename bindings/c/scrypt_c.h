@@ -39,6 +39,10 @@
 #define SCRYPT_PHC_CAPACITY 256
 #define SCRYPT_MCF_CAPACITY(salt_len) (128 + 2 * (salt_len))
 
+/* The most bytes of the stack that any call uses, if malloc is the system's. Before a call that sees a password or a key
+ * returns, it writes zeros to the part that it used; further below nothing is written. */
+#define SCRYPT_STACK_BYTES 8192
+
 #ifdef __cplusplus
 extern "C" {
 #endif

@@ -1,0 +1,66 @@
+/* The functions of the C library that the proved calls use, under the names that lib.sh gives them: not proved. Memory
+ * that they allocated is overwritten before it is freed.
+ *
+ * This file is compiled with -fno-plt, so that these functions are bound when a program is loaded. Otherwise a program
+ * that is linked with the static library may bind one at its first call, and the dynamic linker then saves registers to
+ * the stack, deeper than the proved calls use it. */
+#define _DEFAULT_SOURCE
+#include <malloc.h>
+#include <stdint.h>
+#include <stdlib.h>
+#include <string.h>
+#include <sys/mman.h>
+
+/* From this size on the pages of a block are given back to the system, which is faster than to overwrite them. The
+ * usual malloc has such a block mapped, and free unmaps it. */
+#define LARGE ((size_t)32 << 20)
+#define PAGE ((size_t)4096)
+
+/* Writes zeros, which the compiler may not leave out. */
+static void overwrite(void *block, size_t len) {
+  memset(block, 0, len);
+  __asm__ volatile("" ::"r"(block) : "memory");
+}
+
+/* Gives whole pages back to the system, and overwrites what is beside them; or overwrites all. */
+static void clear_block(uint8_t *block, size_t len) {
+  size_t front = (PAGE - (uintptr_t)block % PAGE) % PAGE;
+  if (len >= LARGE) {
+    size_t pages = (len - front) / PAGE * PAGE;
+    if (madvise(block + front, pages, MADV_DONTNEED) == 0) {
+      overwrite(block, front);
+      block += front + pages;
+      len -= front + pages;
+    }
+  }
+  overwrite(block, len);
+}
+
+void clearing_free(void *block);
+void *clearing_malloc(size_t len);
+void *clearing_realloc(void *block, size_t len);
+void *clearing_memcpy(void *to, const void *from, size_t len);
+void *clearing_memmove(void *to, const void *from, size_t len);
+void *clearing_memset(void *to, int byte, size_t len);
+
+void clearing_free(void *block) {
+  if (block != NULL) clear_block(block, malloc_usable_size(block));
+  free(block);
+}
+
+void *clearing_malloc(size_t len) { return malloc(len); }
+
+/* Never grows a table, which is allocated whole. */
+void *clearing_realloc(void *block, size_t len) {
+  void *other = malloc(len);
+  size_t had;
+  if (other == NULL || block == NULL) return other;
+  had = malloc_usable_size(block);
+  memcpy(other, block, had < len ? had : len);
+  clearing_free(block);
+  return other;
+}
+
+void *clearing_memcpy(void *to, const void *from, size_t len) { return memcpy(to, from, len); }
+void *clearing_memmove(void *to, const void *from, size_t len) { return memmove(to, from, len); }
+void *clearing_memset(void *to, int byte, size_t len) { return memset(to, byte, len); }

@@ -1,0 +1,139 @@
+/* How much of the stack calls use: each call of the header succeeds on a stack of SCRYPT_STACK_BYTES with no memory below
+ * it, and on a thread with the smallest stack. It leaves what is further below as it was, and zeros where it had its
+ * frames, also for random texts.
+ *
+ * usage: test_stack [DROP_IN]   a library with the names of others */
+#define _GNU_SOURCE
+#include "check.h"
+#include "every_call.c"
+
+#include <limits.h>
+#include <pthread.h>
+#include <sys/mman.h>
+#include <sys/wait.h>
+#include <ucontext.h>
+#include <unistd.h>
+
+/* OWN is room for the frames of the test itself and of what isn't proved, which aren't cleared. */
+enum { PAGE = 4096, ROOM = 1 << 16, PAINT = 0xa5, OWN = 1024 };
+
+static ucontext_t caller, callee;
+static int (*call_of_callee)(void);
+static int status_of_callee;
+
+static void begin(void) { status_of_callee = call_of_callee(); }
+
+/* A call on another stack. */
+static int on_stack(uint8_t *stack, size_t len, int (*call)(void)) {
+  status_of_callee = -1;
+  call_of_callee = call;
+  if (getcontext(&callee) != 0) exit(3);
+  callee.uc_stack.ss_sp = stack;
+  callee.uc_stack.ss_size = len;
+  callee.uc_link = &caller;
+  makecontext(&callee, begin, 0);
+  if (swapcontext(&caller, &callee) != 0) exit(3);
+  return status_of_callee;
+}
+
+static uint8_t *mapped(size_t len) {
+  void *place = mmap(NULL, len, PROT_READ | PROT_WRITE, MAP_PRIVATE | MAP_ANONYMOUS, -1, 0);
+  if (place == MAP_FAILED) exit(3);
+  return place;
+}
+
+/* Whether a test succeeds in a child, which a write outside the stack ends. */
+static int holds_in_a_child(int (*test)(int (*call)(void)), int (*call)(void)) {
+  int status = -1;
+  pid_t child = fork();
+  if (child == 0) _exit(!test(call));
+  return child > 0 && waitpid(child, &status, 0) == child && WIFEXITED(status) && WEXITSTATUS(status) == 0;
+}
+
+static int fits_its_stack(int (*call)(void)) {
+  uint8_t *below = mapped(PAGE + SCRYPT_STACK_BYTES);
+  if (mprotect(below, PAGE, PROT_NONE) != 0) exit(3);
+  return on_stack(below + PAGE, SCRYPT_STACK_BYTES, call) == SCRYPT_OK;
+}
+
+static void *on_thread(void *call) { return (*(int (**)(void))call)() == SCRYPT_OK ? call : NULL; }
+
+static int works_on_the_smallest_thread(int (*call)(void)) {
+  pthread_attr_t attributes;
+  pthread_t thread;
+  void *answer = NULL;
+  if (pthread_attr_init(&attributes) != 0) exit(3);
+  if (pthread_attr_setstacksize(&attributes, (size_t)PTHREAD_STACK_MIN) != 0) exit(3);
+  if (pthread_create(&thread, &attributes, on_thread, &call) != 0) exit(3);
+  return pthread_join(thread, &answer) == 0 && answer != NULL;
+}
+
+static size_t deepest;
+
+/* Nothing is written further below than SCRYPT_STACK_BYTES, and there are zeros where the call had its frames. */
+static void check_stack(const char *name, int (*call)(void), int is_status_checked) {
+  static uint8_t *room;
+  const uint8_t *top, *at;
+  int status, is_cleared = 1;
+  if (room == NULL) room = mapped(ROOM);
+  memset(room, PAINT, ROOM);
+  status = on_stack(room, ROOM, call);
+  top = room + ROOM;
+  for (at = room; *at == PAINT; at++) continue;
+  if ((size_t)(top - at) > deepest) deepest = (size_t)(top - at);
+  check((size_t)(top - at) <= SCRYPT_STACK_BYTES, name);
+  for (; at < top - OWN; at++) is_cleared &= *at == PAINT || *at == 0;
+  check(is_cleared, name);
+  check(!is_status_checked || status == SCRYPT_OK, name);
+}
+
+/* Random texts: a hash with a part repeated and some bytes changed. The stack was measured with other texts. */
+static char drawn[2 * SCRYPT_PHC_CAPACITY];
+static size_t drawn_len;
+static uint64_t state = 7914;
+
+static size_t draw(size_t below) {
+  state = state * UINT64_C(6364136223846793005) + UINT64_C(1442695040888963407);
+  return (size_t)(state >> 33) % below;
+}
+
+static void draw_text(const char *text, size_t len) {
+  static const char BYTES[] = "$,=.-+/lnrpv0123456789aZ\xff";
+  size_t at = draw(len), twice = draw(len - at), changes = draw(4);
+  memcpy(drawn, text, at + twice);
+  memcpy(drawn + at + twice, text + at, len - at);
+  drawn_len = len + twice;
+  while (changes-- > 0) drawn[draw(drawn_len)] = BYTES[draw(sizeof BYTES - 1)];
+}
+
+static int verify_drawn(void) { return scrypt_verify_in(memory, PASSWORD, drawn, drawn_len); }
+static int rehash_drawn(void) { return scrypt_needs_rehash(drawn, drawn_len, 1, 1, 1, 32); }
+
+static void drawn_texts(void) {
+  static const char LONG[] = "$scrypt$ln=4,r=8,p=1,data=0123456789012345678901234567890123456789$c2FsdHNhbHQ$AAAAAAAAAAAAAAAA";
+  int i;
+  for (i = 0; i < 2000; i++) {
+    draw_text(i % 3 == 0 ? LONG : i % 3 == 1 ? phc : mcf, i % 3 == 0 ? sizeof LONG - 1 : i % 3 == 1 ? phc_len : mcf_len);
+    check_stack("scrypt_verify_in of a drawn text", verify_drawn, 0);
+    check_stack("scrypt_needs_rehash of a drawn text", rehash_drawn, 0);
+  }
+}
+
+int main(int argc, char **argv) {
+  static const struct traces_case CASE = {4, 8, 1, 40, 32, "a password that has a length of 40 bytes",
+                                        "a salt has 32 bytes, as this has"};
+  size_t i;
+  if (argc > 1 && (drop_in = dlopen(argv[1], RTLD_NOW)) == NULL) return 3;
+  the = &CASE;
+  take_buffers();
+  for (i = 0; i < sizeof CALLS / sizeof *CALLS; i++) {
+    if (CALLS[i].library != NULL && *CALLS[i].library == NULL) continue;
+    check_stack(CALLS[i].name, CALLS[i].call, 1);
+    check(holds_in_a_child(fits_its_stack, CALLS[i].call), CALLS[i].name);
+    check(holds_in_a_child(works_on_the_smallest_thread, CALLS[i].call), CALLS[i].name);
+  }
+  drawn_texts();
+  free_buffers();
+  printf("%zu bytes of the stack were used at most\n", deepest);
+  return failed;
+}
