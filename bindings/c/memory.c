@@ -116,6 +116,7 @@ scrypt_memory *scrypt_memory_new(size_t most_bytes, uint64_t most_cores) {
 void scrypt_memory_wipe(scrypt_memory *memory) {
   uint8_t none = 0;
   uint32_t no_word = 0;
+  if (memory == NULL) return;
   /* The buffers of a derivation are a whole number of words. */
   if (memory->used > 0) scrypt_wipe(&none, 0, memory->front, memory->used / 4, &no_word, 0);
   memory->used = 0;
@@ -126,6 +127,11 @@ void scrypt_memory_free(scrypt_memory *memory) {
   scrypt_memory_wipe(memory);
   unmap(memory);
   free(memory);
+}
+
+/* Whether a password or a salt is NULL and not empty. */
+static int is_input_null(const uint8_t *password, size_t password_len, const uint8_t *salt, size_t salt_len) {
+  return scrypt_is_null(password, password_len) || scrypt_is_null(salt, salt_len);
 }
 
 /* Derives a key in buffers whose lengths are measured. */
@@ -144,7 +150,10 @@ static int derive(scrypt_memory *memory, struct buffers *of, const uint8_t *pass
 int scrypt_kdf_in(scrypt_memory *memory, const uint8_t *password, size_t password_len, const uint8_t *salt,
                   size_t salt_len, uint8_t log_n, uint32_t r, uint32_t p, uint8_t *output, size_t output_len) {
   struct buffers of;
-  int status = measure(log_n, r, p, &of);
+  int status;
+  if (memory == NULL || is_input_null(password, password_len, salt, salt_len) || scrypt_is_null(output, output_len))
+    return SCRYPT_NULL_POINTER;
+  status = measure(log_n, r, p, &of);
   if (status != SCRYPT_OK) return status;
   return derive(memory, &of, password, password_len, salt, salt_len, log_n, r, p, output, output_len);
 }
@@ -153,7 +162,13 @@ int scrypt_hash_phc_in(scrypt_memory *memory, const uint8_t *password, size_t pa
                        size_t salt_len, uint8_t log_n, uint32_t r, uint32_t p, size_t key_len, char *text,
                        size_t capacity, size_t *text_len) {
   struct buffers of;
-  int status = take(memory, log_n, r, p, &of);
+  char none = 0;
+  int status;
+  if (memory == NULL || is_input_null(password, password_len, salt, salt_len) || scrypt_is_null(text, capacity) ||
+      text_len == NULL)
+    return SCRYPT_NULL_POINTER;
+  if (text == NULL) text = &none;
+  status = take(memory, log_n, r, p, &of);
   if (status != SCRYPT_OK) return status;
   return scrypt_hash_phc_with_buffers(scrypt_bytes(password), password_len, scrypt_bytes(salt), salt_len, log_n, r, p,
                                       key_len, text, capacity, text_len, of.chunks, of.chunks_len, of.table,
@@ -164,7 +179,13 @@ int scrypt_hash_mcf_in(scrypt_memory *memory, const uint8_t *password, size_t pa
                        size_t salt_len, uint8_t log_n, uint32_t r, uint32_t p, size_t key_len, char *text,
                        size_t capacity, size_t *text_len) {
   struct buffers of;
-  int status = take(memory, log_n, r, p, &of);
+  char none = 0;
+  int status;
+  if (memory == NULL || is_input_null(password, password_len, salt, salt_len) || scrypt_is_null(text, capacity) ||
+      text_len == NULL)
+    return SCRYPT_NULL_POINTER;
+  if (text == NULL) text = &none;
+  status = take(memory, log_n, r, p, &of);
   if (status != SCRYPT_OK) return status;
   return scrypt_hash_mcf_with_buffers(scrypt_bytes(password), password_len, scrypt_bytes(salt), salt_len, log_n, r, p,
                                       key_len, text, capacity, text_len, of.chunks, of.chunks_len, of.table,
@@ -177,7 +198,11 @@ int scrypt_verify_in(scrypt_memory *memory, const uint8_t *password, size_t pass
   uint8_t log_n;
   uint32_t r, p;
   size_t key_len;
-  int status = scrypt_hash_params(text, text_len, &log_n, &r, &p, &key_len);
+  int status;
+  if (memory == NULL || scrypt_is_null(password, password_len) || scrypt_is_null(text, text_len))
+    return SCRYPT_NULL_POINTER;
+  if (text == NULL) text = "";
+  status = scrypt_hash_params(text, text_len, &log_n, &r, &p, &key_len);
   if (status == SCRYPT_OK) status = take(memory, log_n, r, p, &of);
   if (status != SCRYPT_OK) return status;
   return scrypt_verify_with_buffers(scrypt_bytes(password), password_len, text, text_len, of.chunks, of.chunks_len,
@@ -188,7 +213,11 @@ int scrypt_kdf_mapped(const uint8_t *password, size_t password_len, const uint8_
                       uint8_t log_n, uint32_t r, uint32_t p, uint8_t *output, size_t output_len) {
   scrypt_memory memory = {SIZE_MAX, UINT64_MAX, NULL, 0, NULL, 0, 0};
   struct buffers of;
-  int status = measure(log_n, r, p, &of);
+  int status;
+  if (is_input_null(password, password_len, salt, salt_len) || scrypt_is_null(output, output_len))
+    return SCRYPT_NULL_POINTER;
+  status = measure(log_n, r, p, &of);
+  if (status == SCRYPT_OK && output == NULL) status = SCRYPT_INVALID_OUTPUT_LEN;
   if (status != SCRYPT_OK) return status;
   /* No huge page fits in such a table, and to map it again takes longer than malloc, which reuses memory. */
   if (of.table_len < HUGE_PAGE / 4)

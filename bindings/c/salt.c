@@ -8,6 +8,7 @@
 
 int scrypt_draw_salt(uint8_t *salt, size_t len) {
   size_t done = 0;
+  if (scrypt_is_null(salt, len)) return SCRYPT_NULL_POINTER;
   while (done < len) {
     long drawn = syscall(SYS_getrandom, salt + done, len - done, 0);
     if (drawn < 0 && errno == EINTR) continue;

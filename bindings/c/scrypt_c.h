@@ -14,15 +14,16 @@
  *   to know whether a stored hash is too weak now    scrypt_needs_rehash                      yes
  *   to know what a stored hash costs                 scrypt_hash_params                       yes
  *   a salt for a new key or hash                     scrypt_draw_salt                         no
- *   NULL for no bytes, texts that end in a zero      the helpers at the end of this header    no
+ *   texts that end in a zero byte                    the helpers at the end of this header    no
  *
  * A proved call does what its comment says for every input; the others are written in C over the proved ones, and are
  * tested. Pass 17, 8 and 1 for log_n, r and p unless you know better: they take 128 MiB. Accepted parameters are
  * r > 0, p > 0, 128 * r * 2^log_n < 2^64 and r * p < 2^30.
  *
- * Lengths are in bytes unless words are named; a word has 4 bytes. A pointer whose length is 0 is not read, but must
- * not be NULL: the helpers take NULL with length 0. No output overlaps an input or another output. Nothing that the
- * library allocates is left to the caller. The library has no state, so any number of threads may call it at once.
+ * Lengths are in bytes unless words are named; a word has 4 bytes. No pointer may be NULL for a proved call. The others
+ * and the helpers take NULL with length 0, and return SCRYPT_NULL_POINTER, before any other status, for any other NULL.
+ * No output overlaps an input or another output. Nothing that the library allocates is left to the caller. The library
+ * has no state, so any number of threads may call it at once.
  */
 #ifndef SCRYPT_C_H
 #define SCRYPT_C_H
@@ -42,6 +43,22 @@
 /* The most bytes of the stack that any call uses, if malloc is the system's. Before a call that sees a password or a key
  * returns, it writes zeros to the part that it used; further below nothing is written. */
 #define SCRYPT_STACK_BYTES 8192
+
+/* gcc and clang warn if a status is not used, or if NULL is passed to a proved call. */
+#ifdef __GNUC__
+#define SCRYPT_CHECKED __attribute__((warn_unused_result))
+#define SCRYPT_NONNULL __attribute__((nonnull))
+#else
+#define SCRYPT_CHECKED
+#define SCRYPT_NONNULL
+#endif
+
+/* The helpers are inline functions, for which gcc and clang have a word in C before C99 too. */
+#if defined(__GNUC__) && !defined(__cplusplus)
+#define SCRYPT_HELPER static __inline__
+#else
+#define SCRYPT_HELPER static inline
+#endif
 
 #ifdef __cplusplus
 extern "C" {
@@ -65,32 +82,37 @@ enum scrypt_status {
   SCRYPT_VERSION = 11,            /* the hash names a version, and scrypt has none */
   SCRYPT_BUFFER_SIZE = 12,        /* a buffer does not have its length, or the text does not fit its capacity */
   SCRYPT_TOO_COSTLY = 13,         /* scrypt_memory: the parameters need more than one of its bounds */
-  SCRYPT_NO_RANDOM_BYTES = 14     /* the system has no random bytes */
+  SCRYPT_NO_RANDOM_BYTES = 14,    /* the system has no random bytes */
+  SCRYPT_NULL_POINTER = 16        /* NULL where it is not allowed; proved calls do not look for it */
 };
 
 /* ---- Keys ---- */
 
 /* Writes the key of password and salt, of output_len bytes, to output.
  * SCRYPT_INVALID_PARAMS, SCRYPT_INVALID_OUTPUT_LEN, SCRYPT_OUT_OF_MEMORY. */
+SCRYPT_CHECKED SCRYPT_NONNULL
 int scrypt_kdf(const uint8_t *password, size_t password_len, const uint8_t *salt, size_t salt_len,
                uint8_t log_n, uint32_t r, uint32_t p, uint8_t *output, size_t output_len);
 
 /* The same key, in memory that is mapped for this call alone, with huge pages if the system has them: faster than
  * scrypt_kdf if the table is large. Not proved: it maps the buffers, calls scrypt_kdf_with_buffers and unmaps them.
- * A password or a salt of length 0 may be NULL. SCRYPT_OUT_OF_MEMORY if the memory cannot be mapped.
- * SCRYPT_INVALID_PARAMS, SCRYPT_INVALID_OUTPUT_LEN, SCRYPT_OUT_OF_MEMORY. */
+ * SCRYPT_OUT_OF_MEMORY if the memory cannot be mapped. SCRYPT_NULL_POINTER, SCRYPT_INVALID_PARAMS,
+ * SCRYPT_INVALID_OUTPUT_LEN, SCRYPT_OUT_OF_MEMORY. */
+SCRYPT_CHECKED
 int scrypt_kdf_mapped(const uint8_t *password, size_t password_len, const uint8_t *salt, size_t salt_len,
                       uint8_t log_n, uint32_t r, uint32_t p, uint8_t *output, size_t output_len);
 
 /* The lengths of the buffers: chunks in bytes, table and scratch in words. With s = 0 they are those of
  * scrypt_kdf_with_buffers; with another s, at most log_n, those of scrypt_kdf_thin with this s.
  * SCRYPT_INVALID_PARAMS. */
+SCRYPT_CHECKED SCRYPT_NONNULL
 int scrypt_buffer_lens(uint8_t log_n, uint32_t r, uint32_t p, uint8_t s, size_t *chunks,
                        size_t *table, size_t *scratch);
 
 /* The same key, in the caller's buffers. What they hold before the call does not matter, and what they hold after it
  * is unspecified. Nothing is allocated. An error leaves the buffers unchanged too.
  * SCRYPT_INVALID_PARAMS, SCRYPT_INVALID_OUTPUT_LEN, SCRYPT_BUFFER_SIZE. */
+SCRYPT_CHECKED SCRYPT_NONNULL
 int scrypt_kdf_with_buffers(const uint8_t *password, size_t password_len, const uint8_t *salt,
                             size_t salt_len, uint8_t log_n, uint32_t r, uint32_t p, uint8_t *output,
                             size_t output_len, uint8_t *chunks, size_t chunks_len, uint32_t *table,
@@ -98,6 +120,7 @@ int scrypt_kdf_with_buffers(const uint8_t *password, size_t password_len, const 
 
 /* The same key, with a table that keeps one row in 2^s: 2^s times smaller, for more work. Nothing is allocated. An
  * error leaves the buffers unchanged too. SCRYPT_INVALID_PARAMS, SCRYPT_INVALID_OUTPUT_LEN, SCRYPT_BUFFER_SIZE. */
+SCRYPT_CHECKED SCRYPT_NONNULL
 int scrypt_kdf_thin(const uint8_t *password, size_t password_len, const uint8_t *salt,
                     size_t salt_len, uint8_t log_n, uint32_t r, uint32_t p, uint8_t s,
                     uint8_t *output, size_t output_len, uint8_t *chunks, size_t chunks_len,
@@ -105,6 +128,7 @@ int scrypt_kdf_thin(const uint8_t *password, size_t password_len, const uint8_t 
 
 /* Writes zeros over the buffers of any call: from what it leaves there a password is guessed at far less than scrypt's
  * cost. */
+SCRYPT_NONNULL
 void scrypt_wipe(uint8_t *chunks, size_t chunks_len, uint32_t *table, size_t table_len, uint32_t *scratch,
                  size_t scratch_len);
 
@@ -114,12 +138,14 @@ void scrypt_wipe(uint8_t *chunks, size_t chunks_len, uint32_t *table, size_t tab
  * 64 bytes and the key key_len bytes, 10 to 64. No zero byte follows the text. With SCRYPT_BUFFER_SIZE *text_len is the
  * capacity that the text needs. SCRYPT_INVALID_PARAMS (also for key_len), SCRYPT_SALT_INVALID, SCRYPT_OUT_OF_MEMORY,
  * SCRYPT_BUFFER_SIZE. */
+SCRYPT_CHECKED SCRYPT_NONNULL
 int scrypt_hash_phc(const uint8_t *password, size_t password_len, const uint8_t *salt,
                     size_t salt_len, uint8_t log_n, uint32_t r, uint32_t p, size_t key_len,
                     char *text, size_t capacity, size_t *text_len);
 
 /* The same for the $7$ text of crypt(3), with a salt of any length.
  * SCRYPT_INVALID_PARAMS, SCRYPT_OUT_OF_MEMORY, SCRYPT_BUFFER_SIZE. */
+SCRYPT_CHECKED SCRYPT_NONNULL
 int scrypt_hash_mcf(const uint8_t *password, size_t password_len, const uint8_t *salt,
                     size_t salt_len, uint8_t log_n, uint32_t r, uint32_t p, size_t key_len,
                     char *text, size_t capacity, size_t *text_len);
@@ -129,6 +155,7 @@ int scrypt_hash_mcf(const uint8_t *password, size_t password_len, const uint8_t 
  * unchanged. Nothing is allocated. SCRYPT_INVALID_PARAMS (also for key_len), SCRYPT_SALT_INVALID, then SCRYPT_BUFFER_SIZE
  * if a buffer is too short, which leaves *text_len, or if the new text does not fit its capacity, with *text_len as
  * above; that is found after the derivation. */
+SCRYPT_CHECKED SCRYPT_NONNULL
 int scrypt_hash_phc_with_buffers(const uint8_t *password, size_t password_len, const uint8_t *salt,
                                  size_t salt_len, uint8_t log_n, uint32_t r, uint32_t p, size_t key_len,
                                  char *text, size_t capacity, size_t *text_len, uint8_t *chunks,
@@ -137,6 +164,7 @@ int scrypt_hash_phc_with_buffers(const uint8_t *password, size_t password_len, c
 
 /* The same for the $7$ text, with a salt of any length. That the new text does not fit is found before the derivation.
  * SCRYPT_INVALID_PARAMS, SCRYPT_BUFFER_SIZE. */
+SCRYPT_CHECKED SCRYPT_NONNULL
 int scrypt_hash_mcf_with_buffers(const uint8_t *password, size_t password_len, const uint8_t *salt,
                                  size_t salt_len, uint8_t log_n, uint32_t r, uint32_t p, size_t key_len,
                                  char *text, size_t capacity, size_t *text_len, uint8_t *chunks,
@@ -149,12 +177,14 @@ int scrypt_hash_mcf_with_buffers(const uint8_t *password, size_t password_len, c
  * call scrypt_verify_in, if the hash is not your own.
  * SCRYPT_ALGORITHM, SCRYPT_ENCODING_INVALID, SCRYPT_OUTPUT_SIZE, SCRYPT_HASH_PARAM_INVALID, SCRYPT_HASH_PARAMS_INVALID,
  * SCRYPT_VERSION, SCRYPT_OUT_OF_MEMORY. */
+SCRYPT_CHECKED SCRYPT_NONNULL
 int scrypt_verify(const uint8_t *password, size_t password_len, const char *text, size_t text_len);
 
 /* The same, in the caller's buffers, each of which is at least as long as scrypt_buffer_lens says with s = 0 for the
  * parameters of the hash. What they hold before does not matter; afterwards chunks and scratch are zeros if the keys
  * were compared, and otherwise all are unchanged. Nothing is allocated: the errors are those of scrypt_verify except
  * SCRYPT_OUT_OF_MEMORY, and after them SCRYPT_BUFFER_SIZE if a buffer is too short. */
+SCRYPT_CHECKED SCRYPT_NONNULL
 int scrypt_verify_with_buffers(const uint8_t *password, size_t password_len, const char *text, size_t text_len,
                                uint8_t *chunks, size_t chunks_len, uint32_t *table, size_t table_len,
                                uint32_t *scratch, size_t scratch_len);
@@ -162,10 +192,12 @@ int scrypt_verify_with_buffers(const uint8_t *password, size_t password_len, con
 /* SCRYPT_NEEDS_REHASH if log_n, r, p or the key's length is below the wanted one, or the hash has no salt or no key,
  * and SCRYPT_OK if not. Nothing is allocated. SCRYPT_INVALID_PARAMS (also for key_len), and the errors of scrypt_verify
  * except SCRYPT_OUT_OF_MEMORY. */
+SCRYPT_CHECKED SCRYPT_NONNULL
 int scrypt_needs_rehash(const char *text, size_t text_len, uint8_t log_n, uint32_t r, uint32_t p, size_t key_len);
 
 /* Writes the parameters of a hash, and the length of its key, or 0 if it has none. Nothing is allocated.
  * The errors of scrypt_verify except SCRYPT_OUT_OF_MEMORY. */
+SCRYPT_CHECKED SCRYPT_NONNULL
 int scrypt_hash_params(const char *text, size_t text_len, uint8_t *log_n, uint32_t *r, uint32_t *p, size_t *key_len);
 
 /* ---- Memory that is kept from call to call, with bounds. Not proved: it calls the calls above ---- */
@@ -181,35 +213,40 @@ typedef struct scrypt_memory scrypt_memory;
 #define SCRYPT_MOST_CORES (UINT32_C(1) << 24)
 
 /* NULL if the system has no memory for it. */
+SCRYPT_CHECKED
 scrypt_memory *scrypt_memory_new(size_t most_bytes, uint64_t most_cores);
 
-/* Writes zeros over what the calls wrote there. */
+/* Writes zeros over what the calls wrote there. Nothing for NULL. */
 void scrypt_memory_wipe(scrypt_memory *memory);
 
-/* Wipes and unmaps it. NULL is allowed. */
+/* Wipes and unmaps it. Nothing for NULL. */
 void scrypt_memory_free(scrypt_memory *memory);
 
-/* As the calls without _in, but also SCRYPT_TOO_COSTLY, after SCRYPT_INVALID_PARAMS of
- * log_n, r and p, SCRYPT_INVALID_OUTPUT_LEN, and the errors of the text of a hash. A password or a salt of length 0 may
- * be NULL. */
+/* As the calls without _in, but also SCRYPT_NULL_POINTER, and SCRYPT_TOO_COSTLY after SCRYPT_INVALID_PARAMS of
+ * log_n, r and p, SCRYPT_INVALID_OUTPUT_LEN, and the errors of the text of a hash. */
+SCRYPT_CHECKED
 int scrypt_kdf_in(scrypt_memory *memory, const uint8_t *password, size_t password_len, const uint8_t *salt,
                   size_t salt_len, uint8_t log_n, uint32_t r, uint32_t p, uint8_t *output, size_t output_len);
 
+SCRYPT_CHECKED
 int scrypt_hash_phc_in(scrypt_memory *memory, const uint8_t *password, size_t password_len, const uint8_t *salt,
                        size_t salt_len, uint8_t log_n, uint32_t r, uint32_t p, size_t key_len, char *text,
                        size_t capacity, size_t *text_len);
 
+SCRYPT_CHECKED
 int scrypt_hash_mcf_in(scrypt_memory *memory, const uint8_t *password, size_t password_len, const uint8_t *salt,
                        size_t salt_len, uint8_t log_n, uint32_t r, uint32_t p, size_t key_len, char *text,
                        size_t capacity, size_t *text_len);
 
+SCRYPT_CHECKED
 int scrypt_verify_in(scrypt_memory *memory, const uint8_t *password, size_t password_len, const char *text,
                      size_t text_len);
 
 /* ---- Salts ---- */
 
 /* Draws a salt by the system's getrandom: 16 bytes are enough. Not proved.
- * SCRYPT_NO_RANDOM_BYTES if the system has none: do not use the salt then. */
+ * SCRYPT_NULL_POINTER, or SCRYPT_NO_RANDOM_BYTES if the system has none: do not use the salt then. */
+SCRYPT_CHECKED
 int scrypt_draw_salt(uint8_t *salt, size_t len);
 
 /* ---- Helpers, which are not calls of the library: inline functions of this header, not proved ---- */
@@ -221,49 +258,61 @@ int scrypt_draw_salt(uint8_t *salt, size_t len);
 #endif
 
 /* The pointer, or one to a byte that is not read if it is NULL. */
-static inline const uint8_t *scrypt_bytes(const void *bytes) {
+SCRYPT_HELPER const uint8_t *scrypt_bytes(const void *bytes) {
   static const uint8_t none = 0;
   return bytes ? SCRYPT_CAST(const uint8_t *, bytes) : &none;
 }
 
-/* scrypt_kdf, but NULL is allowed with length 0. */
-static inline int scrypt_derive(const void *password, size_t password_len, const void *salt,
+/* Whether NULL is given for bytes that are read or written. */
+SCRYPT_HELPER int scrypt_is_null(const void *bytes, size_t len) { return !bytes && len > 0; }
+
+/* scrypt_kdf, but NULL is allowed with length 0. SCRYPT_NULL_POINTER, and its errors. */
+SCRYPT_CHECKED
+SCRYPT_HELPER int scrypt_derive(const void *password, size_t password_len, const void *salt,
                                 size_t salt_len, uint8_t log_n, uint32_t r, uint32_t p,
                                 void *output, size_t output_len) {
   uint8_t none = 0;
+  if (scrypt_is_null(password, password_len) || scrypt_is_null(salt, salt_len) || scrypt_is_null(output, output_len))
+    return SCRYPT_NULL_POINTER;
   return scrypt_kdf(scrypt_bytes(password), password_len, scrypt_bytes(salt), salt_len, log_n, r, p,
                     output ? SCRYPT_CAST(uint8_t *, output) : &none, output_len);
 }
 
 /* scrypt_hash_phc, but a zero byte follows the text, for which one byte of the capacity is kept, and NULL is allowed
- * with length 0. */
-static inline int scrypt_hash_phc_z(const void *password, size_t password_len, const void *salt,
+ * with length 0. SCRYPT_NULL_POINTER, and its errors. */
+SCRYPT_CHECKED
+SCRYPT_HELPER int scrypt_hash_phc_z(const void *password, size_t password_len, const void *salt,
                                     size_t salt_len, uint8_t log_n, uint32_t r, uint32_t p,
                                     size_t key_len, char *text, size_t capacity) {
   size_t text_len = 0;
   char none = 0;
-  int status = scrypt_hash_phc(scrypt_bytes(password), password_len, scrypt_bytes(salt), salt_len,
-                               log_n, r, p, key_len, capacity == 0 ? &none : text,
-                               capacity == 0 ? 0 : capacity - 1, &text_len);
+  int status;
+  if (scrypt_is_null(password, password_len) || scrypt_is_null(salt, salt_len) || scrypt_is_null(text, capacity))
+    return SCRYPT_NULL_POINTER;
+  status = scrypt_hash_phc(scrypt_bytes(password), password_len, scrypt_bytes(salt), salt_len, log_n, r, p, key_len,
+                           capacity == 0 ? &none : text, capacity == 0 ? 0 : capacity - 1, &text_len);
   if (status == SCRYPT_OK) text[text_len] = '\0';
   return status;
 }
 
 /* The same for scrypt_hash_mcf. */
-static inline int scrypt_hash_mcf_z(const void *password, size_t password_len, const void *salt,
+SCRYPT_CHECKED
+SCRYPT_HELPER int scrypt_hash_mcf_z(const void *password, size_t password_len, const void *salt,
                                     size_t salt_len, uint8_t log_n, uint32_t r, uint32_t p,
                                     size_t key_len, char *text, size_t capacity) {
   size_t text_len = 0;
   char none = 0;
-  int status = scrypt_hash_mcf(scrypt_bytes(password), password_len, scrypt_bytes(salt), salt_len,
-                               log_n, r, p, key_len, capacity == 0 ? &none : text,
-                               capacity == 0 ? 0 : capacity - 1, &text_len);
+  int status;
+  if (scrypt_is_null(password, password_len) || scrypt_is_null(salt, salt_len) || scrypt_is_null(text, capacity))
+    return SCRYPT_NULL_POINTER;
+  status = scrypt_hash_mcf(scrypt_bytes(password), password_len, scrypt_bytes(salt), salt_len, log_n, r, p, key_len,
+                           capacity == 0 ? &none : text, capacity == 0 ? 0 : capacity - 1, &text_len);
   if (status == SCRYPT_OK) text[text_len] = '\0';
   return status;
 }
 
 /* A status in words. */
-static inline const char *scrypt_status_text(int status) {
+SCRYPT_HELPER const char *scrypt_status_text(int status) {
   switch (status) {
     case SCRYPT_OK: return "success";
     case SCRYPT_MISMATCH: return "the password does not match, or the hash is weaker than wanted";
@@ -280,6 +329,7 @@ static inline const char *scrypt_status_text(int status) {
     case SCRYPT_BUFFER_SIZE: return "invalid buffer length";
     case SCRYPT_TOO_COSTLY: return "the parameters need more than is allowed";
     case SCRYPT_NO_RANDOM_BYTES: return "the system has no random bytes";
+    case SCRYPT_NULL_POINTER: return "NULL is not allowed there";
     default: return "unknown status";
   }
 }

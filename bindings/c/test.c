@@ -275,6 +275,7 @@ int main(int argc, char **argv) {
   refusals_of_texts();
   for (status = SCRYPT_OK; status <= SCRYPT_NO_RANDOM_BYTES; status++)
     check(strcmp(scrypt_status_text(status), "unknown status") != 0, "the words of a status");
-  check(strcmp(scrypt_status_text(15), "unknown status") == 0, "no status");
+  check(strcmp(scrypt_status_text(SCRYPT_NULL_POINTER), "unknown status") != 0, "the words of the last status");
+  check(strcmp(scrypt_status_text(SCRYPT_NULL_POINTER + 1), "unknown status") == 0, "no status");
   return failed;
 }

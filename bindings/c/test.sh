@@ -24,15 +24,34 @@ clean() {
 }
 gcc_warnings="-Wall -Wextra -pedantic -Wconversion -Wsign-conversion -Wshadow -Wcast-qual -Wundef -Wcast-align"
 clang_warnings="-Weverything -Wno-declaration-after-statement -Wno-c++98-compat-pedantic"
-for standard in c99 c11; do
+for standard in c89 c99 c11 c2x; do
   if has gcc gcc; then clean gcc -std=$standard $gcc_warnings -Wstrict-prototypes -Wmissing-prototypes; fi
   if has clang clang; then clean clang -std=$standard $clang_warnings; fi
 done
-for standard in c++11 c++20; do
+for standard in c++98 c++11 c++20; do
   if has g++ g++; then
     clean g++ -std=$standard $gcc_warnings -Wold-style-cast -Wuseless-cast -Wzero-as-null-pointer-constant -x c++
   fi
   if has clang++ clang; then clean clang++ -std=$standard $clang_warnings -x c++; fi
+done
+
+# A compiler that doesn't know attributes.
+if has tcc tcc; then
+  tcc -Wall -Werror -I"$lib" bindings/c/test.c -o "$room/tcc" -L"$lib" -lscrypt_c
+  LD_LIBRARY_PATH=$lib "$room/tcc" small
+  echo "called by: tcc"
+fi
+
+# What gcc and clang refuse by the header's attributes if their warnings are errors.
+for compiler in gcc clang; do
+  if has $compiler $compiler; then
+    misuse() { $compiler -Wall -Werror -I"$lib" -DMISUSE="$1" -c -o /dev/null bindings/c/misuse.c 2> "$room/log"; }
+    misuse 0
+    for number in 1 2 3 4 5 6 7; do
+      if misuse $number; then echo "$compiler does not refuse misuse $number" >&2; exit 1; fi
+    done
+    echo "refused by $compiler: statuses that are not used, and NULL for proved calls"
+  fi
 done
 
 # Compiles the test by the command that is given, against the static library and against the shared one.
@@ -59,7 +78,7 @@ if has gcc gcc && has qemu-x86_64-static qemu-user-static; then
   grep "lacks a feature of x86-64-v2" "$room/refused"
 fi
 
-tests="test test_mapped test_memory test_wipe test_salt test_traces threads"
+tests="test test_mapped test_memory test_null test_wipe test_salt test_traces threads"
 memcheck() {
   valgrind -q --error-exitcode=1 --leak-check=full --errors-for-leak-kinds=all "$@"
 }

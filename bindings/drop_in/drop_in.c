@@ -62,6 +62,8 @@ static int derive_key(const uint8_t *password, size_t password_len, const uint8_
 
 static int derive(const uint8_t *password, size_t password_len, const uint8_t *salt, size_t salt_len, uint64_t n,
                   uint64_t most_n, uint32_t r, uint32_t p, uint8_t *output, size_t output_len) {
+  if (scrypt_is_null(password, password_len) || scrypt_is_null(salt, salt_len) || scrypt_is_null(output, output_len))
+    return refused(EINVAL);
   if (output_len > SCRYPT_MAX_OUTPUT_LEN || (uint64_t)r * p >= (uint64_t)1 << 30) return refused(EFBIG);
   if (r == 0 || p == 0) return refused(EINVAL);
   if (n > most_n) return refused(EFBIG);
@@ -115,7 +117,8 @@ API int crypto_pwhash_scryptsalsa208sha256(unsigned char *output, unsigned long 
   uint8_t log_n;
   uint32_t r, p;
   if (output_len > SCRYPT_MAX_OUTPUT_LEN) return refused(EFBIG);
-  memset(output, 0, (size_t)output_len);
+  if (scrypt_is_null(output, (size_t)output_len)) return refused(EINVAL);
+  if (output != NULL) memset(output, 0, (size_t)output_len);
   if (output_len < LEAST_OUTPUT || (const void *)output == (const void *)password) return refused(EINVAL);
   choose(work, memory, &log_n, &r, &p);
   return derive((const uint8_t *)password, (size_t)password_len, salt, SALT_LEN, (uint64_t)1 << log_n, UINT32_MAX, r,
@@ -132,7 +135,8 @@ static void put_letters(char *to, int count, uint32_t number) {
 
 /* The text has the length of those of .._str, and eleven letters for its costs. */
 static int has_costs(const char *text) {
-  return strnlen(text, TEXT_LEN + 1) == TEXT_LEN && strncmp(text, "$7$", 3) == 0 && strspn(text + 3, LETTERS) >= 11;
+  if (text == NULL || strnlen(text, TEXT_LEN + 1) != TEXT_LEN) return 0;
+  return strncmp(text, "$7$", 3) == 0 && strspn(text + 3, LETTERS) >= 11;
 }
 
 static int hash_in_memory(const char *password, size_t password_len, const uint8_t salt[SALT_LEN], uint8_t log_n,
@@ -154,6 +158,7 @@ API int crypto_pwhash_scryptsalsa208sha256_str(char text[TEXT_LEN + 1], const ch
   uint8_t log_n, salt[SALT_LEN];
   char made[TEXT_LEN + 1];
   uint32_t r, p;
+  if (text == NULL || scrypt_is_null(password, (size_t)password_len)) return refused(EINVAL);
   memset(text, 0, TEXT_LEN + 1);
   choose(work, memory, &log_n, &r, &p);
   if (log_n > MOST_LOG_N) return refused(EINVAL);
@@ -173,6 +178,7 @@ static int verify_in_memory(const char *password, size_t password_len, const cha
 API int crypto_pwhash_scryptsalsa208sha256_str_verify(const char text[TEXT_LEN + 1], const char *password,
                                                       unsigned long long password_len) {
   ptrdiff_t log_n;
+  if (scrypt_is_null(password, (size_t)password_len)) return refused(EINVAL);
   if (!has_costs(text) || text[KEY_AT - 1] != '$') return -1;
   log_n = strchr(LETTERS, text[3]) - LETTERS;
   if (log_n == 0 || log_n > MOST_LOG_N) return -1;

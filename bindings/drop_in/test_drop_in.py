@@ -205,6 +205,34 @@ def texts():
         assert not sodium or verified(sodium, text_of(10, 8, 1, salt), b"pw"), why
 
 
+def nulls():
+    """NULL for bytes that a call would read or write, which ends a program with the libraries whose names these are."""
+    out, salt, text = (ctypes.create_string_buffer(b"\7" * 102, 102) for _ in range(3))
+    by_costs_types, by_limits_types = [P, Z, P, Z, U64, U32, U32, P, Z], [P, U64, P, U64, P, U64, Z]
+    rows = []
+    for name in BY_COSTS:
+        rows += [
+            ("a password", name, by_costs_types, (None, 5, salt, 1, 16, 1, 1, out, 32), "EINVAL"),
+            ("a salt", name, by_costs_types, (b"pw", 2, None, 1, 16, 1, 1, out, 32), "EINVAL"),
+            ("an output", name, by_costs_types, (b"pw", 2, salt, 1, 16, 1, 1, None, 32), "EINVAL"),
+            ("nothing", name, by_costs_types, (None, 0, None, 0, 16, 1, 1, None, 0), 0),
+        ]
+    rows += [
+        ("a password", PWHASH, by_limits_types, (out, 32, None, 5, salt, 0, 0), "EINVAL"),
+        ("a salt", PWHASH, by_limits_types, (out, 32, b"pw", 2, None, 0, 0), "EINVAL"),
+        ("an output", PWHASH, by_limits_types, (None, 32, b"pw", 2, salt, 0, 0), "EINVAL"),
+        ("no output", PWHASH, by_limits_types, (None, 0, b"pw", 2, salt, 0, 0), "EINVAL"),
+        ("a text", PWHASH + "_str", [P, P, U64, U64, Z], (None, b"pw", 2, 0, 0), "EINVAL"),
+        ("a password", PWHASH + "_str", [P, P, U64, U64, Z], (text, None, 2, 0, 0), "EINVAL"),
+        ("a text", PWHASH + "_str_verify", [P, P, U64], (None, b"pw", 2), ""),
+        ("a password", PWHASH + "_str_verify", [P, P, U64], (GOOD, None, 2), "EINVAL"),
+        ("a text", PWHASH + "_str_needs_rehash", [P, U64, Z], (None, 0, 0), "EINVAL"),
+    ]
+    for why, name, types, args, wanted in rows:
+        assert call(ours, name, types, *args) == wanted, (name, why)
+    assert text.raw == b"\7" * 102, "a refused call leaves the text"
+
+
 def kept():
     """On a thread, the memory of a call is mapped again, or kept if the environment asks for it, until the thread ends."""
     is_kept = os.environ.get("SCRYPT_KEEP_MEMORY") == "1"
@@ -230,7 +258,7 @@ def kept():
         assert time.monotonic() < until, "what a thread kept is unmapped when it ends"
 
 
-for test in (keys, overlapping, choices, limits, texts, kept):
+for test in (keys, overlapping, choices, limits, texts, nulls, kept):
     test()
 for name, theirs, package in [
     (PWHASH, sodium, "libsodium23"),
