@@ -27,7 +27,7 @@ link() {
 
 libraries() {
   shared=libscrypt_c.so.$(sed 's/+.*//' VERSION)
-  bindings/c/found.sh "$libdir" "$includedir" "$room" "$room"
+  bindings/c/found.sh "$libdir" "$includedir" "$libdir/pkgconfig" "$libdir/cmake/scrypt_c" "$room"
   put 644 build/lib/libscrypt_c.a "$libdir/libscrypt_c.a"
   put 755 "build/lib/$shared" "$libdir/$shared"
   link "$shared" "$libdir/libscrypt_c.so.0"

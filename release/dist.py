@@ -167,14 +167,14 @@ class Release:
         run(sys.executable, "-Bc", "import build_backend, sys; build_backend.build_wheel(sys.argv[1])", DIST, cwd=python)
 
     def below_prefix(self, files):
-        """The same files for any prefix, which install.sh writes where @PREFIX@ is."""
+        """The same files below any prefix."""
         for file in archive.files_of(self.usr):
             short = file.removeprefix("usr/").replace(LIBDIR.removeprefix("usr/"), "lib").replace("lib/scrypt_c/", "lib/")
             place = os.path.join(files, short)
             os.makedirs(os.path.dirname(place), exist_ok=True)
             shutil.copy2(os.path.join(self.usr, file), place, follow_symlinks=False)
-        found = [os.path.join(files, "lib", it) for it in ("pkgconfig", "cmake/scrypt_c")]
-        run(os.path.join(ROOT, "bindings/c/found.sh"), "@PREFIX@/lib", "@PREFIX@/include", *found)
+        places = [os.path.join(files, it) for it in ("lib", "include", "lib/pkgconfig", "lib/cmake/scrypt_c")]
+        run(os.path.join(ROOT, "bindings/c/found.sh"), *places)
 
     def archives(self):
         """The archive of everything, and the sources."""

@@ -25,10 +25,7 @@ find . -type f -o -type l | sed 's|^\./||' | sort | while read -r file; do
     continue
   fi
   mkdir -p "${place%/*}"
-  case $file in
-    *.pc | *.cmake) sed "s|@PREFIX@|$prefix|g" "$file" > "$place" ;;
-    *) cp -P "$file" "$place" ;;
-  esac
+  cp -P "$file" "$place"
 done
 if [ $action = install ]; then
   echo "installed below $prefix; a program finds the library there by LD_LIBRARY_PATH=$prefix/lib, or after ldconfig"

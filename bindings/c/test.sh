@@ -1,6 +1,6 @@
 #!/bin/sh
 # Tests the libraries of build/lib from C and C++: what they export, the header's warnings, every call, AddressSanitizer,
-# valgrind, the stack, pkg-config, CMake, and what is installed. With the word short: the exports, the version and one run.
+# valgrind, the stack, and what is installed. With the word short: the exports, the version and one run.
 cd "$(dirname "$0")/../.."
 . bindings/common.sh
 
@@ -130,27 +130,4 @@ if has gcc gcc; then
   fi
 fi
 
-# What make install puts into a stage is found by pkg-config and by CMake, and make uninstall leaves no file of it.
-quietly() { make -s "$@" prefix="$room/usr" DESTDIR= > /dev/null; }
-quietly install
-if has gcc gcc && has pkg-config pkg-config; then
-  flags() { PKG_CONFIG_PATH=$room/usr/lib/pkgconfig pkg-config "$@" scrypt_c; }
-  eval gcc bindings/c/test.c -o "$room/by_pkg_config" "$(flags --cflags --libs)"
-  LD_LIBRARY_PATH=$room/usr/lib "$room/by_pkg_config" small
-  eval gcc -static bindings/c/test.c -o "$room/by_pkg_config" "$(flags --static --cflags --libs)"
-  "$room/by_pkg_config" small
-  echo "found by pkg-config: the shared library, and the static one"
-fi
-if has cmake cmake; then
-  cmake -S bindings/c/cmake_client -B "$room/cmake" -DCMAKE_PREFIX_PATH="$room/usr" > "$room/log" || { cat "$room/log"; exit 1; }
-  cmake --build "$room/cmake" > "$room/log" || { cat "$room/log"; exit 1; }
-  "$room/cmake/shared" small
-  "$room/cmake/static" small
-  echo "found by CMake: the shared library, and the static one"
-fi
-quietly uninstall
-test -z "$(find "$room/usr" -type f -o -type l)"
-make -s install prefix=/usr libdir=/usr/lib/x86_64-linux-gnu DESTDIR="$room/stage" > /dev/null
-test -z "$(grep -rl "$room" "$room/stage/usr/lib/x86_64-linux-gnu" --include='scrypt_c*')"
-test "$(ls "$room/stage")" = usr
-echo "installed and uninstalled, also in a stage"
+bindings/c/test_install.sh

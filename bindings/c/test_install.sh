@@ -1,0 +1,70 @@
+#!/bin/sh
+# Installs what is built by `make install` and by the install.sh of the archive, moves it, and builds programs with it by
+# pkg-config and by CMake, below folders whose names have special characters.
+cd "$(dirname "$0")/../.."
+. bindings/common.sh
+
+# The client is in a folder that has no header but the installed one.
+mkdir "$room/client"
+cp -r bindings/c/test.c bindings/c/check.h bindings/c/cmake_client "$room/client"
+
+# Builds and runs the client by what is installed below a prefix, with the shared library and with the static one.
+by_pkg_config() {
+  flags() { PKG_CONFIG_PATH="$1/lib/pkgconfig" pkg-config $2 --cflags --libs scrypt_c; }
+  eval gcc "$room/client/test.c" -o "$room/by_pkg_config" "$(flags "$1" "")"
+  LD_LIBRARY_PATH=$1/lib "$room/by_pkg_config" small
+  eval gcc -static "$room/client/test.c" -o "$room/by_pkg_config" "$(flags "$1" --static)"
+  "$room/by_pkg_config" small
+}
+by_cmake() {
+  rm -rf "$room/cmake"
+  cmake -S "$room/client/cmake_client" -B "$room/cmake" -DCMAKE_PREFIX_PATH="$1" > "$room/log" || { cat "$room/log"; exit 1; }
+  cmake --build "$room/cmake" > "$room/log" || { cat "$room/log"; exit 1; }
+  grep -qF "$1/" "$room/cmake/CMakeCache.txt" || { echo "CMake found another library" >&2; exit 1; }
+  "$room/cmake/shared" small
+  "$room/cmake/static" small
+}
+is_found() {
+  if has gcc gcc && has pkg-config pkg-config; then by_pkg_config "$1"; fi
+  if has cmake cmake; then by_cmake "$1"; fi
+}
+is_empty() {
+  test -z "$(find "$1" -type f -o -type l)" || { echo "uninstalled, and files are left in $1" >&2; exit 1; }
+}
+
+# Why, and the folder.
+while IFS=: read -r why name; do
+  make -s install prefix="$room/$name/usr" DESTDIR= > /dev/null
+  is_found "$room/$name/usr"
+  mv "$room/$name" "$room/moved $name"
+  is_found "$room/moved $name/usr"
+  mv "$room/moved $name" "$room/$name"
+  make -s uninstall prefix="$room/$name/usr" DESTDIR= > /dev/null
+  is_empty "$room/$name"
+  echo "installed, found, moved, found again and uninstalled: a prefix with $why"
+done << 'END'
+no special character:plain
+a character that is special to sed:R&D
+a blank:R&D kit
+END
+
+# If lib is a link to a folder elsewhere, the folder of the header is not where it is without the link.
+mkdir -p "$room/linked/usr" "$room/else/where/lib"
+ln -s "$room/else/where/lib" "$room/linked/usr/lib"
+make -s install prefix="$room/linked/usr" DESTDIR= > /dev/null
+is_found "$room/linked/usr"
+echo "installed and found: lib is a link"
+
+# The archive has the same files below files/, and an install.sh of its own.
+make -s install prefix="$room/archive/files" DESTDIR= > /dev/null
+cp release/install.sh "$room/archive/"
+"$room/archive/install.sh" "$room/R&D kit/usr" > /dev/null
+is_found "$room/R&D kit/usr"
+"$room/archive/install.sh" --remove "$room/R&D kit/usr"
+is_empty "$room/R&D kit"
+echo "installed, found and removed: by the install.sh of the archive"
+
+make -s install prefix=/usr libdir=/usr/lib/x86_64-linux-gnu DESTDIR="$room/stage" > /dev/null
+test -z "$(grep -rl "$room" "$room/stage/usr/lib/x86_64-linux-gnu" --include='scrypt_c*')"
+test "$(ls "$room/stage")" = usr
+echo "installed in a stage"
