@@ -30,20 +30,20 @@ objcopy --redefine-syms="$parts/proved" "$parts"/libscrypt_c/*.o
 for name in malloc realloc free memcpy memmove memset; do echo "$name clearing_$name"; done > "$parts/clearing"
 for object in "$parts"/*/*.o; do objcopy --redefine-syms="$parts/clearing" "$object"; done
 # Functions of the C library are bound when a program is loaded, also with the static library, as blocks.c explains.
-flags="-O2 -Wall -Wextra -fPIC -fno-plt -Ibindings/c -I$parts"
-for part in blocks registers cpu memory salt stack_lens; do
+flags="-O2 -Wall -Wextra -fPIC -fno-plt -Ibindings/c -I$parts -DLIBRARY_VERSION=\"$version\""
+for part in blocks registers cpu memory salt version stack_lens; do
   $CC -std=c99 -pedantic $flags -c -o "$parts/$part.o" bindings/c/$part.c
 done
 # How much of the stack each proved call uses is measured, and cleared by what is compiled then.
 $CC -std=c99 $flags -Wl,-z,now -o "$parts/stack_lens" bindings/c/test.c "$parts"/*/*.o "$parts/stack_lens.o" \
-  "$parts/blocks.o" "$parts/memory.o" "$parts/salt.o"
+  "$parts/blocks.o" "$parts/memory.o" "$parts/salt.o" "$parts/version.o"
 "$parts/stack_lens" small > "$parts/stack_lens.h"
 $CC -std=c99 -pedantic $flags -c -o "$parts/clearing.o" bindings/c/clearing.c
 # The test of the processor is in it, so that each program that calls anything has it, also by the static library.
 ld -r -o "$parts/all.o" "$parts"/*/*.o "$parts"/clearing.o "$parts"/blocks.o "$parts"/registers.o "$parts"/cpu.o
 objcopy --keep-global-symbols="$parts/symbols" "$parts/all.o" "$parts/scrypt_c.o"
 # The calls that are written in C and not proved are beside it.
-objects="$parts/scrypt_c.o $parts/memory.o $parts/salt.o"
+objects="$parts/scrypt_c.o $parts/memory.o $parts/salt.o $parts/version.o"
 ar rcs "$out/libscrypt_c.a" $objects
 {
   echo "SCRYPT_C_0.12 {"

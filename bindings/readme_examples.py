@@ -1,6 +1,6 @@
 #!/usr/bin/env python3
-"""Runs README's examples in Python, Go and C over the library of build/lib, as they are but for what is around them, and
-that of Python's own page. `cargo test` runs those of Rust's.
+"""Runs README's examples in Python, Go and C over the library of build/lib, as they are but for what is around that in Go,
+and that of Python's own page. `cargo test` runs those of Rust's.
 
 What is not installed is said by its Debian package. The script fails if an example does, or if README has none of its
 language.
@@ -12,20 +12,10 @@ import shutil
 import subprocess
 import sys
 import tempfile
-import textwrap
 
 TOP = os.path.dirname(os.path.dirname(os.path.abspath(__file__)))
 LIBRARY = os.path.join(TOP, "build", "lib")
 GO_MODULE = "nilomafy.example/scrypt"
-
-C = """#include <scrypt_c.h>
-#include <string.h>
-
-int main(void) {{
-{example}
-  return status;
-}}
-"""
 
 GO = """package main
 
@@ -67,7 +57,7 @@ def written(room, name, text):
 
 
 def run(command, **more):
-    subprocess.run(command, check=True, **more)
+    return subprocess.run(command, check=True, **more)
 
 
 def run_python(room):
@@ -88,10 +78,12 @@ def run_go(room):
 
 
 def run_c(room):
-    source = written(room, "login.c", C.format(example=textwrap.indent(example("c"), "  ")))
+    source = written(room, "login.c", example("c"))
     program = os.path.join(room, "login")
     run(["cc", "-std=c99", "-Wall", "-Wextra", "-Werror", f"-I{LIBRARY}", source, f"{LIBRARY}/libscrypt_c.a", "-o", program])
-    run([program])
+    printed = run([program], stdout=subprocess.PIPE, text=True).stdout
+    if printed != "success\n":
+        sys.exit(f"README's example in C printed {printed!r}")
 
 
 def main():

@@ -25,10 +25,10 @@ def size(declared):
 def of_header(text):
     """The list that a header has."""
     text = re.sub(r"/\*.*?\*/", "", text, flags=re.S)
-    calls = re.findall(r"^(int|void|scrypt_memory \*) ?(scrypt_\w+)\(([^{}]*?)\);", text, re.M)
+    calls = re.findall(r"^(int|void|scrypt_memory \*|const char \*) ?(scrypt_\w+)\(([^{}]*?)\);", text, re.M)
     lines = []
     for result, name, arguments in calls:
-        sizes = [8 if "*" in result else SIZES.get(result, 0), *(size(it) for it in arguments.split(","))]
+        sizes = [8 if "*" in result else SIZES.get(result, 0), *(size(it) for it in arguments.split(",") if it != "void")]
         lines.append(" ".join([name, *map(str, sizes)]))
     return sorted(lines) + [f"{name} {number}" for name, number in re.findall(r"^  (SCRYPT_\w+) = (\d+)", text, re.M)]
 

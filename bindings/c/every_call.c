@@ -44,6 +44,11 @@ static int kdf_thin(void) {
   return status;
 }
 
+static int hash_new(void) {
+  static char text[SCRYPT_NEW_CAPACITY];
+  return scrypt_hash_new(PASSWORD, text, sizeof text);
+}
+
 static int hash_phc(void) { return scrypt_hash_phc(PASSWORD, SALT, PARAMS, KEY_LEN, phc, sizeof phc, &phc_len); }
 static int hash_mcf(void) { return scrypt_hash_mcf(PASSWORD, SALT, PARAMS, KEY_LEN, mcf, sizeof mcf, &mcf_len); }
 static int hash_phc_of_the_helper(void) { return scrypt_hash_phc_z(PASSWORD, SALT, PARAMS, KEY_LEN, phc, sizeof phc); }
@@ -184,6 +189,7 @@ static const struct {
     {"scrypt_kdf_mapped", kdf_mapped, NULL},
     {"scrypt_kdf_with_buffers", kdf_with_buffers, NULL},
     {"scrypt_kdf_thin", kdf_thin, NULL},
+    {"scrypt_hash_new", hash_new, NULL},
     {"scrypt_hash_phc", hash_phc, NULL},
     {"scrypt_hash_mcf", hash_mcf, NULL},
     {"scrypt_hash_phc_z", hash_phc_of_the_helper, NULL},

@@ -1,4 +1,5 @@
-/* scrypt_draw_salt: not proved. The system call is made by its number, so that no newer C library is needed for it. */
+/* Salts, and hashes with a salt that is drawn: not proved. The system call is made by its number, so that no newer C library
+ * is needed for it. */
 #define _DEFAULT_SOURCE
 #include "scrypt_c.h"
 
@@ -16,4 +17,16 @@ int scrypt_draw_salt(uint8_t *salt, size_t len) {
     done += (size_t)drawn;
   }
   return SCRYPT_OK;
+}
+
+int scrypt_hash_new(const void *password, size_t password_len, char *text, size_t capacity) {
+  uint8_t salt[SCRYPT_SALT_LEN];
+  int status;
+  if (scrypt_is_null(password, password_len) || scrypt_is_null(text, capacity)) return SCRYPT_NULL_POINTER;
+  /* scrypt_hash_phc would find this after the derivation. */
+  if (capacity < SCRYPT_NEW_CAPACITY) return SCRYPT_BUFFER_SIZE;
+  status = scrypt_draw_salt(salt, sizeof salt);
+  if (status != SCRYPT_OK) return status;
+  return scrypt_hash_phc_z(password, password_len, salt, sizeof salt, SCRYPT_RECOMMENDED_LOG_N, SCRYPT_RECOMMENDED_R,
+                           SCRYPT_RECOMMENDED_P, SCRYPT_KEY_LEN, text, capacity);
 }

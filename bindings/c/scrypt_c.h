@@ -8,17 +8,18 @@
  *   a key with no allocation, in your own buffers    scrypt_kdf_with_buffers                  yes
  *   a key on a small device, with a smaller table    scrypt_kdf_thin                          yes
  *   the lengths of buffers; zeros over them          scrypt_buffer_lens; scrypt_wipe          yes
- *   a password hash to store                         scrypt_hash_phc; scrypt_hash_mcf: $7$    yes
+ *   a password hash to store                         scrypt_hash_new                          no
+ *   the same with other parameters, or your salt     scrypt_hash_phc; scrypt_hash_mcf: $7$    yes
  *   to verify a password by a stored hash            scrypt_verify                            yes
  *   to verify with no allocation, in your buffers    scrypt_verify_with_buffers               yes
  *   to know whether a stored hash is too weak now    scrypt_needs_rehash                      yes
  *   to know what a stored hash costs                 scrypt_hash_params                       yes
  *   a salt for a new key or hash                     scrypt_draw_salt                         no
+ *   the version of the library                       scrypt_version                           no
  *   texts that end in a zero byte                    the helpers at the end of this header    no
  *
  * A proved call does what its comment says for every input; the others are written in C over the proved ones, and are
- * tested. Pass 17, 8 and 1 for log_n, r and p unless you know better: they take 128 MiB. Accepted parameters are
- * r > 0, p > 0, 128 * r * 2^log_n < 2^64 and r * p < 2^30.
+ * tested. Accepted parameters are r > 0, p > 0, 128 * r * 2^log_n < 2^64 and r * p < 2^30.
  *
  * Lengths are in bytes unless words are named; a word has 4 bytes. No pointer may be NULL for a proved call. The others
  * and the helpers take NULL with length 0, and return SCRYPT_NULL_POINTER, before any other status, for any other NULL.
@@ -33,10 +34,19 @@
 
 #define SCRYPT_VERSION_STRING "0.12.0+proved.1"
 
+/* The parameters to use unless you know better, which take 128 MiB, and the lengths of a salt and of a key. */
+#define SCRYPT_RECOMMENDED_LOG_N 17
+#define SCRYPT_RECOMMENDED_R 8
+#define SCRYPT_RECOMMENDED_P 1
+#define SCRYPT_SALT_LEN 16
+#define SCRYPT_KEY_LEN 32
+
 /* The greatest output_len: 32 * (2^32 - 1). */
 #define SCRYPT_MAX_OUTPUT_LEN UINT64_C(137438953440)
 
-/* Enough for any PHC text, and for any $7$ text with a salt of so many bytes, with a zero byte after it. */
+/* Capacities with a zero byte after the text: what that of scrypt_hash_new needs, and what is enough for any PHC text, and
+ * for any $7$ text with a salt of so many bytes. */
+#define SCRYPT_NEW_CAPACITY 89
 #define SCRYPT_PHC_CAPACITY 256
 #define SCRYPT_MCF_CAPACITY(salt_len) (128 + 2 * (salt_len))
 
@@ -133,6 +143,12 @@ void scrypt_wipe(uint8_t *chunks, size_t chunks_len, uint32_t *table, size_t tab
                  size_t scratch_len);
 
 /* ---- Password hashes ---- */
+
+/* Writes the PHC text of a new hash and a zero byte to text, with a salt that is drawn and the recommended parameters. A
+ * capacity of SCRYPT_NEW_CAPACITY is enough. Not proved: it calls scrypt_draw_salt and scrypt_hash_phc. A password
+ * of length 0 may be NULL. SCRYPT_NULL_POINTER, SCRYPT_BUFFER_SIZE, SCRYPT_NO_RANDOM_BYTES, SCRYPT_OUT_OF_MEMORY. */
+SCRYPT_CHECKED
+int scrypt_hash_new(const void *password, size_t password_len, char *text, size_t capacity);
 
 /* Writes the PHC text of a hash, $scrypt$ln=.., to the front of text, and its length to *text_len. The salt has 1 to
  * 64 bytes and the key key_len bytes, 10 to 64. No zero byte follows the text. With SCRYPT_BUFFER_SIZE *text_len is the
@@ -242,12 +258,16 @@ SCRYPT_CHECKED
 int scrypt_verify_in(scrypt_memory *memory, const uint8_t *password, size_t password_len, const char *text,
                      size_t text_len);
 
-/* ---- Salts ---- */
+/* ---- Salts, and the version ---- */
 
-/* Draws a salt by the system's getrandom: 16 bytes are enough. Not proved.
+/* Draws a salt by the system's getrandom: SCRYPT_SALT_LEN bytes are enough. Not proved.
  * SCRYPT_NULL_POINTER, or SCRYPT_NO_RANDOM_BYTES if the system has none: do not use the salt then. */
 SCRYPT_CHECKED
 int scrypt_draw_salt(uint8_t *salt, size_t len);
+
+/* The version of the library that is linked, and the processor that it was built for, as in "0.13.0 x86-64-v2". That of
+ * this header is SCRYPT_VERSION_STRING. */
+const char *scrypt_version(void);
 
 /* ---- Helpers, which are not calls of the library: inline functions of this header, not proved ---- */
 
@@ -278,8 +298,8 @@ SCRYPT_HELPER int scrypt_derive(const void *password, size_t password_len, const
                     output ? SCRYPT_CAST(uint8_t *, output) : &none, output_len);
 }
 
-/* scrypt_hash_phc, but a zero byte follows the text, for which one byte of the capacity is kept, and NULL is allowed
- * with length 0. SCRYPT_NULL_POINTER, and its errors. */
+/* scrypt_hash_phc, but a zero byte follows the text, and NULL is allowed with length 0. A capacity of SCRYPT_PHC_CAPACITY
+ * is enough. SCRYPT_NULL_POINTER, and its errors; with SCRYPT_BUFFER_SIZE the needed capacity is not returned. */
 SCRYPT_CHECKED
 SCRYPT_HELPER int scrypt_hash_phc_z(const void *password, size_t password_len, const void *salt,
                                     size_t salt_len, uint8_t log_n, uint32_t r, uint32_t p,
@@ -295,7 +315,7 @@ SCRYPT_HELPER int scrypt_hash_phc_z(const void *password, size_t password_len, c
   return status;
 }
 
-/* The same for scrypt_hash_mcf. */
+/* The same for scrypt_hash_mcf, for which a capacity of SCRYPT_MCF_CAPACITY(salt_len) is enough. */
 SCRYPT_CHECKED
 SCRYPT_HELPER int scrypt_hash_mcf_z(const void *password, size_t password_len, const void *salt,
                                     size_t salt_len, uint8_t log_n, uint32_t r, uint32_t p,

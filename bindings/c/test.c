@@ -1,5 +1,5 @@
 /* Calls the library from C and from C++: RFC 7914's keys, both formats, and every refusal. With the word small it
- * leaves out the key of 1 GiB. */
+ * leaves out the key of 1 GiB and the hashes of 128 MiB. */
 #include "check.h"
 #include "scrypt_c.h"
 
@@ -131,6 +131,23 @@ static void made_text(const char *text, int mcf) {
   check((mcf ? scrypt_hash_mcf : scrypt_hash_phc)(b("pw"), 2, b("saltsalt"), 8, 4, 8, 1, 32, room, n, &len) ==
             SCRYPT_OK, "just room");
   check(len == n && memcmp(room, text, n) == 0 && room[n] == '!', "the text, and the rest of the room");
+}
+
+/* A hash with a drawn salt and the recommended parameters: 0.6 seconds. */
+static void new_hash(void) {
+  char text[SCRYPT_NEW_CAPACITY + 1], other[SCRYPT_NEW_CAPACITY];
+  memset(text, '!', sizeof text);
+  check(scrypt_hash_new("pw", 2, text, SCRYPT_NEW_CAPACITY - 1) == SCRYPT_BUFFER_SIZE, "a byte too few");
+  check(scrypt_hash_new("pw", 2, NULL, 0) == SCRYPT_BUFFER_SIZE, "no text, and no capacity");
+  check(scrypt_hash_new("pw", 2, NULL, SCRYPT_NEW_CAPACITY) == SCRYPT_NULL_POINTER, "no text");
+  check(scrypt_hash_new(NULL, 2, text, SCRYPT_NEW_CAPACITY) == SCRYPT_NULL_POINTER, "no password of 2 bytes");
+  check(text[0] == '!', "a refusal leaves the text");
+  check(scrypt_hash_new(NULL, 0, text, SCRYPT_NEW_CAPACITY) == SCRYPT_OK, "the empty password");
+  check(strlen(text) == SCRYPT_NEW_CAPACITY - 1 && text[SCRYPT_NEW_CAPACITY] == '!', "the length of its text");
+  check(scrypt_needs_rehash(text, strlen(text), SCRYPT_RECOMMENDED_LOG_N, SCRYPT_RECOMMENDED_R, SCRYPT_RECOMMENDED_P,
+                            SCRYPT_KEY_LEN) == SCRYPT_OK, "the recommended parameters");
+  check(scrypt_hash_new("", 0, other, sizeof other) == SCRYPT_OK && strcmp(text, other) != 0, "another salt");
+  check(scrypt_verify(b(""), 0, other, strlen(other)) == SCRYPT_OK, "the password of a new hash");
 }
 
 /* Verifies in buffers of this program, which may be longer than needed, and are refused if they are shorter. */
@@ -271,10 +288,12 @@ int main(int argc, char **argv) {
   int status;
   keys(argc > 1 && strcmp(argv[1], "small") == 0);
   refusals_of_keys();
+  if (argc == 1) new_hash();
   hashes();
   refusals_of_texts();
   for (status = SCRYPT_OK; status <= SCRYPT_NO_RANDOM_BYTES; status++)
     check(strcmp(scrypt_status_text(status), "unknown status") != 0, "the words of a status");
+  check(strcmp(scrypt_version(), SCRYPT_VERSION_STRING " x86-64-v2") == 0, "the version of the header");
   check(strcmp(scrypt_status_text(SCRYPT_NULL_POINTER), "unknown status") != 0, "the words of the last status");
   check(strcmp(scrypt_status_text(SCRYPT_NULL_POINTER + 1), "unknown status") == 0, "no status");
   return failed;

@@ -1,4 +1,5 @@
-/* scrypt_draw_salt: fills exactly the bytes that it is given, with others each time, and reports a system that refuses. */
+/* scrypt_draw_salt: fills exactly the bytes that it is given, with others each time. It reports a system that refuses, and so
+ * does scrypt_hash_new. */
 #define _DEFAULT_SOURCE
 #include "check.h"
 #include "scrypt_c.h"
@@ -40,9 +41,11 @@ static int refused(void) {
   };
   struct sock_fprog program = {sizeof filter / sizeof filter[0], filter};
   uint8_t salt[16];
+  char text[SCRYPT_NEW_CAPACITY] = "!";
   if (prctl(PR_SET_NO_NEW_PRIVS, 1, 0, 0, 0) != 0) return 2;
   if (prctl(PR_SET_SECCOMP, SECCOMP_MODE_FILTER, &program) != 0) return 3;
-  return scrypt_draw_salt(salt, sizeof salt) == SCRYPT_NO_RANDOM_BYTES ? 0 : 4;
+  if (scrypt_draw_salt(salt, sizeof salt) != SCRYPT_NO_RANDOM_BYTES) return 4;
+  return scrypt_hash_new("pw", 2, text, sizeof text) == SCRYPT_NO_RANDOM_BYTES && text[0] == '!' ? 0 : 5;
 }
 
 int main(void) {
