@@ -1,7 +1,7 @@
 #!/bin/sh
-# Installs what is built, or removes it: the libraries of build/lib with the header and the files for pkg-config and
-# CMake, the Python package, the licence, and if they are built the library for crypt(3), the PAM module, and the program
-# with its man page and its completions.
+# Installs what is built, or removes it: the libraries of build/lib with the header, its pages of the manual and the
+# files for pkg-config and CMake, the Python package, the licence, and if they are built the library for crypt(3), the PAM
+# module, and the program with its man page and its completions.
 # usage: install.sh install|uninstall, by the Makefile, which hands the places in the environment. DESTDIR goes before
 # each place where files are written, and into none of the files.
 set -eu
@@ -38,6 +38,8 @@ libraries() {
   for file in scrypt_c-config.cmake scrypt_c-config-version.cmake; do
     put 644 "$room/$file" "$libdir/cmake/scrypt_c/$file"
   done
+  python3 bindings/c/manual.py "$room/man3"
+  for page in "$room"/man3/*.3; do put 644 "$page" "$mandir/man3/${page##*/}"; done
   put 644 LICENSE "$docdir/LICENSE"
   put 644 release/NOTICES "$docdir/NOTICES"
 }

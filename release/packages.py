@@ -13,7 +13,7 @@ PACKAGES = {
         "The program derives keys of RFC 7914, and makes, verifies and replaces\n"
         "$scrypt$ and $7$ password hashes. Its code is proved to compute what the\n"
         "standards say.",
-        ["usr/bin/scrypt_tool", "usr/share/man/", "usr/share/bash-completion/", "usr/share/zsh/", "usr/share/fish/"],
+        ["usr/bin/scrypt_tool", "usr/share/man/man1/", "usr/share/bash-completion/", "usr/share/zsh/", "usr/share/fish/"],
     ),
     "libscrypt-c0": (
         "libs",
@@ -28,14 +28,15 @@ PACKAGES = {
         "libdevel",
         ["libscrypt-c0 (= {version})"],
         "scrypt and its password hashes, proved (development files)",
-        "The header, the static library and the files for pkg-config and CMake,\n"
-        "with which programs are built that call libscrypt_c.",
+        "The header with its manual, the static library and the files for\n"
+        "pkg-config and CMake, with which programs are built that call libscrypt_c.",
         [
             "usr/include/",
             f"{LIBDIR}/libscrypt_c.a",
             f"{LIBDIR}/libscrypt_c.so",
             f"{LIBDIR}/pkgconfig/",
             f"{LIBDIR}/cmake/",
+            "usr/share/man/man3/",
         ],
     ),
     "libscrypt-drop-in": (

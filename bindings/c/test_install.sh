@@ -65,6 +65,16 @@ is_empty "$room/R&D kit"
 echo "installed, found and removed: by the install.sh of the archive"
 
 make -s install prefix=/usr libdir=/usr/lib/x86_64-linux-gnu DESTDIR="$room/stage" > /dev/null
+manual=$room/stage/usr/share/man
+for call in scrypt_c $(awk '/^scrypt_/ { print $1 }' bindings/c/abi); do
+  test -s "$manual/man3/$call.3" || { echo "the manual has no page $call" >&2; exit 1; }
+  if command -v man > /dev/null; then
+    (cd "$manual" && LC_ALL=C.UTF-8 man --warnings -l -Tutf8 "man3/$call.3" > "$room/page" 2>> "$room/warnings")
+    grep -q "\b$call\b" "$room/page" || { echo "the page $call is of another call" >&2; exit 1; }
+  fi
+done
+if [ -s "$room/warnings" ]; then sort "$room/warnings" | uniq; exit 1; fi
+echo "a page of the manual for each call"
 test -z "$(grep -rl "$room" "$room/stage/usr/lib/x86_64-linux-gnu" --include='scrypt_c*')"
 test "$(ls "$room/stage")" = usr
 echo "installed in a stage"
