@@ -1,0 +1,144 @@
+"""Hashers in other processes: in a child that is forked while other threads derive."""
+
+import contextlib
+import gc
+import multiprocessing
+import os
+import signal
+import threading
+import time
+import traceback
+import unittest
+import warnings
+from concurrent.futures import ThreadPoolExecutor
+
+import scrypt_c
+from scrypt_c import PasswordHasher
+
+WAIT = 20  # seconds, after which a child is taken to wait for ever
+
+
+@contextlib.contextmanager
+def turns_taken(hasher, count):
+    """So many threads that each hold a turn of the hasher."""
+    held, done = threading.Barrier(count + 1), threading.Event()
+
+    def hold():
+        with hasher._memories.one():
+            held.wait()
+            done.wait()
+
+    threads = [threading.Thread(target=hold) for _ in range(count)]
+    for it in threads:
+        it.start()
+    held.wait()
+    try:
+        yield
+    finally:
+        done.set()
+        for it in threads:
+            it.join()
+
+
+def forked(call):
+    """Calls in a forked child, and returns its status: 0 if the call returned, or None if it had to be killed."""
+    with warnings.catch_warnings():
+        warnings.simplefilter("ignore", DeprecationWarning)  # of a fork in a process with threads
+        child = os.fork()
+    if child == 0:
+        try:
+            call()
+            os._exit(0)
+        except BaseException:
+            traceback.print_exc()
+        finally:
+            os._exit(1)
+    end = time.monotonic() + WAIT
+    while time.monotonic() < end:
+        done, status = os.waitpid(child, os.WNOHANG)
+        if done:
+            return os.waitstatus_to_exitcode(status)
+        time.sleep(0.005)
+    os.kill(child, signal.SIGKILL)
+    os.waitpid(child, 0)
+    return None
+
+
+class Forks(unittest.TestCase):
+    def test_while_threads_hold_turns(self):
+        for at_once, taken, why in [
+            (1, 1, "the only turn is taken"),
+            (2, 2, "all turns are taken"),
+            (3, 1, "some turns are free"),
+            (2, 0, "no turn is taken"),
+        ]:
+            hasher = PasswordHasher(log_n=4, at_once=at_once)
+            text = hasher.hash("pw")
+            with turns_taken(hasher, taken):
+                for call in (lambda: hasher.verify(text, "pw"), lambda: hasher.hash("pw")):
+                    self.assertEqual(forked(call), 0, why)
+            self.assertTrue(hasher.verify(text, "pw"), f"{why}: in the parent, afterwards")
+
+    def test_a_child_has_as_many_turns(self):
+        """In the child at_once threads derive, and no more."""
+        hasher = PasswordHasher(log_n=4, at_once=2)
+
+        def count():
+            with turns_taken(hasher, 2):
+                assert not hasher._memories._turns.acquire(blocking=False)
+
+        with turns_taken(hasher, 2):
+            self.assertEqual(forked(count), 0)
+
+    def test_a_child_of_a_child(self):
+        hasher = PasswordHasher(log_n=4, at_once=1)
+
+        def child():
+            with turns_taken(hasher, 1):
+                assert forked(lambda: hasher.hash("pw")) == 0
+
+        with turns_taken(hasher, 1):
+            self.assertEqual(forked(child), 0)
+
+    def test_hashers_are_freed(self):
+        """That children get turns keeps no hasher alive."""
+        gc.collect()
+        before = len(scrypt_c.memories._live)
+        for _ in range(3):
+            PasswordHasher(log_n=4).hash("pw")
+        gc.collect()
+        self.assertEqual(len(scrypt_c.memories._live), before)
+
+
+POOLED = PasswordHasher(log_n=12, at_once=2)
+TEXT = POOLED.hash("pw")
+
+
+def verified(_):
+    return POOLED.verify(TEXT, "pw")
+
+
+class Pools(unittest.TestCase):
+    def test_processes_forked_while_a_pool_of_threads_derives(self):
+        """Real derivations in threads, and pools of processes that are forked meanwhile."""
+        stop = threading.Event()
+
+        def derive():
+            while not stop.is_set():
+                POOLED.verify(TEXT, "pw")
+
+        with ThreadPoolExecutor(6) as threads:
+            running = [threads.submit(derive) for _ in range(6)]
+            try:
+                for _ in range(5):
+                    with multiprocessing.get_context("fork").Pool(2) as pool:
+                        found = pool.map_async(verified, range(4)).get(WAIT)
+                    self.assertEqual(found, [True] * 4)
+            finally:
+                stop.set()
+            for it in running:
+                it.result()
+
+
+if __name__ == "__main__":
+    unittest.main()
