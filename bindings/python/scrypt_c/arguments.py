@@ -21,9 +21,13 @@ def raw_bytes(data: Bytes, what: str) -> bytes:
 
 def raw_password(password: Password) -> bytes:
     """The bytes of a password; those of a str are its UTF-8."""
-    if isinstance(password, str):
+    if not isinstance(password, str):
+        return raw_bytes(password, "a password")
+    try:
         return password.encode()
-    return raw_bytes(password, "a password")
+    except UnicodeEncodeError:
+        pass  # It holds the whole password, so it is neither raised nor the context of what is.
+    raise UnicodeError("a password has a lone surrogate, which UTF-8 cannot encode")
 
 
 def raw_text(text: Union[str, bytes]) -> bytes:

@@ -18,6 +18,7 @@ from django.contrib.auth.hashers import BasePasswordHasher, mask_hash
 from django.utils.crypto import constant_time_compare
 from django.utils.translation import gettext_noop as _
 
+from .arguments import raw_password
 from .errors import InvalidHashError, VerifyMismatchError
 from .hasher import PasswordHasher
 from .key import scrypt
@@ -42,7 +43,7 @@ class ScryptPasswordHasher(BasePasswordHasher):
         n, r, p = n or self.work_factor, r or self.block_size, p or self.parallelism
         if n > 0 and not n & (n - 1):  # scrypt refuses another n
             within(Params(n.bit_length() - 1, r, p), self.most_bytes, self.most_cores)
-        key = scrypt(password.encode(), salt=salt.encode(), n=n, r=r, p=p, dklen=64)
+        key = scrypt(raw_password(password), salt=salt.encode(), n=n, r=r, p=p, dklen=64)
         return f"{self.algorithm}${n}${salt}${r}${p}${base64.b64encode(key).decode()}"
 
     def decode(self, encoded: str) -> dict[str, Any]:

@@ -11,8 +11,8 @@ It reads and writes the texts of passlib.hash.scrypt, and has its options.
 from __future__ import annotations
 
 import passlib.hash
-from passlib.utils import to_bytes
 
+from .arguments import raw_password
 from .key import scrypt as _derive
 from .params import MOST_BYTES, MOST_CORES, Params, within
 
@@ -26,6 +26,5 @@ class scrypt(passlib.hash.scrypt):  # passlib names handlers as their scheme
 
     def _calc_checksum(self, secret: str | bytes) -> bytes:
         within(Params(self.rounds, self.block_size, self.parallelism), self.most_bytes, self.most_cores)
-        secret = to_bytes(secret, param="secret")
         derived = {"n": 1 << self.rounds, "r": self.block_size, "p": self.parallelism, "dklen": self.checksum_size}
-        return _derive(secret, salt=self.salt, **derived)
+        return _derive(raw_password(secret), salt=self.salt, **derived)

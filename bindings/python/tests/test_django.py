@@ -59,6 +59,19 @@ class Hashers(unittest.TestCase):
         hashers.check_password("lètmein", hashers.make_password("lètmein"), setter=kept.append)
         self.assertEqual(kept, [])
 
+    def test_a_lone_surrogate(self):
+        """No error has the password, nor has one that led to it."""
+        theirs = ScryptPasswordHasher()
+        stored = theirs.encode("pw", "seasalt", 16)
+        for call in (
+            hashers.make_password,
+            lambda password: theirs.encode(password, "seasalt", 16),
+            lambda password: hashers.check_password(password, stored),
+        ):
+            with self.assertRaises(UnicodeError) as caught:
+                call("hunter\ud800")
+            self.assertNotIn("hunter", f"{caught.exception!r} {caught.exception.__context__!r}")
+
     def test_hostile_hashes(self):
         for stored in (
             "scrypt$8192$salt$1$8192$AAAA",

@@ -51,6 +51,21 @@ class Hashes(unittest.TestCase):
         with self.assertRaises(TypeError):
             SMALL.hash("pw", salt="saltsalt")
 
+    def test_a_lone_surrogate(self):
+        """The error has nothing of the password, and no other error is its context, which would have it in full."""
+        text = SMALL.hash("pw")
+        for password, why in [
+            ("hunter\ud800", "a high surrogate at the end"),
+            ("\udc80hunter", "what surrogateescape makes of a byte that is not UTF-8"),
+            ("\ude00\ud83dhunter", "a pair in the wrong order"),
+        ]:
+            for call in (SMALL.hash, lambda it: SMALL.verify(text, it)):
+                with self.assertRaises(UnicodeError, msg=why) as caught:
+                    call(password)
+                error = caught.exception
+                self.assertNotIn("hunter", f"{error!r} {error} {vars(error)} {getattr(error, 'object', '')}", why)
+                self.assertEqual((error.__context__, error.__cause__), (None, None), why)
+
     def test_refused_parameters(self):
         for named, error in [
             ({"r": 0}, scrypt_c.InvalidParamsError),

@@ -33,6 +33,15 @@ class Handler(unittest.TestCase):
     def test_the_recommended_rounds(self):
         self.assertEqual(scrypt.default_rounds, 17)
 
+    def test_a_lone_surrogate(self):
+        """No error has the password, nor has one that led to it."""
+        ours = scrypt.using(**SMALL)
+        text = ours.hash("pw")
+        for call in (ours.hash, lambda password: ours.verify(password, text)):
+            with self.assertRaises(UnicodeError) as caught:
+                call("hunter\ud800")
+            self.assertNotIn("hunter", f"{caught.exception!r} {caught.exception.__context__!r}")
+
     def test_hostile_hashes(self):
         for costs in ("ln=13,r=1,p=8192", "ln=21,r=8,p=1"):
             with self.assertRaises(scrypt_c.TooCostlyError, msg=costs):
