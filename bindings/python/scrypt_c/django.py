@@ -40,7 +40,9 @@ class ScryptPasswordHasher(BasePasswordHasher):
             raise TypeError("password must be provided.")
         if not salt or "$" in salt:
             raise ValueError("salt must be provided and cannot contain $.")
-        n, r, p = n or self.work_factor, r or self.block_size, p or self.parallelism
+        n = self.work_factor if n is None else n  # a 0 is not the default: it is refused
+        r = self.block_size if r is None else r
+        p = self.parallelism if p is None else p
         if n > 0 and not n & (n - 1):  # scrypt refuses another n
             within(Params(n.bit_length() - 1, r, p), self.most_bytes, self.most_cores)
         key = scrypt(raw_password(password), salt=salt.encode(), n=n, r=r, p=p, dklen=64)

@@ -10,6 +10,14 @@ from .arguments import number, raw_text
 from .errors import TooCostlyError, check, invalid_params
 
 
+def accepted(log_n: int, r: int, p: int) -> tuple[int, int, int]:
+    """The three, if C's types hold them: ctypes would cut them off."""
+    log_n, r, p = number(log_n, "log_n"), number(r, "r"), number(p, "p")
+    if not (0 <= log_n < 1 << 8 and 0 <= r < 1 << 32 and 0 <= p < 1 << 32):
+        raise invalid_params(f"invalid scrypt parameters: log_n={log_n}, r={r}, p={p}")
+    return log_n, r, p
+
+
 class Params(NamedTuple):
     """N = 2**log_n, the block size r, the parallelization p, and the length of a hash's key in bytes."""
 
@@ -21,7 +29,8 @@ class Params(NamedTuple):
     @property
     def cores(self) -> int:
         """The work: how many Salsa20/8 cores a derivation runs."""
-        return 4 * (self.r * self.p << self.log_n)
+        log_n, r, p = accepted(self.log_n, self.r, self.p)
+        return 4 * (r * p << log_n)
 
     @property
     def memory(self) -> int:
@@ -58,11 +67,3 @@ def params_of(text: Union[str, bytes]) -> Params:
     log_n, r, p, key_len = ctypes.c_uint8(), ctypes.c_uint32(), ctypes.c_uint32(), ctypes.c_size_t()
     check(library.hash_params(raw, len(raw), *map(ctypes.byref, (log_n, r, p, key_len))))
     return Params(log_n.value, r.value, p.value, key_len.value)
-
-
-def accepted(log_n: int, r: int, p: int) -> tuple[int, int, int]:
-    """The three, if C's types hold them: ctypes would cut them off."""
-    log_n, r, p = number(log_n, "log_n"), number(r, "r"), number(p, "p")
-    if not (0 <= log_n < 1 << 8 and 0 <= r < 1 << 32 and 0 <= p < 1 << 32):
-        raise invalid_params(f"invalid scrypt parameters: log_n={log_n}, r={r}, p={p}")
-    return log_n, r, p

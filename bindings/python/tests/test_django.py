@@ -81,6 +81,24 @@ class Hashers(unittest.TestCase):
             with self.assertRaises(scrypt_c.TooCostlyError, msg=stored):
                 hashers.check_password("pw", stored)
 
+    def test_numbers(self):
+        """Each is refused, and none taken for the default or cut off."""
+        for numbers, why in [
+            ({"n": 0}, "no default"),
+            ({"r": 0}, "no default"),
+            ({"p": 0}, "no default"),
+            ({"n": 1 << 260}, "a log_n of 4 in 8 bits"),
+            ({"n": -16}, "negative"),
+            ({"r": 8 + (1 << 32)}, "8 in 32 bits"),
+            ({"p": -1}, "2^32 - 1"),
+        ]:
+            numbers = {"n": 16, "r": 8, "p": 1, **numbers}
+            with self.assertRaises(scrypt_c.InvalidParamsError, msg=why):
+                ScryptPasswordHasher().encode("pw", "seasalt", **numbers)
+            stored = "scrypt${n}$seasalt${r}${p}$AAAA".format(**numbers)
+            with self.assertRaises(scrypt_c.InvalidParamsError, msg=why):
+                hashers.check_password("pw", stored)
+
     def test_refused(self):
         for salt in ("", "sea$salt"):
             with self.assertRaises(ValueError):

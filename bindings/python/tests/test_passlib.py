@@ -47,6 +47,17 @@ class Handler(unittest.TestCase):
             with self.assertRaises(scrypt_c.TooCostlyError, msg=costs):
                 scrypt.verify("pw", f"$scrypt${costs}$c2FsdHNhbHQ$" + 43 * "A")
 
+    def test_numbers(self):
+        """Each is refused, and none cut off."""
+        for costs, why in [
+            ("ln=260,r=8,p=1", "a log_n of 4 in 8 bits"),
+            ("ln=4,r=4294967304,p=1", "an r of 8 in 32 bits"),
+            ("ln=4,r=8,p=4294967297", "a p of 1 in 32 bits"),
+            ("ln=4,r=8,p=-1", "a p of 2^32 - 1"),
+        ]:
+            with self.assertRaises(ValueError, msg=why):
+                scrypt.verify("pw", f"$scrypt${costs}$c2FsdHNhbHQ$" + 43 * "A")
+
     def test_derived_by_this_library(self):
         """passlib's own derivation is not called."""
         before = passlib.crypto.scrypt.scrypt
