@@ -3,7 +3,8 @@
 from __future__ import annotations
 
 import operator
-from typing import Union
+import threading
+from typing import Optional, Union
 
 Bytes = Union[bytes, bytearray, memoryview]
 Password = Union[str, bytes, bytearray, memoryview]
@@ -45,3 +46,14 @@ def number(value: int, what: str) -> int:
         return operator.index(value)
     except TypeError:
         raise TypeError(f"{what} is an int, not {type(value).__name__}") from None
+
+
+def seconds(value: Optional[float], what: str) -> Optional[float]:
+    """A time to wait, at most the longest that threading takes; None is without end."""
+    if value is None:
+        return None
+    if not isinstance(value, (int, float)):
+        raise TypeError(f"{what} is a number of seconds, not {type(value).__name__}")
+    if not value >= 0:  # nor if it is no number
+        raise ValueError(f"{what} is not negative, as {value} is")
+    return min(value, threading.TIMEOUT_MAX)

@@ -7,7 +7,7 @@ import os
 from typing import Literal, Optional, Union
 
 from . import library
-from .arguments import Bytes, Password, number, raw_bytes, raw_password, raw_text
+from .arguments import Bytes, Password, number, raw_bytes, raw_password, raw_text, seconds
 from .errors import check, invalid_params
 from .memories import Memories
 from .params import MOST_BYTES, MOST_CORES, Params, accepted, params_of, within
@@ -20,12 +20,13 @@ class PasswordHasher:
     """Makes password hashes with these parameters, and verifies passwords by hashes with any.
 
     `mcf` makes `$7$` hashes of crypt(3) instead of PHC hashes. At most `at_once` derivations run at the same time, by
-    default as many as there are processors; other threads wait for their turn. A hasher is immutable, and any number
-    of threads may use it.
+    default as many as there are processors; other threads wait for their turn, and after `timeout` seconds raise
+    TimeoutError. Any number of threads may use a hasher.
 
     A hash that needs more than `most_bytes` of memory or more than `most_cores` cores is refused before any work. By
     default these are 256 MiB and the cores of four times the recommended parameters, or what new hashes need if that is
-    more. The hasher keeps the memory in which it verifies for the next time, at most `at_once` times `most_bytes`.
+    more. The hasher keeps the memory in which it verifies for the next time, at most `at_once` times `most_bytes`, until
+    `close` or the end of a `with` block.
     """
 
     def __init__(
@@ -40,6 +41,7 @@ class PasswordHasher:
         most_bytes: Optional[int] = None,
         most_cores: Optional[int] = None,
         at_once: Optional[int] = None,
+        timeout: Optional[float] = None,
     ) -> None:
         self._params = Params(*accepted(log_n, r, p), number(key_len, "key_len"))
         memory, cores = self._params.memory, self._params.cores  # refuses parameters that are not accepted
@@ -54,7 +56,7 @@ class PasswordHasher:
         self._most_bytes = max(MOST_BYTES, memory) if most_bytes is None else number(most_bytes, "most_bytes")
         self._most_cores = max(MOST_CORES, cores) if most_cores is None else number(most_cores, "most_cores")
         within(self._params, self._most_bytes, self._most_cores)
-        self._memories = Memories(self._at_once, self._most_bytes, self._most_cores)
+        self._memories = Memories(self._at_once, self._most_bytes, self._most_cores, seconds(timeout, "timeout"))
 
     @property
     def params(self) -> Params:
@@ -64,6 +66,17 @@ class PasswordHasher:
     def __repr__(self) -> str:
         log_n, r, p, key_len = self._params
         return f"PasswordHasher(log_n={log_n}, r={r}, p={p}, key_len={key_len}, mcf={self._mcf}, at_once={self._at_once})"
+
+    def close(self) -> None:
+        """Frees the memory that is kept. Derivations that have begun go on; after that, hashing and verifying raise
+        ValueError."""
+        self._memories.close()
+
+    def __enter__(self) -> PasswordHasher:
+        return self
+
+    def __exit__(self, *_: object) -> None:
+        self.close()
 
     def hash(self, password: Password, *, salt: Optional[Bytes] = None) -> str:
         """The text of a new hash. A salt is drawn by the system, unless the caller passes one."""

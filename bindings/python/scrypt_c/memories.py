@@ -6,23 +6,26 @@ import contextlib
 import os
 import threading
 import weakref
-from typing import Iterator
+from typing import Iterator, Optional
 
 from . import library
 
 
 def _free_all(memories: list[int]) -> None:
-    while memories:
-        library.memory_free(memories.pop())
+    """Frees them, also if another thread does so at the same time."""
+    with contextlib.suppress(IndexError):
+        while True:
+            library.memory_free(memories.pop())
 
 
 class Memories:
     """At most `at_once` memories, each of which one thread has for one derivation. They are kept for the next one."""
 
-    def __init__(self, at_once: int, most_bytes: int, most_cores: int) -> None:
-        self._at_once = at_once
+    def __init__(self, at_once: int, most_bytes: int, most_cores: int, timeout: Optional[float] = None) -> None:
+        self._at_once, self._timeout = at_once, timeout
         self._bounds = min(most_bytes, (1 << 64) - 1), min(most_cores, (1 << 64) - 1)
         self._idle: list[int] = []
+        self._is_closed = False
         self.reset_turns()
         weakref.finalize(self, _free_all, self._idle)
         _live.add(self)
@@ -31,20 +34,37 @@ class Memories:
         """Makes every turn free again."""
         self._turns = threading.BoundedSemaphore(self._at_once)
 
+    def close(self) -> None:
+        """Frees the memories; one that is in use is freed when its derivation ends."""
+        self._is_closed = True
+        _free_all(self._idle)
+
     @contextlib.contextmanager
     def one(self) -> Iterator[int]:
         """A memory; waits until one is free. The one that was used last comes first."""
-        with self._turns:
-            try:
-                memory = self._idle.pop()
-            except IndexError:
-                memory = library.memory_new(*self._bounds)
-                if not memory:
-                    raise MemoryError("no memory for a derivation") from None
+        turns = self._turns  # those of before, if the process forks meanwhile
+        if not turns.acquire(timeout=self._timeout):
+            raise TimeoutError(f"no turn within {self._timeout} seconds: {self._at_once} other derivations are running")
+        try:
+            memory = self._take()
             try:
                 yield memory
             finally:
                 self._idle.append(memory)
+                if self._is_closed:
+                    _free_all(self._idle)
+        finally:
+            turns.release()
+
+    def _take(self) -> int:
+        if self._is_closed:
+            raise ValueError("the hasher is closed")
+        with contextlib.suppress(IndexError):
+            return self._idle.pop()
+        memory = library.memory_new(*self._bounds)
+        if not memory:
+            raise MemoryError("no memory for a derivation")
+        return memory
 
 
 # The threads that hold turns when a process forks do not exist in the child, so nothing there would give the turns back.

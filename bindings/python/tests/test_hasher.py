@@ -1,13 +1,11 @@
-"""PasswordHasher: both formats, what is refused, and how many derivations run at once."""
+"""PasswordHasher: both formats, and what is refused."""
 
 import pickle
-import threading
 import time
 import unittest
-from unittest import mock
 
 import scrypt_c
-from scrypt_c import PasswordHasher, library
+from scrypt_c import PasswordHasher
 
 KEY = "$AAAAAAAAAAAAAAAAAAAA"
 SMALL = PasswordHasher(log_n=4)
@@ -156,69 +154,6 @@ class Bounds(unittest.TestCase):
             scrypt_c.params_of("")
         with self.assertRaises(TypeError):
             scrypt_c.params_of(None)
-
-
-class Threads(unittest.TestCase):
-    def test_the_lock_is_released(self):
-        """While one thread derives a key of half a second, this one goes on."""
-        hasher = PasswordHasher(log_n=17, p=2)
-        thread = threading.Thread(target=hasher.hash, args=("pw",))
-        thread.start()
-        steps = 0
-        while thread.is_alive():
-            time.sleep(0.001)
-            steps += 1
-        self.assertGreater(steps, 20)
-
-    def test_at_most_at_once(self):
-        """Of eight threads, as many as at_once says are within the library's call at the same time."""
-        counting = threading.Lock()
-        inside = most = 0
-
-        def slow(*_):
-            nonlocal inside, most
-            with counting:
-                inside += 1
-                most = max(most, inside)
-            time.sleep(0.01)
-            with counting:
-                inside -= 1
-            return 0
-
-        for at_once in (1, 3):
-            most = 0
-            hasher = PasswordHasher(log_n=4, at_once=at_once)
-            with mock.patch.object(library, "verify", slow):
-                threads = [threading.Thread(target=hasher.verify, args=("", "")) for _ in range(8)]
-                for it in threads:
-                    it.start()
-                for it in threads:
-                    it.join()
-            self.assertEqual(most, at_once)
-
-    def test_an_error_gives_its_turn_back(self):
-        hasher = PasswordHasher(log_n=4, at_once=1)
-        for _ in range(3):
-            with self.assertRaises(scrypt_c.InvalidHashError):
-                hasher.verify("", "pw")
-        hasher.hash("pw")
-
-
-def resident():
-    with open("/proc/self/status", encoding="ascii") as file:
-        return next(int(line.split()[1]) for line in file if line.startswith("VmRSS"))
-
-
-class Memory(unittest.TestCase):
-    def test_many_verifications_leave_memory(self):
-        hasher = PasswordHasher(log_n=4, r=1)
-        text = hasher.hash("pw")
-        for _ in range(1000):
-            hasher.verify(text, "pw")
-        before = resident()
-        for _ in range(100_000):
-            hasher.verify(text, "pw")
-        self.assertLess(resident() - before, 256, "KiB after 100,000 verifications")
 
 
 if __name__ == "__main__":

@@ -1,6 +1,5 @@
 """Hashers in other processes: in a child that is forked while other threads derive."""
 
-import contextlib
 import gc
 import multiprocessing
 import os
@@ -14,30 +13,9 @@ from concurrent.futures import ThreadPoolExecutor
 
 import scrypt_c
 from scrypt_c import PasswordHasher
+from test_turns import turns_taken
 
 WAIT = 20  # seconds, after which a child is taken to wait for ever
-
-
-@contextlib.contextmanager
-def turns_taken(hasher, count):
-    """So many threads that each hold a turn of the hasher."""
-    held, done = threading.Barrier(count + 1), threading.Event()
-
-    def hold():
-        with hasher._memories.one():
-            held.wait()
-            done.wait()
-
-    threads = [threading.Thread(target=hold) for _ in range(count)]
-    for it in threads:
-        it.start()
-    held.wait()
-    try:
-        yield
-    finally:
-        done.set()
-        for it in threads:
-            it.join()
 
 
 def forked(call):

@@ -1,0 +1,222 @@
+"""How many derivations run at once, how long others wait, and what closing a hasher frees."""
+
+import contextlib
+import gc
+import threading
+import time
+import unittest
+from unittest import mock
+
+import scrypt_c
+from scrypt_c import PasswordHasher, library
+
+MEMORY_FREE = library.memory_free
+
+
+@contextlib.contextmanager
+def turns_taken(hasher, count):
+    """So many threads that each hold a turn of the hasher."""
+    held, done = threading.Barrier(count + 1), threading.Event()
+
+    def hold():
+        with hasher._memories.one():
+            held.wait()
+            done.wait()
+
+    threads = [threading.Thread(target=hold) for _ in range(count)]
+    for it in threads:
+        it.start()
+    held.wait()
+    try:
+        yield
+    finally:
+        done.set()
+        for it in threads:
+            it.join()
+
+
+def resident():
+    with open("/proc/self/status", encoding="ascii") as file:
+        return next(int(line.split()[1]) for line in file if line.startswith("VmRSS"))
+
+
+class Closing(unittest.TestCase):
+    def test_closed(self):
+        """What needs memory is refused, and what does not is answered."""
+        with PasswordHasher(log_n=4) as hasher:
+            text = hasher.hash("pw")
+        for _ in range(2):
+            for call in (lambda: hasher.hash("pw"), lambda: hasher.verify(text, "pw"), lambda: hasher.verify("", "pw")):
+                with self.assertRaisesRegex(ValueError, "the hasher is closed"):
+                    call()
+            self.assertFalse(hasher.check_needs_rehash(text))
+            hasher.close()  # twice is allowed
+        with self.assertRaises(ZeroDivisionError):
+            with PasswordHasher(log_n=4) as hasher:
+                hasher.hash(str(1 // 0))
+        with self.assertRaisesRegex(ValueError, "the hasher is closed"):
+            hasher.hash("pw")
+
+    def test_each_memory_is_freed_once(self):
+        """Those that are kept at once, and one that is in use when its derivation ends."""
+        freed = []
+        with mock.patch.object(library, "memory_free", lambda memory: (freed.append(memory), MEMORY_FREE(memory))):
+            hasher = PasswordHasher(log_n=4, at_once=2)
+            with turns_taken(hasher, 1):
+                hasher.hash("pw")  # in another memory
+                self.assertEqual(freed, [])
+                hasher.close()
+                self.assertEqual(len(freed), 1)
+            self.assertEqual(len(set(freed)), 2)
+            hasher.close()
+            del hasher
+            gc.collect()
+            self.assertEqual(len(freed), 2)
+
+    def test_memory_is_given_back(self):
+        hasher = PasswordHasher(log_n=16)
+        before = resident()
+        hasher.hash("pw")
+        self.assertGreater(resident() - before, 60 << 10, "64 MiB are kept")
+        hasher.close()
+        self.assertLess(resident() - before, 4 << 10)
+
+    def test_who_waits_is_refused(self):
+        hasher = PasswordHasher(log_n=4, at_once=1)
+        refused = []
+
+        def wait():
+            try:
+                hasher.hash("pw")
+            except ValueError as error:
+                refused.append(str(error))
+
+        with turns_taken(hasher, 1):
+            threads = [threading.Thread(target=wait) for _ in range(4)]
+            for it in threads:
+                it.start()
+            time.sleep(0.02)
+            hasher.close()
+        for it in threads:
+            it.join()
+        self.assertEqual(refused, ["the hasher is closed"] * 4)
+
+    def test_closing_while_many_derive(self):
+        """Each call returns a hash or is refused, and each memory is freed."""
+        made, freed = [], []
+        new = library.memory_new
+        with mock.patch.object(library, "memory_new", lambda *bounds: (made.append(new(*bounds)), made[-1])[1]), \
+                mock.patch.object(library, "memory_free", lambda memory: (freed.append(memory), MEMORY_FREE(memory))):
+            for _ in range(20):
+                hasher = PasswordHasher(log_n=6, at_once=4)
+
+                def derive():
+                    with contextlib.suppress(ValueError):
+                        while True:
+                            hasher.hash("pw")
+
+                threads = [threading.Thread(target=derive) for _ in range(8)]
+                for it in threads:
+                    it.start()
+                time.sleep(0.003)
+                hasher.close()
+                for it in threads:
+                    it.join()
+        self.assertGreater(len(made), 20)
+        self.assertEqual(sorted(made), sorted(freed))
+
+
+class Threads(unittest.TestCase):
+    def test_the_lock_is_released(self):
+        """While one thread derives a key of half a second, this one goes on."""
+        hasher = PasswordHasher(log_n=17, p=2)
+        thread = threading.Thread(target=hasher.hash, args=("pw",))
+        thread.start()
+        steps = 0
+        while thread.is_alive():
+            time.sleep(0.001)
+            steps += 1
+        self.assertGreater(steps, 20)
+
+    def test_at_most_at_once(self):
+        """Of eight threads, as many as at_once says are within the library's call at the same time."""
+        counting = threading.Lock()
+        inside = most = 0
+
+        def slow(*_):
+            nonlocal inside, most
+            with counting:
+                inside += 1
+                most = max(most, inside)
+            time.sleep(0.01)
+            with counting:
+                inside -= 1
+            return 0
+
+        for at_once in (1, 3):
+            most = 0
+            hasher = PasswordHasher(log_n=4, at_once=at_once)
+            with mock.patch.object(library, "verify", slow):
+                threads = [threading.Thread(target=hasher.verify, args=("", "")) for _ in range(8)]
+                for it in threads:
+                    it.start()
+                for it in threads:
+                    it.join()
+            self.assertEqual(most, at_once)
+
+    def test_an_error_gives_its_turn_back(self):
+        hasher = PasswordHasher(log_n=4, at_once=1, timeout=5)
+        for _ in range(3):
+            with self.assertRaises(scrypt_c.InvalidHashError):
+                hasher.verify("", "pw")
+        hasher.hash("pw")
+
+    def test_a_wait_ends(self):
+        """While another thread has the only turn, a call waits for its timeout and no longer."""
+        for timeout, least, why in [
+            (0, 0, "no wait at all"),
+            (0.05, 0.05, "a short one"),
+        ]:
+            hasher = PasswordHasher(log_n=4, at_once=1, timeout=timeout)
+            text = hasher.hash("pw")
+            with turns_taken(hasher, 1):
+                for call in (lambda: hasher.hash("pw"), lambda: hasher.verify(text, "pw")):
+                    began = time.perf_counter()
+                    with self.assertRaisesRegex(TimeoutError, f"within {timeout} seconds", msg=why):
+                        call()
+                    self.assertTrue(least <= time.perf_counter() - began < least + 1, why)
+                self.assertFalse(hasher.check_needs_rehash(text), "takes no turn")
+            self.assertTrue(hasher.verify(text, "pw"), f"{why}: afterwards")
+
+    def test_timeouts(self):
+        for timeout, error, why in [
+            (-1, ValueError, "negative"),
+            (float("nan"), ValueError, "no number, with which threading never ends"),
+            ("1", TypeError, "a text"),
+        ]:
+            with self.assertRaises(error, msg=why):
+                PasswordHasher(log_n=4, timeout=timeout)
+        for timeout in (None, 1, float("inf"), 10**400):
+            hasher = PasswordHasher(log_n=4, at_once=1, timeout=timeout)
+            with turns_taken(hasher, 1):
+                thread = threading.Thread(target=hasher.hash, args=("pw",))
+                thread.start()
+                time.sleep(0.01)
+                self.assertTrue(thread.is_alive(), f"waits for {timeout}")
+            thread.join()
+
+
+class Memory(unittest.TestCase):
+    def test_many_verifications_leave_memory(self):
+        hasher = PasswordHasher(log_n=4, r=1)
+        text = hasher.hash("pw")
+        for _ in range(1000):
+            hasher.verify(text, "pw")
+        before = resident()
+        for _ in range(100_000):
+            hasher.verify(text, "pw")
+        self.assertLess(resident() - before, 256, "KiB after 100,000 verifications")
+
+
+if __name__ == "__main__":
+    unittest.main()
