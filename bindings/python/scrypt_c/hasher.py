@@ -3,8 +3,9 @@
 from __future__ import annotations
 
 import ctypes
+import functools
 import os
-from typing import Literal, Optional, Union
+from typing import Any, Callable, Literal, Optional, Union
 
 from . import library
 from .arguments import Bytes, Password, number, raw_bytes, raw_password, raw_text, seconds
@@ -56,6 +57,9 @@ class PasswordHasher:
         self._most_bytes = max(MOST_BYTES, memory) if most_bytes is None else number(most_bytes, "most_bytes")
         self._most_cores = max(MOST_CORES, cores) if most_cores is None else number(most_cores, "most_cores")
         within(self._params, self._most_bytes, self._most_cores)
+        # As they were passed: what is None depends on the machine, and a copy may be on another one.
+        bounds = {"most_bytes": most_bytes, "most_cores": most_cores, "at_once": at_once, "timeout": timeout}
+        self._options: dict[str, Any] = {"salt_len": salt_len, "mcf": self._mcf, **bounds}
         self._memories = Memories(self._at_once, self._most_bytes, self._most_cores, seconds(timeout, "timeout"))
 
     @property
@@ -66,6 +70,10 @@ class PasswordHasher:
     def __repr__(self) -> str:
         log_n, r, p, key_len = self._params
         return f"PasswordHasher(log_n={log_n}, r={r}, p={p}, key_len={key_len}, mcf={self._mcf}, at_once={self._at_once})"
+
+    def __reduce__(self) -> tuple[Callable[..., PasswordHasher], tuple[int, ...]]:
+        """A copy, also in another process, is a new hasher with the same arguments."""
+        return functools.partial(type(self), **self._options), tuple(self._params)
 
     def close(self) -> None:
         """Frees the memory that is kept. Derivations that have begun go on; after that, hashing and verifying raise

@@ -1,8 +1,10 @@
 """Hashers in other processes: in a child that is forked while other threads derive."""
 
+import copy
 import gc
 import multiprocessing
 import os
+import pickle
 import signal
 import threading
 import time
@@ -116,6 +118,46 @@ class Pools(unittest.TestCase):
                 stop.set()
             for it in running:
                 it.result()
+
+
+class Copies(unittest.TestCase):
+    def test_arguments(self):
+        """Each argument is in the copy, which has turns and memory of its own."""
+        for options, why in [
+            ({}, "all defaults"),
+            ({"log_n": 4, "r": 3, "p": 2, "key_len": 33}, "parameters"),
+            ({"log_n": 4, "salt_len": 40, "mcf": True}, "format and salt"),
+            ({"log_n": 4, "at_once": 3, "timeout": 0.5}, "turns"),
+            ({"log_n": 4, "most_bytes": 1 << 20, "most_cores": 1 << 13}, "bounds"),
+        ]:
+            hasher = PasswordHasher(**options)
+            for copied in (pickle.loads(pickle.dumps(hasher)), copy.copy(hasher), copy.deepcopy(hasher)):
+                self.assertEqual((repr(copied), copied.params), (repr(hasher), hasher.params), why)
+                self.assertEqual(settings(copied), settings(hasher), why)
+                self.assertIsNot(copied._memories, hasher._memories, why)
+
+    def test_a_subclass(self):
+        copied = pickle.loads(pickle.dumps(Other(4, at_once=2)))
+        self.assertEqual((type(copied), copied.params.log_n), (Other, 4))
+
+    def test_pools(self):
+        """Whatever way the processes begin, a hasher and its methods can be passed to them."""
+        for method in ("spawn", "forkserver", "fork"):
+            with multiprocessing.get_context(method).Pool(2) as pool:
+                texts = pool.map_async(PasswordHasher(log_n=4).hash, ["a", "b", "c"]).get(WAIT)
+                for text, password in zip(texts, "abc"):
+                    self.assertTrue(PasswordHasher(log_n=4).verify(text, password), method)
+                with self.assertRaises(scrypt_c.VerifyMismatchError, msg=method):
+                    pool.apply_async(PasswordHasher(log_n=4).verify, (texts[0], "b")).get(WAIT)
+
+
+class Other(PasswordHasher):
+    """A subclass."""
+
+
+def settings(hasher):
+    """What a hasher does, but for its turns and its memory."""
+    return {name: value for name, value in vars(hasher).items() if name != "_memories"}
 
 
 if __name__ == "__main__":
