@@ -15,6 +15,7 @@ ROOT = os.path.dirname(os.path.dirname(os.path.abspath(__file__)))
 PLACES = [
     ("bindings/c/scrypt_c.h", r'(#define SCRYPT_VERSION_STRING ")([^"]*)(")'),
     ("bindings/python/pyproject.toml", r'(^version = ")([^"]*)(")'),
+    ("bindings/python/scrypt_c/__init__.py", r'(^__version__ = ")([^"]*)(")'),
     ("bindings/rust/Cargo.toml", r'(^version = ")([^"]*)(")'),
 ]
 

@@ -20,6 +20,7 @@ The library is the file that the environment's SCRYPT_C_LIBRARY names, or that o
 or else the one inside this package, or else the one that the system's loader finds.
 """
 
+from .arguments import Bytes, Password
 from .calibration import calibrate
 from .errors import (
     InvalidHashError,
@@ -34,15 +35,19 @@ from .hasher import PasswordHasher
 from .key import scrypt
 from .params import MOST_BYTES, MOST_CORES, RECOMMENDED, Params, params_of
 
+__version__ = "0.12.0+proved.1"
+
 __all__ = [
     "MOST_BYTES",
     "MOST_CORES",
     "RECOMMENDED",
+    "Bytes",
     "InvalidHashError",
     "InvalidOutputLenError",
     "InvalidParamsError",
     "InvalidSaltError",
     "Params",
+    "Password",
     "PasswordHasher",
     "ScryptError",
     "TooCostlyError",

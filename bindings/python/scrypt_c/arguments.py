@@ -6,6 +6,7 @@ import operator
 import threading
 from typing import Optional, Union
 
+# The types of salts and keys, and of passwords, for callers that annotate theirs.
 Bytes = Union[bytes, bytearray, memoryview]
 Password = Union[str, bytes, bytearray, memoryview]
 
