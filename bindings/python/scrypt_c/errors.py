@@ -53,7 +53,7 @@ _ERRORS: dict[int, tuple[type[ScryptError], str, str]] = {
     13: (TooCostlyError, "SCRYPT_TOO_COSTLY", "the parameters need more than is allowed"),
 }
 
-_OUT_OF_MEMORY = 4
+OUT_OF_MEMORY, TOO_COSTLY = 4, 13
 
 
 def invalid_params(words: str) -> InvalidParamsError:
@@ -65,7 +65,7 @@ def check(status: int, about: str = "") -> None:
     """Raises the error of a status that is not 0. `about` is what the call was given, without secrets."""
     if status == 0:
         return
-    if status == _OUT_OF_MEMORY:
+    if status == OUT_OF_MEMORY:
         raise MemoryError(f"out of memory{about and ': '}{about}")
     kind, name, words = _ERRORS.get(status, (ScryptError, f"status {status}", f"status {status} of a newer library"))
     raise kind(name, f"{words}{about and ': '}{about}")

@@ -9,12 +9,9 @@ from typing import Any, Callable, Literal, Optional, Union
 
 from . import library
 from .arguments import Bytes, Password, number, raw_bytes, raw_password, raw_text, seconds
-from .errors import check, invalid_params
+from .errors import OUT_OF_MEMORY, TOO_COSTLY, check, invalid_params
 from .memories import Memories
-from .params import MOST_BYTES, MOST_CORES, Params, accepted, params_of, within
-
-
-_TOO_COSTLY = 13
+from .params import MOST_BYTES, MOST_CORES, Params, accepted, check_derived, params_of, within
 
 
 class PasswordHasher:
@@ -96,7 +93,7 @@ class PasswordHasher:
         made = [self._params.key_len, text, capacity, ctypes.byref(text_len)]
         with self._memories.one() as memory:
             status = call(memory, secret, len(secret), drawn, len(drawn), *self._params[:3], *made)
-        check(status)
+        check_derived(status, self._params)
         return text.raw[: text_len.value].decode("ascii")
 
     def verify(self, text: Union[str, bytes], password: Password) -> Literal[True]:
@@ -106,8 +103,8 @@ class PasswordHasher:
         raw, secret = raw_text(text), raw_password(password)
         with self._memories.one() as memory:
             status = library.verify(memory, secret, len(secret), raw, len(raw))
-        if status == _TOO_COSTLY:
-            within(params_of(text), self._most_bytes, self._most_cores)
+        if status in (OUT_OF_MEMORY, TOO_COSTLY):  # the errors that have what the hash needs
+            check_derived(status, within(params_of(text), self._most_bytes, self._most_cores))
         check(status)
         return True
 

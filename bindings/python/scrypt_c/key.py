@@ -23,13 +23,21 @@ def scrypt(password: Bytes, *, salt: Bytes, n: int, r: int, p: int, maxmem: int 
     log_n, r, p = accepted(n.bit_length() - 1, r, p)
     if maxmem < 0:
         raise ValueError(f"maxmem is not negative, as {maxmem} is")
-    if 0 < maxmem < Params(log_n, r, p).memory:
-        raise ValueError(f"n={n}, r={r}, p={p} need {Params(log_n, r, p).memory} bytes, more than maxmem={maxmem}")
+    needed = Params(log_n, r, p).memory  # refuses parameters that are not accepted
+    if 0 < maxmem < needed:
+        raise ValueError(f"n={n}, r={r}, p={p} need {needed} bytes, more than maxmem={maxmem}")
     if not 1 <= dklen <= library.MAX_OUTPUT_LEN:
         check(3, f"dklen={dklen}")
-    key = ctypes.create_string_buffer(dklen)
+    key = _buffer(dklen)
     status = library.kdf(password, len(password), salt, len(salt), log_n, r, p, key, dklen)
-    check(status, f"n={n}, r={r}, p={p}, dklen={dklen}")
+    check(status, f"n={n}, r={r}, p={p} need {needed} bytes, and the key {dklen}")
     made = key.raw
     ctypes.memset(key, 0, dklen)
     return made
+
+
+def _buffer(size: int) -> ctypes.Array[ctypes.c_char]:
+    try:
+        return ctypes.create_string_buffer(size)
+    except MemoryError:
+        raise MemoryError(f"out of memory: the key needs {size} bytes") from None

@@ -7,7 +7,7 @@ from typing import NamedTuple, Union
 
 from . import library
 from .arguments import number, raw_text
-from .errors import TooCostlyError, check, invalid_params
+from .errors import OUT_OF_MEMORY, TooCostlyError, check, invalid_params
 
 
 def accepted(log_n: int, r: int, p: int) -> tuple[int, int, int]:
@@ -47,6 +47,12 @@ RECOMMENDED = Params()
 # What a hash may cost, unless the caller says otherwise.
 MOST_BYTES = 256 << 20
 MOST_CORES = 4 * RECOMMENDED.cores
+
+
+def check_derived(status: int, params: Params) -> None:
+    """Raises the error of a derivation with these parameters; that for want of memory has how much was asked for."""
+    log_n, r, p, _ = params
+    check(status, f"log_n={log_n}, r={r}, p={p} need {params.memory} bytes" if status == OUT_OF_MEMORY else "")
 
 
 def within(params: Params, most_bytes: int, most_cores: int) -> Params:

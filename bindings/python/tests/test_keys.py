@@ -2,6 +2,7 @@
 
 import hashlib
 import os
+import resource
 import unittest
 
 import scrypt_c
@@ -20,6 +21,16 @@ KEYS = [
      "8e56fd8f4ba5d09ffa1c6d927c40f4c337304049e8a952fbcbf45c6fa77a41a4"),
 ]
 SMALL = {"n": 16, "r": 1, "p": 1}
+
+
+def limited(call):
+    """Calls while the process may have 16 GiB of addresses."""
+    before = resource.getrlimit(resource.RLIMIT_AS)
+    resource.setrlimit(resource.RLIMIT_AS, (16 << 30, before[1]))
+    try:
+        return call()
+    finally:
+        resource.setrlimit(resource.RLIMIT_AS, before)
 
 
 class Keys(unittest.TestCase):
@@ -56,6 +67,19 @@ class Keys(unittest.TestCase):
             scrypt_c.scrypt(b"", salt=b"", maxmem=-1, **SMALL)
         with self.assertRaisesRegex(MemoryError, "n=72057594037927936"):
             scrypt_c.scrypt(b"", salt=b"", n=1 << 56, r=1, p=1)
+
+    def test_how_much_memory_was_asked_for(self):
+        largest = scrypt_c.Params(56, 1, 1)
+        hasher = scrypt_c.PasswordHasher(*largest)
+        text = f"$scrypt$ln=56,r=1,p=1$c2FsdHNhbHQ${43 * 'A'}"
+        for call, asked, why in [
+            (lambda: scrypt_c.scrypt(b"", salt=b"", n=1 << 56, r=1, p=1), largest.memory, "a key"),
+            (lambda: hasher.hash("pw"), largest.memory, "a new hash"),
+            (lambda: hasher.verify(text, "pw"), largest.memory, "a stored hash"),
+            (lambda: limited(lambda: scrypt_c.scrypt(b"", salt=b"", dklen=1 << 36, **SMALL)), 1 << 36, "a long key"),
+        ]:
+            with self.assertRaisesRegex(MemoryError, rf"\b{asked} bytes", msg=why):
+                call()
 
     def test_types(self):
         for wrong in (5, "text", None):
