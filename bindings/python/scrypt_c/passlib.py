@@ -5,7 +5,8 @@
 
     context = CryptContext(schemes=[scrypt])
 
-It reads and writes the texts of passlib.hash.scrypt, and has its options.
+It reads and writes the texts of passlib.hash.scrypt, and has its options. A hash with fewer rounds than new ones needs an
+update, so verify_and_update replaces it, unless min_rounds allows fewer.
 """
 
 from __future__ import annotations
@@ -28,3 +29,9 @@ class scrypt(passlib.hash.scrypt):  # passlib names handlers as their scheme
         within(Params(self.rounds, self.block_size, self.parallelism), self.most_bytes, self.most_cores)
         derived = {"n": 1 << self.rounds, "r": self.block_size, "p": self.parallelism, "dklen": self.checksum_size}
         return _derive(raw_password(secret), salt=self.salt, **derived)
+
+    def _calc_needs_update(self, **kwds: object) -> bool:
+        # With vary_rounds new hashes may have fewer than default_rounds too.
+        if self.min_desired_rounds is None and not self.vary_rounds and self.rounds < self.default_rounds:
+            return True
+        return super()._calc_needs_update(**kwds)

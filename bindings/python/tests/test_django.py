@@ -2,6 +2,7 @@
 
 import base64
 import hashlib
+import importlib.util
 import unittest
 
 import django
@@ -12,6 +13,7 @@ settings.configure(
         "__main__.Small",
         "scrypt_c.django.ScryptPasswordHasher",
         "django.contrib.auth.hashers.PBKDF2PasswordHasher",
+        "django.contrib.auth.hashers.Argon2PasswordHasher",
     ]
 )
 django.setup()
@@ -20,6 +22,9 @@ from django.contrib.auth import hashers  # noqa: E402  after the settings
 
 import scrypt_c  # noqa: E402
 from scrypt_c.django import PHCPasswordHasher, ScryptPasswordHasher  # noqa: E402
+
+
+argon2 = importlib.util.find_spec("argon2")
 
 
 class Small(PHCPasswordHasher):
@@ -71,6 +76,25 @@ class Hashers(unittest.TestCase):
             with self.assertRaises(UnicodeError) as caught:
                 call("hunter\ud800")
             self.assertNotIn("hunter", f"{caught.exception!r} {caught.exception.__context__!r}")
+
+    def test_damaged_hashes(self):
+        """They raise: a broken database is not a wrong password."""
+        for stored, why in [
+            ("scrypt_c$scrypt$ln=6,r=8,p=1$c2FsdHNhbHQ$AAAA", "a key that is too short"),
+            ("scrypt_c$scrypt$ln=6,r=8,p=1$c2FsdHNhbHQ$", "cut off"),
+            ("scrypt_c$argon2$ln=6,r=8,p=1$c2FsdHNhbHQ$AAAAAAAAAAAAAAAAAAAA", "another algorithm"),
+            ("scrypt$16$seasalt$8", "cut off"),
+            ("scrypt$x$seasalt$8$1$AAAA", "no number"),
+            ("scrypt$15$seasalt$8$1$AAAA", "no power of two"),
+        ]:
+            with self.assertRaises(ValueError, msg=f"{stored}: {why}"):
+                hashers.check_password("pw", stored)
+
+    @unittest.skipUnless(argon2, "package python3-argon2")
+    def test_damaged_hashes_of_argon2(self):
+        """Those of Django's own argon2 raise too, if it is the preferred hasher."""
+        with self.assertRaises(ValueError):
+            hashers.check_password("pw", "argon2$argon2id$v=19$m=102400,t=2,p=8$c2FsdHNhbHQ", preferred="argon2")
 
     def test_hostile_hashes(self):
         for stored in (

@@ -1,6 +1,7 @@
 """The handler for passlib, beside passlib's own."""
 
 import unittest
+import warnings
 
 import passlib.hash
 from passlib.context import CryptContext
@@ -29,6 +30,31 @@ class Handler(unittest.TestCase):
         verified, new = wanted.verify_and_update("pw", text)
         self.assertTrue(verified)
         self.assertTrue(new.startswith("$scrypt$ln=7,"))
+
+    def test_weak_hashes_need_an_update(self):
+        def text(**costs):
+            return scrypt.using(**{"rounds": 6, **costs}).hash("pw")
+
+        for options, costs, is_weak, why in [
+            ({}, {}, True, "fewer than the recommended rounds"),
+            ({"default_rounds": 6}, {}, False, "as many as new hashes"),
+            ({"default_rounds": 7}, {}, True, "fewer than new hashes"),
+            ({"default_rounds": 5}, {}, False, "more than new hashes"),
+            ({"default_rounds": 7, "min_rounds": 6}, {}, False, "as few as is allowed"),
+            ({"default_rounds": 7, "min_rounds": 7}, {}, True, "fewer than is allowed"),
+            ({"rounds": 6}, {}, False, "exactly as many as is allowed"),
+            ({"rounds": 5}, {}, True, "more than is allowed"),
+            ({"default_rounds": 6, "vary_rounds": 1}, {"rounds": 5}, False, "as new hashes may be"),
+            ({"default_rounds": 6, "block_size": 8}, {"block_size": 4}, True, "smaller blocks"),
+            ({"default_rounds": 6, "parallelism": 2}, {}, True, "less parallel"),
+        ]:
+            with warnings.catch_warnings():
+                warnings.simplefilter("ignore")  # of vary_rounds, which passlib discourages
+                context = CryptContext(schemes=[scrypt.using(**options)])
+            self.assertIs(context.needs_update(text(**costs)), is_weak, why)
+        self.assertFalse(scrypt.needs_update(scrypt.hash("pw")), "a new hash")
+        verified, new = CryptContext(schemes=[scrypt]).verify_and_update("pw", text())
+        self.assertTrue(verified and new.startswith("$scrypt$ln=17,"))
 
     def test_the_recommended_rounds(self):
         self.assertEqual(scrypt.default_rounds, 17)
