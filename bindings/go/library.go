@@ -30,31 +30,57 @@ func failed(status C.int) error {
 	return Error(status)
 }
 
+// A cost is what C takes for LogN, R and P.
+type cost struct {
+	logN C.uint8_t
+	r, p C.uint32_t
+}
+
+// cost returns ErrInvalidParams for numbers that C's types would cut off.
+func (params Params) cost() (cost, error) {
+	if params.LogN < 0 || params.LogN > math.MaxUint8 || params.R < 0 || params.R > math.MaxUint32 || params.P < 0 ||
+		params.P > math.MaxUint32 {
+		return cost{}, ErrInvalidParams
+	}
+	return cost{C.uint8_t(params.LogN), C.uint32_t(params.R), C.uint32_t(params.P)}, nil
+}
+
 // Memory returns how many bytes the buffers of a derivation have, at most math.MaxUint64, or ErrInvalidParams unless
 // LogN, R and P are accepted.
 func (params Params) Memory() (uint64, error) {
+	of, err := params.cost()
+	if err != nil {
+		return 0, err
+	}
 	var chunks, table, scratch C.size_t
-	err := failed(C.scrypt_buffer_lens(C.uint8_t(params.LogN), C.uint32_t(params.R), C.uint32_t(params.P), 0, &chunks,
-		&table, &scratch))
+	if err := failed(C.scrypt_buffer_lens(of.logN, of.r, of.p, 0, &chunks, &table, &scratch)); err != nil {
+		return 0, err
+	}
 	sum, carry := bits.Add64(4*uint64(table), uint64(chunks)+4*uint64(scratch), 0)
 	if carry != 0 {
 		sum = math.MaxUint64
 	}
-	return sum, err
+	return sum, nil
 }
 
-// Cores returns how many Salsa20/8 cores a derivation runs, 4 * N * R * P, or math.MaxUint64 if there are more.
+// Cores returns how many Salsa20/8 cores a derivation runs, 4 * N * R * P, or math.MaxUint64 if there are more or a
+// parameter is out of range.
 func (params Params) Cores() uint64 {
-	high, low := bits.Mul64(4*uint64(params.R), uint64(params.P))
-	if high != 0 || low > math.MaxUint64>>params.LogN {
+	of, err := params.cost()
+	high, low := bits.Mul64(4*uint64(of.r), uint64(of.p))
+	if err != nil || high != 0 || low > math.MaxUint64>>of.logN {
 		return math.MaxUint64
 	}
-	return low << params.LogN
+	return low << of.logN
 }
 
 func deriveKey(password, salt []byte, params Params, key []byte) error {
-	return failed(C.scrypt_kdf_mapped(bytes(password), size(password), bytes(salt), size(salt), C.uint8_t(params.LogN),
-		C.uint32_t(params.R), C.uint32_t(params.P), bytes(key), size(key)))
+	of, err := params.cost()
+	if err != nil {
+		return err
+	}
+	return failed(C.scrypt_kdf_mapped(bytes(password), size(password), bytes(salt), size(salt), of.logN, of.r, of.p,
+		bytes(key), size(key)))
 }
 
 func drawSalt(salt []byte) error {
@@ -76,20 +102,25 @@ func newMemory(mostBytes, mostCores uint64) (*memory, error) {
 }
 
 func (m *memory) hash(password, salt []byte, params Params, mcf bool) (string, error) {
+	of, err := params.cost()
+	if err != nil {
+		return "", err
+	}
 	capacity := C.size_t(C.SCRYPT_PHC_CAPACITY)
 	if mcf {
 		capacity = C.mcf_capacity(size(salt))
 	}
 	text := make([]byte, capacity)
 	front := (*C.char)(unsafe.Pointer(&text[0]))
+	keyLen := C.size_t(params.KeyLen)
 	var textLen C.size_t
 	var status C.int
 	if mcf {
-		status = C.scrypt_hash_mcf_in(m.c, bytes(password), size(password), bytes(salt), size(salt), C.uint8_t(params.LogN),
-			C.uint32_t(params.R), C.uint32_t(params.P), C.size_t(params.KeyLen), front, capacity, &textLen)
+		status = C.scrypt_hash_mcf_in(m.c, bytes(password), size(password), bytes(salt), size(salt), of.logN, of.r, of.p,
+			keyLen, front, capacity, &textLen)
 	} else {
-		status = C.scrypt_hash_phc_in(m.c, bytes(password), size(password), bytes(salt), size(salt), C.uint8_t(params.LogN),
-			C.uint32_t(params.R), C.uint32_t(params.P), C.size_t(params.KeyLen), front, capacity, &textLen)
+		status = C.scrypt_hash_phc_in(m.c, bytes(password), size(password), bytes(salt), size(salt), of.logN, of.r, of.p,
+			keyLen, front, capacity, &textLen)
 	}
 	if err := failed(status); err != nil {
 		return "", err
@@ -112,13 +143,16 @@ func ParamsOf(text string) (Params, error) {
 	if err := failed(C.scrypt_hash_params(chars(raw), size(raw), &logN, &r, &p, &keyLen)); err != nil {
 		return Params{}, err
 	}
-	return Params{LogN: uint8(logN), R: uint32(r), P: uint32(p), KeyLen: int(keyLen)}, nil
+	return Params{LogN: int(logN), R: int(r), P: int(p), KeyLen: int(keyLen)}, nil
 }
 
 func needsRehash(text string, wanted Params) (bool, error) {
+	of, err := wanted.cost()
+	if err != nil {
+		return false, err
+	}
 	raw := []byte(text)
-	status := C.scrypt_needs_rehash(chars(raw), size(raw), C.uint8_t(wanted.LogN), C.uint32_t(wanted.R),
-		C.uint32_t(wanted.P), C.size_t(wanted.KeyLen))
+	status := C.scrypt_needs_rehash(chars(raw), size(raw), of.logN, of.r, of.p, C.size_t(wanted.KeyLen))
 	if status == C.SCRYPT_NEEDS_REHASH {
 		return true, nil
 	}

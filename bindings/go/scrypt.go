@@ -19,11 +19,10 @@ import (
 )
 
 // Params are the parameters of a hash: N = 2^LogN, the block size R, the parallelization P, and the length of the
-// hash's key, 10 to 64 bytes.
+// hash's key, 10 to 64 bytes. They are of type int so that no conversion cuts off a number from elsewhere: one that is
+// out of range is ErrInvalidParams.
 type Params struct {
-	LogN   uint8
-	R, P   uint32
-	KeyLen int
+	LogN, R, P, KeyLen int
 }
 
 // Recommended returns the parameters to begin with: 128 MiB, and a key of 32 bytes.
@@ -34,10 +33,10 @@ func Recommended() Params {
 // Key returns the key of keyLen bytes of a password and a salt. N is a power of two. The errors are ErrInvalidParams,
 // ErrInvalidOutputLen, and ErrOutOfMemory if the memory for the table or for the key is not available.
 func Key(password, salt []byte, N, r, p, keyLen int) ([]byte, error) {
-	if N < 1 || N&(N-1) != 0 || r < 0 || r > 1<<32-1 || p < 0 || p > 1<<32-1 {
+	if N < 1 || N&(N-1) != 0 {
 		return nil, ErrInvalidParams
 	}
-	params := Params{LogN: uint8(bits.TrailingZeros(uint(N))), R: uint32(r), P: uint32(p)}
+	params := Params{LogN: bits.TrailingZeros(uint(N)), R: r, P: p}
 	if _, err := params.Memory(); err != nil {
 		return nil, err
 	}

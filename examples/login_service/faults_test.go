@@ -15,7 +15,7 @@ import (
 )
 
 // users adds users by the store, with one hash of the password.
-func (w *world) users(count int, password string, logN uint8) {
+func (w *world) users(count int, password string, logN int) {
 	w.Helper()
 	hasher, err := scrypt.NewHasher(scrypt.Options{Params: scrypt.Params{LogN: logN, R: 8, P: 1, KeyLen: 32}})
 	if err != nil {

@@ -60,7 +60,7 @@ func part(times []time.Duration, part float64) string {
 }
 
 // rate returns how many verifications a second the library does by itself, with this many callers.
-func rate(t *testing.T, logN uint8, callers int, seconds time.Duration) float64 {
+func rate(t *testing.T, logN int, callers int, seconds time.Duration) float64 {
 	hasher, err := scrypt.NewHasher(scrypt.Options{Params: scrypt.Params{LogN: logN, R: 8, P: 1, KeyLen: 32}})
 	if err != nil {
 		t.Fatal(err)
@@ -129,7 +129,7 @@ func TestLoad(t *testing.T) {
 	fmt.Printf("%d processors; times in milliseconds; memory in MiB\n", processors)
 	fmt.Println("| parameters | clients | log-ins a second | library | ratio | median | 99 % | told 503 | 99 % of these | at most | peak | bound + 64 | not told |")
 	fmt.Println("|---|---|---|---|---|---|---|---|---|---|---|---|---|")
-	for _, logN := range []uint8{14, 17} {
+	for _, logN := range []int{14, 17} {
 		memory, err := scrypt.Params{LogN: logN, R: 8, P: 1, KeyLen: 32}.Memory()
 		if err != nil {
 			t.Fatal(err)

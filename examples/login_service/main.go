@@ -27,7 +27,7 @@ var (
 
 func main() {
 	flag.Parse()
-	hasher := must(scrypt.NewHasher(scrypt.Options{Params: scrypt.Params{LogN: uint8(*logN), R: 8, P: 1, KeyLen: 32}, MostBytes: *most << 20}))
+	hasher := must(scrypt.NewHasher(scrypt.Options{Params: scrypt.Params{LogN: int(*logN), R: 8, P: 1, KeyLen: 32}, MostBytes: *most << 20}))
 	store := must(sql.Open("postgres", "host="+*socket+" user=login_service dbname=postgres sslmode=disable connect_timeout=2"))
 	store.SetMaxOpenConns(16)
 	must(store.Exec(`CREATE TABLE IF NOT EXISTS users (name text PRIMARY KEY, hash text NOT NULL)`))
