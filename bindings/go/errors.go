@@ -1,10 +1,11 @@
 package scrypt
 
-// Error is why a call failed: a status of scrypt_c.h, or ErrInvalidHash.
+// Error is why a call failed: a status of scrypt_c.h, or one of the negative ones, which C does not have.
 type Error int
 
 // The errors. Those from ErrAlgorithm to ErrVersion, except ErrSaltInvalid, are also ErrInvalidHash to errors.Is.
 const (
+	ErrInvalidOption     Error = -2 // an option of a Hasher is not in its range
 	ErrInvalidHash       Error = -1 // the text is not a hash that this package reads
 	ErrMismatch          Error = 1  // the password is not that of the hash
 	ErrInvalidParams     Error = 2  // N, r and p, or the length of a hash's key, are not accepted
@@ -24,6 +25,8 @@ const (
 // Error returns the error in words.
 func (e Error) Error() string {
 	switch e {
+	case ErrInvalidOption:
+		return "scrypt: an option of a Hasher is not in its range"
 	case ErrInvalidHash:
 		return "scrypt: the text is not a PHC or $7$ hash of scrypt"
 	case ErrMismatch:

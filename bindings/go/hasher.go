@@ -2,12 +2,14 @@ package scrypt
 
 import (
 	"context"
+	"fmt"
 	"runtime"
 )
 
-// Options are those of a Hasher. The zero value of each means the default that its comment names.
+// Options are those of a Hasher. The zero value of each, and of each field of Params, means the default that its
+// comment names.
 type Options struct {
-	Params       // the parameters of new hashes: Recommended()
+	Params       // the parameters of new hashes: each that of Recommended()
 	MCF     bool // whether new hashes are $7$ texts of crypt(3) and not PHC texts
 	SaltLen int  // the length of a new hash's salt, 1 to 64 bytes: 16
 	AtOnce  int  // how many derivations may run at the same time: runtime.GOMAXPROCS(0)
@@ -26,35 +28,52 @@ type Hasher struct {
 	idle    chan *memory
 }
 
-// NewHasher returns a Hasher. The errors are ErrInvalidParams, ErrSaltInvalid, and ErrTooCostly if new hashes need more
-// than the bounds.
+// NewHasher returns a Hasher. The errors, which name the option, are to errors.Is ErrInvalidParams, ErrSaltInvalid,
+// ErrInvalidOption, and ErrTooCostly if new hashes need more than the bounds.
 func NewHasher(options Options) (*Hasher, error) {
-	if options.Params == (Params{}) {
-		options.Params = Recommended()
-	}
-	if options.SaltLen == 0 {
-		options.SaltLen = 16
-	}
-	if options.AtOnce == 0 {
-		options.AtOnce = runtime.GOMAXPROCS(0)
-	}
+	options = options.withDefaults()
 	needed, err := options.Params.Memory()
 	if err != nil {
-		return nil, err
+		return nil, fmt.Errorf("%w: LogN is %d, R is %d and P is %d", err, options.LogN, options.R, options.P)
 	}
-	if options.KeyLen < 10 || options.KeyLen > 64 || options.AtOnce < 0 {
-		return nil, ErrInvalidParams
+	if options.KeyLen < 10 || options.KeyLen > 64 {
+		return nil, fmt.Errorf("%w: KeyLen is %d, and has to be 10 to 64", ErrInvalidParams, options.KeyLen)
 	}
 	if options.SaltLen < 1 || options.SaltLen > 64 {
-		return nil, ErrSaltInvalid
+		return nil, fmt.Errorf("%w: SaltLen is %d, and has to be 1 to 64", ErrSaltInvalid, options.SaltLen)
+	}
+	if options.AtOnce < 1 {
+		return nil, fmt.Errorf("%w: AtOnce is %d, and has to be positive", ErrInvalidOption, options.AtOnce)
 	}
 	cores := options.Params.Cores()
 	options.MostBytes = bound(options.MostBytes, MostBytes, needed)
 	options.MostCores = bound(options.MostCores, MostCores, cores)
 	if needed > options.MostBytes || cores > options.MostCores {
-		return nil, ErrTooCostly
+		return nil, fmt.Errorf("%w: new hashes need %d bytes and %d cores, and MostBytes is %d and MostCores %d",
+			ErrTooCostly, needed, cores, options.MostBytes, options.MostCores)
 	}
 	return &Hasher{options, make(chan struct{}, options.AtOnce), make(chan *memory, options.AtOnce)}, nil
+}
+
+// withDefaults returns the options with the default in place of each zero. The bounds depend on the parameters.
+func (options Options) withDefaults() Options {
+	usual := Recommended()
+	for _, it := range []struct {
+		field *int
+		usual int
+	}{
+		{&options.LogN, usual.LogN},
+		{&options.R, usual.R},
+		{&options.P, usual.P},
+		{&options.KeyLen, usual.KeyLen},
+		{&options.SaltLen, 16},
+		{&options.AtOnce, runtime.GOMAXPROCS(0)},
+	} {
+		if *it.field == 0 {
+			*it.field = it.usual
+		}
+	}
+	return options
 }
 
 // bound returns the wanted bound, or without one the usual one, or what new hashes need if that is more.

@@ -66,14 +66,13 @@ func TestRefusedOptions(t *testing.T) {
 		options Options
 		want    error
 	}{
-		{"r of 0", Options{Params: Params{4, 0, 1, 32}}, ErrInvalidParams},
 		{"a table of 2^64 bytes", Options{Params: Params{57, 1, 1, 32}}, ErrInvalidParams},
 		{"a key of 9 bytes", Options{Params: Params{4, 8, 1, 9}}, ErrInvalidParams},
 		{"a key of 65 bytes", Options{Params: Params{4, 8, 1, 65}}, ErrInvalidParams},
 		{"a negative length", Options{Params: Params{4, 8, 1, -1}}, ErrInvalidParams},
 		{"a salt of 65 bytes", Options{SaltLen: 65}, ErrSaltInvalid},
 		{"a negative salt", Options{SaltLen: -1}, ErrSaltInvalid},
-		{"less than no derivation", Options{AtOnce: -1}, ErrInvalidParams},
+		{"less than no derivation", Options{AtOnce: -1}, ErrInvalidOption},
 		{"new hashes above the bound of memory", Options{MostBytes: 128 << 20}, ErrTooCostly},
 		{"new hashes above the bound of cores", Options{MostCores: 4194303}, ErrTooCostly},
 	} {

@@ -3,8 +3,33 @@ package scrypt
 import (
 	"context"
 	"errors"
+	"strings"
 	"testing"
 )
+
+func TestDefaults(t *testing.T) {
+	for _, it := range []struct {
+		why     string
+		options Options
+		want    Params
+	}{
+		{"all of them", Options{}, Params{17, 8, 1, 32}},
+		{"LogN alone is wanted", Options{Params: Params{LogN: 4}}, Params{4, 8, 1, 32}},
+		{"R alone is wanted", Options{Params: Params{R: 1}}, Params{17, 1, 1, 32}},
+		{"P alone is wanted", Options{Params: Params{P: 2}}, Params{17, 8, 2, 32}},
+		{"KeyLen alone is wanted", Options{Params: Params{KeyLen: 64}}, Params{17, 8, 1, 64}},
+		{"two are wanted", Options{Params: Params{LogN: 4, P: 3}}, Params{4, 8, 3, 32}},
+		{"none but KeyLen", Options{Params: Params{4, 3, 2, 0}}, Params{4, 3, 2, 32}},
+	} {
+		if got := newHasher(t, it.options).options; got.Params != it.want || got.SaltLen != 16 || got.AtOnce < 1 {
+			t.Errorf("%s: %+v", it.why, got)
+		}
+	}
+	text, err := newHasher(t, Options{Params: Params{LogN: 4}}).Hash(context.Background(), nil)
+	if of, _ := ParamsOf(text); err != nil || of != (Params{4, 8, 1, 32}) {
+		t.Errorf("a hash of it: %v, %v", text, err)
+	}
+}
 
 // Numbers that C's types would cut off to accepted ones.
 func TestNumbers(t *testing.T) {
@@ -56,6 +81,28 @@ func TestNumbersOfTexts(t *testing.T) {
 		}
 		if err := hasher.Verify(context.Background(), text, nil); !errors.Is(err, ErrInvalidHash) {
 			t.Errorf("%s: %v", it.why, err)
+		}
+	}
+}
+
+// The error has the name of the option and its value.
+func TestRefusedOptionsAreNamed(t *testing.T) {
+	for _, it := range []struct {
+		words   string
+		options Options
+		want    error
+	}{
+		{"AtOnce is -1", Options{AtOnce: -1}, ErrInvalidOption},
+		{"SaltLen is 65", Options{SaltLen: 65}, ErrSaltInvalid},
+		{"SaltLen is -1", Options{SaltLen: -1}, ErrSaltInvalid},
+		{"KeyLen is 9", Options{Params: Params{KeyLen: 9}}, ErrInvalidParams},
+		{"LogN is 256", Options{Params: Params{LogN: 256}}, ErrInvalidParams},
+		{"R is -8", Options{Params: Params{R: -8}}, ErrInvalidParams},
+		{"MostBytes is 1024", Options{MostBytes: 1024}, ErrTooCostly},
+	} {
+		_, err := NewHasher(it.options)
+		if !errors.Is(err, it.want) || !strings.Contains(err.Error(), it.words) {
+			t.Errorf("%s: %v", it.words, err)
 		}
 	}
 }
