@@ -5,6 +5,7 @@ type Error int
 
 // The errors. Those from ErrAlgorithm to ErrVersion, except ErrSaltInvalid, are also ErrInvalidHash to errors.Is.
 const (
+	ErrClosed            Error = -3 // the Hasher is closed, or was not made by NewHasher
 	ErrInvalidOption     Error = -2 // an option of a Hasher is not in its range
 	ErrInvalidHash       Error = -1 // the text is not a hash that this package reads
 	ErrMismatch          Error = 1  // the password is not that of the hash
@@ -25,6 +26,8 @@ const (
 // Error returns the error in words.
 func (e Error) Error() string {
 	switch e {
+	case ErrClosed:
+		return "scrypt: the Hasher is closed, or was not made by NewHasher"
 	case ErrInvalidOption:
 		return "scrypt: an option of a Hasher is not in its range"
 	case ErrInvalidHash:

@@ -19,13 +19,14 @@ type Options struct {
 	MostBytes, MostCores uint64
 }
 
-// A Hasher makes password hashes, and verifies passwords by hashes of either format. It is immutable, and any number
-// of goroutines may use it; at most Options.AtOnce of them derive at the same time, and the others wait. It keeps the
-// memory in which it verifies for the next time, at most AtOnce times MostBytes.
+// A Hasher makes password hashes, and verifies passwords by hashes of either format. Any number of goroutines may use
+// it; at most Options.AtOnce of them derive at the same time, and the others wait. It keeps the memory in which it
+// verifies for the next time, at most AtOnce times MostBytes, until Close. NewHasher makes one: with the zero value
+// each method returns ErrClosed.
 type Hasher struct {
-	options Options
-	turns   chan struct{}
-	idle    chan *memory
+	options  Options
+	turns    chan struct{}
+	memories *memories
 }
 
 // NewHasher returns a Hasher. The errors, which name the option, are to errors.Is ErrInvalidParams, ErrSaltInvalid,
@@ -52,7 +53,7 @@ func NewHasher(options Options) (*Hasher, error) {
 		return nil, fmt.Errorf("%w: new hashes need %d bytes and %d cores, and MostBytes is %d and MostCores %d",
 			ErrTooCostly, needed, cores, options.MostBytes, options.MostCores)
 	}
-	return &Hasher{options, make(chan struct{}, options.AtOnce), make(chan *memory, options.AtOnce)}, nil
+	return &Hasher{options, make(chan struct{}, options.AtOnce), newMemories(options.MostBytes, options.MostCores)}, nil
 }
 
 // withDefaults returns the options with the default in place of each zero. The bounds depend on the parameters.
@@ -88,8 +89,17 @@ func bound(wanted, usual, needed uint64) uint64 {
 	}
 }
 
+// Close frees the memory that the Hasher keeps; that of a derivation which is running is freed when it ends. Calls of
+// Hash and Verify that wait, and later ones, return ErrClosed. Close returns nil.
+func (h *Hasher) Close() error {
+	if h.memories != nil {
+		h.memories.close()
+	}
+	return nil
+}
+
 // Hash returns the text of a new hash, with a salt that the system draws. The errors are that of the context, if it
-// ends before the derivation begins, ErrOutOfMemory and ErrNoRandomBytes.
+// ends before the derivation begins, ErrOutOfMemory, ErrNoRandomBytes and ErrClosed.
 func (h *Hasher) Hash(ctx context.Context, password []byte) (string, error) {
 	salt := make([]byte, h.options.SaltLen)
 	if err := drawSalt(salt); err != nil {
@@ -111,7 +121,8 @@ func (h *Hasher) HashWithSalt(ctx context.Context, password, salt []byte) (strin
 
 // Verify returns nil if the password is that of the hash, and ErrMismatch if it is not, or if the hash has no salt or
 // no key. The other errors are that of the context, if it ends before the derivation begins, ErrTooCostly if the hash
-// needs more than the bounds, before any work, ErrOutOfMemory, and those that are ErrInvalidHash to errors.Is.
+// needs more than the bounds, before any work, ErrOutOfMemory, ErrClosed, and those that are ErrInvalidHash to
+// errors.Is.
 func (h *Hasher) Verify(ctx context.Context, text string, password []byte) error {
 	m, err := h.begin(ctx)
 	if err != nil {
@@ -122,27 +133,30 @@ func (h *Hasher) Verify(ctx context.Context, text string, password []byte) error
 }
 
 // NeedsRehash reports whether one of the parameters of the hash, or its key's length, is below that of new hashes. The
-// errors are those that are ErrInvalidHash to errors.Is.
+// errors are those that are ErrInvalidHash to errors.Is. It needs no memory, so a closed Hasher answers too.
 func (h *Hasher) NeedsRehash(text string) (bool, error) {
+	if h.memories == nil {
+		return false, ErrClosed
+	}
 	return needsRehash(text, h.options.Params)
 }
 
 // begin waits for a turn to derive, or for the end of the context, and returns the memory for it.
 func (h *Hasher) begin(ctx context.Context) (*memory, error) {
+	if h.memories == nil {
+		return nil, ErrClosed
+	}
 	if err := ctx.Err(); err != nil {
 		return nil, err
 	}
 	select {
 	case h.turns <- struct{}{}:
+	case <-h.memories.closed:
+		return nil, ErrClosed
 	case <-ctx.Done():
 		return nil, ctx.Err()
 	}
-	select {
-	case m := <-h.idle:
-		return m, nil
-	default:
-	}
-	m, err := newMemory(h.options.MostBytes, h.options.MostCores)
+	m, err := h.memories.take()
 	if err != nil {
 		<-h.turns
 		return nil, err
@@ -150,8 +164,8 @@ func (h *Hasher) begin(ctx context.Context) (*memory, error) {
 	return m, nil
 }
 
-// end keeps the memory for another turn, for which there is room: there are as many places as turns.
+// end keeps the memory for another turn.
 func (h *Hasher) end(m *memory) {
-	h.idle <- m
+	h.memories.put(m)
 	<-h.turns
 }

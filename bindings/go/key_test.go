@@ -77,7 +77,7 @@ func TestAKeyThatNoMemoryHolds(t *testing.T) {
 }
 
 func TestWordsOfErrors(t *testing.T) {
-	for _, e := range []Error{ErrInvalidOption, ErrInvalidHash, ErrMismatch, ErrInvalidParams, ErrInvalidOutputLen, ErrOutOfMemory,
+	for _, e := range []Error{ErrClosed, ErrInvalidOption, ErrInvalidHash, ErrMismatch, ErrInvalidParams, ErrInvalidOutputLen, ErrOutOfMemory,
 		ErrAlgorithm, ErrEncodingInvalid, ErrOutputSize, ErrHashParamInvalid, ErrHashParamsInvalid, ErrSaltInvalid,
 		ErrVersion, ErrTooCostly, ErrNoRandomBytes} {
 		if !strings.HasPrefix(e.Error(), "scrypt: ") || strings.Contains(e.Error(), "unknown") {

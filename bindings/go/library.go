@@ -97,8 +97,14 @@ func newMemory(mostBytes, mostCores uint64) (*memory, error) {
 		return nil, ErrOutOfMemory
 	}
 	m := &memory{c}
-	runtime.SetFinalizer(m, func(m *memory) { C.scrypt_memory_free(m.c) })
+	runtime.SetFinalizer(m, (*memory).free)
 	return m, nil
+}
+
+// free is called once, by the finalizer or in its place.
+func (m *memory) free() {
+	runtime.SetFinalizer(m, nil)
+	C.scrypt_memory_free(m.c)
 }
 
 func (m *memory) hash(password, salt []byte, params Params, mcf bool) (string, error) {

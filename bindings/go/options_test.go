@@ -105,4 +105,7 @@ func TestRefusedOptionsAreNamed(t *testing.T) {
 			t.Errorf("%s: %v", it.words, err)
 		}
 	}
+	if _, err := NewHasher(Options{AtOnce: 1 << 62}); err != nil {
+		t.Errorf("more turns than there is memory for: %v", err)
+	}
 }

@@ -1,0 +1,141 @@
+package scrypt
+
+import (
+	"context"
+	"errors"
+	"io"
+	"sync"
+	"testing"
+	"time"
+)
+
+var _ io.Closer = (*Hasher)(nil)
+
+// refused returns the errors of the calls that need a turn.
+func refused(ctx context.Context, hasher *Hasher) []error {
+	_, drawn := hasher.Hash(ctx, nil)
+	_, salted := hasher.HashWithSalt(ctx, nil, []byte("saltsalt"))
+	return []error{drawn, salted, hasher.Verify(ctx, "$scrypt$ln=4,r=8,p=1", nil)}
+}
+
+func TestAZeroHasher(t *testing.T) {
+	ctx, cancel := context.WithTimeout(context.Background(), time.Second)
+	defer cancel()
+	var hasher Hasher
+	for i, err := range refused(ctx, &hasher) {
+		if !errors.Is(err, ErrClosed) {
+			t.Errorf("call %d: %v", i, err)
+		}
+	}
+	if weak, err := hasher.NeedsRehash("$scrypt$ln=4,r=8,p=1"); weak || !errors.Is(err, ErrClosed) {
+		t.Errorf("NeedsRehash: %v, %v", weak, err)
+	}
+	if err := hasher.Close(); err != nil {
+		t.Errorf("Close: %v", err)
+	}
+}
+
+func TestClose(t *testing.T) {
+	ctx := context.Background()
+	hasher := newHasher(t, Options{Params: small(), AtOnce: 2})
+	text, err := hasher.Hash(ctx, nil)
+	if err != nil {
+		t.Fatal(err)
+	}
+	running, err := hasher.begin(ctx)
+	if err != nil {
+		t.Fatal(err)
+	}
+	if err := hasher.Verify(ctx, text, nil); err != nil {
+		t.Fatal(err)
+	}
+	if kept := len(hasher.memories.idle); kept != 1 {
+		t.Errorf("%d memories are kept before it is closed", kept)
+	}
+	for i := 0; i < 2; i++ {
+		if err := hasher.Close(); err != nil {
+			t.Error(err)
+		}
+	}
+	for i, err := range refused(ctx, hasher) {
+		if !errors.Is(err, ErrClosed) {
+			t.Errorf("call %d of a closed Hasher: %v", i, err)
+		}
+	}
+	if weak, err := hasher.NeedsRehash(text); weak || err != nil {
+		t.Errorf("NeedsRehash of a closed Hasher: %v, %v", weak, err)
+	}
+	if err := running.verify(text, nil); err != nil {
+		t.Errorf("a derivation that began before: %v", err)
+	}
+	hasher.end(running)
+	if kept := len(hasher.memories.idle); kept != 0 {
+		t.Errorf("%d memories are kept after it is closed", kept)
+	}
+}
+
+func TestCloseEndsWaits(t *testing.T) {
+	hasher := newHasher(t, Options{Params: small(), AtOnce: 1})
+	running, err := hasher.begin(context.Background())
+	if err != nil {
+		t.Fatal(err)
+	}
+	waiting := make(chan error)
+	for i := 0; i < 4; i++ {
+		go func() { waiting <- hasher.Verify(context.Background(), "", nil) }()
+	}
+	time.Sleep(10 * time.Millisecond)
+	if err := hasher.Close(); err != nil {
+		t.Error(err)
+	}
+	for i := 0; i < 4; i++ {
+		if err := <-waiting; !errors.Is(err, ErrClosed) {
+			t.Errorf("who waited: %v", err)
+		}
+	}
+	hasher.end(running)
+}
+
+func TestCloseWhileManyDerive(t *testing.T) {
+	for i := 0; i < 20; i++ {
+		hasher := newHasher(t, Options{Params: Params{LogN: 6}, AtOnce: 4})
+		var all sync.WaitGroup
+		for j := 0; j < 8; j++ {
+			all.Add(1)
+			go func() {
+				defer all.Done()
+				var err error
+				for err == nil {
+					_, err = hasher.Hash(context.Background(), nil)
+				}
+				if !errors.Is(err, ErrClosed) {
+					t.Error(err)
+				}
+			}()
+		}
+		time.Sleep(time.Millisecond)
+		if err := hasher.Close(); err != nil {
+			t.Error(err)
+		}
+		all.Wait()
+		if kept := len(hasher.memories.idle); kept != 0 {
+			t.Errorf("%d memories are kept", kept)
+		}
+	}
+}
+
+// A memory of 64 MiB is given back to the system.
+func TestCloseGivesMemoryBack(t *testing.T) {
+	hasher := newHasher(t, Options{Params: Params{LogN: 16}})
+	before := resident(t)
+	if _, err := hasher.Hash(context.Background(), nil); err != nil {
+		t.Fatal(err)
+	}
+	kept := resident(t) - before
+	if err := hasher.Close(); err != nil {
+		t.Error(err)
+	}
+	if left := resident(t) - before; kept < 60<<10 || left > 8<<10 {
+		t.Errorf("%d KiB were kept, and %d are left", kept, left)
+	}
+}
