@@ -1,3 +1,5 @@
+//go:build cgo && linux && amd64
+
 package scrypt
 
 // Error is why a call failed: a status of scrypt_c.h, or one of the negative ones, which C does not have.

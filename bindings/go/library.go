@@ -1,6 +1,12 @@
+//go:build cgo && linux && amd64
+
 package scrypt
 
+// #if defined SCRYPT_BUNDLED && !(__has_include("scrypt_c.h") && __has_include("libscrypt_c.a"))
+// #error "scrypt_c.h and libscrypt_c.a are not in the folder of the package scrypt: make lib puts them there; or build with -tags scrypt_system, for the library that make install installs"
+// #else
 // #include <scrypt_c.h>
+// #endif
 // static size_t mcf_capacity(size_t salt_len) { return SCRYPT_MCF_CAPACITY(salt_len); }
 import "C"
 

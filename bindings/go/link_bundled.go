@@ -1,7 +1,7 @@
-//go:build !scrypt_system
+//go:build cgo && linux && amd64 && !scrypt_system
 
 package scrypt
 
-// #cgo CFLAGS: -I${SRCDIR}
+// #cgo CFLAGS: -I${SRCDIR} -DSCRYPT_BUNDLED
 // #cgo LDFLAGS: ${SRCDIR}/libscrypt_c.a
 import "C"

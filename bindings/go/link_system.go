@@ -1,4 +1,4 @@
-//go:build scrypt_system
+//go:build cgo && linux && amd64 && scrypt_system
 
 package scrypt
 

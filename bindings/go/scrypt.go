@@ -1,3 +1,5 @@
+//go:build cgo && linux && amd64
+
 // Package scrypt derives keys by scrypt (RFC 7914), and makes and verifies its password hashes, by the library
 // libscrypt_c, whose calls are proved. The package, which calls it by cgo, is tested and not proved.
 //

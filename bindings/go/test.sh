@@ -19,6 +19,27 @@ test -z "$(in_module gofmt -l .)"
 in_module go test -race -count=1 ./...
 echo "no report by go vet, gofmt and the race detector"
 
+# What a build prints where something is missing: the module in a folder of its own, with neither file of the library.
+mkdir "$room/bare"
+cp bindings/go/*.go bindings/go/go.mod "$room/bare"
+refused() {
+  words=$1
+  shift
+  if (cd "$room/bare" && "$@" > "$room/log" 2>&1); then
+    echo "$* builds the module without what it needs" >&2
+    exit 1
+  fi
+  grep -q "$words" "$room/log" || { cat "$room/log"; exit 1; }
+}
+refused 'error.*libscrypt_c.a are not in the folder' go build .
+cp "$lib/scrypt_c.h" "$room/bare"
+refused 'error.*libscrypt_c.a are not in the folder' go build .
+cp "$lib/libscrypt_c.a" "$room/bare"
+(cd "$room/bare" && go build .)
+refused 'undefined: scrypt_needs_cgo' env CGO_ENABLED=0 go build .
+refused 'undefined: scrypt_needs_cgo.*linux_amd64' env GOARCH=arm64 go build .
+echo "a build without the library, without cgo, or for another processor says what is missing"
+
 # A program in a module of its own, which prints true.
 mkdir "$room/program"
 cat > "$room/program/main.go" << 'PROGRAM'
@@ -56,6 +77,7 @@ test "$("$room/program/program")" = true
 echo "taken by go get and by go mod vendor, with no variable set"
 
 if has pkg-config pkg-config; then
+  refused 'scrypt_c' env PKG_CONFIG_LIBDIR="$room" PKG_CONFIG_PATH= go build -tags scrypt_system .
   make -s install prefix="$room/usr" DESTDIR= > /dev/null
   export PKG_CONFIG_PATH="$room/usr/lib/pkgconfig" LD_LIBRARY_PATH="$room/usr/lib"
   in_program go build -mod=vendor -tags scrypt_system -o program .
