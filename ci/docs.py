@@ -25,7 +25,7 @@ PROMISES = clauses.PROMISES
 
 # Names of other programs and libraries, and words of texts and commands.
 OTHERS = set("""
-libscrypt_check libscrypt_hash maxmem_bytes must_use needs_update salt_length
+check_password libscrypt_check libscrypt_hash maxmem_bytes must_use needs_update salt_length
 """.split())
 
 
