@@ -45,6 +45,16 @@ fn refused_options() {
     for (why, options, wanted) in [
         ("no salt", Options { salt_len: 0, ..small() }, Error::SaltInvalid),
         ("a salt of 65 bytes", Options { salt_len: 65, ..small() }, Error::SaltInvalid),
+        (
+            "a salt of 16 bytes in 8 bits",
+            Options { salt_len: 16 + (1 << 8), ..small() },
+            Error::SaltInvalid,
+        ),
+        (
+            "a salt of 16 bytes in 32 bits",
+            Options { salt_len: 16 + (1 << 32), ..small() },
+            Error::SaltInvalid,
+        ),
         ("no derivation at all", Options { at_once: 0, ..small() }, Error::InvalidParams),
     ] {
         assert_eq!(Hasher::new(options).err(), Some(wanted), "{why}");
@@ -79,6 +89,13 @@ fn refused_texts() {
         ("another algorithm", "$argon2$c2FsdHNhbHQ$", Error::Algorithm),
         ("a version", "$scrypt$v=1$c2FsdHNhbHQ$", Error::Version),
         ("ln above 255", "$scrypt$ln=256$c2FsdHNhbHQ$", Error::ParamInvalid),
+        ("r of 8 in 32 bits", "$scrypt$ln=4,r=4294967304,p=1$c2FsdHNhbHQ$", Error::ParamInvalid),
+        (
+            "p of 1 in 64 bits",
+            "$scrypt$ln=4,r=8,p=18446744073709551617$c2FsdHNhbHQ$",
+            Error::ParamInvalid,
+        ),
+        ("a product of 0", "$scrypt$ln=4,r=65536,p=65536$c2FsdHNhbHQ$", Error::ParamsInvalid),
         ("ln of 57", "$scrypt$ln=57$c2FsdHNhbHQ$", Error::ParamsInvalid),
         ("an empty key", "$7$26..../....salt$", Error::OutputSize),
     ] {

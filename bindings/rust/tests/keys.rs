@@ -92,6 +92,31 @@ fn params() {
     assert_eq!(Params::new_with_output_len(4, 1, 1, 64).unwrap().key_len(), 64);
 }
 
+/// Numbers that a narrower type, or a product without a check, would cut off to accepted ones.
+#[test]
+fn numbers_are_not_cut_off() {
+    for (why, log_n, r, p) in [
+        ("log_n of 4 in 6 bits", 68, 8, 1),
+        ("the greatest log_n", u8::MAX, 1, 1),
+        ("a product of 0 in 32 bits", 4, 1 << 16, 1 << 16),
+        ("a product of 1 in 32 bits", 4, u32::MAX, u32::MAX),
+        ("a product of 8 in 32 bits", 4, 8, (1 << 29) + 1),
+        ("128 * r of 0 in 32 bits", 4, 1 << 25, 1 << 5),
+    ] {
+        assert_eq!(Params::new(log_n, r, p), Err(InvalidParams), "{why}");
+    }
+    for (why, len) in [
+        ("32 in 8 bits", 32 + (1 << 8)),
+        ("32 in 32 bits", 32 + (1 << 32)),
+        ("the greatest length", usize::MAX),
+    ] {
+        assert_eq!(Params::new_with_output_len(4, 8, 1, len), Err(InvalidParams), "{why}");
+    }
+    let largest = Params::new(56, 1, (1 << 30) - 1).unwrap();
+    assert!(largest.memory() > 1 << 63, "memory above 63 bits");
+    assert_eq!(largest.cores(), (4 * ((1 << 30) - 1)) << 56, "cores above 64 bits");
+}
+
 #[test]
 fn salts_are_drawn() {
     let (mut one, mut other) = ([0; 16], [0; 16]);
