@@ -27,6 +27,8 @@ pub enum Error {
     PasswordInvalid,
     /// The parameters, or the length of the key, are not accepted.
     InvalidParams,
+    /// The output has no byte, or more than 137438953440 bytes.
+    InvalidOutputLen,
     /// The memory is not available.
     OutOfMemory,
     /// The hash names another algorithm.
@@ -68,6 +70,7 @@ impl Error {
         match status {
             MISMATCH => Error::PasswordInvalid,
             INVALID_PARAMS => Error::InvalidParams,
+            INVALID_OUTPUT_LEN => Error::InvalidOutputLen,
             OUT_OF_MEMORY => Error::OutOfMemory,
             ALGORITHM => Error::Algorithm,
             ENCODING_INVALID => Error::EncodingInvalid,
@@ -98,6 +101,16 @@ impl From<InvalidParams> for Error {
     }
 }
 
+impl From<DeriveError> for Error {
+    fn from(error: DeriveError) -> Error {
+        match error {
+            DeriveError::InvalidOutputLen => Error::InvalidOutputLen,
+            DeriveError::OutOfMemory => Error::OutOfMemory,
+            DeriveError::Status(status) => Error::Status(status),
+        }
+    }
+}
+
 impl fmt::Display for InvalidParams {
     fn fmt(&self, f: &mut fmt::Formatter<'_>) -> fmt::Result {
         f.write_str("invalid scrypt parameters")
@@ -119,6 +132,7 @@ impl fmt::Display for Error {
         f.write_str(match self {
             Error::PasswordInvalid => "the password does not match the hash",
             Error::InvalidParams => "invalid scrypt parameters",
+            Error::InvalidOutputLen => "invalid output length",
             Error::OutOfMemory => "out of memory",
             Error::Algorithm => "the hash names another algorithm",
             Error::EncodingInvalid => "the text is not a PHC or $7$ hash",

@@ -1,6 +1,6 @@
 //! Makes hashes in both formats, verifies passwords by them, and tries each refusal.
 
-use scrypt_c::{params_of, Bounds, Error, Format, Hasher, Options, Params};
+use scrypt_c::{params_of, scrypt, Bounds, DeriveError, Error, Format, Hasher, Options, Params};
 use std::collections::HashSet;
 use std::time::{Duration, Instant};
 
@@ -184,6 +184,23 @@ fn many_threads() {
             });
         }
     });
+}
+
+/// `?` takes each error of the crate to the widest.
+#[test]
+fn each_error_becomes_the_widest() {
+    fn params() -> Result<Params, Error> {
+        Ok(Params::new(64, 8, 1)?)
+    }
+    fn key(params: Params, output: &mut [u8]) -> Result<(), Error> {
+        Ok(scrypt(b"", b"", &params, output)?)
+    }
+    let large = Params::new(56, 1, 1).unwrap();
+    assert_eq!(params(), Err(Error::InvalidParams));
+    assert_eq!(key(Params::RECOMMENDED, &mut []), Err(Error::InvalidOutputLen));
+    assert_eq!(key(large, &mut [0]), Err(Error::OutOfMemory));
+    assert_eq!(Error::from(DeriveError::Status(99)), Error::Status(99));
+    assert!(!Error::InvalidOutputLen.is_invalid_hash());
 }
 
 #[test]
