@@ -29,15 +29,22 @@ pub struct Options {
     pub bounds: Option<Bounds>,
 }
 
-impl Default for Options {
-    fn default() -> Options {
+impl Options {
+    // The default ones, with these parameters.
+    pub(crate) fn of(params: Params) -> Options {
         Options {
-            params: Params::RECOMMENDED,
+            params,
             format: Format::Phc,
             salt_len: 16,
             at_once: std::thread::available_parallelism().map_or(1, usize::from),
             bounds: None,
         }
+    }
+}
+
+impl Default for Options {
+    fn default() -> Options {
+        Options::of(Params::RECOMMENDED)
     }
 }
 

@@ -14,8 +14,8 @@
 //! # }
 //! ```
 //!
-//! [`scrypt()`] and [`Params`] have the names of the crate `scrypt`. With the feature `password-hash` there is also
-//! `Scrypt`, with the traits that it has in that crate.
+//! [`scrypt()`], [`Params`] and [`Scrypt`](struct@Scrypt) have the names of the crate `scrypt` 0.12, with traits of this crate's own in
+//! [`password_hash`] and [`kdf`]. With the feature `password-hash` `Scrypt` has those of the crate `password-hash` 0.4 too.
 #![warn(missing_docs)]
 
 // README's examples are tested as those above.
@@ -23,23 +23,30 @@
 #[doc = include_str!("../README.md")]
 struct Readme;
 
+mod algorithm;
 mod bounds;
 mod calls;
-mod errors;
+pub mod errors;
 mod hasher;
+pub mod kdf;
+pub mod mcf;
 mod memories;
 mod params;
+pub mod password_hash;
+pub mod phc;
 #[cfg(feature = "password-hash")]
-mod traits;
+mod traits_0_4;
 
+pub use algorithm::Scrypt;
 pub use bounds::{params_of, Bounds};
 pub use errors::{DeriveError, Error, InvalidParams};
 pub use hasher::{Format, Hasher, Options};
+pub use kdf::{Kdf, Pbkdf};
 pub use params::Params;
 #[cfg(feature = "password-hash")]
-pub use password_hash;
+pub use password_hash_0_4;
 #[cfg(feature = "password-hash")]
-pub use traits::{Scrypt, ALG_ID};
+pub use traits_0_4::ALG_ID;
 
 use calls::{scrypt_draw_salt, scrypt_kdf_mapped, OK};
 

@@ -13,6 +13,15 @@ pub struct Params {
 }
 
 impl Params {
+    /// The recommended logarithm of N.
+    pub const RECOMMENDED_LOG_N: u8 = 17;
+    /// The recommended block size.
+    pub const RECOMMENDED_R: u32 = 8;
+    /// The recommended parallelization.
+    pub const RECOMMENDED_P: u32 = 1;
+    /// The recommended length of a hash's key in bytes.
+    pub const RECOMMENDED_LEN: usize = 32;
+
     /// The parameters to begin with, which take 128 MiB.
     pub const RECOMMENDED: Params = Params { log_n: 17, r: 8, p: 1, len: None };
 

@@ -1,57 +1,148 @@
-//! The traits of the crate password-hash, as code for the crate scrypt uses them.
-#![cfg(feature = "password-hash")]
+//! This crate's own traits, as code for the crate scrypt 0.12 uses theirs.
 
-use scrypt_c::password_hash::{Error, PasswordHash, PasswordHasher, PasswordVerifier, SaltString};
-use scrypt_c::{draw_salt, Hasher, Params, Scrypt, ALG_ID};
+use scrypt_c::password_hash::{
+    phc::{PasswordHash, Salt},
+    CustomizedPasswordHasher, PasswordHasher, PasswordVerifier,
+};
+use scrypt_c::{mcf, params_of, Error, Hasher, Kdf, Params, Pbkdf, Scrypt};
 
-fn drawn() -> SaltString {
-    let mut salt = [0; 16];
-    draw_salt(&mut salt).unwrap();
-    SaltString::b64_encode(&salt).unwrap()
+fn small() -> Scrypt {
+    Scrypt::new_with_params(Params::new(4, 3, 2).unwrap())
+}
+
+/// The steps of a program that stores a hash and reads it again, each with `?`.
+#[test]
+fn stored_and_read_again() -> Result<(), Box<dyn std::error::Error>> {
+    let scrypt = Scrypt::default();
+    let hash: PasswordHash = scrypt.hash_password(b"a password")?;
+    let stored = hash.to_string();
+    assert!(stored.starts_with("$scrypt$ln=17,r=8,p=1$"), "{stored}");
+    let read = PasswordHash::new(&stored)?;
+    scrypt.verify_password(b"a password", &read)?;
+    assert_eq!(scrypt.verify_password(b"another", &read), Err(Error::PasswordInvalid));
+    assert_eq!(Hasher::default().verify(&stored, "a password"), Ok(()), "the hasher reads it");
+    Ok(())
 }
 
 #[test]
-fn recommended() {
-    let salt = drawn();
-    let text = Scrypt.hash_password(b"hunter42", &salt).unwrap().to_string();
-    assert!(text.starts_with("$scrypt$ln=17,r=8,p=1$"), "{text}");
-    let hash = PasswordHash::new(&text).unwrap();
-    assert_eq!(Scrypt.verify_password(b"hunter42", &hash), Ok(()));
-    assert_eq!(Scrypt.verify_password(b"hunter2", &hash), Err(Error::Password));
-    assert_eq!(Hasher::default().verify(&text, "hunter42"), Ok(()), "the hasher reads it");
+fn parameters() {
+    assert_eq!(Scrypt::default(), Scrypt::new());
+    let params = Params::new_with_output_len(4, 3, 2, 20).unwrap();
+    assert_eq!(Scrypt::from(params), Scrypt::new_with_params(params));
+    let hash: PasswordHash = Scrypt::from(params).hash_password(b"pw").unwrap();
+    assert_eq!(Params::try_from(&hash), Ok(params), "new hashes have the value's parameters");
+    let hash: PasswordHash =
+        Scrypt::new().hash_password_with_params(b"pw", b"saltsalt", params).unwrap();
+    assert_eq!(Params::try_from(&hash), Ok(params), "and those of the call");
+    assert_eq!(
+        Params::try_from(&PasswordHash::new("$scrypt$ln=4").unwrap()),
+        Params::new(4, 8, 1).map_err(Error::from)
+    );
 }
 
 #[test]
-fn customized() {
-    for len in [10, 32, 64] {
-        let salt = drawn();
-        let params = Params::new_with_output_len(4, 3, 2, len).unwrap();
-        let made = Scrypt.hash_password_customized(b"pw", Some(ALG_ID), None, params, &salt);
-        let text = made.unwrap().to_string();
-        let hash = PasswordHash::new(&text).unwrap();
-        assert_eq!(Params::try_from(&hash), Ok(params));
-        assert_eq!(Scrypt.verify_password(b"pw", &hash), Ok(()));
-        assert_eq!(hash.verify_password(&[&Scrypt], b"PW"), Err(Error::Password));
-        assert_eq!(Hasher::default().verify(&text, "pw"), Ok(()));
+fn mcf_hashes() {
+    let hash: mcf::PasswordHash = small().hash_password_with_salt(b"pw", b"saltsalt").unwrap();
+    let text = hash.to_string();
+    let borrowed = mcf::PasswordHashRef::new(&text).unwrap();
+    assert_eq!((borrowed, borrowed.as_str()), (hash.as_password_hash_ref(), text.as_str()));
+    assert_eq!(mcf::PasswordHash::new(text.as_str()), Ok(hash.clone()));
+    for (password, wanted) in [(b"pw", Ok(())), (b"PW", Err(Error::PasswordInvalid))] {
+        assert_eq!(small().verify_password(password, &hash), wanted);
+        assert_eq!(small().verify_password(password, borrowed), wanted);
     }
+    assert_eq!(params_of(&text), Ok((Params::new(4, 3, 2).unwrap(), 32)));
 }
 
 #[test]
-fn refused() {
-    const KEY: &str = "c2FsdHNhbHQ$AAAAAAAAAAAAAAAAAAAA";
-    for (why, front) in [
-        ("another algorithm", "$argon2$ln=4,r=8,p=1"),
-        ("a version", "$scrypt$v=1$ln=4,r=8,p=1"),
-        ("ln above 255", "$scrypt$ln=256,r=8,p=1"),
-        ("ln of 57", "$scrypt$ln=57,r=8,p=1"),
-        ("more cores than the usual bound", "$scrypt$ln=13,r=1,p=8192"),
-        ("more memory than the usual bound", "$scrypt$ln=21,r=8,p=1"),
-        ("r is no number", "$scrypt$ln=4,r=x,p=1"),
-        ("a name that scrypt lacks", "$scrypt$ln=4,r=8,p=1,q=1"),
+fn salts() {
+    for (why, len, wanted) in [
+        ("none", 0, false),
+        ("the shortest", 1, true),
+        ("the longest", 64, true),
+        ("a byte more", 65, false),
+        ("16 in 8 bits", 16 + (1 << 8), false),
     ] {
-        let text = format!("{front}${KEY}");
-        let hash = PasswordHash::new(&text).unwrap();
-        let refused = Scrypt.verify_password(b"", &hash);
-        assert!(!matches!(refused, Ok(()) | Err(Error::Password)), "{why}: {refused:?}");
+        let bytes = vec![7; len];
+        let salt = Salt::new(&bytes);
+        assert_eq!(salt.map(|it| it.to_vec()).ok(), wanted.then(|| bytes.clone()), "{why}");
+        let hash: Result<PasswordHash, _> = small().hash_password_with_salt(b"pw", &bytes);
+        assert_eq!(hash.is_ok(), wanted, "{why}");
+        if wanted {
+            assert_eq!(small().hash_password_with_salt(b"pw", &salt.unwrap()), hash, "{why}");
+        } else {
+            assert_eq!(hash.err(), Some(Error::SaltInvalid), "{why}");
+        }
     }
+}
+
+#[test]
+fn refused_algorithms() {
+    let params = Params::new(4, 3, 2).unwrap();
+    for (why, algorithm, version, phc, mcf) in [
+        ("the default", None, None, None, None),
+        ("the name in PHC texts", Some("scrypt"), None, None, Some(Error::Algorithm)),
+        ("the name in $7$ texts", Some("7"), None, Some(Error::Algorithm), None),
+        ("another", Some("argon2"), None, Some(Error::Algorithm), Some(Error::Algorithm)),
+        ("a version", None, Some(1), Some(Error::Version), Some(Error::Version)),
+    ] {
+        let of_phc: Result<PasswordHash, _> =
+            Scrypt::new().hash_password_customized(b"", b"salt", algorithm, version, params);
+        let of_mcf: Result<mcf::PasswordHash, _> =
+            Scrypt::new().hash_password_customized(b"", b"salt", algorithm, version, params);
+        assert_eq!((of_phc.err(), of_mcf.err()), (phc, mcf), "{why}");
+    }
+}
+
+#[test]
+fn refused_texts() {
+    const KEY: &str = "$c2FsdHNhbHQ$AAAAAAAAAAAAAAAAAAAA";
+    for (why, front, wanted) in [
+        ("another algorithm", "$argon2$ln=4,r=8,p=1", Error::Algorithm),
+        ("a version", "$scrypt$v=1$ln=4,r=8,p=1", Error::Version),
+        ("ln above 255", "$scrypt$ln=260,r=8,p=1", Error::ParamInvalid),
+        ("ln of 57", "$scrypt$ln=57,r=8,p=1", Error::ParamsInvalid),
+        ("a $7$ text", "$7$", Error::Algorithm),
+        ("no text of a hash", "scrypt", Error::EncodingInvalid),
+    ] {
+        let text = format!("{front}{KEY}");
+        assert_eq!(PasswordHash::new(&text), Err(wanted), "{why}");
+        assert_eq!(text.parse::<PasswordHash>(), Err(wanted), "{why}");
+    }
+    for (why, text, wanted) in [
+        ("a PHC text", "$scrypt$ln=4,r=8,p=1", Error::Algorithm),
+        ("cut off", "$7$", Error::EncodingInvalid),
+        ("an empty key", "$7$26..../....salt$", Error::OutputSize),
+    ] {
+        assert_eq!(mcf::PasswordHashRef::new(text), Err(wanted), "{why}");
+        assert_eq!(mcf::PasswordHash::new(text), Err(wanted), "{why}");
+    }
+}
+
+/// A hash that needs more than the usual bounds is refused, unless the value's own parameters need as much.
+#[test]
+fn costly_hashes() {
+    let text = |costs| format!("$scrypt${costs}$c2FsdHNhbHQ$AAAAAAAAAAAAAAAAAAAA");
+    let large = Scrypt::new_with_params(Params::new(10, 1, 8192).unwrap());
+    for (why, scrypt, costs, wanted) in [
+        ("more cores", Scrypt::new(), "ln=13,r=1,p=8192", Error::TooCostly),
+        ("more memory", Scrypt::new(), "ln=21,r=8,p=1", Error::TooCostly),
+        ("as many cores as new hashes", large, "ln=10,r=1,p=8192", Error::PasswordInvalid),
+    ] {
+        let hash = PasswordHash::new(&text(costs)).unwrap();
+        assert_eq!(scrypt.verify_password(b"", &hash), Err(wanted), "{why}");
+    }
+}
+
+#[test]
+fn keys() {
+    fn derived(kdf: &impl Pbkdf) -> [u8; 32] {
+        let mut key = [0; 32];
+        kdf.derive_key(b"pw", b"salt", &mut key).unwrap();
+        key
+    }
+    let mut key = [0; 32];
+    scrypt_c::scrypt(b"pw", b"salt", &Params::new(4, 3, 2).unwrap(), &mut key).unwrap();
+    assert_eq!(derived(&small()), key);
+    assert_eq!(small().derive_key(b"", b"", &mut []), Err(scrypt_c::kdf::Error::InvalidOutputLen));
 }

@@ -1,32 +1,13 @@
 //! The traits of the crate `password-hash`, 0.4.
 
-use crate::{scrypt, Bounds, DeriveError, Params};
-use password_hash::errors::InvalidValue;
-use password_hash::{
+use crate::{scrypt, Bounds, DeriveError, InvalidParams, Params, Scrypt};
+use password_hash_0_4::errors::InvalidValue;
+use password_hash_0_4::{
     Decimal, Error, Ident, Output, ParamsString, PasswordHash, PasswordHasher, Result, Salt,
 };
 
 /// The identifier of scrypt in a PHC text.
 pub const ALG_ID: Ident<'static> = Ident::new_unwrap("scrypt");
-
-/// scrypt by the traits of `password-hash`, as the crate `scrypt` has it: `use scrypt_c::Scrypt` stands for
-/// `use scrypt::Scrypt`.
-///
-/// ```
-/// use scrypt_c::password_hash::{PasswordHash, PasswordHasher, PasswordVerifier, SaltString};
-/// use scrypt_c::Scrypt;
-///
-/// # fn main() -> scrypt_c::password_hash::Result<()> {
-/// let mut drawn = [0; 16];
-/// scrypt_c::draw_salt(&mut drawn).expect("random bytes of the system");
-/// let salt = SaltString::b64_encode(&drawn)?;
-/// let text = Scrypt.hash_password(b"hunter42", &salt)?.to_string();
-/// Scrypt.verify_password(b"hunter42", &PasswordHash::new(&text)?)?;
-/// # Ok(())
-/// # }
-/// ```
-#[derive(Clone, Copy, Debug, Default, PartialEq, Eq)]
-pub struct Scrypt;
 
 impl PasswordHasher for Scrypt {
     type Params = Params;
@@ -58,6 +39,15 @@ impl PasswordHasher for Scrypt {
             salt: Some(salt),
             hash: Some(output),
         })
+    }
+
+    // The provided one takes the recommended parameters, whatever those of this value are.
+    fn hash_password<'a, S>(&self, password: &[u8], salt: &'a S) -> Result<PasswordHash<'a>>
+    where
+        S: AsRef<str> + ?Sized,
+    {
+        let salt = Salt::try_from(salt.as_ref())?;
+        self.hash_password_customized(password, None, None, self.params, salt)
     }
 }
 
@@ -109,5 +99,11 @@ impl TryFrom<Params> for ParamsString {
 impl From<DeriveError> for Error {
     fn from(_: DeriveError) -> Error {
         Error::Crypto
+    }
+}
+
+impl From<InvalidParams> for Error {
+    fn from(_: InvalidParams) -> Error {
+        Error::ParamValueInvalid(InvalidValue::Malformed)
     }
 }
