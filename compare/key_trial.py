@@ -62,10 +62,10 @@ class Trial:
     def opens(self, wanted, about, open_file, *args, **limits):
         self.check(open_file(*args, **limits) == wanted, f"{about} is not opened")
 
-    def refuses(self, about, open_file, *args):
+    def refuses(self, about, open_file, *args, **limits):
         """A wrong password, or a file that was changed."""
         try:
-            open_file(*args)
+            open_file(*args, **limits)
         except ValueError:
             return self.check(True, about)
         self.check(False, f"{about} is opened")

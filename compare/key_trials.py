@@ -25,8 +25,8 @@ MINISIGN_CASES = [
     ((1 << 20, 1 << 22), (12, 8, 8)),
 ]
 
-# What minisign's own keys ask for.
-MINISIGN_LIMITS = {"most_memory": 1 << 30, "most_cores": 1 << 25}
+# What the files of minisign and of `scrypt enc` ask for by default, (20, 8, 1).
+RAISED = {"most_memory": 1 << 30, "most_cores": 1 << 25}
 
 
 def age(trial):
@@ -86,6 +86,18 @@ def tarsnap(trial):
     more = file[:7] + bytes([63]) + file[8:48]
     more += hashlib.sha256(more).digest()[:16] + file[64:]
     trial.refuses_at_once("scrypt enc: log_n of 63", trial.tarsnap_keys, more, b"")
+    tarsnap_default(trial, [command, "enc", "--logN", "20", "-r", "8", "-p", "1", *by_input])
+
+
+def tarsnap_default(trial, encrypt):
+    """What `scrypt enc` chooses on most machines is refused, and opened with the limits that the page names."""
+    content, password = trial.content(1000), trial.word()
+    run([*encrypt, trial.path("plain", content), trial.path("tarsnap")], password + "\n")
+    file = read(trial.path("tarsnap"))
+    trial.refuses_at_once("scrypt enc: (20, 8, 1)", trial.tarsnap_keys, file, password.encode())
+    keys = trial.tarsnap_keys(file, password.encode(), **RAISED)
+    trial.opens(content, "scrypt enc: (20, 8, 1)", key_contents.tarsnap_content, file, keys)
+    trial.refuses("scrypt enc: a wrong password", trial.tarsnap_keys, file, password.encode() + b"x", **RAISED)
 
 
 def whole_tarsnap(file, password, trial):
@@ -185,16 +197,12 @@ def minisign(trial):
     run([command, "-G", "-f", "-p", public_path, "-s", secret_path], f"{password}\n{password}\n")
     file = read(secret_path).decode()
     trial.refuses_at_once("minisign: a key of its own", trial.minisign_secret, file, password.encode())
-    number, secret = trial.minisign_secret(file, password.encode(), **MINISIGN_LIMITS)
+    number, secret = trial.minisign_secret(file, password.encode(), **RAISED)
     trial.in_shell(MINISIGN, password=password)
     public = trial.from_base64(read(public_path).decode().split("\n")[1])
     trial.check(public == b"Ed" + number + secret[32:], "the public key beside the secret one")
     trial.check(key_contents.ed25519_public(secret[:32]) == secret[32:], "the public key of the seed")
-    try:
-        trial.minisign_secret(file, password.encode() + b"x", **MINISIGN_LIMITS)
-        trial.check(False, "minisign: a wrong password opens a key")
-    except ValueError:
-        trial.check(True, "minisign: a wrong password")
+    trial.refuses("minisign: a wrong password", trial.minisign_secret, file, password.encode() + b"x", **RAISED)
     for limits, costs in MINISIGN_CASES:
         made = key_contents.minisign_file(number, secret, password.encode(), limits, costs, trial.key_of)
         trial.path("secret", made)
