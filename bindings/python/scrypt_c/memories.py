@@ -4,11 +4,11 @@ from __future__ import annotations
 
 import contextlib
 import os
-import threading
 import weakref
 from typing import Iterator, Optional
 
 from . import library
+from .turns import Turns
 
 
 def _free_all(memories: list[int]) -> None:
@@ -26,13 +26,14 @@ class Memories:
         self._bounds = min(most_bytes, (1 << 64) - 1), min(most_cores, (1 << 64) - 1)
         self._idle: list[int] = []
         self._is_closed = False
-        self.reset_turns()
+        self._turns = Turns(at_once)
         weakref.finalize(self, _free_all, self._idle)
         _live.add(self)
 
     def reset_turns(self) -> None:
-        """Makes every turn free again."""
-        self._turns = threading.BoundedSemaphore(self._at_once)
+        """Makes every turn free again. If a signal interrupted the wait of the thread that forks, it ends."""
+        before, self._turns = self._turns, Turns(self._at_once)
+        before.let_all_go()
 
     def close(self) -> None:
         """Frees the memories; one that is in use is freed when its derivation ends."""
@@ -42,8 +43,8 @@ class Memories:
     @contextlib.contextmanager
     def one(self) -> Iterator[int]:
         """A memory; waits until one is free. The one that was used last comes first."""
-        turns = self._turns  # those of before, if the process forks meanwhile
-        if not turns.acquire(timeout=self._timeout):
+        turns = self._turns
+        if not turns.take(self._timeout):
             raise TimeoutError(f"no turn within {self._timeout} seconds: {self._at_once} other derivations are running")
         try:
             memory = self._take()
@@ -54,7 +55,8 @@ class Memories:
                 if self._is_closed:
                     _free_all(self._idle)
         finally:
-            turns.release()
+            if turns is self._turns:  # and this is not a child whose turns are all free again
+                turns.give_back()
 
     def _take(self) -> int:
         if self._is_closed:

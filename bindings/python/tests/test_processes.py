@@ -33,6 +33,11 @@ def forked(call):
             traceback.print_exc()
         finally:
             os._exit(1)
+    return ended(child)
+
+
+def ended(child):
+    """The status of a child, or None if it had to be killed."""
     end = time.monotonic() + WAIT
     while time.monotonic() < end:
         done, status = os.waitpid(child, os.WNOHANG)
@@ -65,7 +70,7 @@ class Forks(unittest.TestCase):
 
         def count():
             with turns_taken(hasher, 2):
-                assert not hasher._memories._turns.acquire(blocking=False)
+                assert not hasher._memories._turns.take(0)
 
         with turns_taken(hasher, 2):
             self.assertEqual(forked(count), 0)
@@ -79,6 +84,21 @@ class Forks(unittest.TestCase):
 
         with turns_taken(hasher, 1):
             self.assertEqual(forked(child), 0)
+
+    def test_a_fork_by_a_signal(self):
+        """Its handler interrupts this thread while it waits for a turn, or derives; the child goes on with that call."""
+        for taken, why in [(1, "while it waits"), (0, "while it derives")]:
+            hasher, children = PasswordHasher(log_n=16, at_once=1), []
+            text = hasher.hash("pw")
+            parent = os.getpid()
+            before = signal.signal(signal.SIGALRM, lambda *_: children.append(os.fork()))
+            with turns_taken(hasher, taken, 0.3):
+                signal.setitimer(signal.ITIMER_REAL, 0.02)
+                hasher.verify(text, "pw")
+            if os.getpid() != parent:
+                os._exit(0)
+            signal.signal(signal.SIGALRM, before)
+            self.assertEqual(ended(children[0]), 0, why)
 
     def test_hashers_are_freed(self):
         """That children get turns keeps no hasher alive."""

@@ -2,6 +2,8 @@
 
 import contextlib
 import gc
+import random
+import signal
 import threading
 import time
 import unittest
@@ -9,19 +11,20 @@ from unittest import mock
 
 import scrypt_c
 from scrypt_c import PasswordHasher, library
+from scrypt_c.turns import Turns
 
 MEMORY_FREE = library.memory_free
 
 
 @contextlib.contextmanager
-def turns_taken(hasher, count):
-    """So many threads that each hold a turn of the hasher."""
+def turns_taken(hasher, count, seconds=None):
+    """So many threads that each hold a turn of the hasher, until the end of the block or for so many seconds."""
     held, done = threading.Barrier(count + 1), threading.Event()
 
     def hold():
         with hasher._memories.one():
             held.wait()
-            done.wait()
+            done.wait(seconds)
 
     threads = [threading.Thread(target=hold) for _ in range(count)]
     for it in threads:
@@ -163,6 +166,68 @@ class Threads(unittest.TestCase):
                 for it in threads:
                     it.join()
             self.assertEqual(most, at_once)
+
+    def test_the_longest_wait_is_next(self):
+        """Threads that begin again at once do not pass the others: each gets about as many turns."""
+        hasher = PasswordHasher(log_n=8, at_once=1)
+        text, counts, end = hasher.hash("pw"), [0] * 4, time.monotonic() + 1
+
+        def derive(number):
+            while time.monotonic() < end:
+                hasher.verify(text, "pw")
+                counts[number] += 1
+
+        threads = [threading.Thread(target=derive, args=(number,)) for number in range(4)]
+        for it in threads:
+            it.start()
+        for it in threads:
+            it.join()
+        self.assertGreater(2 * min(counts), max(counts), counts)
+
+    def test_in_order(self):
+        hasher = PasswordHasher(log_n=4, at_once=1)
+        order = []
+
+        def wait(number):
+            with hasher._memories.one():
+                order.append(number)
+
+        with turns_taken(hasher, 1):
+            threads = [threading.Thread(target=wait, args=(number,)) for number in range(8)]
+            for it in threads:
+                it.start()
+                time.sleep(0.02)
+        for it in threads:
+            it.join()
+        self.assertEqual(order, list(range(8)))
+
+    def test_waits_that_end_lose_no_turn(self):
+        """Timeouts come while turns are handed over, and in the end all turns are free."""
+        turns, stop = Turns(2), time.monotonic() + 1
+
+        def take():
+            while time.monotonic() < stop:
+                if turns.take(random.choice((0, 0.0001, 0.001))):
+                    time.sleep(0.0002)
+                    turns.give_back()
+
+        threads = [threading.Thread(target=take) for _ in range(6)]
+        for it in threads:
+            it.start()
+        for it in threads:
+            it.join()
+        self.assertEqual([turns.take(0) for _ in range(3)], [True, True, False])
+
+    def test_a_wait_that_is_interrupted(self):
+        """By Ctrl-C, say: the turn that comes later is for another thread."""
+        before = signal.signal(signal.SIGALRM, signal.default_int_handler)
+        hasher = PasswordHasher(log_n=4, at_once=1, timeout=5)
+        with turns_taken(hasher, 1):
+            signal.setitimer(signal.ITIMER_REAL, 0.05)
+            with self.assertRaises(KeyboardInterrupt):
+                hasher.hash("pw")
+        signal.signal(signal.SIGALRM, before)
+        hasher.hash("pw")
 
     def test_an_error_gives_its_turn_back(self):
         hasher = PasswordHasher(log_n=4, at_once=1, timeout=5)
