@@ -3,7 +3,7 @@
 package scrypt
 
 // #if defined SCRYPT_BUNDLED && !(__has_include("scrypt_c.h") && __has_include("libscrypt_c.a"))
-// #error "scrypt_c.h and libscrypt_c.a are not in the folder of the package scrypt: make lib puts them there; or build with -tags scrypt_system, for the library that make install installs"
+// #error "scrypt_c.h and libscrypt_c.a are not in the package's folder: make lib, or make install and -tags scrypt_system"
 // #else
 // #include <scrypt_c.h>
 // #endif

@@ -31,9 +31,9 @@ refused() {
   fi
   grep -q "$words" "$room/log" || { cat "$room/log"; exit 1; }
 }
-refused 'error.*libscrypt_c.a are not in the folder' go build .
+refused 'error.*libscrypt_c.a are not in' go build .
 cp "$lib/scrypt_c.h" "$room/bare"
-refused 'error.*libscrypt_c.a are not in the folder' go build .
+refused 'error.*libscrypt_c.a are not in' go build .
 cp "$lib/libscrypt_c.a" "$room/bare"
 (cd "$room/bare" && go build .)
 refused 'undefined: scrypt_needs_cgo' env CGO_ENABLED=0 go build .

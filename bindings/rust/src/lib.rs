@@ -14,8 +14,9 @@
 //! # }
 //! ```
 //!
-//! [`scrypt()`], [`Params`] and [`Scrypt`](struct@Scrypt) have the names of the crate `scrypt` 0.12, with traits of this crate's own in
-//! [`password_hash`] and [`kdf`]. With the feature `password-hash` `Scrypt` has those of the crate `password-hash` 0.4 too.
+//! [`scrypt()`], [`Params`] and [`Scrypt`](struct@Scrypt) have the names of the crate `scrypt` 0.12, with traits of this
+//! crate's own in [`password_hash`] and [`kdf`]. With the feature `password-hash` `Scrypt` has those of the crate
+//! `password-hash` 0.4 too.
 #![warn(missing_docs)]
 
 // README's examples are tested as those above.
