@@ -32,6 +32,12 @@ func TestMain(m *testing.M) {
 		fmt.Println(string(out))
 		os.Exit(1)
 	}
+	for _, path := range []string{room, program} { // for root, whose service runs as another user
+		if err := os.Chmod(path, 0o711); err != nil {
+			fmt.Println(err)
+			os.Exit(1)
+		}
+	}
 	signals := make(chan os.Signal, 1)
 	signal.Notify(signals, os.Interrupt, syscall.SIGTERM)
 	go func() {
@@ -107,7 +113,7 @@ func (w *world) start(arguments ...string) {
 	if len(arguments) > 0 && strings.HasPrefix(arguments[0], "ulimit") {
 		limit, arguments = arguments[0], arguments[1:]
 	}
-	arguments = append([]string{"-c", limit + ` && exec "$@"`, "sh", program, "-store", w.store, "-listen", w.address}, arguments...)
+	arguments = append([]string{"-c", limit + ` && exec ./as.sh "$@"`, "sh", program, "-store", w.store, "-listen", w.address}, arguments...)
 	w.service = exec.Command("sh", arguments...)
 	w.service.Stdout, w.service.Stderr = w.log, w.log
 	w.service.Env = append(os.Environ(), "MALLOC_ARENA_MAX=1", "GOMEMLIMIT=32MiB") // as run.sh

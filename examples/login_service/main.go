@@ -5,10 +5,13 @@ import (
 	"context"
 	"crypto/rand"
 	"database/sql"
+	"errors"
 	"flag"
 	"log"
 	"net/http"
+	"os"
 	"runtime"
+	"strings"
 	"time"
 
 	_ "github.com/lib/pq"
@@ -27,16 +30,33 @@ var (
 
 func main() {
 	flag.Parse()
+	if os.Geteuid() == 0 {
+		log.Fatal("the service does not run as root: run.sh starts it as another user")
+	}
 	hasher := must(scrypt.NewHasher(scrypt.Options{Params: scrypt.Params{LogN: int(*logN), R: 8, P: 1, KeyLen: 32}, MostBytes: *most << 20}))
-	store := must(sql.Open("postgres", "host="+*socket+" user=login_service dbname=postgres sslmode=disable connect_timeout=2"))
-	store.SetMaxOpenConns(16)
-	must(store.Exec(`CREATE TABLE IF NOT EXISTS users (name text PRIMARY KEY, hash text NOT NULL)`))
+	store := must(open(*socket))
 	nobody := must(hasher.Hash(context.Background(), drawn(32)))
 	// A drawn key signs cookies: a restart logs all users out, and no hash depends on it.
 	service := &Service{&Accounts{store, hasher, nobody}, drawn(32), make(chan struct{}, runtime.GOMAXPROCS(0)+*waiting)}
 	server := http.Server{Addr: *listen, Handler: service, ReadTimeout: *patience, WriteTimeout: 3 * *patience, MaxHeaderBytes: mostForm}
 	log.Print("listening on http://", *listen)
 	log.Fatal(server.ListenAndServe())
+}
+
+// open returns the store, or an error if the service may do more there than to read and write its table.
+func open(folder string) (*sql.DB, error) {
+	host := strings.NewReplacer(`\`, `\\`, `'`, `\'`).Replace(folder)
+	store, err := sql.Open("postgres", "host='"+host+"' user=login_service dbname=postgres sslmode=disable connect_timeout=2")
+	if err != nil {
+		return nil, err
+	}
+	store.SetMaxOpenConns(16)
+	var super bool
+	err = store.QueryRow(`SELECT rolsuper FROM pg_roles WHERE rolname = current_user`).Scan(&super)
+	if err == nil && super {
+		err = errors.New("the role login_service is a superuser of the store")
+	}
+	return store, err
 }
 
 // drawn returns random bytes of the system.

@@ -14,22 +14,23 @@ func TestPages(t *testing.T) {
 	w := newWorld(t, small)
 	one, two := newClient(w.address), newClient(w.address)
 	ok, see := w.expect(200), w.expect(303)
+	const ada = "logged in as <b>ada</b>" // and not ada alone, which a token in hexadecimal may have
 	ok(one.read())
 	see(one.send("sign-up", "name", "ada", "new", "first password"))
-	if !strings.Contains(ok(one.read()).page, "logged in as <b>ada</b>") {
+	if !strings.Contains(ok(one.read()).page, ada) {
 		t.Error("a sign-up is no log-in")
 	}
 	see(two.logIn("ada", "first password"))
 	ok(two.read())
 	see(one.send("change", "password", "first password", "new", "second password"))
-	if !strings.Contains(ok(one.read()).page, "ada") {
+	if !strings.Contains(ok(one.read()).page, ada) {
 		t.Error("a change of the password ended its own session")
 	}
-	if strings.Contains(ok(two.read()).page, "ada") {
+	if strings.Contains(ok(two.read()).page, ada) {
 		t.Error("a change of the password left another session")
 	}
 	see(one.send("log-out"))
-	if strings.Contains(ok(one.read()).page, "ada") {
+	if strings.Contains(ok(one.read()).page, ada) {
 		t.Error("logged in after the log-out")
 	}
 	for _, it := range []struct {
