@@ -21,8 +21,8 @@ import (
 var (
 	listen   = flag.String("listen", "127.0.0.1:8080", "where to listen")
 	socket   = flag.String("store", ".", "the folder with PostgreSQL's socket")
-	logN     = flag.Uint("log-n", 17, "log_n of new hashes; r is 8 and p is 1")
-	most     = flag.Uint64("most-mib", 256, "the memory of a derivation, in MiB, above which a hash is refused")
+	logN     = flag.Int("log-n", 17, "log_n of new hashes, 10 to 24; r is 8 and p is 1")
+	most     = flag.Int("most-mib", 256, "the memory of a derivation, in MiB, above which a hash is refused")
 	waiting  = flag.Int("waiting", 32, "how many forms may wait for a processor")
 	patience = flag.Duration("patience", 20*time.Second, "how long a request may be sent, and be answered")
 	https    = flag.Bool("https", false, "send cookies over https alone, which a proxy before the service ends")
@@ -30,10 +30,18 @@ var (
 
 func main() {
 	flag.Parse()
+	within("log-n", *logN, 10, 24)
+	within("most-mib", *most, 1, 1<<20)
+	within("waiting", *waiting, 0, 10_000)
+	within("patience", *patience, time.Second, 10*time.Minute)
 	if os.Geteuid() == 0 {
 		log.Fatal("the service does not run as root: run.sh starts it as another user")
 	}
-	hasher := must(scrypt.NewHasher(scrypt.Options{Params: scrypt.Params{LogN: int(*logN), R: 8, P: 1, KeyLen: 32}, MostBytes: *most << 20}))
+	params := scrypt.Params{LogN: int(*logN), R: 8, P: 1, KeyLen: 32}
+	hasher, err := scrypt.NewHasher(scrypt.Options{Params: params, MostBytes: uint64(*most) << 20})
+	if err != nil {
+		log.Fatalf("-log-n %d with -most-mib %d: %v", *logN, *most, err)
+	}
 	store := must(open(*socket))
 	nobody := must(hasher.Hash(context.Background(), drawn(32)))
 	// A drawn key signs cookies: a restart logs all users out, and no hash depends on it.
@@ -41,6 +49,13 @@ func main() {
 	server := http.Server{Addr: *listen, Handler: service, ReadTimeout: *patience, WriteTimeout: 3 * *patience, MaxHeaderBytes: mostForm}
 	log.Print("listening on http://", *listen)
 	log.Fatal(server.ListenAndServe())
+}
+
+// within ends the program if a flag is outside its range. No number is cut to a smaller type without that.
+func within[T int | time.Duration](name string, value, least, most T) {
+	if value < least || value > most {
+		log.Fatalf("-%s is %v, and %v to %v are allowed", name, value, least, most)
+	}
 }
 
 // open returns the store, or an error if the service may do more there than to read and write its table.
