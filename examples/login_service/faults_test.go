@@ -4,7 +4,6 @@ import (
 	"crypto/rand"
 	"encoding/base64"
 	"fmt"
-	"net"
 	"strings"
 	"sync"
 	"sync/atomic"
@@ -53,9 +52,9 @@ func TestKilledInTheMiddleOf500Changes(t *testing.T) {
 	const users, before, after = 500, "password before", "password after"
 	w := newWorld(t, small)
 	w.users(users, before, 10)
-	browsers := make([]*client, users)
+	browsers := make([]*browser, users)
 	each(users, 16, func(i int) {
-		browsers[i] = newClient(w.address)
+		browsers[i] = newBrowser(w.address)
 		if got, err := browsers[i].logIn(fmt.Sprint("user", i), before); err != nil || got.status != 303 {
 			t.Error(got.status, err)
 		}
@@ -77,8 +76,8 @@ func TestKilledInTheMiddleOf500Changes(t *testing.T) {
 	var old, new, lost int32
 	each(users, 16, func(i int) {
 		name := fmt.Sprint("user", i)
-		was, errBefore := newClient(w.address).logIn(name, before)
-		is, errAfter := newClient(w.address).logIn(name, after)
+		was, errBefore := newBrowser(w.address).logIn(name, before)
+		is, errAfter := newBrowser(w.address).logIn(name, after)
 		switch {
 		case errBefore != nil || errAfter != nil || (was.status == 303) == (is.status == 303):
 			t.Errorf("%s: %d with the old password, %d with the new one, %q", name, was.status, is.status, w.hash(name))
@@ -99,7 +98,7 @@ func TestKilledInTheMiddleOf500Changes(t *testing.T) {
 func TestStoreStoppedAndStarted(t *testing.T) {
 	w := newWorld(t, small)
 	w.users(1, "a password", 10)
-	browser := newClient(w.address)
+	browser := newBrowser(w.address)
 	w.expect(303)(browser.logIn("user0", "a password"))
 	for _, word := range []string{"fast", "immediate"} {
 		w.postgres(word)
@@ -119,7 +118,7 @@ func TestMemoryRefused(t *testing.T) {
 	w := newWorld(t, small, "-most-mib=1024")
 	w.users(1, "a password", 10)
 	w.exec(`INSERT INTO users SELECT 'large' || n, '$scrypt$ln=19,r=8,p=1$c2FsdA$AAAAAAAAAAAAAAAAAAAAAA' FROM generate_series(0, 99) n`)
-	warm := func() { each(400, 16, func(int) { _, _ = newClient(w.address).logIn("user0", "a password") }) }
+	warm := func() { each(400, 16, func(int) { _, _ = newBrowser(w.address).logIn("user0", "a password") }) }
 	warm()
 	limit := w.status("VmSize") + 256<<10
 	w.stop()
@@ -127,11 +126,11 @@ func TestMemoryRefused(t *testing.T) {
 	warm()
 	var refused, others int32
 	each(100, 16, func(i int) {
-		got, err := newClient(w.address).logIn(fmt.Sprint("large", i), "a password")
+		got, err := newBrowser(w.address).logIn(fmt.Sprint("large", i), "a password")
 		if err == nil && got.status == 503 && got.retry != "" {
 			atomic.AddInt32(&refused, 1)
 		}
-		if got, err := newClient(w.address).logIn("user0", "a password"); err == nil && got.status == 303 {
+		if got, err := newBrowser(w.address).logIn("user0", "a password"); err == nil && got.status == 303 {
 			atomic.AddInt32(&others, 1)
 		}
 	})
@@ -179,9 +178,9 @@ func TestHostileHashes(t *testing.T) {
 	}
 	w.peak()
 	var slowest int64
-	browsers := make(chan *client, 8)
+	browsers := make(chan *browser, 8)
 	for i := 0; i < cap(browsers); i++ {
-		browsers <- newClient(w.address)
+		browsers <- newBrowser(w.address)
 	}
 	each(count, cap(browsers), func(i int) {
 		browser := <-browsers
@@ -213,10 +212,10 @@ func TestLargePasswords(t *testing.T) {
 	w := newWorld(t, small)
 	w.users(1, "a password", 10)
 	w.peak()
-	browser, password := newClient(w.address), strings.Repeat("x", 1<<20)
+	browser, password := newBrowser(w.address), strings.Repeat("x", 1<<20)
 	w.expect(303)(browser.logIn("user0", "a password"))
 	each(200, 16, func(int) {
-		browser := newClient(w.address)
+		browser := newBrowser(w.address)
 		// The service may close the connection while the form is still sent.
 		if got, err := browser.logIn("user0", password); err == nil && got.status != 413 {
 			t.Error(got.status, err)
@@ -239,7 +238,7 @@ func TestSlowClients(t *testing.T) {
 		group.Add(1)
 		go func(i int) {
 			defer group.Done()
-			connection, err := net.Dial("tcp", w.address)
+			connection, err := dialer(fmt.Sprint("127.0.1.", 1+i%10)).Dial("tcp", w.address)
 			if err != nil {
 				t.Error(err)
 				return
@@ -260,7 +259,7 @@ func TestSlowClients(t *testing.T) {
 	time.Sleep(500 * time.Millisecond)
 	slowest := time.Duration(0)
 	for i := 0; i < 50; i++ {
-		if got := w.expect(303)(newClient(w.address).logIn("user0", "a password")); got.took > slowest {
+		if got := w.expect(303)(newBrowser(w.address).logIn("user0", "a password")); got.took > slowest {
 			slowest = got.took
 		}
 	}

@@ -18,6 +18,7 @@ import (
 	"strconv"
 	"strings"
 	"sync"
+	"sync/atomic"
 	"syscall"
 	"testing"
 	"time"
@@ -182,17 +183,30 @@ func (w *world) hash(name string) (text string) {
 	return text
 }
 
-// A client is a browser without scripts.
-type client struct {
+// A browser runs no scripts.
+type browser struct {
 	address, token string
 	cookies        map[string]string
 	http           http.Client
 }
 
-func newClient(address string) *client {
+// addresses counts the browsers, each of which has an address of its own on this machine.
+var addresses uint32
+
+func newBrowser(address string) *browser {
+	number := atomic.AddUint32(&addresses, 1)
+	return newBrowserFrom(fmt.Sprintf("127.%d.%d.%d", 1+number>>16, number>>8&255, number&255), address)
+}
+
+func newBrowserFrom(own, address string) *browser {
 	noRedirect := func(*http.Request, []*http.Request) error { return http.ErrUseLastResponse }
-	return &client{address: address, cookies: map[string]string{}, http: http.Client{CheckRedirect: noRedirect,
-		Timeout: 60 * time.Second, Transport: &http.Transport{MaxIdleConnsPerHost: 1}}}
+	return &browser{address: address, cookies: map[string]string{}, http: http.Client{CheckRedirect: noRedirect,
+		Timeout: 60 * time.Second, Transport: &http.Transport{MaxIdleConnsPerHost: 1, DialContext: dialer(own).DialContext}}}
+}
+
+// dialer returns one that connects from an address of this machine.
+func dialer(own string) *net.Dialer {
+	return &net.Dialer{LocalAddr: &net.TCPAddr{IP: net.ParseIP(own)}}
 }
 
 type answer struct {
@@ -204,7 +218,7 @@ type answer struct {
 
 var tokenInPage = regexp.MustCompile(`name="token" value="([^"]*)"`)
 
-func (c *client) ask(method, path string, body io.Reader) (answer, error) {
+func (c *browser) ask(method, path string, body io.Reader) (answer, error) {
 	request, err := http.NewRequest(method, "http://"+c.address+path, body)
 	if err != nil {
 		return answer{}, err
@@ -230,7 +244,7 @@ func (c *client) ask(method, path string, body io.Reader) (answer, error) {
 }
 
 // read opens the page, and keeps the token of its forms.
-func (c *client) read() (answer, error) {
+func (c *browser) read() (answer, error) {
 	got, err := c.ask(http.MethodGet, "/", nil)
 	if found := tokenInPage.FindStringSubmatch(got.page); found != nil {
 		c.token = found[1]
@@ -239,7 +253,7 @@ func (c *client) read() (answer, error) {
 }
 
 // send fills in a form: the action, and the names of its fields each before its value.
-func (c *client) send(action string, fields ...string) (answer, error) {
+func (c *browser) send(action string, fields ...string) (answer, error) {
 	form := url.Values{"token": {c.token}}
 	for i := 0; i < len(fields); i += 2 {
 		form.Set(fields[i], fields[i+1])
@@ -248,7 +262,7 @@ func (c *client) send(action string, fields ...string) (answer, error) {
 }
 
 // logIn is a log-in by a browser that is not logged in.
-func (c *client) logIn(name, password string) (answer, error) {
+func (c *browser) logIn(name, password string) (answer, error) {
 	delete(c.cookies, "session")
 	if c.token == "" || c.cookies["visitor"] == "" {
 		if got, err := c.read(); err != nil || c.token == "" {

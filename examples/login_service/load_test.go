@@ -100,7 +100,7 @@ func load(w *world, clients int, got *count) {
 		group.Add(1)
 		go func(i int) {
 			defer group.Done()
-			browser := newClient(w.address)
+			browser := newBrowser(w.address)
 			defer browser.http.CloseIdleConnections()
 			for time.Now().Before(end) {
 				answer, err := browser.logIn(fmt.Sprint("user", i), "a password")

@@ -8,7 +8,9 @@ import (
 	"errors"
 	"flag"
 	"log"
+	"net"
 	"net/http"
+	"net/netip"
 	"os"
 	"runtime"
 	"strings"
@@ -19,20 +21,29 @@ import (
 )
 
 var (
-	listen   = flag.String("listen", "127.0.0.1:8080", "where to listen")
-	socket   = flag.String("store", ".", "the folder with PostgreSQL's socket")
-	logN     = flag.Int("log-n", 17, "log_n of new hashes, 10 to 24; r is 8 and p is 1")
-	most     = flag.Int("most-mib", 256, "the memory of a derivation, in MiB, above which a hash is refused")
-	waiting  = flag.Int("waiting", 32, "how many forms may wait for a processor")
-	patience = flag.Duration("patience", 20*time.Second, "how long a request may be sent, and be answered")
-	https    = flag.Bool("https", false, "send cookies over https alone, which a proxy before the service ends")
+	listen     = flag.String("listen", "127.0.0.1:8080", "where to listen")
+	socket     = flag.String("store", ".", "the folder with PostgreSQL's socket")
+	logN       = flag.Int("log-n", 17, "log_n of new hashes, 10 to 24; r is 8 and p is 1")
+	most       = flag.Int("most-mib", 256, "the memory of a derivation, in MiB, above which a hash is refused")
+	waiting    = flag.Int("waiting", 32, "how many forms may wait for a processor")
+	patience   = flag.Duration("patience", 20*time.Second, "how long a request may be sent, and be answered")
+	perAddress = flag.Int("per-address", 64, "how many connections an address may have, and of an IPv6 address its first 64 bits")
+	https      = flag.Bool("https", false, "send cookies over https alone, which a proxy before the service ends")
+
+	// The address of a proxy whose X-Forwarded-For is trusted; it is not valid without the flag.
+	proxy netip.Addr
 )
 
 func main() {
+	flag.Func("proxy", "the address of a proxy before the service, whose X-Forwarded-For is trusted", func(text string) (err error) {
+		proxy, err = netip.ParseAddr(text)
+		return err
+	})
 	flag.Parse()
 	within("log-n", *logN, 10, 24)
 	within("most-mib", *most, 1, 1<<20)
 	within("waiting", *waiting, 0, 10_000)
+	within("per-address", *perAddress, 1, 10_000)
 	within("patience", *patience, time.Second, 10*time.Minute)
 	if os.Geteuid() == 0 {
 		log.Fatal("the service does not run as root: run.sh starts it as another user")
@@ -46,9 +57,11 @@ func main() {
 	nobody := must(hasher.Hash(context.Background(), drawn(32)))
 	// A drawn key signs cookies: a restart logs all users out, and no hash depends on it.
 	service := &Service{&Accounts{store, hasher, nobody}, drawn(32), make(chan struct{}, runtime.GOMAXPROCS(0)+*waiting)}
-	server := http.Server{Addr: *listen, Handler: service, ReadTimeout: *patience, WriteTimeout: 3 * *patience, MaxHeaderBytes: mostForm}
-	log.Print("listening on http://", *listen)
-	log.Fatal(server.ListenAndServe())
+	server := http.Server{Handler: service, ReadHeaderTimeout: *patience / 4, ReadTimeout: *patience, WriteTimeout: 3 * *patience,
+		MaxHeaderBytes: mostForm}
+	listener := must(net.Listen("tcp", *listen))
+	log.Print("listening on http://", listener.Addr())
+	log.Fatal(server.Serve(door{listener, newCrowd(*perAddress, connections())}))
 }
 
 // within ends the program if a flag is outside its range. No number is cut to a smaller type without that.

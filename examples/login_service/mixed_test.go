@@ -47,8 +47,8 @@ func (m *mix) told(epoch int32, kind string, got answer, err error) {
 }
 
 // client lets one browser act again and again.
-func (m *mix) client(kind string, act func(browser *client, turn int) (answer, error)) {
-	browser := newClient(m.address)
+func (m *mix) client(kind string, act func(browser *browser, turn int) (answer, error)) {
+	browser := newBrowser(m.address)
 	browser.http.Timeout = 15 * time.Second
 	for turn := 0; time.Now().Before(m.end); turn++ {
 		epoch := atomic.LoadInt32(&m.epoch)
@@ -68,8 +68,8 @@ type changer struct {
 	possible []string
 }
 
-func (c *changer) act(m *mix) func(browser *client, turn int) (answer, error) {
-	return func(browser *client, turn int) (answer, error) {
+func (c *changer) act(m *mix) func(browser *browser, turn int) (answer, error) {
+	return func(browser *browser, turn int) (answer, error) {
 		for _, password := range c.possible {
 			got, err := browser.logIn(c.name, password)
 			if err != nil || got.status == 503 || strings.Contains(got.page, "too old") {
@@ -169,16 +169,16 @@ func TestMixedLoad(t *testing.T) {
 			go func(i int) { defer group.Done(); run(i) }(i)
 		}
 	}
-	user := func(prefix, password string) func(int) func(*client, int) (answer, error) {
-		return func(number int) func(*client, int) (answer, error) {
-			return func(browser *client, turn int) (answer, error) {
+	user := func(prefix, password string) func(int) func(*browser, int) (answer, error) {
+		return func(number int) func(*browser, int) (answer, error) {
+			return func(browser *browser, turn int) (answer, error) {
 				return browser.logIn(fmt.Sprint(prefix, (number*7+turn)%64), password)
 			}
 		}
 	}
 	for kind, it := range map[string]struct {
 		count int
-		act   func(int) func(*client, int) (answer, error)
+		act   func(int) func(*browser, int) (answer, error)
 	}{
 		"log-in": {24, user("user", "a password")}, "wrong": {4, user("user", "not it")}, "unknown": {4, user("nobody", "not it")},
 		"hostile": {4, user("hostile", "not it")}, "1 MiB": {2, user("user", large)},
@@ -187,7 +187,7 @@ func TestMixedLoad(t *testing.T) {
 		many(it.count, func(i int) { m.client(kind, it.act(i)) })
 	}
 	many(2, func(i int) {
-		m.client("sign-up", func(browser *client, turn int) (answer, error) {
+		m.client("sign-up", func(browser *browser, turn int) (answer, error) {
 			delete(browser.cookies, "session")
 			if browser.token == "" {
 				if got, err := browser.read(); err != nil || got.status != 200 {
@@ -223,7 +223,7 @@ func (m *mix) check(t *testing.T, changers []*changer) {
 	for _, it := range changers {
 		rights := 0
 		for _, password := range it.possible {
-			if got, err := newClient(m.address).logIn(it.name, password); err == nil && got.status == 303 {
+			if got, err := newBrowser(m.address).logIn(it.name, password); err == nil && got.status == 303 {
 				rights++
 			}
 		}

@@ -12,7 +12,7 @@ const small = "-log-n=10"
 
 func TestPages(t *testing.T) {
 	w := newWorld(t, small)
-	one, two := newClient(w.address), newClient(w.address)
+	one, two := newBrowser(w.address), newBrowser(w.address)
 	ok, see := w.expect(200), w.expect(303)
 	const ada = "logged in as <b>ada</b>" // and not ada alone, which a token in hexadecimal may have
 	ok(one.read())
@@ -64,7 +64,7 @@ func TestPages(t *testing.T) {
 // The pages are the same letter by letter, and the times are those of the same derivation.
 func TestUnknownUserIsAnsweredAsAWrongPassword(t *testing.T) {
 	w := newWorld(t, "-log-n=14")
-	browser := newClient(w.address)
+	browser := newBrowser(w.address)
 	w.expect(200)(browser.read())
 	w.expect(303)(browser.send("sign-up", "name", "ada", "new", "first password"))
 	w.expect(200)(browser.read())
@@ -104,15 +104,15 @@ func TestImportedHashesAreRewritten(t *testing.T) {
 		part := strings.Split(line, "\t")
 		name, password, text := part[0], part[1], part[2]
 		w.exec(`INSERT INTO users VALUES ($1, $2)`, name, text)
-		w.expect(403)(newClient(w.address).logIn(name, password+"x"))
+		w.expect(403)(newBrowser(w.address).logIn(name, password+"x"))
 		if w.hash(name) != text {
 			t.Errorf("%s: rewritten by a wrong password", name)
 		}
-		w.expect(303)(newClient(w.address).logIn(name, password))
+		w.expect(303)(newBrowser(w.address).logIn(name, password))
 		if after := w.hash(name); !strings.HasPrefix(after, "$scrypt$ln=15,r=8,p=1$") {
 			t.Errorf("%s: %s was not rewritten: %s", name, text, after)
 		}
-		w.expect(303)(newClient(w.address).logIn(name, password))
+		w.expect(303)(newBrowser(w.address).logIn(name, password))
 		t.Logf("%s: %.40s.. logs in and is rewritten", name, text)
 		programs++
 	}

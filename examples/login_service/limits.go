@@ -1,0 +1,123 @@
+package main
+
+import (
+	"log"
+	"net"
+	"net/http"
+	"net/netip"
+	"strings"
+	"sync"
+	"syscall"
+)
+
+// A crowd counts what there is of each network and of all, and lets in no more than its bounds.
+type crowd struct {
+	sync.Mutex
+	each, all, sum int
+	of             map[netip.Prefix]int
+}
+
+func newCrowd(each, all int) *crowd { return &crowd{each: each, all: all, of: map[netip.Prefix]int{}} }
+
+// enter reports whether one more is let in. Only the bound on all applies to the trusted proxy, which has no network.
+func (c *crowd) enter(from netip.Prefix) bool {
+	c.Lock()
+	defer c.Unlock()
+	if c.sum >= c.all || from.IsValid() && c.of[from] >= c.each {
+		return false
+	}
+	c.of[from]++
+	c.sum++
+	return true
+}
+
+func (c *crowd) leave(from netip.Prefix) {
+	c.Lock()
+	defer c.Unlock()
+	c.sum--
+	if c.of[from]--; c.of[from] == 0 {
+		delete(c.of, from)
+	}
+}
+
+// A door is a listener that closes a connection at once if its crowd doesn't let it in.
+type door struct {
+	net.Listener
+	crowd *crowd
+}
+
+func (d door) Accept() (net.Conn, error) {
+	for {
+		connection, err := d.Listener.Accept()
+		if err != nil {
+			return nil, err
+		}
+		var from netip.Prefix
+		if address := addressOf(connection.RemoteAddr().String()); address != proxy {
+			from = network(address)
+		}
+		if d.crowd.enter(from) {
+			return &guest{Conn: connection, leave: func() { d.crowd.leave(from) }}, nil
+		}
+		_ = connection.Close()
+	}
+}
+
+// A guest is a connection that leaves the crowd when it is closed first.
+type guest struct {
+	net.Conn
+	once  sync.Once
+	leave func()
+}
+
+func (g *guest) Close() error {
+	defer g.once.Do(g.leave)
+	return g.Conn.Close()
+}
+
+// connections returns how many may be open: as many as run.sh allows, or fewer if the system allows fewer descriptors.
+// Some are kept for the store and the log.
+func connections() int {
+	const most, kept = 2048, 64
+	var limit syscall.Rlimit
+	must(0, syscall.Getrlimit(syscall.RLIMIT_NOFILE, &limit))
+	if limit.Cur <= kept {
+		log.Fatalf("ulimit -n is %d, and more than %d descriptors are needed", limit.Cur, kept)
+	}
+	if limit.Cur > most {
+		limit.Cur = most
+	}
+	return int(limit.Cur) - kept
+}
+
+// network returns what one client has of addresses: one of IPv4, or the first 64 bits of one of IPv6.
+func network(address netip.Addr) netip.Prefix {
+	bits := 64
+	if address.Is4() {
+		bits = 32
+	}
+	prefix, _ := address.Prefix(bits) // no error, since an address has this many bits
+	return prefix
+}
+
+// addressOf returns the address of a text with or without a port, or one that is not valid.
+func addressOf(text string) netip.Addr {
+	if both, err := netip.ParseAddrPort(text); err == nil {
+		return both.Addr().Unmap().WithZone("")
+	}
+	address, _ := netip.ParseAddr(text)
+	return address.Unmap().WithZone("")
+}
+
+// client returns the address of the client: behind the trusted proxy the last one of X-Forwarded-For, which the proxy
+// adds to what the client may have sent.
+func client(r *http.Request) netip.Addr {
+	peer := addressOf(r.RemoteAddr)
+	if peer == proxy {
+		all := strings.Split(strings.Join(r.Header.Values("X-Forwarded-For"), ","), ",")
+		if address := addressOf(strings.TrimSpace(all[len(all)-1])); address.IsValid() {
+			return address
+		}
+	}
+	return peer
+}

@@ -1,0 +1,93 @@
+package main
+
+import (
+	"fmt"
+	"net"
+	"strings"
+	"testing"
+	"time"
+)
+
+// slowly opens connections that send no whole header, and returns how many the service keeps.
+func (w *world) slowly(count int, from func(number int) string) int {
+	w.Helper()
+	open := make(chan bool, count)
+	each(count, 64, func(i int) {
+		connection, err := dialer(from(i)).Dial("tcp", w.address)
+		if err != nil {
+			open <- false
+			return
+		}
+		w.Cleanup(func() { _ = connection.Close() })
+		_, _ = connection.Write([]byte("GET / HTTP/1.1\r\nHost"))
+		_ = connection.SetReadDeadline(time.Now().Add(300 * time.Millisecond))
+		_, err = connection.Read(make([]byte, 1))
+		timeout, ok := err.(net.Error)
+		open <- ok && timeout.Timeout()
+	})
+	kept := 0
+	for i := 0; i < count; i++ {
+		if <-open {
+			kept++
+		}
+	}
+	return kept
+}
+
+// All descriptors that run.sh allows are fewer than these connections.
+func TestManySlowConnections(t *testing.T) {
+	const count = 2100
+	for _, it := range []struct {
+		why      string
+		from     func(int) string
+		kept     int  // the most that stay open
+		shut     bool // whether there is no room for another client until the slow ones are closed
+		patience string
+	}{
+		{"one client has no more than its share", func(int) string { return "127.0.2.1" }, 64, false, "20s"},
+		{"many clients leave descriptors for the store", func(i int) string { return fmt.Sprint("127.0.3.", 1+i%50) }, 1984, true, "40s"},
+	} {
+		w := newWorld(t, "ulimit -n 2048", small, "-patience="+it.patience)
+		w.users(1, "a password", 10)
+		before := newBrowser(w.address)
+		w.expect(200)(before.read())
+		began := time.Now()
+		if kept := w.slowly(count, it.from); kept > it.kept {
+			t.Errorf("%s: %d connections are open", it.why, kept)
+		}
+		// The store has no connection yet: each log-in at once needs one.
+		got := w.expect(303)(before.send("log-in", "name", "user0", "password", "a password"))
+		if got.took > time.Second {
+			t.Errorf("%s: a client who is connected waits %v", it.why, got.took)
+		}
+		after := newBrowser(w.address)
+		after.http.Timeout = time.Second
+		_, err := after.read()
+		if (err != nil) != it.shut {
+			t.Errorf("%s: a new client gets %v", it.why, err)
+		}
+		for ; err != nil && time.Since(began) < 30*time.Second; time.Sleep(100 * time.Millisecond) {
+			_, err = after.read()
+		}
+		w.expect(303)(after.logIn("user0", "a password"))
+		t.Logf("%s: a new client logs in %v after the first of %d slow connections", it.why, time.Since(began), count)
+		if logged := w.logged(); strings.Contains(logged, "too many open files") {
+			t.Errorf("%s: no descriptor is left\n%s", it.why, logged)
+		}
+	}
+}
+
+func TestAddresses(t *testing.T) {
+	for _, it := range []struct{ why, address, network string }{
+		{"a connection of IPv4", "192.0.2.1:80", "192.0.2.1/32"},
+		{"IPv4 on a socket for both", "[::ffff:192.0.2.1]:80", "192.0.2.1/32"},
+		{"a client has 64 bits of IPv6", "[2001:db8:1:2:3:4:5:6]:80", "2001:db8:1:2::/64"},
+		{"an interface is no part of it", "[fe80::1%eth0]:80", "fe80::/64"},
+		{"a proxy writes no port", "2001:db8::1", "2001:db8::/64"},
+		{"no address", "unknown", "invalid Prefix"},
+	} {
+		if got := network(addressOf(it.address)).String(); got != it.network {
+			t.Errorf("%s: %s is of %s", it.why, it.address, got)
+		}
+	}
+}
