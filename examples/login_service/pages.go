@@ -28,7 +28,7 @@ var (
 	errToken   = Refusal{http.StatusForbidden, "The form is too old. Try again."}
 	errTaken   = Refusal{http.StatusConflict, "The name is taken."}
 	errChanged = Refusal{http.StatusConflict, "The password was changed meanwhile. Try again."}
-	errInput   = Refusal{http.StatusBadRequest, "A name has 1 to 64 characters, a new password 8 or more, and at most 1024 bytes."}
+	errInput   = Refusal{http.StatusBadRequest, "A name has 1 to 64 visible characters, a new password 8 or more, and at most 1024 bytes."}
 	errLarge   = Refusal{http.StatusRequestEntityTooLarge, "The form is damaged, or has more than 16 KiB."}
 	errFull    = Refusal{http.StatusServiceUnavailable, "Too many people are logging in. Try again in a moment."}
 	errNotNow  = Refusal{http.StatusServiceUnavailable, "This is not possible now. Try again in a moment."}
@@ -100,7 +100,11 @@ func (s *Service) act(w http.ResponseWriter, r *http.Request, action string) err
 	case action == "change":
 		return s.derive(w, r, action, owner)
 	}
-	return s.derive(w, r, action, r.PostFormValue("name"))
+	name, ok := normal(r.PostFormValue("name"))
+	if !ok {
+		return errInput
+	}
+	return s.derive(w, r, action, name)
 }
 
 // derive does what needs a derivation, and begins a session. The text of the hash is signed in its cookie, so another
@@ -108,7 +112,7 @@ func (s *Service) act(w http.ResponseWriter, r *http.Request, action string) err
 func (s *Service) derive(w http.ResponseWriter, r *http.Request, action, name string) (err error) {
 	password, wanted, text := r.PostFormValue("password"), r.PostFormValue("new"), ""
 	switch short := utf8.RuneCountInString(wanted) < leastLetters; {
-	case !allowed(name) || len(password) > mostPassword || len(wanted) > mostPassword || short && action != "log-in":
+	case name == "" || len(password) > mostPassword || len(wanted) > mostPassword || short && action != "log-in":
 		return errInput
 	case action == "sign-up":
 		text, err = s.accounts.SignUp(r.Context(), name, wanted)
@@ -123,12 +127,6 @@ func (s *Service) derive(w http.ResponseWriter, r *http.Request, action, name st
 		setCookie(w, "session", session.Encode(), sessionSeconds)
 	}
 	return err
-}
-
-// allowed reports whether a name is one that the store takes.
-func allowed(name string) bool {
-	count := utf8.RuneCountInString(name)
-	return utf8.ValidString(name) && !strings.ContainsRune(name, 0) && count >= 1 && count <= 64
 }
 
 // show writes the page with a message. If nothing is possible now, it has no form, takes nothing from the store, and asks
@@ -169,8 +167,9 @@ func (s *Service) user(r *http.Request) (string, error) {
 		return "", nil
 	}
 	session, _ := url.ParseQuery(cookie.Value)
-	name, end := session.Get("name"), session.Get("end")
-	if end < time.Now().UTC().Format(time.RFC3339) || !allowed(name) {
+	name, ok := normal(session.Get("name"))
+	end := session.Get("end")
+	if end < time.Now().UTC().Format(time.RFC3339) || !ok {
 		return "", nil
 	}
 	text, err := s.accounts.hash(r.Context(), name)
