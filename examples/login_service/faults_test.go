@@ -169,7 +169,7 @@ func hostile(t testing.TB, number int) (string, scrypt.Error) {
 
 func TestHostileHashes(t *testing.T) {
 	const count = 10_000
-	w := newWorld(t, small)
+	w := newWorld(t, small, "-tries=100000")
 	reasons := make([]scrypt.Error, count)
 	for i := range reasons {
 		text, why := hostile(t, i)

@@ -187,6 +187,7 @@ func (w *world) hash(name string) (text string) {
 type browser struct {
 	address, token string
 	cookies        map[string]string
+	headers        map[string]string
 	http           http.Client
 }
 
@@ -225,6 +226,9 @@ func (c *browser) ask(method, path string, body io.Reader) (answer, error) {
 	}
 	for name, value := range c.cookies {
 		request.AddCookie(&http.Cookie{Name: name, Value: value})
+	}
+	for name, value := range c.headers {
+		request.Header.Set(name, value)
 	}
 	if method == http.MethodPost {
 		request.Header.Set("Content-Type", "application/x-www-form-urlencoded")

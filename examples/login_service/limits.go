@@ -1,6 +1,7 @@
 package main
 
 import (
+	"hash/maphash"
 	"log"
 	"net"
 	"net/http"
@@ -8,6 +9,7 @@ import (
 	"strings"
 	"sync"
 	"syscall"
+	"time"
 )
 
 // A crowd counts what there is of each network and of all, and lets in no more than its bounds.
@@ -88,6 +90,50 @@ func connections() int {
 		limit.Cur = most
 	}
 	return int(limit.Cur) - kept
+}
+
+// A limiter lets each key try a number of times at once, and then once in each pause. A hash with a secret seed maps keys
+// to a fixed number of slots, so more keys need no more memory; two keys of one slot share their tries.
+type limiter struct {
+	sync.Mutex
+	seed  maphash.Seed
+	begin time.Time
+	ends  [1 << 16]time.Duration // since the beginning, when a slot has all its tries again
+}
+
+func newLimiter() *limiter { return &limiter{seed: maphash.MakeSeed(), begin: time.Now()} }
+
+func (l *limiter) end(key string) *time.Duration {
+	return &l.ends[maphash.String(l.seed, key)%uint64(len(l.ends))]
+}
+
+// take takes a try of each key, or none and returns false if a key has none left.
+func (l *limiter) take(keys ...string) bool {
+	l.Lock()
+	defer l.Unlock()
+	now := time.Since(l.begin)
+	for _, key := range keys {
+		if *l.end(key)-now > time.Duration(*tries-1)**pause {
+			return false
+		}
+	}
+	for _, key := range keys {
+		end := l.end(key)
+		if *end < now {
+			*end = now
+		}
+		*end += *pause
+	}
+	return true
+}
+
+// give gives back what take took.
+func (l *limiter) give(keys ...string) {
+	l.Lock()
+	defer l.Unlock()
+	for _, key := range keys {
+		*l.end(key) -= *pause
+	}
 }
 
 // network returns what one client has of addresses: one of IPv4, or the first 64 bits of one of IPv6.

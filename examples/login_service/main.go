@@ -28,6 +28,8 @@ var (
 	waiting    = flag.Int("waiting", 32, "how many forms may wait for a processor")
 	patience   = flag.Duration("patience", 20*time.Second, "how long a request may be sent, and be answered")
 	perAddress = flag.Int("per-address", 64, "how many connections an address may have, and of an IPv6 address its first 64 bits")
+	tries      = flag.Int("tries", 20, "how often a name or an address may be wrong at once")
+	pause      = flag.Duration("pause", 30*time.Second, "after that, how long until it may be wrong once more")
 	https      = flag.Bool("https", false, "send cookies over https alone, which a proxy before the service ends")
 
 	// The address of a proxy whose X-Forwarded-For is trusted; it is not valid without the flag.
@@ -44,6 +46,8 @@ func main() {
 	within("most-mib", *most, 1, 1<<20)
 	within("waiting", *waiting, 0, 10_000)
 	within("per-address", *perAddress, 1, 10_000)
+	within("tries", *tries, 1, 1_000_000)
+	within("pause", *pause, time.Second, time.Hour)
 	within("patience", *patience, time.Second, 10*time.Minute)
 	if os.Geteuid() == 0 {
 		log.Fatal("the service does not run as root: run.sh starts it as another user")
@@ -56,7 +60,8 @@ func main() {
 	store := must(open(*socket))
 	nobody := must(hasher.Hash(context.Background(), drawn(32)))
 	// A drawn key signs cookies: a restart logs all users out, and no hash depends on it.
-	service := &Service{&Accounts{store, hasher, nobody}, drawn(32), make(chan struct{}, runtime.GOMAXPROCS(0)+*waiting)}
+	places := make(chan struct{}, runtime.GOMAXPROCS(0)+*waiting)
+	service := &Service{&Accounts{store, hasher, nobody}, drawn(32), places, newLimiter()}
 	server := http.Server{Handler: service, ReadHeaderTimeout: *patience / 4, ReadTimeout: *patience, WriteTimeout: 3 * *patience,
 		MaxHeaderBytes: mostForm}
 	listener := must(net.Listen("tcp", *listen))

@@ -151,7 +151,7 @@ func TestMixedLoad(t *testing.T) {
 	if err != nil {
 		seconds = 300
 	}
-	arguments := []string{"-log-n=12", "-waiting=16", "-patience=5s"}
+	arguments := []string{"-log-n=12", "-waiting=16", "-patience=5s", "-tries=1000000"}
 	w := newWorld(t, arguments...)
 	w.users(64, "a password", 12)
 	for i := 0; i < 100; i++ {

@@ -25,6 +25,7 @@ var (
 	done     = map[string]string{"sign-up": "Welcome.", "log-in": "Welcome back.", "change": "The password is changed.", "log-out": "You are logged out."}
 
 	errWrong   = Refusal{http.StatusForbidden, "The name or the password is wrong."}
+	errTries   = Refusal{http.StatusTooManyRequests, "Too many tries with this name, or from where you are. Try again in a minute."}
 	errToken   = Refusal{http.StatusForbidden, "The form is too old. Try again."}
 	errTaken   = Refusal{http.StatusConflict, "The name is taken."}
 	errChanged = Refusal{http.StatusConflict, "The password was changed meanwhile. Try again."}
@@ -47,6 +48,7 @@ type Service struct {
 	accounts *Accounts
 	key      []byte        // signs cookies and tokens
 	places   chan struct{} // one for each form that derives or waits for its turn
+	tries    *limiter
 }
 
 func (s *Service) ServeHTTP(w http.ResponseWriter, r *http.Request) {
@@ -109,11 +111,33 @@ func (s *Service) act(w http.ResponseWriter, r *http.Request, action string) err
 
 // derive does what needs a derivation, and begins a session. The text of the hash is signed in its cookie, so another
 // password ends it.
-func (s *Service) derive(w http.ResponseWriter, r *http.Request, action, name string) (err error) {
-	password, wanted, text := r.PostFormValue("password"), r.PostFormValue("new"), ""
-	switch short := utf8.RuneCountInString(wanted) < leastLetters; {
-	case name == "" || len(password) > mostPassword || len(wanted) > mostPassword || short && action != "log-in":
+func (s *Service) derive(w http.ResponseWriter, r *http.Request, action, name string) error {
+	password, wanted := r.PostFormValue("password"), r.PostFormValue("new")
+	short := utf8.RuneCountInString(wanted) < leastLetters
+	if name == "" || len(password) > mostPassword || len(wanted) > mostPassword || short && action != "log-in" {
 		return errInput
+	}
+	text, err := s.try(r, action, name, password, wanted)
+	if err == nil {
+		end := time.Now().Add(sessionSeconds * time.Second).UTC().Format(time.RFC3339)
+		session := url.Values{"name": {name}, "end": {end}, "tag": {s.tag("session", name, end, text)}}
+		setCookie(w, "session", session.Encode(), sessionSeconds)
+	}
+	return err
+}
+
+// try returns the text of the hash if the accounts allow what a form asks for. A wrong password takes a try of the name
+// and of the address, and a sign-up one of the address. The try is taken before the derivation, so that tries at the same
+// time are counted, and given back if the password was not wrong. The lines in the log are those that fail2ban.conf finds.
+func (s *Service) try(r *http.Request, action, name, password, wanted string) (text string, err error) {
+	from := client(r)
+	keys := []string{"address " + network(from).String(), "name " + name}
+	if action == "sign-up" {
+		keys = keys[:1]
+	}
+	switch taken := s.tries.take(keys...); {
+	case !taken:
+		err = errTries
 	case action == "sign-up":
 		text, err = s.accounts.SignUp(r.Context(), name, wanted)
 	case action == "log-in":
@@ -121,12 +145,12 @@ func (s *Service) derive(w http.ResponseWriter, r *http.Request, action, name st
 	case action == "change":
 		text, err = s.accounts.LogIn(r.Context(), name, password, wanted)
 	}
-	if err == nil {
-		end := time.Now().Add(sessionSeconds * time.Second).UTC().Format(time.RFC3339)
-		session := url.Values{"name": {name}, "end": {end}, "tag": {s.tag("session", name, end, text)}}
-		setCookie(w, "session", session.Encode(), sessionSeconds)
+	if err == errWrong || err == errTries {
+		log.Printf("failed %s from %v of %q: %v", action, from, name, err)
+	} else if action != "sign-up" {
+		s.tries.give(keys...)
 	}
-	return err
+	return text, err
 }
 
 // show writes the page with a message. If nothing is possible now, it has no form, takes nothing from the store, and asks
@@ -143,6 +167,8 @@ func (s *Service) show(w http.ResponseWriter, r *http.Request, message Refusal) 
 	token := s.token(w, r, name)
 	if message.Status == http.StatusServiceUnavailable {
 		w.Header().Set("Retry-After", "1")
+	} else if message.Status == http.StatusTooManyRequests {
+		w.Header().Set("Retry-After", fmt.Sprintf("%.0f", pause.Seconds()))
 	}
 	w.WriteHeader(message.Status)
 	_ = page.Execute(w, map[string]any{"Message": message, "Name": name, "Token": token})

@@ -63,7 +63,7 @@ func TestPages(t *testing.T) {
 
 // The pages are the same letter by letter, and the times are those of the same derivation.
 func TestUnknownUserIsAnsweredAsAWrongPassword(t *testing.T) {
-	w := newWorld(t, "-log-n=14")
+	w := newWorld(t, "-log-n=14", "-tries=1000")
 	browser := newBrowser(w.address)
 	w.expect(200)(browser.read())
 	w.expect(303)(browser.send("sign-up", "name", "ada", "new", "first password"))
