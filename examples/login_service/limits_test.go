@@ -4,6 +4,7 @@ import (
 	"fmt"
 	"net"
 	"strings"
+	"sync"
 	"testing"
 	"time"
 )
@@ -74,6 +75,41 @@ func TestManySlowConnections(t *testing.T) {
 		if logged := w.logged(); strings.Contains(logged, "too many open files") {
 			t.Errorf("%s: no descriptor is left\n%s", it.why, logged)
 		}
+	}
+}
+
+// One client who logs in again and again, by the right password, leaves half of the places to others.
+func TestOneClientLeavesPlacesToOthers(t *testing.T) {
+	w := newWorld(t, "-log-n=14", "-waiting=12")
+	w.users(2, "a password", 14)
+	end := make(chan bool)
+	var group sync.WaitGroup
+	for i := 0; i < 60; i++ {
+		group.Add(1)
+		go func() {
+			defer group.Done()
+			one := newBrowserFrom("127.0.7.1", w.address)
+			for {
+				select {
+				case <-end:
+					return
+				default:
+					_, _ = one.logIn("user0", "a password")
+				}
+			}
+		}()
+	}
+	time.Sleep(time.Second)
+	refused := 0
+	for i := 0; i < 20; i++ {
+		if got, err := newBrowser(w.address).logIn("user1", "a password"); err != nil || got.status != 303 {
+			refused++
+		}
+	}
+	close(end)
+	group.Wait()
+	if refused != 0 {
+		t.Errorf("%d of 20 log-ins of another client are refused", refused)
 	}
 }
 

@@ -60,8 +60,9 @@ func main() {
 	store := must(open(*socket))
 	nobody := must(hasher.Hash(context.Background(), drawn(32)))
 	// A drawn key signs cookies: a restart logs all users out, and no hash depends on it.
-	places := make(chan struct{}, runtime.GOMAXPROCS(0)+*waiting)
-	service := &Service{&Accounts{store, hasher, nobody}, drawn(32), places, newLimiter()}
+	// One address has at most half of the places for forms, so that it can't keep others waiting.
+	places := runtime.GOMAXPROCS(0) + *waiting
+	service := &Service{&Accounts{store, hasher, nobody}, drawn(32), newCrowd((places+1)/2, places), newLimiter()}
 	server := http.Server{Handler: service, ReadHeaderTimeout: *patience / 4, ReadTimeout: *patience, WriteTimeout: 3 * *patience,
 		MaxHeaderBytes: mostForm}
 	listener := must(net.Listen("tcp", *listen))

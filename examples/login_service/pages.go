@@ -46,8 +46,8 @@ func (r Refusal) Error() string { return r.Text }
 // A Service answers requests for the page and its forms.
 type Service struct {
 	accounts *Accounts
-	key      []byte        // signs cookies and tokens
-	places   chan struct{} // one for each form that derives or waits for its turn
+	key      []byte // signs cookies and tokens
+	places   *crowd // the forms that derive or wait for their turn
 	tries    *limiter
 }
 
@@ -83,12 +83,11 @@ func (s *Service) act(w http.ResponseWriter, r *http.Request, action string) err
 		return errLarge
 	}
 	if action != "log-out" {
-		select {
-		case s.places <- struct{}{}:
-			defer func() { <-s.places }()
-		default:
+		from := network(client(r))
+		if !s.places.enter(from) {
 			return errFull
 		}
+		defer s.places.leave(from)
 	}
 	owner, err := s.user(r)
 	switch {
