@@ -189,6 +189,8 @@ type browser struct {
 	cookies        map[string]string
 	headers        map[string]string
 	http           http.Client
+
+	outside, visitor string // the token and the cookie of a page that was read before a log-in
 }
 
 // addresses counts the browsers, each of which has an address of its own on this machine.
@@ -215,6 +217,7 @@ type answer struct {
 	retry  string
 	page   string
 	took   time.Duration
+	header http.Header
 }
 
 var tokenInPage = regexp.MustCompile(`name="token" value="([^"]*)"`)
@@ -242,9 +245,13 @@ func (c *browser) ask(method, path string, body io.Reader) (answer, error) {
 	var page bytes.Buffer
 	_, err = bufio.NewReader(response.Body).WriteTo(&page)
 	for _, cookie := range response.Cookies() {
-		c.cookies[cookie.Name] = cookie.Value
+		if cookie.MaxAge < 0 {
+			delete(c.cookies, cookie.Name)
+		} else {
+			c.cookies[cookie.Name] = cookie.Value
+		}
 	}
-	return answer{response.StatusCode, response.Header.Get("Retry-After"), page.String(), time.Since(began)}, err
+	return answer{response.StatusCode, response.Header.Get("Retry-After"), page.String(), time.Since(began), response.Header}, err
 }
 
 // read opens the page, and keeps the token of its forms.
@@ -252,6 +259,9 @@ func (c *browser) read() (answer, error) {
 	got, err := c.ask(http.MethodGet, "/", nil)
 	if found := tokenInPage.FindStringSubmatch(got.page); found != nil {
 		c.token = found[1]
+	}
+	if c.cookies["session"] == "" {
+		c.outside, c.visitor = c.token, c.cookies["visitor"]
 	}
 	return got, err
 }
@@ -265,15 +275,30 @@ func (c *browser) send(action string, fields ...string) (answer, error) {
 	return c.ask(http.MethodPost, "/"+action, strings.NewReader(form.Encode()))
 }
 
+// leave returns to the page as it was before a log-in, or reads it.
+func (c *browser) leave() (answer, error) {
+	delete(c.cookies, "session")
+	if c.token == "" || c.outside == "" {
+		return c.read()
+	}
+	c.token, c.cookies["visitor"] = c.outside, c.visitor
+	return answer{}, nil
+}
+
 // logIn is a log-in by a browser that is not logged in.
 func (c *browser) logIn(name, password string) (answer, error) {
-	delete(c.cookies, "session")
-	if c.token == "" || c.cookies["visitor"] == "" {
-		if got, err := c.read(); err != nil || c.token == "" {
-			return got, err
-		}
+	if got, err := c.leave(); err != nil || c.token == "" {
+		return got, err
 	}
 	return c.send("log-in", "name", name, "password", password)
+}
+
+// signUp is a sign-up by a browser that is not logged in.
+func (c *browser) signUp(name, password string) (answer, error) {
+	if got, err := c.leave(); err != nil || c.token == "" {
+		return got, err
+	}
+	return c.send("sign-up", "name", name, "new", password)
 }
 
 // expect ends the test unless an answer has a status.

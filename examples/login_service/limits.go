@@ -55,7 +55,7 @@ func (d door) Accept() (net.Conn, error) {
 			return nil, err
 		}
 		var from netip.Prefix
-		if address := addressOf(connection.RemoteAddr().String()); address != proxy {
+		if address := addressOf(connection.RemoteAddr().String()); !isProxy(address) {
 			from = network(address)
 		}
 		if d.crowd.enter(from) {
@@ -155,11 +155,13 @@ func addressOf(text string) netip.Addr {
 	return address.Unmap().WithZone("")
 }
 
+func isProxy(address netip.Addr) bool { return proxy.IsValid() && address == proxy }
+
 // client returns the address of the client: behind the trusted proxy the last one of X-Forwarded-For, which the proxy
 // adds to what the client may have sent.
 func client(r *http.Request) netip.Addr {
 	peer := addressOf(r.RemoteAddr)
-	if peer == proxy {
+	if isProxy(peer) {
 		all := strings.Split(strings.Join(r.Header.Values("X-Forwarded-For"), ","), ",")
 		if address := addressOf(strings.TrimSpace(all[len(all)-1])); address.IsValid() {
 			return address

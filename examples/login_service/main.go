@@ -30,15 +30,16 @@ var (
 	perAddress = flag.Int("per-address", 64, "how many connections an address may have, and of an IPv6 address its first 64 bits")
 	tries      = flag.Int("tries", 20, "how often a name or an address may be wrong at once")
 	pause      = flag.Duration("pause", 30*time.Second, "after that, how long until it may be wrong once more")
-	https      = flag.Bool("https", false, "send cookies over https alone, which a proxy before the service ends")
+	https      = flag.Bool("https", false, "the page is at https, which a proxy before the service ends")
 
-	// The address of a proxy whose X-Forwarded-For is trusted; it is not valid without the flag.
+	// The address of a proxy whose X-Forwarded-For and -Proto are trusted; it is not valid without the flag.
 	proxy netip.Addr
 )
 
 func main() {
-	flag.Func("proxy", "the address of a proxy before the service, whose X-Forwarded-For is trusted", func(text string) (err error) {
+	flag.Func("proxy", "the address of a proxy whose X-Forwarded-For and X-Forwarded-Proto are trusted", func(text string) (err error) {
 		proxy, err = netip.ParseAddr(text)
+		proxy = proxy.Unmap()
 		return err
 	})
 	flag.Parse()

@@ -188,13 +188,7 @@ func TestMixedLoad(t *testing.T) {
 	}
 	many(2, func(i int) {
 		m.client("sign-up", func(browser *browser, turn int) (answer, error) {
-			delete(browser.cookies, "session")
-			if browser.token == "" {
-				if got, err := browser.read(); err != nil || got.status != 200 {
-					return got, err
-				}
-			}
-			return browser.send("sign-up", "name", fmt.Sprint("new", i, "-", turn), "new", "a password")
+			return browser.signUp(fmt.Sprint("new", i, "-", turn), "a password")
 		})
 	})
 	for i := range changers {

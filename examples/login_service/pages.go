@@ -3,26 +3,30 @@ package main
 import (
 	"context"
 	"crypto/hmac"
-	"crypto/sha256"
 	_ "embed"
 	"errors"
 	"fmt"
 	"html/template"
 	"log"
 	"net/http"
-	"net/url"
 	"strings"
-	"time"
 	"unicode/utf8"
 )
 
-const mostForm, mostPassword, leastLetters, sessionSeconds = 16 << 10, 1 << 10, 8, 3600
+const mostForm, mostPassword, leastLetters = 16 << 10, 1 << 10, 8
 
 var (
 	//go:embed page.html
 	pageText string
 	page     = template.Must(template.New("page").Parse(pageText))
 	done     = map[string]string{"sign-up": "Welcome.", "log-in": "Welcome back.", "change": "The password is changed.", "log-out": "You are logged out."}
+
+	headers = map[string]string{
+		"Cache-Control":           "no-store",
+		"Content-Security-Policy": "default-src 'none'; style-src 'unsafe-inline'; form-action 'self'; frame-ancestors 'none'; base-uri 'none'",
+		"Referrer-Policy":         "no-referrer",
+		"X-Content-Type-Options":  "nosniff",
+	}
 
 	errWrong   = Refusal{http.StatusForbidden, "The name or the password is wrong."}
 	errTries   = Refusal{http.StatusTooManyRequests, "Too many tries with this name, or from where you are. Try again in a minute."}
@@ -32,6 +36,7 @@ var (
 	errInput   = Refusal{http.StatusBadRequest, "A name has 1 to 64 visible characters, a new password 8 or more, and at most 1024 bytes."}
 	errLarge   = Refusal{http.StatusRequestEntityTooLarge, "The form is damaged, or has more than 16 KiB."}
 	errFull    = Refusal{http.StatusServiceUnavailable, "Too many people are logging in. Try again in a moment."}
+	errMethod  = Refusal{http.StatusMethodNotAllowed, "This address can't be used in this way. Use the forms of the page."}
 	errNotNow  = Refusal{http.StatusServiceUnavailable, "This is not possible now. Try again in a moment."}
 )
 
@@ -55,13 +60,23 @@ func (s *Service) ServeHTTP(w http.ResponseWriter, r *http.Request) {
 	ctx, cancel := context.WithTimeout(r.Context(), *patience)
 	defer cancel()
 	r = r.WithContext(ctx)
-	w.Header().Set("Content-Security-Policy", "default-src 'none'; style-src 'unsafe-inline'; form-action 'self'; frame-ancestors 'none'")
-	w.Header().Set("Cache-Control", "no-store")
+	for name, value := range headers {
+		w.Header().Set(name, value)
+	}
+	if secure(r) {
+		w.Header().Set("Strict-Transport-Security", "max-age=31536000")
+	}
 	switch action := strings.TrimPrefix(r.URL.Path, "/"); {
-	case action == "":
+	case action == "" && (r.Method == http.MethodGet || r.Method == http.MethodHead):
 		s.show(w, r, Refusal{http.StatusOK, done[r.URL.Query().Get("done")]})
-	case done[action] == "" || r.Method != http.MethodPost:
+	case action == "":
+		w.Header().Set("Allow", "GET, HEAD")
+		s.show(w, r, errMethod)
+	case done[action] == "":
 		http.NotFound(w, r)
+	case r.Method != http.MethodPost:
+		w.Header().Set("Allow", "POST")
+		s.show(w, r, errMethod)
 	default:
 		err, refusal := s.act(w, r, action), errNotNow
 		if err == nil {
@@ -96,7 +111,8 @@ func (s *Service) act(w http.ResponseWriter, r *http.Request, action string) err
 	case !hmac.Equal([]byte(r.PostFormValue("token")), []byte(s.token(w, r, owner))):
 		return errToken
 	case action == "log-out":
-		setCookie(w, "session", "", -1)
+		setCookie(w, r, "session", "", -1)
+		setCookie(w, r, "visitor", "", -1)
 		return nil
 	case action == "change":
 		return s.derive(w, r, action, owner)
@@ -108,8 +124,7 @@ func (s *Service) act(w http.ResponseWriter, r *http.Request, action string) err
 	return s.derive(w, r, action, name)
 }
 
-// derive does what needs a derivation, and begins a session. The text of the hash is signed in its cookie, so another
-// password ends it.
+// derive does what needs a derivation, and begins a session.
 func (s *Service) derive(w http.ResponseWriter, r *http.Request, action, name string) error {
 	password, wanted := r.PostFormValue("password"), r.PostFormValue("new")
 	short := utf8.RuneCountInString(wanted) < leastLetters
@@ -118,9 +133,7 @@ func (s *Service) derive(w http.ResponseWriter, r *http.Request, action, name st
 	}
 	text, err := s.try(r, action, name, password, wanted)
 	if err == nil {
-		end := time.Now().Add(sessionSeconds * time.Second).UTC().Format(time.RFC3339)
-		session := url.Values{"name": {name}, "end": {end}, "tag": {s.tag("session", name, end, text)}}
-		setCookie(w, "session", session.Encode(), sessionSeconds)
+		s.begin(w, r, name, text)
 	}
 	return err
 }
@@ -171,47 +184,4 @@ func (s *Service) show(w http.ResponseWriter, r *http.Request, message Refusal) 
 	}
 	w.WriteHeader(message.Status)
 	_ = page.Execute(w, map[string]any{"Message": message, "Name": name, "Token": token})
-}
-
-// tag signs strings.
-func (s *Service) tag(parts ...string) string {
-	mac := hmac.New(sha256.New, s.key)
-	fmt.Fprintf(mac, "%q", parts) // in quotes, so that no two lists are the same bytes
-	return fmt.Sprintf("%x", mac.Sum(nil))
-}
-
-func setCookie(w http.ResponseWriter, name, value string, seconds int) {
-	http.SetCookie(w, &http.Cookie{Name: name, Value: value, Path: "/", MaxAge: seconds, HttpOnly: true, Secure: *https,
-		SameSite: http.SameSiteStrictMode})
-}
-
-// user returns the name of the user whose session it is, or "".
-func (s *Service) user(r *http.Request) (string, error) {
-	cookie, err := r.Cookie("session")
-	if err != nil {
-		return "", nil
-	}
-	session, _ := url.ParseQuery(cookie.Value)
-	name, ok := normal(session.Get("name"))
-	end := session.Get("end")
-	if end < time.Now().UTC().Format(time.RFC3339) || !ok {
-		return "", nil
-	}
-	text, err := s.accounts.hash(r.Context(), name)
-	signed := hmac.Equal([]byte(session.Get("tag")), []byte(s.tag("session", name, end, text)))
-	if err == errWrong || err == nil && !signed {
-		return "", nil
-	}
-	return name, err
-}
-
-// token returns what a form of this browser and user has to send, so that it is from a page of this service. The
-// browser's own cookie is drawn if it is not there.
-func (s *Service) token(w http.ResponseWriter, r *http.Request, name string) string {
-	cookie, err := r.Cookie("visitor")
-	if err != nil {
-		cookie = &http.Cookie{Value: fmt.Sprintf("%x", drawn(16))}
-		setCookie(w, "visitor", cookie.Value, 0)
-	}
-	return s.tag("form", cookie.Value, name)
 }

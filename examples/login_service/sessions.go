@@ -1,0 +1,80 @@
+package main
+
+import (
+	"crypto/hmac"
+	"crypto/sha256"
+	"fmt"
+	"net/http"
+	"net/url"
+	"time"
+)
+
+const sessionSeconds = 3600
+
+// tag signs strings.
+func (s *Service) tag(parts ...string) string {
+	mac := hmac.New(sha256.New, s.key)
+	fmt.Fprintf(mac, "%q", parts) // in quotes, so that no two lists are the same bytes
+	return fmt.Sprintf("%x", mac.Sum(nil))
+}
+
+// secure reports whether the browser uses https, as the flag or the trusted proxy says.
+func secure(r *http.Request) bool {
+	return *https || isProxy(addressOf(r.RemoteAddr)) && r.Header.Get("X-Forwarded-Proto") == "https"
+}
+
+// cookieName returns the name of a cookie. Over https a browser takes one with this prefix from this host alone, and not
+// from a page without https.
+func cookieName(r *http.Request, name string) string {
+	if secure(r) {
+		return "__Host-" + name
+	}
+	return name
+}
+
+func setCookie(w http.ResponseWriter, r *http.Request, name, value string, seconds int) {
+	http.SetCookie(w, &http.Cookie{Name: cookieName(r, name), Value: value, Path: "/", MaxAge: seconds, HttpOnly: true,
+		Secure: secure(r), SameSite: http.SameSiteStrictMode})
+}
+
+// begin begins a session. The text of the hash is signed in its cookie, so another password ends it. No cookie of the
+// time before is kept, because somebody else may have set it and know it.
+func (s *Service) begin(w http.ResponseWriter, r *http.Request, name, text string) {
+	id, end := drawnText(), time.Now().Add(sessionSeconds*time.Second).UTC().Format(time.RFC3339)
+	session := url.Values{"id": {id}, "name": {name}, "end": {end}, "tag": {s.tag("session", id, name, end, text)}}
+	setCookie(w, r, "session", session.Encode(), sessionSeconds)
+	setCookie(w, r, "visitor", drawnText(), 0)
+}
+
+// user returns the name of the user whose session it is, or "".
+func (s *Service) user(r *http.Request) (string, error) {
+	cookie, err := r.Cookie(cookieName(r, "session"))
+	if err != nil {
+		return "", nil
+	}
+	session, _ := url.ParseQuery(cookie.Value)
+	name, ok := normal(session.Get("name"))
+	id, end := session.Get("id"), session.Get("end")
+	if end < time.Now().UTC().Format(time.RFC3339) || !ok {
+		return "", nil
+	}
+	text, err := s.accounts.hash(r.Context(), name)
+	signed := hmac.Equal([]byte(session.Get("tag")), []byte(s.tag("session", id, name, end, text)))
+	if err == errWrong || err == nil && !signed {
+		return "", nil
+	}
+	return name, err
+}
+
+// token returns what a form of this browser and user has to send, so that it is from a page of this service. The
+// browser's own cookie is drawn if it is not there.
+func (s *Service) token(w http.ResponseWriter, r *http.Request, name string) string {
+	cookie, err := r.Cookie(cookieName(r, "visitor"))
+	if err != nil {
+		cookie = &http.Cookie{Value: drawnText()}
+		setCookie(w, r, "visitor", cookie.Value, 0)
+	}
+	return s.tag("form", cookie.Value, name)
+}
+
+func drawnText() string { return fmt.Sprintf("%x", drawn(16)) }
