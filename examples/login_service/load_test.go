@@ -8,12 +8,16 @@ import (
 	"runtime"
 	"sort"
 	"strconv"
+	"strings"
 	"sync"
 	"testing"
 	"time"
 
 	"nilomafy.example/scrypt"
 )
+
+// columns are those of the table in README.md.
+const columns = "| parameters | clients | log-ins a second | the library alone | ratio | median, ms | 99 %, ms | told 503 | at most, ms | peak, MiB |"
 
 // A row is measured in slices, between those of the library by itself, so that both meet the same load by others.
 const (
@@ -54,7 +58,7 @@ func percentile(times []time.Duration, part float64) time.Duration {
 // part prints a percentile in milliseconds.
 func part(times []time.Duration, part float64) string {
 	if len(times) == 0 {
-		return "-"
+		return ""
 	}
 	return fmt.Sprintf("%.0f", float64(percentile(times, part).Microseconds())/1000)
 }
@@ -120,16 +124,21 @@ func load(w *world, clients int, got *count) {
 	group.Wait()
 }
 
+func TestTableHasTheColumnsOfREADME(t *testing.T) {
+	text, err := os.ReadFile("README.md")
+	if err != nil || !strings.Contains(string(text), "\n"+columns+"\n") {
+		t.Errorf("README.md has another table: %v", err)
+	}
+}
+
 // TestLoad prints a table.
 func TestLoad(t *testing.T) {
 	if os.Getenv("LOGIN_LOAD") == "" {
 		t.Skip("make login-load")
 	}
 	processors := runtime.GOMAXPROCS(0)
-	fmt.Printf("%d processors; times in milliseconds; memory in MiB\n", processors)
-	fmt.Println("| parameters | clients | log-ins a second | library | ratio | median | 99 % | told 503 | 99 % of these | at most | peak | bound + 64 | not told |")
-	fmt.Println("|---|---|---|---|---|---|---|---|---|---|---|---|---|")
-	for _, logN := range []int{14, 17} {
+	fmt.Printf("%d processors\n%s\n%s\n", processors, columns, strings.Repeat("|---", strings.Count(columns, "|")-1)+"|")
+	for _, logN := range []uint8{14, 17} {
 		memory, err := scrypt.Params{LogN: logN, R: 8, P: 1, KeyLen: 32}.Memory()
 		if err != nil {
 			t.Fatal(err)
@@ -156,11 +165,10 @@ func TestLoad(t *testing.T) {
 			library /= slices
 			peak := w.peak()
 			logIns := float64(len(got.logIns)) / slices / measuring.Seconds()
-			fmt.Printf("| (%d, 8, 1) | %d | %.1f | %.1f | %.2f | %s | %s | %d | %s | %s | %d | %d | %d |\n", logN, clients, logIns, library,
-				logIns/library, part(got.logIns, 0.5), part(got.logIns, 0.99), len(got.refused), part(got.refused, 0.99),
-				part(got.refused, 1), peak, bound, len(got.untold))
+			fmt.Printf("| (%d, 8, 1) | %d | %.1f | %.1f | %.2f | %s | %s | %d | %s | %d |\n", logN, clients, logIns, library,
+				logIns/library, part(got.logIns, 0.5), part(got.logIns, 0.99), len(got.refused), part(got.refused, 1), peak)
 			if len(got.untold) != 0 || peak > bound {
-				t.Error(peak, " MiB ", got.untold)
+				t.Errorf("%d MiB, and at most %d are allowed; without an answer: %v", peak, bound, got.untold)
 			}
 		}
 	}

@@ -29,6 +29,7 @@ var (
 	}
 
 	errWrong   = Refusal{http.StatusForbidden, "The name or the password is wrong."}
+	errCurrent = Refusal{http.StatusForbidden, "The current password is wrong."}
 	errTries   = Refusal{http.StatusTooManyRequests, "Too many tries with this name, or from where you are. Try again in a minute."}
 	errToken   = Refusal{http.StatusForbidden, "The form is too old. Try again."}
 	errTaken   = Refusal{http.StatusConflict, "The name is taken."}
@@ -162,6 +163,9 @@ func (s *Service) try(r *http.Request, action, name, password, wanted string) (t
 	} else if action != "sign-up" {
 		s.tries.give(keys...)
 	}
+	if err == errWrong && action == "change" {
+		err = errCurrent
+	}
 	return text, err
 }
 
@@ -183,5 +187,10 @@ func (s *Service) show(w http.ResponseWriter, r *http.Request, message Refusal) 
 		w.Header().Set("Retry-After", fmt.Sprintf("%.0f", pause.Seconds()))
 	}
 	w.WriteHeader(message.Status)
-	_ = page.Execute(w, map[string]any{"Message": message, "Name": name, "Token": token})
+	// The name that was typed stays in its field, also over the link of a page without a form. Only act reads a form.
+	logIn, signUp := strings.ToValidUTF8(r.PostForm.Get("name")+r.URL.Query().Get("name"), ""), ""
+	if r.URL.Path == "/sign-up" {
+		logIn, signUp = signUp, logIn
+	}
+	_ = page.Execute(w, map[string]any{"Message": message, "Name": name, "Token": token, "LogIn": logIn, "SignUp": signUp})
 }
