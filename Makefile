@@ -16,7 +16,8 @@
 #   make lib    builds the libraries for C into build/lib
 #   make install puts what is built below prefix=/usr/local, or below another folder, and in DESTDIR if it is said;
 #               make uninstall with the same words removes it
-#   make dist   makes packages for Debian and Python, an archive, the sources and their hashes in build/dist
+#   make dist   makes packages for Debian and Python, an archive, the sources and their hashes in build/dist, with the
+#               verdicts of make run and make lib, or of the gate; without any it stops, unless UNPROVED=1 is given
 #   make dist-test  installs, uses and removes them in a fresh root of Debian packages (needs root, mmdebstrap, lintian)
 #   make callers calls them from each language of bindings/ that is installed here, and from programs that
 #               know the names of libsodium, libscrypt-kdf and crypt(3)
@@ -43,7 +44,10 @@ help:
 
 run: kit
 	$(MAKE) -j$(SIDE_BY_SIDE) $(LIBRARIES)
-	cd crates/scrypt_tool && rt run -- key 4 1 1 64 "" < /dev/null
+	$(KEEP) scrypt_tool rt run -- key 4 1 1 64 "" < /dev/null
+
+# Runs a command in the folder of a crate, and keeps the verdict that it prints in build/verdicts, for make dist.
+KEEP = python3 -B release/keep_verdict.py
 
 # The libraries below the program, each after those that it uses. Where all are built already, rt doesn't read all
 # sources once more before it begins with the program. With four processors and 12 GB of free memory, the two lowest,
@@ -56,7 +60,7 @@ proved-password_hash: private JOBS = $(if $(HAS_ROOM),--jobs 3)
 proved-scrypt_kernel: private JOBS = $(if $(HAS_ROOM),--jobs 2)
 .PHONY: $(LIBRARIES)
 $(LIBRARIES): proved-%: kit
-	cd crates/$* && rt lib $(JOBS)
+	$(KEEP) $* rt lib $(JOBS)
 proved-scrypt: proved-password_hash proved-scrypt_kernel
 proved-scrypt_commands: proved-scrypt
 
@@ -128,7 +132,8 @@ install uninstall:
 
 .PHONY: dist dist-test
 dist:
-	@if command -v rt > /dev/null; then bindings/lib.sh && cd crates/scrypt_tool && rt run -- key 0 1 1 1 "" > /dev/null < /dev/null; \
+	@if command -v rt > /dev/null; then $(MAKE) -j$(SIDE_BY_SIDE) $(LIBRARIES) && bindings/lib.sh && \
+	  $(KEEP) scrypt_tool rt run -- key 0 1 1 1 "" > /dev/null < /dev/null; \
 	else echo "The kit isn't here: what is built already is packed, and nothing is proved."; fi
 	python3 release/dist.py
 

@@ -12,7 +12,7 @@ version=$(cat VERSION)
 soname=libscrypt_c.so.0
 shared=libscrypt_c.so.${version%%+*}
 
-[ "${1:-}" = built ] || (cd crates/scrypt_c && rt lib)
+[ "${1:-}" = built ] || python3 -B release/keep_verdict.py scrypt_c rt lib
 rm -rf "$out"
 mkdir -p "$parts"
 # The kit's few lines that call malloc and free are in an archive of their own.

@@ -12,13 +12,11 @@ import time
 
 import archive
 from packages import DROP_IN, LIBDIR, PACKAGES
-from proved import proved, read
+from proved import proved, read, verdict_sections
 
 ROOT = os.path.dirname(os.path.dirname(os.path.abspath(__file__)))
 DIST, PARTS = os.path.join(ROOT, "build/dist"), os.path.join(ROOT, "build/dist-parts")
 MAINTAINER = "Nilomafy maintainers <maintainers@users.noreply.nilomafy.example>"
-# What the kit built, from which everything here is made.
-BUILT = ["crates/scrypt_c/out/libscrypt_c.a", "crates/scrypt_tool/out/scrypt_tool.o"]
 NEEDED = ["build/lib/libscrypt_c.a", "build/lib/libscrypt_drop_in.so", "crates/scrypt_tool/out/scrypt_tool"]
 # The newest glibc whose names each binary may take: the wheel's tag manylinux2014 promises 2.17 for the library.
 GLIBC = {f"{LIBDIR}/libscrypt_c.so.{{numbers}}": (2, 17), "usr/bin/scrypt_tool": (2, 34), DROP_IN: (2, 34)}
@@ -64,6 +62,7 @@ class Release:
         self.epoch = int(run("git", "-C", ROOT, "log", "-1", "--format=%ct"))
         self.name = f"scrypt-proved-{self.version}-linux-x86_64"
         self.usr = os.path.join(PARTS, "usr")
+        self.verdicts, self.taken = verdict_sections(ROOT, self.commit, self.clean)
         os.environ.update(SOURCE_DATE_EPOCH=str(self.epoch), LC_ALL="C", TZ="UTC")
 
     def install(self, place, **places):
@@ -97,7 +96,7 @@ class Release:
                 sys.exit(f"{name} takes names of glibc {found}, newer than {most}")
         self.binaries = {os.path.basename(file): os.path.join(self.usr, file) for file in self.binaries}
         self.proved = os.path.join(PARTS, "PROVED.txt")
-        write(self.proved, proved(ROOT, self.version, self.commit, self.clean, self.binaries, BUILT))
+        write(self.proved, proved(ROOT, self.version, self.commit, self.clean, self.verdicts, self.binaries))
 
     def package(self, name):
         """One Debian package."""
@@ -211,8 +210,7 @@ def main():
     shutil.rmtree(PARTS)
     for name in sorted(os.listdir(DIST)):
         print(f"{os.path.getsize(os.path.join(DIST, name)):>9}  {name}")
-    if not os.path.exists(os.path.join(ROOT, "build/gate.log")):
-        print("build/gate.log is not here: PROVED.txt has no verdicts (release/README.md)")
+    print(f"PROVED.txt has {', and '.join(release.taken)}")
     print(f"build/dist: version {release.version} of {release.commit[:12]}{'' if release.clean else ', with changes'}")
 
 

@@ -3,19 +3,19 @@
 import hashlib
 import os
 import re
-import shutil
 import subprocess
 
-NO_LOG = (
-    "No record of the gate was given, so there is no verdict here. To have one, write the gate's output to\n"
-    "build/gate.log before `make dist` (release/README.md)."
+UNPROVED = "There is no verdict here: `make dist UNPROVED=1` packed what was built, proved or not."
+GATE = "The gate proves each crate from nothing. What is packed was built of the same commit, over what checks kept."
+KEPT = (
+    "By their hashes the sources are those of these verdicts, and so is what the kit built of them. `incremental=trusted`\n"
+    "means that a verdict was printed over what earlier checks kept."
 )
-
-BUILT = (
-    "The gate proves each crate from nothing. What is packed was built of the same commit by `rt lib` and `rt run`, over\n"
-    "what their checks kept."
-)
-BUILT_BEFORE = "What is packed was built before, without the kit being here now to say from which sources."
+# The crates whose code is packed, above the others, with what the kit built of each.
+PACKED = {
+    "scrypt_c": ["crates/scrypt_c/out/libscrypt_c.a"],
+    "scrypt_tool": ["crates/scrypt_tool/out/scrypt_tool.o", "crates/scrypt_tool/out/scrypt_tool"],
+}
 
 
 def read(path):
@@ -48,6 +48,83 @@ def verdicts(log, commit):
     return "\n".join(found)
 
 
+def below(root, crate):
+    """A crate and those of this repository below it."""
+    uses = dict(re.findall(r"^(\w+)(?: staticlib)?: *(.*)$", read(os.path.join(root, "crates.txt")), re.M))
+    found = [crate]
+    for it in found:
+        found += [used for used in uses[it].split() if used in uses and used not in found]
+    return sorted(found)
+
+
+def sources(root, crate):
+    """A hash of what a verdict on a crate is about: all files of the crate and of those below it, but what is built."""
+    files = [os.path.join(root, "crates.txt")]
+    for it in below(root, crate):
+        for place, folders, names in os.walk(os.path.join(root, "crates", it)):
+            folders[:] = [name for name in folders if name not in ("out", "__pycache__")]
+            files += [os.path.join(place, name) for name in names]
+    lines = [f"{digest(path)} {os.path.relpath(path, root)}\n" for path in sorted(files)]
+    return hashlib.sha256("".join(lines).encode()).hexdigest()
+
+
+def record(root, crate):
+    return os.path.join(root, "build/verdicts", f"{crate}.txt")
+
+
+def built(root, crate):
+    """What the kit built of a crate that is packed and is here."""
+    return [path for path in PACKED.get(crate, []) if os.path.exists(os.path.join(root, path))]
+
+
+def kept(root, crate):
+    """The verdict that keep_verdict.py kept and the kit that printed it, and why it can't be taken, or None."""
+    if not os.path.exists(record(root, crate)):
+        return None, f"no verdict of {crate} was kept"
+    line, kit_line, *fields = read(record(root, crate)).splitlines() or ["", ""]
+    wanted = [f"sources {sources(root, crate)}"]
+    wanted += [f"built {digest(os.path.join(root, path))} {path}" for path in built(root, crate)]
+    if not line.startswith("logic=proved "):
+        return None, f"{crate} is not proved: {line}"
+    if fields[:1] != wanted[:1]:
+        return None, f"the sources of {crate} changed after its verdict"
+    if fields != wanted:
+        return None, f"what is built of {crate} changed after its verdict"
+    return (line, kit_line.removeprefix("kit ")), None
+
+
+def all_kept(root):
+    """The kept verdicts of all crates that are packed, or why there are none."""
+    crates = sorted({it for name in PACKED for it in below(root, name)})
+    found = {it: kept(root, it) for it in crates}
+    faults = [fault for _, fault in found.values() if fault]
+    if faults:
+        return None, faults
+    kits = sorted({one[1] for one, _ in found.values()})
+    lines = [f"{it}\n    {one[0]}" for it, (one, _) in found.items()]
+    return "\n".join([f"by {', '.join(kits)}", *lines]), []
+
+
+def verdict_sections(root, commit, clean):
+    """The verdicts of the gate and those of `make run` and `make lib`, and where each was taken from."""
+    log, sections, taken = os.path.join(root, "build/gate.log"), [], []
+    if os.path.exists(log):
+        if not clean:
+            raise SystemExit("there are changes that are not committed, which the gate of build/gate.log did not prove")
+        sections.append(("What the gate printed of each crate, and of its tests", f"{GATE}\n\n{verdicts(log, commit)}"))
+        taken.append("the gate's verdicts, of build/gate.log")
+    text, faults = all_kept(root)
+    if text:
+        sections.append(("What `make run` and `make lib` printed of each crate", f"{KEPT}\n\n{text}"))
+        taken.append("the verdicts of `make run` and `make lib`, of build/verdicts")
+    if not sections and os.environ.get("UNPROVED") == "1":
+        return [("Verdicts", UNPROVED)], ["no verdict, as UNPROVED=1 allows"]
+    if not sections:
+        faults.append("no verdict to pack: `make run lib` proves and keeps them, and UNPROVED=1 packs without")
+        raise SystemExit("\n".join(faults))
+    return sections, taken
+
+
 def claims(readme):
     """What README says is trusted, tested and not claimed, without the links."""
     words = ("Trusted", "Tested, not proved", "Not claimed")
@@ -70,19 +147,14 @@ def compiler():
     return ", ".join(text.split("\n")[0] for text in texts)
 
 
-def proved(root, version, commit, clean, binaries, built):
-    """The text; `binaries` are packed, by their names in the packages, and `built` are the kit's files."""
-    log = os.path.join(root, "build/gate.log")
-    if os.path.exists(log) and not clean:
-        raise SystemExit("there are changes that are not committed, which the gate of build/gate.log did not prove")
+def proved(root, version, commit, clean, verdict_texts, binaries):
+    """The text, with the sections of verdicts; `binaries` are packed, by their names in the packages."""
     state = commit if clean else f"{commit}, with changes that are not committed"
     hashes = [f"{digest(path)}  {name}" for name, path in sorted(binaries.items())]
-    objects = [f"{digest(os.path.join(root, path))}  {path}" for path in built if os.path.exists(os.path.join(root, path))]
-    gate = verdicts(log, commit) if os.path.exists(log) else NO_LOG
-    gate = f"{BUILT if shutil.which('rt') else BUILT_BEFORE}\n\n{gate}"
+    objects = [f"{digest(os.path.join(root, path))}  {path}" for crate in PACKED for path in built(root, crate)]
     sections = [
         ("scrypt, proved", f"version {version}\ncommit  {state}\nkit     {kit()}\nlinker  {compiler()}"),
-        ("What the gate printed of each crate, and of its tests", gate),
+        *verdict_texts,
         ("What is trusted", claims(read(os.path.join(root, "README.md")))),
         ("SHA-256 of the binaries, as they are in the packages", "\n".join(hashes)),
         ("SHA-256 of what the kit built, from which these were linked", "\n".join(objects)),

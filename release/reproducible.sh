@@ -14,7 +14,7 @@ if [ "${1:-}" != proofs ]; then
   cat > "$room/bin/rt" << END
 #!/bin/sh
 case \$1 in
-  lib | run) ;;
+  lib | run | check) ;;
   *) exec $(command -v rt) "\$@" ;;
 esac
 END
@@ -25,7 +25,10 @@ built="crates/scrypt_c/out/libscrypt_c.a crates/scrypt_tool/out/scrypt_tool.o cr
 
 made() {
   git clone --quiet . "$1"
-  if [ -e build/gate.log ]; then mkdir "$1/build" && cp build/gate.log "$1/build/"; fi
+  mkdir "$1/build"
+  for kept in build/gate.log build/verdicts; do
+    if [ -e $kept ]; then cp -r $kept "$1/build/"; fi
+  done
   for file in $built; do
     if [ -e "$room/bin/rt" ]; then mkdir -p "$1/${file%/*}" && cp "$file" "$1/$file"; fi
   done

@@ -1,10 +1,13 @@
 #!/usr/bin/env python3
-"""Tests which logs of the gate PROVED.txt takes its verdicts from."""
+"""Tests which logs of the gate, and which verdicts that were kept, PROVED.txt takes."""
 
+import contextlib
+import io
 import os
 import sys
 import tempfile
 
+import keep_verdict
 import proved
 
 COMMIT = "c" * 40
@@ -12,7 +15,7 @@ LINE = "logic=proved functions=5 axioms=12"
 GATE = f"{COMMIT}\nmake: a line\n== scrypt_tool\n{LINE}\nrt: scrypt_tool proved\n139 passed, 0 failed\n"
 
 # why the row is here, the log, and the verdicts, or a part of the refusal
-ROWS = [
+LOGS = [
     ("a gate that passed", GATE, f"scrypt_tool\n    {LINE}"),
     ("another commit's gate", GATE.replace("c" * 40, "d" * 40), "run the gate on it"),
     ("a log without a commit", GATE.split("\n", 1)[1], "run the gate on it"),
@@ -24,23 +27,129 @@ ROWS = [
     ("no verdict at all", GATE.replace(LINE, ""), "no verdict"),
 ]
 
+CRATES = "# A comment: no crate\nlow: sha2\nscrypt_c staticlib: low\nscrypt_tool: low hex\nother: low\n"
+SAYS = ["sh", "-c", f"echo a line; echo {LINE}"]
+FAILS = ["sh", "-c", f"echo {LINE}; exit 1"]
+
+OF_GATE, OF_MAKE = "the gate's verdicts, of build/gate.log", "the verdicts of `make run` and `make lib`, of build/verdicts"
+NONE = "no verdict, as UNPROVED=1 allows"
+
+# why the row is here, what happens in the folder after all crates were proved, and which verdicts are taken, or a part of
+# the refusal
+FOLDERS = [
+    ("nothing changed", "", OF_MAKE),
+    ("the gate's too", "gate", f"{OF_GATE}, {OF_MAKE}"),
+    ("the gate alone", "rm -r build/verdicts; gate", OF_GATE),
+    ("a changed source", "echo more >> crates/scrypt_c/src/lib.rt", "the sources of scrypt_c changed"),
+    ("a new file", "echo more > crates/scrypt_tool/src/new.rt", "the sources of scrypt_tool changed"),
+    ("a file that is gone", "rm crates/low/src/lib.rt", "the sources of low changed"),
+    ("a crate below it changed", "echo more >> crates/low/src/lib.rt", "the sources of scrypt_tool changed"),
+    ("a crate that is not packed changed", "echo more >> crates/other/src/lib.rt", OF_MAKE),
+    ("what is built in a library's folder changed", "echo more >> crates/low/out/rlib", OF_MAKE),
+    ("the library to pack changed", "echo more >> crates/scrypt_c/out/libscrypt_c.a", "what is built of scrypt_c changed"),
+    ("no verdict of one crate", "rm build/verdicts/low.txt", "no verdict of low"),
+    ("an empty record", ": > build/verdicts/low.txt", "low is not proved"),
+    ("a verdict that is not proved", "sed -i s/=proved/=failed/ build/verdicts/low.txt", "low is not proved"),
+    ("no verdict", "rm -r build/verdicts", "UNPROVED=1"),
+    ("no verdict, which is allowed", "rm -r build/verdicts; UNPROVED=1", NONE),
+    ("a verdict, though none is needed", "UNPROVED=1", OF_MAKE),
+    ("a gate that failed, though no verdict is needed", "gate; sed -i s/139/no/ build/gate.log; UNPROVED=1", "did not pass"),
+]
+
+# why the row is here, a command, what is kept before it, what `rt check` prints, and the record after it
+COMMANDS = [
+    ("a verdict is printed", SAYS, None, "", LINE),
+    ("rt run prints it on standard error", ["rt", "run"], None, "", LINE),
+    ("nothing is printed, for nothing changed", ["true"], "right", "logic=proved again", LINE),
+    ("nothing is printed, and no record is here", ["true"], None, LINE, LINE),
+    ("nothing is printed, and the record is of other sources", ["true"], "old", "logic=proved again", "logic=proved again"),
+    ("nothing is printed at all", ["true"], None, "", None),
+    ("a check that fails", ["true"], None, "logic=failed", None),
+    ("a command that fails", FAILS, "right", LINE, None),
+    ("a verdict that is not proved", ["echo", "logic=failed"], None, "", None),
+    ("a source changes while it is proved", ["sh", "-c", f"echo more >> src/lib.rt; echo {LINE}"], None, "", None),
+]
+
+
+def write(path, text):
+    os.makedirs(os.path.dirname(path), exist_ok=True)
+    with open(path, "w", encoding="utf-8") as file:
+        file.write(text)
+
+
+@contextlib.contextmanager
+def folder():
+    """A folder with crates, in which the kit is a command that prints the file `checked`."""
+    before, path = os.getcwd(), os.environ["PATH"]
+    with tempfile.TemporaryDirectory() as root:
+        os.chdir(root)
+        write(f"{root}/crates.txt", CRATES)
+        kit = f"check) cat {root}/checked ;; version) echo a kit ;; run) echo {LINE} >&2 ;;"
+        write(f"{root}/bin/rt", f"#!/bin/sh\ncase $1 in {kit} esac\n")
+        os.chmod(f"{root}/bin/rt", 0o755)
+        os.environ["PATH"] = f"{root}/bin:{path}"
+        for crate in ("low", "scrypt_c", "scrypt_tool", "other"):
+            write(f"{root}/crates/{crate}/src/lib.rt", crate)
+            write(f"{root}/crates/{crate}/out/rlib", "built")
+        for built in sum(proved.PACKED.values(), []):
+            write(f"{root}/{built}", built)
+        try:
+            yield root
+        finally:
+            os.chdir(before)
+            os.environ["PATH"] = path
+
+
+def log_case(log):
+    with tempfile.NamedTemporaryFile("w", suffix=".log") as file:
+        file.write(log)
+        file.flush()
+        return proved.verdicts(file.name, COMMIT)
+
+
+def folder_case(script):
+    with folder() as root:
+        for crate in ("low", "scrypt_c", "scrypt_tool"):
+            keep_verdict.write(root, crate, LINE)
+        os.environ["UNPROVED"] = "1" if "UNPROVED=1" in script else "0"
+        gate = f"gate() {{ cat > build/gate.log << END\n{GATE}END\n}}\n"
+        assert os.system(gate + script) == 0
+        sections, taken = proved.verdict_sections(root, COMMIT, True)
+        assert len(sections) == len(taken) and all(text for _, text in sections)
+        assert ("UNPROVED" in sections[0][1]) == (LINE not in sections[0][1])
+        return ", ".join(taken)
+
+
+def command_case(command, before, checked):
+    with folder() as root:
+        write(f"{root}/checked", checked + "\n")
+        if before:
+            keep_verdict.write(root, "low", LINE)
+        if before == "old":
+            write(f"{root}/crates/low/src/lib.rt", "changed")
+        quiet = io.TextIOWrapper(io.BytesIO())
+        with contextlib.redirect_stdout(quiet), contextlib.redirect_stderr(quiet):
+            status = keep_verdict.keep(root, "low", command)
+        assert (status != 0) == (command is FAILS)
+        record = proved.record(root, "low")
+        return proved.read(record).split("\n")[0] if os.path.exists(record) else None
+
 
 def main():
-    wrong = 0
-    for why, log, wanted in ROWS:
-        with tempfile.NamedTemporaryFile("w", suffix=".log", delete=False) as file:
-            file.write(log)
+    wrong, rows = 0, [(it[0], it[-1], log_case, it[1:-1]) for it in LOGS]
+    rows += [(it[0], it[-1], folder_case, it[1:-1]) for it in FOLDERS]
+    rows += [(it[0], it[-1], command_case, it[1:-1]) for it in COMMANDS]
+    for why, wanted, case, values in rows:
         try:
-            found = proved.verdicts(file.name, COMMIT)
+            found = case(*values)
             right = found == wanted
         except SystemExit as refusal:
             found = str(refusal)
-            right = wanted in found
-        os.unlink(file.name)
+            right = bool(wanted) and wanted in found
         if not right:
             wrong += 1
             print(f"{why}: {found}")
-    print(f"test_proved.py: {len(ROWS) - wrong} of {len(ROWS)} cases as they should be")
+    print(f"test_proved.py: {len(rows) - wrong} of {len(rows)} cases as they should be")
     return wrong > 0
 
 

@@ -138,7 +138,7 @@ func TestLoad(t *testing.T) {
 	}
 	processors := runtime.GOMAXPROCS(0)
 	fmt.Printf("%d processors\n%s\n%s\n", processors, columns, strings.Repeat("|---", strings.Count(columns, "|")-1)+"|")
-	for _, logN := range []uint8{14, 17} {
+	for _, logN := range []int{14, 17} {
 		memory, err := scrypt.Params{LogN: logN, R: 8, P: 1, KeyLen: 32}.Memory()
 		if err != nil {
 			t.Fatal(err)

@@ -1,0 +1,66 @@
+#!/usr/bin/env python3
+"""Runs a command of the kit on a crate, and keeps the verdict that it prints in build/verdicts, for `make dist`.
+
+usage: keep_verdict.py CRATE COMMAND..    for example: keep_verdict.py scrypt rt lib --jobs 3
+
+A record has the verdict, the kit, a hash of all sources that the verdict is about, and the hash of what was built. Where
+nothing changed, the command prints no verdict and the record is still right. If there is none, `rt check` prints the verdict
+once more over what it kept.
+"""
+
+import os
+import subprocess
+import sys
+
+import proved
+
+ROOT = os.path.dirname(os.path.dirname(os.path.abspath(__file__)))
+
+
+def relayed(command, folder, name):
+    """Runs a command, passes on what it writes to a stream, and returns its status and what it wrote there."""
+    ran = subprocess.Popen(command, cwd=folder, **{name: subprocess.PIPE})
+    own, text = getattr(sys, name).buffer, b""
+    while part := getattr(ran, name).read1(1 << 16):
+        own.write(part)
+        own.flush()
+        text += part
+    return ran.wait(), text.decode(errors="replace")
+
+
+def verdict(text):
+    """The last line that is a verdict, or None."""
+    return next((line for line in reversed(text.splitlines()) if line.startswith("logic=")), None)
+
+
+def write(root, crate, line):
+    """Writes the record of a crate that was proved."""
+    place = proved.record(root, crate)
+    os.makedirs(os.path.dirname(place), exist_ok=True)
+    fields = [line, f"kit {proved.kit()}", f"sources {proved.sources(root, crate)}"]
+    fields += [f"built {proved.digest(os.path.join(root, path))} {path}" for path in proved.built(root, crate)]
+    with open(f"{place}.new", "w", encoding="utf-8") as file:
+        file.write("\n".join(fields) + "\n")
+    os.replace(f"{place}.new", place)
+
+
+def keep(root, crate, command):
+    """Runs the command and keeps the verdict. The status is that of the command."""
+    folder, before = os.path.join(root, "crates", crate), proved.sources(root, crate)
+    # rt run leaves standard output to the program.
+    status, text = relayed(command, folder, "stderr" if "run" in command[:2] else "stdout")
+    line = verdict(text)
+    if status:
+        if os.path.exists(proved.record(root, crate)):
+            os.remove(proved.record(root, crate))
+        return status
+    if line is None and proved.kept(root, crate)[1]:
+        ran = subprocess.run(["rt", "check"], cwd=folder, stdout=subprocess.PIPE, text=True, errors="replace")
+        line = None if ran.returncode else verdict(ran.stdout)
+    if line is not None and line.startswith("logic=proved ") and proved.sources(root, crate) == before:
+        write(root, crate, line)
+    return 0
+
+
+if __name__ == "__main__":
+    sys.exit(keep(ROOT, sys.argv[1], sys.argv[2:]))
