@@ -26,6 +26,12 @@ func TestNumbersOutsideTheirRangeAreRefused(t *testing.T) {
 		{"more than have memory", "-waiting=1000000000", wrong},
 		{"no time, which net/http takes for no limit", "-patience=0s", wrong},
 		{"a time whose triple is negative", "-patience=2000000h", wrong},
+		{"no connection", "-per-address=0", wrong},
+		{"no try", "-tries=0", wrong},
+		{"tries whose pauses are more than a number has", "-tries=9223372036854775807", wrong},
+		{"no pause", "-pause=0s", wrong},
+		{"the proxy's address", "-proxy=::ffff:127.0.0.1", read},
+		{"a name for the proxy", "-proxy=localhost", "invalid value"},
 	} {
 		words := []string{"timeout", "5", program, "-store", "/nowhere", "-listen", "127.0.0.1:0", it.flag}
 		if os.Geteuid() == 0 {

@@ -2,7 +2,6 @@ package main
 
 import (
 	"hash/maphash"
-	"log"
 	"net"
 	"net/http"
 	"net/netip"
@@ -12,25 +11,23 @@ import (
 	"time"
 )
 
-// A crowd counts what there is of each network and of all, and lets in no more than its bounds.
+// A crowd counts what there is of each network and of all.
 type crowd struct {
 	sync.Mutex
-	each, all, sum int
+	each, all, sum int // the bounds, and how many there are
 	of             map[netip.Prefix]int
 }
 
 func newCrowd(each, all int) *crowd { return &crowd{each: each, all: all, of: map[netip.Prefix]int{}} }
 
-// enter reports whether one more is let in. Only the bound on all applies to the trusted proxy, which has no network.
+// enter counts one more, which has to leave, and reports whether it is within the bounds. The bound on each does not apply
+// to what has no network.
 func (c *crowd) enter(from netip.Prefix) bool {
 	c.Lock()
 	defer c.Unlock()
-	if c.sum >= c.all || from.IsValid() && c.of[from] >= c.each {
-		return false
-	}
 	c.of[from]++
 	c.sum++
-	return true
+	return c.sum <= c.all && (c.of[from] <= c.each || !from.IsValid())
 }
 
 func (c *crowd) leave(from netip.Prefix) {
@@ -42,53 +39,28 @@ func (c *crowd) leave(from netip.Prefix) {
 	}
 }
 
-// A door is a listener that closes a connection at once if its crowd doesn't let it in.
-type door struct {
-	net.Listener
-	crowd *crowd
-}
-
-func (d door) Accept() (net.Conn, error) {
-	for {
-		connection, err := d.Listener.Accept()
-		if err != nil {
-			return nil, err
-		}
-		var from netip.Prefix
-		if address := addressOf(connection.RemoteAddr().String()); !isProxy(address) {
-			from = network(address)
-		}
-		if d.crowd.enter(from) {
-			return &guest{Conn: connection, leave: func() { d.crowd.leave(from) }}, nil
-		}
+// watch is called for each connection of a server, and closes one at once that is not within the bounds.
+func (c *crowd) watch(connection net.Conn, state http.ConnState) {
+	var from netip.Prefix // none for the trusted proxy, whose connections are those of many
+	if address := addressOf(connection.RemoteAddr().String()); !isProxy(address) {
+		from = network(address)
+	}
+	if state == http.StateNew && !c.enter(from) {
 		_ = connection.Close()
+	} else if state == http.StateClosed {
+		c.leave(from)
 	}
 }
 
-// A guest is a connection that leaves the crowd when it is closed first.
-type guest struct {
-	net.Conn
-	once  sync.Once
-	leave func()
-}
-
-func (g *guest) Close() error {
-	defer g.once.Do(g.leave)
-	return g.Conn.Close()
-}
-
-// connections returns how many may be open: as many as run.sh allows, or fewer if the system allows fewer descriptors.
-// Some are kept for the store and the log.
+// connections returns how many may be open: fewer than descriptors, some of which the store and the log need.
 func connections() int {
 	const most, kept = 2048, 64
 	var limit syscall.Rlimit
 	must(0, syscall.Getrlimit(syscall.RLIMIT_NOFILE, &limit))
-	if limit.Cur <= kept {
-		log.Fatalf("ulimit -n is %d, and more than %d descriptors are needed", limit.Cur, kept)
-	}
-	if limit.Cur > most {
+	if limit.Cur > most { // each has some 20 KiB
 		limit.Cur = most
 	}
+	within("ulimit -n", int(limit.Cur), 2*kept, most)
 	return int(limit.Cur) - kept
 }
 
@@ -138,11 +110,10 @@ func (l *limiter) give(keys ...string) {
 
 // network returns what one client has of addresses: one of IPv4, or the first 64 bits of one of IPv6.
 func network(address netip.Addr) netip.Prefix {
-	bits := 64
 	if address.Is4() {
-		bits = 32
+		return netip.PrefixFrom(address, 32)
 	}
-	prefix, _ := address.Prefix(bits) // no error, since an address has this many bits
+	prefix, _ := address.Prefix(64) // no error, since an address has this many bits
 	return prefix
 }
 
@@ -155,7 +126,7 @@ func addressOf(text string) netip.Addr {
 	return address.Unmap().WithZone("")
 }
 
-func isProxy(address netip.Addr) bool { return proxy.IsValid() && address == proxy }
+func isProxy(address netip.Addr) bool { return proxy.IsValid() && address == proxy.Unmap() }
 
 // client returns the address of the client: behind the trusted proxy the last one of X-Forwarded-For, which the proxy
 // adds to what the client may have sent.

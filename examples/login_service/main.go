@@ -8,7 +8,6 @@ import (
 	"errors"
 	"flag"
 	"log"
-	"net"
 	"net/http"
 	"net/netip"
 	"os"
@@ -37,19 +36,15 @@ var (
 )
 
 func main() {
-	flag.Func("proxy", "the address of a proxy whose X-Forwarded-For and X-Forwarded-Proto are trusted", func(text string) (err error) {
-		proxy, err = netip.ParseAddr(text)
-		proxy = proxy.Unmap()
-		return err
-	})
+	flag.TextVar(&proxy, "proxy", netip.Addr{}, "the address of a proxy whose X-Forwarded-For and X-Forwarded-Proto are trusted")
 	flag.Parse()
-	within("log-n", *logN, 10, 24)
-	within("most-mib", *most, 1, 1<<20)
-	within("waiting", *waiting, 0, 10_000)
-	within("per-address", *perAddress, 1, 10_000)
-	within("tries", *tries, 1, 1_000_000)
-	within("pause", *pause, time.Second, time.Hour)
-	within("patience", *patience, time.Second, 10*time.Minute)
+	within("-log-n", *logN, 10, 24)
+	within("-most-mib", *most, 1, 1<<20)
+	within("-waiting", *waiting, 0, 10_000)
+	within("-per-address", *perAddress, 1, 10_000)
+	within("-tries", *tries, 1, 1_000_000)
+	within("-pause", *pause, time.Second, time.Hour)
+	within("-patience", *patience, time.Second, 10*time.Minute)
 	if os.Geteuid() == 0 {
 		log.Fatal("the service does not run as root: run.sh starts it as another user")
 	}
@@ -64,17 +59,16 @@ func main() {
 	// One address has at most half of the places for forms, so that it can't keep others waiting.
 	places := runtime.GOMAXPROCS(0) + *waiting
 	service := &Service{&Accounts{store, hasher, nobody}, drawn(32), newCrowd((places+1)/2, places), newLimiter()}
-	server := http.Server{Handler: service, ReadHeaderTimeout: *patience / 4, ReadTimeout: *patience, WriteTimeout: 3 * *patience,
-		MaxHeaderBytes: mostForm}
-	listener := must(net.Listen("tcp", *listen))
-	log.Print("listening on http://", listener.Addr())
-	log.Fatal(server.Serve(door{listener, newCrowd(*perAddress, connections())}))
+	server := http.Server{Addr: *listen, Handler: service, ReadHeaderTimeout: *patience / 4, ReadTimeout: *patience,
+		WriteTimeout: 3 * *patience, MaxHeaderBytes: mostForm, ConnState: newCrowd(*perAddress, connections()).watch}
+	log.Print("listening on http://", *listen)
+	log.Fatal(server.ListenAndServe())
 }
 
 // within ends the program if a flag is outside its range. No number is cut to a smaller type without that.
 func within[T int | time.Duration](name string, value, least, most T) {
 	if value < least || value > most {
-		log.Fatalf("-%s is %v, and %v to %v are allowed", name, value, least, most)
+		log.Fatalf("%s is %v, and %v to %v are allowed", name, value, least, most)
 	}
 }
 

@@ -14,19 +14,13 @@ import (
 )
 
 const mostForm, mostPassword, leastLetters = 16 << 10, 1 << 10, 8
+const policy = "default-src 'none'; style-src 'unsafe-inline'; form-action 'self'; frame-ancestors 'none'; base-uri 'none'"
 
 var (
 	//go:embed page.html
 	pageText string
 	page     = template.Must(template.New("page").Parse(pageText))
 	done     = map[string]string{"sign-up": "Welcome.", "log-in": "Welcome back.", "change": "The password is changed.", "log-out": "You are logged out."}
-
-	headers = map[string]string{
-		"Cache-Control":           "no-store",
-		"Content-Security-Policy": "default-src 'none'; style-src 'unsafe-inline'; form-action 'self'; frame-ancestors 'none'; base-uri 'none'",
-		"Referrer-Policy":         "no-referrer",
-		"X-Content-Type-Options":  "nosniff",
-	}
 
 	errWrong   = Refusal{http.StatusForbidden, "The name or the password is wrong."}
 	errCurrent = Refusal{http.StatusForbidden, "The current password is wrong."}
@@ -61,9 +55,10 @@ func (s *Service) ServeHTTP(w http.ResponseWriter, r *http.Request) {
 	ctx, cancel := context.WithTimeout(r.Context(), *patience)
 	defer cancel()
 	r = r.WithContext(ctx)
-	for name, value := range headers {
-		w.Header().Set(name, value)
-	}
+	w.Header().Set("Cache-Control", "no-store")
+	w.Header().Set("Content-Security-Policy", policy)
+	w.Header().Set("Referrer-Policy", "no-referrer")
+	w.Header().Set("X-Content-Type-Options", "nosniff")
 	if secure(r) {
 		w.Header().Set("Strict-Transport-Security", "max-age=31536000")
 	}
@@ -100,10 +95,10 @@ func (s *Service) act(w http.ResponseWriter, r *http.Request, action string) err
 	}
 	if action != "log-out" {
 		from := network(client(r))
+		defer s.places.leave(from)
 		if !s.places.enter(from) {
 			return errFull
 		}
-		defer s.places.leave(from)
 	}
 	owner, err := s.user(r)
 	switch {

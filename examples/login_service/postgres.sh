@@ -32,7 +32,7 @@ refuse_others() {
 make_cluster() {
   as rm -rf "$new"
   as initdb -D "$new" -U postgres -A reject -E UTF8 --no-locale > /dev/null
-  as postgres --single -D "$new" -c exit_on_error=on postgres > /dev/null << 'END'
+  as postgres --single -D "$new" -c exit_on_error=on -c log_checkpoints=off postgres > /dev/null << 'END'
 CREATE ROLE login_service LOGIN
 CREATE TABLE users (name text PRIMARY KEY, hash text NOT NULL)
 ALTER TABLE users OWNER TO login_service
