@@ -139,7 +139,7 @@ func (s *Service) derive(w http.ResponseWriter, r *http.Request, action, name st
 // time are counted, and given back if the password was not wrong. The lines in the log are those that fail2ban.conf finds.
 func (s *Service) try(r *http.Request, action, name, password, wanted string) (text string, err error) {
 	from := client(r)
-	keys := []string{"address " + network(from).String(), "name " + name}
+	keys := []string{"address " + network(from).String(), action + " " + name}
 	if action == "sign-up" {
 		keys = keys[:1]
 	}

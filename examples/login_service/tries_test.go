@@ -55,6 +55,14 @@ func TestSignUpsAndChangesAreLimited(t *testing.T) {
 		w.expect(status)(two.send("change", "password", "not it", "new", "another password"))
 	}
 	w.expect(303)(two.send("log-out"))
+	// Who tries the password of a user who is logged in doesn't keep the user from changing it.
+	three := newBrowser(w.address)
+	w.expect(303)(three.logIn("new1", "a password"))
+	w.expect(200)(three.read())
+	for _, status := range []int{403, 403, 403, 429} {
+		w.expect(status)(newBrowser(w.address).logIn("new1", "not it"))
+	}
+	w.expect(303)(three.send("change", "password", "a password", "new", "another password"))
 }
 
 // Tries that come at once are counted before their derivations.
