@@ -22,10 +22,10 @@ refuse_others() {
     test -z "$(find "$above" -maxdepth 0 \( ! -user 0 ! -user "$user" -o -perm /022 ! -perm -1000 \))" ||
       refuse "others than $user may rename what is in $above"
   done
+  test -n "$(find "$folder" -maxdepth 0 -type d ! -perm /077)" || refuse "nobody else may enter it (mode 700)"
   # Root may give an empty folder of its own to the user of the service.
   if [ -O "$folder" ] && [ -z "$(ls -A "$folder")" ]; then chown "$user" "$folder"; fi
-  test -n "$(find "$folder" -maxdepth 0 -type d -user "$user" ! -perm /077)" ||
-    refuse "it must belong to $user, and nobody else may enter it (mode 700)"
+  test "$(stat -c %U "$folder")" = "$user" || refuse "it must belong to $user"
 }
 
 # The role owns its table and nothing else. The superuser can't log in over the socket: this is done by a single process.
