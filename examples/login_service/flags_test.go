@@ -29,7 +29,7 @@ func TestNumbersOutsideTheirRangeAreRefused(t *testing.T) {
 		{"no connection", "-per-address=0", wrong},
 		{"no try", "-tries=0", wrong},
 		{"tries whose pauses are more than a number has", "-tries=9223372036854775807", wrong},
-		{"no pause", "-pause=0s", wrong},
+		{"a pause that may end before a derivation", "-pause=19s", wrong},
 		{"the proxy's address", "-proxy=::ffff:127.0.0.1", read},
 		{"a name for the proxy", "-proxy=localhost", "invalid value"},
 	} {

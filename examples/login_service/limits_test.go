@@ -35,20 +35,21 @@ func (w *world) slowly(count int, from func(number int) string) int {
 	return kept
 }
 
-// All descriptors that run.sh allows are fewer than these connections.
+// floods has who opens more slow connections than run.sh allows descriptors, and how many stay open.
+var floods = []struct {
+	why, patience string
+	from          func(number int) string
+	kept          int  // the most that stay open
+	shut          bool // whether a new client has no room until the slow ones are closed
+}{
+	{"one client has no more than its share", "20s", func(int) string { return "127.0.2.1" }, 64, false},
+	{"many clients leave descriptors for the store", "40s", func(i int) string { return fmt.Sprint("127.0.3.", 1+i%50) }, 1984, true},
+}
+
 func TestManySlowConnections(t *testing.T) {
 	const count = 2100
-	for _, it := range []struct {
-		why      string
-		from     func(int) string
-		kept     int  // the most that stay open
-		shut     bool // whether there is no room for another client until the slow ones are closed
-		patience string
-	}{
-		{"one client has no more than its share", func(int) string { return "127.0.2.1" }, 64, false, "20s"},
-		{"many clients leave descriptors for the store", func(i int) string { return fmt.Sprint("127.0.3.", 1+i%50) }, 1984, true, "40s"},
-	} {
-		w := newWorld(t, "ulimit -n 2048", small, "-patience="+it.patience)
+	for _, it := range floods {
+		w := newWorld(t, "ulimit -n 2048", small, "-pause=1m", "-patience="+it.patience)
 		w.users(1, "a password", 10)
 		before := newBrowser(w.address)
 		w.expect(200)(before.read())

@@ -21,12 +21,12 @@ import (
 
 var (
 	listen     = flag.String("listen", "127.0.0.1:8080", "where to listen")
-	socket     = flag.String("store", ".", "the folder with PostgreSQL's socket")
+	socket     = flag.String("store", "/var/run/postgresql", "the folder with PostgreSQL's socket")
 	logN       = flag.Int("log-n", 17, "log_n of new hashes, 10 to 24; r is 8 and p is 1")
 	most       = flag.Int("most-mib", 256, "the memory of a derivation, in MiB, above which a hash is refused")
 	waiting    = flag.Int("waiting", 32, "how many forms may wait for a processor")
 	patience   = flag.Duration("patience", 20*time.Second, "how long a request may be sent, and be answered")
-	perAddress = flag.Int("per-address", 64, "how many connections an address may have, and of an IPv6 address its first 64 bits")
+	perAddress = flag.Int("per-address", 64, "how many connections an address, or 64 bits of an IPv6 address, may have")
 	tries      = flag.Int("tries", 20, "how often a name or an address may be wrong at once")
 	pause      = flag.Duration("pause", 30*time.Second, "after that, how long until it may be wrong once more")
 	https      = flag.Bool("https", false, "the page is at https, which a proxy before the service ends")
@@ -43,8 +43,8 @@ func main() {
 	within("-waiting", *waiting, 0, 10_000)
 	within("-per-address", *perAddress, 1, 10_000)
 	within("-tries", *tries, 1, 1_000_000)
-	within("-pause", *pause, time.Second, time.Hour)
 	within("-patience", *patience, time.Second, 10*time.Minute)
+	within("-pause", *pause, *patience, time.Hour) // a try is given back earlier than it would be back
 	if os.Geteuid() == 0 {
 		log.Fatal("the service does not run as root: run.sh starts it as another user")
 	}
