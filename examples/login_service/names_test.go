@@ -5,43 +5,47 @@ import (
 	"testing"
 )
 
+const refused = ""
+
+// names has what is typed and what the store has.
+var names = []struct{ why, typed, name string }{
+	{"as it is", "ada", "ada"},
+	{"case is kept", "Ada", "Ada"},
+	{"spaces around it", " \tada\r\n", "ada"},
+	{"more than one space within", "ada  \u00a0lovelace", "ada lovelace"},
+	{"two characters for one letter", "Ame\u0301lie", "Am\u00e9lie"},
+	{"letters of another width", "\uff41\uff44\uff41", "ada"},
+	{"a ligature", "\ufb01nn", "finn"},
+	{"letters from right to left", "\u05d0\u05d3\u05d4", "\u05d0\u05d3\u05d4"},
+	{"64 characters in another form", strings.Repeat("\U0001d7d8", 63) + "\U00020000", strings.Repeat("0", 63) + "\U00020000"},
+	{"65 characters", strings.Repeat("x", 65), refused},
+	{"65 characters, of 4 that are typed", strings.Repeat("\ufdfa", 4), refused},
+	{"spaces alone", " \u3000", refused},
+	{"nothing", "", refused},
+	{"a control character", "a\x00", refused},
+	{"a line end within", "ada\nfailed", refused},
+	{"a terminal's escape", "\x1b[2Jada", refused},
+	{"a C1 control character", "ada\u009b", refused},
+	{"an override from right to left", "ada\u202eadmin", refused},
+	{"an isolate from left to right", "\u2066ada\u2069", refused},
+	{"a mark from left to right", "ada\u200e", refused},
+	{"an Arabic letter mark", "ada\u061c", refused},
+	{"a space without width", "a\u200bda", refused},
+	{"a joiner without width", "a\u200dda", refused},
+	{"a byte order mark", "\ufeffada", refused},
+	{"a letter that isn't seen", "ada\u3164", refused},
+	{"a mark that isn't seen", "ada\u034f", refused},
+	{"a selector of a variation", "ada\ufe0f", refused},
+	{"a tag", "ada\U000e0061", refused},
+	{"a line separator", "ada\u2028x", refused},
+	{"a private character", "ada\ue000", refused},
+	{"a character that is not assigned", "ada\u0378", refused},
+	{"half of a pair in UTF-8", "ada\xed\xa0\x80", refused},
+	{"no UTF-8", "ada\xff", refused},
+}
+
 func TestNames(t *testing.T) {
-	const refused = ""
-	for _, it := range []struct{ why, typed, name string }{
-		{"as it is", "ada", "ada"},
-		{"case is kept", "Ada", "Ada"},
-		{"spaces around it", " \tada\r\n", "ada"},
-		{"more than one space within", "ada  \u00a0lovelace", "ada lovelace"},
-		{"two characters for one letter", "Ame\u0301lie", "Am\u00e9lie"},
-		{"letters of another width", "\uff41\uff44\uff41", "ada"},
-		{"a ligature", "\ufb01nn", "finn"},
-		{"letters from right to left", "\u05d0\u05d3\u05d4", "\u05d0\u05d3\u05d4"},
-		{"64 characters in another form", strings.Repeat("\U0001d7d8", 63) + "\U00020000", strings.Repeat("0", 63) + "\U00020000"},
-		{"65 characters", strings.Repeat("x", 65), refused},
-		{"65 characters, of 4 that are typed", strings.Repeat("\ufdfa", 4), refused},
-		{"spaces alone", " \u3000", refused},
-		{"nothing", "", refused},
-		{"a control character", "a\x00", refused},
-		{"a line end within", "ada\nfailed", refused},
-		{"a terminal's escape", "\x1b[2Jada", refused},
-		{"a C1 control character", "ada\u009b", refused},
-		{"an override from right to left", "ada\u202eadmin", refused},
-		{"an isolate from left to right", "\u2066ada\u2069", refused},
-		{"a mark from left to right", "ada\u200e", refused},
-		{"an Arabic letter mark", "ada\u061c", refused},
-		{"a space without width", "a\u200bda", refused},
-		{"a joiner without width", "a\u200dda", refused},
-		{"a byte order mark", "\ufeffada", refused},
-		{"a letter that isn't seen", "ada\u3164", refused},
-		{"a mark that isn't seen", "ada\u034f", refused},
-		{"a selector of a variation", "ada\ufe0f", refused},
-		{"a tag", "ada\U000e0061", refused},
-		{"a line separator", "ada\u2028x", refused},
-		{"a private character", "ada\ue000", refused},
-		{"a character that is not assigned", "ada\u0378", refused},
-		{"half of a pair in UTF-8", "ada\xed\xa0\x80", refused},
-		{"no UTF-8", "ada\xff", refused},
-	} {
+	for _, it := range names {
 		got, ok := normal(it.typed)
 		if ok != (it.name != refused) || ok && got != it.name {
 			t.Errorf("%s: %+q is %+q, %v", it.why, it.typed, got, ok)

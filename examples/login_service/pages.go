@@ -24,7 +24,7 @@ var (
 
 	errWrong   = Refusal{http.StatusForbidden, "The name or the password is wrong."}
 	errCurrent = Refusal{http.StatusForbidden, "The current password is wrong."}
-	errTries   = Refusal{http.StatusTooManyRequests, "Too many tries with this name, or from where you are. Try again in a minute."}
+	errTries   = Refusal{http.StatusTooManyRequests, "Too many tries with this name or from this address. Try again in a minute."}
 	errToken   = Refusal{http.StatusForbidden, "The form is too old. Try again."}
 	errTaken   = Refusal{http.StatusConflict, "The name is taken."}
 	errChanged = Refusal{http.StatusConflict, "The password was changed meanwhile. Try again."}

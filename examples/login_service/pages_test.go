@@ -61,42 +61,51 @@ func TestPages(t *testing.T) {
 	}
 }
 
-// What somebody sees who typed something wrong: what it was, and the name that is still in the field.
+// field is the field for a name of the form to log in, and own that of the form to sign up.
+func field(name string) string { return `id="name" name="name" value="` + name + `"` }
+func own(name string) string   { return `id="own" name="name" value="` + name + `"` }
+
+// mistakes has what somebody types wrong, and parts of the page after it: what it was, and the name in the field.
+var mistakes = []struct {
+	why, action string
+	fields      []string
+	seen        []string
+}{
+	{"another current password", "change", []string{"password", "not it", "new", "second password"},
+		[]string{"The current password is wrong."}},
+	{"a short new password", "change", []string{"password", "first password", "new", "short"},
+		[]string{"a new password 8 or more"}},
+	{"another password", "log-in", []string{"name", "ada", "password", "not it"},
+		[]string{"The name or the password is wrong.", field("ada"), own("")}},
+	{"a name that is taken", "sign-up", []string{"name", "ada", "new", "first password"},
+		[]string{"The name is taken.", field(""), own("ada")}},
+	{"a name as it was typed", "log-in", []string{"name", " Am\u00e9lie", "password", "no"},
+		[]string{field(" Am\u00e9lie")}},
+	{"a name with a sign of HTML", "log-in", []string{"name", `"><script>`, "password", "no"},
+		[]string{field("&#34;&gt;&lt;script&gt;")}},
+	{"a name that isn't allowed", "log-in", []string{"name", "a\xffda\x00", "password", "no"},
+		[]string{"visible characters", field("ada\ufffd")}},
+}
+
 func TestPageAfterAnError(t *testing.T) {
-	w := newWorld(t, small, "-waiting=0")
+	w := newWorld(t, small)
 	one, two := newBrowser(w.address), newBrowser(w.address)
-	w.expect(200)(one.read())
 	w.expect(200)(two.read())
 	w.expect(303)(one.signUp("ada", "first password"))
 	w.expect(200)(one.read())
-	const hostile = `"><script>alert(1)</script>`
-	field := func(name string) string { return `id="name" name="name" value="` + name + `"` }
-	own := func(name string) string { return `id="own" name="name" value="` + name + `"` }
-	for _, it := range []struct {
-		why    string
-		from   *browser
-		action string
-		fields []string
-		seen   []string
-	}{
-		{"another current password", one, "change", []string{"password", "not it", "new", "second password"}, []string{"The current password is wrong."}},
-		{"a short new password", one, "change", []string{"password", "first password", "new", "short"}, []string{"a new password 8 or more"}},
-		{"another password", two, "log-in", []string{"name", "ada", "password", "not it"}, []string{"The name or the password is wrong.", field("ada"), own("")}},
-		{"a name that is taken", two, "sign-up", []string{"name", "ada", "new", "first password"}, []string{"The name is taken.", own("ada"), field("")}},
-		{"a name as it was typed", two, "log-in", []string{"name", " Am\u00e9lie", "password", "no"}, []string{field(" Am\u00e9lie")}},
-		{"a name with a sign of HTML", two, "log-in", []string{"name", hostile, "password", "no"}, []string{field("&#34;&gt;&lt;script&gt;alert(1)&lt;/script&gt;")}},
-		{"a name that isn't allowed", two, "log-in", []string{"name", "a\xffda\x00", "password", "no"}, []string{"visible characters", field("ada\ufffd")}},
-	} {
-		got, err := it.from.send(it.action, it.fields...)
+	for _, it := range mistakes {
+		from := two
+		if it.action == "change" {
+			from = one
+		}
+		got, err := from.send(it.action, it.fields...)
 		for _, text := range it.seen {
 			if err != nil || !strings.Contains(got.page, text) {
 				t.Errorf("%s: %q is not in\n%s %v", it.why, text, got.page, err)
 			}
 		}
-		if strings.Contains(got.page, "<script") {
-			t.Errorf("%s: a script is in %s", it.why, got.page)
-		}
 	}
+	// The page of a store that is stopped has no form, so the way back has the name.
 	w.postgres("fast")
 	if got := w.expect(503)(two.logIn("ad\u00e4 &c", "no")); !strings.Contains(got.page, `<a href="/?name=ad%c3%a4%20%26c">`) {
 		t.Errorf("the way back has no name: %s", got.page)

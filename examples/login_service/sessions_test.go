@@ -7,21 +7,25 @@ import (
 	"testing"
 )
 
+const proxyAddress, other = "127.0.8.1", "127.0.8.2"
+
+// protocols has who says that https is used, and whether it is believed.
+var protocols = []struct {
+	why, flag, own, forwarded string
+	secure                    bool
+}{
+	{"http", "-https=false", other, "", false},
+	{"the flag says https", "-https", other, "", true},
+	{"the proxy says https", "-proxy=" + proxyAddress, proxyAddress, "https", true},
+	{"the proxy says http", "-proxy=" + proxyAddress, proxyAddress, "http", false},
+	{"the proxy says nothing", "-proxy=" + proxyAddress, proxyAddress, "", false},
+	{"somebody else says https", "-proxy=" + proxyAddress, other, "https", false},
+	{"no proxy is trusted", "-https=false", proxyAddress, "https", false},
+}
+
 func TestCookiesAndHeaders(t *testing.T) {
-	const proxyAddress, other = "127.0.8.1", "127.0.8.2"
 	w := newWorld(t, small)
-	for row, it := range []struct {
-		why, flag, own, forwarded string
-		secure                    bool
-	}{
-		{"http", "-https=false", other, "", false},
-		{"the flag says https", "-https", other, "", true},
-		{"the proxy says https", "-proxy=" + proxyAddress, proxyAddress, "https", true},
-		{"the proxy says http", "-proxy=" + proxyAddress, proxyAddress, "http", false},
-		{"the proxy says nothing", "-proxy=" + proxyAddress, proxyAddress, "", false},
-		{"somebody else says https", "-proxy=" + proxyAddress, other, "https", false},
-		{"no proxy is trusted", "-https=false", proxyAddress, "https", false},
-	} {
+	for row, it := range protocols {
 		w.stop()
 		w.start(small, it.flag)
 		one := newBrowserFrom(it.own, w.address)
@@ -35,9 +39,9 @@ func TestCookiesAndHeaders(t *testing.T) {
 			t.Errorf("%s: %q", it.why, cookies)
 		}
 		for _, cookie := range cookies {
-			whole := strings.Contains(cookie, "; Path=/;") && strings.Contains(cookie, "HttpOnly; ") && strings.Contains(cookie, "SameSite=Strict")
-			host := strings.HasPrefix(cookie, "__Host-") && strings.Contains(cookie, "; Secure;") && !strings.Contains(cookie, "Domain")
-			if !whole || host != it.secure || strings.Contains(cookie, "Secure") != it.secure {
+			if !strings.Contains(cookie, "; Path=/;") || !strings.Contains(cookie, "; HttpOnly;") ||
+				!strings.Contains(cookie, "; SameSite=Strict") || strings.Contains(cookie, "Domain") ||
+				strings.HasPrefix(cookie, "__Host-") != it.secure || strings.Contains(cookie, "; Secure;") != it.secure {
 				t.Errorf("%s: %s", it.why, cookie)
 			}
 		}
