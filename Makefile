@@ -91,6 +91,7 @@ documents:
 	python3 ci/test_examples.py
 	python3 ci/examples.py
 	python3 compare/test_texts.py
+	python3 -B release/test_proved.py
 	@if python3 -c "import sys; sys.path.append('/usr/lib/python3/dist-packages'); import jinja2, pygments" 2> /dev/null; \
 	then python3 doc/make.py; else echo "doc: SKIPPED: Debian's python3-jinja2 and python3-pygments aren't installed"; fi
 
