@@ -1,5 +1,5 @@
 -- Facts on scryptBlockMix.
-use Rattle.std.proofs.Common.{◌≡◌, ℕ, zero, suc, ◌+◌, ◌-◌, ◌*◌, ◌/◌, ◌%◌, ◌<◌, ◌≤◌, List, [], length, zero-add, bit_xor, add-one, refl, sym, ap, ap₂, ◌∙◌, arith}
+use Rattle.std.proofs.Common.{◌≡◌, ◌≢◌, ℕ, zero, suc, ◌+◌, ◌-◌, ◌*◌, ◌/◌, ◌%◌, ◌<◌, ◌≤◌, List, [], length, zero-add, bit_xor, add-one, refl, sym, ap, ap₂, ◌∙◌, arith, below_more}
 use Rattle.std.proofs.lemmas.List.{append-nil, length-append}
 use Rattle.std.proofs.lemmas.Simd.{length-zip2}
 use Rattle.std.specs.List.{flat_map, range_with_len}
@@ -149,3 +149,63 @@ block_mix_by_once f b out other whole one two =
     (λ k h. two.even k h ∙ sym (same_x one two (2 * k + 1) (omega arith)))
     (λ k h. two.odd k h ∙ sym (same_x one two (2 * k + 1 + 1) (omega arith))) in
     first ∙ sym second
+
+-- after i turns of two steps each, of r, of the block mix of words in another order: X is x, and what was
+-- written is in output
+pub record AfterTurns (p q input : List ℕ) (r i : ℕ) (x output : List ℕ) : Type 0 where
+  pub chained : x ≡ permuted p (chain (permuted q input) (2 * i))
+  pub even : (k : ℕ) → k < i → block output k ≡ permuted p (y (permuted q input) (2 * k))
+  pub odd : (k : ℕ) → k < i → block output (r + k) ≡ permuted p (y (permuted q input) (2 * k + 1))
+
+module _ (p q : List ℕ) (inverse : AreInverse p q) (input : List ℕ) (r : ℕ) (is : r ≡ length input / 32)
+    (some : 0 < length input) (whole : length input % 32 ≡ 0) where
+  -- before the first turn
+  pub no_turn : (x output : List ℕ) → x ≡ block input (2 * r - 1) → AfterTurns p q input r 0 x output
+  unfolding chain
+  no_turn x output first =
+      let last : 2 * r - 1 ≡ length input / 16 - 1 = omega arith in
+      record {
+        chained = first ∙ ap (λ k. block input k) last ∙ last_block_in p q inverse input (omega arith) (omega arith);
+        even = λ k h. absurd (omega arith);
+        odd = λ k h. absurd (omega arith);
+      }
+
+  -- one more turn, whose steps give x1 and x2
+  pub one_more_turn : (i : ℕ) (x output x1 output1 x2 output2 : List ℕ) → i < r → AfterTurns p q input r i x output
+      → x1 ≡ permuted p (salsa20_8 (permuted q (xor_words x (block input (2 * i)))))
+      → block output1 i ≡ x1 → ((k : ℕ) → k ≢ i → block output1 k ≡ block output k)
+      → x2 ≡ permuted p (salsa20_8 (permuted q (xor_words x1 (block input (2 * i + 1)))))
+      → block output2 (r + i) ≡ x2 → ((k : ℕ) → k ≢ r + i → block output2 k ≡ block output1 k)
+      → AfterTurns p q input r (i + 1) x2 output2
+  one_more_turn i x output x1 output1 x2 output2 inside before is1 written1 others1 is2 written2 others2 =
+      let b = permuted q input in
+      let next = next_in_chain p q inverse input in
+      let first : x1 ≡ permuted p (y b (2 * i)) = is1 ∙ next x (2 * i) (omega arith) (omega arith) (omega arith) before.chained in
+      let second : x2 ≡ permuted p (y b (2 * i + 1)) = is2 ∙ next x1 (2 * i + 1) (omega arith) (omega arith) (omega arith) first in
+      let even_next : 2 * i + 1 + 1 ≡ 2 * (i + 1) = omega arith in
+      record {
+        chained = second ∙ ap (λ n. permuted p (chain b n)) even_next;
+        even = below_more _ _
+            (λ k h. let second_half : k ≢ r + i = omega arith in let other : k ≢ i = omega arith in
+            others2 k second_half ∙ others1 k other ∙ before.even k h)
+            (let second_half : i ≢ r + i = omega arith in others2 i second_half ∙ written1 ∙ first);
+        odd = below_more _ _
+            (λ k h. let other : r + k ≢ r + i = omega arith in let first_half : r + k ≢ i = omega arith in
+            others2 (r + k) other ∙ others1 (r + k) first_half ∙ before.odd k h)
+            (written2 ∙ second);
+      }
+
+  -- after the last turn
+  pub all_turns : (i : ℕ) (x output : List ℕ) → i ≡ r → length output ≡ length input → AfterTurns p q input r i x output
+      → output ≡ permuted p (block_mix (permuted q input))
+  all_turns i x output done size after =
+      let b = permuted q input in
+      let long : length b ≡ length input = length-permuted q input in
+      let size_out : length (permuted q output) ≡ length output = length-permuted q output in
+      let standard = λ (k n : ℕ) (h : k * 16 + 16 ≤ length output) (m : n * 16 ≤ length b) (is : block output k ≡ permuted p (chain b n)).
+      let one : length (chain b n) ≡ 16 = length-chain b (omega arith) (omega arith) n m in
+      block_out p q inverse output k h ∙ ap (permuted q) is ∙ in_then_out p q inverse (chain b n) (omega arith) in
+      let mixed : permuted q output ≡ block_mix b = block_mix_all b (permuted q output) r (omega arith) (omega arith)
+      (λ k h. standard k (2 * k + 1) (omega arith) (omega arith) (after.even k (omega arith)))
+      (λ k h. standard (r + k) (2 * k + 1 + 1) (omega arith) (omega arith) (after.odd k (omega arith))) in
+      sym (out_then_in p q inverse output (omega arith)) ∙ ap (permuted p) mixed

@@ -1,5 +1,5 @@
 -- Facts on vectors of four lanes, and on a block in diagonal order as four of them.
-use Rattle.std.proofs.Common.{◌≡◌, ℕ, ◌<◌, ◌+◌, ◌-◌, ◌*◌, ◌/◌, ◌%◌, ◌^◌, List, [], ◌∷◌, ◌++◌, length, bit_or, bit_xor, arith, refl, sym, ap, subst, ◌∙◌, add-zero, Fits, append_assoc, zero, suc}
+use Rattle.std.proofs.Common.{◌≡◌, ℕ, ◌<◌, ◌+◌, ◌-◌, ◌*◌, ◌/◌, ◌%◌, ◌^◌, List, [], ◌∷◌, ◌++◌, length, bit_or, bit_xor, arith, refl, sym, ap, ap₂, subst, ◌∙◌, add-zero, Fits, replicate, append_assoc, zero, suc}
 use Rattle.std.proofs.lemmas.List.{append-nil}
 use Rattle.std.specs.Int.{w32, rotate_left}
 use Rattle.std.specs.Int.Bits.{and_shifted, xor_assoc, xor_disjoint}
@@ -38,7 +38,7 @@ xor_parts x y k fits low high =
     rw (left, right) (xor_assoc x (y * 2 ^ k % 2 ^ 32) (y / 2 ^ (32 - k)) ∙ ap (bit_xor x) (rotation_parts y k fits low high))
 
 -- what holds of each list of four elements
-four_lanes : (P : List ℕ → Type 0) → ((a b c d : ℕ) → P (a ∷ b ∷ c ∷ d ∷ [])) → (xs : List ℕ) → length xs ≡ 4 → P xs
+pub four_lanes : (P : List ℕ → Type 0) → ((a b c d : ℕ) → P (a ∷ b ∷ c ∷ d ∷ [])) → (xs : List ℕ) → length xs ≡ 4 → P xs
 four_lanes P p (a ∷ b ∷ c ∷ d ∷ []) h = p a b c d
 four_lanes P p [] h = absurd (omega arith)
 four_lanes P p (a ∷ []) h = absurd (omega arith)
@@ -46,23 +46,23 @@ four_lanes P p (a ∷ b ∷ []) h = absurd (omega arith)
 four_lanes P p (a ∷ b ∷ c ∷ []) h = absurd (omega arith)
 four_lanes P p (a ∷ b ∷ c ∷ d ∷ e ∷ xs) h = absurd (omega arith)
 
--- the vector y shifted by k to both sides, and taken into x
-abbrev XorRotated : ℕ → List ℕ → List ℕ → Type 0
-XorRotated k x y =
-    let left = zip2 (λ a n. a * 2 ^ n % 2 ^ 32) y (k ∷ k ∷ k ∷ k ∷ []) in
-    let right = zip2 (λ a n. a / 2 ^ n) y ((32 - k) ∷ (32 - k) ∷ (32 - k) ∷ (32 - k) ∷ []) in
+-- the vector y of n lanes, shifted by k to both sides and taken into x
+abbrev XorRotated : ℕ → ℕ → List ℕ → List ℕ → Type 0
+XorRotated k n x y =
+    let left = zip2 (λ a n. a * 2 ^ n % 2 ^ 32) y (replicate n k) in
+    let right = zip2 (λ a n. a / 2 ^ n) y (replicate n (32 - k)) in
     zip2 bit_xor (zip2 bit_xor x left) right ≡ zip2 (λ a b. bit_xor a (rotate_left w32 b k)) x y
 
-pub xor_rotated : (k : ℕ) → 0 < k → k < 32 → (x y : List ℕ) → length x ≡ 4 → length y ≡ 4
-    → Each1 (Fits w32) y → XorRotated k x y
-xor_rotated k low high x y long_x long_y fits = four_lanes (λ x. (y : List ℕ) → length y ≡ 4 → Each1 (Fits w32) y → XorRotated k x y) (λ x0 x1 x2 x3.
-    four_lanes (λ y. Each1 (Fits w32) y → XorRotated k (x0 ∷ x1 ∷ x2 ∷ x3 ∷ []) y) (λ y0 y1 y2 y3 fits.
-    cc (
-      xor_parts x0 y0 k fits.0.fits low high,
-      xor_parts x1 y1 k fits.1.0.fits low high,
-      xor_parts x2 y2 k fits.1.1.0.fits low high,
-      xor_parts x3 y3 k fits.1.1.1.0.fits low high,
-    ))) x long_x y long_y fits
+pub xor_rotated : (k : ℕ) → 0 < k → k < 32 → (n : ℕ) (x y : List ℕ) → length x ≡ n → length y ≡ n
+    → Each1 (Fits w32) y → XorRotated k n x y
+xor_rotated k low high zero [] [] long_x long_y fits = refl
+xor_rotated k low high zero (a ∷ x) y long_x long_y fits = absurd (omega arith)
+xor_rotated k low high zero [] (b ∷ y) long_x long_y fits = absurd (omega arith)
+xor_rotated k low high (suc n) [] y long_x long_y fits = absurd (omega arith)
+xor_rotated k low high (suc n) (a ∷ x) [] long_x long_y fits = absurd (omega arith)
+xor_rotated k low high (suc n) (a ∷ x) (b ∷ y) long_x long_y fits =
+    ap₂ (λ v z. v ∷ z) (xor_parts a b k fits.0.fits low high)
+    (xor_rotated k low high n x y (omega arith) (omega arith) fits.1)
 
 -- the four steps of the quarter rounds on whole vectors
 abbrev QuarterRounds : List ℕ → List ℕ → List ℕ → List ℕ → Type 0
@@ -100,7 +100,7 @@ double_rounds_are =
     four_lanes (DoubleRound (a0 ∷ a1 ∷ a2 ∷ a3 ∷ []) (b0 ∷ b1 ∷ b2 ∷ b3 ∷ []) (c0 ∷ c1 ∷ c2 ∷ c3 ∷ [])) (λ d0 d1 d2 d3. refl))))
 
 -- the lanes of a block, one after another
-abbrev joined : List ℕ × List ℕ × List ℕ × List ℕ → List ℕ
+abbrev pub joined : List ℕ × List ℕ × List ℕ × List ℕ → List ℕ
 joined lanes = lanes.0 ++ lanes.1 ++ lanes.2 ++ lanes.3
 
 joined_lanes : (x : List ℕ) → length x ≡ 16 → joined (lanes_of x) ≡ x

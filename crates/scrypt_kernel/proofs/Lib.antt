@@ -6,6 +6,8 @@ pub mod PartFacts
 pub mod OrderFacts
 -- Facts on vectors of four lanes, and on a block in diagonal order as four of them.
 pub mod LaneFacts
+-- Facts on two blocks at once, in vectors of eight lanes.
+pub mod PairFacts
 -- Facts on the Salsa20/8 core.
 pub mod SalsaFacts
 -- Facts on scryptBlockMix.

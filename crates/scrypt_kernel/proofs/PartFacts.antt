@@ -146,6 +146,11 @@ part_after s n k xs ys long =
     ap (λ i. take s (drop i (xs ++ ys))) place ∙ ap (take s) (sym (drop-drop (k * s) (n * s) (xs ++ ys)))
     ∙ ap (λ z. take s (drop (k * s) z)) (drop_at xs ys (n * s) long)
 
+-- what is before the rest of a list
+pub take_both : (xs ys rest : List ℕ) (n : ℕ) → length xs + length ys ≡ n → take n (xs ++ (ys ++ rest)) ≡ xs ++ ys
+take_both xs ys rest n long =
+    ap (take n) (sym (append_assoc xs ys rest)) ∙ take_at (xs ++ ys) rest n (length-append xs ys ∙ long)
+
 -- the parts of a list, with more appended to it
 pub part_append_front : (s k : ℕ) (xs ys : List ℕ) → k * s + s ≤ length xs → part s (xs ++ ys) k ≡ part s xs k
 part_append_front s k xs ys room =

@@ -1,5 +1,5 @@
 -- Facts on scryptROMix.
-use Rattle.std.proofs.Common.{◌≡◌, ℕ, zero, suc, ◌<◌, ◌+◌, ◌*◌, ◌/◌, ◌%◌, ◌^◌, List, ◌++◌, length, bit_xor, refl, sym, ap, ap₂, ◌∙◌, arith, add-one, add-zero, below_more, length-append}
+use Rattle.std.proofs.Common.{◌≡◌, ℕ, zero, suc, ◌<◌, ◌+◌, ◌*◌, ◌/◌, ◌%◌, ◌^◌, List, [], ◌++◌, length, bit_xor, refl, sym, ap, ap₂, ◌∙◌, arith, add-one, add-zero, below_more, length-append}
 use Rattle.std.proofs.lemmas.Simd.{length-zip2}
 use Rattle.scrypt_kernel.specs.Words.{part, xor_words}
 use Rattle.scrypt_kernel.specs.BlockMix.{block_mix}
@@ -67,6 +67,11 @@ pub counted_all : (a s words i n before after : ℕ) → after ≡ before + 2 * 
 counted_all a s words i n before after step same until is =
     step ∙ ap (λ w. before + 2 * (w / 32)) same ∙ ap (λ c. c + 2 * (s / 32)) until ∙ more_of_all a (2 * (s / 32)) i n is
 
+-- n rows of b, one in t and each of this size, in the order p
+pub record HoldsRows (p b : List ℕ) (size t n : ℕ) (v : List ℕ) : Type 0 where
+  pub len : length v ≡ n * size
+  pub each : (k : ℕ) → k < n → part size v k ≡ permuted p (row b (k * t))
+
 -- the row after one that is in another order
 module _ (p q : List ℕ) (inverse : AreInverse p q) where
   -- the first row is the block itself
@@ -89,26 +94,45 @@ module _ (p q : List ℕ) (inverse : AreInverse p q) where
       let standard : permuted q x ≡ row b i = ap (permuted q) is ∙ in_then_out p q inverse (row b i) (omega arith) in
       ap (λ z. permuted p (row z n)) standard ∙ ap (permuted p) (row_after b i n)
 
-  -- the rows of a table that keeps one row in t, and one more that is t rows after the last
-  pub more_rows : (b v v' : List ℕ) (s t i : ℕ) → 0 < s → s % 32 ≡ 0 → length v ≡ (i + 1) * s
-      → ((k : ℕ) → k < i + 1 → part s v k ≡ permuted p (row b (k * t)))
-      → v' ≡ v ++ permuted p (row (permuted q (part s v i)) t)
-      → (length v' ≡ (i + 1 + 1) * s) × ((k : ℕ) → k < i + 1 + 1 → part s v' k ≡ permuted p (row b (k * t)))
-  more_rows b v v' s t i some whole long rows added =
+  -- the first row of a table
+  pub first_row : (x v : List ℕ) (s t : ℕ) → length x ≡ s → s % 32 ≡ 0 → v ≡ [] ++ x → HoldsRows p (permuted q x) s t 1 v
+  first_row x v s t size whole is =
+      let none : 0 * t ≡ 0 = omega arith in
+      record {
+        len = ap length is ∙ omega arith;
+        each = λ k h.
+            let zero : k ≡ 0 = omega arith in
+            rw zero (ap (λ z. part s z 0) is ∙ part_append_last s 0 [] x (omega arith) size
+            ∙ row_zero_in x (omega arith) ∙ ap (λ n. permuted p (row (permuted q x) n)) (sym none));
+      }
+
+  -- and one more, which is t rows after the last
+  pub more_rows : (b v v' : List ℕ) (s t i : ℕ) → 0 < s → s % 32 ≡ 0 → HoldsRows p b s t (i + 1) v
+      → v' ≡ v ++ permuted p (row (permuted q (part s v i)) t) → HoldsRows p b s t (i + 1 + 1) v'
+  more_rows b v v' s t i some whole held added =
       let last = part s v i in
       let next = permuted p (row (permuted q last) t) in
-      let row_long : length last ≡ s = length-part s i v (omega arith) in
+      let row_long : length last ≡ s = length-part s i v (omega (arith, held.len)) in
       let in_long : length (permuted q last) ≡ s = length-permuted q last ∙ row_long in
       let next_long : length next ≡ s =
       length-permuted p (row (permuted q last) t) ∙ length-row (permuted q last) (omega arith) (omega arith) t ∙ in_long in
-      let there : i * t + t ≡ (i + 1) * t = omega arith in (
-        ap length added ∙ length-append v next ∙ omega arith,
-        below_more _ _
+      let there : i * t + t ≡ (i + 1) * t = omega arith in
+      record {
+        len = ap length added ∙ length-append v next ∙ omega (arith, held.len);
+        each = below_more _ _
             (λ k h. let apart = parts_apart s k (i + 1) h in
-            ap (λ z. part s z k) added ∙ part_append_front s k v next (omega (arith, long)) ∙ rows k h)
-            (ap (λ z. part s z (i + 1)) added ∙ part_append_last s (i + 1) v next long next_long
-            ∙ row_after_in b last (i * t) t (omega arith) (rows i (omega arith)) ∙ ap (λ n. permuted p (row b n)) there),
-      )
+            ap (λ z. part s z k) added ∙ part_append_front s k v next (omega (arith, held.len)) ∙ held.each k h)
+            (ap (λ z. part s z (i + 1)) added ∙ part_append_last s (i + 1) v next held.len next_long
+            ∙ row_after_in b last (i * t) t (omega arith) (held.each i (omega arith)) ∙ ap (λ n. permuted p (row b n)) there);
+      }
+
+  -- the row after the last row m of a table that keeps every row
+  pub row_after_last : (b v x : List ℕ) (s m n : ℕ) → s % 32 ≡ 0 → HoldsRows p b s 1 (m + 1) v → x ≡ part s v m → m + 1 ≡ n
+      → permuted p (block_mix (permuted q x)) ≡ permuted p (row b n)
+  row_after_last b v x s m n whole held is all =
+      let long : length x ≡ s = ap length is ∙ length-part s m v (omega (arith, held.len)) in
+      let there : m * 1 + 1 ≡ n = omega arith in
+      next_row_in b x (m * 1) (omega arith) (is ∙ held.each m (omega arith)) ∙ ap (λ i. permuted p (row b i)) there
 
   -- the step after one, which takes in row j
   pub next_step_in : (b : List ℕ) (log_n k : ℕ) (x u : List ℕ) (j : ℕ) → length x % 16 ≡ 0 → length u ≡ length x

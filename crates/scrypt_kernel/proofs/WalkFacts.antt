@@ -75,6 +75,19 @@ step_with_row p q inverse b log_n s k kept x u j some whole rows keeps is names 
     ap length taken ∙ length-permuted p (row b j) ∙ length-row b (omega arith) (omega arith) j ∙ input in
     next_step_in p q inverse b log_n k x u j (omega arith) long is names taken
 
+-- the same, with a table that keeps every row
+pub step_with_kept_row : (p q : List ℕ) → AreInverse p q → (b : List ℕ) (log_n k size : ℕ) (v x u : List ℕ) (j : ℕ)
+    → length x ≡ size → size % 16 ≡ 0 → length v ≡ 2 ^ log_n * size → KeepsRows p b 0 size (2 ^ log_n) v
+    → x ≡ permuted p (walk b log_n k) → j ≡ integerify (permuted q x) % 2 ^ log_n → j < 2 ^ log_n → u ≡ part size v j
+    → permuted p (block_mix (permuted q (xor_words x u))) ≡ permuted p (walk b log_n (k + 1))
+step_with_kept_row p q inverse b log_n k size v x u j long whole rows keeps is names inside taken =
+    let last : suc j ≤ 2 ^ log_n = omega arith in
+    let room : j * size + size ≤ length v = omega (arith, mul-le-mul_right size last) in
+    let same : length u ≡ length x = ap length taken ∙ length-part size j v room ∙ sym long in
+    let there : j * 1 ≡ j = omega arith in
+    next_step_in p q inverse b log_n k x u j (omega arith) same is names
+    (taken ∙ keeps.each j (omega arith) ∙ ap (λ i. permuted p (row b i)) there)
+
 -- before the first step
 pub no_step : (p b : List ℕ) (log_n s l all lanes : ℕ) (kept x : List ℕ) → StartsWalk p b log_n s kept x
     → AfterSteps p b log_n s (length x) l all lanes 0 x all lanes

@@ -38,13 +38,13 @@ zip2-nil : (f : ℕ → ℕ → ℕ) (x : List ℕ) → zip2 f x [] ≡ []
 zip2-nil f [] = refl
 zip2-nil f (a ∷ x) = refl
 
-drop-zip2 : (f : ℕ → ℕ → ℕ) (n : ℕ) (x y : List ℕ) → drop n (zip2 f x y) ≡ zip2 f (drop n x) (drop n y)
+pub drop-zip2 : (f : ℕ → ℕ → ℕ) (n : ℕ) (x y : List ℕ) → drop n (zip2 f x y) ≡ zip2 f (drop n x) (drop n y)
 drop-zip2 f zero x y = refl
 drop-zip2 f (suc n) [] y = refl
 drop-zip2 f (suc n) (a ∷ x) [] = sym (zip2-nil f (drop n x))
 drop-zip2 f (suc n) (a ∷ x) (b ∷ y) = drop-zip2 f n x y
 
-take-zip2 : (f : ℕ → ℕ → ℕ) (n : ℕ) (x y : List ℕ) → take n (zip2 f x y) ≡ zip2 f (take n x) (take n y)
+pub take-zip2 : (f : ℕ → ℕ → ℕ) (n : ℕ) (x y : List ℕ) → take n (zip2 f x y) ≡ zip2 f (take n x) (take n y)
 take-zip2 f zero x y = refl
 take-zip2 f (suc n) [] y = refl
 take-zip2 f (suc n) (a ∷ x) [] = refl

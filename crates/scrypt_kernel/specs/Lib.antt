@@ -25,6 +25,8 @@ pub mod HmacState
 pub mod Pbkdf2State
 -- the lanes of the SIMD core
 pub mod Lanes
+-- the lanes of two blocks at once
+pub mod Pair
 -- the rows that a table keeps, and the walk over them
 pub mod KeptRows
 -- a caller's buffer that a table is in

@@ -7,6 +7,7 @@ ghost use Rattle.scrypt_kernel.specs.BlockMix.{block_mix};
 ghost use Rattle.scrypt_kernel.specs.Diagonal.{permuted};
 
 pub mod lanes;
+pub mod pair;
 pub mod pivot;
 pub mod plain;
 

@@ -7,6 +7,8 @@ ghost use Rattle.scrypt_kernel.specs.RoMix.{ro_mix};
 ghost use Rattle.scrypt_kernel.specs.Table.{thin_ro_mix_cost};
 ghost use Rattle.scrypt_kernel.specs.RoMixCost.{AreBytesOfB, scratch_words, table_words, thin_scratch_words};
 
+pub mod pair;
+
 use crate::CoreCount;
 use crate::memory::Memory;
 use crate::order::Order;

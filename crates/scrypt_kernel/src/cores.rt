@@ -7,6 +7,7 @@ ghost use Rattle.scrypt_kernel.specs.Salsa.{salsa20_8};
 ghost use Rattle.scrypt_kernel.specs.Diagonal.{diagonal_order, standard_order};
 
 pub mod lanes;
+pub mod pair;
 pub mod salsa;
 
 use std::marker::Model;

@@ -6,6 +6,8 @@ ghost use Rattle.scrypt_kernel.specs.Words.{part};
 ghost use Rattle.scrypt_kernel.specs.BlockMix.{block_mix};
 ghost use Rattle.scrypt_kernel.specs.Diagonal.{permuted};
 
+pub(crate) mod pair;
+
 use crate::block_mix::mix;
 use crate::order::Order;
 use crate::{CoreCount, words};

@@ -7,6 +7,8 @@ ghost use Rattle.scrypt_kernel.specs.RoMix.{row};
 ghost use Rattle.scrypt_kernel.specs.KeptRows.{KeepsRows};
 ghost use Rattle.scrypt_kernel.specs.Diagonal.{permuted};
 
+pub(crate) mod pair;
+
 use crate::CoreCount;
 use crate::block_mix::mix;
 use crate::memory::Memory;

@@ -8,6 +8,8 @@ ghost use Rattle.scrypt_kernel.specs.RoMix.{integerify, row, walk};
 ghost use Rattle.scrypt_kernel.specs.Table.{recomputed_rows};
 ghost use Rattle.scrypt_kernel.specs.KeptRows.{AfterSteps, KeepsRows, StartsWalk};
 
+pub(crate) mod pair;
+
 use crate::CoreCount;
 use crate::block_mix::{Xor, mix};
 use crate::order::Order;

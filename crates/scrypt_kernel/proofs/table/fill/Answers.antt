@@ -4,8 +4,7 @@ use Rattle.std.proofs.Math.Nat.{lt_of_mul-lt-mul_left, mul-le-mul_right}
 use Rattle.scrypt_kernel.specs.Words.{part}
 use Rattle.scrypt_kernel.specs.RoMix.{row}
 use Rattle.scrypt_kernel.specs.Diagonal.{permuted}
-use Rattle.scrypt_kernel.proofs.PartFacts.{part_append_last}
-use Rattle.scrypt_kernel.proofs.RoMixFacts.{more_rows, row_after_in, row_zero_in}
+use Rattle.scrypt_kernel.proofs.RoMixFacts.{first_row, more_rows, row_after_in}
 use Rattle.scrypt_kernel.proofs.table.fill.Goals as goal
 
 -- the kept rows
@@ -37,17 +36,10 @@ sum_lanes a l m t n = omega arith
 pub rows-init : goal.rows-init
 rows-init g c =
     let x = c.args.x.now in
-    let p = g.O.Order.pivot in
-    let q = g.O.Order.inverse_pivot in
-    let words : g.M.Memory.words c.append.new.self ≡ x = c.append.ensures.words ∙ ap (λ z. z ++ x) c.clear.ensures.words in
-    let none : 0 * 2 ^ c.args.s ≡ 0 = omega arith in
+    let words : g.M.Memory.words c.append.new.self ≡ [] ++ x = c.append.ensures.words ∙ ap (λ z. z ++ x) c.clear.ensures.words in
     record {
       room = omega (arith, c.clear.ensures.room, c.append.ensures.room);
-      len = ap length words ∙ omega arith;
-      rows = λ k h.
-          let zero : k ≡ 0 = omega arith in
-          rw zero (ap (λ z. part (length x) z 0) words ∙ part_append_last (length x) 0 [] x (omega arith) refl
-          ∙ row_zero_in p q g.met.O.Order.inverse x (omega arith) ∙ ap (λ n. permuted p (row (permuted q x) n)) (sym none));
+      held = first_row g.O.Order.pivot g.O.Order.inverse_pivot g.met.O.Order.inverse x _ _ (2 ^ c.args.s) refl c.requires.whole words;
       all = omega arith;
       lanes = no_cores _ g.O.Order.lanes_of_core (2 ^ c.args.s) (2 * (length x / 32));
     }
@@ -63,12 +55,10 @@ rows-preserved g c =
     let same : length c.rows.x ≡ size = c.rows.auto.x in
     let added = c.append_next.ensures.words ∙ ap (λ n. g.M.Memory.words c.rows.rows
     ++ permuted g.O.Order.pivot (row (permuted g.O.Order.inverse_pivot (part n (g.M.Memory.words c.rows.rows) c.rows.m)) (2 ^ c.args.s))) same in
-    let more = more_rows g.O.Order.pivot g.O.Order.inverse_pivot g.met.O.Order.inverse _ _ _ size (2 ^ c.args.s) c.rows.m
-    (omega arith) (omega arith) c.rows.invariant.len c.rows.invariant.rows added in
     record {
       room = omega (arith, c.rows.invariant.room, c.append_next.ensures.room);
-      len = more.0;
-      rows = more.1;
+      held = more_rows g.O.Order.pivot g.O.Order.inverse_pivot g.met.O.Order.inverse _ _ _ size (2 ^ c.args.s) c.rows.m
+          (omega arith) (omega arith) c.rows.invariant.held added;
       all = c.append_next.ensures.all ∙ ap (λ n. c.rows.cores.all + 2 ^ c.args.s * (2 * (n / 32))) same
           ∙ ap (λ n. n + 2 ^ c.args.s * (2 * (size / 32))) c.rows.invariant.all ∙ sum_all _ c.rows.m (2 ^ c.args.s) (2 * (size / 32));
       lanes = c.append_next.ensures.lanes ∙ ap (λ n. c.rows.cores.lanes + g.O.Order.lanes_of_core * (2 ^ c.args.s * (2 * (n / 32)))) same
@@ -82,7 +72,7 @@ returns-clause-rows g c = record {
       let t : ℕ = 2 ^ c.args.s in
       let all = rows_of c.args.log_n c.args.s c.rows.m c.requires.spacing (kept c.args.log_n c.args.s c.rows.m c.requires.small (omega arith)) in
       let below : t * m < t * (c.rows.m + 1) = omega (arith, all, h) in
-      c.rows.invariant.rows m (lt_of_mul-lt-mul_left t below);
+      c.rows.invariant.held.each m (lt_of_mul-lt-mul_left t below);
 }
 
 pub returns-clause-last : goal.returns-clause-last
@@ -97,7 +87,7 @@ returns-clause-last g c =
     let last : k ≡ m = omega arith in
     let source : c.part.result.now ≡ permuted p (row b (m * t)) =
     c.part.ensures.value ∙ ap (λ z. part (length c.rows.x) z k) c.words.ensures.value
-    ∙ ap₂ (λ n i. part n (g.M.Memory.words c.rows.rows) i) c.rows.auto.x last ∙ c.rows.invariant.rows m (omega arith) in
+    ∙ ap₂ (λ n i. part n (g.M.Memory.words c.rows.rows) i) c.rows.auto.x last ∙ c.rows.invariant.held.each m (omega arith) in
     c.recompute.ensures.value ∙ ap (λ n. permuted p (row (permuted q c.part.result.now) n)) (one_shl c.args.s 64 (omega arith))
     ∙ row_after_in p q g.met.O.Order.inverse b c.part.result.now (m * t) t (omega arith) source
     ∙ ap (λ n. permuted p (row b n)) (steps c.args.log_n c.args.s m c.requires.spacing (kept c.args.log_n c.args.s m c.requires.small (omega arith)))

@@ -1,14 +1,10 @@
-use Rattle.std.proofs.Common.{◌≡◌, ℕ, ◌+◌, List, ◌++◌, length, take, append_assoc, arith, sym, ap, ap₂, ◌∙◌, length-append}
-use Rattle.std.proofs.lemmas.List.{length-take-le, take_at}
+use Rattle.std.proofs.Common.{◌≡◌, List, ℕ, ◌++◌, length, arith, ap, ap₂, ◌∙◌}
+use Rattle.std.proofs.lemmas.List.{length-take-le}
 use Rattle.scrypt_kernel.specs.BlockMix.{block_mix}
 use Rattle.scrypt_kernel.specs.Words.{part}
 use Rattle.scrypt_kernel.specs.Diagonal.{permuted}
+use Rattle.scrypt_kernel.proofs.PartFacts.{take_both}
 use Rattle.scrypt_kernel.proofs.memory.BufferMemory.append_mix.Goals as goal
-
--- what is before the rest of a list
-take_both : (xs ys rest : List ℕ) (n : ℕ) → length xs + length ys ≡ n → take n (xs ++ (ys ++ rest)) ≡ xs ++ ys
-take_both xs ys rest n long =
-    ap (take n) (sym (append_assoc xs ys rest)) ∙ take_at (xs ++ ys) rest n (length-append xs ys ∙ long)
 
 pub returns-clause-words : goal.returns-clause-words
 returns-clause-words g c =

@@ -1,0 +1,71 @@
+//! scryptROMix (RFC 7914, section 5) of two chunks at once.
+
+ghost use Rattle.std.specs.Prelude.{◌≡◌, ◌+◌, ◌*◌, ◌/◌, ◌<◌, ◌≤◌, length};
+ghost use Rattle.scrypt_kernel.specs.Words.{bytes_of, words_of};
+ghost use Rattle.scrypt_kernel.specs.RoMix.{ro_mix};
+ghost use Rattle.scrypt_kernel.specs.RoMixCost.{AreBytesOfB, ro_mix_cost, scratch_words, table_words};
+
+use crate::CoreCount;
+use crate::memory::{Buffer, Memory};
+use crate::order::diagonal::{shuffle_in, shuffle_out};
+use crate::table::pair::fill_pair;
+use crate::walk::pair::take_steps_pair;
+use crate::words::{read_words, write_words};
+
+/// Replaces the bytes of `b` and of `other_b` by their scryptROMix, both at once, and counts the
+/// `4 * N * r` cores of each, all of them as SIMD cores.
+///
+/// `b` and `other_b` have `128 * r` bytes each with `r` at least 1, the tables `v` and `other_v` have
+/// `32 * r * N` words or more, the scratch `t` has `128 * r` words or more, and `log_n` is at most
+/// 56. It does not matter what the tables and the scratch hold before the call, and what they hold
+/// after it is unspecified.
+pub fn mix_two_chunks(
+    b: &mut [u8],
+    other_b: &mut [u8],
+    v: &mut [u32],
+    other_v: &mut [u32],
+    t: &mut [u32],
+    log_n: u8,
+    cores: &mut CoreCount,
+)
+    requires input { AreBytesOfB (length b.old) log_n }
+    requires other_input { length other_b.old ≡ length b.old }
+    requires table { table_words log_n (length b.old / 128) ≤ length v.old }
+    requires other_table { table_words log_n (length b.old / 128) ≤ length other_v.old }
+    requires scratch { 2 * scratch_words (length b.old / 128) ≤ length t.old }
+    ensures value { b.new ≡ bytes_of (ro_mix (words_of b.old) log_n) }
+    ensures other_value { other_b.new ≡ bytes_of (ro_mix (words_of other_b.old) log_n) }
+    ensures all { cores.new.all ≡ cores.old.all + 2 * ro_mix_cost log_n (length b.old / 128) }
+    ensures lanes { cores.new.lanes ≡ cores.old.lanes + 2 * ro_mix_cost log_n (length b.old / 128) }
+{
+    let words = b.len() / 4;
+    let (x, rest) = t.split_at_mut(words);
+    let (other_x, rest) = rest.split_at_mut(words);
+    let (y, rest) = rest.split_at_mut(words);
+    let other_y = &mut rest[..words];
+    // Step 1: X = B.
+    read_words(b, x);
+    shuffle_in(x);
+    read_words(other_b, other_x);
+    shuffle_in(other_x);
+    // Step 2: for i = 0 to N - 1 do V[i] = X, X = scryptBlockMix (X).
+    let mut rows = Buffer::new(v);
+    let mut other_rows = Buffer::new(other_v);
+    fill_pair(&mut rows, &mut other_rows, x, other_x, log_n, cores);
+    // Step 3: for i = 0 to N - 1 do j = Integerify (X) mod N, T = X xor V[j], X = scryptBlockMix (T).
+    take_steps_pair(
+        x,
+        other_x,
+        rows.words(),
+        other_rows.words(),
+        y,
+        other_y,
+        log_n,
+        cores,
+    );
+    // Step 4: B' = X.
+    shuffle_out(x);
+    write_words(x, b);
+    shuffle_out(other_x);
+    write_words(other_x, other_b);
+}

@@ -1,0 +1,101 @@
+//! Two walks of scryptROMix (RFC 7914, section 5, step 3) at once, over whole tables.
+
+ghost use Rattle.std.specs.Prelude.{◌≡◌, ℕ, ◌+◌, ◌*◌, ◌/◌, ◌%◌, ◌^◌, ◌<◌, ◌≤◌, List, length};
+ghost use Rattle.scrypt_kernel.specs.Diagonal.{diagonal_order, pivot};
+ghost use Rattle.scrypt_kernel.specs.RoMix.{walk};
+ghost use Rattle.scrypt_kernel.specs.KeptRows.{KeepsRows, StartsWalk};
+
+use crate::CoreCount;
+use crate::block_mix::Xor;
+use crate::block_mix::pair::mix_pair;
+use crate::order::diagonal::integerify_diagonal;
+use crate::prefetch::prefetch_row;
+use crate::words::part;
+
+/// Step 3 of both: for i = 0 to N - 1 do j = Integerify (X) mod N, T = X xor V[j],
+/// X = scryptBlockMix (T).
+///
+/// X is in `x` before the call and after it. The steps write it to `y` and to `x` in turn, so that
+/// none copies it. `v` is the whole table. The same holds of the other walk.
+pub(crate) fn take_steps_pair(
+    x: &mut [u32],
+    other_x: &mut [u32],
+    v: &[u32],
+    other_v: &[u32],
+    y: &mut [u32],
+    other_y: &mut [u32],
+    log_n: u8,
+    cores: &mut CoreCount,
+)
+    requires some { 0 < length x.old }
+    requires whole { length x.old % 32 ≡ 0 }
+    requires small { log_n ≤ 56 }
+    requires other_x { length other_x.old ≡ length x.old }
+    requires scratch { length y.old ≡ length x.old }
+    requires other_scratch { length other_y.old ≡ length x.old }
+    requires rows { length v.now ≡ 2 ^ log_n * length x.old }
+    requires other_rows { length other_v.now ≡ 2 ^ log_n * length x.old }
+    ensures walked { (b : List ℕ) → StartsWalk pivot b log_n 0 v.now x.old
+        → x.new ≡ diagonal_order (walk b log_n (2 ^ log_n)) }
+    ensures other_walked { (b : List ℕ) → StartsWalk pivot b log_n 0 other_v.now other_x.old
+        → other_x.new ≡ diagonal_order (walk b log_n (2 ^ log_n)) }
+    ensures all { cores.new.all ≡ cores.old.all + 2 * (2 ^ log_n * (2 * (length x.old / 32))) }
+    ensures lanes { cores.new.lanes
+        ≡ cores.old.lanes + 2 * (2 ^ log_n * (2 * (length x.old / 32))) }
+{
+    if log_n == 0 {
+        step(x, other_x, v, other_v, y, other_y, log_n, cores);
+        x.copy_from_slice(y);
+        other_x.copy_from_slice(other_y);
+        return;
+    }
+    'pairs: for _k in 0..1usize << (log_n - 1) {
+        step(x, other_x, v, other_v, y, other_y, log_n, cores);
+        step(y, other_y, v, other_v, x, other_x, log_n, cores);
+    }
+}
+
+// Step 3 of both for one `i`: j = Integerify (X) mod N, T = X xor V[j], X = scryptBlockMix (T).
+#[inline(always)]
+fn step(
+    x: &[u32],
+    other_x: &[u32],
+    v: &[u32],
+    other_v: &[u32],
+    y: &mut [u32],
+    other_y: &mut [u32],
+    log_n: u8,
+    cores: &mut CoreCount,
+)
+    requires some { 0 < length x.now }
+    requires whole { length x.now % 32 ≡ 0 }
+    requires small { log_n ≤ 56 }
+    requires other_x { length other_x.now ≡ length x.now }
+    requires scratch { length y.old ≡ length x.now }
+    requires other_scratch { length other_y.old ≡ length x.now }
+    requires rows { length v.now ≡ 2 ^ log_n * length x.now }
+    requires other_rows { length other_v.now ≡ 2 ^ log_n * length x.now }
+    ensures value { (b : List ℕ) (k : ℕ) → KeepsRows pivot b 0 (length x.now) (2 ^ log_n) v.now
+        → x.now ≡ diagonal_order (walk b log_n k) → y.new ≡ diagonal_order (walk b log_n (k + 1)) }
+    ensures other_value { (b : List ℕ) (k : ℕ)
+        → KeepsRows pivot b 0 (length x.now) (2 ^ log_n) other_v.now
+        → other_x.now ≡ diagonal_order (walk b log_n k)
+        → other_y.new ≡ diagonal_order (walk b log_n (k + 1)) }
+    ensures all { cores.new.all ≡ cores.old.all + 2 * (2 * (length x.now / 32)) }
+    ensures lanes { cores.new.lanes ≡ cores.old.lanes + 2 * (2 * (length x.now / 32)) }
+{
+    let taken = part(x.len(), v, integerify_diagonal(x, log_n));
+    let other_taken = part(x.len(), other_v, integerify_diagonal(other_x, log_n));
+    prefetch_row(taken, y);
+    prefetch_row(other_taken, other_y);
+    mix_pair::<Xor<'_>>(
+        &Xor { x, y: taken },
+        &Xor {
+            x: other_x,
+            y: other_taken,
+        },
+        y,
+        other_y,
+        cores,
+    );
+}
