@@ -28,6 +28,7 @@
 #   make thin   measures the key by smaller tables, and draws docs/thin.svg
 #   make parameters  measures logins at each log_n, alone and at once, and draws docs/parameters.svg
 #   make compare-worker WORKER=PATH  compares 10,000 keys with those of such a program
+#   make promises writes docs/PROMISES.md from the sources: each public function with its clauses, and the definitions
 #   make doc    makes the reader for the proof, build/doc/index.html, in seconds and without the kit or a network; it
 #               needs Debian's python3-jinja2 and python3-pygments
 #   make doc-test tests the reader, and reads its pages in a headless Chromium if that is installed
@@ -67,9 +68,9 @@ proved-scrypt_commands: proved-scrypt
 check: kit documents
 	rt all test
 	cd crates/scrypt_tool && rt run -- key 4 1 1 64 "" < /dev/null
-	cd crates/verdicts && rt run < stdin > /dev/null
+	cd crates/test_verdicts && rt run < stdin > /dev/null
 	python3 ci/program.py crates/scrypt_tool/out/scrypt_tool
-	python3 ci/hashes.py crates/scrypt_tool/out/scrypt_tool crates/verdicts/out/verdicts
+	python3 ci/hashes.py crates/scrypt_tool/out/scrypt_tool crates/test_verdicts/out/test_verdicts
 
 # The library is built over what `rt ci` proved, so that it isn't proved twice. The count of what passed stays the last
 # line.
@@ -85,7 +86,8 @@ documents:
 	python3 ci/wrong_bodies.py fit
 	python3 ci/test_docs.py
 	python3 ci/docs.py
-	python3 ci/data_path.py
+	python3 doc/test_promises.py
+	python3 doc/promises.py check
 	python3 ci/test_formats.py
 	python3 ci/formats.py
 	python3 ci/test_examples.py
@@ -108,8 +110,8 @@ oracle: lib
 	python3 compare/allocations.py crates/scrypt_tool/out/scrypt_tool
 	python3 compare/migration.py crates/scrypt_tool/out/scrypt_tool $(if $(WORKER),--worker $(WORKER))
 	python3 compare/key_files.py crates/scrypt_tool/out/scrypt_tool build/lib/libscrypt_c.so
-	cd crates/verdicts && rt run < stdin > /dev/null
-	python3 compare/hostile.py crates/verdicts/out/verdicts
+	cd crates/test_verdicts && rt run < stdin > /dev/null
+	python3 compare/hostile.py crates/test_verdicts/out/test_verdicts
 	python3 compare/thin_cost.py
 
 lib: kit
@@ -165,7 +167,10 @@ compare-worker: kit
 	cd crates/scrypt_tool && rt run -- key 0 1 1 1 "" > /dev/null < /dev/null
 	python3 compare/compare_worker.py crates/scrypt_tool/out/scrypt_tool $(WORKER)
 
-.PHONY: doc doc-test
+.PHONY: promises doc doc-test
+promises:
+	python3 doc/promises.py
+
 doc:
 	python3 doc/make.py
 

@@ -65,7 +65,7 @@ def proved():
 def main():
     without_old_libraries()
     count = proved()
-    tool, verdicts = "crates/scrypt_tool/out/scrypt_tool", "crates/verdicts/out/verdicts"
+    tool, verdicts = "crates/scrypt_tool/out/scrypt_tool", "crates/test_verdicts/out/test_verdicts"
     for script in [["ci/program.py", tool], ["ci/hashes.py", tool, verdicts]]:
         if subprocess.call([sys.executable, *script]):
             sys.exit("a program answered otherwise")

@@ -2,7 +2,7 @@
 """Verifies, makes and compares hashes by the built programs: those of other programs, and what is changed, cut or long.
 
 The answers come from elsewhere: the hashes are passlib's and libxcrypt's, and all other keys are those of Python's
-hashlib. scrypt_tool takes one hash a run; VERDICTS, the program of crates/verdicts, takes one a line, and gives the
+hashlib. scrypt_tool takes one hash a run; VERDICTS, the program of crates/test_verdicts, takes one a line, and gives the
 verdict on the empty password, also within limits.
 
 usage: hashes.py SCRYPT_TOOL VERDICTS
@@ -124,7 +124,14 @@ COSTLY = [
     ("$scrypt$ln=14,r=1,p=16384$c2FsdHNhbHQ$AAAAAAAAAAAAAAAAAAAA", "a minute in 4 MiB"),
     ("$scrypt$ln=20,r=1,p=1048576$c2FsdHNhbHQ$AAAAAAAAAAAAAAAAAAAA", "days in 256 MiB"),
     ("$scrypt$ln=50,r=1,p=16777216$c2FsdHNhbHQ$AAAAAAAAAAAAAAAAAAAA", "chunks of 2 GiB"),
+    ("$scrypt$ln=1,r=1,p=2000000$c2FsdHNhbHQ$AAAAAAAAAAAAAAAAAAAA", "11 seconds of PBKDF2, and few cores"),
     ("$7$c6..../....saltsalt$......................", "a `$7$` text of a pebibyte"),
+]
+
+# Texts whose keys are shorter than the usual limits allow, and why.
+SHORT_KEYS = [
+    ("$scrypt$ln=4,r=1,p=1$c2FsdHNhbHQ$AAAAAAAAAAAAAAAAAAAA", "a key of 15 bytes"),
+    ("$7$2/..../....$s/", "a `$7$` text that one password in 256 matches"),
 ]
 
 # How long a password is, around the block of SHA-256 and far beyond it.
@@ -242,6 +249,7 @@ def main():
     counts.append(verdicts_by_line([*beginnings(), *million()], program))
     counts.append(verdicts_by_line([(text, "Err(EncodingInvalid)") for text, _ in UNREAD], program))
     counts.append(verdicts_by_line([(text, "Err(TooCostly)") for text, _ in COSTLY], program, "within"))
+    counts.append(verdicts_by_line([(text, "Err(KeyTooShort)") for text, _ in SHORT_KEYS], program, "within"))
     rows, wrong = map(sum, zip(*counts))
     print(f"hashes: {rows - wrong} of {rows} texts are hashed, verified and compared as they should be")
     sys.exit(1 if wrong else 0)

@@ -18,14 +18,14 @@ import edits
 COUNTER = "crates/scrypt_kernel/proofs/cores/CoreCount/"
 BY_HAND = [COUNTER + it + "/Proof.antt" for it in ["after_core", "after_lanes_core", "new"]]
 NEW_COUNTS = {
-    "crates/promises/src/lengths.rt": 1,
+    "crates/promises/src/lengths.rt": 2,
     "crates/scrypt/src/derivation.rt": 1,
     "crates/scrypt/src/mcf/hashing.rt": 1,
     "crates/scrypt/src/phc/hashing.rt": 1,
     "crates/scrypt/src/verifying.rt": 1,
-    "crates/scrypt_c/src/in_buffers.rt": 3,
+    "crates/scrypt_c/src/with_buffers.rt": 3,
     "crates/scrypt_c/src/keys.rt": 1,
-    "crates/verdicts/src/main.rt": 1,
+    "crates/test_verdicts/src/main.rt": 1,
 }
 
 # A new count, however the type is written: `CoreCount::new`, `<CoreCount>::new`, `scrypt::CoreCount :: new`.

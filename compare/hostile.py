@@ -3,7 +3,7 @@
 
 usage: hostile.py VERDICTS [TEXTS [SEED]]
 
-VERDICTS is the program of crates/verdicts. First come the texts that are one character away from one of
+VERDICTS is the program of crates/test_verdicts. First come the texts that are one character away from one of
 both formats, and `$7$` texts with a key of up to three letters, all of them. Then come random texts of
 both formats (a million if not given): good ones, and good ones that are mutated, spliced, cut, doubled,
 or random, from a seed that is printed. Their log_n is 0 to 4, or so great that the table is refused.
@@ -38,16 +38,18 @@ VERDICTS = (
 # from this log_n on no machine has the table
 GREAT = 50
 
-# the limits: 256 MiB and four times the recommended cores; and the buffers of the program under them
-MOST_BYTES, MOST_CORES = 256 << 20, 1 << 24
+# the limits: 256 MiB, four times the recommended work and 16 bytes of key; and the buffers of the program under them
+MOST_BYTES, MOST_WORK, LEAST_KEY_LEN = 256 << 20, 16 * ((1 << 17) + 32) * 8, 16
 CHUNKS, TABLE, SCRATCH = 128 * 16, 32 * 16 * 16, 64 * 16
 
-# costs that ask for seconds to days, for more memory than there is, or for a byte or a core more than is allowed
+# parameters that ask for seconds to days, for more memory than there is, or for a byte or a little work more than is
+# allowed; and those whose work is PBKDF2 more than cores, since N is small
 COSTLY = [(13, 1, 8192), (14, 1, 16384), (20, 1, 1048576), (50, 1, 16777216), (40, 8, 1), (56, 1, 1)]
-COSTLY += [(18, 8, 1), (17, 8, 5), (20, 1, 5), (0, 1, 2097150)]
+COSTLY += [(18, 8, 1), (17, 8, 5), (20, 1, 5), (10, 2048, 1), (4, 65536, 2)]
+COSTLY += [(1, 1, 2000000), (0, 1, 127132), (0, 127132, 1), (3, 8, 13108), (0, 1, 2097150)]
 
-# costs that are exactly, or almost, what is allowed
-ALLOWED = [(17, 8, 1), (17, 8, 4), (20, 1, 4), (0, 1, 2097149), (4, 16, 1), (4, 1, 16), (4, 1, 17), (5, 16, 1)]
+# parameters that are exactly, or almost, what is allowed
+ALLOWED = [(17, 8, 1), (17, 8, 4), (20, 1, 4), (0, 1, 127131), (4, 16, 1), (4, 1, 16), (4, 1, 17), (5, 16, 1)]
 
 # the characters that mutations put in
 CHARACTERS = "$$$=,,.-/+" + crypt64.ALPHABET + "*!\x00\x7f \u00e9\u20ac"
@@ -96,8 +98,10 @@ def compared(salt, log_n, r, p, key):
 def compared_within(salt, log_n, r, p, key):
     """The same within the limits, in the buffers of the program."""
     chunks, table, scratch = 128 * r * p, 32 * r << log_n, 64 * r
-    if chunks + 4 * table + 4 * scratch > MOST_BYTES or 4 * r * p << log_n > MOST_CORES:
+    if chunks + 4 * table + 4 * scratch > MOST_BYTES or 4 * ((1 << log_n) + 32) * r * p > MOST_WORK:
         return "TooCostly"
+    if len(key) < LEAST_KEY_LEN:
+        return "KeyTooShort"
     if chunks > CHUNKS or table > TABLE or scratch > SCRATCH:
         return "OutOfMemory"
     return compared(salt, log_n, r, p, key)
@@ -174,12 +178,14 @@ def printed_within(verdict):
     """The same within the limits, where a wrong password is no error."""
     if verdict in ("Ok", "PasswordInvalid"):
         return "Ok(true)" if verdict == "Ok" else "Ok(false)"
-    return "Err(TooCostly)" if verdict == "TooCostly" else f"Err(Hash({printed(verdict)[4:-1]}))"
+    if verdict in ("TooCostly", "KeyTooShort"):
+        return f"Err({verdict})"
+    return f"Err(Hash({printed(verdict)[4:-1]}))"
 
 
 def texts_of(log_n, r, p):
     """A text of each format with these costs; its password is not the empty one."""
-    salt, key = b"saltsalt", bytes(15)
+    salt, key = b"saltsalt", bytes(LEAST_KEY_LEN)
     phc_text = f"$scrypt$ln={log_n},r={r},p={p}${unpadded.letters(salt)}${unpadded.letters(key)}"
     return phc_text, crypt64.costs(log_n, r, p) + "saltsalt$" + crypt64.letters(key)
 
@@ -318,7 +324,7 @@ def main():
     texts = [text for text, _ in pairs] + [text for it in costs for text in texts_of(*it)]
     within = list(judged(texts, compared_within))
     command = [program, "within"]
-    failed |= disagree("within limits", command, within, MOST_BYTES, VERDICTS + ["TooCostly"], printed_within)
+    failed |= disagree("within limits", command, within, MOST_BYTES, VERDICTS + ["TooCostly", "KeyTooShort"], printed_within)
     sys.exit(1 if failed | slowly_refused(program) else 0)
 
 

@@ -10,8 +10,8 @@ from library import Target, page_of
 
 BINDERS = (
     re.compile(r"[({]([\w' ]+?) : "),
+    re.compile(r"^\s+\(?([\w', ]+?)\)? ←", re.M),
     re.compile(r"\blet (?:\(?)([\w', ]+?)\)? (?::|=)"),
-    re.compile(r"^ *([\w']+) ←", re.M),
     re.compile(r"[{;]\s+([\w']+) = "),
 )
 LAMBDA = re.compile(r"λ ((?:\([^)]*\)|\{[^}]*\}|[^.(){}])*)\.")

@@ -94,6 +94,11 @@ static int hash_params(void) {
   return scrypt_hash_params(phc, phc_len, &log_n, &r, &p, &len);
 }
 
+static int hash_needs(void) {
+  size_t chunks_len, table_len, scratch_len;
+  return scrypt_hash_needs(phc, phc_len, SIZE_MAX, UINT64_MAX, 0, &chunks_len, &table_len, &scratch_len);
+}
+
 /* Memory that is kept holds rows of the table until it is wiped. */
 static int wiped(int status) {
   scrypt_memory_wipe(memory);
@@ -110,7 +115,7 @@ static int hash_mcf_in(void) {
 static int verify_in(void) { return wiped(scrypt_verify_in(memory, PASSWORD, mcf, mcf_len)); }
 
 static int new_memory(void) {
-  scrypt_memory *one = scrypt_memory_new(SCRYPT_MOST_BYTES, SCRYPT_MOST_CORES);
+  scrypt_memory *one = scrypt_memory_new(SCRYPT_MOST_BYTES, SCRYPT_MOST_WORK);
   int status = scrypt_verify_in(one, PASSWORD, phc, phc_len);
   scrypt_memory_free(one);
   return status;
@@ -202,6 +207,7 @@ static const struct {
     {"scrypt_verify of another password", verify_another_password, NULL},
     {"scrypt_verify_with_buffers", verify_with_buffers, NULL},
     {"scrypt_needs_rehash", needs_rehash, NULL},
+    {"scrypt_hash_needs", hash_needs, NULL},
     {"scrypt_hash_params", hash_params, NULL},
     {"scrypt_kdf_in", kdf_in, NULL},
     {"scrypt_hash_phc_in", hash_phc_in, NULL},
@@ -225,7 +231,7 @@ static void take_buffers(void) {
   chunks = calloc(chunks_len, 1);
   table = calloc(table_len, 4);
   scratch = calloc(scratch_len, 8); /* room for that of a thin table too */
-  memory = scrypt_memory_new(SCRYPT_MOST_BYTES, SCRYPT_MOST_CORES);
+  memory = scrypt_memory_new(SCRYPT_MOST_BYTES, SCRYPT_MOST_WORK);
 }
 
 static void free_buffers(void) {

@@ -10,7 +10,8 @@
 
 struct scrypt_memory {
   size_t most_bytes;
-  uint64_t most_cores;
+  uint64_t most_work;
+  size_t least_key_len;
   void *mapping; /* NULL if there is none */
   size_t mapped;
   uint32_t *front; /* where the buffers begin */
@@ -26,28 +27,10 @@ struct buffers {
   uint32_t *table, *scratch;
 };
 
-/* Adds count items of width bytes to *sum, or returns 0 if the sum does not fit. */
-static int add(size_t *sum, size_t count, size_t width) {
-  if (count > (SIZE_MAX - *sum) / width) return 0;
-  *sum += count * width;
-  return 1;
-}
-
-/* The lengths of the buffers for these parameters. */
-static int measure(uint8_t log_n, uint32_t r, uint32_t p, struct buffers *buffers) {
-  return scrypt_buffer_lens(log_n, r, p, 0, &buffers->chunks_len, &buffers->table_len, &buffers->scratch_len);
-}
-
-/* Whether buffers of these lengths, and the cores, are within the bounds of the memory. */
-static int check_bounds(const scrypt_memory *memory, uint8_t log_n, uint32_t r, uint32_t p, struct buffers *buffers) {
-  buffers->bytes = 0;
-  if (!add(&buffers->bytes, buffers->table_len, 4) || !add(&buffers->bytes, buffers->scratch_len, 4) ||
-      !add(&buffers->bytes, buffers->chunks_len, 1))
-    return SCRYPT_TOO_COSTLY;
-  if (buffers->bytes > memory->most_bytes) return SCRYPT_TOO_COSTLY;
-  /* The cores, 4 * r * p * 2^log_n, may need more than 64 bits. r * p is below 2^30, and log_n below 64. */
-  if ((uint64_t)4 * r * p > memory->most_cores >> log_n) return SCRYPT_TOO_COSTLY;
-  return SCRYPT_OK;
+/* The lengths of the buffers for these parameters, if they are within the bounds of the memory. */
+static int measure(const scrypt_memory *memory, uint8_t log_n, uint32_t r, uint32_t p, struct buffers *buffers) {
+  return scrypt_params_need(log_n, r, p, memory->most_bytes, memory->most_work, &buffers->chunks_len,
+                            &buffers->table_len, &buffers->scratch_len);
 }
 
 static void unmap(scrypt_memory *memory) {
@@ -75,7 +58,8 @@ static int map(scrypt_memory *memory, const struct buffers *buffers) {
   size_t slack = 0, size = has_huge ? HUGE_PAGE : 0;
   void *mapping;
   unmap(memory);
-  if (!add(&size, buffers->bytes, 1)) return SCRYPT_OUT_OF_MEMORY;
+  if (buffers->bytes > SIZE_MAX - size) return SCRYPT_OUT_OF_MEMORY;
+  size += buffers->bytes;
   mapping = mmap(NULL, size, PROT_READ | PROT_WRITE, MAP_PRIVATE | MAP_ANONYMOUS, -1, 0);
   if (mapping == MAP_FAILED) return SCRYPT_OUT_OF_MEMORY;
   if (has_huge) slack = (HUGE_PAGE - (uintptr_t)mapping % HUGE_PAGE) % HUGE_PAGE;
@@ -87,11 +71,13 @@ static int map(scrypt_memory *memory, const struct buffers *buffers) {
   return SCRYPT_OK;
 }
 
-/* The buffers for these parameters, whose lengths are measured. */
-static int place(scrypt_memory *memory, uint8_t log_n, uint32_t r, uint32_t p, struct buffers *buffers) {
-  int status = check_bounds(memory, log_n, r, p, buffers);
-  if (status == SCRYPT_OK && buffers->bytes > memory->room) status = map(memory, buffers);
-  if (status != SCRYPT_OK) return status;
+/* The buffers, whose lengths are measured: their sum is within a bound, so it does not overflow. */
+static int place(scrypt_memory *memory, struct buffers *buffers) {
+  buffers->bytes = 4 * (buffers->table_len + buffers->scratch_len) + buffers->chunks_len;
+  if (buffers->bytes > memory->room) {
+    int status = map(memory, buffers);
+    if (status != SCRYPT_OK) return status;
+  }
   if (buffers->bytes > memory->used) memory->used = buffers->bytes;
   buffers->table = memory->front;
   buffers->scratch = buffers->table + buffers->table_len;
@@ -101,16 +87,20 @@ static int place(scrypt_memory *memory, uint8_t log_n, uint32_t r, uint32_t p, s
 
 /* The buffers for these parameters. */
 static int take(scrypt_memory *memory, uint8_t log_n, uint32_t r, uint32_t p, struct buffers *buffers) {
-  int status = measure(log_n, r, p, buffers);
-  return status == SCRYPT_OK ? place(memory, log_n, r, p, buffers) : status;
+  int status = measure(memory, log_n, r, p, buffers);
+  return status == SCRYPT_OK ? place(memory, buffers) : status;
 }
 
-scrypt_memory *scrypt_memory_new(size_t most_bytes, uint64_t most_cores) {
+scrypt_memory *scrypt_memory_new(size_t most_bytes, uint64_t most_work) {
   scrypt_memory *memory = (scrypt_memory *)calloc(1, sizeof *memory);
   if (memory == NULL) return NULL;
   memory->most_bytes = most_bytes;
-  memory->most_cores = most_cores;
+  memory->most_work = most_work;
   return memory;
+}
+
+void scrypt_memory_set_least_key_len(scrypt_memory *memory, size_t least_key_len) {
+  if (memory != NULL) memory->least_key_len = least_key_len;
 }
 
 void scrypt_memory_wipe(scrypt_memory *memory) {
@@ -134,28 +124,25 @@ static int is_input_null(const uint8_t *password, size_t password_len, const uin
   return scrypt_is_null(password, password_len) || scrypt_is_null(salt, salt_len);
 }
 
-/* Derives a key in buffers whose lengths are measured. */
-static int derive(scrypt_memory *memory, struct buffers *of, const uint8_t *password, size_t password_len,
-                  const uint8_t *salt, size_t salt_len, uint8_t log_n, uint32_t r, uint32_t p, uint8_t *output,
-                  size_t output_len) {
-  int status;
+/* Derives a key in this memory. The length is refused before the bounds, as scrypt_kdf refuses it. */
+static int derive(scrypt_memory *memory, const uint8_t *password, size_t password_len, const uint8_t *salt,
+                  size_t salt_len, uint8_t log_n, uint32_t r, uint32_t p, uint8_t *output, size_t output_len) {
+  struct buffers of;
+  int status = measure(memory, log_n, r, p, &of);
+  if (status == SCRYPT_INVALID_PARAMS) return status;
   if (output_len == 0 || output_len > SCRYPT_MAX_OUTPUT_LEN) return SCRYPT_INVALID_OUTPUT_LEN;
-  status = place(memory, log_n, r, p, of);
+  if (status == SCRYPT_OK) status = place(memory, &of);
   if (status != SCRYPT_OK) return status;
   return scrypt_kdf_with_buffers(scrypt_bytes(password), password_len, scrypt_bytes(salt), salt_len, log_n, r, p,
-                                 output, output_len, of->chunks, of->chunks_len, of->table, of->table_len, of->scratch,
-                                 of->scratch_len);
+                                 output, output_len, of.chunks, of.chunks_len, of.table, of.table_len, of.scratch,
+                                 of.scratch_len);
 }
 
 int scrypt_kdf_in(scrypt_memory *memory, const uint8_t *password, size_t password_len, const uint8_t *salt,
                   size_t salt_len, uint8_t log_n, uint32_t r, uint32_t p, uint8_t *output, size_t output_len) {
-  struct buffers of;
-  int status;
   if (memory == NULL || is_input_null(password, password_len, salt, salt_len) || scrypt_is_null(output, output_len))
     return SCRYPT_NULL_POINTER;
-  status = measure(log_n, r, p, &of);
-  if (status != SCRYPT_OK) return status;
-  return derive(memory, &of, password, password_len, salt, salt_len, log_n, r, p, output, output_len);
+  return derive(memory, password, password_len, salt, salt_len, log_n, r, p, output, output_len);
 }
 
 int scrypt_hash_phc_in(scrypt_memory *memory, const uint8_t *password, size_t password_len, const uint8_t *salt,
@@ -163,12 +150,18 @@ int scrypt_hash_phc_in(scrypt_memory *memory, const uint8_t *password, size_t pa
                        size_t capacity, size_t *text_len) {
   struct buffers of;
   char none = 0;
+  uint8_t no_byte = 0;
+  uint32_t no_word = 0;
+  size_t unread = 0;
   int status;
   if (memory == NULL || is_input_null(password, password_len, salt, salt_len) || scrypt_is_null(text, capacity) ||
       text_len == NULL)
     return SCRYPT_NULL_POINTER;
   if (text == NULL) text = &none;
-  status = take(memory, log_n, r, p, &of);
+  /* Without buffers: the errors that come before the bounds. */
+  status = scrypt_hash_phc_with_buffers(scrypt_bytes(password), password_len, scrypt_bytes(salt), salt_len, log_n, r, p,
+                                         key_len, text, 0, &unread, &no_byte, 0, &no_word, 0, &no_word, 0);
+  if (status == SCRYPT_BUFFER_SIZE) status = take(memory, log_n, r, p, &of);
   if (status != SCRYPT_OK) return status;
   return scrypt_hash_phc_with_buffers(scrypt_bytes(password), password_len, scrypt_bytes(salt), salt_len, log_n, r, p,
                                       key_len, text, capacity, text_len, of.chunks, of.chunks_len, of.table,
@@ -180,12 +173,18 @@ int scrypt_hash_mcf_in(scrypt_memory *memory, const uint8_t *password, size_t pa
                        size_t capacity, size_t *text_len) {
   struct buffers of;
   char none = 0;
+  uint8_t no_byte = 0;
+  uint32_t no_word = 0;
+  size_t unread = 0;
   int status;
   if (memory == NULL || is_input_null(password, password_len, salt, salt_len) || scrypt_is_null(text, capacity) ||
       text_len == NULL)
     return SCRYPT_NULL_POINTER;
   if (text == NULL) text = &none;
-  status = take(memory, log_n, r, p, &of);
+  /* Without buffers: the errors that come before the bounds. */
+  status = scrypt_hash_mcf_with_buffers(scrypt_bytes(password), password_len, scrypt_bytes(salt), salt_len, log_n, r, p,
+                                         key_len, text, 0, &unread, &no_byte, 0, &no_word, 0, &no_word, 0);
+  if (status == SCRYPT_BUFFER_SIZE) status = take(memory, log_n, r, p, &of);
   if (status != SCRYPT_OK) return status;
   return scrypt_hash_mcf_with_buffers(scrypt_bytes(password), password_len, scrypt_bytes(salt), salt_len, log_n, r, p,
                                       key_len, text, capacity, text_len, of.chunks, of.chunks_len, of.table,
@@ -195,15 +194,13 @@ int scrypt_hash_mcf_in(scrypt_memory *memory, const uint8_t *password, size_t pa
 int scrypt_verify_in(scrypt_memory *memory, const uint8_t *password, size_t password_len, const char *text,
                      size_t text_len) {
   struct buffers of;
-  uint8_t log_n;
-  uint32_t r, p;
-  size_t key_len;
   int status;
   if (memory == NULL || scrypt_is_null(password, password_len) || scrypt_is_null(text, text_len))
     return SCRYPT_NULL_POINTER;
   if (text == NULL) text = "";
-  status = scrypt_hash_params(text, text_len, &log_n, &r, &p, &key_len);
-  if (status == SCRYPT_OK) status = take(memory, log_n, r, p, &of);
+  status = scrypt_hash_needs(text, text_len, memory->most_bytes, memory->most_work, memory->least_key_len,
+                             &of.chunks_len, &of.table_len, &of.scratch_len);
+  if (status == SCRYPT_OK) status = place(memory, &of);
   if (status != SCRYPT_OK) return status;
   return scrypt_verify_with_buffers(scrypt_bytes(password), password_len, text, text_len, of.chunks, of.chunks_len,
                                     of.table, of.table_len, of.scratch, of.scratch_len);
@@ -211,19 +208,19 @@ int scrypt_verify_in(scrypt_memory *memory, const uint8_t *password, size_t pass
 
 int scrypt_kdf_mapped(const uint8_t *password, size_t password_len, const uint8_t *salt, size_t salt_len,
                       uint8_t log_n, uint32_t r, uint32_t p, uint8_t *output, size_t output_len) {
-  scrypt_memory memory = {SIZE_MAX, UINT64_MAX, NULL, 0, NULL, 0, 0};
+  scrypt_memory memory = {SIZE_MAX, UINT64_MAX, 0, NULL, 0, NULL, 0, 0};
   struct buffers of;
   int status;
   if (is_input_null(password, password_len, salt, salt_len) || scrypt_is_null(output, output_len))
     return SCRYPT_NULL_POINTER;
-  status = measure(log_n, r, p, &of);
-  if (status == SCRYPT_OK && output == NULL) status = SCRYPT_INVALID_OUTPUT_LEN;
-  if (status != SCRYPT_OK) return status;
+  status = measure(&memory, log_n, r, p, &of);
+  if (status == SCRYPT_INVALID_PARAMS) return status;
+  if (output == NULL) return SCRYPT_INVALID_OUTPUT_LEN;
   /* No huge page fits in such a table, and to map it again takes longer than malloc, which reuses memory. */
-  if (of.table_len < HUGE_PAGE / 4)
+  if (status == SCRYPT_OK && of.table_len < HUGE_PAGE / 4)
     return scrypt_kdf(scrypt_bytes(password), password_len, scrypt_bytes(salt), salt_len, log_n, r, p, output,
                       output_len);
-  status = derive(&memory, &of, password, password_len, salt, salt_len, log_n, r, p, output, output_len);
+  status = derive(&memory, password, password_len, salt, salt_len, log_n, r, p, output, output_len);
   unmap(&memory); /* the system writes zeros to what it gives to others */
   return status == SCRYPT_TOO_COSTLY ? SCRYPT_OUT_OF_MEMORY : status;
 }

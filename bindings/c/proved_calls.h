@@ -52,7 +52,12 @@ CLEARING(scrypt_verify_with_buffers,
           size_t chunks_len, uint32_t *table, size_t table_len, uint32_t *scratch, size_t scratch_len),
          (password, password_len, text, text_len, chunks, chunks_len, table, table_len, scratch, scratch_len))
 
-/* The last two take no password, but read the key in the text. */
+/* The last three take no password, but read the key in the text. */
+CLEARING(scrypt_hash_needs,
+         (const char *text, size_t text_len, size_t most_bytes, uint64_t most_work, size_t least_key_len,
+          size_t *chunks_len, size_t *table_len, size_t *scratch_len),
+         (text, text_len, most_bytes, most_work, least_key_len, chunks_len, table_len, scratch_len))
+
 CLEARING(scrypt_needs_rehash,
          (const char *text, size_t text_len, uint8_t log_n, uint32_t r, uint32_t p, size_t key_len),
          (text, text_len, log_n, r, p, key_len))

@@ -91,8 +91,9 @@ enum scrypt_status {
   SCRYPT_SALT_INVALID = 10,       /* the salt has a length that is not allowed */
   SCRYPT_VERSION = 11,            /* the hash names a version, and scrypt has none */
   SCRYPT_BUFFER_SIZE = 12,        /* a buffer does not have its length, or the text does not fit its capacity */
-  SCRYPT_TOO_COSTLY = 13,         /* scrypt_memory: the parameters need more than one of its bounds */
+  SCRYPT_TOO_COSTLY = 13,         /* the parameters need more bytes or more work than the bounds allow */
   SCRYPT_NO_RANDOM_BYTES = 14,    /* the system has no random bytes */
+  SCRYPT_KEY_TOO_SHORT = 15,      /* the key in the text is shorter than the bounds allow */
   SCRYPT_NULL_POINTER = 16        /* NULL where it is not allowed; proved calls do not look for it */
 };
 
@@ -168,9 +169,10 @@ int scrypt_hash_mcf(const uint8_t *password, size_t password_len, const uint8_t 
 
 /* scrypt_hash_phc in the caller's buffers, each of which is at least as long as scrypt_buffer_lens says with s = 0. What
  * they hold before does not matter; afterwards chunks and scratch are zeros if a key was derived, and otherwise all are
- * unchanged. Nothing is allocated. SCRYPT_INVALID_PARAMS (also for key_len), SCRYPT_SALT_INVALID, then SCRYPT_BUFFER_SIZE
- * if a buffer is too short, which leaves *text_len, or if the new text does not fit its capacity, with *text_len as
- * above; that is found after the derivation. */
+ * unchanged; what is after the used part of a buffer never changes. If p is at least 2, and the table and the scratch are
+ * twice as long as that, two chunks are mixed at a time. Nothing is allocated. SCRYPT_INVALID_PARAMS (also for key_len),
+ * SCRYPT_SALT_INVALID, then SCRYPT_BUFFER_SIZE if a buffer is too short, which leaves *text_len however short the text is,
+ * or if the new text does not fit its capacity, with *text_len as above; that is found after the derivation. */
 SCRYPT_CHECKED SCRYPT_NONNULL
 int scrypt_hash_phc_with_buffers(const uint8_t *password, size_t password_len, const uint8_t *salt,
                                  size_t salt_len, uint8_t log_n, uint32_t r, uint32_t p, size_t key_len,
@@ -178,8 +180,9 @@ int scrypt_hash_phc_with_buffers(const uint8_t *password, size_t password_len, c
                                  size_t chunks_len, uint32_t *table, size_t table_len, uint32_t *scratch,
                                  size_t scratch_len);
 
-/* The same for the $7$ text, with a salt of any length. That the new text does not fit is found before the derivation.
- * SCRYPT_INVALID_PARAMS, SCRYPT_BUFFER_SIZE. */
+/* The same for the $7$ text, with a salt of any length. SCRYPT_INVALID_PARAMS (also for key_len), then SCRYPT_BUFFER_SIZE if
+ * the new text does not fit its capacity, with *text_len as above, however short the buffers are; then SCRYPT_BUFFER_SIZE
+ * if a buffer is too short, which leaves *text_len. Both are found before the derivation, and leave the buffers unchanged. */
 SCRYPT_CHECKED SCRYPT_NONNULL
 int scrypt_hash_mcf_with_buffers(const uint8_t *password, size_t password_len, const uint8_t *salt,
                                  size_t salt_len, uint8_t log_n, uint32_t r, uint32_t p, size_t key_len,
@@ -189,8 +192,8 @@ int scrypt_hash_mcf_with_buffers(const uint8_t *password, size_t password_len, c
 
 /* SCRYPT_OK if the password is that of the hash, and SCRYPT_MISMATCH if it is not or the hash has no salt or no key.
  * A text that is $7 or begins with $7$ is read as a $7$ text, and any other as a PHC text.
- * The parameters are those of the hash, which may ask for much memory and time: bound them by scrypt_hash_params, or
- * call scrypt_verify_in, if the hash is not your own.
+ * The parameters are those of the hash, which may ask for much memory and time: call scrypt_hash_needs first, or
+ * scrypt_verify_in, if the hash is not your own.
  * SCRYPT_ALGORITHM, SCRYPT_ENCODING_INVALID, SCRYPT_OUTPUT_SIZE, SCRYPT_HASH_PARAM_INVALID, SCRYPT_HASH_PARAMS_INVALID,
  * SCRYPT_VERSION, SCRYPT_OUT_OF_MEMORY. */
 SCRYPT_CHECKED SCRYPT_NONNULL
@@ -206,7 +209,7 @@ int scrypt_verify_with_buffers(const uint8_t *password, size_t password_len, con
                                uint32_t *scratch, size_t scratch_len);
 
 /* SCRYPT_NEEDS_REHASH if log_n, r, p or the key's length is below the wanted one, or the hash has no salt or no key,
- * and SCRYPT_OK if not. Nothing is allocated. SCRYPT_INVALID_PARAMS (also for key_len), and the errors of scrypt_verify
+ * and SCRYPT_OK if not. Nothing is allocated. First SCRYPT_INVALID_PARAMS (also for key_len), then the errors of scrypt_verify
  * except SCRYPT_OUT_OF_MEMORY. */
 SCRYPT_CHECKED SCRYPT_NONNULL
 int scrypt_needs_rehash(const char *text, size_t text_len, uint8_t log_n, uint32_t r, uint32_t p, size_t key_len);
@@ -216,21 +219,41 @@ int scrypt_needs_rehash(const char *text, size_t text_len, uint8_t log_n, uint32
 SCRYPT_CHECKED SCRYPT_NONNULL
 int scrypt_hash_params(const char *text, size_t text_len, uint8_t *log_n, uint32_t *r, uint32_t *p, size_t *key_len);
 
+/* What verifying with this text needs, within bounds: the lengths of the buffers, of chunks in bytes, and of the table
+ * and the scratch in words. Nothing is allocated. The errors of scrypt_verify for a text that cannot be read
+ * (SCRYPT_MISMATCH without a salt or a key); then SCRYPT_TOO_COSTLY if the buffers have more than most_bytes bytes, or
+ * the work, 4 * (2^log_n + 32) * r * p, is above most_work; then SCRYPT_KEY_TOO_SHORT if the key has fewer than
+ * least_key_len bytes. On an error no length is written. */
+SCRYPT_CHECKED SCRYPT_NONNULL
+int scrypt_hash_needs(const char *text, size_t text_len, size_t most_bytes, uint64_t most_work, size_t least_key_len,
+                      size_t *chunks_len, size_t *table_len, size_t *scratch_len);
+
+/* The same for a derivation with these parameters: SCRYPT_INVALID_PARAMS, then SCRYPT_TOO_COSTLY. */
+SCRYPT_CHECKED SCRYPT_NONNULL
+int scrypt_params_need(uint8_t log_n, uint32_t r, uint32_t p, size_t most_bytes, uint64_t most_work,
+                       size_t *chunks_len, size_t *table_len, size_t *scratch_len);
+
 /* ---- Memory that is kept from call to call, with bounds. Not proved: it calls the calls above ---- */
 
 /* Memory for any number of calls, one after another; one thread at a time uses it. Nothing is mapped before it is
  * needed; it grows up to most_bytes, in huge pages if the system has some, and is kept, which makes the next call
- * faster. A call whose parameters need more than most_bytes for their three buffers, or more than most_cores cores,
- * 4 * 2^log_n * r * p, returns SCRYPT_TOO_COSTLY at once; SCRYPT_OUT_OF_MEMORY if the system refuses memory. */
+ * faster. A call whose parameters need more than most_bytes for their three buffers, or more than most_work,
+ * as scrypt_hash_needs has them, returns SCRYPT_TOO_COSTLY at once; SCRYPT_OUT_OF_MEMORY if the system refuses memory. */
 typedef struct scrypt_memory scrypt_memory;
 
-/* Bounds that let most hashes in and no other: 256 MiB, and four times the cores of the recommended parameters. */
+/* Default bounds: 256 MiB, four times the work of the recommended parameters, and a key of 16 bytes. */
 #define SCRYPT_MOST_BYTES (UINT32_C(256) << 20)
-#define SCRYPT_MOST_CORES (UINT32_C(1) << 24)
+#define SCRYPT_MOST_WORK UINT32_C(16781312)
+#define SCRYPT_LEAST_KEY_LEN 16
+#define SCRYPT_MOST_CORES SCRYPT_MOST_WORK /* its name up to 0.12.0+proved.1 */
 
 /* NULL if the system has no memory for it. */
 SCRYPT_CHECKED
-scrypt_memory *scrypt_memory_new(size_t most_bytes, uint64_t most_cores);
+scrypt_memory *scrypt_memory_new(size_t most_bytes, uint64_t most_work);
+
+/* The least length of the key in texts that this memory verifies, 0 at first: a text with a shorter key is
+ * SCRYPT_KEY_TOO_SHORT. A key of n bytes lets one wrong password in 256^n in. Nothing for NULL. */
+void scrypt_memory_set_least_key_len(scrypt_memory *memory, size_t least_key_len);
 
 /* Writes zeros over what the calls wrote there. Nothing for NULL. */
 void scrypt_memory_wipe(scrypt_memory *memory);
@@ -239,7 +262,8 @@ void scrypt_memory_wipe(scrypt_memory *memory);
 void scrypt_memory_free(scrypt_memory *memory);
 
 /* As the calls without _in, but also SCRYPT_NULL_POINTER, and SCRYPT_TOO_COSTLY after SCRYPT_INVALID_PARAMS of
- * log_n, r and p, SCRYPT_INVALID_OUTPUT_LEN, and the errors of the text of a hash. */
+ * log_n, r and p, SCRYPT_INVALID_OUTPUT_LEN, SCRYPT_SALT_INVALID, and the errors of the text of a hash; and
+ * scrypt_verify_in also SCRYPT_KEY_TOO_SHORT, after SCRYPT_TOO_COSTLY. */
 SCRYPT_CHECKED
 int scrypt_kdf_in(scrypt_memory *memory, const uint8_t *password, size_t password_len, const uint8_t *salt,
                   size_t salt_len, uint8_t log_n, uint32_t r, uint32_t p, uint8_t *output, size_t output_len);
@@ -349,6 +373,7 @@ SCRYPT_HELPER const char *scrypt_status_text(int status) {
     case SCRYPT_BUFFER_SIZE: return "invalid buffer length";
     case SCRYPT_TOO_COSTLY: return "the parameters need more than is allowed";
     case SCRYPT_NO_RANDOM_BYTES: return "the system has no random bytes";
+    case SCRYPT_KEY_TOO_SHORT: return "the key in the hash is shorter than is allowed";
     case SCRYPT_NULL_POINTER: return "NULL is not allowed there";
     default: return "unknown status";
   }

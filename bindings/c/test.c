@@ -200,17 +200,22 @@ static void hash_in_buffers(int is_mcf, const char *made) {
   check(hash(b("pw"), 2, b("saltsalt"), 8, 4, 8, 1, 32, text, n, &len, chunks, chunks_len, table, table_len, scratch,
              scratch_len - 1) == SCRYPT_BUFFER_SIZE, "a short scratch");
   check(len == 77 && text[0] == '!' && chunks[0] == 7 && scratch[0] == 0x07070707, "a refusal leaves everything");
+  check(hash(b("pw"), 2, b("saltsalt"), 8, 4, 8, 1, 32, text, n - 1, &len, chunks, chunks_len - 1, table, table_len,
+             scratch, scratch_len) == SCRYPT_BUFFER_SIZE && len == (is_mcf ? n : 77), "a text and chunks that are too short");
+  len = 77;
   check(hash(b("pw"), 2, b("saltsalt"), 8, 4, 8, 1, 32, text, n - 1, &len, chunks, chunks_len, table, table_len, scratch,
              scratch_len) == SCRYPT_BUFFER_SIZE && len == n && text[0] == '!', "a text that does not fit");
   memset(chunks, 7, sizeof chunks);
   memset(scratch, 7, sizeof scratch);
-  check(hash(b("pw"), 2, b("saltsalt"), 8, 4, 8, 1, 32, text, n, &len, chunks, chunks_len + 1, table, table_len, scratch,
-             scratch_len + 1) == SCRYPT_OK, "a hash in buffers");
+  table[table_len] = 0x07070707;
+  check(hash(b("pw"), 2, b("saltsalt"), 8, 4, 8, 1, 32, text, n, &len, chunks, chunks_len + 1, table, table_len + 1,
+             scratch, scratch_len + 1) == SCRYPT_OK, "a hash in buffers");
   check(len == n && memcmp(text, made, n) == 0 && text[n] == '!', "the same text, and nothing after it");
   for (i = 0; i < chunks_len; i++) nonzero += chunks[i] != 0;
   for (i = 0; i < scratch_len; i++) nonzero += scratch[i] != 0;
   check(nonzero == 0, "zeros in chunks and scratch");
-  check(chunks[chunks_len] == 7 && scratch[scratch_len] == 0x07070707, "and nothing written after them");
+  check(chunks[chunks_len] == 7 && scratch[scratch_len] == 0x07070707 && table[table_len] == 0x07070707,
+        "and nothing written after what is used");
   check(hash(b("pw"), 2, b(""), 0, 4, 8, 1, 32, text, sizeof text, &len, chunks, 2048, table, 5000, scratch, 600) ==
             (is_mcf ? SCRYPT_OK : SCRYPT_SALT_INVALID), "an empty salt");
 }
@@ -218,7 +223,9 @@ static void hash_in_buffers(int is_mcf, const char *made) {
 static void hash_params(const char *text) {
   uint8_t log_n = 99;
   uint32_t r = 99, p = 99;
-  size_t key_len = 99;
+  size_t key_len = 99, chunks_len, table_len, scratch_len;
+  check(scrypt_hash_needs(text, strlen(text), SIZE_MAX, UINT64_MAX, 0, &chunks_len, &table_len, &scratch_len) ==
+            SCRYPT_OK, "needs");
   check(scrypt_hash_params("$7$", 3, &log_n, &r, &p, &key_len) == SCRYPT_ENCODING_INVALID, "no hash");
   check(log_n == 99 && r == 99 && p == 99 && key_len == 99, "an error leaves the four");
   check(scrypt_hash_params(text, strlen(text), &log_n, &r, &p, &key_len) == SCRYPT_OK, "params");

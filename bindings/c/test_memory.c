@@ -17,7 +17,7 @@
 #define IS_WATCHED 0
 #endif
 
-static scrypt_memory *bounded(void) { return scrypt_memory_new(SCRYPT_MOST_BYTES, SCRYPT_MOST_CORES); }
+static scrypt_memory *bounded(void) { return scrypt_memory_new(SCRYPT_MOST_BYTES, SCRYPT_MOST_WORK); }
 
 /* The size of this process in bytes: which 0 is its address space, and 1 what of it is in memory. */
 static size_t process_size(int which) {
@@ -71,32 +71,32 @@ static void results_as_without(void) {
   scrypt_memory_free(NULL);
 }
 
-static int derive(size_t most_bytes, uint64_t most_cores, uint8_t log_n, uint32_t r, uint32_t p) {
+static int derive(size_t most_bytes, uint64_t most_work, uint8_t log_n, uint32_t r, uint32_t p) {
   uint8_t key[4] = {1, 2, 3, 4};
-  scrypt_memory *memory = scrypt_memory_new(most_bytes, most_cores);
+  scrypt_memory *memory = scrypt_memory_new(most_bytes, most_work);
   int status = scrypt_kdf_in(memory, b(""), 0, b(""), 0, log_n, r, p, key, 4);
   if (status != SCRYPT_OK) check(memcmp(key, "\1\2\3\4", 4) == 0, "an error leaves the output");
   scrypt_memory_free(memory);
   return status;
 }
 
-/* Both bounds are met exactly: 128 * r * (N + p + 2) bytes, and 4 * N * r * p cores. */
+/* Both bounds are met exactly: 128 * r * (N + p + 2) bytes, and a work of 4 * (N + 32) * r * p. */
 static void bounds(void) {
   size_t i;
   for (i = 0; i < sizeof PARAMS / sizeof PARAMS[0]; i++) {
     uint8_t log_n = PARAMS[i].log_n;
     uint32_t r = PARAMS[i].r, p = PARAMS[i].p;
     size_t bytes = (size_t)128 * r * (((size_t)1 << log_n) + p + 2);
-    uint64_t cores = ((uint64_t)4 * r * p) << log_n;
-    check(derive(bytes, cores, log_n, r, p) == SCRYPT_OK, "just within the bounds");
-    check(derive(bytes - 1, cores, log_n, r, p) == SCRYPT_TOO_COSTLY, "a byte less");
-    check(derive(bytes, cores - 1, log_n, r, p) == SCRYPT_TOO_COSTLY, "a core less");
+    uint64_t work = (uint64_t)4 * r * p * (((uint64_t)1 << log_n) + 32);
+    check(derive(bytes, work, log_n, r, p) == SCRYPT_OK, "just within the bounds");
+    check(derive(bytes - 1, work, log_n, r, p) == SCRYPT_TOO_COSTLY, "a byte less");
+    check(derive(bytes, work - 1, log_n, r, p) == SCRYPT_TOO_COSTLY, "a little work less");
     check(derive(0, UINT64_MAX, log_n, r, p) == SCRYPT_TOO_COSTLY, "no byte");
-    check(derive(SIZE_MAX, 0, log_n, r, p) == SCRYPT_TOO_COSTLY, "no core");
+    check(derive(SIZE_MAX, 0, log_n, r, p) == SCRYPT_TOO_COSTLY, "no work");
   }
   check(derive(SIZE_MAX, UINT64_MAX, 56, 1, 1) == SCRYPT_OUT_OF_MEMORY, "a table of 2^63 bytes");
   check(derive(SIZE_MAX, UINT64_MAX, 27, 0x3fffffff, 1) == SCRYPT_TOO_COSTLY, "buffers of more than 2^64 bytes");
-  check(derive(SIZE_MAX, UINT64_MAX, 56, 1, 1 << 29) == SCRYPT_TOO_COSTLY, "2^87 cores");
+  check(derive(SIZE_MAX, UINT64_MAX, 56, 1, 1 << 29) == SCRYPT_TOO_COSTLY, "a work of 2^87");
   check(derive(0, 0, 57, 1, 1) == SCRYPT_INVALID_PARAMS, "what is not accepted is not too costly");
 }
 
@@ -116,6 +116,7 @@ static void hostile_hashes(int is_watched) {
       "$scrypt$ln=20,r=1,p=1048576" SALT_AND_KEY,   "$scrypt$ln=50,r=1,p=16777216" SALT_AND_KEY,
       "$scrypt$ln=40,r=8,p=1" SALT_AND_KEY,         "$scrypt$ln=0,r=1,p=1073741823" SALT_AND_KEY,
       "$scrypt$ln=0,r=1073741823,p=1" SALT_AND_KEY, "$7$c6..../....saltsalt$......................",
+      "$scrypt$ln=1,r=1,p=2000000" SALT_AND_KEY,    "$scrypt$ln=0,r=1,p=127132" SALT_AND_KEY,
   };
   scrypt_memory *memory = bounded();
   size_t i, before = process_size(0);
@@ -152,6 +153,51 @@ static void refusals(void) {
   check(scrypt_verify_in(memory, b(""), 0, "", 0) == SCRYPT_ENCODING_INVALID, "no text");
   check(scrypt_verify_in(memory, b(""), 0, "$argon2" SALT_AND_KEY, 39) == SCRYPT_ALGORITHM, "another algorithm");
   check(scrypt_verify_in(memory, b(""), 0, "$scrypt$ln=4,r=8,p=1", 20) == SCRYPT_MISMATCH, "no salt and no key");
+  check(scrypt_verify_in(memory, b(""), 0, "$scrypt$ln=40,r=8,p=1", 21) == SCRYPT_MISMATCH, "also if it is costly");
+  check(scrypt_hash_phc_in(memory, b(""), 0, b(""), 0, 40, 8, 1, 32, text, sizeof text, &len) == SCRYPT_SALT_INVALID,
+        "a salt is refused before the bounds");
+  check(scrypt_hash_phc_in(memory, b(""), 0, b("s"), 1, 40, 8, 1, 65, text, sizeof text, &len) == SCRYPT_INVALID_PARAMS,
+        "and so is the length of a key");
+  scrypt_memory_free(memory);
+}
+
+/* What a text needs: the first error in its order, and the lengths if there is none. */
+static const struct {
+  const char *text;
+  size_t least_key_len;
+  int status;
+  const char *reason;
+} NEEDS[] = {
+    {"$scrypt$ln=4,r=2,p=3" SALT_AND_KEY, 15, SCRYPT_OK, "a key of 15 bytes"},
+    {"$scrypt$ln=4,r=2,p=3" SALT_AND_KEY, 16, SCRYPT_KEY_TOO_SHORT, "which are too few"},
+    {"$7$2/..../....salt$s/", 1, SCRYPT_OK, "a key of one byte"},
+    {"$7$2/..../....salt$s/", 2, SCRYPT_KEY_TOO_SHORT, "a key that a password in 256 has"},
+    {"$scrypt$ln=40,r=8,p=1" SALT_AND_KEY, 16, SCRYPT_TOO_COSTLY, "a costly text before a short key"},
+    {"$scrypt$ln=40,r=8,p=1", 16, SCRYPT_MISMATCH, "a text without a key before its cost"},
+    {"$scrypt$ln=257,r=8,p=1" SALT_AND_KEY, 16, SCRYPT_HASH_PARAM_INVALID, "an error of reading first"},
+    {"$2b$12$", 16, SCRYPT_ENCODING_INVALID, "no text of either format"},
+};
+
+static void needs(void) {
+  scrypt_memory *memory = bounded();
+  size_t i, chunks_len, table_len, scratch_len;
+  for (i = 0; i < sizeof NEEDS / sizeof NEEDS[0]; i++) {
+    const char *text = NEEDS[i].text;
+    int status, is_ok = NEEDS[i].status == SCRYPT_OK;
+    chunks_len = table_len = scratch_len = 7;
+    status = scrypt_hash_needs(text, strlen(text), SCRYPT_MOST_BYTES, SCRYPT_MOST_WORK, NEEDS[i].least_key_len,
+                               &chunks_len, &table_len, &scratch_len);
+    check(status == NEEDS[i].status, NEEDS[i].reason);
+    check(is_ok || (chunks_len == 7 && table_len == 7 && scratch_len == 7), "an error writes no length");
+    scrypt_memory_set_least_key_len(memory, NEEDS[i].least_key_len);
+    check(scrypt_verify_in(memory, b("pw"), 2, text, strlen(text)) == (is_ok ? SCRYPT_MISMATCH : status), text);
+  }
+  check(scrypt_hash_needs(NEEDS[0].text, strlen(NEEDS[0].text), SIZE_MAX, UINT64_MAX, 0, &chunks_len, &table_len,
+                          &scratch_len) == SCRYPT_OK, "no bounds");
+  check(chunks_len == 768 && table_len == 1024 && scratch_len == 128, "the lengths for (4, 2, 3)");
+  check(scrypt_params_need(4, 2, 3, SIZE_MAX, UINT64_MAX, &chunks_len, &table_len, &scratch_len) == SCRYPT_OK &&
+            chunks_len == 768 && table_len == 1024 && scratch_len == 128, "the same for parameters");
+  check(scrypt_params_need(57, 1, 1, 0, 0, &chunks_len, &table_len, &scratch_len) == SCRYPT_INVALID_PARAMS, "log_n");
   scrypt_memory_free(memory);
 }
 
@@ -191,6 +237,7 @@ int main(int argc, char **argv) {
   bounds();
   hostile_hashes(is_watched);
   refusals();
+  needs();
   many_calls(is_watched ? 1000 : 100000, is_watched);
   child = fork();
   if (child == 0) _exit(in_little_memory());

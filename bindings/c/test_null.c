@@ -102,7 +102,7 @@ static void in_memory(void) {
 }
 
 int main(void) {
-  memory = scrypt_memory_new(SCRYPT_MOST_BYTES, SCRYPT_MOST_CORES);
+  memory = scrypt_memory_new(SCRYPT_MOST_BYTES, SCRYPT_MOST_WORK);
   reset();
   helpers();
   mapped(4);

@@ -11,7 +11,7 @@ static size_t not_zero(const scrypt_memory *memory) {
 
 int main(void) {
   static const uint8_t LOG_NS[] = {4, 14, 8};
-  scrypt_memory *memory = scrypt_memory_new(SCRYPT_MOST_BYTES, SCRYPT_MOST_CORES);
+  scrypt_memory *memory = scrypt_memory_new(SCRYPT_MOST_BYTES, SCRYPT_MOST_WORK);
   uint8_t key[32];
   size_t i;
   scrypt_memory_wipe(memory);

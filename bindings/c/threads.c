@@ -18,7 +18,7 @@ static void *work(void *none) {
   uint32_t *table, *scratch;
   static char wrong_answer;
   void *wrong = &wrong_answer;
-  scrypt_memory *memory = scrypt_memory_new(SCRYPT_MOST_BYTES, SCRYPT_MOST_CORES);
+  scrypt_memory *memory = scrypt_memory_new(SCRYPT_MOST_BYTES, SCRYPT_MOST_WORK);
   int i, status;
   (void)none;
   for (i = 0; i < 4; i++) {

@@ -16,10 +16,12 @@ mod hashing;
 #[cfg(test)]
 mod hostile;
 #[cfg(test)]
-mod in_buffers;
-#[cfg(test)]
 mod mcf_costs;
 #[cfg(test)]
 mod mcf_fields;
 #[cfg(test)]
 mod phc_texts;
+#[cfg(test)]
+mod two;
+#[cfg(test)]
+mod with_buffers;

@@ -25,12 +25,15 @@ base64_injective xs ys hx hy e =
     cc
 
 -- letters that are refused do not encode any bytes
-pub refused : (letters bytes : List ℕ) (e : DecodeError) → decode_of standard_no_pad letters ≡ Err e → IsBytes bytes → letters ≢ base64 bytes
+pub refused : (letters bytes : List ℕ) (e : DecodeError) → decode_of standard_no_pad letters ≡ Err e → IsBytes bytes
+    → letters ≢ base64 bytes
 refused letters bytes e told are same = let both = sym told ∙ decode_of-base64 letters bytes are same in cc
 
 -- letters that are read and kept encode what is kept, and if they encode bytes within the bounds, these are kept
-pub made_of_read : (least : ℕ) (letters read : List ℕ) (made : Option (List ℕ)) → IsBytes letters → decode_of standard_no_pad letters ≡ Ok read
-    → (IsSome made ↔ (least ≤ length read) × (length read ≤ 64)) → IfSome made (λ bytes. bytes ≡ read) → IfSome made (AreBytesFromTo least 64)
+pub made_of_read : (least : ℕ) (letters read : List ℕ) (made : Option (List ℕ)) → IsBytes letters
+    → decode_of standard_no_pad letters ≡ Ok read
+    → (IsSome made ↔ (least ≤ length read) × (length read ≤ 64)) → IfSome made (λ bytes. bytes ≡ read)
+    → IfSome made (AreBytesFromTo least 64)
     → IfSome made (λ bytes. letters ≡ base64 bytes)
     × ((bytes : List ℕ) → AreBytesFromTo least 64 bytes → letters ≡ base64 bytes → made ≡ Some bytes)
 made_of_read least letters read None are told exact value bounds = (

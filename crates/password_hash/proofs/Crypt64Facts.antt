@@ -1,5 +1,7 @@
 -- What follows from the definitions of crypt Base64.
-use Rattle.std.proofs.Common.{◌≡◌, ◌≢◌, ◌∙◌, sym, ap, refl, arith, ℕ, zero, suc, ◌+◌, ◌-◌, ◌*◌, ◌/◌, ◌%◌, ◌^◌, ◌<◌, ◌≤◌, Option, Some, None, List, [], ◌∷◌, ◌++◌, length, drop, set, get_or, append_assoc, add-one, length-drop}
+use Rattle.std.proofs.Common.{◌≡◌, ◌≢◌, ◌∙◌, sym, ap, refl, arith, ℕ, zero, suc, ◌+◌, ◌-◌, ◌*◌, ◌/◌, ◌%◌, ◌^◌, ◌<◌, ◌≤◌}
+use Rattle.std.proofs.Common.{Option, Some, None, List, [], ◌∷◌, ◌++◌, length, drop, set, get_or, append_assoc, add-one}
+use Rattle.std.proofs.Common.{length-drop}
 use Rattle.std.proofs.Math.Nat.{pow-suc, pow-le-pow_right}
 use Rattle.std.specs.List.{All}
 use Rattle.std.proofs.lemmas.Nat.{div_below}
@@ -119,7 +121,8 @@ pub letters_of-plain : (count number : ℕ) → All IsPlain (letters_of count nu
 unfolding letters_of
 letters_of-plain zero number = All-nil IsPlain
 letters_of-plain (suc count) number =
-    All-cons IsPlain (letter (number % 64)) (letters_of count (number / 64)) (letter-ascii (number % 64) (omega arith)) (letters_of-plain count (number / 64))
+    All-cons IsPlain (letter (number % 64)) (letters_of count (number / 64)) (letter-ascii (number % 64) (omega arith))
+    (letters_of-plain count (number / 64))
 
 pub crypt64_of-plain : (bytes : List ℕ) → All IsPlain (crypt64_of bytes)
 unfolding crypt64_of
@@ -127,7 +130,8 @@ crypt64_of-plain [] = All-nil IsPlain
 crypt64_of-plain (a ∷ []) = letters_of-plain 2 a
 crypt64_of-plain (a ∷ b ∷ []) = letters_of-plain 3 (a + 256 * b)
 crypt64_of-plain (a ∷ b ∷ c ∷ rest) =
-    All-append IsPlain (letters_of 4 (a + 256 * b + 65536 * c)) (crypt64_of rest) (letters_of-plain 4 (a + 256 * b + 65536 * c)) (crypt64_of-plain rest)
+    All-append IsPlain (letters_of 4 (a + 256 * b + 65536 * c)) (crypt64_of rest)
+    (letters_of-plain 4 (a + 256 * b + 65536 * c)) (crypt64_of-plain rest)
 
 -- a loop over the letters: one goes from those that are left to those that are done
 
@@ -137,10 +141,12 @@ letter_done done left left' all x same next = append_assoc done (x ∷ []) left'
 pub letter-is_plain : (done left left' bytes : List ℕ) (x : ℕ) → done ++ left ≡ crypt64_of bytes → left ≡ x ∷ left' → IsPlain x
 letter-is_plain done left left' bytes x same next =
     let each = All-drop IsPlain (length done) (crypt64_of bytes) (crypt64_of-plain bytes) in
-    All-head IsPlain x left' (All-same IsPlain (x ∷ left') _ (sym next ∙ sym (drop-append_seam done left) ∙ ap (drop (length done)) same) each)
+    All-head IsPlain x left' (All-same IsPlain (x ∷ left') _ (sym next ∙ sym (drop-append_seam done left)
+    ∙ ap (drop (length done)) same) each)
 
 -- a write after what is done
 pub set-after : (done old : List ℕ) (len x : ℕ) → length done ≡ len → len < length old
     → set (done ++ drop len old) len x ≡ (done ++ (x ∷ [])) ++ drop (len + 1) old
 set-after done old len x count inside =
-    rw (add-one, drop-cons old len 0) (set_at done (get_or old len 0) (drop (suc len) old) x len count ∙ sym (append_assoc done (x ∷ []) (drop (suc len) old)))
+    rw (add-one, drop-cons old len 0) (set_at done (get_or old len 0) (drop (suc len) old) x len count
+    ∙ sym (append_assoc done (x ∷ []) (drop (suc len) old)))

@@ -1,5 +1,7 @@
 -- Decimal digits.
-use Rattle.std.proofs.Common.{◌≡◌, ◌≢◌, ◌&&◌, ℕ, ◌^◌, ◌<◌, ◌≤◌, Bool, true, false, nat_lt, IsTrue, List, [], ◌∷◌, length, get_or, slice_index, Option, None, Some, Result, Ok, Err, MatchBool, refl, sym, ap, ◌∙◌, arith, inl, inr}
+use Rattle.std.proofs.Common.{◌≡◌, ◌≢◌, ◌&&◌, ℕ, ◌^◌, ◌<◌, ◌≤◌, Bool, true, false, nat_lt, IsTrue, List, [], ◌∷◌}
+use Rattle.std.proofs.Common.{length, get_or, slice_index, Option, None, Some, Result, Ok, Err, MatchBool, refl, sym}
+use Rattle.std.proofs.Common.{ap, ◌∙◌, arith, inl, inr}
 use Rattle.std.specs.Prelude.{decimal, IfSome}
 use Rattle.std.specs.List.{list_all}
 use Rattle.std.specs.Result.{OkIff, result_ok}
@@ -7,7 +9,8 @@ use Rattle.std.specs.Str.{all_ascii_digits}
 use Rattle.std.specs.Str.Parse.{AllDigits, digits_value, ParsesUnsigned}
 use Rattle.std.proofs.lemmas.Bool.{cases_lt, cases_Bool}
 use Rattle.std.proofs.lemmas.Fmt.{decimal_digit, decimal_is_IsNumeral, first_decimal, decimal-digits_value}
-use Rattle.std.proofs.lemmas.Str.Parse.{IsNumeralModel, numerals_by_value, parse_plain, tells_digits, tells_all_ascii_digits, digit_from_value}
+use Rattle.std.proofs.lemmas.Str.Parse.{IsNumeralModel, numerals_by_value, parse_plain, tells_digits}
+use Rattle.std.proofs.lemmas.Str.Parse.{tells_all_ascii_digits, digit_from_value}
 use Rattle.std.proofs.lemmas.Bool.Decides.{nat_tests}
 use Rattle.password_hash.specs.Letters.{is_digit, is_value_letter, IsValue}
 use Rattle.password_hash.specs.Decimal.{DecimalGives, IsDecimal, UnsignedGives, decimal_below, has_plus_or_leading_zero, is_decimal}
@@ -19,7 +22,8 @@ digits = numerals_by_value (AllDigits 10) tells_digits
 -- a decimal text is what is printed of its number
 pub decimal_of : (text : List ℕ) (n : ℕ) → IsDecimal text n → text ≡ decimal n
 decimal_of text n h =
-    let again : decimal (digits_value 10 text) ≡ text = decimal-digits_value digits text h.digits h.some h.no_leading_zero (omega (arith, h.value, h.small)) in
+    let again : decimal (digits_value 10 text) ≡ text = decimal-digits_value digits text h.digits h.some
+    h.no_leading_zero (omega (arith, h.value, h.small)) in
     sym again ∙ ap decimal h.value
 
 leads : (n : ℕ) → n < 2 ^ 32 → slice_index (decimal n) 0 ≡ 48 → length (decimal n) ≡ 1
@@ -39,7 +43,8 @@ IsDecimal-decimal n small =
     record { some = both.0.0; digits = both.0.1; no_leading_zero = leads n small; value = both.1; small = small }
 
 -- digits as letters
-digits_are_letters : (p : ℕ → Bool) → ((digit : ℕ) → 48 ≤ digit → digit ≤ 57 → IsTrue (p digit)) → (text : List ℕ) → AllDigits 10 text → IsTrue (list_all p text)
+digits_are_letters : (p : ℕ → Bool) → ((digit : ℕ) → 48 ≤ digit → digit ≤ 57 → IsTrue (p digit)) → (text : List ℕ)
+    → AllDigits 10 text → IsTrue (list_all p text)
 digits_are_letters p each [] h = refl
 digits_are_letters p each (digit ∷ text) h =
     let range = digit_from_value digit h.0 in
@@ -107,7 +112,7 @@ pub record ReadsDecimal (text : List ℕ) (answer : Option ℕ) : Type 0 where
   pub found : IfSome answer (IsDecimal text)
   pub only : (n : ℕ) → IsDecimal text n → answer ≡ Some n
 
-decimal_found : (text : List ℕ) → IfSome (decimal_below (2 ^ 32) text) (IsDecimal text)
+pub decimal_found : (text : List ℕ) → IfSome (decimal_below (2 ^ 32) text) (IsDecimal text)
 unfolding decimal_below has_plus_or_leading_zero
 decimal_found text = elim (cases_Bool (is_decimal text && nat_lt (digits_value 10 text) (2 ^ 32))) [
   | inl is ↦ rw is (record {

@@ -1,10 +1,13 @@
 -- Bytes and letters by groups: how many there are, and what a group encodes.
-use Rattle.std.proofs.Common.{◌≡◌, ◌≢◌, inl, inr, ◌∙◌, sym, ap, refl, arith, ℕ, zero, suc, ◌+◌, ◌*◌, ◌/◌, ◌^◌, ◌<◌, ◌≤◌, min, Some, List, [], ◌∷◌, ◌++◌, length, take, drop, replicate, append_assoc, add-one, length-append, length-drop}
+use Rattle.std.proofs.Common.{◌≡◌, ◌≢◌, inl, inr, ◌∙◌, sym, ap, refl, arith, ℕ, zero, suc, ◌+◌, ◌*◌, ◌/◌, ◌^◌, ◌<◌, ◌≤◌}
+use Rattle.std.proofs.Common.{min, Some, List, [], ◌∷◌, ◌++◌, length, take, drop, replicate, append_assoc, add-one}
+use Rattle.std.proofs.Common.{length-append, length-drop}
 use Rattle.std.proofs.Math.Nat.{pow-suc}
 use Rattle.std.specs.Int.{to_le_bytes, from_le_bytes, w32}
 use Rattle.std.proofs.lemmas.Bool.{cases_lt}
 use Rattle.std.proofs.Math.Seq.{take-append_seam, drop-append_seam}
-use Rattle.std.proofs.lemmas.List.{nil_from_length, append-nil, take_at, drop_at, take_all, drop_all, take_min, drop_min, take-append-drop, length-take, length-take-le}
+use Rattle.std.proofs.lemmas.List.{nil_from_length, append-nil, take_at, drop_at, take_all, drop_all, take_min}
+use Rattle.std.proofs.lemmas.List.{drop_min, take-append-drop, length-take, length-take-le}
 use Rattle.std.proofs.lemmas.List.Elements.{All-nil, All-head, All-tail, All-append, All-take, All-drop, All-from_recursion}
 use Rattle.password_hash.specs.Crypt64.{letters_of, number_of, crypt64_of, Crypt64, IsCrypt64, encoded_len, Begins}
 use Rattle.password_hash.proofs.Crypt64Facts.{AreBytes, length-letters_of, number_of-letters_of, letters_of-number_of}
@@ -65,11 +68,13 @@ le_number-one (x ∷ xs) (y ∷ ys) count x-bytes y-bytes same =
     let x-fits : x < 256 = All-head (λ b. b < 256) x xs x-bytes in
     let y-fits : y < 256 = All-head (λ b. b < 256) y ys y-bytes in
     let first : x ≡ y = omega arith in
-    let rest = le_number-one xs ys (omega arith) (All-tail (λ b. b < 256) x xs x-bytes) (All-tail (λ b. b < 256) y ys y-bytes) (omega arith) in
+    let rest = le_number-one xs ys (omega arith) (All-tail (λ b. b < 256) x xs x-bytes)
+    (All-tail (λ b. b < 256) y ys y-bytes) (omega arith) in
     rw (first, rest) refl
 
 -- up to three bytes, with zeros after them, as the number that is read of all four
-pub le_number-from_le_bytes : (bytes : List ℕ) → length bytes ≤ 3 → from_le_bytes w32 (bytes ++ drop (length bytes) (replicate 4 0)) ≡ le_number bytes
+pub le_number-from_le_bytes : (bytes : List ℕ) → length bytes ≤ 3
+    → from_le_bytes w32 (bytes ++ drop (length bytes) (replicate 4 0)) ≡ le_number bytes
 le_number-from_le_bytes [] most = refl
 le_number-from_le_bytes (a ∷ []) most = omega arith
 le_number-from_le_bytes (a ∷ b ∷ []) most = omega arith
@@ -101,7 +106,8 @@ are_first (a ∷ b ∷ c ∷ bytes) some =
 
 -- so are those of the number that is read of as many bytes, with zeros after them
 pub letters_of_read : (bytes first rest : List ℕ) (number : ℕ) → first ≡ take 3 bytes → rest ≡ drop 3 bytes → 0 < length first
-    → number ≡ from_le_bytes w32 (first ++ drop (length first) (replicate 4 0)) → crypt64_of bytes ≡ letters_of (length first + 1) number ++ crypt64_of rest
+    → number ≡ from_le_bytes w32 (first ++ drop (length first) (replicate 4 0))
+    → crypt64_of bytes ≡ letters_of (length first + 1) number ++ crypt64_of rest
 letters_of_read bytes first rest number cut left some read =
     let most : length first ≤ 3 = omega (arith, ap length cut, length-take 3 bytes) in
     let said : number ≡ le_number first = read ∙ le_number-from_le_bytes first most in
@@ -115,7 +121,8 @@ pub record IsGroup (group bytes : List ℕ) : Type 0 where
   pub letters : group ≡ letters_of (suc (length bytes)) (le_number bytes)
 
 -- the first bytes have the first letters, and the rest the rest
-pub first_group : (bytes letters : List ℕ) → Crypt64 bytes letters → 0 < length bytes → IsGroup (take 4 letters) (take 3 bytes) × Crypt64 (drop 3 bytes) (drop 4 letters)
+pub first_group : (bytes letters : List ℕ) → Crypt64 bytes letters → 0 < length bytes
+    → IsGroup (take 4 letters) (take 3 bytes) × Crypt64 (drop 3 bytes) (drop 4 letters)
 first_group bytes letters is some =
     let first = are_first bytes some in (
       record {
@@ -144,9 +151,27 @@ record HasBytes (len : ℕ) : Type 0 where
 
 has_bytes : (len : ℕ) → 0 < len → len ≤ 3 → HasBytes len
 has_bytes = one_to_three HasBytes
-    (record { room = omega arith; shifted_out = λ number none. omega arith; shifted_in = λ number below. omega arith; written = λ number below. omega arith })
-    (record { room = omega arith; shifted_out = λ number none. omega arith; shifted_in = λ number below. omega arith; written = λ number below. omega arith })
-    (record { room = omega arith; shifted_out = λ number none. omega arith; shifted_in = λ number below. omega arith; written = λ number below. omega arith })
+    (record {
+      room = omega arith;
+      shifted_out = λ number none. omega arith;
+      shifted_in =
+          λ number below. omega arith;
+      written = λ number below. omega arith;
+    })
+    (record {
+      room = omega arith;
+      shifted_out = λ number none. omega arith;
+      shifted_in =
+          λ number below. omega arith;
+      written = λ number below. omega arith;
+    })
+    (record {
+      room = omega arith;
+      shifted_out = λ number none. omega arith;
+      shifted_in =
+          λ number below. omega arith;
+      written = λ number below. omega arith;
+    })
 
 -- what a group of letters encodes
 pub record Encodes (group bytes : List ℕ) : Type 0 where
@@ -196,7 +221,8 @@ refuses letters group cut none (byte ∷ bytes) is =
     absurd (none (take 3 (byte ∷ bytes)) (encodes _ _ (rw cut first)) first.some)
 
 -- otherwise the letters begin with the group's bytes
-begins-forth : (letters front more : List ℕ) → IsGroup (take 4 letters) front → Crypt64 more (drop 4 letters) → Crypt64 (front ++ more) letters
+begins-forth : (letters front more : List ℕ) → IsGroup (take 4 letters) front → Crypt64 more (drop 4 letters)
+    → Crypt64 (front ++ more) letters
 begins-forth letters front more group is =
     let said = encodes (take 4 letters) front group in
     let cut : (take 3 (front ++ more) ≡ front) × (drop 3 (front ++ more) ≡ more) = elim (cases_lt (length front) 3) [
@@ -222,7 +248,8 @@ begins-back letters front (byte ∷ bytes) group is =
     let same : take 3 (byte ∷ bytes) ≡ front = group-one _ _ _ first.0 group in
     (drop 3 (byte ∷ bytes), sym (take-append-drop 3 (byte ∷ bytes)) ∙ ap (λ first. first ++ drop 3 (byte ∷ bytes)) same, first.1)
 
-pub begins_with_group : (letters group rest front : List ℕ) → group ≡ take 4 letters → rest ≡ drop 4 letters → IsGroup group front → Begins letters front rest
+pub begins_with_group : (letters group rest front : List ℕ) → group ≡ take 4 letters → rest ≡ drop 4 letters
+    → IsGroup group front → Begins letters front rest
 begins_with_group letters group rest front cut left is =
     let first : IsGroup (take 4 letters) front = rw (← cut) is in
     rw left (record {
@@ -255,7 +282,8 @@ begins-stuck letters bytes rest begins stuck some is =
     some (no_bytes more.0 rest more.2 (stuck more.0 more.2))
 
 -- what is done is fewer letters than there are
-pub letters-inside : (done left bytes : List ℕ) (x : ℕ) → (done ++ (x ∷ [])) ++ left ≡ crypt64_of bytes → length done < encoded_len (length bytes)
+pub letters-inside : (done left bytes : List ℕ) (x : ℕ) → (done ++ (x ∷ [])) ++ left ≡ crypt64_of bytes
+    → length done < encoded_len (length bytes)
 letters-inside done left bytes x same =
     let counts : length done + 1 + length left ≡ encoded_len (length bytes) =
     sym (length-append (done ++ (x ∷ [])) left ∙ ap (λ n. n + length left) (length-append done (x ∷ [])))

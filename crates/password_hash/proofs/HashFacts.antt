@@ -8,7 +8,8 @@ use Rattle.password_hash.specs.Letters.{is_identifier_letter, IsIdentifier}
 use Rattle.password_hash.specs.Pairs.{IsPair, pair_text, pairs_text, ArePairs}
 use Rattle.password_hash.specs.Parts.{parts_text}
 use Rattle.password_hash.specs.PhcParts.{IsVersion, LackVersion, LackEquals}
-use Rattle.password_hash.specs.Phc.{base64, version_part, params_part, key_part, salt_and_key_parts, hash_parts, IsSalt, IsKey, IsSaltAndKey, IsHashText}
+use Rattle.password_hash.specs.Phc.{base64, version_part, params_part, key_part, salt_and_key_parts, hash_parts, IsSalt}
+use Rattle.password_hash.specs.Phc.{IsKey, IsSaltAndKey, IsHashText}
 use Rattle.password_hash.specs.declared.phc.hash.PasswordHash.{PasswordHash}
 use Rattle.password_hash.proofs.PairsFacts.{Lacks, letters_lack, texts_lack, before_first_at}
 use Rattle.password_hash.proofs.DecimalFacts.{decimal_lacks}
@@ -16,12 +17,15 @@ use Rattle.password_hash.proofs.PartsFacts.{parts_of-parts_text, parts_text-part
 use Rattle.password_hash.proofs.PhcPartsFacts.{LacksVersion, base64_lacks, equals_of_pairs}
 
 -- a row of pieces that lack a byte lacks it, unless it separates them
-join_lacks : (c separator : ℕ) → (separator == c) ≡ false → (pieces : List (List ℕ)) → All (Lacks c) pieces → Lacks c (join_with_byte separator pieces)
+join_lacks : (c separator : ℕ) → (separator == c) ≡ false → (pieces : List (List ℕ)) → All (Lacks c) pieces
+    → Lacks c (join_with_byte separator pieces)
 join_lacks c separator other [] h = All-nil (λ b. (b == c) ≡ false)
 join_lacks c separator other (piece ∷ []) h = All-head (Lacks c) piece [] h
 join_lacks c separator other (piece ∷ next ∷ pieces) h =
-    All-append (λ b. (b == c) ≡ false) piece (separator ∷ join_with_byte separator (next ∷ pieces)) (All-head (Lacks c) piece (next ∷ pieces) h)
-    (All-cons (λ b. (b == c) ≡ false) separator (join_with_byte separator (next ∷ pieces)) other (join_lacks c separator other (next ∷ pieces) (All-tail (Lacks c) piece (next ∷ pieces) h)))
+    All-append (λ b. (b == c) ≡ false) piece (separator ∷ join_with_byte separator (next ∷ pieces))
+    (All-head (Lacks c) piece (next ∷ pieces) h)
+    (All-cons (λ b. (b == c) ≡ false) separator (join_with_byte separator (next ∷ pieces)) other
+    (join_lacks c separator other (next ∷ pieces) (All-tail (Lacks c) piece (next ∷ pieces) h)))
 
 one : (P : List ℕ → Type 0) (part : List ℕ) → P part → All P (part ∷ [])
 one P part h = All-cons P part [] h (All-nil P)
@@ -30,18 +34,23 @@ version_lacks : (version : Option ℕ) → IsVersion version → All (Lacks 36) 
 version_lacks None h = All-nil (Lacks 36)
 version_lacks (Some number) h =
     one (Lacks 36) (codes "v=" ++ decimal number)
-    (All-cons (λ b. (b == 36) ≡ false) 118 (61 ∷ decimal number) refl (All-cons (λ b. (b == 36) ≡ false) 61 (decimal number) refl (decimal_lacks 36 refl number h)))
+    (All-cons (λ b. (b == 36) ≡ false) 118 (61 ∷ decimal number) refl
+    (All-cons (λ b. (b == 36) ≡ false) 61 (decimal number) refl (decimal_lacks 36 refl number h)))
 
 params_lack : (params : List (List ℕ × List ℕ)) → ArePairs params → All (Lacks 36) (params_part params)
 params_lack [] h = All-nil (Lacks 36)
 params_lack (pair ∷ params) h =
-    one (Lacks 36) (pairs_text (pair ∷ params)) (join_lacks 36 44 refl (map pair_text (pair ∷ params)) (texts_lack 36 refl refl refl (pair ∷ params) h.each))
+    one (Lacks 36) (pairs_text (pair ∷ params)) (join_lacks 36 44 refl (map pair_text (pair ∷ params))
+    (texts_lack 36 refl refl refl (pair ∷ params) h.each))
 
-key_lacks : (c : ℕ) → ((bytes : List ℕ) → IsKey bytes → Lacks c (base64 bytes)) → (key : Option (List ℕ)) → IfSome key IsKey → All (Lacks c) (key_part key)
+key_lacks : (c : ℕ) → ((bytes : List ℕ) → IsKey bytes → Lacks c (base64 bytes)) → (key : Option (List ℕ))
+    → IfSome key IsKey → All (Lacks c) (key_part key)
 key_lacks c each None h = All-nil (Lacks c)
 key_lacks c each (Some key) h = one (Lacks c) (base64 key) (each key h)
 
-salt_and_key_lack : (c : ℕ) → ((bytes : List ℕ) → IsSalt bytes → Lacks c (base64 bytes)) → ((bytes : List ℕ) → IsKey bytes → Lacks c (base64 bytes)) → (salt key : Option (List ℕ)) → IfSome salt IsSalt → IfSome key IsKey → All (Lacks c) (salt_and_key_parts salt key)
+salt_and_key_lack : (c : ℕ) → ((bytes : List ℕ) → IsSalt bytes → Lacks c (base64 bytes))
+    → ((bytes : List ℕ) → IsKey bytes → Lacks c (base64 bytes)) → (salt key : Option (List ℕ)) → IfSome salt IsSalt
+    → IfSome key IsKey → All (Lacks c) (salt_and_key_parts salt key)
 salt_and_key_lack c salts keys None key hs hk = All-nil (Lacks c)
 salt_and_key_lack c salts keys (Some salt) key hs hk =
     All-cons (Lacks c) (base64 salt) (key_part key) (salts salt hs) (key_lacks c keys key hk)
@@ -58,15 +67,19 @@ pub parts_lack : (text : List ℕ) (hash : PasswordHash) → IsHashText text has
 parts_lack text hash h =
     All-cons (Lacks 36) hash.algorithm (version_part hash.version ++ (params_part hash.params ++ salt_and_key_parts hash.salt hash.hash))
     (letters_lack is_identifier_letter 36 refl hash.algorithm h.algorithm.letters)
-    (All-append (Lacks 36) (version_part hash.version) (params_part hash.params ++ salt_and_key_parts hash.salt hash.hash) (version_lacks hash.version h.version)
-    (All-append (Lacks 36) (params_part hash.params) (salt_and_key_parts hash.salt hash.hash) (params_lack hash.params h.params) (dollar_lacks hash.salt hash.hash h.salt h.key)))
+    (All-append (Lacks 36) (version_part hash.version) (params_part hash.params ++ salt_and_key_parts hash.salt
+    hash.hash) (version_lacks hash.version h.version)
+    (All-append (Lacks 36) (params_part hash.params) (salt_and_key_parts hash.salt hash.hash)
+    (params_lack hash.params h.params) (dollar_lacks hash.salt hash.hash h.salt h.key)))
 
 -- the text of parameters does not begin with `v=`, since no name is `v`
 pairs_no_version : (pair : List ℕ × List ℕ) (params : List (List ℕ × List ℕ)) → IsPair pair → LacksVersion (pairs_text (pair ∷ params))
 pairs_no_version pair params h rest e =
     let equals = equals_of_pairs pair params in
-    let name : before_first (λ b. b == 61) (pair.0 ++ (61 ∷ equals.0)) ≡ pair.0 = before_first_at 61 pair.0 equals.0 (letters_lack is_identifier_letter 61 refl pair.0 h.name.letters) in
-    let v : before_first (λ b. b == 61) (codes "v" ++ (61 ∷ rest)) ≡ codes "v" = before_first_at 61 (codes "v") rest (All-cons (λ b. (b == 61) ≡ false) 118 [] refl (All-nil (λ b. (b == 61) ≡ false))) in
+    let name : before_first (λ b. b == 61) (pair.0 ++ (61 ∷ equals.0)) ≡ pair.0 =
+    before_first_at 61 pair.0 equals.0 (letters_lack is_identifier_letter 61 refl pair.0 h.name.letters) in
+    let v : before_first (λ b. b == 61) (codes "v" ++ (61 ∷ rest)) ≡ codes "v" =
+    before_first_at 61 (codes "v") rest (All-cons (λ b. (b == 61) ≡ false) 118 [] refl (All-nil (λ b. (b == 61) ≡ false))) in
     h.no_version (sym name ∙ ap (before_first (λ b. b == 61)) (sym equals.1 ∙ e) ∙ v)
 
 params_no_version : (params : List (List ℕ × List ℕ)) → ArePairs params → LackVersion (params_part params)
@@ -88,9 +101,12 @@ pub record HasParts (part : List ℕ) (after : List (List ℕ)) (hash : Password
   pub lack_equals : LackEquals (salt_and_key_parts hash.salt hash.hash)
   pub salt_and_key : IsSaltAndKey (salt_and_key_parts hash.salt hash.hash) hash.salt hash.hash
 
-pub parts_of_hash : (text rest part : List ℕ) (after : List (List ℕ)) (hash : PasswordHash) → IsHashText text hash → text ≡ 36 ∷ rest → slice_split (λ b. b == 36) rest ≡ part ∷ after → HasParts part after hash
+pub parts_of_hash : (text rest part : List ℕ) (after : List (List ℕ)) (hash : PasswordHash) → IsHashText text hash
+    → text ≡ 36 ∷ rest → slice_split (λ b. b == 36) rest ≡ part ∷ after → HasParts part after hash
 parts_of_hash text rest part after hash h begins split =
-    let parts = parts_of-parts_text rest hash.algorithm (version_part hash.version ++ (params_part hash.params ++ salt_and_key_parts hash.salt hash.hash)) (parts_lack text hash h) (sym begins ∙ h.whole) in
+    let parts = parts_of-parts_text rest hash.algorithm
+    (version_part hash.version ++ (params_part hash.params ++ salt_and_key_parts hash.salt hash.hash))
+    (parts_lack text hash h) (sym begins ∙ h.whole) in
     let both = sym split ∙ parts in
     let first : part ≡ hash.algorithm = cc in
     let left : after ≡ version_part hash.version ++ (params_part hash.params ++ salt_and_key_parts hash.salt hash.hash) = cc in
@@ -98,16 +114,22 @@ parts_of_hash text rest part after hash h begins split =
     record {
       algorithm = first;
       version_first = left;
-      lack_version = All-append LacksVersion (params_part hash.params) (salt_and_key_parts hash.salt hash.hash) (params_no_version hash.params h.params) (lacking_no_version (salt_and_key_parts hash.salt hash.hash) no_equals);
+      lack_version = All-append LacksVersion (params_part hash.params) (salt_and_key_parts hash.salt hash.hash)
+          (params_no_version hash.params h.params) (lacking_no_version (salt_and_key_parts hash.salt hash.hash) no_equals);
       lack_equals = no_equals;
       salt_and_key = record { whole = refl; salt_bytes = h.salt; key_bytes = h.key; key_after_salt = h.key_after_salt };
     }
 
 -- a text that has the parts of a hash is read as it
-pub hash_of_parts : (text rest : List ℕ) (hash : PasswordHash) (after from_params from_salt : List (List ℕ)) → text ≡ 36 ∷ rest → slice_split (λ b. b == 36) rest ≡ hash.algorithm ∷ after → IsIdentifier hash.algorithm → after ≡ version_part hash.version ++ from_params → IsVersion hash.version → from_params ≡ params_part hash.params ++ from_salt → ArePairs hash.params → IsSaltAndKey from_salt hash.salt hash.hash → IsHashText text hash
+pub hash_of_parts : (text rest : List ℕ) (hash : PasswordHash) (after from_params from_salt : List (List ℕ))
+    → text ≡ 36 ∷ rest → slice_split (λ b. b == 36) rest ≡ hash.algorithm ∷ after → IsIdentifier hash.algorithm
+    → after ≡ version_part hash.version ++ from_params → IsVersion hash.version
+    → from_params ≡ params_part hash.params ++ from_salt → ArePairs hash.params
+    → IsSaltAndKey from_salt hash.salt hash.hash → IsHashText text hash
 hash_of_parts text rest hash after from_params from_salt begins split algorithm version_first version params_next params salt_and_key =
     let parts : after ≡ version_part hash.version ++ (params_part hash.params ++ salt_and_key_parts hash.salt hash.hash) =
-    version_first ∙ ap (λ left. version_part hash.version ++ left) (params_next ∙ ap (λ left. params_part hash.params ++ left) salt_and_key.whole) in
+    version_first ∙ ap (λ left. version_part hash.version ++ left) (params_next
+    ∙ ap (λ left. params_part hash.params ++ left) salt_and_key.whole) in
     record {
       whole = begins ∙ parts_text-parts_of rest hash.algorithm after split ∙ ap (λ left. parts_text (hash.algorithm ∷ left)) parts;
       algorithm = algorithm;

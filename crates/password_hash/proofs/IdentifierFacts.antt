@@ -13,12 +13,14 @@ use Rattle.password_hash.specs.Letters.{is_identifier_letter}
 -- an identifier is ASCII
 pub identifier_ascii : (xs : List ℕ) → IsTrue (list_all is_identifier_letter xs) → IsAscii xs
 identifier_ascii xs h =
-    IsAscii-from_all xs (All-weaker (λ b. is_identifier_letter b ≡ true) (λ b. b < 128) small xs (AllPass-from_list_all is_identifier_letter xs h))
+    IsAscii-from_all xs (All-weaker (λ b. is_identifier_letter b ≡ true) (λ b. b < 128) small xs
+    (AllPass-from_list_all is_identifier_letter xs h))
   where
     small : (b : ℕ) → is_identifier_letter b ≡ true → b < 128
     small b h = grind (arith, nat_tests)
 
 -- what `from_utf8` answers of ASCII bytes
-pub ascii_is_text : {T E : Type 0} (P : T → Type 0) (Q : E → Type 0) (bs : List ℕ) (r : Result T E) → MatchResult r P (λ e. ¬ IsUtf8 bs × Q e) → IsAscii bs → IsOk r
+pub ascii_is_text : {T E : Type 0} (P : T → Type 0) (Q : E → Type 0) (bs : List ℕ) (r : Result T E)
+    → MatchResult r P (λ e. ¬ IsUtf8 bs × Q e) → IsAscii bs → IsOk r
 ascii_is_text P Q bs (Ok s) h ascii = refl
 ascii_is_text P Q bs (Err e) h ascii = absurd (h.0 (IsUtf8-from_ascii bs ascii))

@@ -1,5 +1,6 @@
 -- What follows from the definition of MCF texts: each has one id and one list of fields, and texts put together by parts are MCF texts.
-use Rattle.std.proofs.Common.{◌≡◌, ◌≢◌, inl, inr, ◌∙◌, sym, ap, subst, refl, ℕ, ◌<◌, Bool, true, false, not, ◌↔◌, IsTrue, Result, Ok, Err, IsErrOf, IfErr, ◌==◌, List, [], ◌∷◌, ◌++◌, length, get_or}
+use Rattle.std.proofs.Common.{◌≡◌, ◌≢◌, inl, inr, ◌∙◌, sym, ap, subst, refl, ℕ, ◌<◌, Bool, true, false, not, ◌↔◌}
+use Rattle.std.proofs.Common.{IsTrue, Result, Ok, Err, IsErrOf, IfErr, ◌==◌, List, [], ◌∷◌, ◌++◌, length, get_or}
 use Rattle.std.specs.List.{All, onto_first}
 use Rattle.std.proofs.lemmas.Bool.{ne_eqb, eqb-false, cases_Bool, false≢true}
 use Rattle.std.proofs.lemmas.List.{append-nil}
@@ -21,7 +22,8 @@ no_dollar field is = All-weaker (λ byte. byte ≢ dollar) (λ byte. (byte == do
 
 -- an id is without a dollar
 pub IsField-id : (id : List ℕ) → IsId id → IsField id
-IsField-id id is = All-weaker (λ byte. (byte == dollar) ≡ false) (λ byte. byte ≢ dollar) (λ byte other. eqb-false byte dollar other) id (letters_lack is_identifier_letter dollar refl id is.1)
+IsField-id id is = All-weaker (λ byte. (byte == dollar) ≡ false) (λ byte. byte ≢ dollar)
+    (λ byte other. eqb-false byte dollar other) id (letters_lack is_identifier_letter dollar refl id is.1)
 
 -- the letters of bytes are without a dollar
 pub IsField-crypt64_of : (bytes : List ℕ) → IsField (crypt64_of bytes)
@@ -31,8 +33,10 @@ IsField-crypt64_of bytes = All-weaker IsPlain (λ byte. byte ≢ dollar) (λ byt
 pub parts_of-IsMcfText : (text id : List ℕ) (fields : List (List ℕ)) → IsMcfText text id fields → parts_of text ≡ [] ∷ id ∷ fields
 parts_of-IsMcfText text id fields is =
     let parts : All IsField ([] ∷ id ∷ fields) =
-    All-cons IsField [] (id ∷ fields) (All-nil (λ byte. byte ≢ dollar)) (All-cons IsField id fields (IsField-id id is.is_id) is.are_fields) in
-    parts_of-parts_text text [] (id ∷ fields) (All-weaker IsField (Lacks dollar) no_dollar ([] ∷ id ∷ fields) parts) (ap (λ text. dollar ∷ text) is.written)
+    All-cons IsField [] (id ∷ fields) (All-nil (λ byte. byte ≢ dollar))
+    (All-cons IsField id fields (IsField-id id is.is_id) is.are_fields) in
+    parts_of-parts_text text [] (id ∷ fields) (All-weaker IsField (Lacks dollar) no_dollar ([] ∷ id ∷ fields) parts)
+    (ap (λ text. dollar ∷ text) is.written)
 
 -- no part of a text has a dollar
 are_fields-slice_split : (text : List ℕ) → All IsField (parts_of text)
@@ -47,13 +51,15 @@ are_fields-slice_split (byte ∷ text) = elim (cases_Bool (byte == dollar)) [
 ]
   where
     onto : (parts : List (List ℕ)) → byte ≢ dollar → All IsField parts → All IsField (onto_first byte parts)
-    onto [] other each = All-cons IsField (byte ∷ []) [] (All-cons (λ b. b ≢ dollar) byte [] other (All-nil (λ b. b ≢ dollar))) (All-nil IsField)
+    onto [] other each = All-cons IsField (byte ∷ []) [] (All-cons (λ b. b ≢ dollar) byte [] other
+        (All-nil (λ b. b ≢ dollar))) (All-nil IsField)
     onto (part ∷ parts) other each =
         All-cons IsField (byte ∷ part) parts
         (All-cons (λ b. b ≢ dollar) byte part other (All-head IsField part parts each)) (All-tail IsField part parts each)
 
 -- a text that is split into nothing, an id and fields is an MCF text
-pub IsMcfText-from_parts : (text id : List ℕ) (fields : List (List ℕ)) → parts_of text ≡ [] ∷ id ∷ fields → IsId id → IsMcfText text id fields
+pub IsMcfText-from_parts : (text id : List ℕ) (fields : List (List ℕ)) → parts_of text ≡ [] ∷ id ∷ fields → IsId id
+    → IsMcfText text id fields
 IsMcfText-from_parts text id fields parts is =
     let each : All IsField ([] ∷ id ∷ fields) = subst (All IsField) parts (are_fields-slice_split text) in
     record {
@@ -92,7 +98,8 @@ IsId-parts text id fields parts is =
     subst IsId same is.2.is_id
 
 -- a text with a field after a dollar has one field more
-pub IsMcfText-pushed : (text new field : List ℕ) → new ≡ text ++ dollar ∷ field → IsMcfText text (id_of text) (fields_of text) → IsField field
+pub IsMcfText-pushed : (text new field : List ℕ) → new ≡ text ++ dollar ∷ field
+    → IsMcfText text (id_of text) (fields_of text) → IsField field
     → IsMcfText new (id_of new) (fields_of new)
 IsMcfText-pushed text new field written is good =
     IsMcfText-read new (

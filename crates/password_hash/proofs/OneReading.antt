@@ -1,5 +1,6 @@
 -- A text has at most one reading.
-use Rattle.std.proofs.Common.{◌≡◌, ℕ, zero, suc, ◌<◌, ◌≤◌, ◌==◌, false, List, [], ◌∷◌, ◌++◌, length, get_or, take, drop, codes, refl, sym, ap, subst, ◌∙◌, arith}
+use Rattle.std.proofs.Common.{◌≡◌, ℕ, zero, suc, ◌<◌, ◌≤◌, ◌==◌, false, List, [], ◌∷◌, ◌++◌, length, get_or, take, drop}
+use Rattle.std.proofs.Common.{codes, refl, sym, ap, subst, ◌∙◌, arith}
 use Rattle.std.specs.Prelude.{All, Option, None, Some, IfSome, OnSome, IsSome, decimal}
 use Rattle.std.specs.List.{slice_split}
 use Rattle.std.proofs.lemmas.Bool.{false≢true, eq-eqb}
@@ -9,7 +10,8 @@ use Rattle.std.proofs.lemmas.List.Elements.{All-head, All-get_or}
 use Rattle.password_hash.specs.Crypt64.{Crypt64}
 use Rattle.password_hash.specs.Pairs.{pairs_text, ArePairs}
 use Rattle.password_hash.specs.PhcParts.{IsVersion, LackVersion, LackEquals}
-use Rattle.password_hash.specs.Phc.{base64, version_part, params_part, key_part, salt_and_key_parts, hash_parts, hash_text, IsSalt, IsKey, IsHashText}
+use Rattle.password_hash.specs.Phc.{base64, version_part, params_part, key_part, salt_and_key_parts, hash_parts}
+use Rattle.password_hash.specs.Phc.{hash_text, IsSalt, IsKey, IsHashText}
 use Rattle.password_hash.specs.declared.phc.hash.PasswordHash.{PasswordHash}
 use Rattle.password_hash.proofs.Base64Facts.{base64_injective}
 use Rattle.password_hash.proofs.GroupFacts.{no_crypt64, no_letters, first_group, begins_with_group}
@@ -19,7 +21,8 @@ use Rattle.password_hash.proofs.ParamsFacts.{same_pairs}
 use Rattle.password_hash.proofs.PartsFacts.{parts_of-parts_text}
 use Rattle.password_hash.proofs.PhcPartsFacts.{LacksVersion, equals_of_pairs}
 
-same_version : (a b : Option ℕ) (xs ys : List (List ℕ)) → IsVersion a → IsVersion b → LackVersion xs → LackVersion ys → version_part a ++ xs ≡ version_part b ++ ys → (a ≡ b) × (xs ≡ ys)
+same_version : (a b : Option ℕ) (xs ys : List (List ℕ)) → IsVersion a → IsVersion b → LackVersion xs → LackVersion ys
+    → version_part a ++ xs ≡ version_part b ++ ys → (a ≡ b) × (xs ≡ ys)
 same_version None None xs ys ha hb hx hy e = (refl, e)
 same_version None (Some n) xs ys ha hb hx hy e =
     absurd (All-head LacksVersion (codes "v=" ++ decimal n) ys (subst (All LacksVersion) e hx) (decimal n) refl)
@@ -40,7 +43,8 @@ pairs_have_equals pair params none =
     let at : get_or (pair.0 ++ (61 ∷ equals.0)) (length pair.0) 0 ≡ 61 = get_or_at pair.0 61 equals.0 0 (length pair.0) refl in
     false≢true (sym other ∙ eq-eqb (get_or (pair.0 ++ (61 ∷ equals.0)) (length pair.0) 0) 61 at)
 
-same_params : (a b : List (List ℕ × List ℕ)) (xs ys : List (List ℕ)) → ArePairs a → ArePairs b → LackEquals xs → LackEquals ys → params_part a ++ xs ≡ params_part b ++ ys → (a ≡ b) × (xs ≡ ys)
+same_params : (a b : List (List ℕ × List ℕ)) (xs ys : List (List ℕ)) → ArePairs a → ArePairs b → LackEquals xs
+    → LackEquals ys → params_part a ++ xs ≡ params_part b ++ ys → (a ≡ b) × (xs ≡ ys)
 same_params [] [] xs ys ha hb hx hy e = (refl, e)
 same_params [] (pair ∷ b) xs ys ha hb hx hy e =
     absurd (pairs_have_equals pair b (All-head (Lacks 61) (pairs_text (pair ∷ b)) ys (subst (All (Lacks 61)) e hx)))
@@ -63,7 +67,8 @@ no_key : (key : Option (List ℕ)) → OnSome key (IsSome {T = List ℕ} None) �
 no_key None h = refl
 no_key (Some key) h = absurd (false≢true h)
 
-same_salt_and_key : (a b : Option (List ℕ)) (k l : Option (List ℕ)) → IfSome a IsSalt → IfSome b IsSalt → IfSome k IsKey → IfSome l IsKey → OnSome k (IsSome a) → OnSome l (IsSome b) → salt_and_key_parts a k ≡ salt_and_key_parts b l → (a ≡ b) × (k ≡ l)
+same_salt_and_key : (a b : Option (List ℕ)) (k l : Option (List ℕ)) → IfSome a IsSalt → IfSome b IsSalt → IfSome k IsKey
+    → IfSome l IsKey → OnSome k (IsSome a) → OnSome l (IsSome b) → salt_and_key_parts a k ≡ salt_and_key_parts b l → (a ≡ b) × (k ≡ l)
 same_salt_and_key None None k l ha hb hk hl ka lb e = (refl, no_key k ka ∙ sym (no_key l lb))
 same_salt_and_key None (Some b) k l ha hb hk hl ka lb e = cc
 same_salt_and_key (Some a) None k l ha hb hk hl ka lb e = cc
@@ -80,8 +85,11 @@ one_reading text a b ha hb =
     let split : slice_split (λ c. c == 36) rest ≡ hash_parts a = parts_of-parts_text rest a.algorithm after (parts_lack text a ha) refl in
     let of_a = parts_of_hash text rest a.algorithm after a ha ha.whole split in
     let of_b = parts_of_hash text rest a.algorithm after b hb ha.whole split in
-    let version = same_version a.version b.version (params_part a.params ++ salt_and_key_parts a.salt a.hash) (params_part b.params ++ salt_and_key_parts b.salt b.hash) ha.version hb.version of_a.lack_version of_b.lack_version of_b.version_first in
-    let params = same_params a.params b.params (salt_and_key_parts a.salt a.hash) (salt_and_key_parts b.salt b.hash) ha.params hb.params of_a.lack_equals of_b.lack_equals version.1 in
+    let version = same_version a.version b.version (params_part a.params ++ salt_and_key_parts a.salt a.hash)
+    (params_part b.params ++ salt_and_key_parts b.salt b.hash) ha.version hb.version of_a.lack_version
+    of_b.lack_version of_b.version_first in
+    let params = same_params a.params b.params (salt_and_key_parts a.salt a.hash) (salt_and_key_parts b.salt b.hash)
+    ha.params hb.params of_a.lack_equals of_b.lack_equals version.1 in
     let both = same_salt_and_key a.salt b.salt a.hash b.hash ha.salt hb.salt ha.key hb.key ha.key_after_salt hb.key_after_salt params.1 in
     λ i. record { algorithm = of_b.algorithm i; version = version.0 i; params = params.0 i; salt = both.0 i; hash = both.1 i }
 

@@ -1,9 +1,11 @@
 -- Pairs and their text.
-use Rattle.std.proofs.Common.{◌≡◌, ◌≢◌, ℕ, suc, ◌+◌, ◌<◌, ◌≤◌, ◌==◌, Bool, true, false, IsTrue, List, [], ◌∷◌, ◌++◌, length, map, refl, sym, ap, subst, ◌∙◌, arith}
+use Rattle.std.proofs.Common.{◌≡◌, ◌≢◌, ℕ, suc, ◌+◌, ◌<◌, ◌≤◌, ◌==◌, Bool, true, false, IsTrue, List, [], ◌∷◌, ◌++◌}
+use Rattle.std.proofs.Common.{length, map, refl, sym, ap, subst, ◌∙◌, arith}
 use Rattle.std.specs.Prelude.{All}
 use Rattle.std.specs.List.{list_all, join_with_byte, slice_split, before_first, after_first, position_or_len}
 use Rattle.std.proofs.lemmas.Bool.{ne_eqb, eq-eqb, false≢true}
-use Rattle.std.proofs.lemmas.List.{take_all, drop_all, take_at, drop_at, append_assoc, length-append, length-drop, get_or_append_left, get_or_at, length_push}
+use Rattle.std.proofs.lemmas.List.{take_all, drop_all, take_at, drop_at, append_assoc, length-append, length-drop}
+use Rattle.std.proofs.lemmas.List.{get_or_append_left, get_or_at, length_push}
 use Rattle.std.proofs.lemmas.List.Sums.{position_or_len_is, AllPass-from_list_all}
 use Rattle.std.proofs.lemmas.List.Splits.{slice_split_none, slice_split_at}
 use Rattle.std.proofs.lemmas.List.Elements.{All-cons, All-head, All-tail, All-append, All-get_or, All-map, All-weaker}
@@ -24,7 +26,8 @@ other_letter p c x is_none is_one e = false≢true (sym is_none ∙ (rw e at is_
 -- letters of a kind lack a byte of another kind
 pub letters_lack : (p : ℕ → Bool) (c : ℕ) → p c ≡ false → (xs : List ℕ) → IsTrue (list_all p xs) → Lacks c xs
 letters_lack p c is_none xs h =
-    All-weaker (λ x. p x ≡ true) (λ x. (x == c) ≡ false) (λ x is_one. ne_eqb x c (other_letter p c x is_none is_one)) xs (AllPass-from_list_all p xs h)
+    All-weaker (λ x. p x ≡ true) (λ x. (x == c) ≡ false) (λ x is_one. ne_eqb x c (other_letter p c x is_none is_one)) xs
+    (AllPass-from_list_all p xs h)
 
 -- the first c comes after bytes that lack it
 pub position_at : (c : ℕ) (xs ys : List ℕ) → Lacks c xs → position_or_len (λ b. b == c) (xs ++ (c ∷ ys)) ≡ length xs
@@ -58,20 +61,24 @@ pair_of-pair_text pair h =
     λ i. (before i, after i)
 
 -- the text of a pair has no `,`
-pub pair_text_lacks : (c : ℕ) → is_identifier_letter c ≡ false → is_value_letter c ≡ false → (61 == c) ≡ false → (pair : List ℕ × List ℕ) → IsPair pair → Lacks c (pair_text pair)
+pub pair_text_lacks : (c : ℕ) → is_identifier_letter c ≡ false → is_value_letter c ≡ false → (61 == c) ≡ false
+    → (pair : List ℕ × List ℕ) → IsPair pair → Lacks c (pair_text pair)
 pair_text_lacks c name value equals pair h =
     All-append (λ b. (b == c) ≡ false) pair.0 (61 ∷ pair.1) (letters_lack is_identifier_letter c name pair.0 h.name.letters)
     (All-cons (λ b. (b == c) ≡ false) 61 pair.1 equals (letters_lack is_value_letter c value pair.1 h.value.letters))
 
 -- pieces that lack c are told by their row
-pub slice_split-join : (c : ℕ) (piece : List ℕ) (pieces : List (List ℕ)) → All (Lacks c) (piece ∷ pieces) → slice_split (λ b. b == c) (join_with_byte c (piece ∷ pieces)) ≡ piece ∷ pieces
+pub slice_split-join : (c : ℕ) (piece : List ℕ) (pieces : List (List ℕ)) → All (Lacks c) (piece ∷ pieces)
+    → slice_split (λ b. b == c) (join_with_byte c (piece ∷ pieces)) ≡ piece ∷ pieces
 slice_split-join c piece [] none = slice_split_none (λ b. b == c) piece (All-head (Lacks c) piece [] none)
 slice_split-join c piece (next ∷ pieces) none =
-    slice_split_at (λ b. b == c) piece c (join_with_byte c (next ∷ pieces)) (All-head (Lacks c) piece (next ∷ pieces) none) (eq-eqb c c refl)
+    slice_split_at (λ b. b == c) piece c (join_with_byte c (next ∷ pieces)) (All-head (Lacks c) piece (next ∷ pieces)
+    none) (eq-eqb c c refl)
     ∙ ap (λ rest. piece ∷ rest) (slice_split-join c next pieces (All-tail (Lacks c) piece (next ∷ pieces) none))
 
 -- each text of a pair lacks a byte that no pair has
-pub texts_lack : (c : ℕ) → is_identifier_letter c ≡ false → is_value_letter c ≡ false → (61 == c) ≡ false → (pairs : List (List ℕ × List ℕ)) → All IsPair pairs → All (Lacks c) (map pair_text pairs)
+pub texts_lack : (c : ℕ) → is_identifier_letter c ≡ false → is_value_letter c ≡ false → (61 == c) ≡ false
+    → (pairs : List (List ℕ × List ℕ)) → All IsPair pairs → All (Lacks c) (map pair_text pairs)
 texts_lack c name value equals pairs h =
     All-map (Lacks c) pair_text pairs (All-weaker IsPair (λ pair. Lacks c (pair_text pair)) (pair_text_lacks c name value equals) pairs h)
 
@@ -82,7 +89,8 @@ map-pair_of (pair ∷ pairs) h =
     rw (pair_of-pair_text pair (All-head IsPair pair pairs h), map-pair_of pairs (All-tail IsPair pair pairs h)) refl
 
 -- the pieces of a text of pairs
-pub pieces_of_pairs : (pair : List ℕ × List ℕ) (pairs : List (List ℕ × List ℕ)) → All IsPair (pair ∷ pairs) → slice_split (λ b. b == 44) (pairs_text (pair ∷ pairs)) ≡ map pair_text (pair ∷ pairs)
+pub pieces_of_pairs : (pair : List ℕ × List ℕ) (pairs : List (List ℕ × List ℕ)) → All IsPair (pair ∷ pairs)
+    → slice_split (λ b. b == 44) (pairs_text (pair ∷ pairs)) ≡ map pair_text (pair ∷ pairs)
 pieces_of_pairs pair pairs h =
     slice_split-join 44 (pair_text pair) (map pair_text pairs) (texts_lack 44 refl refl refl (pair ∷ pairs) h)
 
@@ -109,7 +117,8 @@ pairs_of-pairs_text (pair ∷ pairs) h =
     ∙ ap (map pair_of) (pieces_of_pairs pair pairs h) ∙ map-pair_of (pair ∷ pairs) h
 
 -- the text of parameters is kept in place of them
-pub kept_as_text : (text : List ℕ) (pairs : List (List ℕ × List ℕ)) → text ≡ pairs_text pairs → ArePairs pairs → IsPairsText text × (pairs_of text ≡ pairs)
+pub kept_as_text : (text : List ℕ) (pairs : List (List ℕ × List ℕ)) → text ≡ pairs_text pairs → ArePairs pairs
+    → IsPairsText text × (pairs_of text ≡ pairs)
 kept_as_text text pairs e h =
     let back : pairs_of text ≡ pairs = ap pairs_of e ∙ pairs_of-pairs_text pairs h.each in
     (record { pairs = rw back h; whole = ap pairs_text back ∙ sym e }, back)
@@ -130,12 +139,16 @@ pub record IsFirstPair (text pair rest : List ℕ) : Type 0 where
 
 -- they are before and after its first `,`
 cut_at_comma : (pair : List ℕ × List ℕ) (pairs : List (List ℕ × List ℕ)) → Lacks 44 (pair_text pair)
-    → (before_first (λ b. b == 44) (pairs_text (pair ∷ pairs)) ≡ pair_text pair) × (after_first (λ b. b == 44) (pairs_text (pair ∷ pairs)) ≡ pairs_text pairs)
+    → (before_first (λ b. b == 44) (pairs_text (pair ∷ pairs)) ≡ pair_text pair) ×
+    (after_first (λ b. b == 44) (pairs_text (pair ∷ pairs)) ≡ pairs_text pairs)
 cut_at_comma pair [] none = (before_first_none 44 (pair_text pair) none, after_first_none 44 (pair_text pair) none)
-cut_at_comma pair (next ∷ pairs) none =
-    (before_first_at 44 (pair_text pair) (pairs_text (next ∷ pairs)) none, after_first_at 44 (pair_text pair) (pairs_text (next ∷ pairs)) none)
+cut_at_comma pair (next ∷ pairs) none = (
+  before_first_at 44 (pair_text pair) (pairs_text (next ∷ pairs)) none,
+  after_first_at 44 (pair_text pair) (pairs_text (next ∷ pairs)) none,
+)
 
-first_pair_of : (pairs : List (List ℕ × List ℕ)) (text : List ℕ) → ArePairs pairs → pairs_text pairs ≡ text → 0 < length text → IsFirstPair text (before_first (λ b. b == 44) text) (after_first (λ b. b == 44) text)
+first_pair_of : (pairs : List (List ℕ × List ℕ)) (text : List ℕ) → ArePairs pairs → pairs_text pairs ≡ text
+    → 0 < length text → IsFirstPair text (before_first (λ b. b == 44) text) (after_first (λ b. b == 44) text)
 first_pair_of [] text h e some = absurd (omega (arith, ap length e))
 first_pair_of (pair ∷ pairs) text h e some =
     let is_pair : IsPair pair = All-head IsPair pair pairs h.each in
@@ -154,7 +167,8 @@ first_pair_of (pair ∷ pairs) text h e some =
     })
 
 -- what comes before and after the first `,` of a text of pairs
-pub first_pair : (text pair rest : List ℕ) → IsPairsText text → 0 < length text → pair ≡ before_first (λ b. b == 44) text → rest ≡ after_first (λ b. b == 44) text → IsFirstPair text pair rest
+pub first_pair : (text pair rest : List ℕ) → IsPairsText text → 0 < length text
+    → pair ≡ before_first (λ b. b == 44) text → rest ≡ after_first (λ b. b == 44) text → IsFirstPair text pair rest
 first_pair text pair rest h some before after =
     rw (before, after) (first_pair_of (pairs_of text) text h.pairs h.whole some)
 
@@ -162,7 +176,8 @@ pair_eq-Decides : (first second : List ℕ × List ℕ) → Decides (pair_eq fir
 pair_eq-Decides first second =
     let names = bytes_eq-Decides first.0 second.0 in
     let values = bytes_eq-Decides first.1 second.1 in
-    let both : pair_eq first second ≡ true → (pointwise nat_eq first.0 second.0 ≡ true) × (pointwise nat_eq first.1 second.1 ≡ true) = grind arith in (
+    let both : pair_eq first second ≡ true
+    → (pointwise nat_eq first.0 second.0 ≡ true) × (pointwise nat_eq first.1 second.1 ≡ true) = grind arith in (
       λ e. λ i. (names.0 (both e).0 i, values.0 (both e).1 i),
       λ e. rw (names.1 (ap (λ p. p.0) e), values.1 (ap (λ p. p.1) e)) refl,
     )

@@ -1,9 +1,12 @@
 -- One more pair at the end, and the pairs of a text in turn.
-use Rattle.std.proofs.Common.{◌≡◌, ◌≢◌, ℕ, ◌+◌, ◌<◌, ◌≤◌, ◌==◌, Bool, List, [], ◌∷◌, ◌++◌, min, length, take, drop, map, get_or, refl, sym, ap, subst, ◌∙◌, arith}
+use Rattle.std.proofs.Common.{◌≡◌, ◌≢◌, ℕ, ◌+◌, ◌<◌, ◌≤◌, ◌==◌, Bool, List, [], ◌∷◌, ◌++◌, min, length, take, drop, map}
+use Rattle.std.proofs.Common.{get_or, refl, sym, ap, subst, ◌∙◌, arith}
 use Rattle.std.specs.Prelude.{◌↔◌, All, Result, Ok, Err, IsOk, OnOk, OnErr}
 use Rattle.std.specs.List.{join_with_byte, slice_split, before_first, after_first, position_or_len}
 use Rattle.std.proofs.lemmas.Bool.{eqb-true, false≢true}
-use Rattle.std.proofs.lemmas.List.{append_assoc, length-append, length-map, get_or_append_left, get_or_push, length_push, take-append-drop, length-take, get_or-take, take_more, take-map, get_or-map, map-append, map_push, length-drop}
+use Rattle.std.proofs.lemmas.List.{append_assoc, length-append, length-map, get_or_append_left, get_or_push}
+use Rattle.std.proofs.lemmas.List.{length_push, take-append-drop, length-take, get_or-take, take_more, take-map}
+use Rattle.std.proofs.lemmas.List.{get_or-map, map-append, map_push, length-drop}
 use Rattle.std.proofs.lemmas.List.Sums.{split_at_first, passes_at_first}
 use Rattle.std.proofs.lemmas.List.Elements.{All-head, All-push, All-take}
 use Rattle.std.proofs.lemmas.List.Quantifiers.{all_pairs_push}
@@ -13,27 +16,33 @@ use Rattle.std.specs.Cmp.Lexicographic.{pointwise}
 use Rattle.std.proofs.lemmas.Bool.Decides.{same_from_decides}
 use Rattle.std.proofs.lemmas.Slice.Eq.{bytes_eq-Decides}
 use Rattle.password_hash.specs.Pairs.{IsPair, pair_text, pairs_text, ArePairs, pair_of, pairs_of, pair_eq, with_pair, IsPairsText}
-use Rattle.password_hash.proofs.PairsFacts.{pair_of-pair_text, length_pairs_text, map-pair_of, pieces_of_pairs, pairs_of-pairs_text, kept_as_text, pairs_eq-Decides}
+use Rattle.password_hash.proofs.PairsFacts.{pair_of-pair_text, length_pairs_text, map-pair_of, pieces_of_pairs}
+use Rattle.password_hash.proofs.PairsFacts.{pairs_of-pairs_text, kept_as_text, pairs_eq-Decides}
 
 -- a row with one more piece
-join_push : (c : ℕ) (first : List ℕ) (pieces : List (List ℕ)) (last : List ℕ) → join_with_byte c ((first ∷ pieces) ++ last ∷ []) ≡ join_with_byte c (first ∷ pieces) ++ (c ∷ last)
+join_push : (c : ℕ) (first : List ℕ) (pieces : List (List ℕ)) (last : List ℕ)
+    → join_with_byte c ((first ∷ pieces) ++ last ∷ []) ≡ join_with_byte c (first ∷ pieces) ++ (c ∷ last)
 join_push c first [] last = refl
 join_push c first (next ∷ pieces) last =
-    ap (λ rest. first ++ (c ∷ rest)) (join_push c next pieces last) ∙ sym (append_assoc first (c ∷ join_with_byte c (next ∷ pieces)) (c ∷ last))
+    ap (λ rest. first ++ (c ∷ rest)) (join_push c next pieces last)
+    ∙ sym (append_assoc first (c ∷ join_with_byte c (next ∷ pieces)) (c ∷ last))
 
 with_pair_some : (text : List ℕ) (pair : List ℕ × List ℕ) → 0 < length text → with_pair text pair ≡ text ++ (44 ∷ pair_text pair)
 with_pair_some [] pair some = absurd (omega arith)
 with_pair_some (byte ∷ text) pair some = refl
 
 -- the text of one pair more
-pub with_pair-pairs_text : (pairs : List (List ℕ × List ℕ)) (pair : List ℕ × List ℕ) → All IsPair pairs → with_pair (pairs_text pairs) pair ≡ pairs_text (pairs ++ pair ∷ [])
+pub with_pair-pairs_text : (pairs : List (List ℕ × List ℕ)) (pair : List ℕ × List ℕ) → All IsPair pairs
+    → with_pair (pairs_text pairs) pair ≡ pairs_text (pairs ++ pair ∷ [])
 with_pair-pairs_text [] pair h = refl
 with_pair-pairs_text (first ∷ pairs) pair h =
     with_pair_some (pairs_text (first ∷ pairs)) pair (length_pairs_text first pairs (All-head IsPair first pairs h))
-    ∙ sym (ap (λ texts. join_with_byte 44 (pair_text first ∷ texts)) (map_push pair_text pairs pair) ∙ join_push 44 (pair_text first) (map pair_text pairs) (pair_text pair))
+    ∙ sym (ap (λ texts. join_with_byte 44 (pair_text first ∷ texts)) (map_push pair_text pairs pair)
+    ∙ join_push 44 (pair_text first) (map pair_text pairs) (pair_text pair))
 
 -- parameters with one pair more
-pub ArePairs-push : (pairs : List (List ℕ × List ℕ)) (pair : List ℕ × List ℕ) → ArePairs pairs → IsPair pair → All (λ other. other.0 ≢ pair.0) pairs → length (pairs_text (pairs ++ pair ∷ [])) ≤ 127 → ArePairs (pairs ++ pair ∷ [])
+pub ArePairs-push : (pairs : List (List ℕ × List ℕ)) (pair : List ℕ × List ℕ) → ArePairs pairs → IsPair pair
+    → All (λ other. other.0 ≢ pair.0) pairs → length (pairs_text (pairs ++ pair ∷ [])) ≤ 127 → ArePairs (pairs ++ pair ∷ [])
 ArePairs-push pairs pair h is_pair others short = record {
   each = All-push IsPair pairs pair h.each is_pair;
   once = all_pairs_push (λ first second. first.0 ≢ second.0) pairs pair h.once others;
@@ -51,7 +60,8 @@ last_pair pairs pair h =
     record {
       is_pair = subst IsPair (get_or_push pairs pair pair (length pairs) refl) (h.each (length pairs) pair (omega arith));
       others = λ k d below. subst (λ (p : List ℕ × List ℕ). (get_or pairs k d).0 ≢ p.0) (get_or_push pairs pair d (length pairs) refl)
-          (subst (λ (p : List ℕ × List ℕ). p.0 ≢ (get_or (pairs ++ pair ∷ []) (length pairs) d).0) (get_or_append_left pairs (pair ∷ []) d k below) (h.once k (length pairs) d below (omega arith)));
+          (subst (λ (p : List ℕ × List ℕ). p.0 ≢ (get_or (pairs ++ pair ∷ []) (length pairs) d).0)
+          (get_or_append_left pairs (pair ∷ []) d k below) (h.once k (length pairs) d below (omega arith)));
     }
 
 length_front : (c : ℕ) (xs ys : List (List ℕ)) → length (join_with_byte c xs) ≤ length (join_with_byte c (xs ++ ys))
@@ -59,7 +69,12 @@ length_front c [] ys = omega arith
 length_front c (x ∷ []) [] = omega arith
 length_front c (x ∷ []) (y ∷ ys) = omega (arith, length-append x (c ∷ join_with_byte c (y ∷ ys)))
 length_front c (x ∷ next ∷ xs) ys =
-    omega (arith, length_front c (next ∷ xs) ys, length-append x (c ∷ join_with_byte c (next ∷ xs)), length-append x (c ∷ join_with_byte c ((next ∷ xs) ++ ys)))
+    omega (
+      arith,
+      length_front c (next ∷ xs) ys,
+      length-append x (c ∷ join_with_byte c (next ∷ xs)),
+      length-append x (c ∷ join_with_byte c ((next ∷ xs) ++ ys)),
+    )
 
 -- the first of some parameters
 pub ArePairs-take : (n : ℕ) (pairs : List (List ℕ × List ℕ)) → ArePairs pairs → ArePairs (take n pairs)
@@ -71,11 +86,17 @@ ArePairs-take n pairs h =
       once = λ i j d before below.
           let inside : j < min n (length pairs) = omega (arith, below, length-take n pairs) in
           rw (get_or-take n pairs i d (omega arith), get_or-take n pairs j d (omega arith)) (h.once i j d before (omega arith));
-      short = omega (arith, h.short, ap (λ texts. length (join_with_byte 44 texts)) texts, length_front 44 (map pair_text (take n pairs)) (map pair_text (drop n pairs)));
+      short = omega (
+        arith,
+        h.short,
+        ap (λ texts. length (join_with_byte 44 texts)) texts,
+        length_front 44 (map pair_text (take n pairs)) (map pair_text (drop n pairs)),
+      );
     }
 
 -- what is kept after a pair was put after others, or there was no room
-pub record IsAdded {E : Type 0} (r : Result (Unit {0}) E) (pairs : List (List ℕ × List ℕ)) (pair : List ℕ × List ℕ) (text : List ℕ) : Type 0 where
+pub record IsAdded {E : Type 0} (r : Result (Unit {0}) E) (pairs : List (List ℕ × List ℕ)) (pair : List ℕ × List ℕ)
+    (text : List ℕ) : Type 0 where
   pub kept : IsPairsText text
   pub exact : IsOk r ↔ ArePairs (pairs ++ pair ∷ [])
   pub ok : OnOk r (pairs_of text ≡ pairs ++ pair ∷ [])
@@ -87,7 +108,10 @@ with_pair-kept pairs pair text h view =
     let each : All IsPair pairs = rw view at h.pairs.each in
     ap (λ t. with_pair t pair) (sym h.whole ∙ ap pairs_text view) ∙ with_pair-pairs_text pairs pair each
 
-pub added : {E : Type 0} (r : Result (Unit {0}) E) (pairs : List (List ℕ × List ℕ)) (pair : List ℕ × List ℕ) (old new : List ℕ) → IsPairsText old → pairs_of old ≡ pairs → IsPair pair → All (λ other. other.0 ≢ pair.0) pairs → (IsOk r ↔ (length (with_pair old pair) ≤ 127)) → OnOk r (new ≡ with_pair old pair) → OnErr r (new ≡ old) → IsAdded r pairs pair new
+pub added : {E : Type 0} (r : Result (Unit {0}) E) (pairs : List (List ℕ × List ℕ)) (pair : List ℕ × List ℕ)
+    (old new : List ℕ) → IsPairsText old → pairs_of old ≡ pairs → IsPair pair → All (λ other. other.0 ≢ pair.0) pairs
+    → (IsOk r ↔ (length (with_pair old pair) ≤ 127)) → OnOk r (new ≡ with_pair old pair) → OnErr r (new ≡ old)
+    → IsAdded r pairs pair new
 added (Ok u) pairs pair old new h view is_pair others exact ok unchanged =
     let text = with_pair-kept pairs pair old h view in
     let before : ArePairs pairs = rw view at h.pairs in
@@ -107,20 +131,25 @@ pair_text-pair_of piece some =
     let split = split_at_first (λ b. b == 61) piece 0 within in
     sym (rw equals at split)
 
-pair_again : (pairs : List (List ℕ × List ℕ)) (k : ℕ) (d : List ℕ × List ℕ) → ArePairs pairs → k < length pairs → pair_of (pair_text (get_or pairs k d)) ≡ get_or pairs k d
+pair_again : (pairs : List (List ℕ × List ℕ)) (k : ℕ) (d : List ℕ × List ℕ) → ArePairs pairs → k < length pairs
+    → pair_of (pair_text (get_or pairs k d)) ≡ get_or pairs k d
 pair_again pairs k d h within = pair_of-pair_text (get_or pairs k d) (h.each k d within)
 
 -- the pairs before place k, and the piece at it, of the text of parameters
-pub next_of_pairs : (pairs params : List (List ℕ × List ℕ)) (piece : List ℕ) (k : ℕ) → ArePairs pairs → All IsPair params → map pair_text params ≡ take k (map pair_text pairs) → k < length (map pair_text pairs) → piece ≡ get_or (map pair_text pairs) k piece → ArePairs (params ++ pair_of piece ∷ [])
+pub next_of_pairs : (pairs params : List (List ℕ × List ℕ)) (piece : List ℕ) (k : ℕ) → ArePairs pairs
+    → All IsPair params → map pair_text params ≡ take k (map pair_text pairs) → k < length (map pair_text pairs)
+    → piece ≡ get_or (map pair_text pairs) k piece → ArePairs (params ++ pair_of piece ∷ [])
 next_of_pairs pairs params piece k h each read below at =
     let within : k < length pairs = omega (arith, length-map pairs pair_text) in
     let front : params ≡ take k pairs =
-    sym (map-pair_of params each) ∙ ap (map pair_of) (read ∙ take-map pair_text k pairs) ∙ map-pair_of (take k pairs) (All-take IsPair k pairs h.each) in
+    sym (map-pair_of params each) ∙ ap (map pair_of) (read ∙ take-map pair_text k pairs)
+    ∙ map-pair_of (take k pairs) (All-take IsPair k pairs h.each) in
     let d : List ℕ × List ℕ = pair_of piece in
     let pair : pair_of piece ≡ get_or pairs k d =
     ap pair_of (at ∙ get_or-map pair_text pairs k d piece within) ∙ pair_again pairs k d h within in
     let more : take (k + 1) pairs ≡ take k pairs ++ get_or pairs k d ∷ [] = take_more pairs k d within in
-    subst ArePairs (more ∙ ap (λ (front : List (List ℕ × List ℕ)). front ++ get_or pairs k d ∷ []) (sym front) ∙ ap (λ last. params ++ last ∷ []) (sym pair)) (ArePairs-take (k + 1) pairs h)
+    subst ArePairs (more ∙ ap (λ (front : List (List ℕ × List ℕ)). front ++ get_or pairs k d ∷ []) (sym front)
+    ∙ ap (λ last. params ++ last ∷ []) (sym pair)) (ArePairs-take (k + 1) pairs h)
 
 -- no parameters have an empty text
 pub no_pairs : (text : List ℕ) (pairs : List (List ℕ × List ℕ)) → length text ≡ 0 → ArePairs pairs → text ≡ pairs_text pairs → pairs ≡ []
@@ -129,24 +158,28 @@ no_pairs text (pair ∷ pairs) empty h e =
     absurd (omega (arith, ap length e, length_pairs_text pair pairs (All-head IsPair pair pairs h.each)))
 
 -- the pieces of a text of parameters
-pub pieces_of_text : (text : List ℕ) (pairs : List (List ℕ × List ℕ)) → 0 < length text → ArePairs pairs → text ≡ pairs_text pairs → slice_split (λ b. b == 44) text ≡ map pair_text pairs
+pub pieces_of_text : (text : List ℕ) (pairs : List (List ℕ × List ℕ)) → 0 < length text → ArePairs pairs
+    → text ≡ pairs_text pairs → slice_split (λ b. b == 44) text ≡ map pair_text pairs
 pieces_of_text text [] some h e = absurd (omega (arith, ap length e))
 pieces_of_text text (pair ∷ pairs) some h e = ap (slice_split (λ b. b == 44)) e ∙ pieces_of_pairs pair pairs h.each
 
 -- parameters are told by their text
-pub same_pairs : (text : List ℕ) (xs ys : List (List ℕ × List ℕ)) → ArePairs xs → ArePairs ys → text ≡ pairs_text xs → text ≡ pairs_text ys → xs ≡ ys
+pub same_pairs : (text : List ℕ) (xs ys : List (List ℕ × List ℕ)) → ArePairs xs → ArePairs ys → text ≡ pairs_text xs
+    → text ≡ pairs_text ys → xs ≡ ys
 same_pairs text xs ys hx hy ex ey =
     sym (pairs_of-pairs_text xs hx.each) ∙ ap pairs_of (sym ex ∙ ey) ∙ pairs_of-pairs_text ys hy.each
 
 -- the last of some parameters has the text that it was read from
-pub last_read : (params : List (List ℕ × List ℕ)) (name value piece : List ℕ) → name ≡ before_first (λ b. b == 61) piece → value ≡ after_first (λ b. b == 61) piece → ArePairs (params ++ (name, value) ∷ []) → pair_text (name, value) ≡ piece
+pub last_read : (params : List (List ℕ × List ℕ)) (name value piece : List ℕ) → name ≡ before_first (λ b. b == 61) piece
+    → value ≡ after_first (λ b. b == 61) piece → ArePairs (params ++ (name, value) ∷ []) → pair_text (name, value) ≡ piece
 last_read params name value piece before after h =
     let some = (last_pair params (name, value) h).is_pair.value.some in
     let joined = pair_text-pair_of piece (rw after at some) in
     rw (before, after) joined
 
 -- a test of two texts of parameters tests the parameters
-pub tested : (xs ys : List (List ℕ × List ℕ)) (r : Bool) → ArePairs xs → ArePairs ys → r ≡ pointwise nat_eq (pairs_text xs) (pairs_text ys) → r ≡ pointwise pair_eq xs ys
+pub tested : (xs ys : List (List ℕ × List ℕ)) (r : Bool) → ArePairs xs → ArePairs ys
+    → r ≡ pointwise nat_eq (pairs_text xs) (pairs_text ys) → r ≡ pointwise pair_eq xs ys
 tested xs ys r hx hy e =
     let texts = bytes_eq-Decides (pairs_text xs) (pairs_text ys) in
     let told : Decides r (xs ≡ ys) =

@@ -15,12 +15,15 @@ parts_text-join part [] = ap (λ text. dollar ∷ text) (append-nil part)
 parts_text-join part (next ∷ parts) = ap (λ rest. dollar ∷ (part ++ rest)) (parts_text-join next parts)
 
 -- the parts of a text give the text
-pub parts_text-parts_of : (text part : List ℕ) (parts : List (List ℕ)) → parts_of text ≡ part ∷ parts → dollar ∷ text ≡ parts_text (part ∷ parts)
+pub parts_text-parts_of : (text part : List ℕ) (parts : List (List ℕ)) → parts_of text ≡ part ∷ parts
+    → dollar ∷ text ≡ parts_text (part ∷ parts)
 parts_text-parts_of text part parts e =
-    ap (λ rest. dollar ∷ rest) (sym (join_with_byte-slice_split dollar text) ∙ ap (join_with_byte dollar) e) ∙ sym (parts_text-join part parts)
+    ap (λ rest. dollar ∷ rest) (sym (join_with_byte-slice_split dollar text) ∙ ap (join_with_byte dollar) e)
+    ∙ sym (parts_text-join part parts)
 
 -- and parts without `$` are those of their text
-pub parts_of-parts_text : (text part : List ℕ) (parts : List (List ℕ)) → All (Lacks dollar) (part ∷ parts) → dollar ∷ text ≡ parts_text (part ∷ parts) → parts_of text ≡ part ∷ parts
+pub parts_of-parts_text : (text part : List ℕ) (parts : List (List ℕ)) → All (Lacks dollar) (part ∷ parts)
+    → dollar ∷ text ≡ parts_text (part ∷ parts) → parts_of text ≡ part ∷ parts
 parts_of-parts_text text part parts none e =
     let rest = e ∙ parts_text-join part parts in
     let same : text ≡ join_with_byte dollar (part ∷ parts) = cc in
@@ -38,7 +41,8 @@ lacks_by_place xs other =
     All-from_get_or (λ b. (b == dollar) ≡ false) xs 0 (λ i below. ne_eqb (get_or xs i 0) dollar (other i below))
 
 -- the part before the first `$`, and the parts after it
-pub parts_of-first : (text part left : List ℕ) → text ≡ part ++ (dollar ∷ left) → ((i : ℕ) → i < length part → get_or part i 0 ≢ dollar) → parts_of text ≡ part ∷ parts_of left
+pub parts_of-first : (text part left : List ℕ) → text ≡ part ++ (dollar ∷ left)
+    → ((i : ℕ) → i < length part → get_or part i 0 ≢ dollar) → parts_of text ≡ part ∷ parts_of left
 parts_of-first text part left e other =
     ap parts_of e ∙ slice_split_at (λ b. b == dollar) part dollar left (lacks_by_place part other) refl
 

@@ -1,5 +1,6 @@
 -- The parts of a PHC text.
-use Rattle.std.proofs.Common.{◌≡◌, ◌≢◌, ℕ, suc, ◌+◌, ◌*◌, ◌/◌, ◌%◌, ◌^◌, ◌<◌, ◌==◌, ◌||◌, Bool, false, List, [], ◌∷◌, ◌++◌, length, get_or, codes, slice_index, refl, sym, ap, subst, ◌∙◌, arith}
+use Rattle.std.proofs.Common.{◌≡◌, ◌≢◌, ℕ, suc, ◌+◌, ◌*◌, ◌/◌, ◌%◌, ◌^◌, ◌<◌, ◌==◌, ◌||◌, Bool, false, List, [], ◌∷◌}
+use Rattle.std.proofs.Common.{◌++◌, length, get_or, codes, slice_index, refl, sym, ap, subst, ◌∙◌, arith}
 use Rattle.std.specs.Prelude.{All, Option, None, Some, decimal}
 use Rattle.std.specs.List.{AllByRecursion as ByRecursion}
 use Rattle.std.specs.List.{slice_split, join_with_byte}
@@ -19,7 +20,8 @@ use Rattle.password_hash.proofs.DecimalFacts.{decimal_of, IsDecimal-decimal}
 use Rattle.password_hash.proofs.PairsFacts.{Lacks, letters_lack}
 
 -- the symbols of six bits of a table
-symbols_hold : (P : ℕ → Type 0) (t : List ℕ) → ((v : ℕ) → v < 64 → P (slice_index t v)) → (m : List ℕ) → IsBytes m → ByRecursion P (encode_symbols t m)
+symbols_hold : (P : ℕ → Type 0) (t : List ℕ) → ((v : ℕ) → v < 64 → P (slice_index t v)) → (m : List ℕ) → IsBytes m
+    → ByRecursion P (encode_symbols t m)
 unfolding encode_symbols
 symbols_hold P t each [] h = tt
 symbols_hold P t each (a ∷ []) h =
@@ -32,8 +34,16 @@ symbols_hold P t each (a ∷ b ∷ []) h =
 symbols_hold P t each (a ∷ b ∷ c ∷ m) h =
     let small_a : a < 256 = h 0 in
     let small_b : b < 256 = h 1 in
-    let small_c : c < 256 = h 2 in
-    (each (a / 4) (omega arith), (each (a % 4 * 16 + b / 16) (omega arith), (each (b % 16 * 4 + c / 64) (omega arith), (each (c % 64) (omega arith), symbols_hold P t each m (λ i. h (suc (suc (suc i))))))))
+    let small_c : c < 256 = h 2 in (
+      each (a / 4) (omega arith),
+      (
+        each (a % 4 * 16 + b / 16) (omega arith),
+        (
+          each (b % 16 * 4 + c / 64) (omega arith),
+          (each (c % 64) (omega arith), symbols_hold P t each m (λ i. h (suc (suc (suc i))))),
+        ),
+      ),
+    )
 
 -- `a-zA-Z0-9+/`
 abbrev is_base64_letter : ℕ → Bool
@@ -58,7 +68,9 @@ pub record HasVersion (digits : List ℕ) (after : List (List ℕ)) (version : O
   pub is_decimal : IsDecimal digits number
   pub left : after ≡ others
 
-pub version_next : (digits : List ℕ) (after : List (List ℕ)) (version : Option ℕ) (others : List (List ℕ)) → IsVersion version → LackVersion others → (codes "v=" ++ digits) ∷ after ≡ version_part version ++ others → HasVersion digits after version others
+pub version_next : (digits : List ℕ) (after : List (List ℕ)) (version : Option ℕ) (others : List (List ℕ))
+    → IsVersion version → LackVersion others → (codes "v=" ++ digits) ∷ after ≡ version_part version ++ others
+    → HasVersion digits after version others
 version_next digits after None others h none e =
     let heads = All-head LacksVersion (codes "v=" ++ digits) after (subst (All LacksVersion) (sym e) none) in
     absurd (heads digits refl)
@@ -68,18 +80,22 @@ version_next digits after (Some number) others h none e =
     record { number = number; is_version = refl; is_decimal = rw same (IsDecimal-decimal number h); left = left }
 
 -- what is read of a part with `v=`
-pub version_read : (parts : List (List ℕ)) (part digits : List ℕ) (after : List (List ℕ)) (number : ℕ) → parts ≡ part ∷ after → part ≡ codes "v=" ++ digits → IsDecimal digits number → (parts ≡ (codes "v=" ++ decimal number) ∷ after) × (number < 2 ^ 32)
+pub version_read : (parts : List (List ℕ)) (part digits : List ℕ) (after : List (List ℕ)) (number : ℕ)
+    → parts ≡ part ∷ after → part ≡ codes "v=" ++ digits → IsDecimal digits number
+    → (parts ≡ (codes "v=" ++ decimal number) ∷ after) × (number < 2 ^ 32)
 version_read parts part digits after number e is h =
     (e ∙ ap (λ first. first ∷ after) (is ∙ ap (λ rest. codes "v=" ++ rest) (decimal_of digits number h)), h.small)
 
 -- the text of parameters has a `=`
-pub equals_of_pairs : (pair : List ℕ × List ℕ) (pairs : List (List ℕ × List ℕ)) → (rest : List ℕ) × (pairs_text (pair ∷ pairs) ≡ pair.0 ++ (61 ∷ rest))
+pub equals_of_pairs : (pair : List ℕ × List ℕ) (pairs : List (List ℕ × List ℕ))
+    → (rest : List ℕ) × (pairs_text (pair ∷ pairs) ≡ pair.0 ++ (61 ∷ rest))
 equals_of_pairs pair [] = (pair.1, refl)
 equals_of_pairs pair (next ∷ pairs) =
     (pair.1 ++ (44 ∷ pairs_text (next ∷ pairs)), append_assoc pair.0 (61 ∷ pair.1) (44 ∷ pairs_text (next ∷ pairs)))
 
 -- a part without `=` is no text of parameters
-pub no_params : (part : List ℕ) (after : List (List ℕ)) (params : List (List ℕ × List ℕ)) (others : List (List ℕ)) → ((k : ℕ) → k < length part → get_or part k 0 ≢ 61) → part ∷ after ≡ params_part params ++ others → params ≡ []
+pub no_params : (part : List ℕ) (after : List (List ℕ)) (params : List (List ℕ × List ℕ)) (others : List (List ℕ))
+    → ((k : ℕ) → k < length part → get_or part k 0 ≢ 61) → part ∷ after ≡ params_part params ++ others → params ≡ []
 no_params part after [] others none e = refl
 no_params part after (pair ∷ params) others none e =
     let text : part ≡ pairs_text (pair ∷ params) = cc in
@@ -89,7 +105,9 @@ no_params part after (pair ∷ params) others none e =
     absurd (none (length pair.0) within (rw whole (get_or_at pair.0 61 equals.0 0 (length pair.0) refl)))
 
 -- a part with a `=` is the text of the parameters
-pub params_next : (part : List ℕ) (after : List (List ℕ)) (params : List (List ℕ × List ℕ)) (others : List (List ℕ)) → (k : ℕ) → k < length part → get_or part k 0 ≡ 61 → LackEquals others → part ∷ after ≡ params_part params ++ others → (part ≡ pairs_text params) × (after ≡ others)
+pub params_next : (part : List ℕ) (after : List (List ℕ)) (params : List (List ℕ × List ℕ)) (others : List (List ℕ))
+    → (k : ℕ) → k < length part → get_or part k 0 ≡ 61 → LackEquals others → part ∷ after ≡ params_part params ++ others
+    → (part ≡ pairs_text params) × (after ≡ others)
 params_next part after [] others k below equals none e =
     let lacks = All-head (Lacks 61) part after (subst (All (Lacks 61)) (sym e) none) in
     let other = All-get_or (λ b. (b == 61) ≡ false) part k 0 below lacks in
@@ -110,7 +128,8 @@ pub record HasSaltAndKey (part letters : List ℕ) (salt key : Option (List ℕ)
   pub salt_allowed : IsSalt salt_bytes
   pub key_allowed : IsKey key_bytes
 
-pub salt_and_key_next : (part letters : List ℕ) (salt key : Option (List ℕ)) → IsSaltAndKey (part ∷ slice_split (λ b. b == 36) letters) salt key → HasSaltAndKey part letters salt key
+pub salt_and_key_next : (part letters : List ℕ) (salt key : Option (List ℕ))
+    → IsSaltAndKey (part ∷ slice_split (λ b. b == 36) letters) salt key → HasSaltAndKey part letters salt key
 salt_and_key_next part letters None key h =
     let e = h.whole in
     cc
@@ -134,7 +153,9 @@ salt_and_key_next part letters (Some salt) (Some key) h =
     }
 
 -- what is read of a salt and a key
-pub salt_and_key_read : (parts : List (List ℕ)) (part letters salt key : List ℕ) → parts ≡ part ∷ slice_split (λ b. b == 36) letters → part ≡ base64 salt → IsSalt salt → letters ≡ base64 key → IsKey key → IsSaltAndKey parts (Some salt) (Some key)
+pub salt_and_key_read : (parts : List (List ℕ)) (part letters salt key : List ℕ)
+    → parts ≡ part ∷ slice_split (λ b. b == 36) letters → part ≡ base64 salt → IsSalt salt → letters ≡ base64 key
+    → IsKey key → IsSaltAndKey parts (Some salt) (Some key)
 salt_and_key_read parts part letters salt key e is_salt salt_allowed is_key key_allowed =
     let alone : slice_split (λ b. b == 36) letters ≡ letters ∷ [] =
     slice_split_none (λ b. b == 36) letters (rw is_key (base64_lacks 36 refl key key_allowed.are_bytes)) in

@@ -1,5 +1,6 @@
 -- Facts on the letters of a piece of bytes: of whole groups of three bytes, or of all that are left.
-use Rattle.std.proofs.Common.{◌≡◌, ◌∙◌, sym, ap, refl, arith, inl, inr, ℕ, ◌+◌, ◌*◌, ◌/◌, ◌%◌, ◌<◌, ◌≤◌, List, [], ◌∷◌, ◌++◌, length, take, drop, append_assoc, length-drop}
+use Rattle.std.proofs.Common.{◌≡◌, ◌∙◌, sym, ap, refl, arith, inl, inr, ℕ, ◌+◌, ◌*◌, ◌/◌, ◌%◌, ◌<◌, ◌≤◌, List, [], ◌∷◌}
+use Rattle.std.proofs.Common.{◌++◌, length, take, drop, append_assoc, length-drop}
 use Rattle.std.proofs.lemmas.Bool.{cases_lt}
 use Rattle.std.proofs.lemmas.List.{append-nil, take-append-drop, length-take-le, take_at, drop_at}
 use Rattle.std.proofs.lemmas.List.Elements.{All-take, All-drop}
@@ -7,7 +8,8 @@ use Rattle.password_hash.specs.Crypt64.{crypt64_of, Crypt64, IsPiece, encoded_le
 use Rattle.password_hash.proofs.GroupFacts.{length-crypt64_of}
 
 -- whole groups have letters of their own, and so have any bytes with none after them
-crypt64_of-append : (front back : List ℕ) → (0 < length back → length front % 3 ≡ 0) → crypt64_of (front ++ back) ≡ crypt64_of front ++ crypt64_of back
+crypt64_of-append : (front back : List ℕ) → (0 < length back → length front % 3 ≡ 0)
+    → crypt64_of (front ++ back) ≡ crypt64_of front ++ crypt64_of back
 unfolding crypt64_of
 crypt64_of-append [] back whole = refl
 crypt64_of-append (a ∷ []) [] whole = sym (append-nil (letters_of 2 a))
@@ -21,7 +23,8 @@ crypt64_of-append (a ∷ b ∷ c ∷ front) back whole =
 
 -- so the letters are cut where the bytes are
 cut : (bytes : List ℕ) (n : ℕ) → n ≤ length bytes → (n < length bytes → n % 3 ≡ 0)
-    → (take (encoded_len n) (crypt64_of bytes) ≡ crypt64_of (take n bytes)) × (drop (encoded_len n) (crypt64_of bytes) ≡ crypt64_of (drop n bytes))
+    → (take (encoded_len n) (crypt64_of bytes) ≡ crypt64_of (take n bytes)) × (drop (encoded_len n) (crypt64_of bytes) ≡
+    crypt64_of (drop n bytes))
 cut bytes n inside ends =
     let front : length (take n bytes) ≡ n = length-take-le n bytes inside in
     let letters : length (crypt64_of (take n bytes)) ≡ encoded_len n = length-crypt64_of (take n bytes) ∙ ap encoded_len front in
@@ -35,7 +38,8 @@ pub letters_of_piece : (all letters : List ℕ) (at n : ℕ) → Crypt64 all let
 letters_of_piece all letters at n is piece =
     let place : at / 3 * 4 ≡ encoded_len at = omega (arith, piece.begins) in
     let after = (cut all at (omega (arith, piece.inside)) (λ _. piece.begins)).1 in
-    let before = (cut (drop at all) n (omega (arith, piece.inside, length-drop at all)) (λ below. piece.ends (omega (arith, below, length-drop at all)))).0 in
+    let before = (cut (drop at all) n (omega (arith, piece.inside, length-drop at all))
+    (λ below. piece.ends (omega (arith, below, length-drop at all)))).0 in
     record {
       are_bytes = All-take (λ b. b < 256) n (drop at all) (All-drop (λ b. b < 256) at all is.are_bytes);
       encoding = rw (is.encoding, place, after, before) refl;

@@ -1,6 +1,8 @@
 -- Texts, read and printed by the definitions alone, so that a wrong letter, order or bound in a
 -- definition does not check.
-use Rattle.std.proofs.Common.{◌≡◌, ◌&&◌, ◌||◌, ◌==◌, ◌+◌, ◌-◌, ◌*◌, ◌/◌, ◌%◌, ◌^◌, ◌<◌, ℕ, Bool, not, true, nat_lt, Option, List, [], ◌∷◌, ◌++◌, length, map, take, replicate, codes, None, Some, refl, ap, arith}
+use Rattle.std.proofs.Common.{◌≡◌, ◌&&◌, ◌||◌, ◌==◌, ◌+◌, ◌-◌, ◌*◌, ◌/◌, ◌%◌, ◌^◌, ◌<◌, ℕ, Bool, not, true, nat_lt}
+use Rattle.std.proofs.Common.{Option, List, [], ◌∷◌, ◌++◌, length, map, take, replicate, codes, None, Some, refl, ap}
+use Rattle.std.proofs.Common.{arith}
 use Rattle.std.specs.Prelude.{All}
 use Rattle.std.specs.Char.{digit_value}
 use Rattle.std.specs.Fmt.{digits}
@@ -14,7 +16,8 @@ use Rattle.password_hash.specs.Mcf.{IsMcf, IsMcfText, id_of}
 use Rattle.password_hash.specs.Phc.{hash_text, IsHashText}
 use Rattle.password_hash.specs.declared.phc.hash.PasswordHash.{PasswordHash}
 use Rattle.password_hash.proofs.GroupFacts.{Encodes, no_bytes, refuses}
-use Rattle.password_hash.proofs.TextTests.{all_shown, crypt64_shown, hash_text_shown, has_no_id, is_crypt64, is_hash_text, is_mcf_text, mcf_text_shown, no_id_shown}
+use Rattle.password_hash.proofs.TextTests.{all_shown, crypt64_shown, hash_text_shown, has_no_id, is_crypt64}
+use Rattle.password_hash.proofs.TextTests.{is_hash_text, is_mcf_text, mcf_text_shown, no_id_shown}
 
 -- the bytes that hexadecimal digits spell, two for each
 abbrev bytes : List ℕ → List ℕ
@@ -74,12 +77,14 @@ unfolding digits
 key_not_printed = refl
 
 -- decimals: the number, or `None` for a text that is not a decimal below 2 ^ 32
-pub decimals : map (decimal_below 4294967296) (codes "0" ∷ codes "7" ∷ codes "10" ∷ codes "4294967295" ∷ []) ≡ Some 0 ∷ Some 7 ∷ Some 10 ∷ Some 4294967295 ∷ []
+pub decimals : map (decimal_below 4294967296) (codes "0" ∷ codes "7" ∷ codes "10" ∷ codes "4294967295" ∷ []) ≡ Some 0 ∷
+    Some 7 ∷ Some 10 ∷ Some 4294967295 ∷ []
 unfolding decimal_below has_plus_or_leading_zero
 decimals = refl
 
 pub other_texts_are_no_decimals :
-    map (decimal_below 4294967296) (codes "4294967296" ∷ [] ∷ codes "00" ∷ codes "01" ∷ codes "+1" ∷ codes "-1" ∷ codes "1." ∷ codes "a" ∷ [])
+    map (decimal_below 4294967296) (codes "4294967296" ∷ [] ∷ codes "00" ∷ codes "01" ∷ codes "+1" ∷ codes "-1" ∷ codes
+    "1." ∷ codes "a" ∷ [])
     ≡ None ∷ None ∷ None ∷ None ∷ None ∷ None ∷ None ∷ None ∷ []
 unfolding decimal_below has_plus_or_leading_zero
 other_texts_are_no_decimals = refl
@@ -101,7 +106,10 @@ crypt64_letters =
     ∷ (bytes (codes "000000"), codes "....")
     ∷ (bytes (codes "010203"), codes "/6k.")
     ∷ (bytes (codes "986d90d343e07e4f7e00864f03040bf3"), codes "Mq4YHD2syxYT.MsH1Ek0n1")
-    ∷ (bytes (codes "77d6576238657b203b19ca42c18a0497f16b4844e3074ae8dfdffa3fede21442"), codes "rNxJWVHNv/mCNcgE/f6/L4zO6Fos5c2uTzhyzoisI62")
+    ∷ (
+      bytes (codes "77d6576238657b203b19ca42c18a0497f16b4844e3074ae8dfdffa3fede21442"),
+      codes "rNxJWVHNv/mCNcgE/f6/L4zO6Fos5c2uTzhyzoisI62",
+    )
     ∷ (stepped 64, codes "9.HJux7ldvkAMpbc5nS2qg3UZewvIYXL1WOnmT/DVNseELj4zEKWiCByR6oNA4fpv1GFex6hNvz66paYrmR.a.")
     ∷ (stepped 63, codes "9.HJux7ldvkAMpbc5nS2qg3UZewvIYXL1WOnmT/DVNseELj4zEKWiCByR6oNA4fpv1GFex6hNvz66paYrmR.")
     ∷ (stepped 62, codes "9.HJux7ldvkAMpbc5nS2qg3UZewvIYXL1WOnmT/DVNseELj4zEKWiCByR6oNA4fpv1GFex6hNvz66paYrmB")
@@ -127,7 +135,8 @@ refused_shown letters refused is =
     let empty = refuses letters (take 4 letters) refl (λ bytes said some. encodes_some bytes said some parts.1) is.0 is.1 in
     absurd (omega (arith, ltb-true 0 (length letters) parts.0, ap length (no_bytes is.0 letters is.1 empty)))
   where
-    encodes_some : (bytes : List ℕ) → Encodes (take 4 letters) bytes → 0 < length bytes → encodes_none (length (take 4 letters) - 1) (number_of (take 4 letters)) ≡ true → ⊥
+    encodes_some : (bytes : List ℕ) → Encodes (take 4 letters) bytes → 0 < length bytes
+        → encodes_none (length (take 4 letters) - 1) (number_of (take 4 letters)) ≡ true → ⊥
     encodes_some bytes said some none =
         let len : length (take 4 letters) - 1 ≡ length bytes = omega (arith, said.count) in
         let encodes = rw (len, said.number) at none in

@@ -1,5 +1,6 @@
 -- Bytes in a fixed number of places.
-use Rattle.std.proofs.Common.{◌≡◌, refl, ℕ, ◌-◌, ◌<◌, ◌≤◌, Bool, true, nat_eq, List, ◌++◌, length, drop, replicate, slice_index, arith, rules, length-append}
+use Rattle.std.proofs.Common.{◌≡◌, refl, ℕ, ◌-◌, ◌<◌, ◌≤◌, Bool, true, nat_eq, List, ◌++◌, length, drop, replicate}
+use Rattle.std.proofs.Common.{slice_index, arith, rules, length-append}
 use Rattle.std.specs.Cmp.Lexicographic.{pointwise}
 use Rattle.std.proofs.lemmas.Grind.{same_number_lists}
 use Rattle.std.proofs.lemmas.List.{length-replicate, drop-replicate}
@@ -8,7 +9,8 @@ use Rattle.std.proofs.Math.Seq.{take-append_seam}
 use Rattle.password_hash.specs.Stored.{AreStored}
 
 -- what is written at the front of zeros is stored
-pub stored : (least most : ℕ) (new xs : List ℕ) → new ≡ xs → least ≤ length xs → length xs ≤ most → AreStored least most (new ++ drop (length xs) (replicate most 0)) (length xs)
+pub stored : (least most : ℕ) (new xs : List ℕ) → new ≡ xs → least ≤ length xs → length xs ≤ most
+    → AreStored least most (new ++ drop (length xs) (replicate most 0)) (length xs)
 stored least most new xs e some fits =
     let rest : drop {A = ℕ} (length xs) (replicate most 0) ≡ replicate (most - length xs) 0 = drop-replicate (length xs) most 0 in
     rw (e, rest) (record {

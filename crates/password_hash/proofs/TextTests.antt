@@ -1,5 +1,6 @@
 -- Tests of the definitions of texts that compute, and what each shows.
-use Rattle.std.proofs.Common.{◌≡◌, ◌≢◌, ◌&&◌, ◌^◌, ◌<◌, ℕ, zero, suc, Bool, true, not, nat_eq, nat_le, nat_lt, List, [], ◌∷◌, length, codes, Option, None, Some, refl, sym, ◌∙◌, arith}
+use Rattle.std.proofs.Common.{◌≡◌, ◌≢◌, ◌&&◌, ◌^◌, ◌<◌, ℕ, zero, suc, Bool, true, not, nat_eq, nat_le, nat_lt, List, []}
+use Rattle.std.proofs.Common.{◌∷◌, length, codes, Option, None, Some, refl, sym, ◌∙◌, arith}
 use Rattle.std.specs.Prelude.{All, AllPairs, IfSome, IsSome, is_some}
 use Rattle.std.specs.Cmp.Lexicographic.{pointwise}
 use Rattle.std.specs.List.{list_all}
@@ -19,7 +20,8 @@ use Rattle.password_hash.specs.Stored.{AreBytesFromTo}
 use Rattle.password_hash.specs.declared.phc.hash.PasswordHash.{PasswordHash}
 use Rattle.password_hash.proofs.McfFacts.{IsMcfText-from_parts, IsMcfText-one}
 
-pub all_shown : {X : Type 0} → (p : X → Bool) (P : X → Type 0) → ((x : X) → p x ≡ true → P x) → (xs : List X) → list_all p xs ≡ true → All P xs
+pub all_shown : {X : Type 0} → (p : X → Bool) (P : X → Type 0) → ((x : X) → p x ≡ true → P x) → (xs : List X)
+    → list_all p xs ≡ true → All P xs
 all_shown p P each [] h = All-nil P
 all_shown p P each (x ∷ xs) h =
     let parts = and_parts (p x) (list_all p xs) h in
@@ -75,7 +77,8 @@ names_shown [] h = λ i j d before inside. absurd (omega arith)
 names_shown (pair ∷ pairs) h =
     let others = λ (other : List ℕ × List ℕ). differ pair.0 other.0 in
     let parts = and_parts (list_all others pairs) (names_differ pairs) h in
-    AllPairs-cons Differ pair pairs (all_shown others (Differ pair) (λ other. differ_shown pair.0 other.0) pairs parts.0) (names_shown pairs parts.1)
+    AllPairs-cons Differ pair pairs (all_shown others (Differ pair) (λ other. differ_shown pair.0 other.0) pairs
+    parts.0) (names_shown pairs parts.1)
 
 abbrev are_pairs : List (List ℕ × List ℕ) → Bool
 are_pairs pairs = list_all is_pair pairs && (names_differ pairs && nat_le (length (pairs_text pairs)) 127)
@@ -91,7 +94,8 @@ abbrev if_some : {X : Type 0} → (X → Bool) → Option X → Bool
 if_some p None = true
 if_some p (Some x) = p x
 
-if_some_shown : {X : Type 0} → (p : X → Bool) (P : X → Type 0) → ((x : X) → p x ≡ true → P x) → (o : Option X) → if_some p o ≡ true → IfSome o P
+if_some_shown : {X : Type 0} → (p : X → Bool) (P : X → Type 0) → ((x : X) → p x ≡ true → P x) → (o : Option X)
+    → if_some p o ≡ true → IfSome o P
 if_some_shown p P each None h = tt
 if_some_shown p P each (Some x) h = each x h
 
@@ -107,7 +111,8 @@ abbrev pub is_hash_text : List ℕ × PasswordHash → Bool
 is_hash_text row = is_printed row && are_parts row.1
 
 pub hash_text_shown : (row : List ℕ × PasswordHash) → is_hash_text row ≡ true → IsHashText row.0 row.1
-hash_text_shown (text, hash) h = shown (and_parts (is_printed (text, hash)) (are_parts hash) h).0 (and_parts (is_printed (text, hash)) (are_parts hash) h).1
+hash_text_shown (text, hash) h = shown (and_parts (is_printed (text, hash)) (are_parts hash) h).0
+    (and_parts (is_printed (text, hash)) (are_parts hash) h).1
   where
     shown : is_printed (text, hash) ≡ true → are_parts hash ≡ true → IsHashText text hash
     shown printed parts = record {
@@ -137,7 +142,8 @@ is_mcf_text (text, (id, fields)) = pointwise (pointwise nat_eq) (parts_of text) 
 
 pub mcf_text_shown : (row : List ℕ × (List ℕ × List (List ℕ))) → is_mcf_text row ≡ true → IsMcfText row.0 row.1.0 row.1.1
 mcf_text_shown (text, (id, fields)) h =
-    let parts = slice_eq-Decides bytes_eq-Decides (parts_of text) ([] ∷ id ∷ fields) (pointwise (pointwise nat_eq) (parts_of text) ([] ∷ id ∷ fields)) refl in
+    let parts = slice_eq-Decides bytes_eq-Decides (parts_of text) ([] ∷ id ∷ fields)
+    (pointwise (pointwise nat_eq) (parts_of text) ([] ∷ id ∷ fields)) refl in
     IsMcfText-from_parts text id fields (parts.0 (grind arith)) (grind (arith, nat_tests), grind arith)
 
 -- the text between the first two dollars is not an id

@@ -1,5 +1,6 @@
 -- Crypt Base64: the encoding of bytes in the letters of crypt(5).
-use Rattle.std.specs.Prelude.{◌≡◌, ◌==◌, ℕ, zero, suc, ◌+◌, ◌*◌, ◌/◌, ◌%◌, ◌<◌, ◌≤◌, List, [], ◌∷◌, ◌++◌, Option, Some, None, All, codes, position, slice_index}
+use Rattle.std.specs.Prelude.{◌≡◌, ◌==◌, ℕ, zero, suc, ◌+◌, ◌*◌, ◌/◌, ◌%◌, ◌<◌, ◌≤◌, List, [], ◌∷◌, ◌++◌, Option, Some}
+use Rattle.std.specs.Prelude.{None, All, codes, position, slice_index}
 
 -- the alphabet: the letter of each value from 0 to 63
 abbrev pub alphabet : List ℕ

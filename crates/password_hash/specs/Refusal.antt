@@ -1,5 +1,5 @@
 -- An error by its value: the name in it is a list of bytes, wherever it is in memory.
-use Rattle.std.specs.Prelude.{ℕ, List}
+use Rattle.std.specs.Prelude.{ℕ, List, Result, Ok, Err}
 use Rattle.password_hash.specs.declared.error.Error.{Error}
 use Rattle.password_hash.specs.declared.error.Error.TheVariants as error
 
@@ -26,3 +26,8 @@ refusal error.PasswordInvalid = PasswordInvalid
 refusal error.SaltInvalid = SaltInvalid
 refusal error.Version = Version
 refusal error.OutOfMemory = OutOfMemory
+
+-- a result, with the value of its error
+abbrev pub told : {T : Type 0} → Result T Error → Result T Refusal
+told (Ok x) = Ok x
+told (Err e) = Err (refusal e)

@@ -1,7 +1,7 @@
 //! The traits of making and verifying password hashes.
-ghost use Rattle.std.specs.Prelude.{◌≡◌, ◌↔◌, List, ℕ, Option, None, IfOk, IfErr, IsTrue, OnOk};
+ghost use Rattle.std.specs.Prelude.{◌≡◌, ◌⊎◌, List, ℕ, Bool, Option, None, Result, Err, IfOk, IfErr, ⊤};
 ghost use Rattle.std.specs.Option.{option_map};
-ghost use Rattle.password_hash.specs.Refusal.{Refusal, refusal, PasswordInvalid};
+ghost use Rattle.password_hash.specs.Refusal.{Refusal, refusal, told, OutOfMemory};
 
 use crate::{Result, Version};
 use std::alloc::Global;
@@ -73,35 +73,25 @@ pub trait CustomizedPasswordHasher<H> {
 
 /// Verifies passwords against hashes of type `H`.
 pub trait PasswordVerifier<H> {
-    // The password is that of the hash.
-    ghost accepts: { List ℕ → H → Type 0 };
+    // The verdict of a password and a hash, if no allocation fails.
+    ghost verdict: { List ℕ → H → Result ⊤ Refusal };
 
-    // Which error a failed verification gives.
-    ghost refuses: { List ℕ → H → Refusal → Type 0 };
+    // Verifying the hash needs memory.
+    ghost needs_memory: { H → Type 0 };
 
-    /// Verifies `password` against `hash`. Returns `Ok` only if it is the password of the hash, and
-    /// `PasswordInvalid` only if it is not.
+    /// Verifies `password` against `hash`. Returns the verdict, or `OutOfMemory`.
     fn verify_password(&self, alloc: Global, password: &[u8], hash: &H) -> Result<()>
-        ensures ok { OnOk result (accepts password.now hash.now) }
-        ensures wrong { IfErr result (λ e. refusal e ≡ PasswordInvalid → ¬ accepts password.now hash.now) }
-        ensures err { IfErr result (λ e. refuses password.now hash.now (refusal e)) };
+        ensures verdict { (told result ≡ verdict password.now hash.now)
+            ⊎ (needs_memory hash.now × (told result ≡ Err OutOfMemory)) };
 }
 
 /// Checks whether hashes of type `H` are weaker than the parameters of this value. A login service
 /// can then replace a weak hash while it has the password.
 pub trait RehashCheck<H> {
-    // The hash can be read.
-    ghost readable: { H → Type 0 };
-
-    // The hash can be read, and is weaker than wanted.
-    ghost weaker: { Self → H → Type 0 };
-
-    // Which error a hash that cannot be read gives.
-    ghost refuses: { H → Refusal → Type 0 };
+    // Whether the hash is weaker than wanted, or the error of a hash that cannot be read.
+    ghost weaker: { Self → H → Result Bool Refusal };
 
     /// Returns whether `hash` is weaker than wanted. Does not allocate.
     fn needs_rehash(&self, hash: &H) -> Result<bool>
-        ensures ok { OnOk result (readable hash.now) }
-        ensures weak { IfOk result (λ weak. IsTrue weak ↔ weaker self.now hash.now) }
-        ensures err { IfErr result (λ e. refuses hash.now (refusal e)) };
+        ensures weaker { told result ≡ weaker self.now hash.now };
 }

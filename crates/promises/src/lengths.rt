@@ -1,11 +1,17 @@
-//! Buffers of the lengths of `BufferLens` are those that a derivation takes.
+//! Buffers of the lengths that the library returns are those that its calls take.
 
-ghost use Rattle.std.specs.Prelude.{◌≡◌, ◌+◌, ◌≤◌, length, OnOk};
+ghost use Rattle.std.specs.Prelude.{◌≡◌, ◌+◌, ◌≤◌, length, IfOk, OnOk, IsOk};
+ghost use Rattle.promises.specs.Within.{IsVerdictWithin};
+ghost use Rattle.scrypt.specs.StoredHash.{ByReading};
+ghost use Rattle.scrypt.specs.WithinLimits.{told_within, within};
 ghost use Rattle.scrypt.specs.Accepted.{IsOutputLen};
 ghost use Rattle.scrypt.specs.Cost.{thin_cost};
 ghost use Rattle.scrypt.specs.Key.{derived_key};
 
-use scrypt::{BufferLens, CoreCount, Params, scrypt_thin, scrypt_with_buffers};
+use scrypt::{
+    BoundedError, BufferLens, CoreCount, Limits, Params, StoredHash, password_hash, scrypt_thin,
+    scrypt_with_buffers,
+};
 use std::alloc::{AllocError, Global};
 
 /// The key by buffers that are allocated here.
@@ -81,4 +87,57 @@ pub fn key_in_a_thin_table(
         unreachable!();
     };
     Ok(())
+}
+
+/// The verdict on a text within limits, in buffers that are allocated here once it is known that the text is within
+/// them.
+pub fn verdict_in_own_buffers(
+    alloc: Global,
+    text: &str,
+    password: &[u8],
+    limits: &Limits,
+) -> Result<(), BoundedError>
+    ensures verdict { ByReading text.now (λ reading. IsVerdictWithin password.now (within limits.now reading) (told_within result)) }
+{
+    let hash = match StoredHash::read(text) {
+        Ok(hash) => hash,
+        Err(error) => return Err(BoundedError::Hash(error)),
+    };
+    let lens = match hash.buffer_lens_within(limits) {
+        Ok(lens) => lens,
+        Err(error) => return Err(error),
+    };
+    let Ok(mut own) = allocate(alloc, &lens) else {
+        return Err(BoundedError::Hash(password_hash::Error::OutOfMemory));
+    };
+    let mut cores = CoreCount::new();
+    hash.verify_within(
+        password,
+        limits,
+        &mut own.chunks,
+        &mut own.table,
+        &mut own.scratch,
+        &mut cores,
+    )
+}
+
+// Buffers that are allocated.
+#[derive(Drop)]
+struct Own {
+    chunks: Vec<u8>,
+    table: Vec<u32>,
+    scratch: Vec<u32>,
+}
+
+// Allocates buffers of these lengths.
+fn allocate(alloc: Global, lens: &BufferLens) -> Result<Own, AllocError>
+    ensures chunks { IfOk result (λ own. length own.chunks.items ≡ lens.now.chunks) }
+    ensures table { IfOk result (λ own. length own.table.items ≡ lens.now.table) }
+    ensures scratch { IfOk result (λ own. length own.scratch.items ≡ lens.now.scratch) }
+{
+    Ok(Own {
+        chunks: vec![in alloc; 0u8; lens.chunks]?,
+        table: vec![in alloc; 0u32; lens.table]?,
+        scratch: vec![in alloc; 0u32; lens.scratch]?,
+    })
 }

@@ -8,8 +8,5 @@
 
 pub mod headline;
 pub mod lengths;
-pub mod new_hashes;
 pub mod program;
-pub mod refusals;
-pub mod stored_hashes;
 pub mod values;

@@ -5,7 +5,6 @@ ghost use Rattle.scrypt_commands.specs.Args.{texts_of};
 ghost use Rattle.scrypt_commands.specs.CliError.{error_line};
 ghost use Rattle.scrypt_commands.specs.Command.{AreRefused};
 ghost use Rattle.scrypt_commands.specs.Outcome.{HasOutcome, IsAnswer, Outcome};
-ghost use Rattle.scrypt_commands.specs.declared.error.CliError.{CliError};
 ghost use Rattle.scrypt_commands.specs.declared.error.CliError.TheVariants.{InputFailed, OutOfMemory, OutputFailed};
 
 use scrypt_commands::run::{Exit, run};
@@ -26,15 +25,11 @@ pub fn run_in_memory(
     errors: &mut Vec<u8>,
 ) -> Exit
     ensures outcome { (result.status ≡ 3) ⊎ (result.status ≡ 4) ⊎ ((outcome : Outcome)
-        × HasOutcome (texts_of args.now) input.old.now outcome × (result.status ≡ outcome.status)) }
+        × HasOutcome (texts_of args.now) input.old.now outcome × (result.status ≡ outcome.status)
+        × (output.new.items ≡ output.old.items ++ outcome.line)
+        × (IsTrue result.error_written → errors.new.items ≡ errors.old.items ++ outcome.error)) }
     ensures answered { IsAnswer result.status → IsTrue result.error_written × (input.new.now ≡ [])
-        × (errors.new.items ≡ errors.old.items) × ((outcome : Outcome)
-        × HasOutcome (texts_of args.now) input.old.now outcome × (result.status ≡ outcome.status)
-        × (output.new.items ≡ output.old.items ++ outcome.line)) }
-    ensures refused { result.status ≡ 2 → (output.new.items ≡ output.old.items)
-        × (IsTrue result.error_written → (outcome : Outcome)
-        × HasOutcome (texts_of args.now) input.old.now outcome × (result.status ≡ outcome.status)
-        × (errors.new.items ≡ errors.old.items ++ outcome.error)) }
+        × (errors.new.items ≡ errors.old.items) }
     ensures out_of_memory { result.status ≡ 3 → (output.new.items ≡ output.old.items)
         × (IsTrue result.error_written → errors.new.items ≡ errors.old.items ++ error_line OutOfMemory) }
     ensures input_failed { IsTrue result.input_failed → (result.status ≡ 4)
@@ -42,10 +37,9 @@ pub fn run_in_memory(
         × (IsTrue result.error_written → errors.new.items ≡ errors.old.items ++ error_line InputFailed) }
     ensures output_failed { result.status ≡ 4 → result.input_failed ≡ false → (input.new.now ≡ [])
         × (IsTrue result.error_written → errors.new.items ≡ errors.old.items ++ error_line OutputFailed) }
-    ensures unread { (error : CliError) → AreRefused (texts_of args.now) error
+    ensures unread { AreRefused (texts_of args.now)
         → ((result.status ≡ 2) ⊎ (result.status ≡ 3)) × (input.new.now ≡ input.old.now) }
-    ensures read_before_refusal { result.status ≡ 2 → ((error : CliError) → ¬ AreRefused (texts_of args.now) error)
-        → input.new.now ≡ [] }
+    ensures read_before_refusal { result.status ≡ 2 → ¬ AreRefused (texts_of args.now) → input.new.now ≡ [] }
 {
     run(alloc, args, input, output, errors)
 }

@@ -1,6 +1,6 @@
 //! Parameters are what they were made of, and equality is equality.
 
-ghost use Rattle.std.specs.Prelude.{◌≡◌, ◌↔◌, IsTrue, IfOk, IsOk, true};
+ghost use Rattle.std.specs.Prelude.{◌≡◌, ◌↔◌, ◌^◌, IsTrue, IfOk, IsOk};
 ghost use Rattle.scrypt.specs.Accepted.{recommended_parameters, without_len};
 
 use scrypt::{BufferLens, DeriveError, Params, Scrypt};
@@ -16,11 +16,11 @@ pub fn made_again(params: &Params) -> Params
     made
 }
 
-/// The work factor is 2 to the power of `log_n`, which is a number of 64 bits.
-pub fn is_power_of_two(params: &Params) -> bool
-    ensures always { result ≡ true }
+/// The number N of parameters is 2 to the power of `log_n`.
+pub fn number_of_rows(params: &Params) -> u64
+    ensures power { result ≡ 2 ^ params.now.log_n }
 {
-    params.n() == 1 << params.log_n()
+    params.n()
 }
 
 /// Defaults are the recommended parameters, with no length.

@@ -1,12 +1,13 @@
 -- Bounds on accepted parameters.
-use Rattle.scrypt.specs.Accepted.{AreAccepted, IsStoredLen, Parameters, parameters_eq}
+use Rattle.scrypt.specs.Accepted.{AreAccepted, IsOutputLen, IsStoredLen, Parameters, are_accepted, is_output_len, parameters_eq}
+use Rattle.scrypt.specs.Reading.{ParamsInvalid, checked}
 use Rattle.scrypt.specs.Hashing.{key_len_or_default}
 use Rattle.scrypt_kernel.specs.Pbkdf2.{max_output_len}
-use Rattle.std.specs.Prelude.{IfSome, Option, Some, None, nat_eq, unwrap_or}
+use Rattle.std.specs.Prelude.{Bool, IfSome, Option, Some, None, Result, Ok, Err, if◌then◌else◌, nat_eq, nat_le, unwrap_or}
 use Rattle.std.specs.Bool.{Decides}
 use Rattle.std.specs.Option.{option_eq}
-use Rattle.std.proofs.lemmas.Bool.Decides.{Decides-and, Decides-eqb}
-use Rattle.std.proofs.Common.{refl, ap, ◌∙◌, ◌≡◌, ℕ, ◌-◌, ◌*◌, ◌^◌, ◌<◌, ◌≤◌, arith, lit≤}
+use Rattle.std.proofs.lemmas.Bool.Decides.{Decides-and, Decides-eqb, Decides-like, Decides-ltb, nat_tests}
+use Rattle.std.proofs.Common.{refl, ap, ◌∙◌, ◌≡◌, ◌≢◌, ℕ, ◌-◌, ◌*◌, ◌^◌, ◌<◌, ◌≤◌, arith, lit≤, true, false}
 use Rattle.std.proofs.Math.Nat.{lt_of_not-le, mul-le-mul_right, mul_assoc}
 use Rattle.std.proofs.Math.Pow.{pow_mono}
 use Rattle.std.proofs.lemmas.Nat.{mul-le}
@@ -18,6 +19,53 @@ small_log_n log_n r some fits =
     let product = mul-le 1 (2 ^ 57) r (2 ^ log_n) some (pow_mono big) in
     omega (arith, product, mul_assoc 128 r (2 ^ log_n), fits)) in
     omega (arith, below)
+
+-- what a test decides
+
+pub not_true : (test : Bool) → test ≢ true → test ≡ false
+not_true true none = absurd (none refl)
+not_true false none = refl
+
+pub ok_if : {A E : Type 0} (test : Bool) (made : Result A E) (e : E) {x : A} → (if test then made else Err e) ≡ Ok x
+    → (test ≡ true) × (made ≡ Ok x)
+ok_if true made e is = (refl, is)
+ok_if false made e is = absurd cc
+
+-- the tests of accepted numbers and lengths
+
+pub accepted_decided : (log_n r p : ℕ) → Decides (are_accepted log_n r p) (AreAccepted log_n r p)
+unfolding are_accepted
+accepted_decided log_n r p =
+    Decides-like _ (λ h. (h.0.0, h.0.1, h.1.0, h.1.1)) (λ h. ((h.0, h.1), (h.2, h.3)))
+    (Decides-and _ _ (Decides-and _ _ (Decides-ltb 0 r) (Decides-ltb 0 p))
+    (Decides-and _ _ (Decides-ltb (128 * r * 2 ^ log_n) (2 ^ 64)) (Decides-ltb (r * p) (2 ^ 30))))
+
+pub output_len_decided : (n : ℕ) → Decides (is_output_len n) (IsOutputLen n)
+unfolding is_output_len
+output_len_decided n =
+    Decides-and _ _ (leb_decided 1 n) (leb_decided n max_output_len)
+  where
+    leb_decided : (m n : ℕ) → Decides (nat_le m n) (m ≤ n)
+    leb_decided m n = grind (arith, nat_tests)
+
+-- numbers that are accepted are parameters
+
+abbrev pub numbers : ℕ → ℕ → ℕ → Parameters
+numbers log_n r p = record { log_n = log_n; r = r; p = p; output_len = None }
+
+pub checked_is : (log_n r p : ℕ) → AreAccepted log_n r p → checked log_n r p ≡ Ok (numbers log_n r p)
+unfolding checked
+checked_is log_n r p fits = rw ((accepted_decided log_n r p).1 fits) refl
+
+pub not_checked : (log_n r p : ℕ) → ¬ AreAccepted log_n r p → checked log_n r p ≡ Err ParamsInvalid
+unfolding checked
+not_checked log_n r p none = rw (not_true (are_accepted log_n r p) (λ is. none ((accepted_decided log_n r p).0 is))) refl
+
+pub checked_ok : (log_n r p : ℕ) (c : Parameters) → checked log_n r p ≡ Ok c → AreAccepted log_n r p × (numbers log_n r p ≡ c)
+unfolding checked
+checked_ok log_n r p c is =
+    let both = ok_if (are_accepted log_n r p) (Ok (numbers log_n r p)) ParamsInvalid is in
+    ((accepted_decided log_n r p).0 both.0, cc both.1)
 
 -- the bytes of a table, by the test that the code makes
 pub table_bytes : (log_n r : ℕ) → 128 * r * 2 ^ log_n ≡ 128 * (r * 2 ^ log_n)
@@ -32,8 +80,8 @@ pub small_factor : (r p : ℕ) → 0 < p → r * p < 2 ^ 30 → r < 2 ^ 30
 small_factor r p some few = let least = mul-le r 1 r p (omega arith) some in omega arith
 
 -- accepted numbers are small
-pub small_costs : (log_n r p : ℕ) → AreAccepted log_n r p → (log_n ≤ 56) × (r < 2 ^ 30) × (p < 2 ^ 30)
-small_costs log_n r p fits =
+pub small_params : (log_n r p : ℕ) → AreAccepted log_n r p → (log_n ≤ 56) × (r < 2 ^ 30) × (p < 2 ^ 30)
+small_params log_n r p fits =
     (small_log_n log_n r fits.0 fits.2, small_factor r p fits.1 fits.3, small_factor p r fits.0 (omega (arith, fits.3)))
 
 -- the cores of a derivation, as the code computes them

@@ -1,5 +1,6 @@
 -- Facts on two keys that are compared piece by piece.
-use Rattle.std.proofs.Common.{◌≡◌, ◌↔◌, ◌∙◌, sym, ap, ap₂, refl, arith, min, ℕ, ◌+◌, ◌-◌, ◌<◌, ◌≤◌, Bool, true, false, ◌&&◌, List, ◌++◌, length, take, drop, append_assoc, length-drop}
+use Rattle.std.proofs.Common.{◌≡◌, ◌↔◌, ℕ, ◌+◌, ◌-◌, min, ◌<◌, ◌≤◌, Bool, true, false, ◌&&◌, List, ◌++◌, length, take, drop}
+use Rattle.std.proofs.Common.{◌∙◌, sym, ap, ap₂, refl, arith, append_assoc, length-drop}
 use Rattle.std.proofs.Math.Seq.{take-add}
 use Rattle.std.proofs.lemmas.List.{take_at, drop_at, drop-take, take-take, take_min}
 use Rattle.std.proofs.lemmas.List.FromFn.{length-map-range_with_len}

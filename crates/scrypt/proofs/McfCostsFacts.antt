@@ -1,18 +1,20 @@
--- Facts on five-letter numbers and on the costs with which a field begins.
-use Rattle.std.proofs.Common.{◌≡◌, ℕ, ◌-◌, ◌/◌, ◌%◌, ◌^◌, ◌<◌, ◌≤◌, List, [], ◌∷◌, ◌++◌, length, take, drop, Some, None, refl, sym, ap, ◌∙◌, arith, length-append, length-drop, unwrap_or, inl, inr, append_assoc}
+-- Facts on five-letter numbers and on the parameters with which a field begins.
+use Rattle.std.proofs.Common.{◌≡◌, ℕ, ◌-◌, ◌/◌, ◌%◌, ◌^◌, ◌<◌, ◌≤◌, List, [], ◌∷◌, ◌++◌, length, take, drop, Some, None, unwrap_or}
+use Rattle.std.proofs.Common.{refl, sym, ap, ◌∙◌, arith, inl, inr, append_assoc, length-append, length-drop}
 use Rattle.std.specs.List.{slice_get}
 use Rattle.std.proofs.Math.Seq.{take-append_seam}
 use Rattle.std.proofs.lemmas.Bool.{le-ltb, cases_lt, lt-ltb}
-use Rattle.std.specs.Prelude.{All, IsSome, Option}
+use Rattle.std.specs.Prelude.{All, Err, IsSome, Ok, Option, nat_lt, slice_index}
 use Rattle.std.proofs.lemmas.List.{append-nil, take_all, take-append-drop, length-take-le, drop-drop}
 use Rattle.std.proofs.lemmas.List.Elements.{All-head, All-tail}
 use Rattle.password_hash.specs.Crypt64.{letter, letter_value, letters_of, number_of, with_digit}
 use Rattle.password_hash.proofs.Crypt64Facts.{length-letters_of, letters_of-number_of, number_of-letters_of}
 use Rattle.password_hash.proofs.GroupFacts.{append_parts}
 use Rattle.password_hash.proofs.AlphabetFacts.{letter_value-letter, letter-of_value}
-use Rattle.scrypt.specs.Accepted.{AreAccepted}
-use Rattle.scrypt.specs.McfCosts.{cost_letters, five_letter_number, EncodesCosts, malformed}
-use Rattle.scrypt.proofs.AcceptedFacts.{small_costs}
+use Rattle.scrypt.specs.Accepted.{AreAccepted, Parameters}
+use Rattle.scrypt.specs.McfCosts.{cost_letters, field_params, five_letter_number, params_of}
+use Rattle.scrypt.specs.Reading.{EncodingInvalid}
+use Rattle.scrypt.proofs.AcceptedFacts.{checked_ok, ok_if, small_params}
 
 -- where there are five letters, they say the number
 pub five_letter_number-some : (text : List ℕ) → 5 ≤ length text → five_letter_number text ≡ number_of (take 5 text)
@@ -43,10 +45,27 @@ pub to_the_end : (bytes text : List ℕ) (place : ℕ) → bytes ≡ text → ta
 to_the_end bytes text place same =
     take_all (length bytes - place) (drop place bytes) (omega (arith, length-drop place bytes)) ∙ ap (drop place) same
 
--- a field without bytes says no costs
-pub empty_says_none : (field : List ℕ) {log_n r p : ℕ} → slice_get field 0 ≡ None → EncodesCosts field log_n r p → ⊥
-empty_says_none [] none says = let r_is = says.r_is in cc
-empty_says_none (first ∷ field) none says = absurd (cc)
+-- a field without bytes encodes no parameters
+pub empty_says_none : (field : List ℕ) → slice_get field 0 ≡ None → field_params field ≡ Err EncodingInvalid
+unfolding field_params
+empty_says_none [] none = refl
+empty_says_none (first ∷ field) none = absurd (cc)
+
+-- what a field is read as, by the numbers in it
+pub field_says : (field : List ℕ) (first log_n : ℕ) (r p : Option ℕ) → slice_index field 0 ≡ first → first < 128
+    → unwrap_or (letter_value first) 255 ≡ log_n
+    → five_letter_number (drop 1 field) ≡ r → five_letter_number (drop 6 field) ≡ p → field_params field ≡ params_of log_n r p
+unfolding field_params
+field_says field first log_n r p is ascii log_n_is r_is p_is = rw (is, lt-ltb first 128 ascii, log_n_is, r_is, p_is) refl
+
+pub not_ascii : (field : List ℕ) (first : ℕ) → slice_index field 0 ≡ first → 128 ≤ first → field_params field ≡ Err EncodingInvalid
+unfolding field_params
+not_ascii field first is large = rw (is, le-ltb first 128 large) refl
+
+-- without r no numbers are there
+pub no_p : (log_n : ℕ) (r : Option ℕ) → params_of log_n r None ≡ Err EncodingInvalid
+no_p log_n None = refl
+no_p log_n (Some r) = refl
 
 -- numbers below 2^30 are read back from their five letters alone
 pub five_letters_read_back : (number : ℕ) → number < 2 ^ 30 → five_letter_number (letters_of 5 number) ≡ Some number
@@ -87,7 +106,8 @@ five_letters_said letters five each =
 -- letters and five letters are those of one number
 letter-once : (value other : ℕ) → value < 64 → other < 64 → letter value ≡ letter other → value ≡ other
 letter-once value other below other_below same =
-    let values : Some value ≡ Some other = sym (letter_value-letter value below) ∙ ap letter_value same ∙ letter_value-letter other other_below in
+    let values : Some value ≡ Some other =
+    sym (letter_value-letter value below) ∙ ap letter_value same ∙ letter_value-letter other other_below in
     cc
 
 five_letters_once : (number other : ℕ) → number < 2 ^ 30 → other < 2 ^ 30 → letters_of 5 number ≡ letters_of 5 other → number ≡ other
@@ -96,12 +116,12 @@ five_letters_once number other below other_below same =
     sym (five_letters_read_back number below) ∙ ap five_letter_number same ∙ five_letters_read_back other other_below in
     cc
 
--- the letters of accepted costs are those of one log_n, one r and one p
+-- the letters of accepted parameters are those of one log_n, one r and one p
 pub cost_letters_once : (log_n r p other_log_n other_r other_p : ℕ) → AreAccepted log_n r p → AreAccepted other_log_n other_r other_p
     → cost_letters log_n r p ≡ cost_letters other_log_n other_r other_p → (log_n ≡ other_log_n) × (r ≡ other_r) × (p ≡ other_p)
 cost_letters_once log_n r p other_log_n other_r other_p fits other_fits same =
-    let small = small_costs log_n r p fits in
-    let other_small = small_costs other_log_n other_r other_p other_fits in
+    let small = small_params log_n r p fits in
+    let other_small = small_params other_log_n other_r other_p other_fits in
     let first : letter log_n ≡ letter other_log_n = cc in
     let after : letters_of 5 r ++ letters_of 5 p ≡ letters_of 5 other_r ++ letters_of 5 other_p = cc in
     let parts = append_parts (letters_of 5 r) (letters_of 5 p) (letters_of 5 other_r) (letters_of 5 other_p)
@@ -127,19 +147,29 @@ letter_said : (value : Option ℕ) (number : ℕ) → unwrap_or value 255 ≡ nu
 letter_said None number says small = absurd (omega arith)
 letter_said (Some value) number says small = ap Some says
 
--- a field that says accepted costs begins with their letters
-pub field_is : (field : List ℕ) (log_n r p : ℕ) → EncodesCosts field log_n r p → AreAccepted log_n r p
-    → field ≡ cost_letters log_n r p ++ drop 11 field
-field_is [] log_n r p says fits = absurd (empty_says_none [] refl says)
-field_is (first ∷ rest) log_n r p says fits =
-    let small = small_costs log_n r p fits in
-    let is_letter = letter-of_value first log_n (letter_said (letter_value first) log_n says.log_n_is small.0) in
-    let of_r : rest ≡ letters_of 5 r ++ drop 5 rest = five_in_front rest r says.r_is in
-    let of_p : drop 5 rest ≡ letters_of 5 p ++ drop 5 (drop 5 rest) = five_in_front (drop 5 rest) p says.p_is in
-    ap (λ byte. byte ∷ rest) (sym is_letter.1)
-    ∙ ap (λ z. letter log_n ∷ z)
-    (of_r ∙ ap (λ z. letters_of 5 r ++ z) (of_p ∙ ap (λ z. letters_of 5 p ++ z) (drop-drop 5 5 rest))
-    ∙ sym (append_assoc (letters_of 5 r) (letters_of 5 p) (drop 10 rest)))
+-- the numbers that parameters were made of
+pub made_of : (log_n : ℕ) (r p : Option ℕ) (c : Parameters) → params_of log_n r p ≡ Ok c
+    → AreAccepted c.log_n c.r c.p × (log_n ≡ c.log_n) × (r ≡ Some c.r) × (p ≡ Some c.p)
+made_of log_n None p c is = absurd cc
+made_of log_n (Some r) None c is = absurd cc
+made_of log_n (Some r) (Some p) c is =
+    let made = checked_ok log_n r p c is in
+    rw (← made.1) (made.0, refl, refl, refl)
 
--- how the costs and the salt of a field are read
-pub ruleset reading_field = (malformed, empty_says_none, to_the_end)
+-- a field that encodes accepted parameters begins with their letters
+pub field_is : (field : List ℕ) (c : Parameters) → field_params field ≡ Ok c → field ≡ cost_letters c.log_n c.r c.p ++ drop 11 field
+unfolding field_params
+field_is [] c says = absurd cc
+field_is (first ∷ rest) c says =
+    let made = made_of _ _ _ c (ok_if (nat_lt first 128) _ EncodingInvalid says).1 in
+    let small = small_params c.log_n c.r c.p made.0 in
+    let is_letter = letter-of_value first c.log_n (letter_said (letter_value first) c.log_n made.1 small.0) in
+    let of_r : rest ≡ letters_of 5 c.r ++ drop 5 rest = five_in_front rest c.r made.2 in
+    let of_p : drop 5 rest ≡ letters_of 5 c.p ++ drop 5 (drop 5 rest) = five_in_front (drop 5 rest) c.p made.3 in
+    ap (λ byte. byte ∷ rest) (sym is_letter.1)
+    ∙ ap (λ z. letter c.log_n ∷ z)
+    (of_r ∙ ap (λ z. letters_of 5 c.r ++ z) (of_p ∙ ap (λ z. letters_of 5 c.p ++ z) (drop-drop 5 5 rest))
+    ∙ sym (append_assoc (letters_of 5 c.r) (letters_of 5 c.p) (drop 10 rest)))
+
+-- how the parameters and the salt of a field are read
+pub ruleset reading_field = (empty_says_none, to_the_end)

@@ -1,113 +1,128 @@
--- Facts on `$7$` hashes: a text says one hash or is refused, and says it as it was written.
-use Rattle.std.proofs.Common.{◌≡◌, ℕ, List, [], ◌∷◌, Ok, Err, refl, sym, ap, ap₂, subst, ◌∙◌, ◌++◌}
-use Rattle.std.specs.Prelude.{IfOk, Result}
-use Rattle.password_hash.specs.Crypt64.{Crypt64, crypt64_of}
+-- Facts on `$7$` hashes: what the parts of a text are read as, and the text of a hash.
+use Rattle.std.proofs.Common.{◌≡◌, ◌≢◌, ℕ, List, [], ◌∷◌, ◌++◌, length, drop, Some, None, Ok, Err, refl, ap, ◌∙◌, lit<}
+use Rattle.std.specs.Prelude.{Option, Result}
+use Rattle.std.specs.Str.{bytes_eq}
+use Rattle.std.proofs.lemmas.Slice.Eq.{bytes_eq-Decides}
+use Rattle.password_hash.specs.Crypt64.{Crypt64, IsCrypt64, crypt64_of}
 use Rattle.password_hash.specs.Mcf.{IsMcfText}
-use Rattle.password_hash.specs.Parts.{parts_text}
+use Rattle.password_hash.specs.Parts.{parts_of, parts_text}
 use Rattle.password_hash.specs.Refusal.{Refusal}
-use Rattle.password_hash.proofs.McfFacts.{IsMcfText-one}
-use Rattle.password_hash.proofs.OneReading.{Crypt64-one}
-use Rattle.scrypt.specs.Accepted.{Parameters, without_len}
-use Rattle.scrypt.specs.KeyOfParams.{key_by}
-use Rattle.scrypt.proofs.KeyFacts.{length-key_by}
+use Rattle.password_hash.specs.Refusal as refusals
+use Rattle.password_hash.proofs.McfFacts.{IsMcfText-from_parts, parts_of-IsMcfText}
+use Rattle.scrypt.specs.Accepted.{IsOutputLen, Parameters, is_output_len}
+use Rattle.scrypt.specs.McfCosts.{cost_letters, field_params}
+use Rattle.scrypt.specs.McfHash.{mcf_id, read_fields, read_mcf, read_parts, salt_and_key, with_key}
+use Rattle.scrypt.specs.McfKey.{decoded}
+use Rattle.scrypt.specs.Reading.{ReadError, Algorithm, EncodingInvalid, OutputSize, Stored, reported, stored_of}
+use Rattle.scrypt.proofs.AcceptedFacts.{not_true, ok_if, output_len_decided}
 use Rattle.scrypt.proofs.McfCostsFacts.{field_is}
-use Rattle.scrypt.specs.McfCosts.{EncodesCosts, cost_letters, ReadsField, malformed, not_accepted, accepted}
-use Rattle.scrypt.specs.McfHash.{HasCosts, IsWhole, ReadIsRefused, other_id, no_field, bad_costs, no_key, bad_key, third_field, bad_key_len, Accepts, mcf_id, IsMadeHash}
-use Rattle.scrypt.specs.Hashing.{key_len_or_default}
+use Rattle.scrypt.proofs.ReadingFacts.{reported_ok}
+use Rattle.scrypt.proofs.McfKeyFacts.{decoded_is, encoded_is, not_decoded}
 
--- a text has one id and one list of fields
-pub fields_once : {text id other : List ℕ} {fields others : List (List ℕ)} → IsMcfText text id fields → IsMcfText text other others → (id ≡ other) × (fields ≡ others)
-fields_once {text} {id} {other} {fields} {others} first second =
-    let a = IsMcfText-one text id fields first in
-    let b = IsMcfText-one text other others second in
-    (sym a.0 ∙ b.0, sym a.1 ∙ b.1)
+-- what a text of some fields is read as
 
--- a field says one log_n, one r and one p
-says_once : {field : List ℕ} {log_n r p log_n' r' p' : ℕ} → EncodesCosts field log_n r p → EncodesCosts field log_n' r' p'
-    → (log_n ≡ log_n') × (r ≡ r') × (p ≡ p')
-says_once first second =
-    let r_is = sym first.r_is ∙ second.r_is in
-    let p_is = sym first.p_is ∙ second.p_is in
-    (sym first.log_n_is ∙ second.log_n_is, cc, cc)
+pub read_seven : {text id : List ℕ} {fields : List (List ℕ)} → IsMcfText text id fields → id ≡ mcf_id
+    → read_mcf text ≡ reported (read_fields fields)
+unfolding read_mcf
+read_seven {text} {id} {fields} is seven = rw (parts_of-IsMcfText text id fields is, (bytes_eq-Decides id mcf_id).1 seven) refl
 
--- a field is read in one way
-pub field_once : {field : List ℕ} {out out' : Result (Parameters × List ℕ) Refusal} → ReadsField field out → ReadsField field out' → out ≡ out'
-field_once (malformed none) (malformed none') = refl
-field_once (malformed none) (not_accepted {log_n} {r} {p} says refused) = absurd (none log_n r p says)
-field_once (malformed none) (accepted {log_n} {r} {p} says good) = absurd (none log_n r p says)
-field_once (not_accepted {log_n} {r} {p} says refused) (malformed none) = absurd (none log_n r p says)
-field_once (not_accepted says refused) (not_accepted says' refused') = refl
-field_once (not_accepted says refused) (accepted says' good) =
-    let same = says_once says says' in
-    absurd (refused (rw (same.0, same.1, same.2) good))
-field_once (accepted {log_n} {r} {p} says good) (malformed none) = absurd (none log_n r p says)
-field_once (accepted says good) (not_accepted says' refused) =
-    let same = says_once says says' in
-    absurd (refused (rw (← same.0, ← same.1, ← same.2) good))
-field_once (accepted says good) (accepted says' good') =
-    let same = says_once says says' in
-    rw (same.0, same.1, same.2) refl
+pub read_other : {text id : List ℕ} {fields : List (List ℕ)} → IsMcfText text id fields → id ≢ mcf_id
+    → read_mcf text ≡ Err refusals.Algorithm
+unfolding read_mcf
+read_other {text} {id} {fields} is other =
+    let differs = not_true (bytes_eq id mcf_id) (λ same. other ((bytes_eq-Decides id mcf_id).0 same)) in
+    rw (parts_of-IsMcfText text id fields is, differs) refl
 
--- the first field and those after it are one, and so are the costs and the salt
-costs_once : {text : List ℕ} {c c' : Parameters} {salt salt' : List ℕ} {after after' : List (List ℕ)}
-    → HasCosts text c salt after → HasCosts text c' salt' after' → (c ≡ c') × (salt ≡ salt') × (after ≡ after')
-costs_once {text} {c} {c'} {salt} {salt'} {after} {after'} first second =
-    let fields = (fields_once first.parts second.parts).1 in
-    let field : first.field ≡ second.field = cc in
-    let same = field_once (subst (λ f. ReadsField f (Ok (c, salt))) field first.costs) second.costs in
-    let pair : ◌≡◌ {A = Parameters × List ℕ} (c, salt) (c', salt') = cc in
-    (ap (λ z. z.0) pair, ap (λ z. z.1) pair, cc)
+-- the error of the parameters is that of the text
+pub params_refused : (params : Result Parameters ReadError) (parts : Result (List ℕ × List ℕ) ReadError) {why : Refusal}
+    → reported params ≡ Err why → reported (stored_of params parts) ≡ Err why
+params_refused (Ok c) parts is = absurd cc
+params_refused (Err error) parts is = cc
 
--- a text says one hash
-pub whole_once : {text : List ℕ} {c c' : Parameters} {salt salt' key key' : List ℕ} → IsWhole text c salt key → IsWhole text c' salt' key'
-    → (c ≡ c') × (salt ≡ salt') × (key ≡ key')
-whole_once {key = key} {key' = key'} first second =
-    let costs = costs_once first.has_costs second.has_costs in
-    let after = costs.2 in
-    let letters : first.letters ≡ second.letters = cc in
-    (costs.0, costs.1, Crypt64-one second.letters key key' (subst (λ l. Crypt64 key l) letters first.key_is) second.key_is)
+-- a key, by its length
 
--- a text that says a hash is not refused
-pub not_both : {text : List ℕ} {why : Refusal} {c : Parameters} {salt key : List ℕ} → ReadIsRefused text why → IsWhole text c salt key → ⊥
-not_both (other_id parts other) h = other (fields_once parts h.has_costs.parts).0
-not_both (no_field parts) h = let fields = (fields_once parts h.has_costs.parts).1 in cc
-not_both (bad_costs {field} {after} {why} parts refused) h =
-    let fields = (fields_once parts h.has_costs.parts).1 in
-    let same : field ≡ h.has_costs.field = cc in
-    let out = field_once (subst (λ f. ReadsField f (Err why)) same refused) h.has_costs.costs in
-    cc
-not_both (no_key costs) h = let after = (costs_once costs h.has_costs).2 in cc
-not_both {key = key} (bad_key {letters = letters} costs none) h =
-    let after = (costs_once costs h.has_costs).2 in
-    let same : letters ≡ h.letters = cc in
-    none (key, rw same h.key_is)
-not_both (third_field costs good) h = let after = (costs_once costs h.has_costs).2 in cc
-not_both {key = key} (bad_key_len {letters = letters} {key = other} costs is none) h =
-    let after = (costs_once costs h.has_costs).2 in
-    let same : letters ≡ h.letters = cc in
-    let keys = Crypt64-one h.letters other key (subst (λ l. Crypt64 other l) same is) h.key_is in
-    none (rw keys h.key_len)
+pub key_read : (salt : List ℕ) {letters key : List ℕ} → Crypt64 key letters → IsOutputLen (length key)
+    → salt_and_key salt (letters ∷ []) ≡ Ok (salt, key)
+unfolding with_key
+key_read salt {letters} {key} is fits = rw (decoded_is key letters is, (output_len_decided (length key)).1 fits) refl
 
--- a field that is read begins with the letters of its costs
-field_written : {field : List ℕ} {out : Result (Parameters × List ℕ) Refusal} → ReadsField field out
-    → IfOk out (λ read. field ≡ cost_letters read.0.log_n read.0.r read.0.p ++ read.1)
-field_written (malformed none) = tt
-field_written (not_accepted says refused) = tt
-field_written {field} (accepted {log_n} {r} {p} says good) = field_is field log_n r p says good
+pub key_refused : (salt : List ℕ) {letters key : List ℕ} → Crypt64 key letters → ¬ IsOutputLen (length key)
+    → salt_and_key salt (letters ∷ []) ≡ Err OutputSize
+unfolding with_key
+key_refused salt {letters} {key} is long =
+    rw (decoded_is key letters is, not_true (is_output_len (length key)) (λ fits. long ((output_len_decided (length key)).0 fits))) refl
+
+pub no_key : (salt : List ℕ) {letters : List ℕ} (after : List (List ℕ)) → ¬ IsCrypt64 letters
+    → salt_and_key salt (letters ∷ after) ≡ Err EncodingInvalid
+unfolding with_key
+no_key salt {letters} [] none = rw (not_decoded letters none) refl
+no_key salt (third ∷ after) none = refl
+
+-- What a text that is read as a hash consists of.
+pub record IsTextOf (text : List ℕ) (s : Stored) : Type 0 where
+  pub field : List ℕ
+  pub letters : List ℕ
+  pub parts : parts_of text ≡ [] ∷ mcf_id ∷ field ∷ letters ∷ []
+  pub params : field_params field ≡ Ok s.params
+  pub salt : drop 11 field ≡ s.salt
+  pub key : Crypt64 s.key letters
+
+with_key_read : (salt : List ℕ) (key : Option (List ℕ)) (parts : List ℕ × List ℕ) → with_key salt key ≡ Ok parts
+    → (salt ≡ parts.0) × (key ≡ Some parts.1)
+unfolding with_key
+with_key_read salt None parts is = absurd cc
+with_key_read salt (Some key) parts is =
+    let both = ok_if (is_output_len (length key)) (Ok (salt, key)) OutputSize is in
+    let same : ◌≡◌ {A = List ℕ × List ℕ} (salt, key) parts = cc both.1 in
+    (ap (λ z. z.0) same, ap (λ z. Some z.1) same)
+
+of_parts : (params : Result Parameters ReadError) (parts : Result (List ℕ × List ℕ) ReadError) (s : Stored) → stored_of params parts ≡ Ok s
+    → (params ≡ Ok s.params) × (parts ≡ Ok (s.salt, s.key))
+of_parts (Err why) parts s is = absurd cc
+of_parts (Ok c) (Err why) s is = absurd cc
+of_parts (Ok c) (Ok parts) s is =
+    let made : Stored = record { params = c; salt = parts.0; key = parts.1 } in
+    let same : made ≡ s = cc in
+    (ap (λ (z : Stored). Ok z.params) same, ap (λ (z : Stored). Ok (z.salt, z.key)) same)
+
+fields_read : (text : List ℕ) (fields : List (List ℕ)) (s : Stored) → parts_of text ≡ [] ∷ mcf_id ∷ fields → read_fields fields ≡ Ok s
+    → IsTextOf text s
+fields_read text [] s parts is = absurd cc
+fields_read text (field ∷ after) s parts is =
+    let both = of_parts (field_params field) (salt_and_key (drop 11 field) after) s is in
+    at after parts both.0 both.1
+  where
+    at : (after : List (List ℕ)) → parts_of text ≡ [] ∷ mcf_id ∷ field ∷ after → field_params field ≡ Ok s.params
+        → salt_and_key (drop 11 field) after ≡ Ok (s.salt, s.key) → IsTextOf text s
+    at [] parts params key = absurd cc
+    at (letters ∷ third ∷ after) parts params key = absurd cc
+    at (letters ∷ []) parts params key =
+        let read = with_key_read (drop 11 field) (decoded letters) (s.salt, s.key) key in
+        record { field = field; letters = letters; parts = parts; params = params; salt = read.0; key = encoded_is s.key letters read.1 }
+
+parts_read : (text : List ℕ) (parts : List (List ℕ)) (s : Stored) → parts_of text ≡ parts → read_parts parts ≡ Ok s → IsTextOf text s
+parts_read text [] s parts is = absurd cc
+parts_read text ((byte ∷ first) ∷ rest) s parts is = absurd cc
+parts_read text ([] ∷ []) s parts is = absurd cc
+parts_read text ([] ∷ id ∷ fields) s parts is =
+    let both = ok_if (bytes_eq id mcf_id) (read_fields fields) Algorithm is in
+    fields_read text fields s (parts ∙ ap (λ z. [] ∷ z ∷ fields) ((bytes_eq-Decides id mcf_id).0 both.0)) both.1
+
+pub is_text_of : {text : List ℕ} {s : Stored} → read_mcf text ≡ Ok s → IsTextOf text s
+unfolding read_mcf
+is_text_of {text} {s} is = parts_read text (parts_of text) s refl (reported_ok (read_parts (parts_of text)) is)
+
+-- such a text is a `$7$` text
+pub is_mcf : {text : List ℕ} {s : Stored} → read_mcf text ≡ Ok s → (fields : List (List ℕ)) × IsMcfText text mcf_id fields
+is_mcf {text} is = let t = is_text_of is in (_, IsMcfText-from_parts text mcf_id _ t.parts (lit< tt, refl))
 
 -- a hash has one text
-pub text_of : {text : List ℕ} {c : Parameters} {salt key : List ℕ} → IsWhole text c salt key
-    → text ≡ parts_text (mcf_id ∷ (cost_letters c.log_n c.r c.p ++ salt) ∷ crypt64_of key ∷ [])
-text_of h =
-    h.has_costs.parts.written
-    ∙ ap₂ (λ field letters. parts_text (mcf_id ∷ field ∷ letters ∷ [])) (field_written h.has_costs.costs) h.key_is.encoding
-
--- a made hash accepts its password
-pub made_accepted : (c : Parameters) (password salt text : List ℕ) → IsMadeHash c password salt text → Accepts password text
-made_accepted c password salt text made = record {
-  costs = without_len c;
-  salt = crypt64_of salt;
-  stored = key_by c password (crypt64_of salt) (key_len_or_default c);
-  whole = made;
-  right = ap (key_by c password (crypt64_of salt)) (sym (length-key_by c password (crypt64_of salt) (key_len_or_default c)));
-}
+pub text_of : {text : List ℕ} {s : Stored} → read_mcf text ≡ Ok s
+    → text ≡ parts_text (mcf_id ∷ (cost_letters s.params.log_n s.params.r s.params.p ++ s.salt) ∷ crypt64_of s.key ∷ [])
+text_of {text} {s} is =
+    let t = is_text_of is in
+    let written = (IsMcfText-from_parts text mcf_id (t.field ∷ t.letters ∷ []) t.parts (lit< tt, refl)).written in
+    let field : t.field ≡ cost_letters s.params.log_n s.params.r s.params.p ++ s.salt =
+    field_is t.field s.params t.params ∙ ap (λ z. cost_letters s.params.log_n s.params.r s.params.p ++ z) t.salt in
+    written ∙ ap (λ z. parts_text (mcf_id ∷ z ∷ t.letters ∷ [])) field
+    ∙ ap (λ z. parts_text (mcf_id ∷ (cost_letters s.params.log_n s.params.r s.params.p ++ s.salt) ∷ z ∷ [])) t.key.encoding

@@ -1,12 +1,14 @@
 -- The text that hashing writes is that of the hash.
-use Rattle.std.proofs.Common.{◌≡◌, ◌≢◌, ◌∙◌, ℕ, zero, suc, ◌+◌, ◌-◌, ◌^◌, ◌%◌, ◌<◌, ◌≤◌, List, [], ◌∷◌, ◌++◌, length, take, drop, set, Some, Ok, refl, sym, ap, subst, arith, lit<, append_assoc, length-append, length-drop}
-use Rattle.std.specs.Prelude.{All, IfSome, codes, unwrap_or}
+use Rattle.std.proofs.Common.{◌≡◌, ◌≢◌, ℕ, zero, suc, ◌+◌, ◌-◌, ◌^◌, ◌%◌, ◌<◌, ◌≤◌, List, [], ◌∷◌, ◌++◌, length, take, drop, set}
+use Rattle.std.proofs.Common.{Some, Ok, true, ◌∙◌, refl, sym, ap, ap₂, arith, lit<, append_assoc, length-append, length-drop}
+use Rattle.std.specs.Prelude.{All, IfSome, codes, nat_lt}
+use Rattle.std.proofs.lemmas.Bool.{lt-ltb}
 use Rattle.std.specs.Str.{IsAscii}
 use Rattle.std.proofs.lemmas.List.{append-nil, drop_all, drop_at, take_at, drop-drop}
 use Rattle.std.proofs.lemmas.List.Elements.{All-nil, All-cons, All-append, All-from_get_or, All-head, All-tail, All-weaker}
 use borrow.Rule.Slice.PartMut.{put_mid}
 use Rattle.password_hash.specs.Crypt64.{letter, letters_of, crypt64_of, encoded_len}
-use Rattle.password_hash.specs.Mcf.{IsField}
+use Rattle.password_hash.specs.Mcf.{IsField, IsMcfText}
 use Rattle.password_hash.specs.Parts.{dollar}
 use Rattle.password_hash.proofs.AlphabetFacts.{letter-ascii, letter_value-letter}
 use Rattle.password_hash.proofs.Crypt64Facts.{IsPlain, crypt64_of-plain, length-letters_of, letters_of-plain}
@@ -15,16 +17,18 @@ use Rattle.password_hash.proofs.McfFacts.{IsField-crypt64_of}
 use Rattle.scrypt.specs.Accepted.{AreAccepted, IsOutputLen, IsStoredLen, Parameters, without_len}
 use Rattle.scrypt.specs.KeyOfParams.{key_by}
 use Rattle.scrypt.proofs.KeyFacts.{key_by-are_bytes, length-key_by}
-use Rattle.scrypt.specs.McfCosts.{five_letter_number, cost_letters, costs_text, EncodesCosts, ReadsField, accepted}
-use Rattle.scrypt.specs.McfHash.{IsWhole, IsMadeHash, made_text_len}
+use Rattle.scrypt.specs.McfCosts.{five_letter_number, cost_letters, costs_text, field_params, params_of}
+use Rattle.scrypt.specs.McfHash.{IsMadeHash, made_text_len, mcf_id, read_mcf}
+use Rattle.scrypt.specs.Reading.{reported, stored_of}
 use Rattle.scrypt.specs.Hashing.{key_len_or_default}
-use Rattle.scrypt.proofs.AcceptedFacts.{key_len_or_default_stored, small_costs, small_log_n}
+use Rattle.scrypt.proofs.AcceptedFacts.{checked_is, key_len_or_default_stored, small_params, small_log_n}
 use Rattle.scrypt.proofs.McfCostsFacts.{five_letter_number_letters_of, to_the_end}
-use Rattle.scrypt.proofs.McfHashFacts.{text_of}
-use Rattle.scrypt.proofs.PhcHashFacts.{made_accepts, made_is_text}
+use Rattle.scrypt.proofs.McfHashFacts.{key_read, read_seven, text_of}
+use Rattle.scrypt.proofs.PhcHashFacts.{made_is_text}
 
 -- what is left by a write from one place to the end
-pub put_to_the_end : (place : ℕ) (text new : List ℕ) → place ≤ length text → put_mid place (length text - place) text new ≡ take place text ++ new
+pub put_to_the_end : (place : ℕ) (text new : List ℕ) → place ≤ length text
+    → put_mid place (length text - place) text new ≡ take place text ++ new
 put_to_the_end place text new inside =
     ap (λ rest. take place text ++ (new ++ rest)) (drop_all (length text - place) (drop place text) (omega (arith, length-drop place text)))
     ∙ ap (λ after. take place text ++ after) (append-nil new)
@@ -40,7 +44,8 @@ pub put_after_dollar : (out letters new : List ℕ) → length out ≡ 1 + lengt
 put_after_dollar [] letters new count written = absurd (omega arith)
 put_after_dollar (first ∷ out) letters new count written =
     put_to_the_end 1 (dollar ∷ out) new (omega arith)
-    ∙ ap (λ rest. dollar ∷ rest) (written ∙ ap (λ room. letters ++ drop (length letters) room) (to_the_end (dollar ∷ out) (dollar ∷ out) 1 refl)
+    ∙ ap (λ rest. dollar ∷ rest)
+    (written ∙ ap (λ room. letters ++ drop (length letters) room) (to_the_end (dollar ∷ out) (dollar ∷ out) 1 refl)
     ∙ filled letters out (omega arith))
 
 -- letters written after the front of a text
@@ -74,35 +79,29 @@ count_letters log_n r p = omega (arith, length-append (letters_of 5 r) (letters_
 pub count_text : (c : Parameters) → length (costs_text c) ≡ 14
 count_text c = omega (arith, count_letters c.log_n c.r c.p)
 
--- they say the numbers
-letters_say : (log_n r p : ℕ) (salt : List ℕ) → log_n < 64 → r < 2 ^ 30 → p < 2 ^ 30
-    → EncodesCosts (cost_letters log_n r p ++ salt) log_n r p
-letters_say log_n r p salt small small_r small_p =
-    let r_letters = letters_of 5 r in
-    let p_letters = letters_of 5 p in
+-- the field that they begin is read as the parameters
+pub field_read : (c : Parameters) (salt : List ℕ) → AreAccepted c.log_n c.r c.p
+    → field_params (cost_letters c.log_n c.r c.p ++ salt) ≡ Ok (without_len c)
+unfolding field_params
+field_read c salt good =
+    let small = small_params c.log_n c.r c.p good in
+    let r_letters = letters_of 5 c.r in
+    let p_letters = letters_of 5 c.p in
     let from_r : (r_letters ++ p_letters) ++ salt ≡ r_letters ++ (p_letters ++ salt) = append_assoc r_letters p_letters salt in
     let from_p : drop 5 ((r_letters ++ p_letters) ++ salt) ≡ p_letters ++ salt =
-    ap (drop 5) from_r ∙ drop_at r_letters (p_letters ++ salt) 5 (length-letters_of 5 r) in
-    let r_is : r % 2 ^ 30 ≡ r = omega arith in
-    let p_is : p % 2 ^ 30 ≡ p = omega arith in
-    record {
-      first_byte = (letter-ascii log_n small).0;
-      log_n_is = ap (λ value. unwrap_or value 255) (letter_value-letter log_n small);
-      r_is = ap five_letter_number from_r ∙ five_letter_number_letters_of r (p_letters ++ salt) ∙ ap Some r_is;
-      p_is = ap five_letter_number from_p ∙ five_letter_number_letters_of p salt ∙ ap Some p_is;
-    }
+    ap (drop 5) from_r ∙ drop_at r_letters (p_letters ++ salt) 5 (length-letters_of 5 c.r) in
+    let r_is : c.r % 2 ^ 30 ≡ c.r = omega arith in
+    let p_is : c.p % 2 ^ 30 ≡ c.p = omega arith in
+    let says_r = ap five_letter_number from_r ∙ five_letter_number_letters_of c.r (p_letters ++ salt) ∙ ap Some r_is in
+    let says_p = ap five_letter_number from_p ∙ five_letter_number_letters_of c.p salt ∙ ap Some p_is in
+    let first : nat_lt (letter c.log_n) 128 ≡ true = lt-ltb (letter c.log_n) 128 (letter-ascii c.log_n (omega (arith, small.0))).0 in
+    let log_n = letter_value-letter c.log_n (omega (arith, small.0)) in
+    rw (first, log_n) (ap₂ (params_of c.log_n) says_r says_p ∙ checked_is c.log_n c.r c.p good)
 
--- so the field is read as the costs and the salt
-pub field_read : (c : Parameters) (salt : List ℕ) → AreAccepted c.log_n c.r c.p → ReadsField (cost_letters c.log_n c.r c.p ++ salt) (Ok (without_len c, salt))
-field_read c salt good =
-    let small = small_costs c.log_n c.r c.p good in
-    let says = letters_say c.log_n c.r c.p salt (omega (arith, small.0)) small.1 small.2 in
-    let rest : drop 11 (cost_letters c.log_n c.r c.p ++ salt) ≡ salt = drop_at (cost_letters c.log_n c.r c.p) salt 11 (count_letters c.log_n c.r c.p) in
-    subst (λ s. ReadsField (cost_letters c.log_n c.r c.p ++ salt) (Ok (without_len c, s))) rest (accepted says good)
-
--- the text of some costs, a salt without a dollar, and a key
-pub text_is : (c : Parameters) (salt key : List ℕ) → AreAccepted c.log_n c.r c.p → IsField salt → All (λ byte. byte < 256) key → IsOutputLen (length key)
-    → IsWhole (costs_text c ++ (salt ++ dollar ∷ crypt64_of key)) (without_len c) salt key
+-- the text of some parameters, a salt without a dollar, and a key
+pub text_is : (c : Parameters) (salt key : List ℕ) → AreAccepted c.log_n c.r c.p → IsField salt → All (λ byte. byte < 256) key
+    → IsOutputLen (length key)
+    → read_mcf (costs_text c ++ (salt ++ dollar ∷ crypt64_of key)) ≡ Ok (record { params = without_len c; salt = salt; key = key })
 text_is c salt key good no_dollar are_bytes allowed =
     let letters = cost_letters c.log_n c.r c.p in
     let field = letters ++ salt in
@@ -110,21 +109,16 @@ text_is c salt key good no_dollar are_bytes allowed =
     let field_is : IsField field =
     All-append (λ byte. byte ≢ dollar) letters salt
     (All-weaker IsPlain (λ byte. byte ≢ dollar) (λ byte plain. plain.1) letters (plain_letters c.log_n c.r c.p (omega arith))) no_dollar in
-    record {
-      letters = crypt64_of key;
-      has_costs = record {
-        field = field;
-        parts = record {
-          is_id = (lit< tt, refl);
-          are_fields = All-cons IsField field (crypt64_of key ∷ []) field_is (All-cons IsField (crypt64_of key) [] (IsField-crypt64_of key) (All-nil IsField));
-          written = ap (λ rest. codes "$7$" ++ rest)
-              (sym (append_assoc letters salt (dollar ∷ crypt64_of key)) ∙ ap (λ z. field ++ (dollar ∷ z)) (sym (append-nil (crypt64_of key))));
-        };
-        costs = field_read c salt good;
-      };
-      key_is = record { are_bytes = are_bytes; encoding = refl };
-      key_len = allowed;
-    }
+    let parts : IsMcfText (costs_text c ++ (salt ++ dollar ∷ crypt64_of key)) mcf_id (field ∷ crypt64_of key ∷ []) = record {
+      is_id = (lit< tt, refl);
+      are_fields = All-cons IsField field (crypt64_of key ∷ []) field_is
+          (All-cons IsField (crypt64_of key) [] (IsField-crypt64_of key) (All-nil IsField));
+      written = ap (λ rest. codes "$7$" ++ rest)
+          (sym (append_assoc letters salt (dollar ∷ crypt64_of key)) ∙ ap (λ z. field ++ (dollar ∷ z)) (sym (append-nil (crypt64_of key))));
+    } in
+    let rest : drop 11 field ≡ salt = drop_at letters salt 11 (count_letters c.log_n c.r c.p) in
+    read_seven parts refl ∙ ap₂ (λ params parts. reported (stored_of params parts)) (field_read c salt good)
+    (key_read (drop 11 field) (record { are_bytes = are_bytes; encoding = refl }) allowed ∙ ap (λ z. Ok (z, key)) rest)
 
 -- the text that hashing makes
 pub stored_text : (c : Parameters) (password salt : List ℕ) → AreAccepted c.log_n c.r c.p → IsStoredLen (key_len_or_default c)
@@ -148,17 +142,19 @@ pub text_ascii : (c : Parameters) (salt key : List ℕ) → AreAccepted c.log_n 
     → IsAscii (costs_text c ++ (crypt64_of salt ++ dollar ∷ crypt64_of key))
 text_ascii c salt key good =
     let small : c.log_n ≤ 56 = small_log_n c.log_n c.r good.0 good.2 in
-    let plain = λ (letters : List ℕ) (each : All IsPlain letters). All-weaker IsPlain (λ byte. byte < 128) (λ byte is. is.0) letters each in
+    let ascii : ℕ → Type 0 = λ byte. byte < 128 in
+    let plain = λ (letters : List ℕ) (each : All IsPlain letters). All-weaker IsPlain ascii (λ byte is. is.0) letters each in
     let letters = cost_letters c.log_n c.r c.p in
-    let key_part = All-cons (λ byte. byte < 128) dollar (crypt64_of key) (lit< tt) (plain (crypt64_of key) (crypt64_of-plain key)) in
-    let after = All-append (λ byte. byte < 128) (crypt64_of salt) (dollar ∷ crypt64_of key) (plain (crypt64_of salt) (crypt64_of-plain salt)) key_part in
-    let rest = letters ++ (crypt64_of salt ++ dollar ∷ crypt64_of key) in
-    let whole = All-append (λ byte. byte < 128) letters (crypt64_of salt ++ dollar ∷ crypt64_of key) (plain letters (plain_letters c.log_n c.r c.p (omega arith))) after in
+    let last = dollar ∷ crypt64_of key in
+    let of_last = All-cons ascii dollar (crypt64_of key) (lit< tt) (plain (crypt64_of key) (crypt64_of-plain key)) in
+    let after = All-append ascii (crypt64_of salt) last (plain (crypt64_of salt) (crypt64_of-plain salt)) of_last in
+    let rest = letters ++ (crypt64_of salt ++ last) in
+    let whole = All-append ascii letters (crypt64_of salt ++ last) (plain letters (plain_letters c.log_n c.r c.p (omega arith))) after in
     ascii_by_index (36 ∷ 55 ∷ 36 ∷ rest)
-    (All-cons (λ byte. byte < 128) 36 (55 ∷ 36 ∷ rest) (lit< tt)
-    (All-cons (λ byte. byte < 128) 55 (36 ∷ rest) (lit< tt) (All-cons (λ byte. byte < 128) 36 rest (lit< tt) whole)))
+    (All-cons ascii 36 (55 ∷ 36 ∷ rest) (lit< tt)
+    (All-cons ascii 55 (36 ∷ rest) (lit< tt) (All-cons ascii 36 rest (lit< tt) whole)))
 
--- the text whose key is written at its end, after the costs and the salt
+-- the text whose key is written at its end, after the parameters and the salt
 
 pub salt_letters : (c : Parameters) (salt rest text : List ℕ) (at : ℕ) → text ≡ costs_text c ++ (salt ++ rest) → at ≡ 14 + length salt
     → take (at - 14) (drop 14 text) ≡ salt
@@ -197,4 +193,4 @@ made_length c password salt text good stored made =
     ap length (text_of made ∙ sym (text_of (stored_text c password salt good stored))) ∙ length-made_text c password salt
 
 -- hashes that were made, in both formats
-pub ruleset made_hashes = (made_accepts, made_is_text, made_text)
+pub ruleset made_hashes = (made_is_text, made_text)

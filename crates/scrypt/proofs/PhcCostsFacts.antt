@@ -1,4 +1,4 @@
--- Facts on costs as PHC parameters.
+-- Facts on parameters as PHC pairs.
 use Rattle.std.proofs.Common.{◌≢◌, ℕ, ◌^◌, ◌<◌, ◌≤◌, List, [], ◌∷◌, length, codes, get_or, refl, ap, arith, lit<, lit≤, length-append}
 use Rattle.std.specs.Prelude.{AllPairs, decimal}
 use Rattle.std.proofs.lemmas.Fmt.{length-decimal-le}

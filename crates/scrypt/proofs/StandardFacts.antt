@@ -44,7 +44,8 @@ abbrev second_mixed : List ℕ
 second_mixed = mixed_chunks (key_blocks (codes "password") (codes "NaCl") 16) 1 2 2
 
 second_blocks : key_blocks (codes "password") second_mixed 1 ≡ second_key
-unfolding hmac_sha256 sha256 first_words schedule rounds compress hash_after digest_bytes ro_mix walk row block_mix chain salsa20_8 double_round quarter_round
+unfolding hmac_sha256 sha256 first_words schedule rounds compress hash_after digest_bytes
+    ro_mix walk row block_mix chain salsa20_8 double_round quarter_round
 second_blocks = refl
 
 -- a key with two chunks of four blocks, by OpenSSL
@@ -93,9 +94,11 @@ thin_cost_of : (s : ℕ) → thin_cost [] [] 4 1 1 s ≡ 64 + 2 * recomputed_for
 unfolding extra_rows_of_chunks extra_rows
 thin_cost_of s =
     let chunk : pbkdf2 [] [] 128 ≡ mixed_input = pbkdf2_by_blocks [] [] 4 ∙ first_chunk in
+    let walked = walk_rows mixed_words 4 16 (walk mixed_words 4 0) in
     let rows : extra_rows mixed_words 4 s 16 ≡ recomputed_for s first_names =
-    extra_by_rows mixed_words 4 s 0 16 ∙ zero-add (recomputed_for s (walk_rows mixed_words 4 16 (walk mixed_words 4 0))) ∙ ap (recomputed_for s) first_rows in
-    let chunks : extra_rows_of_chunks mixed_input 4 s 1 1 ≡ recomputed_for s first_names = zero-add (extra_rows mixed_words 4 s 16) ∙ rows in
+    extra_by_rows mixed_words 4 s 0 16 ∙ zero-add (recomputed_for s walked) ∙ ap (recomputed_for s) first_rows in
+    let chunks : extra_rows_of_chunks mixed_input 4 s 1 1 ≡ recomputed_for s first_names =
+    zero-add (extra_rows mixed_words 4 s 16) ∙ rows in
     ap (λ b. 64 + 2 * extra_rows_of_chunks b 4 s 1 1) chunk ∙ ap (λ n. 64 + 2 * n) chunks
 
 -- with one row in 1, 2, 4, 8 and 16

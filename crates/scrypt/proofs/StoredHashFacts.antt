@@ -1,129 +1,95 @@
--- Facts on stored hashes of either format: a text has one hash, and what holds of the hash holds of the text.
-use Rattle.std.proofs.Common.{◌≡◌, ◌∙◌, ℕ, List, [], ◌∷◌, Bool, true, false, length, refl, sym, ap, subst}
-use Rattle.std.specs.Prelude.{Result, ◌||◌}
+-- Facts on stored hashes of either format: a text has one reading.
+use Rattle.std.proofs.Common.{◌≡◌, ◌≢◌, ◌∙◌, List, ℕ, [], ◌∷◌, Bool, true, false, Ok, Err, refl, sym, ap}
+use Rattle.std.specs.Prelude.{◌||◌, Option, Some, None, Result, length}
 use Rattle.std.proofs.lemmas.Bool.{false≢true}
 use Rattle.password_hash.proofs.OneReading.{one_reading}
-use Rattle.password_hash.specs.Mcf.{IsMcf, IsMcfText}
-use Rattle.password_hash.specs.McfViews.{hash_text}
-use Rattle.password_hash.specs.declared.mcf.hash_ref.PasswordHashRef.{PasswordHashRef}
+use Rattle.password_hash.specs.Mcf.{IsMcfText}
 use Rattle.password_hash.specs.Phc.{IsHashText}
-use Rattle.password_hash.specs.Refusal.{Refusal}
+use Rattle.password_hash.specs.Refusal.{Refusal, OutOfMemory, PasswordInvalid, refusal}
 use Rattle.password_hash.specs.declared.error.Error.{Error}
+use Rattle.password_hash.specs.declared.error.Error.TheVariants.{EncodingInvalid}
 use Rattle.password_hash.specs.declared.phc.hash.PasswordHash.{PasswordHash}
+use Rattle.scrypt.specs.McfHash.{mcf_id, read_mcf}
+use Rattle.scrypt.specs.PhcHash.{both_there, phc_params, scrypt_id}
 use Rattle.scrypt.specs.Accepted.{Parameters}
-use Rattle.scrypt.specs.McfHash.{IsWhole as IsMcfWhole, ReadIsRefused as McfReadIsRefused, mcf_id}
-use Rattle.scrypt.specs.PhcHash.{IsWhole as IsPhcWhole, ReadIsRefused as PhcReadIsRefused, scrypt_id}
-use Rattle.scrypt.specs.StoredHash.{HasParameters, IsStoredText, IsTextOf, IsWhole, ReadIsRefused, is_mcf_text, mcf, no_hash, of_hash, phc}
-use Rattle.scrypt.specs.StoredRead.{AreParamsOf, IsHashOf}
+use Rattle.scrypt.specs.Reading.{Stored, mapped, stored_of}
+use Rattle.scrypt.specs.StoredHash.{HasReading, IsStoredText, Reads, StoredText, is_mcf_text, key_len_or_zero, mcf}
+use Rattle.scrypt.specs.StoredHash.{of_hash, of_mcf, of_none, of_phc, phc}
+use Rattle.scrypt.specs.StoredRead.{IsHashOf, stored_text}
 use Rattle.scrypt.specs.declared.stored_hash.Format.{Format}
 use Rattle.scrypt.specs.declared.stored_hash.Format.TheVariants.{Mcf, Phc}
-use Rattle.scrypt.proofs.AlikeFacts.{AreAlike}
-use Rattle.scrypt.proofs.VerdictFacts.{IsReadOnce}
-use Rattle.scrypt.proofs.McfHashFacts.{whole_once as mcf_whole_once, not_both as mcf_not_both}
-use Rattle.scrypt.proofs.McfRefusalFacts.{refused_once as mcf_refused_once}
-use Rattle.scrypt.proofs.PhcHashFacts.{whole_once as phc_whole_once, not_both as phc_not_both, of_costs_once, refused_once as phc_refused_once}
+use Rattle.scrypt.proofs.McfHashFacts.{is_mcf}
+use Rattle.scrypt.proofs.ReadingFacts.{otherwise, part_otherwise}
 
--- the text of a hash for which something holds is that of a hash
-pub is_stored : {OfMcf : List ℕ → Type 0} {OfPhc : PasswordHash → Type 0} {text : List ℕ} → IsTextOf OfMcf OfPhc text → IsStoredText text
-is_stored (mcf seven modular of) = mcf seven modular tt
-is_stored (phc other is of) = phc other is tt
+-- the text of a hash that was read is read so
+pub reads_as : (text : List ℕ) (format : Format) → IsHashOf text format → Reads text (stored_text text format)
+reads_as text (Mcf hash) read = mcf read.0 read.1
+reads_as text (Phc hash params) read = phc read.0 read.1
 
--- what holds of a text that is read as a `$7$` text
-pub of_mcf : {OfMcf : List ℕ → Type 0} {OfPhc : PasswordHash → Type 0} {text : List ℕ} → is_mcf_text text ≡ true
-    → IsTextOf OfMcf OfPhc text → OfMcf text
-of_mcf seven (mcf again modular of) = of
-of_mcf seven (phc other is of) = absurd (false≢true (sym other ∙ seven))
+pub reads_text : (text : List ℕ) (format : Format) → IsHashOf text format → Reads (stored_text text format).text (stored_text text format)
+reads_text text (Mcf hash) read = mcf read.0 read.1
+reads_text text (Phc hash params) read = phc read.0 read.1
 
--- what holds of a text that is read as this PHC hash
-pub of_phc : {OfMcf : List ℕ → Type 0} {OfPhc : PasswordHash → Type 0} {text : List ℕ} {hash : PasswordHash} → is_mcf_text text ≡ false
-    → IsHashText text hash → IsTextOf OfMcf OfPhc text → OfPhc hash
-of_phc other is (mcf seven modular of) = absurd (false≢true (sym other ∙ seven))
-of_phc {OfPhc = OfPhc} {text = text} {hash = hash} other is (phc {hash = again} other' is' of) =
-    subst OfPhc (one_reading text again hash is' is) of
+-- a text has one reading
+pub read_once : (text : List ℕ) (one other : StoredText) → Reads text one → Reads text other → one ≡ other
+read_once text one other (mcf seven modular) (mcf seven' modular') = refl
+read_once text one other (mcf seven modular) (phc differs is) = absurd (false≢true (sym differs ∙ seven))
+read_once text one other (phc differs is) (mcf seven modular) = absurd (false≢true (sym differs ∙ seven))
+read_once text one other (phc {hash = hash} differs is) (phc {hash = again} differs' is') =
+    ap (of_phc text) (one_reading text hash again is is')
 
--- Two things that hold of the hash of a text hold of one hash.
-of_both : {OfMcf AlsoMcf : List ℕ → Type 0} {OfPhc AlsoPhc : PasswordHash → Type 0} {text : List ℕ} (Out : Type 0)
-    → (OfMcf text → AlsoMcf text → Out) → ((hash : PasswordHash) → OfPhc hash → AlsoPhc hash → Out)
-    → IsTextOf OfMcf OfPhc text → IsTextOf AlsoMcf AlsoPhc text → Out
-of_both Out by_mcf by_phc (mcf seven modular of) second = by_mcf of (of_mcf seven second)
-of_both Out by_mcf by_phc (phc {hash = hash} other is of) second = by_phc hash of (of_phc other is second)
+pub whole_once : (text : List ℕ) (one other : Result Stored Refusal) → HasReading text one → HasReading text other → one ≡ other
+whole_once text one other (of_hash reads) (of_hash reads') = ap (λ read. read.whole) (read_once text _ _ reads reads')
+whole_once text one other (of_hash reads) (of_none none) = absurd (none (_, reads))
+whole_once text one other (of_none none) (of_hash reads) = absurd (none (_, reads))
+whole_once text one other (of_none none) (of_none none') = refl
 
--- a text has one set of parameters, one salt and one key
-pub whole_once : {text : List ℕ} {c c' : Parameters} {salt salt' key key' : List ℕ} → IsWhole text c salt key → IsWhole text c' salt' key'
-    → (c ≡ c') × (salt ≡ salt') × (key ≡ key')
-whole_once = of_both _ mcf_whole_once (λ _. phc_whole_once)
+-- a text that is not read has the reading of its error
+pub none_read : (text : List ℕ) (e : Error) → ¬ IsStoredText text → e ≡ EncodingInvalid → HasReading text (Err (refusal e))
+none_read text e none is = rw is (of_none none)
 
--- a text that cannot be read is not whole
-pub not_both : {text : List ℕ} {why : Refusal} {c : Parameters} {salt key : List ℕ} → ReadIsRefused text why → IsWhole text c salt key → ⊥
-not_both (no_hash none) whole = none (is_stored whole)
-not_both (of_hash h) whole = of_both _ mcf_not_both (λ _. phc_not_both) h whole
+-- the parameters and the whole of a hash
 
--- a text cannot be read for one reason
-pub refused_once : {text : List ℕ} {why why' : Refusal} → ReadIsRefused text why → ReadIsRefused text why' → why ≡ why'
-refused_once (no_hash none) (no_hash none') = refl
-refused_once (no_hash none) (of_hash h) = absurd (none (is_stored h))
-refused_once (of_hash h) (no_hash none) = absurd (none (is_stored h))
-refused_once (of_hash h) (of_hash h') = of_both _ mcf_refused_once (λ _. phc_refused_once) h h'
+mapped_refused : {A B : Type 0} (f : A → B) (reading : Result A Refusal) (why : Refusal) → mapped f reading ≡ Err why → reading ≡ Err why
+mapped_refused f (Ok x) why is = absurd cc
+mapped_refused f (Err other) why is = let same : other ≡ why = cc in ap Err same
 
--- a text has one set of parameters and one length of its key
-pub parameters_once : {text : List ℕ} {c c' : Parameters} {len len' : ℕ} → HasParameters text c len → HasParameters text c' len'
-    → (c ≡ c') × (len ≡ len')
-parameters_once = of_both _
-    (λ first second. let same = mcf_whole_once first.2 second.2 in (same.0, sym first.3 ∙ ap length same.2 ∙ second.3))
-    (λ _ first second. (of_costs_once first.0 second.0, sym first.1 ∙ second.1))
+phc_whole : (params : Result Parameters Refusal) (salt key : Option (List ℕ)) (s : Stored)
+    → stored_of params (both_there salt key) ≡ Ok s
+    → mapped {B = Parameters × ℕ} (λ c. (c, key_len_or_zero key)) params ≡ Ok (s.params, length s.key)
+phc_whole (Ok c) (Some salt) (Some key) s is =
+    let read : Stored = record { params = c; salt = salt; key = key } in
+    let same : read ≡ s = cc in
+    ap (λ (z : Stored). let pair : Parameters × ℕ = (z.params, length z.key) in Ok pair) same
+phc_whole (Ok c) (Some salt) None s is = absurd cc
+phc_whole (Ok c) None key s is = absurd cc
+phc_whole (Err why) salt key s is = absurd cc
 
--- a text is read in one way
-pub read_once : (text : List ℕ) → IsReadOnce (IsWhole text) (ReadIsRefused text)
-read_once text =
-    record { whole_once = λ _ _ _ _ _ _. whole_once; refused_once = λ _ _. refused_once; not_both = λ _ _ _ _. not_both }
+pub params_of_whole : (text : List ℕ) (hash : StoredText) (s : Stored) → Reads text hash → hash.whole ≡ Ok s
+    → hash.params ≡ Ok (s.params, length s.key)
+params_of_whole text hash s (mcf seven modular) is = ap (mapped (λ z. (z.params, length z.key))) is
+params_of_whole text hash s (phc {hash = read} differs written) is = phc_whole (phc_params read) read.salt read.hash s is
 
--- the text of a hash that was read is stored
-pub stored_as : {text self : List ℕ} (format : Format) → text ≡ self → IsHashOf text format → IsStoredText self
-stored_as (Mcf hash) same read = subst IsStoredText same (mcf read.0 read.1 tt)
-stored_as (Phc hash params) same read = subst IsStoredText same (phc read.0 read.1 tt)
+pub params_refused : (text : List ℕ) (hash : StoredText) (why : Refusal) → Reads text hash → hash.params ≡ Err why
+    → hash.whole ≡ Err why
+params_refused text hash why (mcf seven modular) is = mapped_refused _ (read_mcf text) why is
+params_refused text hash why (phc {hash = read} differs written) is =
+    rw (mapped_refused _ (phc_params read) why is) refl
 
--- what was read as a `$7$` text
-pub as_mcf : {text self : List ℕ} {format : Format} {hash : PasswordHashRef} → text ≡ self → format ≡ Mcf hash → IsHashOf text format
-    → (is_mcf_text self ≡ true) × IsMcf self × (hash_text hash ≡ self)
-as_mcf {text} {self} {format} {hash} same is read =
-    subst (λ t. (is_mcf_text t ≡ true) × IsMcf t × (hash_text hash ≡ t)) same (subst (IsHashOf text) is read)
+-- reading is refused neither as a wrong password nor for memory
 
--- what was read as a PHC text
-pub as_phc : {text self : List ℕ} {format : Format} {hash : PasswordHash} {params : Result Parameters Error} → text ≡ self
-    → format ≡ Phc hash params → IsHashOf text format → (is_mcf_text self ≡ false) × IsHashText self hash
-as_phc {text} {self} {format} {hash} {params} same is read =
-    let read : IsHashOf text (Phc hash params) = subst (IsHashOf text) is read in
-    subst (λ t. (is_mcf_text t ≡ false) × IsHashText t hash) same (read.0, read.1)
+pub mcf_otherwise : (text : List ℕ) → (read_mcf text ≢ Err PasswordInvalid) × (read_mcf text ≢ Err OutOfMemory)
+unfolding read_mcf
+mcf_otherwise text = otherwise _
 
--- the hash and the text are read alike
+pub params_otherwise : (hash : PasswordHash) → (phc_params hash ≢ Err PasswordInvalid) × (phc_params hash ≢ Err OutOfMemory)
+unfolding phc_params
+params_otherwise hash = otherwise _
 
-pub mcf_alike : {text self : List ℕ} {format : Format} {hash : PasswordHashRef} → text ≡ self → format ≡ Mcf hash
-    → IsHashOf text format → AreAlike (IsMcfWhole (hash_text hash)) (IsWhole self) (McfReadIsRefused (hash_text hash)) (ReadIsRefused self)
-mcf_alike same is read =
-    let read = as_mcf same is read in
-    rw read.2 (record {
-      to = λ _ _ _ whole. mcf read.0 read.1 whole;
-      from = λ _ _ _ whole. of_mcf read.0 whole;
-      over = λ _ h. of_hash (mcf read.0 read.1 h);
-    })
-
-pub phc_alike : {text self : List ℕ} {format : Format} {hash : PasswordHash} {params : Result Parameters Error} → text ≡ self
-    → format ≡ Phc hash params → IsHashOf text format
-    → AreAlike (IsPhcWhole hash) (IsWhole self) (PhcReadIsRefused hash) (ReadIsRefused self)
-phc_alike same is read =
-    let read = as_phc same is read in
-    record {
-      to = λ _ _ _ whole. phc read.0 read.1 whole;
-      from = λ _ _ _ whole. of_phc read.0 read.1 whole;
-      over = λ _ h. of_hash (phc read.0 read.1 h);
-    }
-
--- the parameters that were read with it
-pub params_of_phc : (text : List ℕ) {format : Format} {hash : PasswordHash} {params : Result Parameters Error}
-    → format ≡ Phc hash params → IsHashOf text format → AreParamsOf hash params
-params_of_phc text {format} {hash} {params} is read =
-    let read : IsHashOf text (Phc hash params) = subst (IsHashOf text) is read in
-    read.2
+pub stored_otherwise : (text : List ℕ) (read : StoredText) → Reads text read
+    → (read.params ≢ Err PasswordInvalid) × (read.params ≢ Err OutOfMemory)
+stored_otherwise text read (mcf seven is) = part_otherwise _ (read_mcf text) (mcf_otherwise text)
+stored_otherwise text read (phc {hash = hash} differs is) = part_otherwise _ (phc_params hash) (params_otherwise hash)
 
 or_true : (b : Bool) → (b || true) ≡ true
 or_true true = refl
@@ -140,10 +106,10 @@ pub scrypt_is_phc : {text : List ℕ} {hash : PasswordHash} → IsHashText text 
 unfolding is_mcf_text
 scrypt_is_phc is named = rw (is.whole, named) refl
 
--- a whole hash of each format is whole by its text
-pub made_mcf : {text : List ℕ} {c : Parameters} {salt key : List ℕ} → IsMcfWhole text c salt key → IsWhole text c salt key
-made_mcf whole = mcf (mcf_is_seven whole.has_costs.parts) (_, _, whole.has_costs.parts) whole
+-- a hash that is read in its format is read so by its text
 
-pub made_phc : {text : List ℕ} {hash : PasswordHash} {c : Parameters} {salt key : List ℕ} → IsHashText text hash
-    → hash.algorithm ≡ scrypt_id → IsPhcWhole hash c salt key → IsWhole text c salt key
-made_phc is named whole = phc (scrypt_is_phc is named) is whole
+pub made_mcf : (text : List ℕ) {s : Stored} → read_mcf text ≡ Ok s → Reads text (of_mcf text)
+made_mcf text is = let parts = is_mcf is in mcf (mcf_is_seven parts.1) (mcf_id, parts.0, parts.1)
+
+pub made_phc : (text : List ℕ) (hash : PasswordHash) → IsHashText text hash → hash.algorithm ≡ scrypt_id → Reads text (of_phc text hash)
+made_phc text hash is named = phc (scrypt_is_phc is named) is

@@ -30,7 +30,8 @@ same_parts f g a (suc n) same =
     ap (λ z. z ++ flat_map f (range_with_len (a + 1) n)) (same a) ∙ ap (λ z. g a ++ z) (same_parts f g (a + 1) n same)
 
 -- the key is the same
-pub thin_key_is : (password salt : List ℕ) (log_n r p s n : ℕ) → thin_key password salt log_n r p s n ≡ derived_key password salt log_n r p n
+pub thin_key_is : (password salt : List ℕ) (log_n r p s n : ℕ)
+    → thin_key password salt log_n r p s n ≡ derived_key password salt log_n r p n
 unfolding thin_key derived_key ro_mix
 thin_key_is password salt log_n r p s n =
     let b = pbkdf2 password salt (p * (128 * r)) in

@@ -1,7 +1,7 @@
 -- Which parameters and which output lengths are accepted, computed in unbounded integers. The bound
 -- on p of RFC 7914, section 2, is that on r * p. Of its bounds on N, above 1 and below
 -- 2 ^ (128 * r / 8), neither is required; instead 128 * r * N is below 2 ^ 64.
-use Rattle.std.specs.Prelude.{ℕ, ◌<◌, ◌≤◌, ◌*◌, ◌^◌, ◌&&◌, Bool, nat_eq, Option, None}
+use Rattle.std.specs.Prelude.{ℕ, ◌<◌, ◌≤◌, ◌*◌, ◌^◌, ◌&&◌, Bool, nat_eq, nat_le, nat_lt, Option, None}
 use Rattle.std.specs.Option.{option_eq}
 use Rattle.scrypt_kernel.specs.Pbkdf2.{max_output_len}
 
@@ -21,9 +21,18 @@ abbrev pub AreAccepted : ℕ → ℕ → ℕ → Type 0
 AreAccepted log_n r p =
     (0 < r) × (0 < p) × (128 * r * 2 ^ log_n < 2 ^ 64) × (r * p < 2 ^ 30)
 
+-- the test of that
+unfoldable pub are_accepted : ℕ → ℕ → ℕ → Bool
+are_accepted log_n r p =
+    (nat_lt 0 r && nat_lt 0 p) && (nat_lt (128 * r * 2 ^ log_n) (2 ^ 64) && nat_lt (r * p) (2 ^ 30))
+
 -- an output of this many bytes can be derived: dkLen is at least 1 and at most (2 ^ 32 - 1) * 32
 abbrev pub IsOutputLen : ℕ → Type 0
 IsOutputLen n = (1 ≤ n) × (n ≤ max_output_len)
+
+-- the test of that
+unfoldable pub is_output_len : ℕ → Bool
+is_output_len n = nat_le 1 n && nat_le n max_output_len
 
 -- a PHC text can have a key of this many bytes
 abbrev pub IsStoredLen : ℕ → Type 0

@@ -1,7 +1,7 @@
 -- The texts that errors print.
 use Rattle.std.specs.Prelude.{ℕ, List, codes, Option, None, Some}
 use Rattle.scrypt.specs.declared.errors.BoundedError.{BoundedError}
-use Rattle.scrypt.specs.declared.errors.BoundedError.TheVariants.{Hash, TooCostly}
+use Rattle.scrypt.specs.declared.errors.BoundedError.TheVariants.{Hash, KeyTooShort, TooCostly}
 use Rattle.scrypt.specs.declared.errors.DeriveError.{DeriveError}
 use Rattle.scrypt.specs.declared.errors.DeriveError.TheVariants.{InvalidOutputLen, OutOfMemory}
 
@@ -13,4 +13,5 @@ derive_error_text OutOfMemory = codes "out of memory"
 -- what a failed verification within limits prints; the text of an error of verifying is not specified
 abbrev pub bounded_error_text : BoundedError → Option (List ℕ)
 bounded_error_text TooCostly = Some (codes "the parameters need more than is allowed")
+bounded_error_text KeyTooShort = Some (codes "the key is shorter than is allowed")
 bounded_error_text (Hash e) = None

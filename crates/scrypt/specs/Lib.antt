@@ -28,11 +28,13 @@ pub mod ErrorText
 pub mod KeyOfParams
 -- the errors of making a hash, in every format
 pub mod Hashing
--- the verdict of verifying a password, in every format
-pub mod Verifying
+-- what reading a stored hash gives, and the verdict, in every format
+pub mod Reading
 -- verifying in the caller's buffers, in every format
 pub mod InBuffers
 pub mod WorkInBuffers
+-- verifying two hashes in the caller's buffers
+pub mod TwoVerdicts
 -- parameters read from a PHC text
 pub mod PhcCosts
 -- PHC hashes that are made, and those that are whole
@@ -41,13 +43,14 @@ pub mod PhcHash
 pub mod PhcConversions
 -- five-letter numbers, and the parameters of a `$7$` text
 pub mod McfCosts
+-- the bytes that letters of crypt Base64 encode
+pub mod McfKey
 -- `$7$` hashes that are made, and those that are whole
 pub mod McfHash
--- which stored hashes are weaker than wanted
-pub mod Rehashing
 -- stored hashes of either format, by their texts
 pub mod StoredHash
 -- verifying within limits
 pub mod WithinLimits
--- private: what a stored hash holds
+-- private: what a stored hash holds, and its key
 pub mod StoredRead
+pub mod StoredParts

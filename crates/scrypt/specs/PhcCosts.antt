@@ -1,41 +1,33 @@
 -- Parameters of scrypt, read from the pairs of the PHC string format and written as such.
-use Rattle.std.specs.Prelude.{◌≡◌, ◌≢◌, ℕ, ◌<◌, ◌≤◌, List, [], ◌∷◌, codes, decimal, Result, Ok, Err, None}
-use Rattle.password_hash.specs.Decimal.{IsDecimal}
-use Rattle.password_hash.specs.Refusal.{Refusal, ParamInvalid, ParamsInvalid}
-use Rattle.scrypt.specs.Accepted.{AreAccepted, Parameters}
+use Rattle.std.specs.Prelude.{ℕ, ◌^◌, if◌then◌else◌, List, [], ◌∷◌, codes, decimal, Result, Ok, Err, ok_or}
+use Rattle.std.specs.Str.{bytes_eq}
+use Rattle.password_hash.specs.Decimal.{decimal_below}
+use Rattle.scrypt.specs.Accepted.{Parameters}
+use Rattle.scrypt.specs.Reading.{ReadError, ParamInvalid, ParamsInvalid, checked}
+
+-- the number of a parameter of this name, which has to be a decimal below the limit
+unfoldable pub number_below : List ℕ → ℕ → List ℕ → Result ℕ ReadError
+number_below name limit text = ok_or (decimal_below limit text) (ParamInvalid name)
+
+-- what is read with the number, or its error
+abbrev pub with_number : {E : Type 0} → Result ℕ E → (ℕ → Result Parameters E) → Result Parameters E
+with_number (Ok n) rest = rest n
+with_number (Err why) rest = Err why
 
 -- The pairs are read in order and replace log_n, r and p, and the first pair that is refused gives
 -- the error. `ln` is a decimal of at most 255, `r` and `p` are decimals, and any other name is
 -- refused. At the end the numbers have to be accepted.
-pub data Reads : ℕ → ℕ → ℕ → List (List ℕ × List ℕ) → Result Parameters Refusal → Type 0 where
-  accepted : {log_n r p : ℕ} → AreAccepted log_n r p
-      → Reads log_n r p [] (Ok (record { log_n = log_n; r = r; p = p; output_len = None }))
-  not_accepted : {log_n r p : ℕ} → ¬ AreAccepted log_n r p → Reads log_n r p [] (Err ParamsInvalid)
-  ln : {log_n r p : ℕ} {pair : List ℕ × List ℕ} {pairs : List (List ℕ × List ℕ)} {out : Result Parameters Refusal} (n : ℕ)
-      → pair.0 ≡ codes "ln" → IsDecimal pair.1 n → n ≤ 255 → Reads n r p pairs out
-      → Reads log_n r p (pair ∷ pairs) out
-  ln_refused : {log_n r p : ℕ} {pair : List ℕ × List ℕ} {pairs : List (List ℕ × List ℕ)}
-      → pair.0 ≡ codes "ln" → ((n : ℕ) → IsDecimal pair.1 n → 255 < n)
-      → Reads log_n r p (pair ∷ pairs) (Err (ParamInvalid (codes "ln")))
-  r : {log_n r p : ℕ} {pair : List ℕ × List ℕ} {pairs : List (List ℕ × List ℕ)} {out : Result Parameters Refusal} (n : ℕ)
-      → pair.0 ≡ codes "r" → IsDecimal pair.1 n → Reads log_n n p pairs out
-      → Reads log_n r p (pair ∷ pairs) out
-  r_refused : {log_n r p : ℕ} {pair : List ℕ × List ℕ} {pairs : List (List ℕ × List ℕ)}
-      → pair.0 ≡ codes "r" → ((n : ℕ) → ¬ IsDecimal pair.1 n)
-      → Reads log_n r p (pair ∷ pairs) (Err (ParamInvalid (codes "r")))
-  p : {log_n r p : ℕ} {pair : List ℕ × List ℕ} {pairs : List (List ℕ × List ℕ)} {out : Result Parameters Refusal} (n : ℕ)
-      → pair.0 ≡ codes "p" → IsDecimal pair.1 n → Reads log_n r n pairs out
-      → Reads log_n r p (pair ∷ pairs) out
-  p_refused : {log_n r p : ℕ} {pair : List ℕ × List ℕ} {pairs : List (List ℕ × List ℕ)}
-      → pair.0 ≡ codes "p" → ((n : ℕ) → ¬ IsDecimal pair.1 n)
-      → Reads log_n r p (pair ∷ pairs) (Err (ParamInvalid (codes "p")))
-  unknown : {log_n r p : ℕ} {pair : List ℕ × List ℕ} {pairs : List (List ℕ × List ℕ)}
-      → pair.0 ≢ codes "ln" → pair.0 ≢ codes "r" → pair.0 ≢ codes "p"
-      → Reads log_n r p (pair ∷ pairs) (Err ParamsInvalid)
+unfoldable pub read_pairs : ℕ → ℕ → ℕ → List (List ℕ × List ℕ) → Result Parameters ReadError
+read_pairs log_n r p [] = checked log_n r p
+read_pairs log_n r p (pair ∷ pairs) =
+    if bytes_eq pair.0 (codes "ln") then with_number (number_below (codes "ln") 256 pair.1) (λ n. read_pairs n r p pairs)
+    else if bytes_eq pair.0 (codes "r") then with_number (number_below (codes "r") (2 ^ 32) pair.1) (λ n. read_pairs log_n n p pairs)
+    else if bytes_eq pair.0 (codes "p") then with_number (number_below (codes "p") (2 ^ 32) pair.1) (λ n. read_pairs log_n r n pairs)
+    else Err ParamsInvalid
 
 -- the parameters that the pairs of a hash encode: log_n, r and p begin as 17, 8 and 1
-abbrev pub ReadsCosts : List (List ℕ × List ℕ) → Result Parameters Refusal → Type 0
-ReadsCosts pairs out = Reads 17 8 1 pairs out
+abbrev pub params_of_pairs : List (List ℕ × List ℕ) → Result Parameters ReadError
+params_of_pairs pairs = read_pairs 17 8 1 pairs
 
 -- the pairs that these parameters are written as
 abbrev pub written_pairs : Parameters → List (List ℕ × List ℕ)

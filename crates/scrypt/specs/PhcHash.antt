@@ -1,13 +1,14 @@
--- Hashes of scrypt in the PHC string format: which are made, and which passwords they accept.
-use Rattle.std.specs.Prelude.{◌≡◌, ◌≢◌, ◌⊎◌, ℕ, ◌≤◌, List, length, codes, Option, None, Some, IsSome, Ok, Err}
+-- Hashes of scrypt in the PHC string format: which are made, and how they are read.
+use Rattle.std.specs.Prelude.{◌≡◌, ℕ, ◌≤◌, List, length, codes, if◌then◌else◌, Option, None, Some, Result, Ok, Err}
+use Rattle.std.specs.Str.{bytes_eq}
 use Rattle.password_hash.specs.Phc.{hash_text}
-use Rattle.password_hash.specs.Refusal.{Refusal, Algorithm, Version, PasswordInvalid}
+use Rattle.password_hash.specs.Refusal.{Refusal, PasswordInvalid}
 use Rattle.password_hash.specs.declared.phc.hash.PasswordHash.{PasswordHash}
 use Rattle.scrypt.specs.Accepted.{Parameters}
 use Rattle.scrypt.specs.KeyOfParams.{key_by}
-use Rattle.scrypt.specs.PhcCosts.{ReadsCosts, written_pairs}
+use Rattle.scrypt.specs.PhcCosts.{params_of_pairs, written_pairs}
 use Rattle.scrypt.specs.Hashing.{HashingIsRefused, IsNamedOrNone, key_len_or_default}
-use Rattle.scrypt.specs.Verifying.{IsAccepted, IsRefusedBy, VerdictOf}
+use Rattle.scrypt.specs.Reading.{ReadError, Algorithm, Version, Stored, reported, stored_of}
 
 -- the name of the algorithm
 abbrev pub scrypt_id : List ℕ
@@ -38,36 +39,21 @@ IsScryptOrNone = IsNamedOrNone scrypt_id
 abbrev pub HashIsRefused : List ℕ → Option (List ℕ) → Option ℕ → Refusal → Type 0
 HashIsRefused salt = HashingIsRefused scrypt_id (IsSaltLen (length salt))
 
--- the hash is one of scrypt without a version, and these are its parameters
-pub record IsOfCosts (hash : PasswordHash) (c : Parameters) : Type 0 where
-  pub algorithm : hash.algorithm ≡ scrypt_id
-  pub version : hash.version ≡ None
-  pub costs : ReadsCosts hash.params (Ok c)
+-- what is read of a hash that has no version
+abbrev pub without_version : {A : Type 0} → Option ℕ → Result A ReadError → Result A ReadError
+without_version None reading = reading
+without_version (Some version) reading = Err Version
 
--- the hash has parameters, a salt and a key
-pub record IsWhole (hash : PasswordHash) (c : Parameters) (salt key : List ℕ) : Type 0 where
-  pub of_costs : IsOfCosts hash c
-  pub salt_is : hash.salt ≡ Some salt
-  pub key_is : hash.hash ≡ Some key
+-- the parameters of a hash: of scrypt, without a version
+unfoldable pub phc_params : PasswordHash → Result Parameters Refusal
+phc_params hash =
+    reported (if bytes_eq hash.algorithm scrypt_id then without_version hash.version (params_of_pairs hash.params) else Err Algorithm)
 
--- The errors of reading a hash, in this order: another algorithm, a version, the errors of its
--- parameters, and a missing salt or key.
-pub data ReadIsRefused (hash : PasswordHash) : Refusal → Type 0 where
-  algorithm : hash.algorithm ≢ scrypt_id → ReadIsRefused hash Algorithm
-  version : hash.algorithm ≡ scrypt_id → IsSome hash.version → ReadIsRefused hash Version
-  costs : {why : Refusal} → hash.algorithm ≡ scrypt_id → hash.version ≡ None → ReadsCosts hash.params (Err why)
-      → ReadIsRefused hash why
-  missing : {c : Parameters} → IsOfCosts hash c → (hash.salt ≡ None) ⊎ (hash.hash ≡ None)
-      → ReadIsRefused hash PasswordInvalid
+-- a salt and a key, which both have to be there
+abbrev pub both_there : Option (List ℕ) → Option (List ℕ) → Result (List ℕ × List ℕ) Refusal
+both_there (Some salt) (Some key) = Ok (salt, key)
+both_there _ _ = Err PasswordInvalid
 
--- the password is that of the hash
-abbrev pub Accepts : List ℕ → PasswordHash → Type 0
-Accepts password hash = IsAccepted (IsWhole hash) password
-
--- the verdict of verifying, if no allocation fails
-abbrev pub Verdict : List ℕ → PasswordHash → Option Refusal → Type 0
-Verdict password hash = VerdictOf (IsWhole hash) (ReadIsRefused hash) password
-
--- the errors of verifying
-abbrev pub VerifyIsRefused : List ℕ → PasswordHash → Refusal → Type 0
-VerifyIsRefused password hash = IsRefusedBy (IsWhole hash) (ReadIsRefused hash) password
+-- the reading of a hash
+abbrev pub read_phc : PasswordHash → Result Stored Refusal
+read_phc hash = stored_of (phc_params hash) (both_there hash.salt hash.hash)

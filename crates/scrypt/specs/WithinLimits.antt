@@ -1,36 +1,50 @@
--- Verifying within limits: which hashes are too costly, and what verifying returns for the others.
-use Rattle.std.specs.Prelude.{ℕ, List, Option, None, Some, Result, Ok, Err, ⊤}
+-- Verifying within limits.
+use Rattle.std.specs.Prelude.{◌≡◌, nat_le, if◌then◌else◌, List, ℕ, length, Result, Ok, Err, ⊤}
 use Rattle.password_hash.specs.Refusal.{Refusal, refusal}
-use Rattle.password_hash.specs.declared.error.Error.{Error}
-use Rattle.scrypt.specs.Accepted.{Parameters}
-use Rattle.scrypt.specs.Limits.{AreWithin}
-use Rattle.scrypt.specs.StoredHash.{IsWhole, VerifyIsRefused}
+use Rattle.scrypt.specs.Limits.{are_within}
+use Rattle.scrypt.specs.Reading.{Stored}
+use Rattle.scrypt.specs.WorkInBuffers.{IsLeft, Work, verdict_in}
 use Rattle.scrypt.specs.declared.errors.BoundedError.{BoundedError}
-use Rattle.scrypt.specs.declared.errors.BoundedError.TheVariants.{Hash, TooCostly}
+use Rattle.scrypt.specs.declared.errors.BoundedError.TheVariants as error
 use Rattle.scrypt.specs.declared.limits.Limits.{Limits}
 
--- the hash has parameters, a salt and a key, and its parameters are within the limits
-pub record IsWholeWithin (limits : Limits) (text : List ℕ) (c : Parameters) (salt key : List ℕ) : Type 0 where
-  pub whole : IsWhole text c salt key
-  pub within : AreWithin limits c
+-- an error of verifying within limits, by its value
+pub data BoundedRefusal : Type 0 where
+  Hash : (why : Refusal) → BoundedRefusal
+  TooCostly : BoundedRefusal
+  KeyTooShort : BoundedRefusal
 
--- the hash has parameters, a salt and a key, and its parameters need more than one of the limits
-pub record IsTooCostly (limits : Limits) (text : List ℕ) : Type 0 where
-  pub costs : Parameters
-  pub salt : List ℕ
-  pub key : List ℕ
-  pub whole : IsWhole text costs salt key
-  pub exceeds : ¬ AreWithin limits costs
+-- the value of an error of verifying within limits
+abbrev pub bounded_refusal : BoundedError → BoundedRefusal
+bounded_refusal (error.Hash e) = Hash (refusal e)
+bounded_refusal error.TooCostly = TooCostly
+bounded_refusal error.KeyTooShort = KeyTooShort
 
--- The errors of verifying within limits: that the hash is too costly, and for every other hash the
--- errors of verifying.
-pub data IsRefusedWithin (limits : Limits) (password text : List ℕ) : BoundedError → Type 0 where
-  too_costly : IsTooCostly limits text → IsRefusedWithin limits password text TooCostly
-  of_hash : {e : Error} → ¬ IsTooCostly limits text → VerifyIsRefused password text (refusal e)
-      → IsRefusedWithin limits password text (Hash e)
+-- a result, with the value of its error
+abbrev pub told_within : {T : Type 0} → Result T BoundedError → Result T BoundedRefusal
+told_within (Ok x) = Ok x
+told_within (Err e) = Err (bounded_refusal e)
 
--- the verdict that a result of verifying within limits returns, if the hash is not too costly
-abbrev pub verdict_within : Result ⊤ BoundedError → Option (Option Refusal)
-verdict_within (Ok u) = Some None
-verdict_within (Err TooCostly) = None
-verdict_within (Err (Hash e)) = Some (Some (refusal e))
+-- a result without limits, as one within limits
+abbrev pub unbounded : {T : Type 0} → Result T Refusal → Result T BoundedRefusal
+unbounded (Ok x) = Ok x
+unbounded (Err why) = Err (Hash why)
+
+-- The reading of a hash, within limits: the error of reading it is first, then that its parameters need more than one
+-- of the limits, and then that its key is too short.
+abbrev pub within : Limits → Result Stored Refusal → Result Stored BoundedRefusal
+within limits (Ok s) =
+    if are_within limits s.params
+    then (if nat_le limits.least_key_len (length s.key) then Ok s else Err KeyTooShort)
+    else Err TooCostly
+within limits (Err why) = Err (Hash why)
+
+-- the verdict of verifying in this memory
+abbrev pub verdict_within : Work → List ℕ → Result Stored BoundedRefusal → Result ⊤ BoundedRefusal
+verdict_within w password (Ok s) = unbounded (verdict_in w password (Ok s))
+verdict_within w password (Err why) = Err why
+
+-- what verifying leaves: nothing changed if the hash is refused
+abbrev pub IsLeftWithin : Result Stored BoundedRefusal → Work → Work → Type 0
+IsLeftWithin (Ok s) before after = IsLeft (Ok s) before after
+IsLeftWithin (Err why) before after = after ≡ before

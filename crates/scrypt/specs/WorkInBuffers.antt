@@ -1,14 +1,12 @@
--- Private: what verifying returns, and what it does to the caller's buffers and to the count of cores.
-use Rattle.std.specs.Prelude.{◌≡◌, ◌≢◌, ◌⊎◌, ◌↔◌, ℕ, ◌+◌, List, length, Option, Result, OnOk, IfErr, IsErrOf, ⊤}
-use Rattle.password_hash.specs.Refusal.{Refusal, PasswordInvalid, refusal}
+-- The memory that a caller hands in for one derivation: the verdict in it, and what is left in it.
+use Rattle.std.specs.Prelude.{◌≡◌, ℕ, ◌+◌, ◌*◌, ◌&&◌, Bool, nat_le, if◌then◌else◌, List, length, drop, MatchBool, Result, Ok, Err, ⊤}
+use Rattle.password_hash.specs.Refusal.{Refusal, OutOfMemory}
 use Rattle.password_hash.specs.declared.error.Error.{Error}
-use Rattle.password_hash.specs.declared.error.Error.TheVariants as error
 use Rattle.scrypt_kernel.specs.declared.cores.CoreCount.{CoreCount}
 use Rattle.scrypt.specs.Accepted.{Parameters}
-use Rattle.scrypt.specs.Cost.{chunks_bytes, cost, scratch_words}
-use Rattle.scrypt.specs.InBuffers.{AreCompared, AreEnough, AreTooShort, IsWiped, verdict_of}
-use Rattle.scrypt.specs.KeyOfParams.{key_by}
-use Rattle.scrypt.specs.Verifying.{IsAccepted, IsRefusedBy, VerdictOf}
+use Rattle.scrypt.specs.Cost.{chunks_bytes, cost, scratch_words, table_words}
+use Rattle.scrypt.specs.InBuffers.{IsWiped}
+use Rattle.scrypt.specs.Reading.{Stored, told, verdict}
 
 -- the buffers and the count
 pub record Work : Type 0 where
@@ -23,56 +21,42 @@ abbrev pub work_in : List ℕ → List ℕ → List ℕ → CoreCount → Work
 work_in chunks table scratch cores =
     record { chunks = chunks; table = table; scratch = scratch; all = cores.all; lanes = cores.lanes }
 
--- the buffers are long enough
-abbrev pub HasRoom : Parameters → Work → Type 0
-HasRoom c w = AreEnough c w.chunks w.table w.scratch
+-- whether the buffers are at least as long as a derivation with these parameters needs
+unfoldable pub has_room : Parameters → Work → Bool
+has_room c w = nat_le (chunks_bytes c.r c.p) (length w.chunks)
+    && (nat_le (table_words c.log_n c.r) (length w.table) && nat_le (scratch_words c.r) (length w.scratch))
 
--- no buffer changed
-abbrev pub AreSame : Work → Work → Type 0
-AreSame before after = (after.chunks ≡ before.chunks) × (after.table ≡ before.table) × (after.scratch ≡ before.scratch)
+-- whether a derivation with these parameters mixes two chunks at a time in this table and this scratch: it has more
+-- than one, and each of the two gets a table and a scratch of its own
+unfoldable pub uses_two : Parameters → List ℕ → List ℕ → Bool
+uses_two c table scratch = nat_le 2 c.p
+    && (nat_le (2 * table_words c.log_n c.r) (length table) && nat_le (2 * scratch_words c.r) (length scratch))
 
--- nothing was counted
-abbrev pub IsUncounted : Work → Work → Type 0
-IsUncounted before after = (after.all ≡ before.all) × (after.lanes ≡ before.lanes)
+-- how many tables and scratches it uses of them
+unfoldable pub tables_used : Parameters → List ℕ → List ℕ → ℕ
+tables_used c table scratch = if uses_two c table scratch then 2 else 1
 
--- a derivation with these parameters was counted, and what it left in the chunks and the scratch is zeros
+-- A derivation with these parameters was counted. What it used of the chunks and the scratch is zeros, and what is
+-- after the tables that it used is unchanged.
 pub record IsDone (c : Parameters) (before after : Work) : Type 0 where
   pub all : after.all ≡ before.all + cost c.log_n c.r c.p
   pub lanes : after.lanes ≡ before.lanes + cost c.log_n c.r c.p
   pub chunks : IsWiped (chunks_bytes c.r c.p) before.chunks after.chunks
-  pub scratch : IsWiped (scratch_words c.r) before.scratch after.scratch
+  pub scratch : IsWiped (tables_used c before.table before.scratch * scratch_words c.r) before.scratch after.scratch
+  pub rest : let used = tables_used c before.table before.scratch * table_words c.log_n c.r in
+      drop used after.table ≡ drop used before.table
 
--- the result of comparing this key with that of the password
-pub record IsComparison (c : Parameters) (salt key password : List ℕ) (out : Result ⊤ Error) : Type 0 where
-  pub right : OnOk out (key ≡ key_by c password salt (length key))
-  pub wrong : IfErr out (λ e. e ≡ error.PasswordInvalid → key ≢ key_by c password salt (length key))
-  pub only : IfErr out (λ e. (e ≡ error.OutOfMemory) ⊎ (e ≡ error.PasswordInvalid))
+-- the verdict of verifying in this memory: `OutOfMemory` if keys would be compared, and a buffer is too short
+abbrev pub verdict_in : Work → List ℕ → Result Stored Refusal → Result ⊤ Refusal
+verdict_in w password (Ok s) = if has_room s.params w then verdict password (Ok s) else Err OutOfMemory
+verdict_in w password (Err why) = Err why
 
--- that result, and what comparing in buffers does
-pub record IsComparing (c : Parameters) (salt key password : List ℕ) (out : Result ⊤ Error) (before after : Work) : Type 0 where
-  pub compared : IsComparison c salt key password out
-  pub short : IsErrOf out error.OutOfMemory ↔ (¬ HasRoom c before)
-  pub done : HasRoom c before → IsDone c before after
-  pub unchanged : ¬ HasRoom c before → AreSame before after
-  pub uncounted : ¬ HasRoom c before → IsUncounted before after
+-- what verifying leaves: a derivation was done if keys were compared, and nothing changed if not
+abbrev pub IsLeft : Result Stored Refusal → Work → Work → Type 0
+IsLeft (Ok s) before after = MatchBool (has_room s.params before) (IsDone s.params before after) (after ≡ before)
+IsLeft (Err why) before after = after ≡ before
 
--- the result of verifying with a hash
-pub record IsVerified (IsWhole : Parameters → List ℕ → List ℕ → Type 0) (IsRefused : Refusal → Type 0)
-    (password : List ℕ) (out : Result ⊤ Error) : Type 0 where
-  pub ok : OnOk out (IsAccepted IsWhole password)
-  pub wrong : IfErr out (λ e. refusal e ≡ PasswordInvalid → ¬ IsAccepted IsWhole password)
-  pub err : IfErr out (λ e. IsRefusedBy IsWhole IsRefused password (refusal e))
-
--- the result of verifying with a hash in buffers, and what it does
-pub record IsVerifying (IsWhole : Parameters → List ℕ → List ℕ → Type 0) (IsRefused : Refusal → Type 0)
-    (password : List ℕ) (out : Result ⊤ Error) (before after : Work) : Type 0 where
-  pub verified : IsVerified IsWhole IsRefused password out
-  pub short : IsErrOf out error.OutOfMemory ↔ AreTooShort IsWhole before.chunks before.table before.scratch
-  pub exact : ¬ AreTooShort IsWhole before.chunks before.table before.scratch
-      → (verdict : Option Refusal) → VerdictOf IsWhole IsRefused password verdict → verdict_of out ≡ verdict
-  pub all : (c : Parameters) (salt key : List ℕ) → IsWhole c salt key → HasRoom c before → after.all ≡ before.all + cost c.log_n c.r c.p
-  pub lanes : (c : Parameters) (salt key : List ℕ) → IsWhole c salt key → HasRoom c before → after.lanes ≡ before.lanes + cost c.log_n c.r c.p
-  pub wiped : (c : Parameters) (salt key : List ℕ) → IsWhole c salt key → HasRoom c before
-      → IsWiped (chunks_bytes c.r c.p) before.chunks after.chunks × IsWiped (scratch_words c.r) before.scratch after.scratch
-  pub unchanged : ¬ AreCompared IsWhole before.chunks before.table before.scratch → AreSame before after
-  pub uncounted : ¬ AreCompared IsWhole before.chunks before.table before.scratch → IsUncounted before after
+-- both
+pub record IsVerifying (password : List ℕ) (reading : Result Stored Refusal) (out : Result ⊤ Error) (before after : Work) : Type 0 where
+  pub verdict : told out ≡ verdict_in before password reading
+  pub left : IsLeft reading before after

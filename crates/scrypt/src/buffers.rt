@@ -1,18 +1,62 @@
 // The three buffers of a derivation: the caller's, and allocated ones.
 
-ghost use Rattle.std.specs.Prelude.{◌≡◌, ◌↔◌, ◌≤◌, length, IfOk, IsTrue};
+ghost use Rattle.std.specs.Prelude.{◌≡◌, ◌↔◌, ◌*◌, ◌≤◌, length, IfOk, IfSome, IsSome, IsTrue};
 ghost use Rattle.std.specs.Vec.{vec_capacity};
 ghost use Rattle.scrypt.specs.Cost.{chunks_bytes, scratch_words, table_words};
+ghost use Rattle.scrypt.specs.InBuffers.{AreEnough};
+ghost use Rattle.scrypt.specs.WorkInBuffers.{tables_used, uses_two};
 
 use crate::{BufferLens, Params};
 use std::alloc::{AllocError, Global};
 
-/// Returns whether the buffers are at least so long.
-pub(crate) fn are_enough(lens: &BufferLens, chunks: &[u8], table: &[u32], scratch: &[u32]) -> bool
-    ensures exact { IsTrue result ↔ (lens.now.chunks ≤ length chunks.now)
-        × (lens.now.table ≤ length table.now) × (lens.now.scratch ≤ length scratch.now) }
+/// Returns whether a derivation in this table and this scratch mixes two chunks at a time.
+#[tactic(auto, unfolding(crate::specs::WorkInBuffers::uses_two))]
+pub(crate) fn uses_two_tables(params: &Params, table: &[u32], scratch: &[u32]) -> bool
+    ensures exact { result ≡ uses_two params.now table.now scratch.now }
+    ensures room { IsTrue result → 2 * table_words params.now.log_n params.now.r ≤ length table.now }
+    ensures spare { IsTrue result → 2 * scratch_words params.now.r ≤ length scratch.now }
 {
-    lens.chunks <= chunks.len() && lens.table <= table.len() && lens.scratch <= scratch.len()
+    let two = BufferLens::two_tables(params);
+    params.p() >= 2 && two.table <= table.len() && two.scratch <= scratch.len()
+}
+
+/// Returns whether such buffers have room for two derivations at once.
+pub(crate) fn hold_two(params: &Params, chunks: &[u8], table: &[u32], scratch: &[u32]) -> bool
+    ensures chunks { IsTrue result → 2 * chunks_bytes params.now.r params.now.p ≤ length chunks.now }
+    ensures table { IsTrue result → 2 * table_words params.now.log_n params.now.r ≤ length table.now }
+    ensures scratch { IsTrue result → 2 * scratch_words params.now.r ≤ length scratch.now }
+{
+    let two = BufferLens::two_derivations(params);
+    two.chunks <= chunks.len() && two.table <= table.len() && two.scratch <= scratch.len()
+}
+
+/// Returns how much a derivation uses of such buffers, or `None` if one is too short.
+pub(crate) fn used_lens(
+    params: &Params,
+    chunks: &[u8],
+    table: &[u32],
+    scratch: &[u32],
+) -> Option<BufferLens>
+    ensures enough { IsSome result ↔ AreEnough params.now chunks.now table.now scratch.now }
+    ensures chunks { IfSome result (λ lens. lens.chunks ≡ chunks_bytes params.now.r params.now.p) }
+    ensures table { IfSome result (λ lens. lens.table
+        ≡ tables_used params.now table.now scratch.now * table_words params.now.log_n params.now.r) }
+    ensures scratch { IfSome result (λ lens. lens.scratch
+        ≡ tables_used params.now table.now scratch.now * scratch_words params.now.r) }
+    ensures chunks_fit { IfSome result (λ lens. lens.chunks ≤ length chunks.now) }
+    ensures table_fits { IfSome result (λ lens. lens.table ≤ length table.now) }
+    ensures scratch_fits { IfSome result (λ lens. lens.scratch ≤ length scratch.now) }
+    ensures room { IfSome result (λ lens. table_words params.now.log_n params.now.r ≤ lens.table) }
+    ensures spare { IfSome result (λ lens. scratch_words params.now.r ≤ lens.scratch) }
+{
+    let lens = BufferLens::of(params);
+    if lens.chunks > chunks.len() || lens.table > table.len() || lens.scratch > scratch.len() {
+        return None;
+    }
+    if uses_two_tables(params, table, scratch) {
+        return Some(BufferLens::two_tables(params));
+    }
+    Some(lens)
 }
 
 /// Buffers for one derivation.
@@ -32,10 +76,17 @@ impl Buffers {
         ensures scratch { IfOk result (λ own. length own.scratch.items ≡ scratch_words params.now.r) }
     {
         let lens = BufferLens::of(params);
+        let mut chunks = Vec::with_capacity(alloc, lens.chunks)?;
+        let table = Vec::with_capacity(alloc, lens.table)?;
+        let scratch = vec![in alloc; 0u32; lens.scratch]?;
+        // All three are allocated: now the chunks are written.
+        let Ok(()) = chunks.resize_with(lens.chunks, || 0u8) else {
+            unreachable!();
+        };
         Ok(Buffers {
-            chunks: vec![in alloc; 0u8; lens.chunks]?,
-            table: Vec::with_capacity(alloc, lens.table)?,
-            scratch: vec![in alloc; 0u32; lens.scratch]?,
+            chunks,
+            table,
+            scratch,
         })
     }
 }

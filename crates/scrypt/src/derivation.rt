@@ -7,12 +7,17 @@ ghost use Rattle.scrypt.specs.Cost.{chunks_bytes, cost, scratch_words, table_wor
 ghost use Rattle.scrypt.specs.Key.{chunks_of, derived_key};
 ghost use Rattle.scrypt.specs.declared.errors.DeriveError.TheVariants.{InvalidOutputLen as BadLength, OutOfMemory};
 
+mod pairs;
+pub(crate) mod tables;
+pub(crate) mod two;
+
 use crate::buffers::Buffers;
+use crate::derivation::tables::Tables;
 use crate::{CoreCount, DeriveError, InvalidOutputLen, Params};
-use scrypt_kernel::chunk::mix_chunk;
 use scrypt_kernel::memory::{Buffer, Memory};
 use scrypt_kernel::order::diagonal::Diagonal;
 use scrypt_kernel::pbkdf2::pbkdf2_one;
+use scrypt_kernel::romix::mix_chunk;
 use std::alloc::Global;
 
 /// The greatest length of an output in bytes (RFC 7914, section 6: `dkLen`).
@@ -39,13 +44,47 @@ pub struct BufferLens {
 
 impl BufferLens {
     /// Returns the lengths for [`scrypt_with_buffers`](crate::scrypt_with_buffers) with these
-    /// parameters.
+    /// parameters, one chunk at a time.
     pub fn of(params: &Params) -> BufferLens
         ensures chunks { result.chunks ≡ chunks_bytes params.now.r params.now.p }
         ensures table { result.table ≡ table_words params.now.log_n params.now.r }
         ensures scratch { result.scratch ≡ scratch_words params.now.r }
     {
         BufferLens::with_rows(params, params.log_n(), 2)
+    }
+
+    /// Returns the lengths for two chunks at a time: the table and the scratch are twice as long as
+    /// those of [`BufferLens::of`]. In buffers of these lengths or more a derivation with a `p` of at
+    /// least 2 takes about 0.6 of the time.
+    #[tactic(auto, using(crate::proofs::AcceptedFacts::small_lens))]
+    pub fn two_tables(params: &Params) -> BufferLens
+        ensures chunks { result.chunks ≡ chunks_bytes params.now.r params.now.p }
+        ensures table { result.table ≡ 2 * table_words params.now.log_n params.now.r }
+        ensures scratch { result.scratch ≡ 2 * scratch_words params.now.r }
+    {
+        let one = BufferLens::of(params);
+        params.known();
+        BufferLens {
+            chunks: one.chunks,
+            table: 2 * one.table,
+            scratch: 2 * one.scratch,
+        }
+    }
+
+    /// Returns the lengths for two derivations at once, each twice that of [`BufferLens::of`].
+    #[tactic(auto, using(crate::proofs::AcceptedFacts::small_lens))]
+    pub fn two_derivations(params: &Params) -> BufferLens
+        ensures chunks { result.chunks ≡ 2 * chunks_bytes params.now.r params.now.p }
+        ensures table { result.table ≡ 2 * table_words params.now.log_n params.now.r }
+        ensures scratch { result.scratch ≡ 2 * scratch_words params.now.r }
+    {
+        let two = BufferLens::two_tables(params);
+        params.known();
+        BufferLens {
+            chunks: 2 * two.chunks,
+            table: two.table,
+            scratch: two.scratch,
+        }
     }
 
     /// Returns the lengths for [`scrypt_thin`](crate::scrypt_thin) with a table that keeps one row
@@ -95,7 +134,8 @@ impl BufferLens {
 /// ignored.
 ///
 /// Returns `InvalidOutputLen` exactly if the length of `output` is not allowed
-/// ([`output_len_ok`](crate::output_len_ok)), and otherwise `OutOfMemory` if an allocation fails. On an error `output` is unchanged.
+/// ([`output_len_ok`](crate::output_len_ok)), and otherwise `OutOfMemory` if an allocation fails. On
+/// an error `output` is unchanged.
 pub fn scrypt(
     alloc: Global,
     password: &[u8],
@@ -141,7 +181,6 @@ pub fn scrypt_counted(
         password,
         salt,
         params,
-        0,
         &mut own.chunks,
         &mut own.table,
         &mut own.scratch,
@@ -154,9 +193,11 @@ pub fn scrypt_counted(
 /// Writes the scrypt key of `password` and `salt` to `output`, in the caller's buffers
 /// (RFC 7914, section 6).
 ///
-/// The buffers have the lengths of [`BufferLens::of`]: `chunks` in bytes, `table` and `scratch` in
-/// words. It does not matter what they hold before the call, and what they hold after it is
-/// unspecified. `cores` counts the `4 * N * r * p` cores. Does not allocate.
+/// `chunks` has exactly the length of [`BufferLens::of`] in bytes, and `table` and `scratch` have at
+/// least its lengths in words. If they have at least those of [`BufferLens::two_tables`] and `p` is
+/// at least 2, two chunks are mixed at a time. It does not matter what the buffers hold before the
+/// call, and what they hold after it is unspecified. `cores` counts the `4 * N * r * p` cores. Does
+/// not allocate.
 ///
 /// Returns `InvalidOutputLen`, and changes nothing, exactly if the length of `output` is
 /// not allowed ([`output_len_ok`](crate::output_len_ok)).
@@ -171,8 +212,8 @@ pub fn scrypt_with_buffers(
     cores: &mut CoreCount,
 ) -> Result<(), InvalidOutputLen>
     requires chunks { length chunks.old ≡ chunks_bytes params.now.r params.now.p }
-    requires table { length table.old ≡ table_words params.now.log_n params.now.r }
-    requires scratch { length scratch.old ≡ scratch_words params.now.r }
+    requires table { table_words params.now.log_n params.now.r ≤ length table.old }
+    requires scratch { scratch_words params.now.r ≤ length scratch.old }
     ensures allowed { IsOk result ↔ IsOutputLen (length output.old) }
     ensures value { OnOk result (output.new ≡ derived_key password.now salt.now
         params.now.log_n params.now.r params.now.p (length output.old)) }
@@ -187,9 +228,9 @@ pub fn scrypt_with_buffers(
     if !output_len_ok(output.len()) {
         return Err(InvalidOutputLen);
     }
-    let mut rows = Buffer::new(table);
-    derive_in::<Buffer<'_>>(
-        password, salt, params, 0, chunks, &mut rows, scratch, output, cores,
+    let mut table = table;
+    derive_in::<&mut [u32]>(
+        password, salt, params, chunks, &mut table, scratch, output, cores,
     );
     Ok(())
 }
@@ -237,46 +278,40 @@ pub fn scrypt_thin(
         return Err(InvalidOutputLen);
     }
     let mut rows = Buffer::new(table);
-    derive_in::<Buffer<'_>>(
-        password, salt, params, s, chunks, &mut rows, scratch, output, cores,
-    );
+    mix_chunks::<Buffer<'_>>(password, salt, params, s, chunks, &mut rows, scratch, cores);
+    pbkdf2_one(password, chunks, output);
     Ok(())
 }
 
-/// Steps 1 to 3, in any memory, with a table that keeps one row in `2^s`.
+/// Steps 1 to 3, in any memory.
 #[tactic(auto, unfolding(crate::specs::Key::derived_key))]
-pub(crate) fn derive_in<M: Memory>(
+pub(crate) fn derive_in<T: Tables>(
     password: &[u8],
     salt: &[u8],
     params: &Params,
-    s: u8,
     chunks: &mut [u8],
-    rows: &mut M,
+    tables: &mut T,
     scratch: &mut [u32],
     output: &mut [u8],
     cores: &mut CoreCount,
 )
-    requires spacing { s ≤ params.now.log_n }
     requires chunks { length chunks.old ≡ chunks_bytes params.now.r params.now.p }
-    requires room { table_words (params.now.log_n - s) params.now.r ≤ M.room rows.old }
+    requires room { table_words params.now.log_n params.now.r ≤ T.room tables.old }
     requires scratch { scratch_words params.now.r ≤ length scratch.old }
-    requires spare { 0 < s → thin_scratch_words params.now.r ≤ length scratch.old }
     requires length { length output.old ≤ max_output_len }
     ensures value { output.new ≡ derived_key password.now salt.now
         params.now.log_n params.now.r params.now.p (length output.old) }
-    ensures all { cores.new.all ≡ cores.old.all + thin_cost password.now salt.now
-        params.now.log_n params.now.r params.now.p s }
-    ensures lanes { cores.new.lanes ≡ cores.old.lanes + thin_cost password.now salt.now
-        params.now.log_n params.now.r params.now.p s }
+    ensures all { cores.new.all ≡ cores.old.all + cost params.now.log_n params.now.r params.now.p }
+    ensures lanes { cores.new.lanes ≡ cores.old.lanes + cost params.now.log_n params.now.r params.now.p }
 {
-    mix_chunks::<M>(password, salt, params, s, chunks, rows, scratch, cores);
+    tables.mix(password, salt, params, chunks, scratch, cores);
     // Step 3: DK, with B as salt.
     pbkdf2_one(password, chunks, output);
 }
 
 /// Steps 1 and 2, in any memory, with a table that keeps one row in `2^s`: `chunks` becomes B after
 /// its chunks were mixed.
-pub(crate) fn mix_chunks<M: Memory>(
+fn mix_chunks<M: Memory>(
     password: &[u8],
     salt: &[u8],
     params: &Params,

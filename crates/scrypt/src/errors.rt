@@ -90,6 +90,9 @@ impl From<InvalidOutputLen> for kdf::Error {
 pub enum BoundedError {
     /// The hash can be read, and its parameters need more than one of the limits.
     TooCostly,
+    /// The hash can be read and its parameters are within the limits, but its key is shorter than
+    /// they allow.
+    KeyTooShort,
     /// An error from verifying the hash.
     Hash(password_hash::Error),
 }
@@ -100,6 +103,7 @@ impl fmt::Display for BoundedError {
     fn fmt<W: fmt::Write>(&self, f: &mut fmt::Formatter<W>) -> fmt::Result {
         match self {
             BoundedError::TooCostly => f.write_str("the parameters need more than is allowed"),
+            BoundedError::KeyTooShort => f.write_str("the key is shorter than is allowed"),
             BoundedError::Hash(error) => write!(f, "{error}"),
         }
     }

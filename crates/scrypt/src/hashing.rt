@@ -8,10 +8,10 @@ ghost use Rattle.scrypt.specs.Hashing.{IsCallRefused, IsNamedOrNone, key_len_or_
 ghost use Rattle.scrypt.specs.KeyOfParams.{key_by};
 
 use crate::derivation::derive_in;
+use crate::derivation::tables::Tables;
 use crate::{CoreCount, Params};
 use password_hash::phc::Output;
 use password_hash::{Error, Result, Version};
-use scrypt_kernel::memory::Memory;
 
 /// Checks what a hashing call names beside its parameters.
 ///
@@ -55,18 +55,18 @@ pub(crate) fn key_len_or_default(params: &Params) -> usize
 
 /// Derives the key that hashing with these parameters stores, in any memory. Afterwards the chunks
 /// and the scratch are zeros. Does not allocate.
-pub(crate) fn stored_key<M: Memory>(
+pub(crate) fn stored_key<T: Tables>(
     password: &[u8],
     salt: &[u8],
     params: &Params,
     chunks: &mut [u8],
-    rows: &mut M,
+    tables: &mut T,
     scratch: &mut [u32],
     cores: &mut CoreCount,
 ) -> Output
     requires chunks { length chunks.old ≡ chunks_bytes params.now.r params.now.p }
-    requires room { table_words params.now.log_n params.now.r ≤ M.room rows.old }
-    requires scratch { length scratch.old ≡ scratch_words params.now.r }
+    requires room { table_words params.now.log_n params.now.r ≤ T.room tables.old }
+    requires scratch { scratch_words params.now.r ≤ length scratch.old }
     ensures value { result ≡ key_by params.now password.now salt.now (key_len_or_default params.now) }
     ensures len { IsStoredLen (key_len_or_default params.now) }
     ensures all { cores.new.all ≡ cores.old.all
@@ -74,11 +74,11 @@ pub(crate) fn stored_key<M: Memory>(
     ensures lanes { cores.new.lanes ≡ cores.old.lanes
         + cost params.now.log_n params.now.r params.now.p }
     ensures chunks { chunks.new ≡ replicate (chunks_bytes params.now.r params.now.p) 0 }
-    ensures scratch { scratch.new ≡ replicate (scratch_words params.now.r) 0 }
+    ensures scratch { scratch.new ≡ replicate (length scratch.old) 0 }
 {
     let mut places = [0u8; Output::MAX_LENGTH];
     let key = &mut places[..key_len_or_default(params)];
-    derive_in::<M>(password, salt, params, 0, chunks, rows, scratch, key, cores);
+    derive_in::<T>(password, salt, params, chunks, tables, scratch, key, cores);
     chunks.fill(0);
     scratch.fill(0);
     let Ok(key) = Output::new(key) else {

@@ -1,12 +1,12 @@
 //! Laws of the definitions. Each function does nothing at run time: its contract is the law.
 
-ghost use Rattle.std.specs.Prelude.{◌≡◌, ◌↔◌, false, true, ℕ, ◌-◌, ◌*◌, ◌%◌, ◌^◌, ◌<◌, ◌≤◌, List, [], ◌∷◌, ◌++◌, length, take, Option, Result, Ok, IfSome, IsSome, Some, All};
+ghost use Rattle.std.specs.Prelude.{◌≡◌, ◌≢◌, ◌⊎◌, ◌↔◌, false, true, ℕ, ◌-◌, ◌*◌, ◌%◌, ◌^◌, ◌<◌, ◌≤◌, List, [], ◌∷◌, ◌++◌, length, take, Option, Result, Ok, Err, IfSome, IsSome, Some, All};
 ghost use Rattle.sha2.specs.Sha256.{sha256};
 ghost use Rattle.password_hash.specs.Crypt64.{Crypt64, crypt64_of, letter_value, letters_of};
 ghost use Rattle.password_hash.specs.Mcf.{IsMcfText};
 ghost use Rattle.password_hash.specs.Parts.{dollar};
 ghost use Rattle.password_hash.specs.Phc.{IsHashText, IsSalt, hash_text};
-ghost use Rattle.password_hash.specs.Refusal.{Refusal, PasswordInvalid};
+ghost use Rattle.password_hash.specs.Refusal.{Refusal, OutOfMemory, PasswordInvalid};
 ghost use Rattle.password_hash.specs.declared.phc.hash.PasswordHash.{PasswordHash};
 ghost use Rattle.scrypt.specs.Accepted.{AreAccepted, IsStoredLen, Parameters};
 ghost use Rattle.scrypt_kernel.specs.BlockMix.{block_mix};
@@ -19,13 +19,13 @@ ghost use Rattle.scrypt.specs.ThinKey.{thin_key};
 ghost use Rattle.scrypt.specs.Cost.{cost, thin_cost};
 ghost use Rattle.scrypt_kernel.specs.Table.{extra_rows};
 ghost use Rattle.scrypt.specs.McfCosts.{cost_letters, costs_text, five_letter_number};
-ghost use Rattle.scrypt.specs.McfHash.{Accepts as McfAccepts, HashIsRefused as McfHashIsRefused, IsWhole as IsMcfWhole, IsMadeHash as IsMadeMcf, ReadIsRefused as McfReadIsRefused, Verdict as McfVerdict, mcf_id};
+ghost use Rattle.scrypt.specs.McfHash.{HashIsRefused as McfHashIsRefused, IsMadeHash as IsMadeMcf, mcf_id, read_mcf};
 ghost use Rattle.scrypt.specs.Hashing.{key_len_or_default};
 ghost use Rattle.scrypt.specs.Accepted.{without_len};
-ghost use Rattle.scrypt.specs.PhcCosts.{ReadsCosts, written_pairs};
-ghost use Rattle.scrypt.specs.PhcHash.{Accepts, HashIsRefused, IsMadeHash, IsWhole, ReadIsRefused, Verdict, VerifyIsRefused, scrypt_id};
-ghost use Rattle.scrypt.specs.Rehashing.{IsWeaker};
-ghost use Rattle.scrypt.specs.StoredHash.{Accepts as TextAccepts, HasParameters, IsWeakerText, IsWhole as IsWholeText, ReadIsRefused as TextReadIsRefused, Verdict as TextVerdict, VerifyIsRefused as TextVerifyIsRefused, is_mcf_text};
+ghost use Rattle.scrypt.specs.PhcCosts.{params_of_pairs, written_pairs};
+ghost use Rattle.scrypt.specs.PhcHash.{HashIsRefused, IsMadeHash, phc_params, read_phc, scrypt_id};
+ghost use Rattle.scrypt.specs.Reading.{Stored, verdict, weaker};
+ghost use Rattle.scrypt.specs.StoredHash.{HasReading, Reads, StoredText, is_mcf_text};
 
 /// A shorter key is the beginning of a longer one, for any two lengths.
 #[tactic(auto, using(crate::proofs::KeyFacts::key_prefix))]
@@ -51,13 +51,10 @@ pub fn chunks_in_any_order()
         → mixed_in_order log_n r b order ≡ mixed_chunks b log_n r p }
 {}
 
-/// Parameters that are written to a PHC text are read back as the same `log_n`, `r` and `p`, and in
-/// no other way.
+/// Parameters that are written to a PHC text are read back as the same `log_n`, `r` and `p`.
 #[tactic(auto, using(crate::proofs::PhcReadingFacts::written_read))]
 pub fn written_costs_read_back()
-    ensures read { (c : Parameters) → AreAccepted c.log_n c.r c.p → ReadsCosts (written_pairs c) (Ok (without_len c)) }
-    ensures only { (c : Parameters) (out : Result Parameters Refusal) → AreAccepted c.log_n c.r c.p
-        → ReadsCosts (written_pairs c) out → out ≡ Ok (without_len c) }
+    ensures read { (c : Parameters) → AreAccepted c.log_n c.r c.p → params_of_pairs (written_pairs c) ≡ Ok (without_len c) }
 {}
 
 /// A PHC text, an MCF text, a `$7$` text and a text of crypt Base64 each have at most one reading,
@@ -71,11 +68,7 @@ pub fn texts_have_one_reading()
         → IsMcfText text other more → (one ≡ other) × (fields ≡ more) }
     ensures modular_text { (id one other : List ℕ) (fields : List (List ℕ)) → IsMcfText one id fields
         → IsMcfText other id fields → one ≡ other }
-    ensures mcf_reading { (text salt more_salt stored more_stored : List ℕ) (one other : Parameters)
-        → IsMcfWhole text one salt stored → IsMcfWhole text other more_salt more_stored
-        → (one ≡ other) × (salt ≡ more_salt) × (stored ≡ more_stored) }
-    ensures mcf_text { (one other salt stored : List ℕ) (c : Parameters) → IsMcfWhole one c salt stored
-        → IsMcfWhole other c salt stored → one ≡ other }
+    ensures mcf_text { (one other : List ℕ) (s : Stored) → read_mcf one ≡ Ok s → read_mcf other ≡ Ok s → one ≡ other }
     ensures crypt64_reading { (letters one other : List ℕ) → Crypt64 one letters → Crypt64 other letters
         → one ≡ other }
     ensures crypt64_text { (bytes one other : List ℕ) → Crypt64 bytes one → Crypt64 bytes other → one ≡ other }
@@ -87,32 +80,35 @@ pub fn texts_have_one_reading()
 #[tactic(auto, using(crate::proofs::McfTextFacts::made_hashes))]
 pub fn made_hashes_are_accepted()
     ensures phc { (c : Parameters) (password salt : List ℕ) (hash : PasswordHash) → AreAccepted c.log_n c.r c.p
-        → IsMadeHash c password salt hash → Accepts password hash }
+        → IsMadeHash c password salt hash → verdict password (read_phc hash) ≡ Ok tt }
     ensures phc_printed { (c : Parameters) (password salt : List ℕ) (hash : PasswordHash) → AreAccepted c.log_n c.r c.p
         → IfSome c.output_len IsStoredLen → IsSalt salt → IsMadeHash c password salt hash
         → IsHashText (hash_text hash) hash }
     ensures phc_read_back { (c : Parameters) (password salt : List ℕ) (hash again : PasswordHash) → AreAccepted c.log_n c.r c.p
         → IfSome c.output_len IsStoredLen → IsSalt salt → IsMadeHash c password salt hash
-        → IsHashText (hash_text hash) again → Accepts password again }
+        → IsHashText (hash_text hash) again → verdict password (read_phc again) ≡ Ok tt }
     ensures mcf { (c : Parameters) (password salt text : List ℕ) → IsMadeMcf c password salt text
-        → McfAccepts password text }
+        → verdict password (read_mcf text) ≡ Ok tt }
     ensures mcf_written { (c : Parameters) (password salt : List ℕ) → AreAccepted c.log_n c.r c.p
         → IfSome c.output_len IsStoredLen → IsMadeMcf c password salt (costs_text c ++ (crypt64_of salt
         ++ dollar ∷ crypt64_of (key_by c password (crypt64_of salt) (key_len_or_default c)))) }
 {}
 
-/// The text of a stored hash has at most one set of parameters, one salt and one key, and at most
-/// one error of reading it, and not both.
+/// The text of a stored hash has one reading, and so has any other text.
+#[tactic(auto, using(crate::proofs::StoredHashFacts::read_once, crate::proofs::StoredHashFacts::whole_once))]
 pub fn stored_texts_have_one_reading()
-    ensures whole { (text salt more_salt key more_key : List ℕ) (one other : Parameters)
-        → IsWholeText text one salt key → IsWholeText text other more_salt more_key
-        → (one ≡ other) × (salt ≡ more_salt) × (key ≡ more_key) }
-    ensures parameters { (text : List ℕ) (one other : Parameters) (len more_len : ℕ) → HasParameters text one len
-        → HasParameters text other more_len → (one ≡ other) × (len ≡ more_len) }
-    ensures refused { (text : List ℕ) (one other : Refusal) → TextReadIsRefused text one → TextReadIsRefused text other
-        → one ≡ other }
-    ensures readable { (text salt key : List ℕ) (c : Parameters) (why : Refusal) → IsWholeText text c salt key
-        → ¬ TextReadIsRefused text why }
+    ensures whole { (text : List ℕ) (one other : Result Stored Refusal) → HasReading text one → HasReading text other → one ≡ other }
+    ensures hash { (text : List ℕ) (one other : StoredText) → Reads text one → Reads text other → one ≡ other }
+{}
+
+/// The parameters of a stored hash are those of its reading, and so is the length of its key. An error of its
+/// parameters is the error of its reading.
+#[tactic(auto, using(crate::proofs::StoredHashFacts::params_of_whole, crate::proofs::StoredHashFacts::params_refused))]
+pub fn parameters_are_those_of_the_reading()
+    ensures whole { (text : List ℕ) (hash : StoredText) (s : Stored) → Reads text hash → hash.whole ≡ Ok s
+        → hash.params ≡ Ok (s.params, length s.key) }
+    ensures refused { (text : List ℕ) (hash : StoredText) (why : Refusal) → Reads text hash → hash.params ≡ Err why
+        → hash.whole ≡ Err why }
 {}
 
 /// A `$7$` text is read in its format, and so is the text of a PHC hash of scrypt.
@@ -128,14 +124,9 @@ pub fn formats_are_told_apart()
 pub fn made_texts_are_accepted()
     ensures phc { (c : Parameters) (password salt : List ℕ) (hash : PasswordHash) → AreAccepted c.log_n c.r c.p
         → IfSome c.output_len IsStoredLen → IsSalt salt → IsMadeHash c password salt hash
-        → TextAccepts password (hash_text hash) }
-    ensures phc_strong { (c : Parameters) (password salt : List ℕ) (hash : PasswordHash) → AreAccepted c.log_n c.r c.p
-        → IfSome c.output_len IsStoredLen → IsSalt salt → IsMadeHash c password salt hash
-        → ¬ IsWeakerText c (hash_text hash) }
+        → (read : StoredText) × Reads (hash_text hash) read × (verdict password read.whole ≡ Ok tt) × (weaker c read.whole ≡ Ok false) }
     ensures mcf { (c : Parameters) (password salt text : List ℕ) → IsMadeMcf c password salt text
-        → TextAccepts password text }
-    ensures mcf_strong { (c : Parameters) (password salt text : List ℕ) → IsMadeMcf c password salt text
-        → ¬ IsWeakerText c text }
+        → (read : StoredText) × Reads text read × (verdict password read.whole ≡ Ok tt) × (weaker c read.whole ≡ Ok false) }
 {}
 
 /// Hashing with refused arguments has only one error.
@@ -147,33 +138,31 @@ pub fn hashing_refusals_are_one()
         → McfHashIsRefused alg_id version one → McfHashIsRefused alg_id version other → one ≡ other }
 {}
 
-/// Verifying a password against a PHC hash, a `$7$` text or the text of a stored hash has only one
-/// verdict. A password that is wrong is never the error of a text that cannot be read.
-pub fn verdicts_are_one()
-    ensures phc { (password : List ℕ) (hash : PasswordHash) (one other : Option Refusal) → Verdict password hash one
-        → Verdict password hash other → one ≡ other }
-    ensures mcf { (password text : List ℕ) (one other : Option Refusal) → McfVerdict password text one
-        → McfVerdict password text other → one ≡ other }
-    ensures text { (password text : List ℕ) (one other : Option Refusal) → TextVerdict password text one
-        → TextVerdict password text other → one ≡ other }
-    ensures phc_read { (password : List ℕ) (hash : PasswordHash) (why : Refusal) → VerifyIsRefused password hash PasswordInvalid
-        → ReadIsRefused hash why → why ≡ PasswordInvalid }
-    ensures text_read { (password text : List ℕ) (why : Refusal) → TextVerifyIsRefused password text PasswordInvalid
-        → TextReadIsRefused text why → why ≡ PasswordInvalid }
+/// A password is accepted exactly if the stored key is the key of its length that the parameters and the salt
+/// of the hash derive from it. It is called wrong only if the stored key is another, or the hash has no key or no salt.
+pub fn verdicts_compare_keys()
+    ensures right { (password : List ℕ) (reading : Result Stored Refusal) → (verdict password reading ≡ Ok tt)
+        ↔ ((s : Stored) × (reading ≡ Ok s) × (s.key ≡ key_by s.params password s.salt (length s.key))) }
+    ensures wrong { (password : List ℕ) (reading : Result Stored Refusal) → verdict password reading ≡ Err PasswordInvalid
+        → ((s : Stored) × (reading ≡ Ok s) × (s.key ≢ key_by s.params password s.salt (length s.key)))
+        ⊎ (reading ≡ Err PasswordInvalid) }
 {}
 
-/// A hash that accepts a password can be read, so checking whether it is weaker than wanted returns
-/// no error. A hash that was made with the wanted parameters is not weaker than wanted.
-#[tactic(auto, using(crate::proofs::PhcHashFacts::not_both))]
+/// No `$7$` text, and no PHC hash with a salt and a key, is refused with `PasswordInvalid` or `OutOfMemory` as it is read.
+/// The parameters of a stored hash, which need no salt and no key, never are.
+pub fn reading_names_no_password()
+    ensures mcf { (text : List ℕ) → (read_mcf text ≢ Err PasswordInvalid) × (read_mcf text ≢ Err OutOfMemory) }
+    ensures params { (hash : PasswordHash) → (phc_params hash ≢ Err PasswordInvalid) × (phc_params hash ≢ Err OutOfMemory) }
+    ensures stored { (text : List ℕ) (read : StoredText) → Reads text read
+        → (read.params ≢ Err PasswordInvalid) × (read.params ≢ Err OutOfMemory) }
+{}
+
+/// A hash that was made with the wanted parameters is not weaker than wanted.
 pub fn rehashing_converges()
-    ensures phc_readable { (password : List ℕ) (hash : PasswordHash) (why : Refusal) → Accepts password hash
-        → ¬ ReadIsRefused hash why }
-    ensures mcf_readable { (password text : List ℕ) (why : Refusal) → McfAccepts password text
-        → ¬ McfReadIsRefused text why }
     ensures phc { (c : Parameters) (password salt : List ℕ) (hash : PasswordHash) → AreAccepted c.log_n c.r c.p
-        → IsMadeHash c password salt hash → ¬ IsWeaker (IsWhole hash) c }
+        → IsMadeHash c password salt hash → weaker c (read_phc hash) ≡ Ok false }
     ensures mcf { (c : Parameters) (password salt text : List ℕ) → IsMadeMcf c password salt text
-        → ¬ IsWeaker (IsMcfWhole text) c }
+        → weaker c (read_mcf text) ≡ Ok false }
 {}
 
 /// Numbers below 2^30 and their five letters determine each other, any five letters encode a
@@ -232,3 +221,13 @@ pub fn block_mix_in_diagonal_order()
     ensures once { (f : List ℕ → List ℕ) (b out other : List ℕ) → length b % 32 ≡ 0
         → IsBlockMixBy f b out → IsBlockMixBy f b other → out ≡ other }
 {}
+
+/// The parameters of a hasher are accepted, and so is their length of a stored key.
+pub fn hashers_are_accepted(hasher: &crate::Scrypt)
+    ensures accepted { AreAccepted hasher.now.log_n hasher.now.r hasher.now.p }
+    ensures stored { IfSome hasher.now.output_len IsStoredLen }
+{
+    let params = hasher.params();
+    params.known();
+    let _ = params.output_len();
+}

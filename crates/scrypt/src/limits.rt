@@ -1,34 +1,41 @@
 // What a derivation may need.
 
-ghost use Rattle.std.specs.Prelude.{◌↔◌, IsTrue};
-ghost use Rattle.scrypt.specs.Limits.{AreWithin};
+ghost use Rattle.std.specs.Prelude.{◌≡◌};
+ghost use Rattle.scrypt.specs.Limits.{are_within};
 
 use crate::{BufferLens, Params};
 
-/// The most that a derivation may need: a stored hash names its own parameters, and may ask for
-/// days.
+/// What verifying a stored hash may need, and the least length of its key: a stored hash names its
+/// own parameters, and may ask for days.
 #[derive(Clone, Copy, Debug, PartialEq, Eq)]
 pub struct Limits {
-    /// The most bytes of its three buffers together.
+    /// The most bytes of the three buffers together, as [`BufferLens::of`] returns their lengths.
     pub most_bytes: usize,
-    /// The most Salsa20/8 cores that it runs.
-    pub most_cores: u64,
+    /// The most work, as [`Params::work`] returns it.
+    pub most_work: u64,
+    /// The least length of the key in bytes. A shorter key accepts one wrong password in `256^n`
+    /// if it has `n` bytes.
+    pub least_key_len: usize,
 }
 
-const _: () = prove!(Limits::USUAL.most_bytes == 268435456 && Limits::USUAL.most_cores == 16777216);
+const _: () = prove!(Limits::USUAL.most_bytes == 268435456 && Limits::USUAL.most_work == 16781312);
+
+const _: () = prove!(Limits::USUAL.least_key_len == 16);
 
 impl Limits {
-    /// 256 MiB, and four times the cores of the recommended parameters.
+    /// 256 MiB, four times the work of the recommended parameters, and a key of 16 bytes.
     pub const USUAL: Limits = Limits {
         most_bytes: 256 << 20,
-        most_cores: 1 << 24,
+        most_work: 4 * 4 * ((1 << 17) + 32) * 8,
+        least_key_len: 16,
     };
 
     /// Returns whether a derivation with these parameters needs no more than either limit.
+    #[tactic(auto, unfolding(crate::specs::Limits::are_within))]
     pub fn allow(&self, params: &Params) -> bool
-        ensures exact { IsTrue result ↔ AreWithin self.now params.now }
+        ensures exact { result ≡ are_within self.now params.now }
     {
         BufferLens::of(params).bytes() <= self.most_bytes as u128
-            && params.cores() <= u128::from(self.most_cores)
+            && params.work() <= u128::from(self.most_work)
     }
 }

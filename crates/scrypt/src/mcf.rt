@@ -3,12 +3,10 @@
 mod costs;
 mod five_letters;
 mod hashing;
-mod in_buffers;
 pub(crate) mod reading;
 mod verifying;
 
 pub use costs::decode_params_and_salt;
 pub use five_letters::{decode64_uint32, encode64_uint32};
 pub use hashing::{hash_len, hash_with_buffers};
-pub use in_buffers::verify_with_buffers;
 pub use password_hash::mcf::{PasswordHash, PasswordHashRef};

@@ -2,6 +2,7 @@
 
 ghost use Rattle.std.specs.Prelude.{◌≡◌, ◌↔◌, ◌+◌, ◌*◌, ◌^◌, ◌<◌, ◌≤◌, IsOk, IfOk, IfSome, IsTrue, None, Some};
 ghost use Rattle.scrypt.specs.Accepted.{AreAccepted, IsStoredLen, Parameters, parameters_eq, recommended_parameters};
+ghost use Rattle.scrypt.specs.Limits.{work};
 ghost use Rattle.scrypt.specs.Cost.{cost};
 ghost use Rattle.std.specs.Cmp.{and_equiv, on_equiv, partial_equiv_from_equiv};
 ghost use Rattle.std.specs.Cmp.Lexicographic.{options_equiv};
@@ -39,6 +40,10 @@ impl Model for Params {
 const _: () = prove!(Params::RECOMMENDED_LOG_N == 17 && Params::RECOMMENDED_R == 8);
 
 const _: () = prove!(Params::RECOMMENDED_P == 1 && Params::RECOMMENDED_LEN == 32);
+
+const _: () = prove!(Params::RECOMMENDED.log_n == 17 && Params::RECOMMENDED.r == 8);
+
+const _: () = prove!(Params::RECOMMENDED.p == 1);
 
 impl Params {
     /// The recommended logarithm of the work factor to base 2.
@@ -186,6 +191,16 @@ impl Params {
     {
         let blocks = self.n() * u64::from(self.r());
         4 * u128::from(blocks) * u128::from(self.p())
+    }
+
+    /// Returns the work of a derivation, `4 * (N + 32) * r * p`, which is below `2^90`: its cores,
+    /// and PBKDF2, which takes about as long as `128 * r * p` cores.
+    pub fn work(&self) -> u128
+        ensures value { result ≡ work self.now.log_n self.now.r self.now.p }
+        ensures small { result < 2 ^ 90 }
+    {
+        let chunk_blocks = u64::from(self.r()) * u64::from(self.p());
+        self.cores() + 128 * u128::from(chunk_blocks)
     }
 }
 

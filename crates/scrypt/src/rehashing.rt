@@ -1,12 +1,10 @@
 // Which stored hashes are weaker than wanted.
 
-ghost use Rattle.std.specs.Prelude.{◌↔◌, IfErr, IfOk, IsTrue, OnOk};
+ghost use Rattle.std.specs.Prelude.{◌≡◌};
 ghost use Rattle.password_hash.specs.McfViews.{hash_text};
-ghost use Rattle.password_hash.specs.Refusal.{refusal};
-ghost use Rattle.scrypt.specs.McfHash.{IsWhole as IsMcfWhole, ReadIsRefused as McfReadIsRefused};
-ghost use Rattle.scrypt.specs.PhcHash.{IsWhole, ReadIsRefused};
-ghost use Rattle.scrypt.specs.Rehashing.{IsBelow, IsReadable, IsWeaker};
-ghost use Rattle.scrypt.specs.StoredRead.{AreParamsOf};
+ghost use Rattle.scrypt.specs.McfHash.{read_mcf};
+ghost use Rattle.scrypt.specs.PhcHash.{read_phc};
+ghost use Rattle.scrypt.specs.Reading.{is_below, weaker as weaker_than};
 
 use crate::hashing::key_len_or_default;
 use crate::mcf::reading::stored_of_mcf;
@@ -15,11 +13,7 @@ use crate::{Params, Scrypt};
 use password_hash::{RehashCheck, Result, mcf, phc};
 
 impl RehashCheck<phc::PasswordHash> for Scrypt {
-    ghost readable = { λ hash. IsReadable (IsWhole hash) };
-
-    ghost weaker = { λ scrypt hash. IsWeaker (IsWhole hash) scrypt };
-
-    ghost refuses = { λ hash why. ReadIsRefused hash why };
+    ghost weaker = { λ scrypt hash. weaker_than scrypt (read_phc hash) };
 
     /// Returns whether `log_n`, `r`, `p` or the length of the key is below that of this value's
     /// parameters, which ask for a key of 32 bytes if they have no length. One of the four is
@@ -27,33 +21,15 @@ impl RehashCheck<phc::PasswordHash> for Scrypt {
     ///
     /// Returns the same errors as verifying does before it allocates, in the same order.
     fn needs_rehash(&self, hash: &phc::PasswordHash) -> Result<bool> {
-        needs_rehash_with_params(&self.params(), hash, &read_params(hash))
-    }
-}
-
-/// Compares as `needs_rehash` does a hash whose parameters were read by `read_params`.
-pub(crate) fn needs_rehash_with_params(
-    wanted: &Params,
-    hash: &phc::PasswordHash,
-    params: &Result<Params>,
-) -> Result<bool>
-    requires { AreParamsOf hash.now params.now }
-    ensures ok { OnOk result (IsReadable (IsWhole hash.now)) }
-    ensures weak { IfOk result (λ weak. IsTrue weak ↔ IsWeaker (IsWhole hash.now) wanted.now) }
-    ensures err { IfErr result (λ e. ReadIsRefused hash.now (refusal e)) }
-{
-    match stored_of(hash, params) {
-        Ok(stored) => Ok(is_below(wanted, &stored.params, stored.key.len())),
-        Err(error) => Err(error),
+        match stored_of(hash, &read_params(hash)) {
+            Ok(stored) => Ok(is_below(&self.params(), &stored.params, stored.key.len())),
+            Err(error) => Err(error),
+        }
     }
 }
 
 impl<'a> RehashCheck<mcf::PasswordHashRef<'a>> for Scrypt {
-    ghost readable = { λ hash. IsReadable (IsMcfWhole (hash_text hash)) };
-
-    ghost weaker = { λ scrypt hash. IsWeaker (IsMcfWhole (hash_text hash)) scrypt };
-
-    ghost refuses = { λ hash why. McfReadIsRefused (hash_text hash) why };
+    ghost weaker = { λ scrypt hash. weaker_than scrypt (read_mcf (hash_text hash)) };
 
     /// Returns whether `log_n`, `r`, `p` or the length of the key is below that of this value's
     /// parameters, which ask for a key of 32 bytes if they have no length. One of the four is
@@ -69,11 +45,7 @@ impl<'a> RehashCheck<mcf::PasswordHashRef<'a>> for Scrypt {
 }
 
 impl RehashCheck<mcf::PasswordHash> for Scrypt {
-    ghost readable = { λ hash. IsReadable (IsMcfWhole hash) };
-
-    ghost weaker = { λ scrypt hash. IsWeaker (IsMcfWhole hash) scrypt };
-
-    ghost refuses = { λ hash why. McfReadIsRefused hash why };
+    ghost weaker = { λ scrypt hash. weaker_than scrypt (read_mcf hash) };
 
     /// Returns what it returns for the borrowed text.
     fn needs_rehash(&self, hash: &mcf::PasswordHash) -> Result<bool> {
@@ -81,9 +53,10 @@ impl RehashCheck<mcf::PasswordHash> for Scrypt {
     }
 }
 
-// Returns whether one of the four is below the wanted one.
-fn is_below(wanted: &Params, stored: &Params, key_len: usize) -> bool
-    ensures { IsTrue result ↔ IsBelow wanted.now stored.now key_len }
+/// Returns whether one of the four is below the wanted one.
+#[tactic(auto, unfolding(crate::specs::Reading::is_below))]
+pub(crate) fn is_below(wanted: &Params, stored: &Params, key_len: usize) -> bool
+    ensures { result ≡ is_below wanted.now stored.now key_len }
 {
     stored.log_n() < wanted.log_n()
         || stored.r() < wanted.r()

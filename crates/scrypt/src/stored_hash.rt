@@ -1,22 +1,24 @@
 // Stored hashes of either format.
 
-ghost use Rattle.std.specs.Prelude.{◌≡◌, ◌≢◌, ◌↔◌, ℕ, IfErr, IfOk, IsOk, IsTrue, OnOk};
-ghost use Rattle.password_hash.specs.Refusal.{refusal};
-ghost use Rattle.password_hash.specs.Refusal as why;
+ghost use Rattle.std.specs.Prelude.{◌≡◌, ◌≢◌, ◌↔◌, Err, IfErr, IfOk, IsOk};
+ghost use Rattle.password_hash.specs.Refusal.{PasswordInvalid};
 ghost use Rattle.password_hash.specs.declared.error.Error.TheVariants.{EncodingInvalid};
-ghost use Rattle.scrypt.specs.Accepted.{Parameters};
-ghost use Rattle.scrypt.specs.StoredHash.{Accepts, HasParameters, IsReadableText, IsStoredText, IsWeakerText, ReadIsRefused, VerifyIsRefused, is_mcf_text, key_len_or_zero};
+ghost use Rattle.scrypt.specs.Cost.{chunks_bytes, scratch_words, table_words};
+ghost use Rattle.scrypt.specs.Reading.{IsVerdict, mapped, told, weaker};
+ghost use Rattle.scrypt.specs.StoredHash.{HasReading, IsStoredText, Reads, is_mcf_text, key_len_or_zero, reading_of};
 ghost use Rattle.scrypt.specs.StoredRead.{IsHashOf};
+ghost use Rattle.scrypt.specs.WorkInBuffers.{IsLeft, verdict_in, work_in};
 
-mod in_buffers;
+mod parts;
+mod two;
 mod within;
 
 use crate::mcf::reading::stored_of_mcf;
 use crate::phc::reading::read_params;
-use crate::phc::verify_with_params;
-use crate::rehashing::needs_rehash_with_params;
-use crate::{Params, Scrypt};
-use password_hash::{Error, PasswordVerifier, RehashCheck, Result, mcf, phc};
+use crate::rehashing::is_below;
+use crate::verifying::{verify_allocating, verify_in_buffers};
+use crate::{BufferLens, CoreCount, Params};
+use password_hash::{Error, Result, mcf, phc};
 use std::alloc::Global;
 use std::marker::Model;
 
@@ -37,12 +39,12 @@ enum Format<'a> {
 }
 
 impl<'a> Model for StoredHash<'a> {
-    ghost use Rattle.std.specs.Prelude.{ℕ, List};
-    ghost use Rattle.scrypt.specs.StoredRead.{IsHashOf};
+    ghost use Rattle.scrypt.specs.StoredHash.{StoredText};
+    ghost use Rattle.scrypt.specs.StoredRead.{IsHashOf, stored_text};
 
-    ghost Value = { List ℕ };
+    ghost Value = { StoredText };
 
-    ghost view = { λ a. a.text.now };
+    ghost view = { λ a. stored_text a.text.now a.format };
 
     ghost invariant = { λ a. IsHashOf a.text.now a.format };
 }
@@ -55,8 +57,9 @@ impl<'a> StoredHash<'a> {
     /// salt and its key are returned later, by the calls below.
     pub fn read(text: &'a str) -> Result<StoredHash<'a>>
         ensures exact { IsOk result ↔ IsStoredText text.now }
-        ensures ok { IfOk result (λ hash. hash ≡ text.now) }
+        ensures ok { IfOk result (Reads text.now) }
         ensures err { IfErr result (λ e. e ≡ EncodingInvalid) }
+        ensures reading { HasReading text.now (reading_of result) }
     {
         match read_format(text) {
             Ok(format) => Ok(StoredHash { text, format }),
@@ -66,8 +69,8 @@ impl<'a> StoredHash<'a> {
 
     /// Returns the text that was read.
     pub fn as_str(&self) -> &'a str
-        ensures value { result.now ≡ self.now }
-        ensures stored { IsStoredText self.now }
+        ensures value { result.now ≡ self.now.text }
+        ensures reads { Reads self.now.text self.now }
     {
         self.text
     }
@@ -78,9 +81,7 @@ impl<'a> StoredHash<'a> {
     /// Returns the first error of [`StoredHash::verify`] before it allocates, except
     /// `PasswordInvalid`.
     pub fn params(&self) -> Result<Params>
-        ensures ok { IfOk result (λ params. (len : ℕ) × HasParameters self.now params len) }
-        ensures err { IfErr result (λ e. ReadIsRefused self.now (refusal e)) }
-        ensures missing { IfErr result (λ e. refusal e ≢ why.PasswordInvalid) }
+        ensures value { told result ≡ mapped (λ read. read.0) self.now.params }
     {
         match self.params_and_key_len() {
             Ok((params, _)) => Ok(params),
@@ -92,9 +93,7 @@ impl<'a> StoredHash<'a> {
     ///
     /// Returns the same errors as [`StoredHash::params`].
     pub fn key_len(&self) -> Result<usize>
-        ensures ok { IfOk result (λ len. (c : Parameters) × HasParameters self.now c len) }
-        ensures err { IfErr result (λ e. ReadIsRefused self.now (refusal e)) }
-        ensures missing { IfErr result (λ e. refusal e ≢ why.PasswordInvalid) }
+        ensures value { told result ≡ mapped (λ read. read.1) self.now.params }
     {
         match self.params_and_key_len() {
             Ok((_, len)) => Ok(len),
@@ -107,14 +106,20 @@ impl<'a> StoredHash<'a> {
     ///
     /// Returns the errors of `Scrypt::verify_password` for the format, in the same order.
     pub fn verify(&self, alloc: Global, password: &[u8]) -> Result<()>
-        ensures ok { OnOk result (Accepts password.now self.now) }
-        ensures wrong { IfErr result (λ e. refusal e ≡ why.PasswordInvalid → ¬ Accepts password.now self.now) }
-        ensures err { IfErr result (λ e. VerifyIsRefused password.now self.now (refusal e)) }
+        ensures verdict { IsVerdict password.now self.now.whole (told result) }
     {
-        match &self.format {
-            Format::Mcf(hash) => Scrypt::new().verify_password(alloc, password, hash),
-            Format::Phc(hash, params) => verify_with_params(alloc, password, hash, params),
-        }
+        let parts = match self.parts() {
+            Ok(parts) => parts,
+            Err(error) => return Err(error),
+        };
+        verify_allocating(
+            alloc,
+            password,
+            parts.salt,
+            &parts.params,
+            &parts.key,
+            parts.key_len,
+        )
     }
 
     /// Returns whether `log_n`, `r`, `p` or the length of the key is below that of `wanted`, which
@@ -123,21 +128,78 @@ impl<'a> StoredHash<'a> {
     /// Returns the same errors as [`StoredHash::verify`] does before it allocates, in the same
     /// order.
     pub fn needs_rehash(&self, wanted: &Params) -> Result<bool>
-        ensures ok { OnOk result (IsReadableText self.now) }
-        ensures weak { IfOk result (λ weak. IsTrue weak ↔ IsWeakerText wanted.now self.now) }
-        ensures err { IfErr result (λ e. ReadIsRefused self.now (refusal e)) }
+        ensures weaker { told result ≡ weaker wanted.now self.now.whole }
     {
-        match &self.format {
-            Format::Mcf(hash) => Scrypt::new_with_params(*wanted).needs_rehash(hash),
-            Format::Phc(hash, params) => needs_rehash_with_params(wanted, hash, params),
+        match self.parts() {
+            Ok(parts) => Ok(is_below(wanted, &parts.params, parts.key_len)),
+            Err(error) => Err(error),
+        }
+    }
+
+    /// Returns the lengths of the buffers for [`StoredHash::verify_with_buffers`]. Does not
+    /// allocate.
+    ///
+    /// Returns the same errors as [`StoredHash::params`].
+    pub fn buffer_lens(&self) -> Result<BufferLens>
+        ensures value { told result ≡ mapped (λ read. record {
+          chunks = chunks_bytes read.0.r read.0.p;
+          table = table_words read.0.log_n read.0.r;
+          scratch = scratch_words read.0.r;
+        }) self.now.params }
+        ensures missing { told result ≢ Err PasswordInvalid }
+    {
+        let _ = self.as_str();
+        match self.params() {
+            Ok(params) => Ok(BufferLens::of(&params)),
+            Err(error) => Err(error),
+        }
+    }
+
+    /// Verifies `password` as [`StoredHash::verify`] does, in the caller's buffers. Does not
+    /// allocate.
+    ///
+    /// Each buffer is at least as long as [`StoredHash::buffer_lens`] returns. If `p` is at least 2
+    /// and the table and the scratch are twice as long, two chunks are mixed at a time, which takes
+    /// about 0.6 of the time. Only the first elements of each buffer are used, as many as that. What
+    /// they hold before the call does not matter. Afterwards those of `chunks` and `scratch` are
+    /// zeros, and those of `table` are unspecified. `cores` counts the `4 * N * r * p` cores of the
+    /// hash's parameters.
+    ///
+    /// Returns the same errors in the same order, `OutOfMemory` exactly if the hash can be read and
+    /// a buffer is too short for it. Unless the keys are compared, the buffers and the count are
+    /// unchanged.
+    pub fn verify_with_buffers(
+        &self,
+        password: &[u8],
+        chunks: &mut [u8],
+        table: &mut [u32],
+        scratch: &mut [u32],
+        cores: &mut CoreCount,
+    ) -> Result<()>
+        ensures verdict { told result
+            ≡ verdict_in (work_in chunks.old table.old scratch.old cores.old) password.now self.now.whole }
+        ensures left { IsLeft self.now.whole
+            (work_in chunks.old table.old scratch.old cores.old) (work_in chunks.new table.new scratch.new cores.new) }
+    {
+        match self.parts() {
+            Ok(parts) => verify_in_buffers(
+                password,
+                parts.salt,
+                &parts.params,
+                &parts.key,
+                parts.key_len,
+                chunks,
+                table,
+                scratch,
+                cores,
+            ),
+            Err(unread) => Err(unread),
         }
     }
 
     /// Returns what [`StoredHash::params`] and [`StoredHash::key_len`] return, read once.
     pub fn params_and_key_len(&self) -> Result<(Params, usize)>
-        ensures ok { IfOk result (λ read. HasParameters self.now read.0 read.1) }
-        ensures err { IfErr result (λ e. ReadIsRefused self.now (refusal e)) }
-        ensures missing { IfErr result (λ e. refusal e ≢ why.PasswordInvalid) }
+        ensures value { told result ≡ self.now.params }
     {
         match &self.format {
             Format::Mcf(hash) => match stored_of_mcf(hash) {

@@ -1,8 +1,8 @@
--- The error of reading bytes.
+-- How bytes are read.
 pub mod TextFacts
--- The status of verifying a password against a text.
+-- The status of verifying.
 pub mod VerdictFacts
--- The status of comparing the hash of a text with wanted parameters.
-pub mod RehashFacts
--- Verifying in the caller's buffers has one status.
+-- What verifying leaves in the caller's buffers.
 pub mod InBuffersFacts
+-- New hashes, as they are read back from the caller's buffer.
+pub mod MadeFacts

@@ -1,16 +1,35 @@
--- The error of reading bytes.
-use Rattle.std.proofs.Common.{◌≡◌, ℕ, List, Ok, Err}
-use Rattle.std.specs.Prelude.{IfErr, IsOk, Result, ◌↔◌}
+-- How bytes are read.
+use Rattle.std.proofs.Common.{◌≡◌, ℕ, List, Ok, Err, refl, subst}
+use Rattle.std.specs.Prelude.{IfErr, IfOk, IsOk, Result, ◌↔◌}
 use Rattle.std.specs.Str.{IsUtf8}
 use Rattle.std.proofs.lemmas.Bool.{false≢true}
-use Rattle.password_hash.specs.Refusal.{refusal}
 use Rattle.password_hash.specs.declared.error.Error.{Error}
 use Rattle.password_hash.specs.declared.error.Error.TheVariants.{EncodingInvalid}
-use Rattle.scrypt.specs.StoredHash.{IsStoredText, no_hash}
-use Rattle.scrypt_c.specs.Texts.{ReadIsRefused, of_text}
+use Rattle.scrypt.specs.StoredHash.{IsStoredText, Reads, StoredText}
+use Rattle.scrypt_c.specs.Texts.{ReadsBytes, no_hash, of_none, of_text}
+
+-- a text was read
+pub stored_text : (bytes : List ℕ) (out : Result StoredText Error) → IsUtf8 bytes → IfOk out (Reads bytes) → IfOk out (ReadsBytes bytes)
+stored_text bytes (Ok hash) utf8 reads = of_text utf8 reads
+stored_text bytes (Err e) utf8 reads = tt
 
 -- a text was not read
-pub no_stored_text : {H : Type 0} (bytes : List ℕ) (out : Result H Error) → IsUtf8 bytes → (IsOk out ↔ IsStoredText bytes)
-    → IfErr out (λ e. e ≡ EncodingInvalid) → IfErr out (λ e. ReadIsRefused bytes (refusal e))
-no_stored_text bytes (Ok hash) utf8 exact is = tt
-no_stored_text bytes (Err e) utf8 exact is = rw is (of_text utf8 (no_hash (λ h. false≢true (exact.1 h))))
+pub no_stored_text : {H : Type 0} (bytes : List ℕ) (out : Result H Error) → (IsOk out ↔ IsStoredText bytes)
+    → IfErr out (λ e. e ≡ EncodingInvalid) → IfErr out (λ e. (e ≡ EncodingInvalid) × ReadsBytes bytes (no_hash bytes))
+no_stored_text bytes (Ok hash) exact is = tt
+no_stored_text bytes (Err e) exact is = (is, of_none (λ text. false≢true (exact.1 text.1)))
+
+-- bytes are read in one way, since texts are
+read_once : {bytes : List ℕ} {one other : StoredText}
+    → ((text : List ℕ) (one other : StoredText) → Reads text one → Reads text other → one ≡ other)
+    → ReadsBytes bytes one → ReadsBytes bytes other → one ≡ other
+read_once once (of_text utf8 reads) (of_text utf8' reads') = once _ _ _ reads reads'
+read_once once (of_text utf8 reads) (of_none none) = absurd (none (utf8, (_, reads)))
+read_once once (of_none none) (of_text utf8 reads) = absurd (none (utf8, (_, reads)))
+read_once once (of_none none) (of_none none') = refl
+
+-- what holds of one reading of bytes holds of each
+pub each_reading : {bytes : List ℕ} (P : StoredText → Type 0)
+    → ((text : List ℕ) (one other : StoredText) → Reads text one → Reads text other → one ≡ other)
+    → (hash : StoredText) × ReadsBytes bytes hash × P hash → (hash : StoredText) → ReadsBytes bytes hash → P hash
+each_reading P once some hash reads = subst P (read_once once some.1 reads) some.2

@@ -1,30 +1,25 @@
--- Verifying in the caller's buffers.
-use Rattle.std.specs.Prelude.{ℕ, ℤ, pos, List, Option, Result, Ok, Err, ⊤}
-use Rattle.std.specs.Str.{IsUtf8}
-use Rattle.password_hash.specs.Refusal.{Refusal, refusal}
-use Rattle.password_hash.specs.declared.error.Error.{Error}
-use Rattle.password_hash.specs.declared.error.Error.TheVariants as error
-use Rattle.scrypt.specs.InBuffers.{AreCompared, AreTooShort}
-use Rattle.scrypt.specs.StoredHash.{IsWhole}
-use Rattle.scrypt_c.specs.Statuses.{refusal_status, verdict_status}
-use Rattle.scrypt_c.specs.Texts.{Verdict}
+-- The caller's buffers: what a call leaves in them.
+use Rattle.std.specs.Prelude.{◌≡◌, ℕ, ◌*◌, List, drop, MatchBool, Result, Ok, Err}
+use Rattle.password_hash.specs.Refusal.{Refusal}
+use Rattle.scrypt.specs.Accepted.{Parameters}
+use Rattle.scrypt.specs.Cost.{chunks_bytes, scratch_words, table_words}
+use Rattle.scrypt.specs.InBuffers.{IsWiped}
+use Rattle.scrypt.specs.Reading.{Stored}
+use Rattle.scrypt.specs.WorkInBuffers.{Work, has_room, tables_used}
 
--- the hash of the bytes can be read, and a buffer is too short for it
-abbrev pub NeedsMore : List ℕ → List ℕ → List ℕ → List ℕ → Type 0
-NeedsMore bytes chunks table scratch = IsUtf8 bytes × AreTooShort (IsWhole bytes) chunks table scratch
+-- the buffers of a call, which counts from 0
+abbrev pub buffers : List ℕ → List ℕ → List ℕ → Work
+buffers chunks table scratch = record { chunks = chunks; table = table; scratch = scratch; all = 0; lanes = 0 }
 
--- the hash of the bytes can be read, and the buffers are long enough for it
-abbrev pub HasRoom : List ℕ → List ℕ → List ℕ → List ℕ → Type 0
-HasRoom bytes chunks table scratch = IsUtf8 bytes × AreCompared (IsWhole bytes) chunks table scratch
+-- a derivation with these parameters was done in the buffers: what it used of the chunks and the scratch is zeros
+-- now, and all buffers are unchanged after what it used
+pub record AreUsed (c : Parameters) (before after : Work) : Type 0 where
+  pub chunks : IsWiped (chunks_bytes c.r c.p) before.chunks after.chunks
+  pub scratch : IsWiped (tables_used c before.table before.scratch * scratch_words c.r) before.scratch after.scratch
+  pub rest : let used = tables_used c before.table before.scratch * table_words c.log_n c.r in
+      drop used after.table ≡ drop used before.table
 
--- the status of verifying in these buffers: that one of them is too short, or that of the verdict
-pub data IsBuffersStatus (password bytes chunks table scratch : List ℕ) : ℤ → Type 0 where
-  too_short : NeedsMore bytes chunks table scratch → IsBuffersStatus password bytes chunks table scratch (pos 12)
-  by_verdict : ¬ NeedsMore bytes chunks table scratch → (verdict : Option Refusal) → Verdict password bytes verdict
-      → IsBuffersStatus password bytes chunks table scratch (verdict_status verdict)
-
--- the status of the result of verifying in buffers, for which OutOfMemory is that one is too short
-abbrev pub buffers_status : Result ⊤ Error → ℤ
-buffers_status (Ok u) = pos 0
-buffers_status (Err error.OutOfMemory) = pos 12
-buffers_status (Err e) = refusal_status (refusal e)
+-- what verifying leaves: a derivation was done if keys were compared, and nothing changed if not
+abbrev pub AreLeft : Result Stored Refusal → Work → Work → Type 0
+AreLeft (Ok s) before after = MatchBool (has_room s.params before) (AreUsed s.params before after) (after ≡ before)
+AreLeft (Err why) before after = after ≡ before

@@ -2,11 +2,13 @@
 
 -- the lengths of the caller's buffers
 pub mod Buffers
--- the statuses of verdicts and errors
-pub mod Statuses
--- the texts of hashes, as bytes: their verdicts and the statuses of the calls that read them
+-- how the texts of hashes are read, as bytes
 pub mod Texts
+-- the statuses of what was read, of verdicts and of errors
+pub mod Statuses
+-- the statuses of what a call needs within limits
+pub mod Limits
 -- the texts of new hashes, and how they are copied to the caller
 pub mod Made
--- verifying in the caller's buffers
+-- what is left in the caller's buffers
 pub mod InBuffers

@@ -1,11 +1,16 @@
--- The parameters of new hashes, and texts that are too long for the caller.
+-- The parameters of new hashes, and their texts, which are written to the caller's buffer or too long for it.
 use Rattle.std.specs.Prelude.{◌≡◌, ℕ, ◌<◌, List, length, Some}
+use Rattle.std.specs.Str.{IsUtf8}
 use Rattle.scrypt.specs.Accepted.{Parameters}
-pub use Rattle.scrypt.specs.InBuffers.{IsCopiedTo}
+use Rattle.scrypt.specs.InBuffers.{IsCopiedTo}
 
 -- parameters with the length of a key
 abbrev pub wanted : ℕ → ℕ → ℕ → ℕ → Parameters
 wanted log_n r p key_len = record { log_n = log_n; r = r; p = p; output_len = Some key_len }
+
+-- such a text, in UTF-8, is at the front of the caller's buffer, the rest of which is unchanged, and this is its length
+abbrev pub IsWrittenTo : (List ℕ → Type 0) → List ℕ → List ℕ → ℕ → Type 0
+IsWrittenTo IsMade old new len = IsCopiedTo (λ text. IsUtf8 text × IsMade text) old new len
 
 -- a text that is made is longer than the caller's buffer, and this is its length
 abbrev pub IsTooLong : (List ℕ → Type 0) → List ℕ → ℕ → Type 0

@@ -1,7 +1,8 @@
--- The statuses of verdicts and errors.
-use Rattle.std.specs.Prelude.{ℤ, pos, Bool, true, false, Option, None, Some, Result, Ok, Err, ⊤}
-use Rattle.password_hash.specs.Refusal.{Refusal, Algorithm, EncodingInvalid, OutputSize, ParamInvalid, ParamsInvalid, SaltInvalid, Version, OutOfMemory, PasswordInvalid, refusal}
-use Rattle.password_hash.specs.declared.error.Error.{Error}
+-- The statuses of what was read, of verdicts and of errors.
+use Rattle.std.specs.Prelude.{◌≡◌, ◌⊎◌, ℕ, ℤ, pos, Bool, true, false, List, Result, Ok, Err, IsOk, ⊤}
+use Rattle.password_hash.specs.Refusal.{Refusal, Algorithm, EncodingInvalid, OutputSize, ParamInvalid, ParamsInvalid}
+use Rattle.password_hash.specs.Refusal.{SaltInvalid, Version, OutOfMemory, PasswordInvalid}
+use Rattle.scrypt.specs.Reading.{Stored, verdict}
 
 -- the status of a refusal
 abbrev pub refusal_status : Refusal → ℤ
@@ -15,18 +16,24 @@ refusal_status ParamsInvalid = pos 9
 refusal_status SaltInvalid = pos 10
 refusal_status Version = pos 11
 
--- the status of a verdict: `None` accepts the password
-abbrev pub verdict_status : Option Refusal → ℤ
-verdict_status None = pos 0
-verdict_status (Some why) = refusal_status why
+-- the status of a result: of reading parameters, or of verifying
+abbrev pub result_status : {A : Type 0} → Result A Refusal → ℤ
+result_status (Ok x) = pos 0
+result_status (Err why) = refusal_status why
 
--- the status of the result of verifying
-abbrev pub verified_status : Result ⊤ Error → ℤ
-verified_status (Ok u) = pos 0
-verified_status (Err e) = refusal_status (refusal e)
+-- the status of verifying: that of the verdict, or, only where keys are compared, that an allocation failed
+abbrev pub IsVerifyStatus : List ℕ → Result Stored Refusal → ℤ → Type 0
+IsVerifyStatus password reading status =
+    (status ≡ result_status (verdict password reading)) ⊎ (IsOk reading × (status ≡ pos 4))
 
--- the status of the result of comparing a hash with wanted parameters
-abbrev pub rehash_status : Result Bool Error → ℤ
+-- the status of whether a hash is weaker than wanted
+abbrev pub rehash_status : Result Bool Refusal → ℤ
 rehash_status (Ok false) = pos 0
 rehash_status (Ok true) = pos 1
-rehash_status (Err e) = refusal_status (refusal e)
+rehash_status (Err why) = refusal_status why
+
+-- the status of verifying in the caller's buffers, where `OutOfMemory` is that one is too short
+abbrev pub buffers_status : Result ⊤ Refusal → ℤ
+buffers_status (Ok u) = pos 0
+buffers_status (Err OutOfMemory) = pos 12
+buffers_status (Err why) = refusal_status why

@@ -1,22 +1,22 @@
 //! Hashes: writing their texts, and verifying passwords by them.
 
-ghost use Rattle.std.specs.Prelude.{◌≡◌, ◌≢◌, ◌⊎◌, ◌↔◌, ℕ, Option, ℤ, pos, length};
-ghost use Rattle.std.specs.Str.{IsUtf8};
-ghost use Rattle.password_hash.specs.Refusal.{Refusal, PasswordInvalid};
-ghost use Rattle.scrypt.specs.Accepted.{AreAccepted, IsStoredLen, Parameters};
+ghost use Rattle.std.specs.Prelude.{◌≡◌, ◌≢◌, ◌⊎◌, ◌↔◌, IfOk, length};
+ghost use Rattle.password_hash.specs.Refusal.{told};
+ghost use Rattle.scrypt.specs.Accepted.{AreAccepted, IsStoredLen};
 ghost use Rattle.scrypt.specs.McfHash.{IsMadeHash as IsMadeMcf};
 ghost use Rattle.scrypt.specs.PhcHash.{IsMadeText, IsSaltLen};
-ghost use Rattle.scrypt.specs.StoredHash.{HasParameters};
-ghost use Rattle.scrypt_c.specs.Made.{IsCopiedTo, IsTooLong, wanted};
-ghost use Rattle.scrypt_c.specs.Statuses.{refusal_status, rehash_status, verdict_status, verified_status};
-ghost use Rattle.scrypt_c.specs.Texts.{IsReadable, IsRehashStatus, IsVerifyStatus, ReadIsRefused, Verdict};
+ghost use Rattle.scrypt.specs.Reading.{weaker};
+ghost use Rattle.scrypt.specs.StoredHash.{StoredText};
+ghost use Rattle.scrypt_c.specs.Made.{IsTooLong, IsWrittenTo, wanted};
+ghost use Rattle.scrypt_c.specs.Statuses.{IsVerifyStatus, rehash_status, result_status};
+ghost use Rattle.scrypt_c.specs.Texts.{ReadsBytes};
 
 use crate::statuses::{
     BUFFER_SIZE, INVALID_PARAMS, MISMATCH, NEEDS_REHASH, OK, OUT_OF_MEMORY, SALT_INVALID, status_of,
 };
 use crate::texts::{copy_to, stored_hash};
 use password_hash::{PasswordHasher, Result, mcf, phc};
-use scrypt::laws::{stored_texts_have_one_reading, verdicts_are_one};
+use scrypt::laws::reading_names_no_password;
 use scrypt::{Params, Scrypt};
 use std::alloc::Global;
 
@@ -39,7 +39,7 @@ pub extern "C" fn scrypt_hash_phc(
     text: &mut [u8],
     text_len: &mut usize,
 ) -> i32
-    ensures made { result ≡ OK → IsCopiedTo (IsMadeText (wanted log_n r p key_len) password.now salt.now)
+    ensures made { result ≡ OK → IsWrittenTo (IsMadeText (wanted log_n r p key_len) password.now salt.now)
         text.old text.new text_len.new }
     ensures params { (result ≡ INVALID_PARAMS) ↔ (¬ (AreAccepted log_n r p × IsStoredLen key_len)) }
     ensures salt { (result ≡ SALT_INVALID)
@@ -84,7 +84,7 @@ pub extern "C" fn scrypt_hash_mcf(
     text: &mut [u8],
     text_len: &mut usize,
 ) -> i32
-    ensures made { result ≡ OK → IsCopiedTo (IsMadeMcf (wanted log_n r p key_len) password.now salt.now)
+    ensures made { result ≡ OK → IsWrittenTo (IsMadeMcf (wanted log_n r p key_len) password.now salt.now)
         text.old text.new text_len.new }
     ensures params { (result ≡ INVALID_PARAMS) ↔ (¬ (AreAccepted log_n r p × IsStoredLen key_len)) }
     ensures size { result ≡ BUFFER_SIZE → IsTooLong
@@ -109,8 +109,8 @@ pub extern "C" fn scrypt_hash_mcf(
 /// caller can bound the work of verifying. A PHC hash without a salt or a key has parameters too.
 /// Nothing is allocated.
 ///
-/// Returns `OK`, or what `scrypt_verify` returns for a hash that cannot be read, in the same order,
-/// except `MISMATCH`. On an error the outputs are unchanged.
+/// Returns `OK`, or the first error of `scrypt_verify` for this text before it allocates, except
+/// `MISMATCH`. On an error the four outputs are unchanged.
 #[unsafe(no_mangle)]
 pub extern "C" fn scrypt_hash_params(
     text: &[u8],
@@ -119,14 +119,14 @@ pub extern "C" fn scrypt_hash_params(
     p: &mut u32,
     key_len: &mut usize,
 ) -> i32
-    ensures utf8 { result ≡ OK → IsUtf8 text.now }
-    ensures params { result ≡ OK → (c : Parameters) × HasParameters text.now c key_len.new
-        × (log_n.new ≡ c.log_n) × (r.new ≡ c.r) × (p.new ≡ c.p) }
-    ensures refused { result ≢ OK → (why : Refusal) × ReadIsRefused text.now why × (why ≢ PasswordInvalid)
-        × (result ≡ refusal_status why) }
+    ensures read { (hash : StoredText) × ReadsBytes text.now hash × ((result ≡ result_status hash.params)
+        × IfOk hash.params (λ read. (log_n.new ≡ read.0.log_n) × (r.new ≡ read.0.r) × (p.new ≡ read.0.p)
+        × (key_len.new ≡ read.1))) }
+    ensures missing { (result ≢ MISMATCH) × (result ≢ OUT_OF_MEMORY) }
     ensures unchanged { result ≢ OK → (log_n.new ≡ log_n.old) × (r.new ≡ r.old) × (p.new ≡ p.old)
         × (key_len.new ≡ key_len.old) }
 {
+    reading_names_no_password();
     let hash = match stored_hash(text) {
         Ok(hash) => hash,
         Err(error) => return status_of(error),
@@ -146,19 +146,22 @@ pub extern "C" fn scrypt_hash_params(
 /// Verifies the password by the text of a hash, with the parameters, the salt and the length of the
 /// key in the text. All bytes of the two keys are compared.
 ///
-/// Returns `OK` if it is the password of the hash, and `MISMATCH` if it is not or the hash has no
-/// salt or no key. A text that is `$7` or begins with `$7$` is read as a `$7$` text, and any other as
-/// a PHC text; the errors are those of `Scrypt::verify_password`, in the same order, and
-/// `ENCODING_INVALID` for a text of neither format or bytes that are not UTF-8.
+/// A text that is `$7` or begins with `$7$` is read as a `$7$` text, and any other as a PHC text.
+/// Returns `OK` if it is the password of the hash, or the first of these. For a PHC text:
+/// `ENCODING_INVALID` unless the bytes are UTF-8 and have the grammar; `ALGORITHM` unless it is
+/// scrypt; `VERSION` if there is one; for the first pair that is refused `HASH_PARAM_INVALID`, or
+/// `HASH_PARAMS_INVALID` if it is none of scrypt's, and `HASH_PARAMS_INVALID` unless the parameters
+/// are accepted; `MISMATCH` if there is no salt or no key; `OUT_OF_MEMORY` if an allocation fails;
+/// and `MISMATCH` if it is another password. For a `$7$` text: `ENCODING_INVALID` unless the bytes
+/// are UTF-8 and the first field encodes parameters; `HASH_PARAMS_INVALID` unless they are accepted;
+/// `ENCODING_INVALID` unless one field follows, of crypt Base64; `OUTPUT_SIZE` unless it encodes 1
+/// to 137438953440 bytes; `OUT_OF_MEMORY`; and `MISMATCH`.
 #[unsafe(no_mangle)]
 pub extern "C" fn scrypt_verify(alloc: Global, password: &[u8], text: &[u8]) -> i32
-    ensures status { IsVerifyStatus password.now text.now result }
-    ensures exact { (verdict : Option Refusal) → Verdict password.now text.now verdict
-        → (result ≡ verdict_status verdict) ⊎ ((result ≡ OUT_OF_MEMORY) × IsReadable text.now) }
+    ensures status { (hash : StoredText) × ReadsBytes text.now hash × IsVerifyStatus password.now hash.whole result }
 {
-    verdicts_are_one();
     match stored_hash(text) {
-        Ok(hash) => verified_status(hash.verify(alloc, password)),
+        Ok(hash) => verify_status(hash.verify(alloc, password)),
         Err(error) => status_of(error),
     }
 }
@@ -166,17 +169,16 @@ pub extern "C" fn scrypt_verify(alloc: Global, password: &[u8], text: &[u8]) -> 
 /// Compares the hash of a text with wanted parameters: it is weaker if `log_n`, `r`, `p` or the
 /// length of its key is below the wanted one, and one of the four is enough. Nothing is allocated.
 ///
-/// Returns `OK` if it is not weaker, and `NEEDS_REHASH` if it is or the hash has no salt or no key.
-/// Otherwise `INVALID_PARAMS` unless `log_n`, `r` and `p` are accepted and the key has 10 to 64
-/// bytes, or the errors of `scrypt_verify` before it allocates, in the same order.
+/// Returns the first of these: `INVALID_PARAMS` unless `log_n`, `r` and `p` are accepted and the
+/// wanted key has 10 to 64 bytes, whatever the text is; the first error of `scrypt_verify` before it
+/// allocates, of which `MISMATCH`, for no salt or no key, is the same number as `NEEDS_REHASH`;
+/// `NEEDS_REHASH` if the hash is weaker; and `OK` if it is not.
 #[unsafe(no_mangle)]
 pub extern "C" fn scrypt_needs_rehash(text: &[u8], log_n: u8, r: u32, p: u32, key_len: usize) -> i32
-    ensures params { (result ≡ INVALID_PARAMS) ↔ (¬ (AreAccepted log_n r p × IsStoredLen key_len)) }
-    ensures status { result ≢ INVALID_PARAMS → IsRehashStatus (wanted log_n r p key_len) text.now result }
-    ensures exact { result ≢ INVALID_PARAMS → (status : ℤ) → IsRehashStatus (wanted log_n r p key_len) text.now status
-        → result ≡ status }
+    ensures status { ((result ≡ INVALID_PARAMS) × ¬ (AreAccepted log_n r p × IsStoredLen key_len))
+        ⊎ (AreAccepted log_n r p × IsStoredLen key_len × ((hash : StoredText) × ReadsBytes text.now hash
+        × (result ≡ rehash_status (weaker (wanted log_n r p key_len) hash.whole)))) }
 {
-    stored_texts_have_one_reading();
     let Ok(wanted) = Params::new_with_output_len(log_n, r, p, key_len) else {
         return INVALID_PARAMS;
     };
@@ -187,8 +189,8 @@ pub extern "C" fn scrypt_needs_rehash(text: &[u8], log_n: u8, r: u32, p: u32, ke
 }
 
 // Returns the status of the result of verifying.
-fn verified_status(verified: Result<()>) -> i32
-    ensures { result ≡ verified_status verified }
+fn verify_status(verified: Result<()>) -> i32
+    ensures { result ≡ result_status (told verified) }
 {
     match verified {
         Ok(()) => OK,
@@ -198,7 +200,7 @@ fn verified_status(verified: Result<()>) -> i32
 
 // Returns the status of the result of comparing a hash with wanted parameters.
 fn rehash_status(weaker: Result<bool>) -> i32
-    ensures { result ≡ rehash_status weaker }
+    ensures { result ≡ rehash_status (told weaker) }
 {
     match weaker {
         Ok(true) => NEEDS_REHASH,

@@ -1,12 +1,14 @@
 //! What C calls: a static library over the crate `scrypt`.
 //!
-//! It is not for callers from Rattle, and it trusts the pointers and the lengths that it is passed. Each call returns a status: 0 on success, otherwise an error code. A slice is a pointer and a length
-//! in C.
+//! It is not for callers from Rattle, and it trusts the pointers and the lengths that it is passed.
+//! Each call returns a status: 0 on success, otherwise an error code. A slice is a pointer and a
+//! length in C.
 #![tactic(auto)]
 
 pub mod hashes;
-pub mod in_buffers;
 pub mod keys;
+pub mod needs;
 mod promises;
 pub mod statuses;
 mod texts;
+pub mod with_buffers;

@@ -1,7 +1,8 @@
-// What the calls do, for each kind of arguments, by the numbers of the statuses.
+// What a caller gets who calls by position: a key in buffers of the lengths that another call gave, and the status
+// of a text of which the reading is known.
 //
-// Each function only makes one call, and is proved from its public clauses alone. So a clause that becomes
-// weaker breaks the proof.
+// Each function is proved from the public clauses of the calls, so that an order of arguments that changes breaks the
+// proof.
 
 pub mod derived_keys;
 pub mod new_hashes;

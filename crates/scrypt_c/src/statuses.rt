@@ -48,6 +48,12 @@ pub const VERSION: i32 = 11;
 /// A buffer does not have its length, or the text does not fit its capacity.
 pub const BUFFER_SIZE: i32 = 12;
 
+/// The parameters need more than one of the limits.
+pub const TOO_COSTLY: i32 = 13;
+
+/// The key is shorter than the limits allow.
+pub const KEY_TOO_SHORT: i32 = 15;
+
 // Clauses use the names of the statuses, and callers in C their numbers.
 const _: () = prove!(OK == 0 && MISMATCH == 1 && NEEDS_REHASH == 1 && INVALID_PARAMS == 2);
 
@@ -57,7 +63,7 @@ const _: () = prove!(ENCODING_INVALID == 6 && OUTPUT_SIZE == 7 && HASH_PARAM_INV
 
 const _: () = prove!(HASH_PARAMS_INVALID == 9 && SALT_INVALID == 10 && VERSION == 11);
 
-const _: () = prove!(BUFFER_SIZE == 12);
+const _: () = prove!(BUFFER_SIZE == 12 && TOO_COSTLY == 13 && KEY_TOO_SHORT == 15);
 
 // Returns the status of an error.
 pub(crate) fn status_of(error: Error) -> i32

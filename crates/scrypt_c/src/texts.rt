@@ -1,10 +1,8 @@
 // The texts of hashes: read from the caller's bytes, and copied to the caller's buffer.
 
-ghost use Rattle.std.specs.Prelude.{◌≡◌, ◌≢◌, ◌↔◌, ◌⊎◌, ◌≤◌, ◌++◌, drop, length, IfErr, IfOk, OnOk};
-ghost use Rattle.std.specs.Str.{IsUtf8};
+ghost use Rattle.std.specs.Prelude.{◌≡◌, ◌≢◌, ◌↔◌, ◌⊎◌, ◌≤◌, ◌++◌, drop, length, IfErr, IfOk};
 ghost use Rattle.password_hash.specs.declared.error.Error.TheVariants.{EncodingInvalid};
-ghost use Rattle.password_hash.specs.Refusal.{refusal};
-ghost use Rattle.scrypt_c.specs.Texts.{ReadIsRefused};
+ghost use Rattle.scrypt_c.specs.Texts.{ReadsBytes, no_hash};
 
 use crate::statuses::{BUFFER_SIZE, OK};
 use password_hash::{Error, Result};
@@ -14,10 +12,8 @@ use scrypt::StoredHash;
 ///
 /// Returns `EncodingInvalid` if the bytes are not UTF-8 or the text is not one of its format.
 pub fn stored_hash(bytes: &[u8]) -> Result<StoredHash<'_>>
-    ensures utf8 { OnOk result (IsUtf8 bytes.now) }
-    ensures ok { IfOk result (λ hash. hash ≡ bytes.now) }
-    ensures err { IfErr result (λ e. e ≡ EncodingInvalid) }
-    ensures refused { IfErr result (λ e. ReadIsRefused bytes.now (refusal e)) }
+    ensures ok { IfOk result (ReadsBytes bytes.now) }
+    ensures err { IfErr result (λ e. (e ≡ EncodingInvalid) × ReadsBytes bytes.now (no_hash bytes.now)) }
 {
     match std::str::from_utf8(bytes) {
         Ok(text) => StoredHash::read(text),

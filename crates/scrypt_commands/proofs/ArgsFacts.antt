@@ -8,65 +8,41 @@ not_true : (met : Bool) → (met ≡ true → ⊥) → met ≡ false
 not_true true h = absurd (h refl)
 not_true false h = refl
 
--- a list of five elements is these five
-five : {A : Type 0} (xs : List A) (a b c d e : A) → length xs ≡ 5
-    → a ≡ get_or xs 0 a → b ≡ get_or xs 1 b → c ≡ get_or xs 2 c
-    → d ≡ get_or xs 3 d → e ≡ get_or xs 4 e
-    → xs ≡ a ∷ b ∷ c ∷ d ∷ e ∷ []
-five [] a b c d e n h0 h1 h2 h3 h4 = absurd (omega arith)
-five (x0 ∷ []) a b c d e n h0 h1 h2 h3 h4 = absurd (omega arith)
-five (x0 ∷ x1 ∷ []) a b c d e n h0 h1 h2 h3 h4 = absurd (omega arith)
-five (x0 ∷ x1 ∷ x2 ∷ []) a b c d e n h0 h1 h2 h3 h4 = absurd (omega arith)
-five (x0 ∷ x1 ∷ x2 ∷ x3 ∷ []) a b c d e n h0 h1 h2 h3 h4 = absurd (omega arith)
-five (x0 ∷ x1 ∷ x2 ∷ x3 ∷ x4 ∷ []) a b c d e n h0 h1 h2 h3 h4 = cc
-five (x0 ∷ x1 ∷ x2 ∷ x3 ∷ x4 ∷ x5 ∷ xs) a b c d e n h0 h1 h2 h3 h4 = absurd (omega arith)
+-- the texts of five, six and seven arguments
 
--- the texts of five arguments
 pub are_five : {A : Type 0} (text : A → List ℕ) (args : List A) (a b c d e : A) {ta tb tc td te : List ℕ}
     → length args ≡ 5
     → a ≡ get_or args 0 a → b ≡ get_or args 1 b → c ≡ get_or args 2 c
     → d ≡ get_or args 3 d → e ≡ get_or args 4 e
     → ta ≡ text a → tb ≡ text b → tc ≡ text c → td ≡ text d → te ≡ text e
     → map text args ≡ ta ∷ tb ∷ tc ∷ td ∷ te ∷ []
-are_five text args a b c d e n h0 h1 h2 h3 h4 t0 t1 t2 t3 t4 =
-    rw (five args a b c d e n h0 h1 h2 h3 h4, t0, t1, t2, t3, t4) refl
+are_five text [] a b c d e n h0 h1 h2 h3 h4 t0 t1 t2 t3 t4 = absurd (omega arith)
+are_five text (x0 ∷ []) a b c d e n h0 h1 h2 h3 h4 t0 t1 t2 t3 t4 = absurd (omega arith)
+are_five text (x0 ∷ x1 ∷ []) a b c d e n h0 h1 h2 h3 h4 t0 t1 t2 t3 t4 = absurd (omega arith)
+are_five text (x0 ∷ x1 ∷ x2 ∷ []) a b c d e n h0 h1 h2 h3 h4 t0 t1 t2 t3 t4 = absurd (omega arith)
+are_five text (x0 ∷ x1 ∷ x2 ∷ x3 ∷ []) a b c d e n h0 h1 h2 h3 h4 t0 t1 t2 t3 t4 = absurd (omega arith)
+are_five text (x0 ∷ x1 ∷ x2 ∷ x3 ∷ x4 ∷ []) a b c d e n h0 h1 h2 h3 h4 t0 t1 t2 t3 t4 = cc
+are_five text (x0 ∷ x1 ∷ x2 ∷ x3 ∷ x4 ∷ x5 ∷ xs) a b c d e n h0 h1 h2 h3 h4 t0 t1 t2 t3 t4 = absurd (omega arith)
 
--- a list of six elements is these six
-six : {A : Type 0} (xs : List A) (a b c d e f : A) → length xs ≡ 6
-    → a ≡ get_or xs 0 a → b ≡ get_or xs 1 b → c ≡ get_or xs 2 c
-    → d ≡ get_or xs 3 d → e ≡ get_or xs 4 e → f ≡ get_or xs 5 f
-    → xs ≡ a ∷ b ∷ c ∷ d ∷ e ∷ f ∷ []
-six [] a b c d e f n h0 h1 h2 h3 h4 h5 = absurd (omega arith)
-six (x0 ∷ xs) a b c d e f n h0 h1 h2 h3 h4 h5 = rw (five xs b c d e f (omega (arith, n)) h1 h2 h3 h4 h5, h0) refl
-
--- the texts of six arguments
 pub are_six : {A : Type 0} (text : A → List ℕ) (args : List A) (a b c d e f : A) {ta tb tc td te tf : List ℕ}
     → length args ≡ 6
     → a ≡ get_or args 0 a → b ≡ get_or args 1 b → c ≡ get_or args 2 c
     → d ≡ get_or args 3 d → e ≡ get_or args 4 e → f ≡ get_or args 5 f
     → ta ≡ text a → tb ≡ text b → tc ≡ text c → td ≡ text d → te ≡ text e → tf ≡ text f
     → map text args ≡ ta ∷ tb ∷ tc ∷ td ∷ te ∷ tf ∷ []
-are_six text args a b c d e f n h0 h1 h2 h3 h4 h5 t0 t1 t2 t3 t4 t5 =
-    rw (six args a b c d e f n h0 h1 h2 h3 h4 h5, t0, t1, t2, t3, t4, t5) refl
+are_six text [] a b c d e f n h0 h1 h2 h3 h4 h5 t0 t1 t2 t3 t4 t5 = absurd (omega arith)
+are_six text (x0 ∷ xs) a b c d e f n h0 h1 h2 h3 h4 h5 t0 t1 t2 t3 t4 t5 =
+    rw (are_five text xs b c d e f (omega (arith, n)) h1 h2 h3 h4 h5 t1 t2 t3 t4 t5, t0, h0) refl
 
--- a list of seven elements is these seven
-seven : {A : Type 0} (xs : List A) (a b c d e f g : A) → length xs ≡ 7
-    → a ≡ get_or xs 0 a → b ≡ get_or xs 1 b → c ≡ get_or xs 2 c
-    → d ≡ get_or xs 3 d → e ≡ get_or xs 4 e → f ≡ get_or xs 5 f → g ≡ get_or xs 6 g
-    → xs ≡ a ∷ b ∷ c ∷ d ∷ e ∷ f ∷ g ∷ []
-seven [] a b c d e f g n h0 h1 h2 h3 h4 h5 h6 = absurd (omega arith)
-seven (x0 ∷ xs) a b c d e f g n h0 h1 h2 h3 h4 h5 h6 =
-    rw (six xs b c d e f g (omega (arith, n)) h1 h2 h3 h4 h5 h6, h0) refl
-
--- the texts of seven arguments
 pub are_seven : {A : Type 0} (text : A → List ℕ) (args : List A) (a b c d e f g : A) {ta tb tc td te tf tg : List ℕ}
     → length args ≡ 7
     → a ≡ get_or args 0 a → b ≡ get_or args 1 b → c ≡ get_or args 2 c
     → d ≡ get_or args 3 d → e ≡ get_or args 4 e → f ≡ get_or args 5 f → g ≡ get_or args 6 g
     → ta ≡ text a → tb ≡ text b → tc ≡ text c → td ≡ text d → te ≡ text e → tf ≡ text f → tg ≡ text g
     → map text args ≡ ta ∷ tb ∷ tc ∷ td ∷ te ∷ tf ∷ tg ∷ []
-are_seven text args a b c d e f g n h0 h1 h2 h3 h4 h5 h6 t0 t1 t2 t3 t4 t5 t6 =
-    rw (seven args a b c d e f g n h0 h1 h2 h3 h4 h5 h6, t0, t1, t2, t3, t4, t5, t6) refl
+are_seven text [] a b c d e f g n h0 h1 h2 h3 h4 h5 h6 t0 t1 t2 t3 t4 t5 t6 = absurd (omega arith)
+are_seven text (x0 ∷ xs) a b c d e f g n h0 h1 h2 h3 h4 h5 h6 t0 t1 t2 t3 t4 t5 t6 =
+    rw (are_six text xs b c d e f g (omega (arith, n)) h1 h2 h3 h4 h5 h6 t1 t2 t3 t4 t5 t6, t0, h0) refl
 
 -- arguments that are not five are not those of `key`
 pub not_key_args : {A : Type 0} (text : A → List ℕ) (args : List A) → length args ≢ 5 → key_args (map text args) ≡ None

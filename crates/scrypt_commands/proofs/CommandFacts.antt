@@ -1,156 +1,113 @@
--- What the arguments ask for, and what they are refused for.
-use Rattle.std.proofs.Common.{◌≡◌, ◌⊎◌, ◌∙◌, ℕ, List, Option, Some, None, Result, Ok, Err, IsErr, IsOk, IsSomeAnd, MatchOption, ap₂, inl, inr, refl, sym}
+-- The tests of parameters and lengths, and what the arguments ask for by them.
+use Rattle.std.proofs.Common.{◌≡◌, ◌*◌, ◌^◌, ◌≤◌, ◌&&◌, ℕ, Bool, true, false, List, Option, Some, None, Result, Ok, Err}
+use Rattle.std.proofs.Common.{inl, inr, refl, arith}
+use Rattle.std.specs.Prelude.{IfSome, nat_le}
+use Rattle.std.specs.Bool.{Decides}
+use Rattle.std.proofs.lemmas.Bool.Decides.{Decides-and, Decides-like, Decides-ltb, nat_tests}
 use Rattle.hex.specs.Hex.{decode_of}
-use Rattle.scrypt.specs.Accepted.{Parameters}
-use Rattle.scrypt_commands.specs.Args.{CommandArgs, MakeArgs, RehashArgs, args_of}
+use Rattle.scrypt.specs.Accepted.{AreAccepted, IsOutputLen, IsStoredLen, Parameters, are_accepted, is_output_len}
+use Rattle.scrypt_commands.specs.Args.{MakeArgs, RehashArgs}
 use Rattle.scrypt_commands.specs.CliError.{status_of}
-use Rattle.scrypt_commands.specs.Command.{AreRefused, AreSaltAndParams, AskFor, HasSaltAndParams, IsRefused, IsSaltOrParamsRefused, Means, Request, ToMake, ToRehash, bad_hash, bad_len, bad_old_hash, bad_params, bad_salt, not_made, not_remade, to_make, to_rehash, to_verify}
-use Rattle.scrypt_commands.specs.Steps.{IsPossible}
+use Rattle.scrypt_commands.specs.Command.{Request, ToMake, ToRehash, are_params_accepted, command_request}
+use Rattle.scrypt_commands.specs.Command.{has_allowed_len, is_stored_len, params_of, requested_len, salt_and_params}
+use Rattle.scrypt_commands.specs.Command.{salt_of}
+use Rattle.scrypt_commands.specs.Steps.{AreParamsAccepted, FailsWith, IsCommandFor}
 use Rattle.scrypt_commands.specs.declared.args.Format.{Format}
 use Rattle.scrypt_commands.specs.declared.args.Target.{Target}
 use Rattle.scrypt_commands.specs.declared.args.Target.TheVariants.{Hash}
 use Rattle.scrypt_commands.specs.declared.args.UncheckedParams.{UncheckedParams}
 use Rattle.scrypt_commands.specs.declared.error.CliError.{CliError}
-use Rattle.scrypt_commands.specs.declared.error.CliError.TheVariants.{OutOfMemory, SaltNotHex, Usage}
+use Rattle.scrypt_commands.specs.declared.error.CliError.TheVariants.{InvalidOutputLen, InvalidParams}
 
--- a salt that was read
-pub salt_found : (salt_hex : List ℕ) {salt : List ℕ} → decode_of salt_hex ≡ Ok salt → IsOk (decode_of salt_hex)
-salt_found salt_hex h = rw h refl
+-- a number between two bounds
+pub between_decided : (low high n : ℕ) → Decides (nat_le low n && nat_le n high) ((low ≤ n) × (n ≤ high))
+between_decided low high n = Decides-and _ _ (leb_decided low n) (leb_decided n high)
+  where
+    leb_decided : (m n : ℕ) → Decides (nat_le m n) (m ≤ n)
+    leb_decided m n = grind (arith, nat_tests)
 
--- digits are not both read and refused
-pub err_or_ok : {A E : Type 0} → (read : Result A E) → IsErr read → IsOk read → ⊥
-err_or_ok (Ok x) h i = absurd cc
-err_or_ok (Err e) h i = absurd cc
+pub output_len_decided : (n : ℕ) → Decides (is_output_len n) (IsOutputLen n)
+unfolding is_output_len
+output_len_decided n = between_decided 1 _ n
 
--- a salt that cannot be read
-pub salt_refused : (target : Target) (unchecked : UncheckedParams) (salt_hex : List ℕ) (error : CliError)
-    → (error ≡ OutOfMemory) ⊎ ((error ≡ SaltNotHex) × IsErr (decode_of salt_hex))
-    → (error ≡ OutOfMemory) ⊎ IsSaltOrParamsRefused target unchecked salt_hex error
-salt_refused target unchecked salt_hex error (inl h) = inl h
-salt_refused target unchecked salt_hex error (inr (is, h)) = rw is (inr (bad_salt h))
+stored_len_decided : (len : Option ℕ) → Decides (is_stored_len len) (IfSome len IsStoredLen)
+unfolding is_stored_len
+stored_len_decided None = (λ _. tt, λ _. refl)
+stored_len_decided (Some len) = between_decided 10 64 len
 
--- so that the arguments are refused, as those of `key` or `hash`
-pub parts_refused_to_make : (target : Target) (unchecked : UncheckedParams) (salt_hex : List ℕ) (error : CliError)
-    → (error ≡ OutOfMemory) ⊎ IsSaltOrParamsRefused target unchecked salt_hex error
-    → (error ≡ OutOfMemory) ⊎ IsRefused (MakeArgs target unchecked salt_hex) error
-parts_refused_to_make target unchecked salt_hex error (inl h) = inl h
-parts_refused_to_make target unchecked salt_hex error (inr h) = inr (not_made h)
+accepted_decided : (log_n r p : ℕ) → Decides (are_accepted log_n r p) (AreAccepted log_n r p)
+unfolding are_accepted
+accepted_decided log_n r p =
+    Decides-like _ (λ h. (h.0.0, h.0.1, h.1.0, h.1.1)) (λ h. ((h.0, h.1), (h.2, h.3)))
+    (Decides-and _ _ (Decides-and _ _ (Decides-ltb 0 r) (Decides-ltb 0 p))
+    (Decides-and _ _ (Decides-ltb (128 * r * 2 ^ log_n) (2 ^ 64)) (Decides-ltb (r * p) (2 ^ 30))))
 
--- or as those of `rehash`
-pub parts_refused_to_rehash : (format : Format) (unchecked : UncheckedParams) (len : ℕ) (salt_hex text : List ℕ) (error : CliError)
-    → (error ≡ OutOfMemory) ⊎ IsSaltOrParamsRefused (Hash format (Some len)) unchecked salt_hex error
-    → (error ≡ OutOfMemory) ⊎ IsRefused (RehashArgs format unchecked len salt_hex text) error
-parts_refused_to_rehash format unchecked len salt_hex text error (inl h) = inl h
-parts_refused_to_rehash format unchecked len salt_hex text error (inr h) = inr (not_remade h)
+params_decided : (target : Target) (unchecked : UncheckedParams)
+    → Decides (are_params_accepted target unchecked) (AreParamsAccepted target unchecked)
+params_decided target unchecked =
+    Decides-and _ _ (accepted_decided unchecked.log_n unchecked.r unchecked.p) (stored_len_decided (requested_len target))
 
--- a salt and parameters that were read
-pub read_found : (target : Target) (unchecked : UncheckedParams) (salt_hex salt : List ℕ) (params : Parameters)
-    → AreSaltAndParams target unchecked salt_hex salt params → HasSaltAndParams target unchecked salt_hex
-read_found target unchecked salt_hex salt params read = (salt_found salt_hex read.salt_read, read.accepted)
+-- what a test that fails decides does not hold
+pub fails : {P : Type 0} (test : Bool) → Decides test P → ¬ P → test ≡ false
+fails true tells none = absurd (none (tells.0 refl))
+fails false tells none = refl
 
--- are not refused
-pub found_not_refused : (target : Target) (unchecked : UncheckedParams) (salt_hex : List ℕ) (error : CliError)
-    → HasSaltAndParams target unchecked salt_hex → IsSaltOrParamsRefused target unchecked salt_hex error → ⊥
-found_not_refused target unchecked salt_hex error (found, accepted) (bad_salt h) = err_or_ok (decode_of salt_hex) h found
-found_not_refused target unchecked salt_hex error (found, accepted) (bad_params h i) = i accepted
+-- the salt and the parameters, by what was read of them
 
--- arguments that mean a request are not refused
-not_both : (args : CommandArgs) (request : Request) (error : CliError) → Means args request → IsRefused args error → ⊥
-not_both args request error (to_make read allowed) (not_made h) = found_not_refused _ _ _ _ (read_found _ _ _ _ _ read) h
-not_both args request error (to_make read allowed) (bad_len h i) = i allowed
-not_both args request error (to_verify is) (bad_hash h) = h is
-not_both args request error (to_rehash read is) (not_remade h) = found_not_refused _ _ _ _ (read_found _ _ _ _ _ read) h
-not_both args request error (to_rehash read is) (bad_old_hash h i) = i is
+pub salt_failed : (target : Target) (unchecked : UncheckedParams) (salt_hex : List ℕ) (error : CliError)
+    → FailsWith (λ error. salt_of (decode_of salt_hex) ≡ Err error) error
+    → FailsWith (λ error. salt_and_params target unchecked salt_hex ≡ Err error) error
+unfolding salt_and_params
+salt_failed target unchecked salt_hex error (inl h) = inl h
+salt_failed target unchecked salt_hex error (inr h) = inr (h.0, rw h.1 refl)
 
-not_both_read : (args : Option CommandArgs) (request : Request) (error : CliError)
-    → IsSomeAnd args (λ read. Means read request) → MatchOption args (error ≡ Usage) (λ read. IsRefused read error) → ⊥
-not_both_read None request error asks h = asks
-not_both_read (Some args) request error asks h = not_both args request error asks h
+pub params_failed : (target : Target) (unchecked : UncheckedParams) (salt_hex salt : List ℕ) → salt_of (decode_of salt_hex) ≡ Ok salt
+    → ¬ AreParamsAccepted target unchecked → salt_and_params target unchecked salt_hex ≡ Err InvalidParams
+unfolding salt_and_params
+params_failed target unchecked salt_hex salt is none = rw (is, fails _ (params_decided target unchecked) none) refl
 
--- arguments that ask for something are not refused
-pub asked_not_refused : (args : List (List ℕ)) (request : Request) (error : CliError)
-    → AskFor args request → AreRefused args error → ⊥
-asked_not_refused args request error asks h = not_both_read (args_of args) request error asks h
+pub both_read : (target : Target) (unchecked : UncheckedParams) (salt_hex salt : List ℕ) (params : Parameters)
+    → salt_of (decode_of salt_hex) ≡ Ok salt → AreParamsAccepted target unchecked → params ≡ params_of target unchecked
+    → salt_and_params target unchecked salt_hex ≡ Ok (salt, params)
+unfolding salt_and_params
+both_read target unchecked salt_hex salt params is accepted are = rw (is, (params_decided target unchecked).1 accepted, are) refl
 
--- digits are decoded to one salt
-salt_once : (salt_hex : List ℕ) {salt other : List ℕ} → decode_of salt_hex ≡ Ok salt → decode_of salt_hex ≡ Ok other → salt ≡ other
-salt_once salt_hex first second = cc
+-- what the arguments of `key` and `hash` ask for
 
--- arguments mean one request
-means_once : (args : CommandArgs) (one other : Request) → Means args one → Means args other → one ≡ other
-means_once args one other (to_make {target} {salt_hex = salt_hex} read allowed) (to_make read' allowed') =
-    ap₂ (ToMake target) (read.params_are ∙ sym read'.params_are) (salt_once salt_hex read.salt_read read'.salt_read)
-means_once args one other (to_verify is) (to_verify is') = refl
-means_once args one other (to_rehash {format} {salt_hex = salt_hex} {text = text} read is) (to_rehash read' is') =
-    ap₂ (λ wanted salt. ToRehash format wanted salt text) (read.params_are ∙ sym read'.params_are)
-    (salt_once salt_hex read.salt_read read'.salt_read)
+refused_request : (request : Result Request CliError) (error : CliError) → status_of error ≡ 2 → request ≡ Err error
+    → IsCommandFor request (Err error)
+refused_request request error two is = rw is (inr (two, (tt, λ input. refl)))
 
-means_once_read : (args : Option CommandArgs) (one other : Request)
-    → IsSomeAnd args (λ read. Means read one) → IsSomeAnd args (λ read. Means read other) → one ≡ other
-means_once_read None one other asks ask = absurd asks
-means_once_read (Some args) one other asks ask = means_once args one other asks ask
+pub make_refused : (target : Target) (unchecked : UncheckedParams) (salt_hex : List ℕ) (error : CliError)
+    → FailsWith (λ error. salt_and_params target unchecked salt_hex ≡ Err error) error
+    → IsCommandFor (command_request (MakeArgs target unchecked salt_hex)) (Err error)
+unfolding command_request
+make_refused target unchecked salt_hex error (inl h) = inl h
+make_refused target unchecked salt_hex error (inr h) = refused_request _ error h.0 (rw h.1 refl)
 
-pub asked_once : (args : List (List ℕ)) (one other : Request) → AskFor args one → AskFor args other → one ≡ other
-asked_once args one other asks ask = means_once_read (args_of args) one other asks ask
+pub make_too_long : (target : Target) (unchecked : UncheckedParams) (salt_hex salt : List ℕ) (params : Parameters)
+    → salt_and_params target unchecked salt_hex ≡ Ok (salt, params) → has_allowed_len target ≡ false
+    → IsCommandFor (command_request (MakeArgs target unchecked salt_hex)) (Err InvalidOutputLen)
+unfolding command_request
+make_too_long target unchecked salt_hex salt params read long = refused_request _ InvalidOutputLen refl (rw (read, long) refl)
 
--- arguments are refused for one thing
-parts_refused_once : (target : Target) (unchecked : UncheckedParams) (salt_hex : List ℕ) (error other : CliError)
-    → IsSaltOrParamsRefused target unchecked salt_hex error → IsSaltOrParamsRefused target unchecked salt_hex other → error ≡ other
-parts_refused_once target unchecked salt_hex error other (bad_salt h) (bad_salt i) = refl
-parts_refused_once target unchecked salt_hex error other (bad_salt h) (bad_params i j) = absurd (err_or_ok (decode_of salt_hex) h i)
-parts_refused_once target unchecked salt_hex error other (bad_params h i) (bad_salt j) = absurd (err_or_ok (decode_of salt_hex) j h)
-parts_refused_once target unchecked salt_hex error other (bad_params h i) (bad_params j k) = refl
+pub make_asked : (target : Target) (unchecked : UncheckedParams) (salt_hex salt : List ℕ) (params : Parameters)
+    → salt_and_params target unchecked salt_hex ≡ Ok (salt, params) → has_allowed_len target ≡ true
+    → command_request (MakeArgs target unchecked salt_hex) ≡ Ok (ToMake target params salt)
+unfolding command_request
+make_asked target unchecked salt_hex salt params read allowed = rw (read, allowed) refl
 
-refused_once : (args : CommandArgs) (error other : CliError) → IsRefused args error → IsRefused args other → error ≡ other
-refused_once args error other (not_made h) (not_made i) = parts_refused_once _ _ _ error other h i
-refused_once args error other (not_made h) (bad_len i j) = absurd (found_not_refused _ _ _ error i h)
-refused_once args error other (bad_len h i) (not_made j) = absurd (found_not_refused _ _ _ other h j)
-refused_once args error other (bad_len h i) (bad_len j k) = refl
-refused_once args error other (bad_hash h) (bad_hash i) = refl
-refused_once args error other (not_remade h) (not_remade i) = parts_refused_once _ _ _ error other h i
-refused_once args error other (not_remade h) (bad_old_hash i j) = absurd (found_not_refused _ _ _ error i h)
-refused_once args error other (bad_old_hash h i) (not_remade j) = absurd (found_not_refused _ _ _ other h j)
-refused_once args error other (bad_old_hash h i) (bad_old_hash j k) = refl
+-- the arguments of `rehash`
 
-refused_once_read : (args : Option CommandArgs) (error other : CliError) → MatchOption args (error ≡ Usage) (λ read. IsRefused read error)
-    → MatchOption args (other ≡ Usage) (λ read. IsRefused read other) → error ≡ other
-refused_once_read None error other h i = h ∙ sym i
-refused_once_read (Some args) error other h i = refused_once args error other h i
+pub rehash_refused : (format : Format) (unchecked : UncheckedParams) (len : ℕ) (salt_hex text : List ℕ) (error : CliError)
+    → FailsWith (λ error. salt_and_params (Hash format (Some len)) unchecked salt_hex ≡ Err error) error
+    → IsCommandFor (command_request (RehashArgs format unchecked len salt_hex text)) (Err error)
+unfolding command_request
+rehash_refused format unchecked len salt_hex text error (inl h) = inl h
+rehash_refused format unchecked len salt_hex text error (inr h) = refused_request _ error h.0 (rw h.1 refl)
 
-pub args_refused_once : (args : List (List ℕ)) (error other : CliError) → AreRefused args error → AreRefused args other → error ≡ other
-args_refused_once args error other h i = refused_once_read (args_of args) error other h i
-
--- a request that arguments mean can be carried out
-meant_possible : (args : CommandArgs) (request : Request) → Means args request → IsPossible request
-meant_possible args request (to_make read allowed) = allowed
-meant_possible args request (to_verify is) = tt
-meant_possible args request (to_rehash read is) = tt
-
-read_possible : (args : Option CommandArgs) (request : Request)
-    → IsSomeAnd args (λ read. Means read request) → IsPossible request
-read_possible None request asks = absurd asks
-read_possible (Some args) request asks = meant_possible args request asks
-
-pub asked_possible : (args : List (List ℕ)) (request : Request) → AskFor args request → IsPossible request
-asked_possible args request asks = read_possible (args_of args) request asks
-
--- the status of refused arguments is 2
-status_of_salt : (target : Target) (unchecked : UncheckedParams) (salt_hex : List ℕ) (error : CliError)
-    → IsSaltOrParamsRefused target unchecked salt_hex error → status_of error ≡ 2
-status_of_salt target unchecked salt_hex error (bad_salt h) = refl
-status_of_salt target unchecked salt_hex error (bad_params h i) = refl
-
-status_of_args : (args : CommandArgs) (error : CliError) → IsRefused args error → status_of error ≡ 2
-status_of_args args error (not_made h) = status_of_salt _ _ _ _ h
-status_of_args args error (bad_len h i) = refl
-status_of_args args error (bad_hash h) = refl
-status_of_args args error (not_remade h) = status_of_salt _ _ _ _ h
-status_of_args args error (bad_old_hash h i) = refl
-
-status_of_read : (args : Option CommandArgs) (error : CliError)
-    → MatchOption args (error ≡ Usage) (λ read. IsRefused read error) → status_of error ≡ 2
-status_of_read None error h = rw h refl
-status_of_read (Some args) error h = status_of_args args error h
-
-pub refused_status : (args : List (List ℕ)) (error : CliError) → AreRefused args error → status_of error ≡ 2
-refused_status args error h = status_of_read (args_of args) error h
+pub rehash_asked : (format : Format) (unchecked : UncheckedParams) (len : ℕ) (salt_hex text salt : List ℕ) (params : Parameters)
+    → salt_and_params (Hash format (Some len)) unchecked salt_hex ≡ Ok (salt, params)
+    → command_request (RehashArgs format unchecked len salt_hex text) ≡ Ok (ToRehash format params salt text)
+unfolding command_request
+rehash_asked format unchecked len salt_hex text salt params read = rw read refl

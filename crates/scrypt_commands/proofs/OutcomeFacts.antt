@@ -1,127 +1,139 @@
--- The outcome of a run.
-use Rattle.std.proofs.Common.{◌≡◌, ◌≤◌, ◌⊎◌, ◌∙◌, ◌↔◌, ℕ, Bool, false, List, [], Option, Some, None, inl, inr, refl, sym, arith, append-nil}
-use Rattle.std.specs.Io.KnownBytes.{Appends}
-use Rattle.std.specs.Prelude.{IsTrue}
-use Rattle.scrypt_commands.proofs.CommandFacts.{refused_status}
+-- Making hashes, carrying out a command, and the outcome of a run.
+use Rattle.std.proofs.Common.{◌≡◌, ◌⊎◌, ℕ, Bool, false, true, List, [], Option, Some, None, Ok, Err, inl, inr, length}
+use Rattle.std.proofs.Common.{refl, subst, sym, append-nil, arith}
+use Rattle.std.specs.Prelude.{◌++◌, IfErr, IfOk, IfSome, Result, codes, ⊤}
+use Rattle.std.specs.Bool.{Decides}
+use Rattle.std.specs.Io.KnownBytes.{Appends, Keeps}
+use Rattle.password_hash.specs.Phc.{hash_text}
+use Rattle.password_hash.specs.Refusal.{Refusal}
+use Rattle.password_hash.specs.declared.phc.hash.PasswordHash.{PasswordHash}
+use Rattle.scrypt.specs.Accepted.{Parameters}
+use Rattle.scrypt.specs.Hashing.{by_algorithm, by_memory, by_salt, by_version}
+use Rattle.scrypt.specs.PhcHash.{HashIsRefused, IsMadeHash, IsSaltLen}
+use Rattle.scrypt_commands.proofs.CommandFacts.{between_decided, fails}
 use Rattle.scrypt_commands.specs.Command.{AreRefused}
-use Rattle.scrypt_commands.specs.CliError.{error_line, status_of}
-use Rattle.scrypt_commands.specs.Outcome.{IsAnswer, Outcome, OutcomeIs, answer_of, refusal_of}
-use Rattle.scrypt_commands.specs.Outcome.HasOutcome.{answered, args_refused, input_refused}
-use Rattle.scrypt_commands.specs.Steps.{AppendsAnswer, IsInputRefused}
+use Rattle.scrypt_commands.specs.CliError.{error_line, error_of, status_of}
+use Rattle.scrypt_commands.specs.Outcome.{new_outcome, rehash_outcome, verdict_outcome, wrong_outcome, HasOutcome}
+use Rattle.scrypt_commands.specs.Outcome.{OnInput, Outcome, OutcomeIs, is_salt_len, new_hash, phc_text, refusal_of}
+use Rattle.scrypt_commands.specs.Steps.{Answers, answer_line, answer_status, right_of, wrong_or_error, Ends, FailsWith}
+use Rattle.scrypt_commands.specs.Steps.{no_input, no_memory, no_output, refused}
+use Rattle.scrypt_commands.specs.declared.answer.Answer.{Answer}
+use Rattle.scrypt_commands.specs.declared.answer.Answer.TheVariants.{Verdict}
+use Rattle.scrypt_commands.specs.declared.args.Format.TheVariants.{Phc}
 use Rattle.scrypt_commands.specs.declared.error.CliError.{CliError}
-use Rattle.scrypt_commands.specs.declared.error.CliError.TheVariants.{InputFailed, OutOfMemory, OutputFailed}
+use Rattle.scrypt_commands.specs.declared.error.CliError.TheVariants.{HashRefused, InputFailed, OutOfMemory, OutputFailed}
+use Rattle.scrypt_commands.specs.declared.error.HashError.TheVariants.{SaltInvalid}
+
+salt_len_decided : (n : ℕ) → Decides (is_salt_len n) (IsSaltLen n)
+unfolding is_salt_len
+salt_len_decided n = between_decided 1 64 n
+
+-- the text of a PHC hash that was made
+pub phc_made : (c : Parameters) (password salt text : List ℕ) (hash : PasswordHash) → IsMadeHash c password salt hash
+    → text ≡ hash_text hash → new_hash Phc c password salt ≡ Ok text
+unfolding phc_text
+phc_made c password salt text hash made is =
+    rw (is, (salt_len_decided (length salt)).1 made.salt_len, made.algorithm, made.version, made.params, made.salt_is, made.key_is) refl
+
+-- the error of one that was not made
+pub phc_refused : (c : Parameters) (password salt : List ℕ) (error : CliError) (why : Refusal)
+    → HashIsRefused salt None None why → error_of why ≡ Some error → FailsWith (λ error. new_hash Phc c password salt ≡ Err error) error
+phc_refused c password salt error why (by_algorithm h) is = absurd (h tt)
+phc_refused c password salt error why (by_version h i) is = absurd cc
+phc_refused c password salt error why (by_memory h i j) is = inl cc
+phc_refused c password salt error why (by_salt h i none) is =
+    let same : HashRefused SaltInvalid ≡ error = cc in
+    rw (← same) (inr (refl, rw (fails _ (salt_len_decided (length salt)) none) refl))
+
+-- what holds of every input holds of that of a reader
+pub on_any_input : (known : Option (List ℕ)) (P : List ℕ → Type 0) → ((input : List ℕ) → P input) → OnInput known P
+on_any_input None P h = ([], tt, h [])
+on_any_input (Some input) P h = (input, refl, h input)
 
 -- nothing was appended
-pub appends_nothing : (contents : Option (List ℕ)) → Appends contents contents []
-appends_nothing None = tt
-appends_nothing (Some xs) = sym (append-nil xs)
+appends_nothing : (old new : Option (List ℕ)) → Keeps old new → Appends old new []
+appends_nothing None new h = tt
+appends_nothing (Some xs) None h = h
+appends_nothing (Some xs) (Some ys) h = rw h (sym (append-nil xs))
 
--- the status of an answer
-pub answered_status : (args : List (List ℕ)) (known old new : Option (List ℕ)) (status : ℕ)
-    → AppendsAnswer args known old new status → OutcomeIs args known (λ outcome. status ≡ outcome.status)
-answered_status args known old new status (input, is, (request, line, asks, gives, appends)) =
-    (input, is, (answer_of status line, answered request status line asks gives, refl))
+-- a run that ends without a line, and where the whole input was read
+module _ (args : List (List ℕ)) (known : Option (List ℕ)) (Read : Type 0) where
+  -- by refused arguments
+  pub refused_args : (error : CliError)
+      → FailsWith (λ error. AreRefused args × ((input : List ℕ) → HasOutcome args input (refusal_of error))) error
+      → Ends args known Read error
+  refused_args error (inl h) = rw h no_memory
+  refused_args error (inr (two, (is, h))) = refused two (inl is) (on_any_input known _ h)
 
--- the line of an answer
-pub answered_line : (args : List (List ℕ)) (known old new : Option (List ℕ)) (status : ℕ)
-    → AppendsAnswer args known old new status
-    → OutcomeIs args known (λ outcome. (status ≡ outcome.status) × Appends old new outcome.line)
-answered_line args known old new status (input, is, (request, line, asks, gives, appends)) =
-    (input, is, (answer_of status line, answered request status line asks gives, (refl, appends)))
+  -- as the input is read
+  pub unread_input : (error : CliError) → (error ≡ OutOfMemory) ⊎ (error ≡ InputFailed) → Ends args known Read error
+  unread_input error (inl h) = rw h no_memory
+  unread_input error (inr h) = rw h no_input
 
--- the error line of an answer
-pub answered_error : (args : List (List ℕ)) (known old new contents : Option (List ℕ)) (status : ℕ)
-    → AppendsAnswer args known old new status
-    → OutcomeIs args known (λ outcome. (status ≡ outcome.status) × Appends contents contents outcome.error)
-answered_error args known old new contents status (input, is, (request, line, asks, gives, appends)) =
-    (input, is, (answer_of status line, answered request status line asks gives, (refl, appends_nothing contents)))
+  -- by the command
+  pub refused_input : (error : CliError) (input : List ℕ) (outcome : Outcome) → IfSome known (λ bytes. input ≡ bytes)
+      → HasOutcome args input outcome → FailsWith (λ error. outcome ≡ refusal_of error) error → Read → Ends args known Read error
+  refused_input error input outcome same has (inl h) read = rw h no_memory
+  refused_input error input outcome same has (inr (two, is)) read =
+      refused two (inr read) (input, same, subst (λ outcome. HasOutcome args input outcome) is has)
 
--- the outcome of arguments that are refused, on any input
-args_end : (args : List (List ℕ)) (known : Option (List ℕ)) (error : CliError) (P : Outcome → Type 0)
-    → AreRefused args error → P (refusal_of error) → OutcomeIs args known P
-args_end args None error P h holds = ([], tt, (refusal_of error, args_refused error h, holds))
-args_end args (Some input) error P h holds =
-    (input, refl, (refusal_of error, args_refused error h, holds))
+  -- its outcome
+  pub end_outcome : (old new errors_old errors_new : Option (List ℕ)) (Written : Type 0) (error : CliError) (status : ℕ)
+      → status ≡ status_of error → (error ≡ OutputFailed) ⊎ Keeps old new
+      → (Written → Appends errors_old errors_new (error_line error)) → Ends args known Read error
+      → (status ≡ 3) ⊎ (status ≡ 4) ⊎ OutcomeIs args known (λ outcome. (status ≡ outcome.status) × Appends old new outcome.line
+      × (Written → Appends errors_old errors_new outcome.error))
+  end_outcome old new errors_old errors_new Written error status is kept written no_memory = inl is
+  end_outcome old new errors_old errors_new Written error status is kept written no_input = inr (inl is)
+  end_outcome old new errors_old errors_new Written error status is kept written (no_output read) = inr (inl is)
+  end_outcome old new errors_old errors_new Written error status is (inl failed) written (refused two early h) =
+      let wrong : ◌≡◌ {A = ℕ} 4 2 = rw failed at two in absurd cc
+  end_outcome old new errors_old errors_new Written error status is (inr kept) written (refused two early (input, same, has)) =
+      inr (inr (input, same, (refusal_of error, has, (is, appends_nothing old new kept, written))))
 
--- the outcome of a request that is refused
-input_end : (args : List (List ℕ)) (known : Option (List ℕ)) (error : CliError) (P : Outcome → Type 0)
-    → IsInputRefused args known error → P (refusal_of error) → OutcomeIs args known P
-input_end args known error P (input, is, (request, asks, h)) holds =
-    (input, is, (refusal_of error, input_refused request error asks h, holds))
+  -- with status 2, if it is not by refused arguments, it comes after the whole input
+  pub read_before_refusal : (error : CliError) (status : ℕ) → status ≡ status_of error → Ends args known Read error
+      → status ≡ 2 → ¬ AreRefused args → Read
+  read_before_refusal error status is no_memory two none = absurd (omega arith)
+  read_before_refusal error status is no_input two none = absurd (omega arith)
+  read_before_refusal error status is (no_output read) two none = read
+  read_before_refusal error status is (refused of_error (inl early) h) two none = absurd (none early)
+  read_before_refusal error status is (refused of_error (inr read) h) two none = read
 
--- what ends a run without a line: a refusal, or what stops it
-abbrev pub Ends : List (List ℕ) → Option (List ℕ) → Type 0 → CliError → Type 0
-Ends args known Read error =
-    AreRefused args error ⊎ (IsInputRefused args known error × Read) ⊎ (error ≡ OutOfMemory) ⊎ (error ≡ InputFailed)
-    ⊎ ((error ≡ OutputFailed) × Read)
+-- carrying out a command
 
--- the status of an end without a line
-pub end_status : (args : List (List ℕ)) (known : Option (List ℕ)) (error : CliError) (Read : Type 0) (status : ℕ)
-    → status ≡ status_of error → Ends args known Read error
-    → (status ≡ 3) ⊎ (status ≡ 4) ⊎ OutcomeIs args known (λ outcome. status ≡ outcome.status)
-end_status args known error Read status is (inl h) =
-    inr (inr (args_end args known error (λ outcome. status ≡ outcome.status) h is))
-end_status args known error Read status is (inr (inl h)) =
-    inr (inr (input_end args known error (λ outcome. status ≡ outcome.status) h.0 is))
-end_status args known error Read status is (inr (inr (inl h))) = inl (rw h at is)
-end_status args known error Read status is (inr (inr (inr (inl h)))) = inr (inl (rw h at is))
-end_status args known error Read status is (inr (inr (inr (inr h)))) = inr (inl (rw h.0 at is))
+-- by what was made
+pub made_answers : (new : Result (List ℕ) CliError) (text : List ℕ) (out : Result Answer CliError) → new ≡ Ok text
+    → IfOk out (λ answer. answer_status answer ≡ 0) → IfOk out (λ answer. answer_line answer ≡ text ++ codes "\n")
+    → IfErr out (λ error. error ≡ OutOfMemory) → Answers (new_outcome new) out
+made_answers new text (Ok answer) is status line err = rw (is, status, line) refl
+made_answers new text (Err error) is status line err = inl err
 
--- the error line of an end with status 2
-pub end_error : (args : List (List ℕ)) (known : Option (List ℕ)) (error : CliError) (Read : Type 0) (status : ℕ)
-    (old new : Option (List ℕ))
-    → status ≡ status_of error → status ≤ 2 → Appends old new (error_line error) → Ends args known Read error
-    → OutcomeIs args known (λ outcome. (status ≡ outcome.status) × Appends old new outcome.error)
-end_error args known error Read status old new is low appends (inl h) =
-    args_end args known error (λ outcome. (status ≡ outcome.status) × Appends old new outcome.error) h (is, appends)
-end_error args known error Read status old new is low appends (inr (inl h)) =
-    input_end args known error (λ outcome. (status ≡ outcome.status) × Appends old new outcome.error) h.0 (is, appends)
-end_error args known error Read status old new is low appends (inr (inr (inl h))) =
-    let wrong = rw h at is in absurd (omega arith)
-end_error args known error Read status old new is low appends (inr (inr (inr (inl h)))) =
-    let wrong = rw h at is in absurd (omega arith)
-end_error args known error Read status old new is low appends (inr (inr (inr (inr h)))) =
-    let wrong = rw h.0 at is in absurd (omega arith)
+-- by a verdict
+verdict_answers : (verdict : Result ⊤ Refusal) (right : Bool) → right_of verdict ≡ Ok right
+    → Answers (verdict_outcome verdict) (Ok (Verdict right))
+verdict_answers (Ok met) right is = let same : true ≡ right = cc in rw (← same) refl
+verdict_answers (Err why) right is = no_error (error_of why) is
+  where
+    no_error : (error : Option CliError) → wrong_or_error error ≡ Ok right → Answers (wrong_outcome error) (Ok (Verdict right))
+    no_error None is = let same : false ≡ right = cc in rw (← same) refl
+    no_error (Some error) is = absurd cc
 
--- the status of an end by refused arguments
-pub refused_end : (args : List (List ℕ)) (error : CliError) (status : ℕ) → status ≡ status_of error
-    → AreRefused args error ⊎ (error ≡ OutOfMemory) → (status ≡ 2) ⊎ (status ≡ 3)
-refused_end args error status is (inl h) = inl (is ∙ refused_status _ _ h)
-refused_end args error status is (inr h) = inr (rw h at is)
+-- by a new hash that is due
+pub due_answers : (verdict : Result ⊤ Refusal) (weaker : Result Bool Refusal) (new : Result (List ℕ) CliError)
+    (out : Result Answer CliError) → right_of verdict ≡ Ok true → weaker ≡ Ok true → Answers (new_outcome new) out
+    → Answers (rehash_outcome verdict weaker new) out
+due_answers (Ok met) weaker new out right low made = rw low made
+due_answers (Err why) weaker new out right low made = absurd (no_error (error_of why) right)
+  where
+    no_error : (error : Option CliError) → wrong_or_error error ≡ Ok true → ⊥
+    no_error None is = absurd cc
+    no_error (Some error) is = absurd cc
 
--- arguments that are refused and memory that is not available end with neither an answer nor status 4
-not_ended : (status : ℕ) (failed : Bool) → (status ≡ 2) ⊎ (status ≡ 3) → IsAnswer status ⊎ ((status ≡ 4) × (failed ≡ false)) → ⊥
-not_ended status failed (inl two) (inl (inl zero)) = absurd (omega arith)
-not_ended status failed (inl two) (inl (inr one)) = absurd (omega arith)
-not_ended status failed (inl two) (inr (four, other)) = absurd (omega arith)
-not_ended status failed (inr three) (inl (inl zero)) = absurd (omega arith)
-not_ended status failed (inr three) (inl (inr one)) = absurd (omega arith)
-not_ended status failed (inr three) (inr (four, other)) = absurd (omega arith)
-
-not_answered : (status : ℕ) → status ≡ 4 → IsAnswer status → ⊥
-not_answered status four (inl zero) = absurd (omega arith)
-not_answered status four (inr one) = absurd (omega arith)
-
--- the input was read whole before a failed output
-pub end_read : (args : List (List ℕ)) (known : Option (List ℕ)) (error : CliError) (Read : Type 0) (status : ℕ) (failed : Bool)
-    → status ≡ status_of error → IsTrue failed ↔ (error ≡ InputFailed) → Ends args known Read error
-    → IsAnswer status ⊎ ((status ≡ 4) × (failed ≡ false)) → Read
-end_read args known error Read status failed is exactly (inl h) ended =
-    absurd (not_ended status failed (inl (is ∙ refused_status args error h)) ended)
-end_read args known error Read status failed is exactly (inr (inl h)) ended = h.1
-end_read args known error Read status failed is exactly (inr (inr (inl h))) ended = absurd (not_ended status failed (inr (rw h at is)) ended)
-end_read args known error Read status failed is exactly (inr (inr (inr (inl h)))) (inl answer) = absurd (not_answered status (rw h at is) answer)
-end_read args known error Read status failed is exactly (inr (inr (inr (inl h)))) (inr (four, other)) = let yes = exactly.1 h in absurd cc
-end_read args known error Read status failed is exactly (inr (inr (inr (inr h)))) ended = h.1
-
--- an end with status 2 that is not by refused arguments comes after the whole input
-pub read_before_refusal : (args : List (List ℕ)) (known : Option (List ℕ)) (error : CliError) (Read : Type 0) (status : ℕ)
-    → status ≡ status_of error → Ends args known Read error → status ≡ 2
-    → ((refusal : CliError) → ¬ AreRefused args refusal) → Read
-read_before_refusal args known error Read status is (inl h) two none = absurd (none error h)
-read_before_refusal args known error Read status is (inr (inl h)) two none = h.1
-read_before_refusal args known error Read status is (inr (inr (inl h))) two none =
-    let wrong = rw h at is in absurd (omega arith)
-read_before_refusal args known error Read status is (inr (inr (inr (inl h)))) two none =
-    let wrong = rw h at is in absurd (omega arith)
-read_before_refusal args known error Read status is (inr (inr (inr (inr h)))) two none = h.1
+-- by the verdict, if none is due
+pub kept_answers : (verdict : Result ⊤ Refusal) (weaker : Result Bool Refusal) (new : Result (List ℕ) CliError) (right : Bool)
+    → right_of verdict ≡ Ok right → (right ≡ false) ⊎ (weaker ≡ Ok false)
+    → Answers (rehash_outcome verdict weaker new) (Ok (Verdict right))
+kept_answers (Ok met) weaker new right is (inl wrong) = let same : true ≡ right = cc in absurd cc
+kept_answers (Ok met) weaker new right is (inr kept) = rw kept (verdict_answers (Ok met) right is)
+kept_answers (Err why) weaker new right is due = verdict_answers (Err why) right is

@@ -1,5 +1,6 @@
 -- The arguments of each command, with their decimals read.
-use Rattle.std.specs.Prelude.{ℕ, ◌^◌, bytes_eq, if◌then◌else◌, List, [], ◌∷◌, codes, map, Option, Some, None, option_and_then, String, string_bytes}
+use Rattle.std.specs.Prelude.{ℕ, ◌^◌, bytes_eq, if◌then◌else◌, List, [], ◌∷◌, codes, map, Option, Some, None}
+use Rattle.std.specs.Prelude.{option_and_then, String, string_bytes}
 use Rattle.std.specs.Global.{Global}
 use Rattle.password_hash.specs.Decimal.{decimal_below}
 use Rattle.scrypt_commands.specs.declared.args.Format.{Format}

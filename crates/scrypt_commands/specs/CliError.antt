@@ -1,5 +1,5 @@
 -- Why a run ends without an answer: each error has a status and a line.
-use Rattle.std.specs.Prelude.{ℕ, List, codes}
+use Rattle.std.specs.Prelude.{ℕ, bytes_eq, if◌then◌else◌, List, codes, Option, Some, None}
 use Rattle.password_hash.specs.Refusal.{Refusal}
 use Rattle.password_hash.specs.Refusal as refusals
 use Rattle.scrypt_commands.specs.declared.error.CliError.{CliError}
@@ -42,19 +42,19 @@ error_line OutOfMemory = codes "out of memory\n"
 error_line InputFailed = codes "input failed\n"
 error_line OutputFailed = codes "output failed\n"
 
--- the refusal that an error reports
-abbrev pub hash_refusal : HashError → Refusal
-hash_refusal Algorithm = refusals.Algorithm
-hash_refusal EncodingInvalid = refusals.EncodingInvalid
-hash_refusal OutputSize = refusals.OutputSize
-hash_refusal LnInvalid = refusals.ParamInvalid (codes "ln")
-hash_refusal RInvalid = refusals.ParamInvalid (codes "r")
-hash_refusal PInvalid = refusals.ParamInvalid (codes "p")
-hash_refusal ParamsInvalid = refusals.ParamsInvalid
-hash_refusal SaltInvalid = refusals.SaltInvalid
-hash_refusal Version = refusals.Version
+-- the error of a refused parameter: those of a hash are `ln`, `r` and `p`
+abbrev pub param_error : List ℕ → HashError
+param_error name =
+    if bytes_eq name (codes "ln") then LnInvalid else if bytes_eq name (codes "r") then RInvalid else PInvalid
 
--- the error is that of a refused hash, and this holds of the refusal
-abbrev pub IsHashError : (Refusal → Type 0) → CliError → Type 0
-IsHashError P (HashRefused why) = P (hash_refusal why)
-IsHashError P error = ⊥
+-- the error that reports a refusal; a wrong password has none, since it is answered
+abbrev pub error_of : Refusal → Option CliError
+error_of refusals.Algorithm = Some (HashRefused Algorithm)
+error_of refusals.EncodingInvalid = Some (HashRefused EncodingInvalid)
+error_of refusals.OutputSize = Some (HashRefused OutputSize)
+error_of (refusals.ParamInvalid name) = Some (HashRefused (param_error name))
+error_of refusals.ParamsInvalid = Some (HashRefused ParamsInvalid)
+error_of refusals.PasswordInvalid = None
+error_of refusals.SaltInvalid = Some (HashRefused SaltInvalid)
+error_of refusals.Version = Some (HashRefused Version)
+error_of refusals.OutOfMemory = Some OutOfMemory

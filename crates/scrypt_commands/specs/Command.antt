@@ -1,8 +1,8 @@
--- What the arguments ask for. They are read in this order, and the first thing that is wrong refuses them:
+-- What the arguments ask for, or the error of the first thing that is wrong with them. They are read in this order:
 -- the arguments and their decimals, the salt, the parameters, the length of the key, the text of a hash.
-use Rattle.std.specs.Prelude.{◌≡◌, ℕ, List, None, Ok, Option, Some, IfSome, IsErr, IsOk, IsSomeAnd, MatchOption, ⊤}
+use Rattle.std.specs.Prelude.{ℕ, ◌&&◌, Bool, true, nat_le, if◌then◌else◌, List, Option, None, Some, Result, Ok, Err, ⊤}
 use Rattle.hex.specs.Hex.{decode_of}
-use Rattle.scrypt.specs.Accepted.{AreAccepted, IsOutputLen, IsStoredLen, Parameters}
+use Rattle.scrypt.specs.Accepted.{Parameters, are_accepted, is_output_len}
 use Rattle.scrypt.specs.StoredHash.{IsStoredText}
 use Rattle.scrypt_commands.specs.Args.{CommandArgs, MakeArgs, RehashArgs, VerifyArgs, args_of}
 use Rattle.scrypt_commands.specs.declared.args.Format.{Format}
@@ -10,80 +10,82 @@ use Rattle.scrypt_commands.specs.declared.args.Target.{Target}
 use Rattle.scrypt_commands.specs.declared.args.Target.TheVariants.{Key, Hash}
 use Rattle.scrypt_commands.specs.declared.args.UncheckedParams.{UncheckedParams}
 use Rattle.scrypt_commands.specs.declared.error.CliError.{CliError}
-use Rattle.scrypt_commands.specs.declared.error.CliError.TheVariants.{Usage, SaltNotHex, InvalidParams, InvalidOutputLen, HashRefused}
-use Rattle.scrypt_commands.specs.declared.error.HashError.TheVariants.{EncodingInvalid}
+use Rattle.scrypt_commands.specs.declared.error.CliError.TheVariants.{Usage, SaltNotHex, InvalidParams, InvalidOutputLen}
 
--- what arguments ask for, with their salt and the text of their hash
+-- what arguments ask for, with their salt; the text of a hash is not read yet
 pub data Request : Type 0 where
   ToMake : (target : Target) (params : Parameters) (salt : List ℕ) → Request
   ToVerify : (text : List ℕ) → Request
   ToRehash : (format : Format) (wanted : Parameters) (salt text : List ℕ) → Request
+
+-- the second step, if the first gave a value
+infixl 10 ◌>>=◌
+abbrev pub ◌>>=◌ : {A B : Type 0} → Result A CliError → (A → Result B CliError) → Result B CliError
+Ok x >>= f = f x
+Err error >>= f = Err error
+
+-- the salt of hexadecimal digits
+abbrev pub salt_of : {E : Type 0} → Result (List ℕ) E → Result (List ℕ) CliError
+salt_of (Ok salt) = Ok salt
+salt_of (Err why) = Err SaltNotHex
 
 -- the length of the key that the arguments of `hash` or `rehash` name, if any
 abbrev pub requested_len : Target → Option ℕ
 requested_len (Key len) = None
 requested_len (Hash format len) = len
 
+-- whether a stored key can have this length: 10 to 64 bytes
+unfoldable pub is_stored_len : Option ℕ → Bool
+is_stored_len None = true
+is_stored_len (Some len) = nat_le 10 len && nat_le len 64
+
+-- whether the parameters of a target are accepted
+abbrev pub are_params_accepted : Target → UncheckedParams → Bool
+are_params_accepted target unchecked =
+    are_accepted unchecked.log_n unchecked.r unchecked.p && is_stored_len (requested_len target)
+
 -- the parameters of a target
 abbrev pub params_of : Target → UncheckedParams → Parameters
 params_of target unchecked =
     record { log_n = unchecked.log_n; r = unchecked.r; p = unchecked.p; output_len = requested_len target }
 
--- they are accepted
-abbrev pub AreParamsAccepted : Target → UncheckedParams → Type 0
-AreParamsAccepted target unchecked =
-    AreAccepted unchecked.log_n unchecked.r unchecked.p × IfSome (requested_len target) IsStoredLen
+-- the salt of these digits, and the parameters if they are accepted
+unfoldable pub salt_and_params : Target → UncheckedParams → List ℕ → Result (List ℕ × Parameters) CliError
+salt_and_params target unchecked salt_hex = do
+  salt ← salt_of (decode_of salt_hex)
+  if are_params_accepted target unchecked then Ok (salt, params_of target unchecked) else Err InvalidParams
 
--- the salt of these digits, and these parameters, which are accepted
-pub record AreSaltAndParams (target : Target) (unchecked : UncheckedParams) (salt_hex salt : List ℕ) (params : Parameters) : Type 0 where
-  pub salt_read : decode_of salt_hex ≡ Ok salt
-  pub accepted : AreParamsAccepted target unchecked
-  pub params_are : params ≡ params_of target unchecked
+-- whether a key of that length can be derived; a hash has an allowed length of its own
+abbrev pub has_allowed_len : Target → Bool
+has_allowed_len (Key len) = is_output_len len
+has_allowed_len (Hash format len) = true
 
--- the salt or the parameters are refused, and the salt first
-pub data IsSaltOrParamsRefused (target : Target) (unchecked : UncheckedParams) (salt_hex : List ℕ) : CliError → Type 0 where
-  bad_salt : IsErr (decode_of salt_hex) → IsSaltOrParamsRefused target unchecked salt_hex SaltNotHex
-  bad_params : IsOk (decode_of salt_hex) → ¬ AreParamsAccepted target unchecked
-      → IsSaltOrParamsRefused target unchecked salt_hex InvalidParams
+-- what the arguments of a command ask for
+unfoldable pub command_request : CommandArgs → Result Request CliError
+command_request (MakeArgs target unchecked salt_hex) = do
+  (salt, params) ← salt_and_params target unchecked salt_hex
+  if has_allowed_len target then Ok (ToMake target params salt) else Err InvalidOutputLen
+command_request (VerifyArgs text) = Ok (ToVerify text)
+command_request (RehashArgs format unchecked len salt_hex text) = do
+  (salt, params) ← salt_and_params (Hash format (Some len)) unchecked salt_hex
+  Ok (ToRehash format params salt text)
 
--- neither of them is
-abbrev pub HasSaltAndParams : Target → UncheckedParams → List ℕ → Type 0
-HasSaltAndParams target unchecked salt_hex = IsOk (decode_of salt_hex) × AreParamsAccepted target unchecked
+-- what arguments ask for, if they are those of a command
+abbrev pub usage_or_request : Option CommandArgs → Result Request CliError
+usage_or_request None = Err Usage
+usage_or_request (Some args) = command_request args
 
--- a key of that length can be derived; a hash has an allowed length of its own
-abbrev pub HasAllowedLen : Target → Type 0
-HasAllowedLen (Key len) = IsOutputLen len
-HasAllowedLen (Hash format len) = ⊤
+-- what the arguments after the program's name ask for
+abbrev pub request_of : List (List ℕ) → Result Request CliError
+request_of args = usage_or_request (args_of args)
 
--- these arguments mean this request
-pub data Means : CommandArgs → Request → Type 0 where
-  to_make : {target : Target} {unchecked : UncheckedParams} {salt_hex salt : List ℕ} {params : Parameters}
-      → AreSaltAndParams target unchecked salt_hex salt params → HasAllowedLen target
-      → Means (MakeArgs target unchecked salt_hex) (ToMake target params salt)
-  to_verify : {text : List ℕ} → IsStoredText text → Means (VerifyArgs text) (ToVerify text)
-  to_rehash : {format : Format} {unchecked : UncheckedParams} {len : ℕ} {salt_hex salt text : List ℕ} {params : Parameters}
-      → AreSaltAndParams (Hash format (Some len)) unchecked salt_hex salt params → IsStoredText text
-      → Means (RehashArgs format unchecked len salt_hex text) (ToRehash format params salt text)
+-- there is nothing to be asked for, or the text of its hash is not one
+abbrev pub IsRefused : Result Request CliError → Type 0
+IsRefused (Ok (ToMake target params salt)) = ⊥
+IsRefused (Ok (ToVerify text)) = ¬ IsStoredText text
+IsRefused (Ok (ToRehash format wanted salt text)) = ¬ IsStoredText text
+IsRefused (Err error) = ⊤
 
--- these arguments are refused, and this is the first thing that is wrong with them
-pub data IsRefused : CommandArgs → CliError → Type 0 where
-  not_made : {target : Target} {unchecked : UncheckedParams} {salt_hex : List ℕ} {error : CliError}
-      → IsSaltOrParamsRefused target unchecked salt_hex error → IsRefused (MakeArgs target unchecked salt_hex) error
-  bad_len : {target : Target} {unchecked : UncheckedParams} {salt_hex : List ℕ}
-      → HasSaltAndParams target unchecked salt_hex → ¬ HasAllowedLen target
-      → IsRefused (MakeArgs target unchecked salt_hex) InvalidOutputLen
-  bad_hash : {text : List ℕ} → ¬ IsStoredText text → IsRefused (VerifyArgs text) (HashRefused EncodingInvalid)
-  not_remade : {format : Format} {unchecked : UncheckedParams} {len : ℕ} {salt_hex text : List ℕ} {error : CliError}
-      → IsSaltOrParamsRefused (Hash format (Some len)) unchecked salt_hex error
-      → IsRefused (RehashArgs format unchecked len salt_hex text) error
-  bad_old_hash : {format : Format} {unchecked : UncheckedParams} {len : ℕ} {salt_hex text : List ℕ}
-      → HasSaltAndParams (Hash format (Some len)) unchecked salt_hex → ¬ IsStoredText text
-      → IsRefused (RehashArgs format unchecked len salt_hex text) (HashRefused EncodingInvalid)
-
--- the arguments after the program's name ask for this
-abbrev pub AskFor : List (List ℕ) → Request → Type 0
-AskFor args request = IsSomeAnd (args_of args) (λ read. Means read request)
-
--- they are refused, and this is the first thing that is wrong with them
-abbrev pub AreRefused : List (List ℕ) → CliError → Type 0
-AreRefused args error = MatchOption (args_of args) (error ≡ Usage) (λ read. IsRefused read error)
+-- the arguments are refused before the input is read
+abbrev pub AreRefused : List (List ℕ) → Type 0
+AreRefused args = IsRefused (request_of args)

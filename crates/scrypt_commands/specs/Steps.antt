@@ -1,22 +1,27 @@
 -- Private: the steps of a run. Only the clauses of private functions cite these.
-use Rattle.std.specs.Prelude.{◌≡◌, ◌⊎◌, ℕ, if◌then◌else◌, List, codes, Option, string_bytes, ⊤}
+use Rattle.std.specs.Prelude.{◌≡◌, ◌⊎◌, ℕ, Bool, false, true, if◌then◌else◌, List, codes, Option, None, Some, Result}
+use Rattle.std.specs.Prelude.{Ok, Err, IfSome, IsTrue, string_bytes, ⊤}
 use Rattle.std.specs.Io.KnownBytes.{Appends}
 use Rattle.password_hash.specs.Refusal.{Refusal}
-use Rattle.password_hash.specs.Refusal as refusals
+use Rattle.scrypt.specs.Accepted.{AreAccepted, IsStoredLen}
+use Rattle.scrypt.specs.Reading.{verdict, weaker}
 use Rattle.scrypt.specs.declared.errors.DeriveError.{DeriveError}
 use Rattle.scrypt.specs.declared.errors.DeriveError.TheVariants.{InvalidOutputLen as DerivedBadLength, OutOfMemory as DerivedOutOfMemory}
 use Rattle.scrypt_commands.specs.Args.{CommandArgs, MakeArgs, RehashArgs, VerifyArgs}
-use Rattle.scrypt_commands.specs.CliError.{hash_refusal}
-use Rattle.scrypt_commands.specs.Command.{AskFor, HasAllowedLen, Request, ToMake, ToRehash, ToVerify}
-use Rattle.scrypt_commands.specs.Outcome.{Gives, OnInput, Refuses}
+use Rattle.scrypt_commands.specs.CliError.{error_of, status_of}
+use Rattle.scrypt_commands.specs.Command.{AreRefused, IsRefused, Request, has_allowed_len, requested_len}
+use Rattle.scrypt_commands.specs.Outcome.{HasOutcome, HasOutcomeOf, OnInput, Outcome, answer_of, new_hash, new_outcome}
+use Rattle.scrypt_commands.specs.Outcome.{new_text, refusal_of, rehash_outcome, verdict_outcome}
 use Rattle.scrypt_commands.specs.declared.answer.Answer.{Answer}
 use Rattle.scrypt_commands.specs.declared.answer.Answer.TheVariants.{Verdict, Made}
 use Rattle.scrypt_commands.specs.declared.args.Args.{Args}
 use Rattle.scrypt_commands.specs.declared.args.Args.TheVariants.{Make as MakeOf, Rehash as RehashOf, Verify as VerifyOf}
+use Rattle.scrypt_commands.specs.declared.args.Target.{Target}
+use Rattle.scrypt_commands.specs.declared.args.UncheckedParams.{UncheckedParams}
 use Rattle.scrypt_commands.specs.declared.command.Command.{Command}
 use Rattle.scrypt_commands.specs.declared.command.Command.TheVariants.{Make, Rehash, Verify}
 use Rattle.scrypt_commands.specs.declared.error.CliError.{CliError}
-use Rattle.scrypt_commands.specs.declared.error.CliError.TheVariants.{HashRefused, InvalidOutputLen, OutOfMemory}
+use Rattle.scrypt_commands.specs.declared.error.CliError.TheVariants.{InputFailed, InvalidOutputLen, OutOfMemory, OutputFailed}
 
 -- borrowed arguments, with their texts
 abbrev pub args_view : Args → CommandArgs
@@ -29,28 +34,42 @@ abbrev pub derive_error : DeriveError → CliError
 derive_error DerivedBadLength = InvalidOutputLen
 derive_error DerivedOutOfMemory = OutOfMemory
 
--- the error reports this refusal of a hash, or that memory is not available
-abbrev pub Reports : CliError → Refusal → Type 0
-Reports (HashRefused why) refusal = refusal ≡ hash_refusal why
-Reports OutOfMemory refusal = refusal ≡ refusals.OutOfMemory
-Reports error refusal = ⊥
+-- the parameters of a target are accepted
+abbrev pub AreParamsAccepted : Target → UncheckedParams → Type 0
+AreParamsAccepted target unchecked =
+    AreAccepted unchecked.log_n unchecked.r unchecked.p × IfSome (requested_len target) IsStoredLen
 
--- a refusal that names a parameter names `ln`, `r` or `p`
-abbrev pub NamesParam : Refusal → Type 0
-NamesParam (refusals.ParamInvalid name) = (name ≡ codes "ln") ⊎ (name ≡ codes "r") ⊎ (name ≡ codes "p")
-NamesParam refusal = ⊤
+-- an allocation failed, or this holds of an error with status 2
+abbrev pub FailsWith : (CliError → Type 0) → CliError → Type 0
+FailsWith Is error = (error ≡ OutOfMemory) ⊎ ((status_of error ≡ 2) × Is error)
 
--- the request of a command
-abbrev pub request_of : Command → Request
-request_of (Make target params salt) = ToMake target params salt.items
-request_of (Verify hash) = ToVerify hash
-request_of (Rehash format params salt hash) = ToRehash format params salt.items hash
+-- a step gives what is expected, or an allocation failed
+abbrev pub Gives : {A B : Type 0} → (A → B) → Result B CliError → Result A CliError → Type 0
+Gives view expected (Ok x) = expected ≡ Ok (view x)
+Gives view expected (Err error) = FailsWith (λ error. expected ≡ Err error) error
 
--- what is to be made can be made
-abbrev pub IsPossible : Request → Type 0
-IsPossible (ToMake target params salt) = HasAllowedLen target
-IsPossible (ToVerify hash) = ⊤
-IsPossible (ToRehash format wanted salt hash) = ⊤
+-- a password is wrong if its refusal is no error
+abbrev pub wrong_or_error : Option CliError → Result Bool CliError
+wrong_or_error None = Ok false
+wrong_or_error (Some error) = Err error
+
+-- whether a password is right, by the verdict
+abbrev pub right_of : Result ⊤ Refusal → Result Bool CliError
+right_of (Ok right) = Ok true
+right_of (Err why) = wrong_or_error (error_of why)
+
+-- the length of the key that a command is to make is allowed
+abbrev pub IsPossible : Command → Type 0
+IsPossible (Make target params salt) = IsTrue (has_allowed_len target)
+IsPossible (Verify hash) = ⊤
+IsPossible (Rehash format params salt hash) = ⊤
+
+-- the outcome of a command on this input
+abbrev pub command_outcome : Command → List ℕ → Outcome
+command_outcome (Make target params salt) input = new_outcome (new_text target params input salt.items)
+command_outcome (Verify hash) input = verdict_outcome (verdict input hash.whole)
+command_outcome (Rehash format params salt hash) input =
+    rehash_outcome (verdict input hash.whole) (weaker params hash.whole) (new_hash format params input salt.items)
 
 -- the status of an answer
 abbrev pub answer_status : Answer → ℕ
@@ -62,12 +81,27 @@ abbrev pub answer_line : Answer → List ℕ
 answer_line (Verdict right) = if right then codes "ok\n" else codes "no\n"
 answer_line (Made line) = string_bytes line
 
+-- what carrying out a command gives, if this is the outcome
+abbrev pub Answers : Outcome → Result Answer CliError → Type 0
+Answers outcome (Ok answer) = outcome ≡ answer_of (answer_status answer) (answer_line answer)
+Answers outcome (Err error) = FailsWith (λ error. outcome ≡ refusal_of error) error
+
+-- the command of a request has its outcome on each input, and the error of refused arguments has theirs
+abbrev pub IsCommandFor : Result Request CliError → Result Command CliError → Type 0
+IsCommandFor request (Ok command) =
+    (¬ IsRefused request) × IsPossible command × ((input : List ℕ) → HasOutcomeOf request input (command_outcome command input))
+IsCommandFor request (Err error) =
+    FailsWith (λ error. IsRefused request × ((input : List ℕ) → HasOutcomeOf request input (refusal_of error))) error
+
 -- the line that answers these arguments with this status was appended
 abbrev pub AppendsAnswer : List (List ℕ) → Option (List ℕ) → Option (List ℕ) → Option (List ℕ) → ℕ → Type 0
-AppendsAnswer args known old new status = OnInput known (λ input. (request : Request) × (line : List ℕ)
-    × AskFor args request × Gives request input status line × Appends old new line)
+AppendsAnswer args known old new status =
+    OnInput known (λ input. (line : List ℕ) × HasOutcome args input (answer_of status line) × Appends old new line)
 
--- hashing or verifying refuses what these arguments ask for with this error
-abbrev pub IsInputRefused : List (List ℕ) → Option (List ℕ) → CliError → Type 0
-IsInputRefused args known error =
-    OnInput known (λ input. (request : Request) × AskFor args request × Refuses request input error)
+-- what ends a run without a line: a refusal, of the arguments or after the input was read, or what stops it
+pub data Ends (args : List (List ℕ)) (known : Option (List ℕ)) (Read : Type 0) : CliError → Type 0 where
+  refused : {error : CliError} → status_of error ≡ 2 → AreRefused args ⊎ Read
+      → OnInput known (λ input. HasOutcome args input (refusal_of error)) → Ends args known Read error
+  no_memory : Ends args known Read OutOfMemory
+  no_input : Ends args known Read InputFailed
+  no_output : Read → Ends args known Read OutputFailed

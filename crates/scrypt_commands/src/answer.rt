@@ -1,25 +1,22 @@
 // The answer to a command.
 
-ghost use Rattle.std.specs.Prelude.{◌≡◌, ◌⊎◌, ◌↔◌, ◌++◌, false, IfOk, IfErr, IsTrue, None, Some, codes, string_bytes};
+ghost use Rattle.std.specs.Prelude.{◌≡◌, ◌++◌, IfOk, IfErr, IsOk, IsTrue, Ok, codes, string_bytes};
 ghost use Rattle.hex.specs.Hex.{encode_lower};
-ghost use Rattle.password_hash.specs.Refusal.{PasswordInvalid};
 ghost use Rattle.scrypt.specs.Accepted.{IsOutputLen};
 ghost use Rattle.scrypt.specs.KeyOfParams.{key_by};
-ghost use Rattle.scrypt.specs.McfHash.{IsMadeHash as IsMadeMcf};
-ghost use Rattle.scrypt.specs.PhcHash.{HashIsRefused};
-ghost use Rattle.scrypt.specs.StoredHash.{Accepts, IsReadableText, IsWeakerText, Verdict};
-ghost use Rattle.scrypt_commands.specs.CliError.{IsHashError};
-ghost use Rattle.scrypt_commands.specs.Command.{HasAllowedLen};
-ghost use Rattle.scrypt_commands.specs.Outcome.{Gives, IsAnswer, IsHashSaltRefused, IsMadeFor, IsMadeHashText, IsSaltRefused, IsVerdictError, Refuses};
-ghost use Rattle.scrypt_commands.specs.Steps.{IsPossible, answer_line, answer_status, request_of};
-ghost use Rattle.scrypt_commands.specs.declared.args.Format.TheVariants.{Phc};
+ghost use Rattle.scrypt.specs.Reading.{verdict, weaker};
+ghost use Rattle.scrypt_commands.specs.Command.{has_allowed_len};
+ghost use Rattle.scrypt_commands.specs.Outcome.{IsAnswer, new_hash, new_text};
+ghost use Rattle.scrypt_commands.specs.Steps.{Answers, Gives, IsPossible, answer_line, answer_status, command_outcome, right_of};
+ghost use Rattle.scrypt_commands.specs.declared.args.Format.TheVariants.{Mcf, Phc};
+ghost use Rattle.scrypt_commands.specs.declared.args.Target.TheVariants.{Key};
 ghost use Rattle.scrypt_commands.specs.declared.error.CliError.TheVariants.{OutOfMemory};
 
 use crate::args::{Format, Target};
 use crate::command::Command;
 use crate::error::CliError;
 use password_hash::{PasswordHasher, mcf, phc};
-use scrypt::laws::stored_texts_have_one_reading;
+use scrypt::laws::{hashers_are_accepted, made_hashes_are_accepted, texts_have_one_reading};
 use scrypt::{Params, Scrypt, StoredHash, scrypt};
 use std::alloc::Global;
 
@@ -63,11 +60,8 @@ impl<'a> Command<'a> {
     /// Returns `HashRefused` if hashing or verifying refuses, and `OutOfMemory` if an allocation
     /// fails.
     pub fn answer(&self, alloc: Global, input: &[u8]) -> Result<Answer, CliError>
-        requires possible { IsPossible (request_of self.now) }
-        ensures ok { IfOk result (λ answer.
-            Gives (request_of self.now) input.now (answer_status answer) (answer_line answer)) }
-        ensures err { IfErr result (λ error.
-            (error ≡ OutOfMemory) ⊎ Refuses (request_of self.now) input.now error) }
+        requires { IsPossible self.now }
+        ensures { Answers (command_outcome self.now input.now) result }
     {
         match self {
             Command::Make {
@@ -98,10 +92,7 @@ impl<'a> Command<'a> {
 
 // Returns whether the password is that of the hash.
 fn verify(alloc: Global, hash: &StoredHash<'_>, password: &[u8]) -> Result<bool, CliError>
-    ensures right { IfOk result (λ right. IsTrue right ↔ Accepts password.now hash.now) }
-    ensures wrong { IfOk result (λ right. right ≡ false → Verdict password.now hash.now (Some PasswordInvalid)) }
-    ensures err { IfErr result (λ error.
-        (error ≡ OutOfMemory) ⊎ IsVerdictError password.now hash.now error) }
+    ensures { Gives (λ right. right) (right_of (verdict password.now hash.now.whole)) result }
 {
     match hash.verify(alloc, password) {
         Ok(()) => Ok(true),
@@ -115,10 +106,9 @@ fn verify(alloc: Global, hash: &StoredHash<'_>, password: &[u8]) -> Result<bool,
 // Returns whether the hash is weaker than these parameters. A hash that accepts a password can be
 // read, so there is no error.
 fn is_weaker(hash: &StoredHash<'_>, wanted: &Params) -> bool
-    requires { IsReadableText hash.now }
-    ensures { IsTrue result ↔ IsWeakerText wanted.now hash.now }
+    requires { IsOk hash.now.whole }
+    ensures { weaker wanted.now hash.now.whole ≡ Ok result }
 {
-    stored_texts_have_one_reading();
     hash.needs_rehash(wanted).unwrap()
 }
 
@@ -130,10 +120,8 @@ fn make(
     params: &Params,
     target: &Target,
 ) -> Result<String, CliError>
-    requires { HasAllowedLen target.now }
-    ensures ok { IfOk result (λ text.
-        IsMadeFor target.now params.now password.now salt.now (string_bytes text)) }
-    ensures err { IfErr result (λ error. (error ≡ OutOfMemory) ⊎ IsSaltRefused target.now salt.now error) }
+    requires { IsTrue (has_allowed_len target.now) }
+    ensures { Gives string_bytes (new_text target.now params.now password.now salt.now) result }
 {
     match target {
         Target::Key { len } => key(alloc, password, salt, params, *len),
@@ -149,9 +137,7 @@ fn make_hash(
     params: &Params,
     format: Format,
 ) -> Result<String, CliError>
-    ensures ok { IfOk result (λ text.
-        IsMadeHashText format params.now password.now salt.now (string_bytes text)) }
-    ensures err { IfErr result (λ error. (error ≡ OutOfMemory) ⊎ IsHashSaltRefused format salt.now error) }
+    ensures { Gives string_bytes (new_hash format params.now password.now salt.now) result }
 {
     match format {
         Format::Phc => phc_hash(alloc, password, salt, params),
@@ -168,9 +154,7 @@ fn key(
     len: usize,
 ) -> Result<String, CliError>
     requires { IsOutputLen len }
-    ensures ok { IfOk result (λ text.
-        string_bytes text ≡ encode_lower (key_by params.now password.now salt.now len)) }
-    ensures err { IfErr result (λ error. error ≡ OutOfMemory) }
+    ensures { Gives string_bytes (new_text (Key len) params.now password.now salt.now) result }
 {
     let mut key = vec![in alloc; 0u8; len]?;
     scrypt(alloc, password, salt, params, &mut key)?;
@@ -184,10 +168,7 @@ fn phc_hash(
     salt: &[u8],
     params: &Params,
 ) -> Result<String, CliError>
-    ensures ok { IfOk result (λ text.
-        IsMadeHashText Phc params.now password.now salt.now (string_bytes text)) }
-    ensures err { IfErr result (λ error.
-        (error ≡ OutOfMemory) ⊎ IsHashError (HashIsRefused salt.now None None) error) }
+    ensures { Gives string_bytes (new_hash Phc params.now password.now salt.now) result }
 {
     let hasher = Scrypt::new_with_params(*params);
     let made: password_hash::Result<phc::PasswordHash> = hasher.hash_password_with_salt(
@@ -206,10 +187,12 @@ fn mcf_hash(
     salt: &[u8],
     params: &Params,
 ) -> Result<String, CliError>
-    ensures ok { IfOk result (λ text. IsMadeMcf params.now password.now salt.now (string_bytes text)) }
-    ensures err { IfErr result (λ error. error ≡ OutOfMemory) }
+    ensures { Gives string_bytes (new_hash Mcf params.now password.now salt.now) result }
 {
     let hasher = Scrypt::new_with_params(*params);
+    hashers_are_accepted(&hasher);
+    made_hashes_are_accepted();
+    texts_have_one_reading();
     let made: password_hash::Result<mcf::PasswordHash> = hasher.hash_password_with_salt(
         alloc, password, salt,
     );

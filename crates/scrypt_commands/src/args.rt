@@ -110,6 +110,7 @@ fn parse_hash<'a>(args: &'a [String]) -> Option<Args<'a>>
 }
 
 // Returns the arguments of a hash of this format, phc or mcf.
+#[tactic(auto, unfolding(crate::specs::Args::named_hash_args))]
 fn parse_named_hash<'a>(
     format: &str,
     unchecked: UncheckedParams,
@@ -127,6 +128,7 @@ fn parse_named_hash<'a>(
 }
 
 // Parses HASH.
+#[tactic(auto, using(crate::proofs::ArgsFacts::is_one, crate::proofs::ArgsFacts::not_verify_args), unfolding(crate::specs::Args::verify_args))]
 fn parse_verify<'a>(args: &'a [String]) -> Option<Args<'a>>
     ensures { option_map args_view result ≡ verify_args (map string_bytes args.now) }
 {
@@ -178,6 +180,7 @@ fn parse_params(log_n: &str, r: &str, p: &str) -> Option<UncheckedParams>
 }
 
 // Parses the name of a format.
+#[tactic(auto, using(crate::proofs::ArgsFacts::no_format_named), unfolding(crate::specs::Args::format_of))]
 fn parse_format(arg: &str) -> Option<Format>
     ensures { result ≡ format_of arg.now }
 {

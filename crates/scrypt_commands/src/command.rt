@@ -1,12 +1,12 @@
 // What the arguments ask for.
 
-ghost use Rattle.std.specs.Prelude.{◌≡◌, ◌⊎◌, IfOk, IfErr, IsErr, IsOk, IsTrue, Ok, ◌↔◌};
+ghost use Rattle.std.specs.Prelude.{◌≡◌, ◌↔◌, IfOk, IfErr, IsOk, IsTrue};
 ghost use Rattle.hex.specs.Hex.{decode_of};
-ghost use Rattle.scrypt.specs.StoredHash.{IsStoredText};
+ghost use Rattle.scrypt.specs.StoredHash.{IsStoredText, Reads};
 ghost use Rattle.scrypt_commands.specs.Args.{MakeArgs, RehashArgs, VerifyArgs, texts_of};
-ghost use Rattle.scrypt_commands.specs.Command.{AreParamsAccepted, AreRefused, AreSaltAndParams, AskFor, HasAllowedLen, IsRefused, IsSaltOrParamsRefused, Means, params_of};
-ghost use Rattle.scrypt_commands.specs.Steps.{request_of};
-ghost use Rattle.scrypt_commands.specs.declared.error.CliError.TheVariants.{HashRefused, OutOfMemory, SaltNotHex};
+ghost use Rattle.scrypt_commands.specs.Command.{command_request, has_allowed_len, params_of, request_of, salt_and_params, salt_of};
+ghost use Rattle.scrypt_commands.specs.Steps.{AreParamsAccepted, Gives, IsCommandFor};
+ghost use Rattle.scrypt_commands.specs.declared.error.CliError.TheVariants.{HashRefused};
 ghost use Rattle.scrypt_commands.specs.declared.error.HashError.TheVariants.{EncodingInvalid};
 
 use crate::args::{Args, Format, Target, UncheckedParams};
@@ -45,9 +45,7 @@ impl<'a> Command<'a> {
     /// `InvalidParams`, `InvalidOutputLen`, and `HashRefused` with `EncodingInvalid`. Returns
     /// `OutOfMemory` if the allocation of the salt fails.
     pub fn from_args(alloc: Global, args: &'a [String]) -> Result<Command<'a>, CliError>
-        ensures ok { IfOk result (λ command. AskFor (texts_of args.now) (request_of command)) }
-        ensures err { IfErr result (λ error.
-            (error ≡ OutOfMemory) ⊎ AreRefused (texts_of args.now) error) }
+        ensures { IsCommandFor (request_of (texts_of args.now)) result }
     {
         let Some(args) = Args::parse(args) else {
             return Err(CliError::Usage);
@@ -77,9 +75,7 @@ fn make_command<'a>(
     unchecked: UncheckedParams,
     salt_hex: &str,
 ) -> Result<Command<'a>, CliError>
-    ensures ok { IfOk result (λ command. Means (MakeArgs target unchecked salt_hex.now) (request_of command)) }
-    ensures err { IfErr result (λ error.
-        (error ≡ OutOfMemory) ⊎ IsRefused (MakeArgs target unchecked salt_hex.now) error) }
+    ensures { IsCommandFor (command_request (MakeArgs target unchecked salt_hex.now)) result }
 {
     let (salt, params) = salt_and_params(alloc, target, unchecked, salt_hex)?;
     if !has_allowed_len(target) {
@@ -99,9 +95,7 @@ fn salt_and_params(
     unchecked: UncheckedParams,
     salt_hex: &str,
 ) -> Result<(Vec<u8>, Params), CliError>
-    ensures ok { IfOk result (λ read. AreSaltAndParams target unchecked salt_hex.now read.0.items read.1) }
-    ensures err { IfErr result (λ error.
-        (error ≡ OutOfMemory) ⊎ IsSaltOrParamsRefused target unchecked salt_hex.now error) }
+    ensures { Gives (λ read. (read.0.items, read.1)) (salt_and_params target unchecked salt_hex.now) result }
 {
     let salt = decode_salt(alloc, salt_hex)?;
     let params = checked_params(target, unchecked)?;
@@ -122,7 +116,7 @@ fn checked_params(target: Target, unchecked: UncheckedParams) -> Result<Params, 
 
 // Returns whether a key of that length can be derived. A hash has an allowed length of its own.
 fn has_allowed_len(target: Target) -> bool
-    ensures exact { IsTrue result ↔ HasAllowedLen target }
+    ensures { result ≡ has_allowed_len target }
 {
     match target {
         Target::Key { len } => output_len_ok(len),
@@ -132,8 +126,7 @@ fn has_allowed_len(target: Target) -> bool
 
 // Returns the command that verifies against the hash of this text.
 fn verify_command<'a>(text: &'a str) -> Result<Command<'a>, CliError>
-    ensures ok { IfOk result (λ command. Means (VerifyArgs text.now) (request_of command)) }
-    ensures err { IfErr result (IsRefused (VerifyArgs text.now)) }
+    ensures { IsCommandFor (command_request (VerifyArgs text.now)) result }
 {
     match stored_hash(text) {
         Ok(hash) => Ok(Command::Verify { hash }),
@@ -151,10 +144,7 @@ fn rehash_command<'a>(
     salt_hex: &str,
     text: &'a str,
 ) -> Result<Command<'a>, CliError>
-    ensures ok { IfOk result (λ command.
-        Means (RehashArgs format unchecked len salt_hex.now text.now) (request_of command)) }
-    ensures err { IfErr result (λ error. (error ≡ OutOfMemory)
-        ⊎ IsRefused (RehashArgs format unchecked len salt_hex.now text.now) error) }
+    ensures { IsCommandFor (command_request (RehashArgs format unchecked len salt_hex.now text.now)) result }
 {
     let target = Target::Hash {
         format,
@@ -174,7 +164,7 @@ fn rehash_command<'a>(
 
 // Returns the hash of a text.
 fn stored_hash(text: &str) -> Result<StoredHash<'_>, CliError>
-    ensures ok { IfOk result (λ hash. (hash ≡ text.now) × IsStoredText text.now) }
+    ensures ok { IfOk result (Reads text.now) }
     ensures err { IfErr result (λ error.
         (error ≡ HashRefused EncodingInvalid) × (¬ IsStoredText text.now)) }
 {
@@ -186,9 +176,7 @@ fn stored_hash(text: &str) -> Result<StoredHash<'_>, CliError>
 
 // Decodes SALT_HEX, an even number of hexadecimal digits of either case.
 fn decode_salt(alloc: Global, salt_hex: &str) -> Result<Vec<u8>, CliError>
-    ensures ok { IfOk result (λ salt. decode_of salt_hex.now ≡ Ok salt.items) }
-    ensures err { IfErr result (λ error.
-        (error ≡ OutOfMemory) ⊎ ((error ≡ SaltNotHex) × IsErr (decode_of salt_hex.now))) }
+    ensures { Gives (λ salt. salt.items) (salt_of (decode_of salt_hex.now)) result }
 {
     match hex::decode(alloc, salt_hex) {
         Ok(salt) => Ok(salt),

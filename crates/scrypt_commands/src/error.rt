@@ -1,11 +1,10 @@
 // Why a run ends without an answer.
 
-ghost use Rattle.std.specs.Prelude.{◌≡◌, IfNone, IfSome};
-ghost use Rattle.password_hash.specs.Refusal as refusals;
+ghost use Rattle.std.specs.Prelude.{◌≡◌};
 ghost use Rattle.password_hash.specs.Refusal.{refusal};
-ghost use Rattle.scrypt_commands.specs.CliError.{error_line, hash_error_line, status_of};
-ghost use Rattle.scrypt_commands.specs.Steps.{NamesParam, Reports, derive_error};
-ghost use Rattle.scrypt_commands.specs.declared.error.CliError.TheVariants.{InvalidOutputLen as BadLength, InvalidParams as BadParams, OutOfMemory};
+ghost use Rattle.scrypt_commands.specs.CliError.{error_line, error_of, hash_error_line, status_of};
+ghost use Rattle.scrypt_commands.specs.Steps.{derive_error};
+ghost use Rattle.scrypt_commands.specs.declared.error.CliError.TheVariants.{InvalidParams as BadParams, OutOfMemory};
 
 use password_hash::Error;
 use scrypt::{DeriveError, InvalidParams};
@@ -58,9 +57,7 @@ pub enum HashError {
 impl CliError {
     /// Returns the error that reports one of hashing or verifying, or `None` for a wrong password.
     pub fn of(refused: Error) -> Option<CliError>
-        requires named { NamesParam (refusal refused) }
-        ensures some { IfSome result (λ error. Reports error (refusal refused)) }
-        ensures none { IfNone result (refusal refused ≡ refusals.PasswordInvalid) }
+        ensures value { result ≡ error_of (refusal refused) }
     {
         Some(CliError::HashRefused(match refused {
             Error::Algorithm => HashError::Algorithm,

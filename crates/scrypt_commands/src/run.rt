@@ -1,13 +1,12 @@
 // The program over any reader and any two writers.
 
-ghost use Rattle.std.specs.Prelude.{◌≡◌, ◌⊎◌, ◌↔◌, ◌≤◌, IsTrue, IfOk, IfErr, IfSome, IsErrAnd, OnOk, if◌then◌else◌, false, true};
+ghost use Rattle.std.specs.Prelude.{◌≡◌, ◌⊎◌, ◌↔◌, ◌≤◌, IsTrue, IfOk, IfErr, IfSome, IsErr, OnOk, if◌then◌else◌, false, true};
 ghost use Rattle.std.specs.Io.KnownBytes.{Appends, IsAtEnd, Keeps};
+ghost use Rattle.scrypt_commands.specs.Args.{texts_of};
 ghost use Rattle.scrypt_commands.specs.Command.{AreRefused};
 ghost use Rattle.scrypt_commands.specs.CliError.{error_line, status_of};
-ghost use Rattle.scrypt_commands.specs.Outcome.{IsAnswer, OutcomeIs, Prints};
-ghost use Rattle.scrypt_commands.specs.Steps.{AppendsAnswer, IsInputRefused};
-ghost use Rattle.scrypt_commands.specs.Args.{texts_of};
-ghost use Rattle.scrypt_commands.specs.declared.error.CliError.{CliError};
+ghost use Rattle.scrypt_commands.specs.Outcome.{IsAnswer, OutcomeIs};
+ghost use Rattle.scrypt_commands.specs.Steps.{AppendsAnswer, Ends};
 ghost use Rattle.scrypt_commands.specs.declared.error.CliError.TheVariants.{InputFailed, OutOfMemory, OutputFailed};
 
 use crate::command::Command;
@@ -41,12 +40,9 @@ pub fn run<R: Read, W: Write, F: Write>(
     writer: &mut W,
     errors: &mut F,
 ) -> Exit
-    ensures status { (result.status ≡ 3) ⊎ (result.status ≡ 4) ⊎ OutcomeIs
-        (texts_of args.now) (R.remaining reader.old) (λ outcome. result.status ≡ outcome.status) }
-    ensures line { IsAnswer result.status → Prints (texts_of args.now) (R.remaining reader.old) result.status
-        (λ outcome. outcome.line) (W.contents writer.old) (W.contents writer.new) }
-    ensures error { result.status ≤ 2 → IsTrue result.error_written → Prints (texts_of args.now) (R.remaining reader.old)
-        result.status (λ outcome. outcome.error) (F.contents errors.old) (F.contents errors.new) }
+    ensures outcome { (result.status ≡ 3) ⊎ (result.status ≡ 4) ⊎ OutcomeIs (texts_of args.now) (R.remaining reader.old) (λ outcome.
+        (result.status ≡ outcome.status) × Appends (W.contents writer.old) (W.contents writer.new) outcome.line
+        × (IsTrue result.error_written → Appends (F.contents errors.old) (F.contents errors.new) outcome.error)) }
     ensures out_of_memory { result.status ≡ 3 → IsTrue result.error_written →
         Appends (F.contents errors.old) (F.contents errors.new) (error_line OutOfMemory) }
     ensures failed { result.status ≡ 4 → IsTrue result.error_written → Appends (F.contents errors.old) (F.contents errors.new)
@@ -55,11 +51,9 @@ pub fn run<R: Read, W: Write, F: Write>(
     ensures nothing { (result.status ≡ 2) ⊎ (result.status ≡ 3) ⊎ IsTrue result.input_failed →
         Keeps (W.contents writer.old) (W.contents writer.new) }
     // With every reader, whether its bytes are known or not.
-    ensures refused { (error : CliError) → AreRefused (texts_of args.now) error → (result.status ≡ 2) ⊎ (result.status ≡ 3) }
-    ensures unread { (error : CliError) → AreRefused (texts_of args.now) error →
-        Keeps (R.remaining reader.old) (R.remaining reader.new) }
-    ensures read_before_refusal { result.status ≡ 2 →
-        ((error : CliError) → ¬ AreRefused (texts_of args.now) error) → IsAtEnd (R.remaining reader.new) }
+    ensures refused { AreRefused (texts_of args.now) → (result.status ≡ 2) ⊎ (result.status ≡ 3) }
+    ensures unread { AreRefused (texts_of args.now) → Keeps (R.remaining reader.old) (R.remaining reader.new) }
+    ensures read_before_refusal { result.status ≡ 2 → ¬ AreRefused (texts_of args.now) → IsAtEnd (R.remaining reader.new) }
     ensures read { IsAnswer result.status ⊎ ((result.status ≡ 4) × (result.input_failed ≡ false)) →
         IsAtEnd (R.remaining reader.new) }
     ensures done { IsAnswer result.status → IsTrue result.error_written }
@@ -82,15 +76,11 @@ fn execute<R: Read, W: Write>(
         (W.contents writer.old) (W.contents writer.new)) }
     ensures ok { IfOk result IsAnswer }
     ensures read { OnOk result (IsAtEnd (R.remaining reader.new)) }
-    ensures err { IfErr result (λ error. AreRefused (texts_of args.now) error
-        ⊎ (IsInputRefused (texts_of args.now) (R.remaining reader.old) error × IsAtEnd (R.remaining reader.new))
-        ⊎ (error ≡ OutOfMemory) ⊎ (error ≡ InputFailed)
-        ⊎ ((error ≡ OutputFailed) × IsAtEnd (R.remaining reader.new))) }
+    ensures err { IfErr result (Ends (texts_of args.now) (R.remaining reader.old) (IsAtEnd (R.remaining reader.new))) }
     ensures nothing { IfErr result (λ error. (error ≡ OutputFailed)
         ⊎ Keeps (W.contents writer.old) (W.contents writer.new)) }
-    ensures refused { (refusal : CliError) → AreRefused (texts_of args.now) refusal →
-        IsErrAnd result (λ error. AreRefused (texts_of args.now) error ⊎ (error ≡ OutOfMemory))
-        × Keeps (R.remaining reader.old) (R.remaining reader.new) }
+    ensures refused { AreRefused (texts_of args.now) → IfErr result (λ error. (error ≡ OutOfMemory) ⊎ (status_of error ≡ 2))
+        × IsErr result × Keeps (R.remaining reader.old) (R.remaining reader.new) }
 {
     let command = Command::from_args(alloc, args)?;
     let input = read_all(alloc, reader)?;

@@ -1,4 +1,2 @@
--- What verifying and reading refuse, from the errors that the library answers.
-pub mod RefusalFacts
--- What logins within limits refuse, and how many cores they run.
-pub mod BoundedFacts
+-- What logins give by the reading of a stored text, and how many cores they run.
+pub mod LoginFacts

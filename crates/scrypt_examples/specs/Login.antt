@@ -1,8 +1,11 @@
 -- Enrolling and logging in.
-use Rattle.std.specs.Prelude.{◌≡◌, ℕ, List, Bool, true, false, Option, None, Some, string_bytes}
+use Rattle.std.specs.Prelude.{◌≡◌, ℕ, List, Bool, true, false, Option, None, Some, Result, Ok, Err, string_bytes, ⊤}
+use Rattle.password_hash.specs.Refusal.{Refusal, PasswordInvalid}
 use Rattle.scrypt.specs.Accepted.{AreAccepted, Parameters}
 use Rattle.scrypt.specs.PhcHash.{IsMadeText}
-use Rattle.scrypt.specs.StoredHash.{Accepts, IsWeakerText}
+use Rattle.scrypt.specs.Reading.{verdict, weaker}
+use Rattle.scrypt.specs.StoredHash.{ByReading}
+use Rattle.scrypt.specs.WithinLimits.{BoundedRefusal, Hash}
 use Rattle.scrypt_examples.specs.declared.login.Login.{Login}
 use Rattle.scrypt_examples.specs.declared.login.Login.TheVariants.{In, InWithNewText, Refused}
 
@@ -15,8 +18,8 @@ pub record AreWanted (c : Parameters) : Type 0 where
 -- in, and is not weaker than wanted.
 pub record IsEnrolled (wanted : Parameters) (password salt text : List ℕ) : Type 0 where
   pub made : IsMadeText wanted password salt text
-  pub accepts : Accepts password text
-  pub strong : ¬ IsWeakerText wanted text
+  pub accepts : ByReading text (λ reading. verdict password reading ≡ Ok tt)
+  pub strong : ByReading text (λ reading. weaker wanted reading ≡ Ok false)
 
 -- the password was let in
 abbrev pub lets_in : Login → Bool
@@ -29,3 +32,16 @@ abbrev pub new_text : Login → Option (List ℕ)
 new_text Refused = None
 new_text In = None
 new_text (InWithNewText text) = Some (string_bytes text)
+
+-- Whether a verdict lets the password in. A wrong password is refused without an error, and so is every password of a
+-- hash without a salt or a key.
+abbrev pub let_in : Result ⊤ Refusal → Result Bool Refusal
+let_in (Ok u) = Ok true
+let_in (Err PasswordInvalid) = Ok false
+let_in (Err why) = Err why
+
+-- the same within limits
+abbrev pub let_in_within : Result ⊤ BoundedRefusal → Result Bool BoundedRefusal
+let_in_within (Ok u) = Ok true
+let_in_within (Err (Hash PasswordInvalid)) = Ok false
+let_in_within (Err why) = Err why

@@ -1,23 +1,19 @@
 //! Logins by texts that somebody else may have written: a text that asks for too much is refused before any work.
 
-ghost use Rattle.std.specs.Prelude.{◌≡◌, ◌⊎◌, ◌↔◌, ◌+◌, ◌≤◌, IfErr, IfOk, IsErrOf, IsTrue, OnOk};
-ghost use Rattle.password_hash.specs.Refusal.{Refusal};
-ghost use Rattle.password_hash.specs.declared.error.Error.TheVariants.{OutOfMemory};
-ghost use Rattle.scrypt.specs.InBuffers.{AreTooShort};
-ghost use Rattle.scrypt.specs.StoredHash.{Accepts};
-ghost use Rattle.scrypt.specs.WithinLimits.{IsTooCostly, IsWholeWithin};
-ghost use Rattle.scrypt.specs.declared.errors.BoundedError.TheVariants.{Hash, TooCostly};
-ghost use Rattle.scrypt_examples.specs.StoredText.{IsUnreadable, IsUnreadableError};
+ghost use Rattle.std.specs.Prelude.{◌≡◌, ◌+◌, ◌≤◌};
+ghost use Rattle.scrypt.specs.StoredHash.{ByReading};
+ghost use Rattle.scrypt.specs.WithinLimits.{IsLeftWithin, told_within, verdict_within, within};
+ghost use Rattle.scrypt.specs.WorkInBuffers.{work_in};
+ghost use Rattle.scrypt_examples.specs.Login.{let_in_within};
 
 use password_hash::Error;
-use scrypt::laws::{stored_texts_have_one_reading, verdicts_are_one};
 use scrypt::{BoundedError, CoreCount, Limits, StoredHash};
 
 /// Whether the password is that of the stored text, in buffers that are kept from login to login.
 ///
-/// Returns `TooCostly` exactly if the text needs more than one of the limits, and what reading the text refuses.
-/// `OutOfMemory` comes exactly if a text within the limits needs longer buffers, so never if these are long enough for
-/// the limits.
+/// Returns the error of reading the text, `TooCostly` if its parameters need more than one of the limits,
+/// `KeyTooShort` if its key is shorter than they allow, and `OutOfMemory` exactly if a text within the limits needs
+/// longer buffers, so never if these are long enough for the limits.
 pub fn log_in(
     stored: &str,
     password: &[u8],
@@ -27,28 +23,19 @@ pub fn log_in(
     scratch: &mut [u32],
     cores: &mut CoreCount,
 ) -> Result<bool, BoundedError>
-    ensures accepted { IfOk result (λ is_in. IsTrue is_in ↔ Accepts password.now stored.now) }
-    ensures read { OnOk result ((why : Refusal) → ¬ IsUnreadable stored.now why) }
-    ensures too_costly { IsErrOf result TooCostly ↔ IsTooCostly limits.now stored.now }
-    ensures short { IsErrOf result (Hash OutOfMemory)
-        ↔ AreTooShort (IsWholeWithin limits.now stored.now) chunks.old table.old scratch.old }
-    ensures err { IfErr result (λ e. (e ≡ TooCostly) ⊎ (e ≡ Hash OutOfMemory) ⊎ IsUnreadableError stored.now e) }
-    ensures bounded { cores.new.all ≤ cores.old.all + limits.now.most_cores }
-    ensures unchanged { IsTooCostly limits.now stored.now
-        → (chunks.new ≡ chunks.old) × (table.new ≡ table.old) × (scratch.new ≡ scratch.old) }
+    ensures verdict { ByReading stored.now (λ reading. told_within result
+        ≡ let_in_within (verdict_within (work_in chunks.old table.old scratch.old cores.old) password.now (within limits.now reading))) }
+    ensures left { ByReading stored.now (λ reading. IsLeftWithin (within limits.now reading)
+        (work_in chunks.old table.old scratch.old cores.old) (work_in chunks.new table.new scratch.new cores.new)) }
+    ensures bounded { cores.new.all ≤ cores.old.all + limits.now.most_work }
 {
-    verdicts_are_one();
-    stored_texts_have_one_reading();
     let hash = match StoredHash::read(stored) {
         Ok(hash) => hash,
         Err(error) => return Err(BoundedError::Hash(error)),
     };
     match hash.verify_within(password, limits, chunks, table, scratch, cores) {
         Ok(()) => Ok(true),
-        Err(BoundedError::TooCostly) => Err(BoundedError::TooCostly),
-        Err(BoundedError::Hash(error)) => match error {
-            Error::PasswordInvalid => Ok(false),
-            _ => Err(BoundedError::Hash(error)),
-        },
+        Err(BoundedError::Hash(Error::PasswordInvalid)) => Ok(false),
+        Err(error) => Err(error),
     }
 }

@@ -1,16 +1,16 @@
 //! Logins: users are enrolled, let in by their passwords, and their hashes replaced when they have become weak.
 
-ghost use Rattle.std.specs.Prelude.{◌≡◌, ◌⊎◌, ◌↔◌, None, IsOk, IsSome, IsTrue, IfErr, IfOk, IfSome, OnOk, length, string_bytes};
-ghost use Rattle.password_hash.specs.Refusal.{Refusal, refusal};
+ghost use Rattle.std.specs.Prelude.{◌≡◌, ◌⊎◌, ◌↔◌, None, Ok, Err, IsOk, IsSome, true, IfErr, IfOk, IfSome, length, string_bytes};
+ghost use Rattle.password_hash.specs.Refusal.{refusal};
 ghost use Rattle.password_hash.specs.declared.error.Error.TheVariants.{OutOfMemory};
 ghost use Rattle.scrypt.specs.Accepted.{AreAccepted};
 ghost use Rattle.scrypt.specs.PhcHash.{IsSaltLen};
-ghost use Rattle.scrypt.specs.StoredHash.{Accepts, IsWeakerText};
-ghost use Rattle.scrypt_examples.specs.StoredText.{IsUnreadable};
-ghost use Rattle.scrypt_examples.specs.Login.{AreWanted, IsEnrolled, lets_in, new_text};
+ghost use Rattle.scrypt.specs.Reading.{verdict, weaker};
+ghost use Rattle.scrypt.specs.StoredHash.{ByReading};
+ghost use Rattle.scrypt_examples.specs.Login.{AreWanted, IsEnrolled, let_in, lets_in, new_text};
 
 use password_hash::{Error, PasswordHasher, Result};
-use scrypt::laws::{made_texts_are_accepted, stored_texts_have_one_reading, verdicts_are_one};
+use scrypt::laws::made_texts_are_accepted;
 use scrypt::phc::PasswordHash;
 use scrypt::{InvalidParams, Params, Scrypt, StoredHash};
 use std::alloc::Global;
@@ -80,16 +80,15 @@ impl Logins {
         password: &[u8],
         salt: [u8; 16],
     ) -> Result<Login>
-        ensures accepted { IfOk result (λ login. IsTrue (lets_in login) ↔ Accepts password.now stored.now) }
-        ensures read { OnOk result ((why : Refusal) → ¬ IsUnreadable stored.now why) }
-        ensures weaker { IfOk result (λ login. IsSome (new_text login)
-            ↔ (Accepts password.now stored.now × IsWeakerText self.now.wanted stored.now)) }
+        ensures accepted { ByReading stored.now (λ reading. IfOk result (λ login.
+            let_in (verdict password.now reading) ≡ Ok (lets_in login))) }
+        ensures weaker { ByReading stored.now (λ reading. IfOk result (λ login. IsSome (new_text login)
+            ↔ ((verdict password.now reading ≡ Ok tt) × (weaker self.now.wanted reading ≡ Ok true)))) }
         ensures enrolled { IfOk result (λ login.
             IfSome (new_text login) (IsEnrolled self.now.wanted password.now salt)) }
-        ensures err { IfErr result (λ e. (e ≡ OutOfMemory) ⊎ IsUnreadable stored.now (refusal e)) }
+        ensures err { ByReading stored.now (λ reading. IfErr result (λ e.
+            (IsOk reading × (e ≡ OutOfMemory)) ⊎ (let_in (verdict password.now reading) ≡ Err (refusal e)))) }
     {
-        verdicts_are_one();
-        stored_texts_have_one_reading();
         let hash = match StoredHash::read(stored) {
             Ok(hash) => hash,
             Err(error) => return Err(error),

@@ -1,15 +1,16 @@
 //! Migrations: stored texts of either format are read, and rewritten as PHC texts.
 
-ghost use Rattle.std.specs.Prelude.{◌≡◌, ◌⊎◌, IfErr, IfOk, OnOk, string_bytes};
-ghost use Rattle.password_hash.specs.Refusal.{Refusal, refusal};
-ghost use Rattle.password_hash.specs.declared.error.Error.TheVariants.{OutOfMemory, PasswordInvalid};
-ghost use Rattle.scrypt.specs.StoredHash.{Accepts, HasParameters};
+ghost use Rattle.std.specs.Prelude.{◌≡◌, ◌≢◌, ◌⊎◌, Err, Ok, IfErr, IfOk, IsOk, OnOk, string_bytes};
+ghost use Rattle.password_hash.specs.Refusal.{PasswordInvalid, refusal};
+ghost use Rattle.password_hash.specs.declared.error.Error.TheVariants.{OutOfMemory};
+ghost use Rattle.scrypt.specs.Reading.{verdict};
+ghost use Rattle.scrypt.specs.StoredHash.{ByReading, HasReading, Reads, StoredText};
 ghost use Rattle.scrypt_examples.specs.Login.{IsEnrolled};
-ghost use Rattle.scrypt_examples.specs.StoredText.{IsUnreadable};
 
 use crate::hash::verify;
 use crate::login::Logins;
 use password_hash::Result;
+use scrypt::laws::{parameters_are_those_of_the_reading, reading_names_no_password};
 use scrypt::{Params, StoredHash};
 use std::alloc::Global;
 
@@ -27,9 +28,12 @@ impl Costs {
     ///
     /// Returns what reading the text refuses.
     pub fn of(text: &str) -> Result<Costs>
-        ensures ok { IfOk result (λ costs. HasParameters text.now costs.params costs.key_len) }
-        ensures err { IfErr result (λ e. IsUnreadable text.now (refusal e)) }
+        ensures ok { IfOk result (λ costs. (hash : StoredText) × Reads text.now hash
+            × (hash.params ≡ Ok (costs.params, costs.key_len))) }
+        ensures err { IfErr result (λ e. HasReading text.now (Err (refusal e)) × (refusal e ≢ PasswordInvalid)) }
     {
+        parameters_are_those_of_the_reading();
+        reading_names_no_password();
         let hash = match StoredHash::read(text) {
             Ok(hash) => hash,
             Err(error) => return Err(error),
@@ -52,11 +56,10 @@ pub fn rewrite(
     password: &[u8],
     salt: [u8; 16],
 ) -> Result<String>
-    ensures accepted { OnOk result (Accepts password.now text.now) }
+    ensures accepted { ByReading text.now (λ reading. OnOk result (verdict password.now reading ≡ Ok tt)) }
     ensures enrolled { IfOk result (λ new. IsEnrolled wanted.now.wanted password.now salt (string_bytes new)) }
-    ensures wrong { IfErr result (λ e. e ≡ PasswordInvalid → ¬ Accepts password.now text.now) }
-    ensures readable { IfErr result (λ e. e ≡ PasswordInvalid → (why : Refusal) → ¬ IsUnreadable text.now why) }
-    ensures err { IfErr result (λ e. (e ≡ OutOfMemory) ⊎ (e ≡ PasswordInvalid) ⊎ IsUnreadable text.now (refusal e)) }
+    ensures err { ByReading text.now (λ reading. IfErr result (λ e.
+        (IsOk reading × (e ≡ OutOfMemory)) ⊎ (verdict password.now reading ≡ Err (refusal e)))) }
 {
     verify(alloc, text, password)?;
     wanted.enroll(alloc, password, salt)

@@ -1,5 +1,6 @@
 -- Facts on scryptBlockMix.
-use Rattle.std.proofs.Common.{◌≡◌, ◌≢◌, ℕ, zero, suc, ◌+◌, ◌-◌, ◌*◌, ◌/◌, ◌%◌, ◌<◌, ◌≤◌, List, [], length, zero-add, bit_xor, add-one, refl, sym, ap, ap₂, ◌∙◌, arith, below_more}
+use Rattle.std.proofs.Common.{◌≡◌, ◌≢◌, ℕ, zero, suc, ◌+◌, ◌-◌, ◌*◌, ◌/◌, ◌%◌, ◌<◌, ◌≤◌, List, [], length, zero-add}
+use Rattle.std.proofs.Common.{bit_xor, add-one, refl, sym, ap, ap₂, ◌∙◌, arith, below_more}
 use Rattle.std.proofs.lemmas.List.{append-nil, length-append}
 use Rattle.std.proofs.lemmas.Simd.{length-zip2}
 use Rattle.std.specs.List.{flat_map, range_with_len}
@@ -113,7 +114,8 @@ module _ (p q : List ℕ) (inverse : AreInverse p q) (b : List ℕ) (some : 0 < 
         long = length-permuted p (block_mix b) ∙ mixed ∙ sym long;
         even = λ k h. block_in p q inverse (block_mix b) k (omega arith) ∙ ap (permuted p) (even_block b some whole k (omega arith));
         odd = λ k h. ap (λ n. block (permuted p (block_mix b)) (n / 32 + k)) long
-            ∙ block_in p q inverse (block_mix b) (length b / 32 + k) (omega arith) ∙ ap (permuted p) (odd_block b some whole k (omega arith));
+            ∙ block_in p q inverse (block_mix b) (length b / 32 + k) (omega arith)
+            ∙ ap (permuted p) (odd_block b some whole k (omega arith));
       }
 
 -- the block mix is a block mix by the core

@@ -1,5 +1,6 @@
 -- Facts on vectors of four lanes, and on a block in diagonal order as four of them.
-use Rattle.std.proofs.Common.{◌≡◌, ℕ, ◌<◌, ◌+◌, ◌-◌, ◌*◌, ◌/◌, ◌%◌, ◌^◌, List, [], ◌∷◌, ◌++◌, length, bit_or, bit_xor, arith, refl, sym, ap, ap₂, subst, ◌∙◌, add-zero, Fits, replicate, append_assoc, zero, suc}
+use Rattle.std.proofs.Common.{◌≡◌, ℕ, ◌<◌, ◌+◌, ◌-◌, ◌*◌, ◌/◌, ◌%◌, ◌^◌, List, [], ◌∷◌, ◌++◌, length, bit_or, bit_xor}
+use Rattle.std.proofs.Common.{arith, refl, sym, ap, ap₂, subst, ◌∙◌, add-zero, Fits, replicate, append_assoc, zero, suc}
 use Rattle.std.proofs.lemmas.List.{append-nil}
 use Rattle.std.specs.Int.{w32, rotate_left}
 use Rattle.std.specs.Int.Bits.{and_shifted, xor_assoc, xor_disjoint}
@@ -78,8 +79,10 @@ pub quarter_rounds_are : (a : List ℕ) → length a ≡ 4 → (b : List ℕ) �
     → (c : List ℕ) → length c ≡ 4 → (d : List ℕ) → length d ≡ 4 → QuarterRounds a b c d
 unfolding quarter_round
 quarter_rounds_are =
-    four_lanes (λ a. (b : List ℕ) → length b ≡ 4 → (c : List ℕ) → length c ≡ 4 → (d : List ℕ) → length d ≡ 4 → QuarterRounds a b c d) (λ a0 a1 a2 a3.
-    four_lanes (λ b. (c : List ℕ) → length c ≡ 4 → (d : List ℕ) → length d ≡ 4 → QuarterRounds (a0 ∷ a1 ∷ a2 ∷ a3 ∷ []) b c d) (λ b0 b1 b2 b3.
+    four_lanes (λ a. (b : List ℕ) → length b ≡ 4 → (c : List ℕ) → length c ≡ 4 → (d : List ℕ) → length d ≡ 4
+    → QuarterRounds a b c d) (λ a0 a1 a2 a3.
+    four_lanes (λ b. (c : List ℕ) → length c ≡ 4 → (d : List ℕ) → length d ≡ 4
+    → QuarterRounds (a0 ∷ a1 ∷ a2 ∷ a3 ∷ []) b c d) (λ b0 b1 b2 b3.
     four_lanes (λ c. (d : List ℕ) → length d ≡ 4 → QuarterRounds (a0 ∷ a1 ∷ a2 ∷ a3 ∷ []) (b0 ∷ b1 ∷ b2 ∷ b3 ∷ []) c d) (λ c0 c1 c2 c3.
     four_lanes (QuarterRounds (a0 ∷ a1 ∷ a2 ∷ a3 ∷ []) (b0 ∷ b1 ∷ b2 ∷ b3 ∷ []) (c0 ∷ c1 ∷ c2 ∷ c3 ∷ [])) (λ d0 d1 d2 d3. refl))))
 
@@ -94,7 +97,8 @@ pub double_rounds_are : (a : List ℕ) → length a ≡ 4 → (b : List ℕ) →
     → (c : List ℕ) → length c ≡ 4 → (d : List ℕ) → length d ≡ 4 → DoubleRound a b c d
 unfolding double_round permuted
 double_rounds_are =
-    four_lanes (λ a. (b : List ℕ) → length b ≡ 4 → (c : List ℕ) → length c ≡ 4 → (d : List ℕ) → length d ≡ 4 → DoubleRound a b c d) (λ a0 a1 a2 a3.
+    four_lanes (λ a. (b : List ℕ) → length b ≡ 4 → (c : List ℕ) → length c ≡ 4 → (d : List ℕ) → length d ≡ 4
+    → DoubleRound a b c d) (λ a0 a1 a2 a3.
     four_lanes (λ b. (c : List ℕ) → length c ≡ 4 → (d : List ℕ) → length d ≡ 4 → DoubleRound (a0 ∷ a1 ∷ a2 ∷ a3 ∷ []) b c d) (λ b0 b1 b2 b3.
     four_lanes (λ c. (d : List ℕ) → length d ≡ 4 → DoubleRound (a0 ∷ a1 ∷ a2 ∷ a3 ∷ []) (b0 ∷ b1 ∷ b2 ∷ b3 ∷ []) c d) (λ c0 c1 c2 c3.
     four_lanes (DoubleRound (a0 ∷ a1 ∷ a2 ∷ a3 ∷ []) (b0 ∷ b1 ∷ b2 ∷ b3 ∷ []) (c0 ∷ c1 ∷ c2 ∷ c3 ∷ [])) (λ d0 d1 d2 d3. refl))))
@@ -143,7 +147,8 @@ unfolding salsa20_8
 core_by_parts x y long_x long_y sum0 sum1 sum2 sum3 =
     let s = standard_order x in
     let long : length s ≡ 16 = length-permuted inverse_pivot x ∙ long_x in
-    let again = λ (w : List ℕ) (h : length w ≡ 16). ap (λ z. diagonal_order (double_round z)) (in_then_out pivot inverse_pivot diagonal_inverse w (omega arith)) in
+    let again = λ (w : List ℕ) (h : length w ≡ 16). ap (λ z. diagonal_order (double_round z))
+    (in_then_out pivot inverse_pivot diagonal_inverse w (omega arith)) in
     let s1 = double_round s in
     let s2 = double_round s1 in
     let s3 = double_round s2 in
@@ -153,7 +158,8 @@ core_by_parts x y long_x long_y sum0 sum1 sum2 sum3 =
     let turned : round (round (round (round x))) ≡ diagonal_order (double_round s3) =
     ap round (ap round (again s1 long1) ∙ again s2 long2) ∙ again s3 long3 in
     let z = diagonal_order (double_round s3) in
-    let sum : length (zip2 add32 x z) ≡ 16 = length-zip2 add32 x z (long_x ∙ sym (length-permuted pivot (double_round s3) ∙ length-double_round s3 ∙ long3)) ∙ long_x in
+    let sum : length (zip2 add32 x z) ≡ 16 =
+    length-zip2 add32 x z (long_x ∙ sym (length-permuted pivot (double_round s3) ∙ length-double_round s3 ∙ long3)) ∙ long_x in
     let summed : y ≡ zip2 add32 x z = parts_same 4 4 y (zip2 add32 x z) long_y sum (λ k h.
     below_four (λ k. part 4 y k ≡ zip2 add32 (part 4 x k) (part 4 (round (round (round (round x)))) k)) sum0 sum1 sum2 sum3 k h
     ∙ ap (λ w. zip2 add32 (part 4 x k) (part 4 w k)) turned ∙ sym (part-zip2 add32 4 k x z)) in

@@ -1,5 +1,6 @@
 -- Facts on words whose blocks are permuted.
-use Rattle.std.proofs.Common.{◌≡◌, ℕ, ◌<◌, ◌≤◌, ◌+◌, ◌*◌, ◌/◌, ◌%◌, List, length, map, drop, get_or, refl, sym, ap, ap₂, ◌∙◌, arith, lit<, inl, inr, zero-add}
+use Rattle.std.proofs.Common.{◌≡◌, ℕ, ◌<◌, ◌≤◌, ◌+◌, ◌*◌, ◌/◌, ◌%◌, List, length, map, drop, get_or, refl, sym, ap, ap₂}
+use Rattle.std.proofs.Common.{◌∙◌, arith, lit<, inl, inr, zero-add}
 use Rattle.std.proofs.lemmas.List.{ext_get_or, get_or-take, get_or-drop, get_or-map, length-map}
 use Rattle.std.proofs.lemmas.List.Sums.{AllPass-from_list_all}
 use Rattle.std.proofs.lemmas.Bool.{cases_lt, ltb-true}
@@ -41,7 +42,8 @@ Undoes q p = (j : ℕ) → j < 16 → get_or p (get_or q j 0) 0 ≡ j
 undoes : (p q : List ℕ) → map (λ j. get_or p j 0) q ≡ range_with_len 0 16 → Undoes q p
 undoes p q undone j h =
     let long : length q ≡ 16 = sym (length-map q (λ j. get_or p j 0)) ∙ ap length undone in
-    sym (get_or-map (λ j. get_or p j 0) q j 0 0 (omega arith)) ∙ ap (λ z. get_or z j 0) undone ∙ get_or-range_with_len 0 16 j 0 h ∙ zero-add j
+    sym (get_or-map (λ j. get_or p j 0) q j 0 0 (omega arith)) ∙ ap (λ z. get_or z j 0) undone
+    ∙ get_or-range_with_len 0 16 j 0 h ∙ zero-add j
 
 permuted_back : (p q : List ℕ) → IsWithin q → Undoes q p → (x : List ℕ) → length x % 16 ≡ 0
     → permuted q (permuted p x) ≡ x

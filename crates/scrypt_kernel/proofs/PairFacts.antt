@@ -17,10 +17,12 @@ pub length-other : (x : List ℕ) → length x ≡ 8 → length (drop 4 x) ≡ 4
 length-other x long = omega (arith, length-drop 4 x)
 
 -- what holds of each list of eight elements
-eight_lanes : (P : List ℕ → Type 0) → ((a b c d e f g h : ℕ) → P (a ∷ b ∷ c ∷ d ∷ e ∷ f ∷ g ∷ h ∷ [])) → (xs : List ℕ) → length xs ≡ 8 → P xs
+eight_lanes : (P : List ℕ → Type 0) → ((a b c d e f g h : ℕ) → P (a ∷ b ∷ c ∷ d ∷ e ∷ f ∷ g ∷ h ∷ [])) → (xs : List ℕ)
+    → length xs ≡ 8 → P xs
 eight_lanes P p xs long =
     subst P (take-append-drop 4 xs)
-    (four_lanes (λ u. P (u ++ drop 4 xs)) (λ a b c d. four_lanes (λ v. P (a ∷ b ∷ c ∷ d ∷ v)) (p a b c d) (drop 4 xs) (length-other xs long))
+    (four_lanes (λ u. P (u ++ drop 4 xs)) (λ a b c d. four_lanes (λ v. P (a ∷ b ∷ c ∷ d ∷ v)) (p a b c d) (drop 4 xs)
+    (length-other xs long))
     (take 4 xs) (length-one xs long))
 
 -- the four steps of the quarter rounds on whole vectors
@@ -38,7 +40,11 @@ pub quarter_rounds_of_both : (a : List ℕ) → length a ≡ 8 → (b : List ℕ
     → (c : List ℕ) → length c ≡ 8 → (d : List ℕ) → length d ≡ 8 → QuarterRounds a b c d
 unfolding quarter_round
 quarter_rounds_of_both =
-    eight_lanes (λ a. (b : List ℕ) → length b ≡ 8 → (c : List ℕ) → length c ≡ 8 → (d : List ℕ) → length d ≡ 8 → QuarterRounds a b c d) (λ a0 a1 a2 a3 a4 a5 a6 a7.
-    eight_lanes (λ b. (c : List ℕ) → length c ≡ 8 → (d : List ℕ) → length d ≡ 8 → QuarterRounds (a0 ∷ a1 ∷ a2 ∷ a3 ∷ a4 ∷ a5 ∷ a6 ∷ a7 ∷ []) b c d) (λ b0 b1 b2 b3 b4 b5 b6 b7.
-    eight_lanes (λ c. (d : List ℕ) → length d ≡ 8 → QuarterRounds (a0 ∷ a1 ∷ a2 ∷ a3 ∷ a4 ∷ a5 ∷ a6 ∷ a7 ∷ []) (b0 ∷ b1 ∷ b2 ∷ b3 ∷ b4 ∷ b5 ∷ b6 ∷ b7 ∷ []) c d) (λ c0 c1 c2 c3 c4 c5 c6 c7.
-    eight_lanes (QuarterRounds (a0 ∷ a1 ∷ a2 ∷ a3 ∷ a4 ∷ a5 ∷ a6 ∷ a7 ∷ []) (b0 ∷ b1 ∷ b2 ∷ b3 ∷ b4 ∷ b5 ∷ b6 ∷ b7 ∷ []) (c0 ∷ c1 ∷ c2 ∷ c3 ∷ c4 ∷ c5 ∷ c6 ∷ c7 ∷ [])) (λ d0 d1 d2 d3 d4 d5 d6 d7. (refl, refl)))))
+    eight_lanes (λ a. (b : List ℕ) → length b ≡ 8 → (c : List ℕ) → length c ≡ 8 → (d : List ℕ) → length d ≡ 8
+    → QuarterRounds a b c d) (λ a0 a1 a2 a3 a4 a5 a6 a7.
+    eight_lanes (λ b. (c : List ℕ) → length c ≡ 8 → (d : List ℕ) → length d ≡ 8
+    → QuarterRounds (a0 ∷ a1 ∷ a2 ∷ a3 ∷ a4 ∷ a5 ∷ a6 ∷ a7 ∷ []) b c d) (λ b0 b1 b2 b3 b4 b5 b6 b7.
+    eight_lanes (λ c. (d : List ℕ) → length d ≡ 8 → QuarterRounds (a0 ∷ a1 ∷ a2 ∷ a3 ∷ a4 ∷ a5 ∷ a6 ∷ a7 ∷ [])
+    (b0 ∷ b1 ∷ b2 ∷ b3 ∷ b4 ∷ b5 ∷ b6 ∷ b7 ∷ []) c d) (λ c0 c1 c2 c3 c4 c5 c6 c7.
+    eight_lanes (QuarterRounds (a0 ∷ a1 ∷ a2 ∷ a3 ∷ a4 ∷ a5 ∷ a6 ∷ a7 ∷ []) (b0 ∷ b1 ∷ b2 ∷ b3 ∷ b4 ∷ b5 ∷ b6 ∷ b7 ∷ [])
+    (c0 ∷ c1 ∷ c2 ∷ c3 ∷ c4 ∷ c5 ∷ c6 ∷ c7 ∷ [])) (λ d0 d1 d2 d3 d4 d5 d6 d7. (refl, refl)))))

@@ -1,8 +1,10 @@
 -- Facts on a list that is cut into parts of s elements each.
-use Rattle.std.proofs.Common.{◌≡◌, ◌≢◌, ℕ, zero, suc, ◌<◌, ◌≤◌, ◌+◌, ◌*◌, List, ◌++◌, length, get_or, take, drop, refl, sym, ap, ap₂, ◌∙◌, take_all, arith, inl, inr, add-zero, zero-add, append_assoc}
+use Rattle.std.proofs.Common.{◌≡◌, ◌≢◌, ℕ, zero, suc, ◌<◌, ◌≤◌, ◌+◌, ◌*◌, List, ◌++◌, length, get_or, take, drop, refl}
+use Rattle.std.proofs.Common.{sym, ap, ap₂, ◌∙◌, take_all, arith, inl, inr, add-zero, zero-add, append_assoc}
 use Rattle.std.proofs.Math.Nat.{mul-le-mul_right}
 use Rattle.std.proofs.lemmas.Bool.{cases_lt}
-use Rattle.std.proofs.lemmas.List.{take_at, drop_at, drop-take, drop-drop, take-append-drop, take-take, length-take-le, length-append, length-drop, nil_from_length}
+use Rattle.std.proofs.lemmas.List.{take_at, drop_at, drop-take, drop-drop, take-append-drop, take-take, length-take-le}
+use Rattle.std.proofs.lemmas.List.{length-append, length-drop, nil_from_length}
 use Rattle.std.proofs.lemmas.Slice.{take-put_mid_below, drop-put_mid}
 use Rattle.std.proofs.lemmas.List.FromFn.{fill_by_all}
 use Rattle.std.proofs.lemmas.List.Folds.{flat_map-map}

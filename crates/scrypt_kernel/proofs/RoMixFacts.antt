@@ -1,5 +1,6 @@
 -- Facts on scryptROMix.
-use Rattle.std.proofs.Common.{◌≡◌, ℕ, zero, suc, ◌<◌, ◌+◌, ◌*◌, ◌/◌, ◌%◌, ◌^◌, List, [], ◌++◌, length, bit_xor, refl, sym, ap, ap₂, ◌∙◌, arith, add-one, add-zero, below_more, length-append}
+use Rattle.std.proofs.Common.{◌≡◌, ℕ, zero, suc, ◌<◌, ◌+◌, ◌*◌, ◌/◌, ◌%◌, ◌^◌, List, [], ◌++◌, length, bit_xor, refl}
+use Rattle.std.proofs.Common.{sym, ap, ap₂, ◌∙◌, arith, add-one, add-zero, below_more, length-append}
 use Rattle.std.proofs.lemmas.Simd.{length-zip2}
 use Rattle.scrypt_kernel.specs.Words.{part, xor_words}
 use Rattle.scrypt_kernel.specs.BlockMix.{block_mix}

@@ -1,5 +1,6 @@
 -- Facts on the walk over a table that keeps some rows, or all of them.
-use Rattle.std.proofs.Common.{◌≡◌, ℕ, zero, suc, ◌<◌, ◌≤◌, ◌+◌, ◌-◌, ◌*◌, ◌/◌, ◌%◌, ◌^◌, List, length, refl, sym, ap, ap₂, subst, ◌∙◌, arith, add-one}
+use Rattle.std.proofs.Common.{◌≡◌, ℕ, zero, suc, ◌<◌, ◌≤◌, ◌+◌, ◌-◌, ◌*◌, ◌/◌, ◌%◌, ◌^◌, List, length, refl, sym, ap}
+use Rattle.std.proofs.Common.{ap₂, subst, ◌∙◌, arith, add-one}
 use Rattle.std.proofs.lemmas.Nat.{pow_pos, shr_below}
 use Rattle.std.proofs.Math.Nat.{div-mul-le_self, mul-le-mul_right}
 use Rattle.scrypt_kernel.specs.Words.{part, xor_words}
@@ -129,7 +130,8 @@ module _ (p q : List ℕ) (inverse : AreInverse p q) (b : List ℕ) (log_n s siz
         value = step b k (subst (λ n. KeepsRows p b s n (2 ^ log_n) kept) (long ∙ sym same) starts.rows) before.value;
         all_cores = all_is ∙ ap₂ (λ n i. all + (n + 1) * (2 * (i / 32))) rows same ∙ ap (λ n. n + (d + 1) * m) before.all_cores
             ∙ more_of_all all_before k e d m ∙ ap (λ n. all_before + (k + 1 + n) * m) (sym (extra_rows-more b log_n s k));
-        lane_cores = lanes_is ∙ ap₂ (λ n i. lanes + l * ((n + 1) * (2 * (i / 32)))) rows same ∙ ap (λ n. n + l * ((d + 1) * m)) before.lane_cores
+        lane_cores = lanes_is ∙ ap₂ (λ n i. lanes + l * ((n + 1) * (2 * (i / 32)))) rows same
+            ∙ ap (λ n. n + l * ((d + 1) * m)) before.lane_cores
             ∙ more_of_lanes lanes_before l k e d m ∙ ap (λ n. lanes_before + l * ((k + 1 + n) * m)) (sym (extra_rows-more b log_n s k));
       }
 

@@ -6,7 +6,6 @@
 #![tactic(auto)]
 
 pub mod block_mix;
-pub mod chunk;
 mod cores;
 pub mod hmac;
 pub mod memory;

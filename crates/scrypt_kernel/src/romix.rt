@@ -1,18 +1,66 @@
 //! scryptROMix (RFC 7914, section 5).
 
-ghost use Rattle.std.specs.Prelude.{◌≡◌, ◌+◌, ◌/◌, length};
+ghost use Rattle.std.specs.Prelude.{◌≡◌, ◌+◌, ◌-◌, ◌*◌, ◌/◌, ◌<◌, ◌≤◌, length};
 ghost use Rattle.scrypt_kernel.specs.Words.{bytes_of, words_of};
 ghost use Rattle.scrypt_kernel.specs.RoMix.{ro_mix};
 ghost use Rattle.scrypt_kernel.specs.Table.{thin_ro_mix_cost};
-ghost use Rattle.scrypt_kernel.specs.RoMixCost.{AreRoMixLens, AreThinLens, ro_mix_cost};
+ghost use Rattle.scrypt_kernel.specs.RoMixCost.{AreBytesOfB, AreRoMixLens, AreThinLens, ro_mix_cost, scratch_words, table_words, thin_scratch_words};
+
+pub mod pair;
 
 use crate::CoreCount;
-use crate::chunk::mix_chunk;
-use crate::memory::Buffer;
+use crate::memory::{Buffer, Memory};
+use crate::order::Order;
 use crate::order::diagonal::Diagonal;
 pub use crate::order::diagonal::integerify_diagonal;
 use crate::order::standard::Standard;
 pub use crate::order::standard::integerify_plain;
+use crate::table::fill;
+use crate::walk::take_steps;
+use crate::words::{read_words, write_words};
+
+/// Replaces the bytes of `b` by their scryptROMix, with words in the order `O` and a table in `rows`
+/// that keeps each row whose number is a multiple of `2^s`. Counts the cores: `4 * N * r`, and
+/// `2 * r` more for each row that is recomputed.
+///
+/// `b` has `128 * r` bytes with `r` at least 1, `rows` has room for `32 * r * 2^(log_n - s)` words,
+/// the scratch `t` has `64 * r` words, or `96 * r` unless `s` is 0, `log_n` is at most 56, and `s` at
+/// most `log_n`. It does not matter what `rows` and `t` hold before the call, and what they hold
+/// after it is unspecified.
+pub fn mix_chunk<O: Order, M: Memory>(
+    b: &mut [u8],
+    rows: &mut M,
+    t: &mut [u32],
+    log_n: u8,
+    s: u8,
+    cores: &mut CoreCount,
+)
+    requires input { AreBytesOfB (length b.old) log_n }
+    requires spacing { s ≤ log_n }
+    requires room { table_words (log_n - s) (length b.old / 128) ≤ M.room rows.old }
+    requires scratch { scratch_words (length b.old / 128) ≤ length t.old }
+    requires spare { 0 < s → thin_scratch_words (length b.old / 128) ≤ length t.old }
+    ensures value { b.new ≡ bytes_of (ro_mix (words_of b.old) log_n) }
+    ensures room { M.room rows.old ≤ M.room rows.new }
+    ensures all { cores.new.all ≡ cores.old.all
+        + thin_ro_mix_cost (words_of b.old) log_n s (length b.old / 128) }
+    ensures lanes { cores.new.lanes ≡ cores.old.lanes + O.lanes_of_core
+        * thin_ro_mix_cost (words_of b.old) log_n s (length b.old / 128) }
+{
+    let words = b.len() / 4;
+    let (x, rest) = t.split_at_mut(words);
+    let (y, spare) = rest.split_at_mut(words);
+    // Step 1: X = B.
+    read_words(b, x);
+    O::shuffle_in(x);
+    // Step 2: for i = 0 to N - 1 do V[i] = X, X = scryptBlockMix (X).
+    fill::<O, M>(rows, x, y, log_n, s, cores);
+    // Step 3: for i = 0 to N - 1 do j = Integerify (X) mod N, T = X xor V[j], X = scryptBlockMix (T).
+    take_steps::<O>(x, rows.words(), y, spare, log_n, s, cores);
+    // Step 4: B' = X.
+    O::shuffle_out(x);
+    write_words(x, b);
+}
 
 /// Replaces the bytes of `b` by their scryptROMix, and counts its `4 * N * r` cores, all of them as
 /// SIMD cores (RFC 7914, section 5).

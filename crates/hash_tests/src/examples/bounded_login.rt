@@ -6,14 +6,14 @@ use scrypt::{BoundedError, CoreCount, Limits};
 use scrypt_examples::bounded_login::log_in;
 use std::test::Fail;
 
-// A stored text, a password, the most bytes and cores, what comes of it in the buffers of (4, 1, 1), and the
-// reason for the row. Those take 128 + 4 * 512 + 4 * 64 bytes and 4 * 16 cores.
-const LOGINS: [(&str, &str, usize, u64, Result<bool, BoundedError>, &str); 7] = [
+// A stored text, a password, the most bytes and work, what comes of it in the buffers of (4, 1, 1), and the
+// reason for the row. Those take 128 + 4 * 512 + 4 * 64 bytes and a work of 4 * (16 + 32).
+const LOGINS: [(&str, &str, usize, u64, Result<bool, BoundedError>, &str); 9] = [
     (
         STORED,
         "correct horse",
         2432,
-        64,
+        192,
         Ok(true),
         "exactly within both limits",
     ),
@@ -21,16 +21,16 @@ const LOGINS: [(&str, &str, usize, u64, Result<bool, BoundedError>, &str); 7] = 
         STORED,
         "wrong horse",
         2432,
-        64,
+        192,
         Ok(false),
         "another password",
     ),
-    (MCF, "correct horse", 2432, 64, Ok(true), "a `$7$` text"),
+    (MCF, "correct horse", 2432, 192, Ok(true), "a `$7$` text"),
     (
         STORED,
         "correct horse",
         2431,
-        64,
+        192,
         Err(BoundedError::TooCostly),
         "a byte less",
     ),
@@ -38,23 +38,39 @@ const LOGINS: [(&str, &str, usize, u64, Result<bool, BoundedError>, &str); 7] = 
         MCF,
         "correct horse",
         2432,
-        63,
+        191,
         Err(BoundedError::TooCostly),
-        "a core less",
+        "a little work less",
     ),
     (
         "$scrypt$v=1$ln=40$aA$AAAAAAAAAAAAAA",
         "",
         2432,
-        64,
+        192,
         Err(BoundedError::Hash(Error::Version)),
         "a version, before the limits",
     ),
     (
-        "$scrypt$ln=5,r=1,p=1$aA$AAAAAAAAAAAAAA",
+        "$scrypt$ln=4,r=1,p=1$aA$AAAAAAAAAAAAAAAAAAAA",
+        "",
+        2432,
+        192,
+        Err(BoundedError::KeyTooShort),
+        "a key of 15 bytes",
+    ),
+    (
+        "$scrypt$ln=5,r=1,p=1$aA$AAAAAAAAAAAAAAAAAAAA",
+        "",
+        2432,
+        192,
+        Err(BoundedError::TooCostly),
+        "a costly text before a short key",
+    ),
+    (
+        "$scrypt$ln=5,r=1,p=1$aA$AAAAAAAAAAAAAAAAAAAAAA",
         "",
         4480,
-        128,
+        256,
         Err(BoundedError::Hash(Error::OutOfMemory)),
         "within the limits, and buffers that are too short",
     ),
@@ -63,13 +79,14 @@ const LOGINS: [(&str, &str, usize, u64, Result<bool, BoundedError>, &str); 7] = 
 #[test]
 fn logins(rt: HostRuntime) -> Result<(), Fail> {
     let (mut chunks, mut table, mut scratch) = ([0u8; 128], [0u32; 512], [0u32; 64]);
-    for &(stored, password, most_bytes, most_cores, wanted, reason) in &LOGINS {
+    for &(stored, password, most_bytes, most_work, wanted, reason) in &LOGINS {
         let login = log_in(
             stored,
             password.as_bytes(),
             &Limits {
                 most_bytes,
-                most_cores,
+                most_work,
+                least_key_len: 16,
             },
             &mut chunks,
             &mut table,

@@ -22,6 +22,8 @@ impl Model for Output {
     ghost inverse = { λ xs. record { bytes = xs } };
 }
 
+const _: () = prove!(Output::MIN_LENGTH == 10 && Output::MAX_LENGTH == 64);
+
 impl Output {
     /// The least length of a key in bytes.
     pub const MIN_LENGTH: usize = 10;

@@ -1,8 +1,9 @@
 // Reading the parameters and the salt of a `$7$` text.
 
-ghost use Rattle.std.specs.Prelude.{◌≡◌, Ok, Err, IfOk, IfErr};
+ghost use Rattle.std.specs.Prelude.{◌≡◌, drop, Ok, Err, IfOk, IfErr};
 ghost use Rattle.password_hash.specs.Refusal.{refusal};
-ghost use Rattle.scrypt.specs.McfCosts.{ReadsField};
+ghost use Rattle.scrypt.specs.McfCosts.{field_params};
+ghost use Rattle.scrypt.specs.Reading.{reported};
 
 use crate::Params;
 use crate::mcf::five_letters::decode64_uint32;
@@ -19,8 +20,9 @@ use password_hash::{Error, Result};
 /// alphabet reads as `log_n` 255, so the error is `ParamsInvalid`, not `EncodingInvalid`.
 #[tactic(auto, using(crate::proofs::McfCostsFacts::reading_field))]
 pub fn decode_params_and_salt(text: &str) -> Result<(Params, &[u8])>
-    ensures ok { IfOk result (λ read. ReadsField text.now (Ok (read.0, read.1.now))) }
-    ensures err { IfErr result (λ e. ReadsField text.now (Err (refusal e))) }
+    ensures params { IfOk result (λ read. field_params text.now ≡ Ok read.0) }
+    ensures salt { IfOk result (λ read. read.1.now ≡ drop 11 text.now) }
+    ensures err { IfErr result (λ e. reported (field_params text.now) ≡ Err (refusal e)) }
 {
     let bytes = text.as_bytes();
     let Some(first) = bytes.first() else {

@@ -1,6 +1,6 @@
 // Making `$7$` hashes.
 
-ghost use Rattle.std.specs.Prelude.{◌≡◌, ◌↔◌, ◌+◌, ◌<◌, ◌≤◌, ◌∷◌, ◌++◌, ℕ, List, None, All, length, drop, replicate, IsTrue, IfOk, IfErr};
+ghost use Rattle.std.specs.Prelude.{◌≡◌, ◌↔◌, ◌+◌, ◌<◌, ◌≤◌, ◌∷◌, ◌++◌, ℕ, List, None, All, length, drop, replicate, IsTrue, IfOk, IfErr, take, IsErrOf, IsOk, OnErr, OnOk};
 ghost use Rattle.std.specs.Option.{option_map};
 ghost use Rattle.std.specs.Str.{IsAscii};
 ghost use Rattle.password_hash.specs.Crypt64.{crypt64_of, encoded_len};
@@ -12,19 +12,19 @@ ghost use Rattle.scrypt.specs.Cost.{chunks_bytes, cost, scratch_words, table_wor
 ghost use Rattle.scrypt.specs.McfCosts.{costs_text};
 ghost use Rattle.scrypt.specs.Hashing.{key_len_or_default};
 ghost use Rattle.scrypt.specs.McfHash.{HashIsRefused, IsMadeHash, IsMcfOrNone, made_text_len};
+ghost use Rattle.password_hash.specs.Refusal.{refusal};
+ghost use Rattle.scrypt.specs.InBuffers.{AreEnough, IsCopiedTo};
+ghost use Rattle.scrypt.specs.WorkInBuffers.{IsDone, work_in};
 
-mod in_buffers;
-
-use crate::buffers::Buffers;
+use crate::buffers::{Buffers, used_lens};
+use crate::derivation::tables::Tables;
 use crate::hashing::{check_call, key_len_or_default, stored_key};
 use crate::mcf::five_letters::five_letters;
 use crate::mcf::reading::is_mcf;
 use crate::{CoreCount, Params, Scrypt};
-pub use in_buffers::hash_with_buffers;
 use password_hash::mcf::alphabet::letter;
 use password_hash::mcf::{Base64, PasswordHash};
 use password_hash::{CustomizedPasswordHasher, Error, PasswordHasher, Result, Version};
-use scrypt_kernel::memory::Memory;
 use std::alloc::Global;
 
 // The number of bytes before the salt: `$7$` and the eleven letters of the parameters.
@@ -55,7 +55,8 @@ impl CustomizedPasswordHasher<PasswordHash> for Scrypt {
     ghost refuses = { λ _ password salt id version params why. HashIsRefused id version why };
 
     /// Hashes the password with `params`. The key has the length in `params`, or 32 bytes if
-    /// `params` has no length. The salt of the derivation is the crypt Base64 of `salt`, as in the text.
+    /// `params` has no length. The salt of the derivation is the crypt Base64 of `salt`, as in the
+    /// text.
     ///
     /// Allocates the whole text first, then the three buffers of the derivation, and all of them
     /// before the first core.
@@ -117,20 +118,20 @@ fn key_at(salt: &[u8]) -> usize
 }
 
 // Writes the text of the hash, which fills `text`, in any memory.
-fn write_text<M: Memory>(
+fn write_text<T: Tables>(
     password: &[u8],
     salt: &[u8],
     params: &Params,
     text: &mut [u8],
     chunks: &mut [u8],
-    rows: &mut M,
+    tables: &mut T,
     scratch: &mut [u32],
     cores: &mut CoreCount,
 )
     requires text { length text.old ≡ made_text_len params.now (length salt.now) }
     requires chunks { length chunks.old ≡ chunks_bytes params.now.r params.now.p }
-    requires room { table_words params.now.log_n params.now.r ≤ M.room rows.old }
-    requires scratch { length scratch.old ≡ scratch_words params.now.r }
+    requires room { table_words params.now.log_n params.now.r ≤ T.room tables.old }
+    requires scratch { scratch_words params.now.r ≤ length scratch.old }
     ensures made { IsMadeHash params.now password.now salt.now text.new }
     ensures ascii { IsAscii text.new }
     ensures all { cores.new.all ≡ cores.old.all
@@ -138,12 +139,12 @@ fn write_text<M: Memory>(
     ensures lanes { cores.new.lanes ≡ cores.old.lanes
         + cost params.now.log_n params.now.r params.now.p }
     ensures chunks { chunks.new ≡ replicate (chunks_bytes params.now.r params.now.p) 0 }
-    ensures scratch { scratch.new ≡ replicate (scratch_words params.now.r) 0 }
+    ensures scratch { scratch.new ≡ replicate (length scratch.old) 0 }
 {
     let key_at = key_at(salt);
     write_costs_and_salt(text, params, salt);
     let letters = &text[COSTS_LEN..key_at];
-    let key = stored_key::<M>(password, letters, params, chunks, rows, scratch, cores);
+    let key = stored_key::<T>(password, letters, params, chunks, tables, scratch, cores);
     write_key(&mut text[key_at..], key.as_bytes());
 }
 
@@ -198,4 +199,55 @@ fn hash_of_text(text: Vec<u8>) -> PasswordHash
         unreachable!();
     };
     hash
+}
+
+/// Hashes `password` as `Scrypt::hash_password_with_params` does, in the caller's buffers. Writes
+/// the text of the hash to the front of `text`, and returns its length. Does not allocate.
+///
+/// `text` is at least as long as [`hash_len`](crate::mcf::hash_len) returns, and each other buffer as
+/// [`BufferLens::of`](crate::BufferLens::of) returns for `params`. If `p` is at least 2 and the table
+/// and the scratch are as long as [`BufferLens::two_tables`](crate::BufferLens::two_tables) returns,
+/// two chunks are mixed at a time. Only the first elements of each buffer are used, as many as that.
+/// What they hold before the call does not matter. Afterwards those of `chunks` and `scratch` are
+/// zeros, and those of `table` are unspecified. `cores` counts the `4 * N * r * p` cores of `params`.
+///
+/// Returns `OutOfMemory` exactly if `text` or another buffer is too short, and then changes nothing.
+pub fn hash_with_buffers(
+    password: &[u8],
+    salt: &[u8],
+    params: &Params,
+    text: &mut [u8],
+    chunks: &mut [u8],
+    table: &mut [u32],
+    scratch: &mut [u32],
+    cores: &mut CoreCount,
+) -> Result<usize>
+    ensures made { IfOk result (IsCopiedTo (IsMadeHash params.now password.now salt.now) text.old text.new) }
+    ensures ascii { IfOk result (λ len. IsAscii (take len text.new)) }
+    ensures err { IfErr result (λ e. HashIsRefused None None (refusal e)) }
+    ensures short { IsErrOf result OutOfMemory ↔ (¬ (AreEnough params.now chunks.old table.old scratch.old
+        × (made_text_len params.now (length salt.now) ≤ length text.old))) }
+    ensures exact { IsOk result ↔ (AreEnough params.now chunks.old table.old scratch.old
+        × (made_text_len params.now (length salt.now) ≤ length text.old)) }
+    ensures unwritten { OnErr result (text.new ≡ text.old) }
+    ensures done { OnOk result (IsDone params.now
+        (work_in chunks.old table.old scratch.old cores.old) (work_in chunks.new table.new scratch.new cores.new)) }
+    ensures unchanged { OnErr result (work_in chunks.new table.new scratch.new cores.new
+        ≡ work_in chunks.old table.old scratch.old cores.old) }
+{
+    let len = hash_len(params, salt);
+    if text.len() < len {
+        return Err(Error::OutOfMemory);
+    }
+    let Some(lens) = used_lens(params, chunks, table, scratch) else {
+        return Err(Error::OutOfMemory);
+    };
+    let text = &mut text[..len];
+    let chunks = &mut chunks[..lens.chunks];
+    let mut table = &mut table[..lens.table];
+    let scratch = &mut scratch[..lens.scratch];
+    write_text::<&mut [u32]>(
+        password, salt, params, text, chunks, &mut table, scratch, cores,
+    );
+    Ok(len)
 }

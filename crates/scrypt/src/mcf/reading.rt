@@ -1,11 +1,11 @@
 // Reading `$7$` hashes.
 
-ghost use Rattle.std.specs.Prelude.{◌≡◌, ◌↔◌, ℕ, List, length, IfOk, IfErr, IsTrue};
+ghost use Rattle.std.specs.Prelude.{◌≡◌, ◌↔◌, ℕ, List, length, Ok, Err, IfOk, IfErr, IsTrue};
 ghost use Rattle.password_hash.specs.Crypt64.{Crypt64};
 ghost use Rattle.password_hash.specs.McfViews.{field_text, hash_text};
 ghost use Rattle.password_hash.specs.Refusal.{refusal};
 ghost use Rattle.scrypt.specs.Accepted.{IsOutputLen};
-ghost use Rattle.scrypt.specs.McfHash.{IsWhole, ReadIsRefused, mcf_id};
+ghost use Rattle.scrypt.specs.McfHash.{mcf_id, read_mcf};
 
 use crate::mcf::costs::decode_params_and_salt;
 use crate::{Params, output_len_ok};
@@ -31,9 +31,9 @@ pub(crate) struct Stored<'a> {
 /// key of this length cannot be derived.
 pub(crate) fn stored_of_mcf<'a>(hash: &PasswordHashRef<'a>) -> Result<Stored<'a>>
     ensures ok { IfOk result (λ stored. (key : List ℕ) × Crypt64 key (field_text stored.key) × (length key ≡ stored.key_len)
-        × IsWhole (hash_text hash.now) stored.params stored.salt.now key) }
+        × (read_mcf (hash_text hash.now) ≡ Ok (record { params = stored.params; salt = stored.salt.now; key = key }))) }
     ensures len { IfOk result (λ stored. IsOutputLen stored.key_len) }
-    ensures err { IfErr result (λ e. ReadIsRefused (hash_text hash.now) (refusal e)) }
+    ensures err { IfErr result (λ e. read_mcf (hash_text hash.now) ≡ Err (refusal e)) }
 {
     if !is_mcf(hash.id()) {
         return Err(Error::Algorithm);

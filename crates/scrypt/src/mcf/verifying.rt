@@ -1,7 +1,9 @@
 // Verifying `$7$` hashes.
 
+ghost use Rattle.std.specs.Prelude.{IsOk};
 ghost use Rattle.password_hash.specs.McfViews.{hash_text};
-ghost use Rattle.scrypt.specs.McfHash.{Accepts, VerifyIsRefused};
+ghost use Rattle.scrypt.specs.McfHash.{read_mcf};
+ghost use Rattle.scrypt.specs.Reading.{verdict as verdict_of};
 
 use crate::Scrypt;
 use crate::mcf::reading::stored_of_mcf;
@@ -11,9 +13,9 @@ use password_hash::{PasswordVerifier, Result};
 use std::alloc::Global;
 
 impl<'a> PasswordVerifier<PasswordHashRef<'a>> for Scrypt {
-    ghost accepts = { λ password hash. Accepts password (hash_text hash) };
+    ghost verdict = { λ password hash. verdict_of password (read_mcf (hash_text hash)) };
 
-    ghost refuses = { λ password hash why. VerifyIsRefused password (hash_text hash) why };
+    ghost needs_memory = { λ hash. IsOk (read_mcf (hash_text hash)) };
 
     /// Verifies the password with the parameters, the salt and the length of the key of the hash, and
     /// never with this value's parameters. The salt is passed to the derivation as the bytes of the
@@ -45,9 +47,9 @@ impl<'a> PasswordVerifier<PasswordHashRef<'a>> for Scrypt {
 }
 
 impl PasswordVerifier<PasswordHash> for Scrypt {
-    ghost accepts = { λ password hash. Accepts password hash };
+    ghost verdict = { λ password hash. verdict_of password (read_mcf hash) };
 
-    ghost refuses = { λ password hash why. VerifyIsRefused password hash why };
+    ghost needs_memory = { λ hash. IsOk (read_mcf hash) };
 
     /// Verifies the password as it does for the borrowed text.
     fn verify_password(&self, alloc: Global, password: &[u8], hash: &PasswordHash) -> Result<()> {

@@ -1,12 +1,11 @@
 // Conversions between parameters and the PHC format.
 
-ghost use Rattle.std.specs.Prelude.{◌≡◌, ◌<◌, ◌≤◌, ℕ, codes, IfOk, IfErr, unwrap_or};
-ghost use Rattle.password_hash.specs.Decimal.{IsDecimal};
-ghost use Rattle.password_hash.specs.Refusal.{ParamInvalid, refusal};
+ghost use Rattle.std.specs.Prelude.{◌≡◌, ◌^◌, codes};
 ghost use Rattle.password_hash.specs.Value.{value_text};
 ghost use Rattle.scrypt.specs.Accepted.{IsStoredLen};
-ghost use Rattle.scrypt.specs.PhcConversions.{IsReadAs, HashIsReadAs, Writes, output_len_of};
-ghost use Rattle.scrypt.specs.PhcCosts.{written_pairs};
+ghost use Rattle.scrypt.specs.PhcConversions.{Writes, output_len_of, params_with_len};
+ghost use Rattle.scrypt.specs.PhcCosts.{number_below, params_of_pairs, written_pairs};
+ghost use Rattle.scrypt.specs.Reading.{reported, told};
 
 use crate::Params;
 use password_hash::phc::{ParamsString, PasswordHash, Value};
@@ -15,7 +14,7 @@ use password_hash::{Error, Result};
 impl TryFrom<&ParamsString> for Params {
     type Error = Error;
 
-    ghost try_from_gives = { λ text answer. IsReadAs text.now answer };
+    ghost try_from_gives = { λ text answer. told answer ≡ reported (params_of_pairs text.now) };
 
     /// Reads the parameters `ln`, `r` and `p`. A missing one has its recommended value, and the result
     /// has no length of a stored key.
@@ -25,13 +24,13 @@ impl TryFrom<&ParamsString> for Params {
     /// other name. Otherwise returns `ParamsInvalid` if [`Params::new`] does not accept the
     /// parameters.
     fn try_from(text: &ParamsString) -> Result<Params> {
-        read_costs(text)
+        params_of_pairs(text)
     }
 }
 
 // Reads `ln`, `r` and `p`.
-fn read_costs(text: &ParamsString) -> Result<Params>
-    ensures { IsReadAs text.now result }
+fn params_of_pairs(text: &ParamsString) -> Result<Params>
+    ensures { told result ≡ reported (params_of_pairs text.now) }
 {
     let mut log_n = Params::RECOMMENDED_LOG_N;
     let mut r = Params::RECOMMENDED_R;
@@ -51,11 +50,9 @@ fn read_costs(text: &ParamsString) -> Result<Params>
 }
 
 // Returns the value of `ln`, a decimal of at most 255.
+#[tactic(auto, using(crate::proofs::PhcReadingFacts::number_taken, crate::proofs::PhcReadingFacts::number_large, crate::proofs::PhcReadingFacts::no_number))]
 fn log_n_of(value: Value<'_>) -> Result<u8>
-    ensures ok { IfOk result (IsDecimal (value_text value.entry)) }
-    ensures small { IfOk result (λ n. n ≤ 255) }
-    ensures refused { IfErr result (λ e. refusal e ≡ ParamInvalid (codes "ln")) }
-    ensures large { IfErr result (λ e. (n : ℕ) → IsDecimal (value_text value.entry) n → 255 < n) }
+    ensures { told result ≡ reported (number_below (codes "ln") 256 (value_text value.entry)) }
 {
     let refused = Err(Error::ParamInvalid { name: "ln" });
     let Ok(number) = value.decimal() else {
@@ -68,10 +65,9 @@ fn log_n_of(value: Value<'_>) -> Result<u8>
 }
 
 // Returns the value of a parameter, a decimal.
+#[tactic(auto, using(crate::proofs::PhcReadingFacts::number_taken, crate::proofs::PhcReadingFacts::number_large, crate::proofs::PhcReadingFacts::no_number))]
 fn number_of(value: Value<'_>, name: &'static str) -> Result<u32>
-    ensures ok { IfOk result (IsDecimal (value_text value.entry)) }
-    ensures refused { IfErr result (λ e. refusal e ≡ ParamInvalid name.now) }
-    ensures no_decimal { IfErr result (λ e. (n : ℕ) → ¬ IsDecimal (value_text value.entry) n) }
+    ensures { told result ≡ reported (number_below name.now (2 ^ 32) (value_text value.entry)) }
 {
     match value.decimal() {
         Ok(number) => Ok(number),
@@ -82,19 +78,18 @@ fn number_of(value: Value<'_>, name: &'static str) -> Result<u32>
 impl TryFrom<&PasswordHash> for Params {
     type Error = Error;
 
-    ghost try_from_gives = { λ hash answer. HashIsReadAs hash.now answer };
+    ghost try_from_gives = { λ hash answer. told answer ≡ reported (params_with_len hash.now) };
 
     /// Reads the parameters of a hash, with the length of its key, or 32 if it has no key. The algorithm
     /// is ignored.
     ///
     /// Returns `Version` if the hash has a version, and otherwise the errors of reading its
     /// parameters.
-    #[tactic(auto, using(crate::proofs::PhcReadingFacts::without_len_is, crate::proofs::PhcReadingFacts::read_without_len))]
     fn try_from(hash: &PasswordHash) -> Result<Params> {
         if hash.version.is_some() {
             return Err(Error::Version);
         }
-        match read_costs(&hash.params) {
+        match params_of_pairs(&hash.params) {
             Ok(params) => Ok(params.with_output_len(output_len_of(hash))),
             Err(refused) => Err(refused),
         }

@@ -1,21 +1,22 @@
 // Making PHC hashes.
 
-ghost use Rattle.std.specs.Prelude.{◌≡◌, ◌↔◌, ◌+◌, ◌≤◌, length, replicate, true, None, Some, unwrap_or, IsTrue};
+ghost use Rattle.std.specs.Prelude.{◌≡◌, ◌↔◌, ◌+◌, ◌≤◌, length, replicate, true, None, Some, unwrap_or, IsTrue, drop, IfErr, IfOk, IsErrOf, IsOk, OnErr, OnOk};
 ghost use Rattle.std.specs.Option.{option_map};
 ghost use Rattle.scrypt.specs.Cost.{chunks_bytes, cost, scratch_words, table_words};
-ghost use Rattle.scrypt.specs.PhcHash.{HashIsRefused, IsMadeHash, IsScryptOrNone};
+ghost use Rattle.scrypt.specs.PhcHash.{HashIsRefused, IsMadeHash, IsScryptOrNone, IsSaltLen};
+ghost use Rattle.password_hash.specs.Refusal.{refusal};
+ghost use Rattle.password_hash.specs.declared.error.Error.TheVariants.{OutOfMemory, SaltInvalid};
+ghost use Rattle.scrypt.specs.InBuffers.{AreEnough};
+ghost use Rattle.scrypt.specs.WorkInBuffers.{IsDone, work_in};
 
-mod in_buffers;
-
-use crate::buffers::Buffers;
+use crate::buffers::{Buffers, used_lens};
+use crate::derivation::tables::Tables;
 use crate::hashing::{check_call, stored_key};
 use crate::phc::ALG_ID;
 use crate::phc::costs::written;
 use crate::{CoreCount, Params, Scrypt};
-pub use in_buffers::hash_with_buffers;
 use password_hash::phc::{PasswordHash, Salt};
 use password_hash::{CustomizedPasswordHasher, Error, PasswordHasher, Result, Version};
-use scrypt_kernel::memory::Memory;
 use std::alloc::Global;
 
 impl PasswordHasher<PasswordHash> for Scrypt {
@@ -76,28 +77,28 @@ impl CustomizedPasswordHasher<PasswordHash> for Scrypt {
 }
 
 // Hashes a password with a salt, in any memory.
-fn hash_of<M: Memory>(
+fn hash_of<T: Tables>(
     password: &[u8],
     salt: Salt,
     params: &Params,
     chunks: &mut [u8],
-    rows: &mut M,
+    tables: &mut T,
     scratch: &mut [u32],
     cores: &mut CoreCount,
 ) -> PasswordHash
     requires chunks { length chunks.old ≡ chunks_bytes params.now.r params.now.p }
-    requires room { table_words params.now.log_n params.now.r ≤ M.room rows.old }
-    requires scratch { length scratch.old ≡ scratch_words params.now.r }
+    requires room { table_words params.now.log_n params.now.r ≤ T.room tables.old }
+    requires scratch { scratch_words params.now.r ≤ length scratch.old }
     ensures made { IsMadeHash params.now password.now salt result }
     ensures all { cores.new.all ≡ cores.old.all
         + cost params.now.log_n params.now.r params.now.p }
     ensures lanes { cores.new.lanes ≡ cores.old.lanes
         + cost params.now.log_n params.now.r params.now.p }
     ensures chunks { chunks.new ≡ replicate (chunks_bytes params.now.r params.now.p) 0 }
-    ensures scratch { scratch.new ≡ replicate (scratch_words params.now.r) 0 }
+    ensures scratch { scratch.new ≡ replicate (length scratch.old) 0 }
 {
     let letters = salt.as_bytes();
-    let key = stored_key::<M>(password, letters, params, chunks, rows, scratch, cores);
+    let key = stored_key::<T>(password, letters, params, chunks, tables, scratch, cores);
     PasswordHash {
         algorithm: ALG_ID,
         version: None,
@@ -105,4 +106,49 @@ fn hash_of<M: Memory>(
         salt: Some(salt),
         hash: Some(key),
     }
+}
+
+/// Hashes `password` as `Scrypt::hash_password_with_params` does, in the caller's buffers. Does not
+/// allocate.
+///
+/// Each buffer is at least as long as [`BufferLens::of`](crate::BufferLens::of) returns for `params`.
+/// If `p` is at least 2 and the table and the scratch are as long as
+/// [`BufferLens::two_tables`](crate::BufferLens::two_tables) returns, two chunks are mixed at a time.
+/// Only the first elements of each buffer are used, as many as that. What they hold before the call
+/// does not matter. Afterwards those of `chunks` and `scratch` are zeros, and those of `table` are
+/// unspecified. `cores` counts the `4 * N * r * p` cores of `params`.
+///
+/// Returns `SaltInvalid` if `salt` does not have 1 to 64 bytes, and otherwise `OutOfMemory` exactly
+/// if a buffer is too short. On an error the buffers and the count are unchanged.
+pub fn hash_with_buffers(
+    password: &[u8],
+    salt: &[u8],
+    params: &Params,
+    chunks: &mut [u8],
+    table: &mut [u32],
+    scratch: &mut [u32],
+    cores: &mut CoreCount,
+) -> Result<PasswordHash>
+    ensures made { IfOk result (λ hash. IsMadeHash params.now password.now salt.now hash) }
+    ensures err { IfErr result (λ e. HashIsRefused salt.now None None (refusal e)) }
+    ensures salt { IsErrOf result SaltInvalid ↔ (¬ IsSaltLen (length salt.now)) }
+    ensures short { IsErrOf result OutOfMemory
+        ↔ (IsSaltLen (length salt.now) × ¬ AreEnough params.now chunks.old table.old scratch.old) }
+    ensures exact { IsOk result
+        ↔ (IsSaltLen (length salt.now) × AreEnough params.now chunks.old table.old scratch.old) }
+    ensures done { OnOk result (IsDone params.now
+        (work_in chunks.old table.old scratch.old cores.old) (work_in chunks.new table.new scratch.new cores.new)) }
+    ensures unchanged { OnErr result (work_in chunks.new table.new scratch.new cores.new
+        ≡ work_in chunks.old table.old scratch.old cores.old) }
+{
+    let Ok(salt) = Salt::new(salt) else {
+        return Err(Error::SaltInvalid);
+    };
+    let Some(lens) = used_lens(params, chunks, table, scratch) else {
+        return Err(Error::OutOfMemory);
+    };
+    let chunks = &mut chunks[..lens.chunks];
+    let mut table = &mut table[..lens.table];
+    let scratch = &mut scratch[..lens.scratch];
+    Ok(hash_of::<&mut [u32]>(password, salt, params, chunks, &mut table, scratch, cores))
 }

@@ -1,9 +1,9 @@
 // Reading PHC hashes.
 
-ghost use Rattle.std.specs.Prelude.{◌≡◌, ◌↔◌, IfErr, IfOk, IsTrue};
+ghost use Rattle.std.specs.Prelude.{◌≡◌, ◌↔◌, Ok, Err, IfErr, IfOk, IsTrue};
 ghost use Rattle.password_hash.specs.Refusal.{refusal};
-ghost use Rattle.scrypt.specs.PhcHash.{IsWhole, ReadIsRefused, scrypt_id};
-ghost use Rattle.scrypt.specs.StoredRead.{AreParamsOf};
+ghost use Rattle.scrypt.specs.PhcHash.{phc_params, read_phc, scrypt_id};
+ghost use Rattle.scrypt.specs.Reading.{told};
 
 use crate::Params;
 use crate::phc::ALG_ID;
@@ -22,11 +22,11 @@ pub(crate) struct Stored<'a> {
 ///
 /// Returns the error of reading the parameters, or `PasswordInvalid` if the salt or the key is
 /// missing.
-#[tactic(auto, using(crate::specs::PhcHash::missing))]
 pub(crate) fn stored_of<'a>(hash: &'a PasswordHash, params: &Result<Params>) -> Result<Stored<'a>>
-    requires { AreParamsOf hash.now params.now }
-    ensures ok { IfOk result (λ stored. IsWhole hash.now stored.params stored.salt.now stored.key.now) }
-    ensures err { IfErr result (λ e. ReadIsRefused hash.now (refusal e)) }
+    requires { told params.now ≡ phc_params hash.now }
+    ensures ok { IfOk result (λ stored. read_phc hash.now
+        ≡ Ok (record { params = stored.params; salt = stored.salt.now; key = stored.key.now })) }
+    ensures err { IfErr result (λ e. read_phc hash.now ≡ Err (refusal e)) }
 {
     let params = match params {
         Ok(params) => *params,
@@ -50,9 +50,8 @@ pub(crate) fn stored_of<'a>(hash: &'a PasswordHash, params: &Result<Params>) -> 
 ///
 /// Returns the first of these errors: `Algorithm` if the algorithm is not `scrypt`, `Version` if
 /// there is a version, and the errors of reading the parameters.
-#[tactic(auto, using(crate::proofs::PhcHashFacts::reading_params))]
 pub(crate) fn read_params(hash: &PasswordHash) -> Result<Params>
-    ensures { AreParamsOf hash.now result }
+    ensures { told result ≡ phc_params hash.now }
 {
     if !is_scrypt(&hash.algorithm) {
         return Err(Error::Algorithm);

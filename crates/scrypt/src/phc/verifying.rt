@@ -1,20 +1,20 @@
 // Verifying PHC hashes.
 
-ghost use Rattle.scrypt.specs.PhcHash.{Accepts, IsWhole, ReadIsRefused, VerifyIsRefused};
-ghost use Rattle.scrypt.specs.StoredRead.{AreParamsOf};
-ghost use Rattle.scrypt.specs.WorkInBuffers.{IsVerified};
+ghost use Rattle.std.specs.Prelude.{IsOk};
+ghost use Rattle.scrypt.specs.PhcHash.{read_phc};
+ghost use Rattle.scrypt.specs.Reading.{verdict as verdict_of};
 
+use crate::Scrypt;
 use crate::phc::reading::{read_params, stored_of};
 use crate::verifying::verify_allocating;
-use crate::{Params, Scrypt};
 use password_hash::phc::PasswordHash;
 use password_hash::{PasswordVerifier, Result};
 use std::alloc::Global;
 
 impl PasswordVerifier<PasswordHash> for Scrypt {
-    ghost accepts = { λ password hash. Accepts password hash };
+    ghost verdict = { λ password hash. verdict_of password (read_phc hash) };
 
-    ghost refuses = { λ password hash why. VerifyIsRefused password hash why };
+    ghost needs_memory = { λ hash. IsOk (read_phc hash) };
 
     /// Verifies the password with the parameters, the salt and the length of the key of the hash, and
     /// never with this value's parameters. Every byte of the two keys is compared, also after a
@@ -25,30 +25,16 @@ impl PasswordVerifier<PasswordHash> for Scrypt {
     /// or the key is missing, `OutOfMemory` if an allocation fails, and `PasswordInvalid` if the
     /// keys differ.
     fn verify_password(&self, alloc: Global, password: &[u8], hash: &PasswordHash) -> Result<()> {
-        let params = read_params(hash);
-        verify_with_params(alloc, password, hash, &params)
-    }
-}
-
-/// Verifies as `verify_password` does against a hash whose parameters were read by `read_params`.
-pub(crate) fn verify_with_params(
-    alloc: Global,
-    password: &[u8],
-    hash: &PasswordHash,
-    params: &Result<Params>,
-) -> Result<()>
-    requires { AreParamsOf hash.now params.now }
-    ensures { IsVerified (IsWhole hash.now) (ReadIsRefused hash.now) password.now result }
-{
-    match stored_of(hash, params) {
-        Ok(stored) => verify_allocating(
-            alloc,
-            password,
-            stored.salt,
-            &stored.params,
-            stored.key,
-            stored.key.len(),
-        ),
-        Err(error) => Err(error),
+        match stored_of(hash, &read_params(hash)) {
+            Ok(stored) => verify_allocating(
+                alloc,
+                password,
+                stored.salt,
+                &stored.params,
+                stored.key,
+                stored.key.len(),
+            ),
+            Err(error) => Err(error),
+        }
     }
 }

@@ -1,28 +1,41 @@
 // Verifying with stored hashes of either format within limits.
 
-ghost use Rattle.std.specs.Prelude.{◌≡◌, ◌↔◌, ◌+◌, List, ℕ, Option, Some, IfErr, IfOk, IsErrOf, IsTrue, OnOk};
-ghost use Rattle.password_hash.specs.Refusal.{Refusal, refusal};
-ghost use Rattle.password_hash.specs.declared.error.Error.TheVariants.{OutOfMemory, PasswordInvalid};
-ghost use Rattle.scrypt.specs.Accepted.{Parameters};
-ghost use Rattle.scrypt.specs.Cost.{chunks_bytes, cost, scratch_words};
-ghost use Rattle.scrypt.specs.InBuffers.{AreCompared, AreEnough, AreTooShort, IsWiped};
-ghost use Rattle.scrypt.specs.StoredHash.{Accepts, IsWhole, ReadIsRefused, Verdict};
-ghost use Rattle.scrypt.specs.WithinLimits.{IsRefusedWithin, IsTooCostly, IsWholeWithin, verdict_within};
-ghost use Rattle.scrypt.specs.declared.errors.BoundedError.TheVariants.{Hash, TooCostly};
+ghost use Rattle.std.specs.Prelude.{◌≡◌, length, IsTrue, Ok};
+ghost use Rattle.scrypt.specs.Cost.{chunks_bytes, scratch_words, table_words};
+ghost use Rattle.scrypt.specs.Reading.{Stored, mapped, told};
+ghost use Rattle.scrypt.specs.WithinLimits.{IsLeftWithin, told_within, unbounded, verdict_within, within};
+ghost use Rattle.scrypt.specs.WorkInBuffers.{work_in};
 
-use super::{Format, StoredHash};
-use crate::mcf::reading::stored_of_mcf;
-use crate::phc::reading::stored_of;
-use crate::{BoundedError, CoreCount, Limits, Params};
-use password_hash::Result;
+use super::StoredHash;
+use crate::{BoundedError, BufferLens, CoreCount, Limits, Params};
 
 impl<'a> StoredHash<'a> {
-    /// Verifies `password` as [`StoredHash::verify_with_buffers`] does, if the parameters of the
-    /// hash need no more than `limits` allow. Does not allocate.
+    /// Returns the lengths of the buffers for [`StoredHash::verify_within`]: what verifying needs,
+    /// before anything is allocated for it. Does not allocate.
     ///
-    /// Returns `TooCostly` exactly if the hash can be read and its parameters need more than one of
-    /// the limits, however long the buffers are. Then no core is run, and the buffers and the count
-    /// are unchanged.
+    /// Returns the first of these errors: those of [`StoredHash::verify`] for a hash that cannot be
+    /// read, `PasswordInvalid` for one without a salt or a key among them; `TooCostly` if its
+    /// parameters need more than one of the limits; and `KeyTooShort` if its key is shorter than
+    /// the limits allow.
+    pub fn buffer_lens_within(&self, limits: &Limits) -> Result<BufferLens, BoundedError>
+        ensures value { told_within result ≡ mapped (λ s. record {
+          chunks = chunks_bytes s.params.r s.params.p;
+          table = table_words s.params.log_n s.params.r;
+          scratch = scratch_words s.params.r;
+        }) (within limits.now self.now.whole) }
+    {
+        match self.params_within(limits) {
+            Ok(params) => Ok(BufferLens::of(&params)),
+            Err(error) => Err(error),
+        }
+    }
+
+    /// Verifies `password` as [`StoredHash::verify_with_buffers`] does, if the parameters of the
+    /// hash need no more than `limits` allow and its key is long enough. Does not allocate.
+    ///
+    /// Returns the errors of [`StoredHash::buffer_lens_within`], in the same order and however long
+    /// the buffers are, and then those of [`StoredHash::verify_with_buffers`]. On an error of the
+    /// first kind no core is run, and the buffers and the count are unchanged.
     pub fn verify_within(
         &self,
         password: &[u8],
@@ -31,63 +44,59 @@ impl<'a> StoredHash<'a> {
         table: &mut [u32],
         scratch: &mut [u32],
         cores: &mut CoreCount,
-    ) -> std::result::Result<(), BoundedError>
-        ensures too_costly { IsErrOf result TooCostly ↔ IsTooCostly limits.now self.now }
-        ensures ok { OnOk result (Accepts password.now self.now) }
-        ensures wrong { IfErr result (λ e. e ≡ Hash PasswordInvalid → ¬ Accepts password.now self.now) }
-        ensures err { IfErr result (IsRefusedWithin limits.now password.now self.now) }
-        ensures short { IsErrOf result (Hash OutOfMemory)
-            ↔ AreTooShort (IsWholeWithin limits.now self.now) chunks.old table.old scratch.old }
-        ensures exact { ¬ IsTooCostly limits.now self.now → ¬ AreTooShort (IsWhole self.now) chunks.old table.old scratch.old
-            → (verdict : Option Refusal) → Verdict password.now self.now verdict → verdict_within result ≡ Some verdict }
-        ensures all { (c : Parameters) (salt key : List ℕ) → IsWholeWithin limits.now self.now c salt key
-            → AreEnough c chunks.old table.old scratch.old
-            → cores.new.all ≡ cores.old.all + cost c.log_n c.r c.p }
-        ensures lanes { (c : Parameters) (salt key : List ℕ) → IsWholeWithin limits.now self.now c salt key
-            → AreEnough c chunks.old table.old scratch.old
-            → cores.new.lanes ≡ cores.old.lanes + cost c.log_n c.r c.p }
-        ensures wiped { (c : Parameters) (salt key : List ℕ) → IsWholeWithin limits.now self.now c salt key
-            → AreEnough c chunks.old table.old scratch.old
-            → IsWiped (chunks_bytes c.r c.p) chunks.old chunks.new
-            × IsWiped (scratch_words c.r) scratch.old scratch.new }
-        ensures unchanged { ¬ AreCompared (IsWholeWithin limits.now self.now) chunks.old table.old scratch.old
-            → (chunks.new ≡ chunks.old) × (table.new ≡ table.old) × (scratch.new ≡ scratch.old) }
-        ensures uncounted { ¬ AreCompared (IsWholeWithin limits.now self.now) chunks.old table.old scratch.old
-            → (cores.new.all ≡ cores.old.all) × (cores.new.lanes ≡ cores.old.lanes) }
+    ) -> Result<(), BoundedError>
+        ensures verdict { told_within result ≡ verdict_within (work_in chunks.old table.old scratch.old cores.old)
+            password.now (within limits.now self.now.whole) }
+        ensures left { IsLeftWithin (within limits.now self.now.whole)
+            (work_in chunks.old table.old scratch.old cores.old) (work_in chunks.new table.new scratch.new cores.new) }
     {
-        if self.is_too_costly(limits) {
+        if let Err(error) = self.params_within(limits) {
+            return Err(error);
+        }
+        without_limits(self.verify_with_buffers(password, chunks, table, scratch, cores))
+    }
+
+    // Returns whether the hash can be read and is within the limits.
+    pub(super) fn is_within(&self, limits: &Limits) -> bool
+        ensures { IsTrue result → (s : Stored) × (within limits.now self.now.whole ≡ Ok s) × (self.now.whole ≡ Ok s) }
+    {
+        self.params_within(limits).is_ok()
+    }
+
+    // Returns the parameters of a hash that is within the limits.
+    fn params_within(&self, limits: &Limits) -> Result<Params, BoundedError>
+        ensures { told_within result ≡ mapped (λ s. s.params) (within limits.now self.now.whole) }
+    {
+        let (params, key_len) = match self.whole_params_and_key_len() {
+            Ok(read) => read,
+            Err(error) => return Err(BoundedError::Hash(error)),
+        };
+        if !limits.allow(&params) {
             return Err(BoundedError::TooCostly);
         }
-        match self.verify_with_buffers(password, chunks, table, scratch, cores) {
-            Ok(()) => Ok(()),
-            Err(error) => Err(BoundedError::Hash(error)),
+        if key_len < limits.least_key_len {
+            return Err(BoundedError::KeyTooShort);
         }
+        Ok(params)
     }
 
-    // Returns whether the hash can be read and needs more than one of the limits.
-    fn is_too_costly(&self, limits: &Limits) -> bool
-        ensures exact { IsTrue result ↔ IsTooCostly limits.now self.now }
+    // Returns the parameters of the hash and the length of its key, if it has a salt and a key.
+    fn whole_params_and_key_len(&self) -> password_hash::Result<(Params, usize)>
+        ensures { told result ≡ mapped (λ s. (s.params, length s.key)) self.now.whole }
     {
-        match self.params_if_whole() {
-            Ok(params) => !limits.allow(&params),
-            Err(_) => false,
+        match self.parts() {
+            Ok(parts) => Ok((parts.params, parts.key_len)),
+            Err(error) => Err(error),
         }
     }
+}
 
-    // Returns the parameters of the hash, if it has a salt and a key too.
-    fn params_if_whole(&self) -> Result<Params>
-        ensures ok { IfOk result (λ params. (salt : List ℕ) × (key : List ℕ) × IsWhole self.now params salt key) }
-        ensures err { IfErr result (λ e. ReadIsRefused self.now (refusal e)) }
-    {
-        match &self.format {
-            Format::Mcf(hash) => match stored_of_mcf(hash) {
-                Ok(stored) => Ok(stored.params),
-                Err(error) => Err(error),
-            },
-            Format::Phc(hash, params) => match stored_of(hash, params) {
-                Ok(stored) => Ok(stored.params),
-                Err(error) => Err(error),
-            },
-        }
+// Returns a result without limits as one within limits.
+pub(super) fn without_limits(verdict: password_hash::Result<()>) -> Result<(), BoundedError>
+    ensures { told_within result ≡ unbounded (told verdict) }
+{
+    match verdict {
+        Ok(()) => Ok(()),
+        Err(error) => Err(BoundedError::Hash(error)),
     }
 }

@@ -1,15 +1,16 @@
 // Keys, and the buffers that they are derived in.
 
-ghost use Rattle.std.specs.Prelude.{◌≡◌, ◌≢◌, ◌⊎◌, pos, length};
+ghost use Rattle.std.specs.Prelude.{◌≡◌, ◌⊎◌, ◌-◌, ◌≤◌, pos, length};
 ghost use Rattle.scrypt.specs.Accepted.{AreAccepted, IsOutputLen};
+ghost use Rattle.scrypt.specs.Cost.{chunks_bytes, table_words};
 ghost use Rattle.scrypt.specs.Key.{derived_key};
-ghost use Rattle.scrypt_c.specs.Buffers.{AreBuffers, IsSpacing};
+ghost use Rattle.scrypt_c.specs.Buffers.{IsSpacing, scratch_len};
 
 use crate::keys::{scrypt_buffer_lens, scrypt_kdf, scrypt_kdf_thin, scrypt_kdf_with_buffers};
 use std::alloc::Global;
 
-/// The key, or the status of its refusal with the output unchanged.
-pub fn kdf(
+/// The key, if memory is available.
+pub fn key(
     alloc: Global,
     password: &[u8],
     salt: &[u8],
@@ -18,61 +19,17 @@ pub fn kdf(
     p: u32,
     output: &mut [u8],
 ) -> i32
-    ensures bad_params { ¬ AreAccepted log_n r p → (result ≡ pos 2) × (output.new ≡ output.old) }
-    ensures bad_length { AreAccepted log_n r p → ¬ IsOutputLen (length output.old)
-        → (result ≡ pos 3) × (output.new ≡ output.old) }
-    ensures derived { AreAccepted log_n r p → IsOutputLen (length output.old)
-        → ((result ≡ pos 0) × (output.new ≡ derived_key password.now salt.now log_n r p (length output.old)))
+    requires accepted { AreAccepted log_n r p }
+    requires output_len { IsOutputLen (length output.old) }
+    ensures key { ((result ≡ pos 0) × (output.new ≡ derived_key password.now salt.now log_n r p (length output.old)))
         ⊎ ((result ≡ pos 4) × (output.new ≡ output.old)) }
 {
     scrypt_kdf(alloc, password, salt, log_n, r, p, output)
 }
 
-/// The lengths of the buffers, or the status of a refusal with the three unchanged.
-pub fn buffer_lens(
-    log_n: u8,
-    r: u32,
-    p: u32,
-    s: u8,
-    chunks: &mut usize,
-    table: &mut usize,
-    scratch: &mut usize,
-) -> i32
-    ensures bad_params { ¬ (AreAccepted log_n r p × IsSpacing log_n s) → (result ≡ pos 2)
-        × (chunks.new ≡ chunks.old) × (table.new ≡ table.old) × (scratch.new ≡ scratch.old) }
-    ensures lens { AreAccepted log_n r p → IsSpacing log_n s → (result ≡ pos 0)
-        × AreBuffers log_n r p s chunks.new table.new scratch.new }
-{
-    scrypt_buffer_lens(log_n, r, p, s, chunks, table, scratch)
-}
-
-/// The key in the caller's buffers, or the status of its refusal with nothing changed.
-pub fn kdf_with_buffers(
-    password: &[u8],
-    salt: &[u8],
-    log_n: u8,
-    r: u32,
-    p: u32,
-    output: &mut [u8],
-    chunks: &mut [u8],
-    table: &mut [u32],
-    scratch: &mut [u32],
-) -> i32
-    ensures bad_params { ¬ AreAccepted log_n r p → result ≡ pos 2 }
-    ensures bad_length { AreAccepted log_n r p → ¬ IsOutputLen (length output.old) → result ≡ pos 3 }
-    ensures bad_buffers { AreAccepted log_n r p → IsOutputLen (length output.old)
-        → ¬ AreBuffers log_n r p 0 (length chunks.old) (length table.old) (length scratch.old) → result ≡ pos 12 }
-    ensures derived { AreAccepted log_n r p → IsOutputLen (length output.old)
-        → AreBuffers log_n r p 0 (length chunks.old) (length table.old) (length scratch.old)
-        → (result ≡ pos 0) × (output.new ≡ derived_key password.now salt.now log_n r p (length output.old)) }
-    ensures unchanged { result ≢ pos 0 → (output.new ≡ output.old) × (chunks.new ≡ chunks.old)
-        × (table.new ≡ table.old) × (scratch.new ≡ scratch.old) }
-{
-    scrypt_kdf_with_buffers(password, salt, log_n, r, p, output, chunks, table, scratch)
-}
-
-/// The same with a thin table.
-pub fn kdf_thin(
+/// The same key in buffers of the lengths that `scrypt_buffer_lens` gives, with a whole table if `s` is 0 and a
+/// thin one if not.
+pub fn key_in_buffers(
     password: &[u8],
     salt: &[u8],
     log_n: u8,
@@ -84,18 +41,34 @@ pub fn kdf_thin(
     table: &mut [u32],
     scratch: &mut [u32],
 ) -> i32
-    ensures bad_params { ¬ (AreAccepted log_n r p × IsSpacing log_n s) → result ≡ pos 2 }
-    ensures bad_length { AreAccepted log_n r p → IsSpacing log_n s → ¬ IsOutputLen (length output.old)
-        → result ≡ pos 3 }
-    ensures bad_buffers { AreAccepted log_n r p → IsSpacing log_n s → IsOutputLen (length output.old)
-        → ¬ AreBuffers log_n r p s (length chunks.old) (length table.old) (length scratch.old) → result ≡ pos 12 }
-    ensures derived { AreAccepted log_n r p → IsSpacing log_n s → IsOutputLen (length output.old)
-        → AreBuffers log_n r p s (length chunks.old) (length table.old) (length scratch.old)
-        → (result ≡ pos 0) × (output.new ≡ derived_key password.now salt.now log_n r p (length output.old)) }
-    ensures unchanged { result ≢ pos 0 → (output.new ≡ output.old) × (chunks.new ≡ chunks.old)
-        × (table.new ≡ table.old) × (scratch.new ≡ scratch.old) }
+    requires accepted { AreAccepted log_n r p }
+    requires spacing { IsSpacing log_n s }
+    requires output_len { IsOutputLen (length output.old) }
+    requires chunks { chunks_bytes r p ≤ length chunks.old }
+    requires table { table_words (log_n - s) r ≤ length table.old }
+    requires scratch { scratch_len s r ≤ length scratch.old }
+    ensures ok { result ≡ pos 0 }
+    ensures key { output.new ≡ derived_key password.now salt.now log_n r p (length output.old) }
 {
-    scrypt_kdf_thin(
-        password, salt, log_n, r, p, s, output, chunks, table, scratch,
-    )
+    let mut chunks_len = 0;
+    let mut table_len = 0;
+    let mut scratch_len = 0;
+    scrypt_buffer_lens(
+        log_n,
+        r,
+        p,
+        s,
+        &mut chunks_len,
+        &mut table_len,
+        &mut scratch_len,
+    );
+    let chunks = &mut chunks[..chunks_len];
+    let table = &mut table[..table_len];
+    let scratch = &mut scratch[..scratch_len];
+    match s {
+        0 => scrypt_kdf_with_buffers(password, salt, log_n, r, p, output, chunks, table, scratch),
+        _ => scrypt_kdf_thin(
+            password, salt, log_n, r, p, s, output, chunks, table, scratch,
+        ),
+    }
 }

@@ -1,16 +1,18 @@
-// New hashes.
+// New hashes: they verify against their password, and are as strong as they were made.
 
-ghost use Rattle.std.specs.Prelude.{◌≡◌, ◌⊎◌, pos, length};
+ghost use Rattle.std.specs.Prelude.{◌≡◌, ◌⊎◌, pos, length, IfErr, IfOk};
 ghost use Rattle.scrypt.specs.Accepted.{AreAccepted, IsStoredLen};
-ghost use Rattle.scrypt.specs.McfHash.{IsMadeHash as IsMadeMcf};
-ghost use Rattle.scrypt.specs.PhcHash.{IsMadeText, IsSaltLen};
-ghost use Rattle.scrypt_c.specs.Made.{IsCopiedTo, IsTooLong, wanted};
+ghost use Rattle.scrypt.specs.PhcHash.{IsSaltLen};
 
+use super::stored_hashes::{needs_rehash, verify};
 use crate::hashes::{scrypt_hash_mcf, scrypt_hash_phc};
+use crate::statuses::OK;
+use scrypt::laws::made_texts_are_accepted;
 use std::alloc::Global;
 
-/// The PHC text of a new hash, or its length if it does not fit, or the status of a refusal.
-pub fn hash_phc(
+/// The statuses of verifying a new PHC hash, and of comparing it with the parameters that it was made with. Or the
+/// hash was not made, since memory was not available or its text does not fit.
+pub fn phc_round_trip(
     alloc: Global,
     password: &[u8],
     salt: &[u8],
@@ -20,23 +22,27 @@ pub fn hash_phc(
     key_len: usize,
     text: &mut [u8],
     text_len: &mut usize,
-) -> i32
-    ensures bad_params { ¬ (AreAccepted log_n r p × IsStoredLen key_len) → (result ≡ pos 2)
-        × (text.new ≡ text.old) × (text_len.new ≡ text_len.old) }
-    ensures bad_salt { AreAccepted log_n r p → IsStoredLen key_len → ¬ IsSaltLen (length salt.now)
-        → (result ≡ pos 10) × (text.new ≡ text.old) × (text_len.new ≡ text_len.old) }
-    ensures made { AreAccepted log_n r p → IsStoredLen key_len → IsSaltLen (length salt.now)
-        → ((result ≡ pos 0) × IsCopiedTo (IsMadeText (wanted log_n r p key_len) password.now salt.now)
-        text.old text.new text_len.new)
-        ⊎ ((result ≡ pos 12) × (text.new ≡ text.old)
-        × IsTooLong (IsMadeText (wanted log_n r p key_len) password.now salt.now) text.old text_len.new)
-        ⊎ ((result ≡ pos 4) × (text.new ≡ text.old) × (text_len.new ≡ text_len.old)) }
+) -> Result<(i32, i32), i32>
+    requires accepted { AreAccepted log_n r p }
+    requires key_len { IsStoredLen key_len }
+    requires salt { IsSaltLen (length salt.now) }
+    ensures made { IfErr result (λ status. (status ≡ pos 4) ⊎ (status ≡ pos 12)) }
+    ensures verified { IfOk result (λ statuses. (statuses.0 ≡ pos 0) ⊎ (statuses.0 ≡ pos 4)) }
+    ensures strong { IfOk result (λ statuses. statuses.1 ≡ pos 0) }
 {
-    scrypt_hash_phc(alloc, password, salt, log_n, r, p, key_len, text, text_len)
+    made_texts_are_accepted();
+    let made = scrypt_hash_phc(alloc, password, salt, log_n, r, p, key_len, text, text_len);
+    if made != OK {
+        return Err(made);
+    }
+    let text = &text[..*text_len];
+    let verified = verify(alloc, password, text);
+    let compared = needs_rehash(text, log_n, r, p, key_len);
+    Ok((verified, compared))
 }
 
-/// The same of a `$7$` text, which can have any salt.
-pub fn hash_mcf(
+/// The same of a `$7$` hash, which can have any salt.
+pub fn mcf_round_trip(
     alloc: Global,
     password: &[u8],
     salt: &[u8],
@@ -46,15 +52,20 @@ pub fn hash_mcf(
     key_len: usize,
     text: &mut [u8],
     text_len: &mut usize,
-) -> i32
-    ensures bad_params { ¬ (AreAccepted log_n r p × IsStoredLen key_len) → (result ≡ pos 2)
-        × (text.new ≡ text.old) × (text_len.new ≡ text_len.old) }
-    ensures made { AreAccepted log_n r p → IsStoredLen key_len
-        → ((result ≡ pos 0) × IsCopiedTo (IsMadeMcf (wanted log_n r p key_len) password.now salt.now)
-        text.old text.new text_len.new)
-        ⊎ ((result ≡ pos 12) × (text.new ≡ text.old)
-        × IsTooLong (IsMadeMcf (wanted log_n r p key_len) password.now salt.now) text.old text_len.new)
-        ⊎ ((result ≡ pos 4) × (text.new ≡ text.old) × (text_len.new ≡ text_len.old)) }
+) -> Result<(i32, i32), i32>
+    requires accepted { AreAccepted log_n r p }
+    requires key_len { IsStoredLen key_len }
+    ensures made { IfErr result (λ status. (status ≡ pos 4) ⊎ (status ≡ pos 12)) }
+    ensures verified { IfOk result (λ statuses. (statuses.0 ≡ pos 0) ⊎ (statuses.0 ≡ pos 4)) }
+    ensures strong { IfOk result (λ statuses. statuses.1 ≡ pos 0) }
 {
-    scrypt_hash_mcf(alloc, password, salt, log_n, r, p, key_len, text, text_len)
+    made_texts_are_accepted();
+    let made = scrypt_hash_mcf(alloc, password, salt, log_n, r, p, key_len, text, text_len);
+    if made != OK {
+        return Err(made);
+    }
+    let text = &text[..*text_len];
+    let verified = verify(alloc, password, text);
+    let compared = needs_rehash(text, log_n, r, p, key_len);
+    Ok((verified, compared))
 }

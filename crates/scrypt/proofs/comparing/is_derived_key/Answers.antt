@@ -13,9 +13,10 @@ loop-i-preserved g c key is long =
     let size : c.min-size.result ≡ min (c.args.len - at) 96 = omega (arith, c.min-size.ensures) in
     let inside : at < c.args.len = omega (arith, c.div_ceil-i-end.ensures) in
     let start : 32 * (3 * c.loop-i.i) ≡ at = omega arith in
-    let places : length (take c.min-size.result (replicate 96 0)) ≡ c.min-size.result =
+    let room = take c.min-size.result (replicate 96 0) in
+    let places : length room ≡ c.min-size.result =
     length-take-le c.min-size.result (replicate 96 0) (omega (arith, c.min-size.ensures)) in
-    let written : c.write.new.out ≡ pbkdf2_from c.args.password.now c.args.mixed.now (32 * (3 * c.loop-i.i)) (length (take c.min-size.result (replicate 96 0))) =
+    let written : c.write.new.out ≡ pbkdf2_from c.args.password.now c.args.mixed.now (32 * (3 * c.loop-i.i)) (length room) =
     c.write.ensures.value c.args.password.now c.args.mixed.now c.new-blocks.ensures.derived in
     let piece : c.write.new.out ≡ pbkdf2_from c.args.password.now c.args.mixed.now at c.min-size.result =
     written ∙ ap₂ (pbkdf2_from c.args.password.now c.args.mixed.now) start places in

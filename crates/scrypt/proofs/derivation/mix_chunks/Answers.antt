@@ -41,7 +41,8 @@ chunks-preserved g c =
     let long : length old ≡ 128 * r =
     length-take-le size (drop start x) (omega (arith, length-drop start x, size_is, room)) ∙ size_is in
     let r_of_old : length old / 128 ≡ r = omega arith in
-    let source : old ≡ part (128 * r) b i = part_of_slice (128 * r) i x start size start_is size_is ∙ c.chunks.invariant.mixed.rest i (omega arith) in
+    let source : old ≡ part (128 * r) b i =
+    part_of_slice (128 * r) i x start size start_is size_is ∙ c.chunks.invariant.mixed.rest i (omega arith) in
     let e = extra_rows (words_of old) log_n s (2 ^ log_n) in
     let anew : e ≡ extra_rows (words_of (part (128 * r) b i)) log_n s (2 ^ log_n) =
     ap (λ z. extra_rows (words_of z) log_n s (2 ^ log_n)) source in
@@ -52,7 +53,8 @@ chunks-preserved g c =
           (mixed.ensures.value ∙ ap (λ n. bytes_of (ro_mix (words_of old) n)) log_n_is) c.chunks.invariant.mixed;
       room = omega (arith, c.chunks.invariant.room, mixed.ensures.room);
       all = counted_chunk b log_n s r i _ _ _ e anew (mixed.ensures.all ∙ ap (λ n. c.chunks.cores.all + n) cost_is) c.chunks.invariant.all;
-      lanes = counted_chunk b log_n s r i _ _ _ e anew (mixed.ensures.lanes ∙ ap (λ n. c.chunks.cores.lanes + 1 * n) cost_is ∙ omega arith) c.chunks.invariant.lanes;
+      lanes = counted_chunk b log_n s r i _ _ _ e anew
+          (mixed.ensures.lanes ∙ ap (λ n. c.chunks.cores.lanes + 1 * n) cost_is ∙ omega arith) c.chunks.invariant.lanes;
     }
 
 pub returns-clause-value : goal.returns-clause-value

@@ -1,7 +1,7 @@
 use Rattle.std.proofs.Common.{sym, ◌∙◌}
 use Rattle.password_hash.proofs.McfFacts.{IsMcfText-one}
 use Rattle.password_hash.proofs.OneReading.{Crypt64-one, one_reading}
-use Rattle.scrypt.proofs.McfHashFacts.{whole_once, text_of}
+use Rattle.scrypt.proofs.McfHashFacts.{text_of}
 use Rattle.scrypt.proofs.laws.texts_have_one_reading.Goals as goal
 
 pub returns-clause-phc_reading : goal.returns-clause-phc_reading
@@ -13,11 +13,8 @@ returns-clause-modular_reading c text one other fields more is again =
     let second = IsMcfText-one text other more again in
     (sym first.0 ∙ second.0, sym first.1 ∙ second.1)
 
-pub returns-clause-mcf_reading : goal.returns-clause-mcf_reading
-returns-clause-mcf_reading c text salt more_salt stored more_stored one other is again = whole_once is again
-
 pub returns-clause-mcf_text : goal.returns-clause-mcf_text
-returns-clause-mcf_text c one other salt stored costs is again = text_of is ∙ sym (text_of again)
+returns-clause-mcf_text c one other s is again = text_of is ∙ sym (text_of again)
 
 pub returns-clause-crypt64_reading : goal.returns-clause-crypt64_reading
 returns-clause-crypt64_reading c = Crypt64-one

@@ -6,4 +6,4 @@ returns-in-Ok-made-clause-made c done =
     let copied = c.copy_to.ensures in
     let made = rw (c.new_with_params-hasher.ensures.value, c.in-Ok.ensures.value) at c.in-Ok-made.ensures.ok in
     let written = copied.written (search rules) ∙ ap (λ n. c.as_str.result.now ++ drop n c.args.text.now) (sym copied.len) in
-    (c.as_str.result.now, rw c.as_str.ensures.value made, copied.len, written)
+    (c.as_str.result.now, (c.as_str.utf8, rw c.as_str.ensures.value made), copied.len, written)

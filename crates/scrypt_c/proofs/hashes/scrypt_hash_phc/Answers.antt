@@ -6,4 +6,5 @@ returns-in-Ok-to_string-clause-made c done =
     let copied = c.copy_to.ensures in
     let made = rw (c.new_with_params-hasher.ensures.value, c.in-Ok.ensures.value) at c.in-Ok-made.ensures.ok in
     let written = copied.written (search rules) ∙ ap (λ n. c.as_str.result.now ++ drop n c.args.text.now) (sym copied.len) in
-    (c.as_str.result.now, (c.in-Ok-made.hash, made, c.as_str.ensures.value ∙ c.in-Ok-to_string.ensures.ok), copied.len, written)
+    let printed = c.as_str.ensures.value ∙ c.in-Ok-to_string.ensures.ok in
+    (c.as_str.result.now, (c.as_str.utf8, (c.in-Ok-made.hash, made, printed)), copied.len, written)

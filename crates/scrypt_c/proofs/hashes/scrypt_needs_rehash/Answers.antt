@@ -1,30 +1,14 @@
-use Rattle.std.proofs.Common.{rules}
-use Rattle.password_hash.specs.Refusal.{refusal}
-use Rattle.scrypt_c.proofs.RehashFacts.{compared, status_once, unread}
+use Rattle.std.proofs.Common.{◌≡◌, ◌∙◌, ap, inr, refl, rules}
+use Rattle.scrypt.specs.Reading.{weaker}
 use Rattle.scrypt_c.specs.Made.{wanted}
+use Rattle.scrypt_c.specs.Statuses.{rehash_status}
 use Rattle.scrypt_c.proofs.hashes.scrypt_needs_rehash.Goals as goal
 
-pub returns-in-Ok-stored_hash-clause-status : goal.returns-in-Ok-stored_hash-clause-status
-returns-in-Ok-stored_hash-clause-status c known =
-    let text = c.in-Ok-stored_hash.ensures.ok in
-    let out = c.needs_rehash in
-    let status = compared (wanted c.args.log_n c.args.r c.args.p c.args.key_len) c.args.text.now out.result
-    c.in-Ok-stored_hash.ensures.utf8 (rw text at out.ensures.ok) (rw (text, c.in-Ok.ensures.value) at out.ensures.weak)
-    (rw text at out.ensures.err) in
-    search rules
-
-pub returns-in-Ok-stored_hash-clause-exact : goal.returns-in-Ok-stored_hash-clause-exact
-returns-in-Ok-stored_hash-clause-exact c known status other =
-    let laws = c.stored_texts_have_one_reading.ensures in
-    status_once _ _ _ status (laws.refused _) (laws.readable _) (returns-in-Ok-stored_hash-clause-status c known) other
-
-pub returns-in-Err-clause-status : goal.returns-in-Err-clause-status
-returns-in-Err-clause-status c known =
-    let status = unread (wanted c.args.log_n c.args.r c.args.p c.args.key_len) c.args.text.now (refusal c.in-Err.error)
-    c.in-Err.ensures.refused in
-    search rules
-
-pub returns-in-Err-clause-exact : goal.returns-in-Err-clause-exact
-returns-in-Err-clause-exact c known status other =
-    let laws = c.stored_texts_have_one_reading.ensures in
-    status_once _ _ _ status (laws.refused _) (laws.readable _) (returns-in-Err-clause-status c known) other
+pub returns-in-Ok-stored_hash : goal.returns-in-Ok-stored_hash
+returns-in-Ok-stored_hash c =
+    let wants = wanted c.args.log_n c.args.r c.args.p c.args.key_len in
+    let read = c.in-Ok-stored_hash.hash.whole in
+    let is_weaker = c.needs_rehash.ensures.weaker ∙ ap (λ wanted. weaker wanted read) c.in-Ok.ensures.value in
+    let status : c.rehash_status.result ≡ rehash_status (weaker wants read) = c.rehash_status.ensures ∙ ap rehash_status is_weaker in
+    let accepted = c.in-Ok.ensures.accepted.0 refl in
+    record { status = inr (accepted.0, accepted.1, (c.in-Ok-stored_hash.hash, c.in-Ok-stored_hash.ensures.ok, search rules)) }

@@ -27,7 +27,12 @@ returns-in_err-unchecked c =
     c.p-item.result c.len-item.result c.salt_hex-item.result c.text-item.result (omega arith)
     c.format-item.is c.log_n-item.is c.r-item.is c.p-item.is c.len-item.is c.salt_hex-item.is c.text-item.is
     c.as_str.ensures.value c.as_str-2.ensures.value c.as_str-3.ensures.value c.as_str-4.ensures.value refl refl refl in
-    rw (c.from_residual-in_err-unchecked.ensures, seven, sym c.parse_format.ensures ∙ c.in_ok-format.was, sym c.parse_params.ensures ∙ c.in_err-unchecked.was) refl
+    rw (
+      c.from_residual-in_err-unchecked.ensures,
+      seven,
+      sym c.parse_format.ensures ∙ c.in_ok-format.was,
+      sym c.parse_params.ensures ∙ c.in_err-unchecked.was,
+    ) refl
 
 pub returns-in_err-len : goal.returns-in_err-len
 unfolding rehash_args
@@ -50,5 +55,11 @@ returns c =
     let seven = are_seven string_bytes c.args.args.now c.format-item.result c.log_n-item.result c.r-item.result
     c.p-item.result c.len-item.result c.salt_hex-item.result c.text-item.result (omega arith)
     c.format-item.is c.log_n-item.is c.r-item.is c.p-item.is c.len-item.is c.salt_hex-item.is c.text-item.is
-    c.as_str.ensures.value c.as_str-2.ensures.value c.as_str-3.ensures.value c.as_str-4.ensures.value c.as_str-5.ensures.value c.as_str-6.ensures.value c.as_str-7.ensures.value in
-    rw (seven, sym c.parse_format.ensures ∙ c.in_ok-format.was, sym c.parse_params.ensures ∙ c.in_ok-unchecked.was, sym c.parse_len.ensures ∙ c.in_ok-len.was) refl
+    c.as_str.ensures.value c.as_str-2.ensures.value c.as_str-3.ensures.value c.as_str-4.ensures.value
+    c.as_str-5.ensures.value c.as_str-6.ensures.value c.as_str-7.ensures.value in
+    rw (
+      seven,
+      sym c.parse_format.ensures ∙ c.in_ok-format.was,
+      sym c.parse_params.ensures ∙ c.in_ok-unchecked.was,
+      sym c.parse_len.ensures ∙ c.in_ok-len.was,
+    ) refl

@@ -1,8 +1,12 @@
-use Rattle.scrypt_commands.specs.Command.{bad_hash, to_verify}
+use Rattle.std.proofs.Common.{inr, refl}
+use Rattle.scrypt.specs.StoredHash.{of_hash, of_none}
+use Rattle.scrypt_commands.specs.Command.{command_request}
 use Rattle.scrypt_commands.proofs.command.verify_command.Goals as goal
 
-pub returns-in-Ok-clause-ok : goal.returns-in-Ok-clause-ok
-returns-in-Ok-clause-ok c = rw c.in-Ok.ensures.ok.0 (to_verify c.in-Ok.ensures.ok.1)
+pub returns-in-Ok : goal.returns-in-Ok
+unfolding command_request
+returns-in-Ok c = (λ none. none (_, c.in-Ok.ensures.ok), tt, λ input. (_, of_hash c.in-Ok.ensures.ok, refl))
 
-pub returns-in-Err-clause-err : goal.returns-in-Err-clause-err
-returns-in-Err-clause-err c = rw c.in-Err.ensures.err.0 (bad_hash c.in-Err.ensures.err.1)
+pub returns-in-Err : goal.returns-in-Err
+unfolding command_request
+returns-in-Err c = rw c.in-Err.ensures.err.0 (inr (refl, (c.in-Err.ensures.err.1, λ input. (_, of_none c.in-Err.ensures.err.1, refl))))

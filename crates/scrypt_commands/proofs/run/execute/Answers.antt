@@ -1,21 +1,25 @@
-use Rattle.scrypt_commands.proofs.CommandFacts.{asked_not_refused, asked_possible}
+use Rattle.std.proofs.lemmas.Result.{err_from_is_err_and}
+use Rattle.scrypt_commands.specs.Steps.{no_output}
+use Rattle.scrypt_commands.proofs.OutcomeFacts.{refused_args, refused_input, unread_input}
 use Rattle.scrypt_commands.proofs.run.execute.Goals as goal
 
-pub answer-requires : goal.answer-requires
-answer-requires g c = record { possible = asked_possible _ _ c.in_ok-command.ensures.ok }
+pub returns-in_err-command-clause-err : goal.returns-in_err-command-clause-err
+returns-in_err-command-clause-err g c =
+    let left = err_from_is_err_and c.from_residual.result c.from_residual.ensures.1 in
+    rw (left.1, left.2) (refused_args _ _ _ _ c.in_err-command.ensures)
 
-pub returns-in_err-input-clause-refused : goal.returns-in_err-input-clause-refused
-returns-in_err-input-clause-refused g c =
-    λ refusal h. absurd (asked_not_refused _ _ _ c.in_ok-command.ensures.ok h)
+pub returns-in_err-input-clause-err : goal.returns-in_err-input-clause-err
+returns-in_err-input-clause-err g c =
+    let left = err_from_is_err_and c.from_residual-in_err-input.result c.from_residual-in_err-input.ensures.1 in
+    rw (left.1, left.2) (unread_input _ _ _ _ c.in_err-input.ensures.err)
 
-pub returns-in_err-answer-clause-refused : goal.returns-in_err-answer-clause-refused
-returns-in_err-answer-clause-refused g c =
-    λ refusal h. absurd (asked_not_refused _ _ _ c.in_ok-command.ensures.ok h)
+pub returns-in_err-answer-clause-err : goal.returns-in_err-answer-clause-err
+returns-in_err-answer-clause-err g c =
+    let left = err_from_is_err_and c.from_residual-in_err-answer.result c.from_residual-in_err-answer.ensures.1 in
+    rw (left.1, left.2) (refused_input _ _ _ _ c.in_ok-input.input.items _ c.in_ok-input.ensures.ok
+    (c.in_ok-command.ensures.2 c.in_ok-input.input.items) (rw c.deref.ensures.value at c.in_err-answer.ensures) c.in_ok-input.ensures.read)
 
-pub returns-in_err-write_line-clause-refused : goal.returns-in_err-write_line-clause-refused
-returns-in_err-write_line-clause-refused g c =
-    λ refusal h. absurd (asked_not_refused _ _ _ c.in_ok-command.ensures.ok h)
-
-pub returns-clause-refused : goal.returns-clause-refused
-returns-clause-refused g c =
-    λ refusal h. absurd (asked_not_refused _ _ _ c.in_ok-command.ensures.ok h)
+pub returns-in_err-write_line-clause-err : goal.returns-in_err-write_line-clause-err
+returns-in_err-write_line-clause-err g c =
+    let left = err_from_is_err_and c.from_residual-in_err-write_line.result c.from_residual-in_err-write_line.ensures.1 in
+    rw (left.1, left.2, c.in_err-write_line.ensures.err) (no_output c.in_ok-input.ensures.read)

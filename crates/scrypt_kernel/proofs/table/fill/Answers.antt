@@ -54,7 +54,8 @@ rows-preserved g c =
     let size = length c.args.x.now in
     let same : length c.rows.x ≡ size = c.rows.auto.x in
     let added = c.append_next.ensures.words ∙ ap (λ n. g.M.Memory.words c.rows.rows
-    ++ permuted g.O.Order.pivot (row (permuted g.O.Order.inverse_pivot (part n (g.M.Memory.words c.rows.rows) c.rows.m)) (2 ^ c.args.s))) same in
+    ++ permuted g.O.Order.pivot (row (permuted g.O.Order.inverse_pivot (part n (g.M.Memory.words c.rows.rows) c.rows.m))
+    (2 ^ c.args.s))) same in
     record {
       room = omega (arith, c.rows.invariant.room, c.append_next.ensures.room);
       held = more_rows g.O.Order.pivot g.O.Order.inverse_pivot g.met.O.Order.inverse _ _ _ size (2 ^ c.args.s) c.rows.m
@@ -70,7 +71,8 @@ pub returns-clause-rows : goal.returns-clause-rows
 returns-clause-rows g c = record {
   each = λ m h.
       let t : ℕ = 2 ^ c.args.s in
-      let all = rows_of c.args.log_n c.args.s c.rows.m c.requires.spacing (kept c.args.log_n c.args.s c.rows.m c.requires.small (omega arith)) in
+      let all = rows_of c.args.log_n c.args.s c.rows.m c.requires.spacing
+      (kept c.args.log_n c.args.s c.rows.m c.requires.small (omega arith)) in
       let below : t * m < t * (c.rows.m + 1) = omega (arith, all, h) in
       c.rows.invariant.held.each m (lt_of_mul-lt-mul_left t below);
 }
@@ -90,7 +92,8 @@ returns-clause-last g c =
     ∙ ap₂ (λ n i. part n (g.M.Memory.words c.rows.rows) i) c.rows.auto.x last ∙ c.rows.invariant.held.each m (omega arith) in
     c.recompute.ensures.value ∙ ap (λ n. permuted p (row (permuted q c.part.result.now) n)) (one_shl c.args.s 64 (omega arith))
     ∙ row_after_in p q g.met.O.Order.inverse b c.part.result.now (m * t) t (omega arith) source
-    ∙ ap (λ n. permuted p (row b n)) (steps c.args.log_n c.args.s m c.requires.spacing (kept c.args.log_n c.args.s m c.requires.small (omega arith)))
+    ∙ ap (λ n. permuted p (row b n)) (steps c.args.log_n c.args.s m c.requires.spacing
+    (kept c.args.log_n c.args.s m c.requires.small (omega arith)))
 
 pub returns-clause-all : goal.returns-clause-all
 returns-clause-all g c =

@@ -56,7 +56,8 @@ pairs-preserved g c =
     let long_y : length c.pairs.y ≡ size = omega (arith, c.pairs.auto.y, c.if-n-eq0.auto.y) in
     let there : done (c.pairs._k + 1) ≡ i + 1 + 1 = omega arith in
     record {
-      value = two.value ∙ next c.mix-in-pairs.new.output (i + 1) (omega arith) (one.value ∙ next c.pairs.x i (omega arith) c.pairs.invariant.value)
+      value = two.value ∙ next c.mix-in-pairs.new.output (i + 1) (omega arith) (one.value
+          ∙ next c.pairs.x i (omega arith) c.pairs.invariant.value)
           ∙ ap (λ m. permuted p (row b m)) (omega (arith, there));
       all = counted_all _ size _ (i + 1) (done (c.pairs._k + 1)) _ _ two.all long_x
           (counted_all _ size _ i (i + 1) _ _ one.all long_y c.pairs.invariant.all refl) there;

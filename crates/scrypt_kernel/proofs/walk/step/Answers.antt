@@ -40,7 +40,8 @@ returns-then-missing-eq0-clause-value g c b k keeps is =
     let inside = kept_inside _ c.args.log_n _ _ _ c.requires.spacing c.integerify-j.ensures.inside c.requires.rows in
     let taken : kept ≡ permuted p (row b j) =
     row_zero_in p q inverse kept (omega arith) ∙ ap (λ n. permuted p (row (permuted q kept) n)) (sym none)
-    ∙ row_from_kept p q inverse b kept c.args.v.now _ _ _ j (omega arith) keeps c.integerify-j.ensures.inside inside c.part-kept.ensures.value in
+    ∙ row_from_kept p q inverse b kept c.args.v.now _ _ _ j (omega arith) keeps c.integerify-j.ensures.inside inside
+    c.part-kept.ensures.value in
     c.mix.ensures.value
     ∙ step_with_row p q inverse b c.args.log_n c.args.s k c.args.v.now c.args.x.now kept j c.requires.some c.requires.whole c.requires.rows
     keeps is c.integerify-j.ensures.value taken
@@ -55,7 +56,8 @@ returns-else-missing-eq0-clause-value g c b k keeps is =
     let shifted = one_shl c.args.s 64 (omega arith) in
     let inside = kept_inside _ c.args.log_n _ _ _ c.requires.spacing c.integerify-j.ensures.inside c.requires.rows in
     let taken = ap (λ n. permuted p (row (permuted q kept) (j % n))) shifted
-    ∙ row_from_kept p q inverse b kept c.args.v.now _ _ _ j (omega arith) keeps c.integerify-j.ensures.inside inside c.part-kept.ensures.value in
+    ∙ row_from_kept p q inverse b kept c.args.v.now _ _ _ j (omega arith) keeps c.integerify-j.ensures.inside inside
+    c.part-kept.ensures.value in
     c.mix_with_recomputed.ensures.value
     ∙ step_with_row p q inverse b c.args.log_n c.args.s k c.args.v.now c.args.x.now _ j c.requires.some c.requires.whole c.requires.rows
     keeps is c.integerify-j.ensures.value taken

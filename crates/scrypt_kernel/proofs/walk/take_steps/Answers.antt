@@ -12,7 +12,8 @@ pairs-preserved g c b starts =
     let two = c.step-in-pairs-2.ensures in
     let more = one_more_step g.O.Order.pivot g.O.Order.inverse_pivot g.met.O.Order.inverse b c.args.log_n c.args.s (length c.args.x.now) in
     let next : 2 * c.pairs._k + 1 + 1 ≡ 2 * (c.pairs._k + 1) = omega arith in
-    let first = more _ _ _ _ _ _ _ _ _ _ _ _ starts (c.pairs.invariant b starts) refl c.pairs.auto.x (omega arith) one.value one.all one.lanes in
+    let first = more _ _ _ _ _ _ _ _ _ _ _ _ starts (c.pairs.invariant b starts) refl c.pairs.auto.x (omega arith)
+    one.value one.all one.lanes in
     rw (← next) (more _ _ _ _ _ _ _ _ _ _ _ _ starts first refl (omega arith) (omega arith) two.value two.all two.lanes)
 
 pub returns-then-log_n-eq0 : goal.returns-then-log_n-eq0
@@ -22,7 +23,8 @@ returns-then-log_n-eq0 g c = record {
       let none : c.args.log_n ≡ 0 = c.if-log_n-eq0.true in
       let single : 0 + 1 ≡ 2 ^ c.args.log_n = rw none refl in
       rw (← single)
-      (one_more_step g.O.Order.pivot g.O.Order.inverse_pivot g.met.O.Order.inverse b c.args.log_n c.args.s (length c.args.x.now) _ _ _ _ _ _ _ _ _ _ _ _
+      (one_more_step g.O.Order.pivot g.O.Order.inverse_pivot g.met.O.Order.inverse b c.args.log_n c.args.s
+      (length c.args.x.now) _ _ _ _ _ _ _ _ _ _ _ _
       starts (no_step g.O.Order.pivot b c.args.log_n c.args.s g.O.Order.lanes_of_core _ _ _ _ starts) refl refl (omega arith)
       (λ b k keeps is. c.copy_from_slice.ensures.after ∙ one.value b k keeps is) one.all one.lanes);
 }
@@ -32,7 +34,8 @@ returns g c = record {
   walked = λ b starts.
       let half : ℕ = c.args.log_n - 1 in
       let shifted = one_shl half 64 (omega arith) in
-      let double : 2 ^ c.args.log_n ≡ 2 ^ 1 * 2 ^ half = let parts : c.args.log_n ≡ 1 + half = omega arith in ap (λ n. 2 ^ n) parts ∙ pow-add 2 1 half in
+      let double : 2 ^ c.args.log_n ≡ 2 ^ 1 * 2 ^ half = let parts : c.args.log_n ≡ 1 + half = omega arith in
+      ap (λ n. 2 ^ n) parts ∙ pow-add 2 1 half in
       let whole : 2 * c.pairs._k ≡ 2 ^ c.args.log_n = omega (arith, shifted, double) in
       rw (← whole) (c.pairs.invariant b starts);
 }

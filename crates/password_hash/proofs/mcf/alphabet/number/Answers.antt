@@ -11,7 +11,11 @@ loop-place-init c = rw (drop-length c.args.letters.now) refl
 
 pub overflow_mul-number : goal.overflow_mul-number
 overflow_mul-number c =
-    omega (arith, number_of-last c.args.letters.now c.loop-place.place c.loop-place.number c.loop-place-test.true c.loop-place.invariant c.requires.short)
+    omega (
+      arith,
+      number_of-last c.args.letters.now c.loop-place.place c.loop-place.number c.loop-place-test.true
+          c.loop-place.invariant c.requires.short,
+    )
 
 pub returns-in_err-value : goal.returns-in_err-value
 returns-in_err-value c =
@@ -22,7 +26,8 @@ returns-in_err-value c =
 
 pub overflow_add-number : goal.overflow_add-number
 overflow_add-number c =
-    let before = number_of-last c.args.letters.now c.loop-place.place c.loop-place.number c.loop-place-test.true c.loop-place.invariant c.requires.short in
+    let before = number_of-last c.args.letters.now c.loop-place.place c.loop-place.number c.loop-place-test.true
+    c.loop-place.invariant c.requires.short in
     let digit = letter-of_value _ _ (sym c.in_ok-value.ensures.value) in
     omega (arith, before, digit.0, c.from.ensures)
 

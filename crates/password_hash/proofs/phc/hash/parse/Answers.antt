@@ -9,11 +9,14 @@ use Rattle.password_hash.proofs.phc.hash.parse.Goals as goal
 use Rattle.password_hash.proofs.phc.hash.parse.Goals.{After-first_part}
 
 -- hashes with the same parts
-same_hash : {a b : PasswordHash} → a.algorithm ≡ b.algorithm → a.version ≡ b.version → a.params ≡ b.params → a.salt ≡ b.salt → a.hash ≡ b.hash → a ≡ b
+same_hash : {a b : PasswordHash} → a.algorithm ≡ b.algorithm → a.version ≡ b.version → a.params ≡ b.params
+    → a.salt ≡ b.salt → a.hash ≡ b.hash → a ≡ b
 same_hash algorithm version params salt key =
     λ i. record { algorithm = algorithm i; version = version i; params = params i; salt = salt i; hash = key i }
 
-same_pair : (salt other_salt key other_key : Option (List ℕ)) → ◌≡◌ {A = Option (Option (List ℕ) × Option (List ℕ))} (Some (salt, key)) (Some (other_salt, other_key)) → (salt ≡ other_salt) × (key ≡ other_key)
+same_pair : (salt other_salt key other_key : Option (List ℕ))
+    → ◌≡◌ {A = Option (Option (List ℕ) × Option (List ℕ))} (Some (salt, key)) (Some (other_salt, other_key))
+    → (salt ≡ other_salt) × (key ≡ other_key)
 same_pair salt other_salt key other_key e =
     let same : ◌≡◌ {A = Option (List ℕ) × Option (List ℕ)} (salt, key) (other_salt, other_key) = cc in
     (ap (λ both. both.0) same, ap (λ both. both.1) same)
@@ -21,8 +24,10 @@ same_pair salt other_salt key other_key e =
 begins : (c : After-first_part) → c.args.text.now ≡ 36 ∷ c.in_ok-text.text.now
 begins c = strip_prefix_char 36 c.args.text.now (Some c.in_ok-text.text) c.in_ok-text.ensures.cases (lit< tt)
 
-parts : (c : After-first_part) (hash : PasswordHash) → IsHashText c.args.text.now hash → HasParts c.first_part.result.0.now (parts_left c.first_part.result.1) hash
-parts c hash h = parts_of_hash c.args.text.now c.in_ok-text.text.now c.first_part.result.0.now (parts_left c.first_part.result.1) hash h (begins c) c.first_part.ensures
+parts : (c : After-first_part) (hash : PasswordHash) → IsHashText c.args.text.now hash
+    → HasParts c.first_part.result.0.now (parts_left c.first_part.result.1) hash
+parts c hash h = parts_of_hash c.args.text.now c.in_ok-text.text.now c.first_part.result.0.now
+    (parts_left c.first_part.result.1) hash h (begins c) c.first_part.ensures
 
 pub returns-in_err-text-clause-only : goal.returns-in_err-text-clause-only
 returns-in_err-text-clause-only c = λ hash h.
@@ -55,12 +60,22 @@ returns-in_err-salt-clause-only c = λ hash h.
 pub returns-clause-found : goal.returns-clause-found
 returns-clause-found c =
     let at = (goal.at.returns-clause-found c).After-first_part in
-    let hash : PasswordHash = record { algorithm = c.in-Ok.algorithm; version = c.in_ok-version.version; params = c.in_ok-params.params; salt = c.in_ok-salt.salt; hash = c.in_ok-salt.hash } in
+    let hash : PasswordHash = record {
+      algorithm = c.in-Ok.algorithm;
+      version = c.in_ok-version.version;
+      params =
+          c.in_ok-params.params;
+      salt = c.in_ok-salt.salt;
+      hash = c.in_ok-salt.hash;
+    } in
     let version = c.in_ok-version.ensures.found in
     let params = c.in_ok-params.ensures.found in
     let identifier = c.in-Ok.ensures.exact.0 refl in
     let first = c.first_part.ensures in
-    hash_of_parts c.args.text.now c.in_ok-text.text.now hash (parts_left c.first_part.result.1) (parts_left c.in_ok-version.left) (parts_left c.in_ok-params.left) (begins at) (rw (← c.in-Ok.ensures.value) at first) (rw (← c.in-Ok.ensures.value) at identifier) version.0 version.1 params.0 params.1 c.in_ok-salt.ensures.found
+    hash_of_parts c.args.text.now c.in_ok-text.text.now hash (parts_left c.first_part.result.1)
+    (parts_left c.in_ok-version.left) (parts_left c.in_ok-params.left) (begins at)
+    (rw (← c.in-Ok.ensures.value) at first) (rw (← c.in-Ok.ensures.value) at identifier) version.0 version.1
+    params.0 params.1 c.in_ok-salt.ensures.found
 
 pub returns-clause-only : goal.returns-clause-only
 returns-clause-only c = λ hash h.

@@ -9,5 +9,6 @@ returns-clause-ok c =
 
 pub returns-clause-exact : goal.returns-clause-exact
 returns-clause-exact c =
-    let fits : length c.args.text.now.bytes + length c.if-is_empty.comma.now + length c.args.name.now + 1 + length c.args.value.now ≤ 127 = omega arith in
+    let fits : length c.args.text.now.bytes + length c.if-is_empty.comma.now + length c.args.name.now + 1 + length
+    c.args.value.now ≤ 127 = omega arith in
     grind (arith, common_steps)

@@ -14,7 +14,8 @@ returns-clause-found c =
     let at = (goal.at.returns-clause-found c).In-Some-after in
     let salt = c.in_ok-salt.ensures in
     let key = c.in_ok-key.ensures in
-    salt_and_key_read (parts_left c.args.left) c.first_part.result.0.now c.in-Some-after.letters.now c.in_ok-salt.salt c.in_ok-key.key (front at) salt.letters salt.bytes key.letters key.bytes
+    salt_and_key_read (parts_left c.args.left) c.first_part.result.0.now c.in-Some-after.letters.now c.in_ok-salt.salt
+    c.in_ok-key.key (front at) salt.letters salt.bytes key.letters key.bytes
 
 pub returns-in_err-key-clause-only : goal.returns-in_err-key-clause-only
 returns-in_err-key-clause-only c = λ salt key h.

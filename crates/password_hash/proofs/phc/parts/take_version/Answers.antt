@@ -24,7 +24,9 @@ returns-in_err-version-clause-only c = λ version others is_version none e.
 pub returns-clause-found : goal.returns-clause-found
 returns-clause-found c =
     let at = (goal.at.returns-clause-found c).In-Some-strip_prefix in
-    version_read (parts_left c.args.left) c.first_part.result.0.now c.in-Some-strip_prefix.digits.now (parts_left c.first_part.result.1) c.in_ok-version.version (front at) (begins at) (reads_decimal _ _ c.in_ok-version.ensures.gives).found
+    version_read (parts_left c.args.left) c.first_part.result.0.now c.in-Some-strip_prefix.digits.now
+    (parts_left c.first_part.result.1) c.in_ok-version.version (front at) (begins at)
+    (reads_decimal _ _ c.in_ok-version.ensures.gives).found
 
 pub returns-clause-only : goal.returns-clause-only
 returns-clause-only c = λ version others is_version none e.

@@ -7,6 +7,8 @@ use Rattle.scrypt.proofs.mcf.hashing.write_costs_and_salt.Goals as goal
 pub returns-clause-written : goal.returns-clause-written
 returns-clause-written c =
     let letters = crypt64_of c.args.salt.now in
-    let count : length c.copy_from_slice.new.self ≡ 14 = c.copy_from_slice.auto.self ∙ length-take-le 14 c.args.out.now (omega (arith, c.requires)) in
-    put_after_front c.copy_from_slice.new.self c.args.out.now letters c.encode_slice.new.out count (omega (arith, c.requires)) c.in-Ok.ensures.written
-    ∙ ap (λ front. front ++ (letters ++ drop (14 + length letters) c.args.out.now)) (c.copy_from_slice.ensures.after ∙ c.cost_letters.ensures.value)
+    let out = c.args.out.now in
+    let front = c.copy_from_slice.new.self in
+    let count : length front ≡ 14 = c.copy_from_slice.auto.self ∙ length-take-le 14 out (omega (arith, c.requires)) in
+    put_after_front front out letters c.encode_slice.new.out count (omega (arith, c.requires)) c.in-Ok.ensures.written
+    ∙ ap (λ z. z ++ (letters ++ drop (14 + length letters) out)) (c.copy_from_slice.ensures.after ∙ c.cost_letters.ensures.value)

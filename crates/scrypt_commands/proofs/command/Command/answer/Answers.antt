@@ -1,19 +1,21 @@
-use Rattle.std.proofs.Common.{inr}
-use Rattle.scrypt_commands.proofs.VerdictFacts.{verdict_given}
-use Rattle.scrypt_commands.specs.Outcome.{IsRehashDue}
+use Rattle.std.proofs.Common.{◌≡◌, ◌⊎◌, Ok, false, inl, inr}
+use Rattle.scrypt.specs.Reading.{verdict, weaker}
+use Rattle.scrypt_commands.proofs.OutcomeFacts.{due_answers, kept_answers, made_answers}
 use Rattle.scrypt_commands.proofs.command.Command.answer.Goals as goal
 use Rattle.scrypt_commands.proofs.command.Command.answer.Goals.{else-right-via-then-right+else-is_weaker, else-right-via-else-right}
 
-pub returns-in_ok-right-in-Verify-clause-ok : goal.returns-in_ok-right-in-Verify-clause-ok
-returns-in_ok-right-in-Verify-clause-ok c =
-    let verdict = c.in_ok-right-in-Verify.ensures in
-    rw c.in-Verify.is (verdict_given _ _ _ verdict.right verdict.wrong)
+pub returns-in_ok-make_hash-in-Rehash : goal.returns-in_ok-make_hash-in-Rehash
+returns-in_ok-make_hash-in-Rehash c =
+    let line = c.on_a_line-then-is_weaker.ensures in
+    let made = rw c.deref-then-is_weaker.ensures.value at c.in_ok-make_hash-in-Rehash.ensures in
+    rw c.in-Rehash.is (due_answers (verdict c.args.input.now c.in-Rehash.hash.whole) (weaker c.in-Rehash.params c.in-Rehash.hash.whole)
+    _ _ (cc c.in_ok-right-in-Rehash.ensures) (cc) (made_answers _ _ _ made line.status line.line line.err))
 
-pub returns-else-right-clause-ok : goal.returns-else-right-clause-ok
-returns-else-right-clause-ok c =
-    let verdict = c.in_ok-right-in-Rehash.ensures in
-    let not_due : ¬ IsRehashDue c.in-Rehash.params c.args.input.now c.in-Rehash.hash = elim c.else-right.branch [
-      | else-right-via-then-right+else-is_weaker w ↦ λ due. let weaker = w.is_weaker.ensures.1 due.1 in let not = w.if-is_weaker.false in absurd cc
-      | else-right-via-else-right w ↦ λ due. let yes = verdict.right.1 due.0 in let not = w.if-right.false in absurd cc
+pub returns-else-right : goal.returns-else-right
+returns-else-right c =
+    let kept : (c.in_ok-right-in-Rehash.right ≡ false) ⊎ (weaker c.in-Rehash.params c.in-Rehash.hash.whole ≡ Ok false) =
+    elim c.else-right.branch [
+      | else-right-via-then-right+else-is_weaker w ↦ inr (rw w.if-is_weaker.false at w.is_weaker.ensures)
+      | else-right-via-else-right w ↦ inl w.if-right.false
     ] in
-    rw c.in-Rehash.is (inr (not_due, verdict_given _ _ _ verdict.right verdict.wrong))
+    rw c.in-Rehash.is (kept_answers _ _ _ _ c.in_ok-right-in-Rehash.ensures kept)

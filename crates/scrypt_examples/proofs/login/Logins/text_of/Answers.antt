@@ -2,20 +2,26 @@ use Rattle.std.proofs.Common.{arith}
 use Rattle.std.specs.Prelude.{IfSome}
 use Rattle.password_hash.specs.Phc.{IsSalt}
 use Rattle.scrypt.specs.Accepted.{IsStoredLen}
+use Rattle.scrypt.specs.StoredHash.{of_hash}
 use Rattle.scrypt_examples.proofs.login.Logins.text_of.Goals as goal
 
 pub returns-clause-enrolled : goal.returns-clause-enrolled
 returns-clause-enrolled c =
     let wanted = c.args.self.now.wanted in
     let are = c.args.self.now.are_wanted in
-    let laws = c.made_texts_are_accepted.ensures in
     let hash = c.in_ok-hash.hash in
     let made = rw c.new_with_params-hasher.ensures.value at c.in_ok-hash.ensures.ok in
     let printed = c.in_ok-to_string.ensures.ok in
-    let salt : IsSalt c.args.salt.now = record { are_bytes = λ i. omega (arith, c.type_inv.salt i); enough = c.requires.0; fits = c.requires.1 } in
+    let salt : IsSalt c.args.salt.now = record {
+      are_bytes = λ i. omega (arith, c.type_inv.salt i);
+      enough =
+          c.requires.0;
+      fits = c.requires.1;
+    } in
     let len : IfSome wanted.output_len IsStoredLen = rw are.no_len tt in
+    let law = c.made_texts_are_accepted.ensures.phc wanted c.args.password.now c.args.salt.now hash are.accepted len salt made in
     record {
       made = (hash, made, printed);
-      accepts = rw printed (laws.phc wanted _ _ hash are.accepted len salt made);
-      strong = λ weaker. laws.phc_strong wanted _ _ hash are.accepted len salt made (rw printed at weaker);
+      accepts = rw printed (law.0.whole, of_hash law.1, law.2);
+      strong = rw printed (law.0.whole, of_hash law.1, law.3);
     }

@@ -39,7 +39,10 @@ abbrev words : Slot 3
 words = ArrayOf (plain (λ _. u32)) (λ _. tt) 16
 
 abbrev stayed : Stays (f.ended).signature.params (f.ended).kept
-stayed = (stay_none_ref (0 ∷ []) tt (plain (λ _. made.the_row)) yes, (stay_none_ref (1 ∷ []) tt words yes, (stay_none_ref (2 ∷ []) tt words yes, tt)))
+stayed = (
+  stay_none_ref (0 ∷ []) tt (plain (λ _. made.the_row)) yes,
+  (stay_none_ref (1 ∷ []) tt words yes, (stay_none_ref (2 ∷ []) tt words yes, tt)),
+)
 
 module _ {M : Type 1} {𝓤 : Ura M} (𝓛 : Logic 𝓤) (mem : Memory → SProp 𝓤) (run : Routine → Fun 𝓤) (C : Calls 𝓤 𝓛.H) (Λ : Loops 𝓤 𝓛.H) where
   open 𝓛 use {H}
@@ -67,22 +70,37 @@ module _ {M : Type 1} {𝓤 : Ura M} (𝓛 : Logic 𝓤) (mem : Memory → SProp
         (WpFn 𝓤 H C Λ code.function (before ∷ from ∷ to ∷ []) ((walk_of 𝓛 f.ended stayed (f.clauses 𝓛 mem run)).post bound))
     walk =
         qed 𝓛 (raw (alive 𝓛 f.signature κs qs) ∷ ‵ passed ∷ []) ∵ enter ! C Λ code.function (before ∷ from ∷ to ∷ []) _ $
-        alloc_all ! (λ l. pass_all ! refl ((tt, tt), ((tt, tt), ((tt, tt), tt))) $ sets ! (agg ! (and_then ! (unit_lit !) (no_more !))) refl (tt, (tt, tt)) $
+        alloc_all ! (λ l. pass_all ! refl ((tt, tt), ((tt, tt), ((tt, tt), tt))) $ sets !
+        (agg ! (and_then ! (unit_lit !) (no_more !))) refl (tt, (tt, tt)) $
         returns ! (look_at ! 0 refl) $ free_all ! refl $
-        suffices ! _ (ends_at 𝓛 f.ended stayed (f.clauses 𝓛 mem run) bound (vstruct (vcons vunit vnil)) counted (tt, (tt, (tt, tt))) (tt, (tt, (tt, tt)))) $
-        says ! (refl, refl) $ pure_i ! (made.the_row.own_val counted (vstruct (vcons vunit vnil) ∷ [])) ((λ vss. (tt, (tt, tt))), tt) (((vunit ∷ [], tt), (refl, (refl, tt))), tt) $
+        suffices ! _ (ends_at 𝓛 f.ended stayed (f.clauses 𝓛 mem run) bound (vstruct (vcons vunit vnil)) counted (
+          tt,
+          (tt, (tt, tt)),
+        ) (tt, (tt, (tt, tt)))) $
+        says ! (refl, refl) $ pure_i ! (made.the_row.own_val counted (vstruct (vcons vunit vnil) ∷ []))
+        ((λ vss. (tt, (tt, tt))), tt) (((vunit ∷ [], tt), (refl, (refl, tt))), tt) $
         move ! (1 ∷ 2 ∷ 0 ∷ []) $ done !)
 
   walks : Walks 𝓛 f.ended stayed (WpFn 𝓤 H C Λ code.function) (f.clauses 𝓛 mem run)
   walks =
       walked 𝓛 f.ended stayed (f.clauses 𝓛 mem run) (WpFn 𝓤 H C Λ code.function) (λ κs. (shr_vals, (shr_vals, (shr_vals, tt))))
-      (λ κs. (shr_Tells (named 0) κs.0 made.the_row, (shr_Tells (named 1) κs.1.0 (words.row κs), (shr_Tells (named 2) κs.1.1.0 (words.row κs), tt))))
+      (λ κs. (
+        shr_Tells (named 0) κs.0 made.the_row,
+        (
+          shr_Tells (named 1) κs.1.0 (words.row κs),
+          (shr_Tells (named 2) κs.1.1.0 (words.row κs), tt),
+        ),
+      ))
       (λ κs qs bounds a g are. via 𝓤 _ (fst∗ 𝓤 _ ((f.clauses 𝓛 mem run κs a).requires g)) (walk κs qs a))
 
 meets : {M : Type 1} {𝓤 : Ura M} (𝓛 : Logic 𝓤) (mem : Memory → SProp 𝓤) (run : Routine → Fun 𝓤) (𝓣 : Tables 𝓤 𝓛.H)
     → Meets 𝓛 f.signature (WpFn 𝓤 𝓛.H 𝓣.C 𝓣.Λ code.function) (f.spec 𝓛 mem run)
 meets {𝓤 = 𝓤} 𝓛 mem run 𝓣 =
-    walk_Meets 𝓛 f.ended stayed (Goes-none_ref 𝓛 3 (0 ∷ []) tt (plain (λ _. made.the_row)) yes, (Goes-none_ref 𝓛 3 (1 ∷ []) tt words yes, (Goes-none_ref 𝓛 3 (2 ∷ []) tt words yes, tt))) (f.clauses 𝓛 mem run) (WpFn 𝓤 𝓛.H 𝓣.C 𝓣.Λ code.function)
+    walk_Meets 𝓛 f.ended stayed (
+      Goes-none_ref 𝓛 3 (0 ∷ []) tt (plain (λ _. made.the_row)) yes,
+      (Goes-none_ref 𝓛 3 (1 ∷ []) tt words yes, (Goes-none_ref 𝓛 3 (2 ∷ []) tt words yes, tt)),
+    ) (f.clauses 𝓛 mem run)
+    (WpFn 𝓤 𝓛.H 𝓣.C 𝓣.Λ code.function)
     (WpFn-mono 𝓤 𝓛.H 𝓛.laws 𝓣 code.function) (walks 𝓛 mem run 𝓣.C 𝓣.Λ)
 
 pub after_lanes_core_spec : {M : Type 1} → stated.statement M

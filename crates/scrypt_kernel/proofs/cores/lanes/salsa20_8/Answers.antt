@@ -11,7 +11,8 @@ returns c =
     (c.double_round-once.ensures ∙ rw (c.lanes-a.ensures, c.lanes-b.ensures, c.lanes-c.ensures, c.lanes-d.ensures) refl)
     c.double_round-twice.ensures c.double_round-thrice.ensures c.double_round-all.ensures in
     core_by_parts x c.put_lanes-4.new.x c.told-x (omega arith)
-    (c.put_lanes-4.ensures.others 0 (omega arith) ∙ c.put_lanes-3.ensures.others 0 (omega arith) ∙ c.put_lanes-2.ensures.others 0 (omega arith)
+    (c.put_lanes-4.ensures.others 0 (omega arith) ∙ c.put_lanes-3.ensures.others 0 (omega arith)
+    ∙ c.put_lanes-2.ensures.others 0 (omega arith)
     ∙ c.put_lanes.ensures.written ∙ ap₂ (zip2 add32) c.lanes-a.ensures (ap (λ l. l.0) turned))
     (c.put_lanes-4.ensures.others 1 (omega arith) ∙ c.put_lanes-3.ensures.others 1 (omega arith)
     ∙ c.put_lanes-2.ensures.written ∙ ap₂ (zip2 add32) c.lanes-b.ensures (ap (λ l. l.1) turned))

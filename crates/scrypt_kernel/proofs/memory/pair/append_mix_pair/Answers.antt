@@ -13,7 +13,8 @@ returns-clause-words c =
     let full : length c.mix_pair.new.output ≡ s = c.mix_pair.auto.output ∙ length-take-le s _ (omega arith) in
     take_both c.split_at_mut-front.result.0.now c.mix_pair.new.output _ _ (omega arith)
     ∙ ap₂ (λ a b. a ++ b) front
-    (c.mix_pair.ensures.value ∙ ap (λ z. diagonal_order (block_mix (standard_order z))) (c.part.ensures.value ∙ ap (λ z. part s z c.args.i) front))
+    (c.mix_pair.ensures.value ∙ ap (λ z. diagonal_order (block_mix (standard_order z))) (c.part.ensures.value
+    ∙ ap (λ z. part s z c.args.i) front))
 
 pub returns-clause-other_words : goal.returns-clause-other_words
 returns-clause-other_words c =
@@ -22,4 +23,5 @@ returns-clause-other_words c =
     let full : length c.mix_pair.new.other_output ≡ s = c.mix_pair.auto.other_output ∙ length-take-le s _ (omega arith) in
     take_both c.split_at_mut-other_front.result.0.now c.mix_pair.new.other_output _ _ (omega arith)
     ∙ ap₂ (λ a b. a ++ b) front
-    (c.mix_pair.ensures.other_value ∙ ap (λ z. diagonal_order (block_mix (standard_order z))) (c.part-2.ensures.value ∙ ap (λ z. part s z c.args.i) front))
+    (c.mix_pair.ensures.other_value ∙ ap (λ z. diagonal_order (block_mix (standard_order z))) (c.part-2.ensures.value
+    ∙ ap (λ z. part s z c.args.i) front))

@@ -21,7 +21,9 @@ returns-clause-value c =
     let low : get_or x at 0 < 2 ^ 32 = search rules in
     let high : get_or x (at + 13) 0 < 2 ^ 32 = search rules in
     let long : length z ≡ length x = length-permuted inverse_pivot x in
-    let first : get_or z at 0 ≡ get_or x at 0 = word_from x at 0 at at (omega arith) (omega arith) (omega arith) (omega arith) (omega arith) in
-    let second : get_or z (at + 1) 0 ≡ get_or x (at + 13) 0 = word_from x at 1 (at + 1) (at + 13) (omega arith) (omega arith) refl (omega arith) refl in
+    let first : get_or z at 0 ≡ get_or x at 0 = word_from x at 0 at at (omega arith) (omega arith) (omega arith)
+    (omega arith) (omega arith) in
+    let second : get_or z (at + 1) 0 ≡ get_or x (at + 13) 0 = word_from x at 1 (at + 1) (at + 13) (omega arith)
+    (omega arith) refl (omega arith) refl in
     let number = integerify_low z at k (omega arith) (omega arith) (omega arith) (rw first low) (rw second high) in
     c.low_bits.ensures.value ∙ sym (number ∙ ap₂ (λ u w. (u + 2 ^ 32 * w) % 2 ^ k) first second)

@@ -15,7 +15,8 @@ loop-i-preserved c password salt derived k h inside =
     let most : size ≡ min (length out - 32 * i) 32 = omega (arith, c.min-size.ensures) in
     let ys = c.copy_from_slice.new.self in
     elim (cases_lt k (32 * i)) [
-      | inl lt ↦ put_below (32 * i) (32 * i + size - 32 * i) out ys k lt (omega arith) ∙ c.loop-i.invariant password salt derived k lt inside
+      | inl lt ↦ put_below (32 * i) (32 * i + size - 32 * i) out ys k lt (omega arith)
+          ∙ c.loop-i.invariant password salt derived k lt inside
       | inr ge ↦
           let made = c.finish-block.ensures password salt derived.hmac
           ∙ ap (λ z. hmac_sha256 password (salt ++ z)) c.to_be_bytes-number.ensures in

@@ -39,7 +39,8 @@ rows-preserved c =
       other_room = omega (arith, c.rows.invariant.other_room, c.append_mix_pair.ensures.other_room);
       held = more_rows pivot inverse_pivot diagonal_inverse _ words _ size 1 m c.requires.some c.requires.whole c.rows.invariant.held
           (c.append_mix_pair.ensures.words ∙ ap (λ z. words ++ diagonal_order z) (row_one (standard_order (part size words m))));
-      other_held = more_rows pivot inverse_pivot diagonal_inverse _ other _ size 1 m c.requires.some c.requires.whole c.rows.invariant.other_held
+      other_held = more_rows pivot inverse_pivot diagonal_inverse _ other _ size 1 m c.requires.some c.requires.whole
+          c.rows.invariant.other_held
           (c.append_mix_pair.ensures.other_words ∙ ap (λ z. other ++ diagonal_order z) (row_one (standard_order (part size other m))));
       all = c.append_mix_pair.ensures.all ∙ omega (arith, c.rows.invariant.all);
       lanes = c.append_mix_pair.ensures.lanes ∙ omega (arith, c.rows.invariant.lanes);
@@ -52,7 +53,8 @@ returns-clause-last c =
     let k : ℕ = 1 * 2 ^ c.args.log_n % 2 ^ 64 - 1 in
     let last : k ≡ m = omega arith in
     c.mix_pair.ensures.value
-    ∙ row_after_last pivot inverse_pivot diagonal_inverse (standard_order c.args.x.now) (buffer_words c.rows.rows) c.part.result.now size m (2 ^ c.args.log_n)
+    ∙ row_after_last pivot inverse_pivot diagonal_inverse (standard_order c.args.x.now) (buffer_words c.rows.rows)
+    c.part.result.now size m (2 ^ c.args.log_n)
     c.requires.whole c.rows.invariant.held
     (c.part.ensures.value ∙ ap (λ z. part size z k) c.words.ensures.value ∙ ap (part size (buffer_words c.rows.rows)) last)
     (all_rows c.args.log_n m c.requires.small (sym last))
@@ -64,7 +66,8 @@ returns-clause-other_last c =
     let k : ℕ = 1 * 2 ^ c.args.log_n % 2 ^ 64 - 1 in
     let last : k ≡ m = omega arith in
     c.mix_pair.ensures.other_value
-    ∙ row_after_last pivot inverse_pivot diagonal_inverse (standard_order c.args.other_x.now) (buffer_words c.rows.other_rows) c.part-2.result.now size m (2 ^ c.args.log_n)
+    ∙ row_after_last pivot inverse_pivot diagonal_inverse (standard_order c.args.other_x.now)
+    (buffer_words c.rows.other_rows) c.part-2.result.now size m (2 ^ c.args.log_n)
     c.requires.whole c.rows.invariant.other_held
     (c.part-2.ensures.value ∙ ap (λ z. part size z k) c.words-2.ensures.value ∙ ap (part size (buffer_words c.rows.other_rows)) last)
     (all_rows c.args.log_n m c.requires.small (sym last))

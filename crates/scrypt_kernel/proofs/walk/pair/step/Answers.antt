@@ -14,7 +14,8 @@ returns-clause-value c b k keeps is =
     let j = c.integerify_diagonal.ensures in
     c.mix_pair.ensures.value
     ∙ step_with_kept_row pivot inverse_pivot diagonal_inverse b c.args.log_n k (length c.args.x.now) c.args.v.now c.args.x.now
-    c.part-taken.result.now c.integerify_diagonal.result refl (omega arith) c.requires.rows keeps is j.value j.inside c.part-taken.ensures.value
+    c.part-taken.result.now c.integerify_diagonal.result refl (omega arith) c.requires.rows keeps is j.value j.inside
+    c.part-taken.ensures.value
 
 pub mix_pair-requires-clause-other_same : goal.mix_pair-requires-clause-other_same
 mix_pair-requires-clause-other_same c =
@@ -25,4 +26,5 @@ returns-clause-other_value c b k keeps is =
     let j = c.integerify_diagonal-2.ensures in
     c.mix_pair.ensures.other_value
     ∙ step_with_kept_row pivot inverse_pivot diagonal_inverse b c.args.log_n k (length c.args.x.now) c.args.other_v.now c.args.other_x.now
-    c.part-other_taken.result.now c.integerify_diagonal-2.result c.requires.other_x (omega arith) c.requires.other_rows keeps is j.value j.inside c.part-other_taken.ensures.value
+    c.part-other_taken.result.now c.integerify_diagonal-2.result c.requires.other_x (omega arith) c.requires.other_rows
+    keeps is j.value j.inside c.part-other_taken.ensures.value

@@ -45,7 +45,8 @@ returns-then-log_n-eq0 c =
       walked = λ b starts.
           rw (← single) (c.copy_from_slice.ensures.after ∙ c.step.ensures.value b 0 (at_length starts.rows refl refl) (starts.start));
       other_walked = λ b starts.
-          rw (← single) (c.copy_from_slice-then-log_n-eq0.ensures.after ∙ c.step.ensures.other_value b 0 (at_length starts.rows c.requires.other_x refl) (starts.start));
+          rw (← single) (c.copy_from_slice-then-log_n-eq0.ensures.after
+          ∙ c.step.ensures.other_value b 0 (at_length starts.rows c.requires.other_x refl) (starts.start));
       all = rw (← single) (c.step.ensures.all ∙ omega arith);
       lanes = rw (← single) (c.step.ensures.lanes ∙ omega arith);
     }
@@ -54,7 +55,8 @@ pub returns : goal.returns
 returns c =
     let half : ℕ = c.args.log_n - 1 in
     let shifted = one_shl half 64 (omega arith) in
-    let double : 2 ^ c.args.log_n ≡ 2 ^ 1 * 2 ^ half = let parts : c.args.log_n ≡ 1 + half = omega arith in ap (λ n. 2 ^ n) parts ∙ pow-add 2 1 half in
+    let double : 2 ^ c.args.log_n ≡ 2 ^ 1 * 2 ^ half = let parts : c.args.log_n ≡ 1 + half = omega arith in
+    ap (λ n. 2 ^ n) parts ∙ pow-add 2 1 half in
     let whole : 2 * c.pairs._k ≡ 2 ^ c.args.log_n = omega (arith, shifted, double) in
     rw (← whole) (record {
       walked = c.pairs.invariant.walked;

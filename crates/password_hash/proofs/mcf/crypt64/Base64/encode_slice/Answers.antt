@@ -3,14 +3,16 @@ use Rattle.password_hash.specs.Crypt64.{encoded_len}
 use Rattle.password_hash.proofs.Crypt64Facts.{letter_done, set-after}
 use Rattle.password_hash.proofs.GroupFacts.{length-crypt64_of, letters-inside}
 use Rattle.password_hash.proofs.mcf.crypt64.Base64.encode_slice.Goals as goal
-use Rattle.password_hash.proofs.mcf.crypt64.Base64.encode_slice.Goals.{In-Some, then-out-n-via-then-out-n, then-out-n-via-else-out-n+then-out-n-2}
+use Rattle.password_hash.proofs.mcf.crypt64.Base64.encode_slice.Goals.{In-Some, then-out-n-via-then-out-n}
+use Rattle.password_hash.proofs.mcf.crypt64.Base64.encode_slice.Goals.{then-out-n-via-else-out-n+then-out-n-2}
 
 pub returns-then-out-n-clause-exact : goal.returns-then-out-n-clause-exact
 returns-then-out-n-clause-exact c = (
   λ wrong. absurd (cc),
   λ room. elim c.then-out-n.branch [
     | then-out-n-via-then-out-n w ↦ absurd (omega (arith, length-crypt64_of c.args.bytes.now, w.if-out-n.true))
-    | then-out-n-via-else-out-n+then-out-n-2 w ↦ absurd (omega (arith, length-crypt64_of c.args.bytes.now, w.if-out-n.false, w.if-out-n-2.true, w.div_ceil.ensures))
+    | then-out-n-via-else-out-n+then-out-n-2 w ↦
+        absurd (omega (arith, length-crypt64_of c.args.bytes.now, w.if-out-n.false, w.if-out-n-2.true, w.div_ceil.ensures))
   ],
 )
 

@@ -10,16 +10,29 @@ use Rattle.password_hash.proofs.mcf.field.Field.base64_matches_at.Goals.{After-a
 inside : (c : After-as_bytes-letters) → c.args.at / 3 * 4 + encoded_len (length c.args.bytes.now) ≤ length c.as_bytes-letters.result.now
 inside c =
     let piece = c.requires.piece in
-    omega (arith, piece_inside piece.0 (field_text c.args.self.now) c.args.at (length c.args.bytes.now) piece.1 piece.2, ap length c.as_bytes-letters.ensures.value)
+    omega (
+      arith,
+      piece_inside piece.0 (field_text c.args.self.now) c.args.at (length c.args.bytes.now) piece.1 piece.2,
+      ap length c.as_bytes-letters.ensures.value,
+    )
 
 pub overflow_mul-from : goal.overflow_mul-from
 overflow_mul-from c = omega (arith, inside (goal.at.overflow_mul-from c).After-as_bytes-letters, c.as_bytes-letters.type_inv)
 
 pub overflow_add-from : goal.overflow_add-from
-overflow_add-from c = omega (arith, inside (goal.at.overflow_add-from c).After-as_bytes-letters, c.as_bytes-letters.type_inv, c.encoded_len-len.ensures.len)
+overflow_add-from c = omega (
+  arith,
+  inside (goal.at.overflow_add-from c).After-as_bytes-letters,
+  c.as_bytes-letters.type_inv,
+  c.encoded_len-len.ensures.len,
+)
 
 pub slice_bounds-is_encoding-end : goal.slice_bounds-is_encoding-end
-slice_bounds-is_encoding-end c = omega (arith, inside (goal.at.slice_bounds-is_encoding-end c).After-as_bytes-letters, c.encoded_len-len.ensures.len)
+slice_bounds-is_encoding-end c = omega (
+  arith,
+  inside (goal.at.slice_bounds-is_encoding-end c).After-as_bytes-letters,
+  c.encoded_len-len.ensures.len,
+)
 
 pub returns : goal.returns
 returns c = record {

@@ -1,7 +1,8 @@
 use Rattle.std.proofs.Common.{◌≡◌, ◌∙◌, sym, arith, length, take, drop}
 use Rattle.password_hash.proofs.GroupFacts.{cut_at, le_number, refuses, is_group, begins_with_group}
 use Rattle.password_hash.proofs.mcf.group.Group.split_first.Goals as goal
-use Rattle.password_hash.proofs.mcf.group.Group.split_first.Goals.{After-split_at, then-len-eq0-via-then-len-eq0, then-len-eq0-via-else-len-eq0+then-number-len-ne0}
+use Rattle.password_hash.proofs.mcf.group.Group.split_first.Goals.{After-split_at, then-len-eq0-via-then-len-eq0}
+use Rattle.password_hash.proofs.mcf.group.Group.split_first.Goals.{then-len-eq0-via-else-len-eq0+then-number-len-ne0}
 
 cut : (c : After-split_at) → (c.split_at.result.0.now ≡ take 4 c.args.letters.now) × (c.split_at.result.1.now ≡ drop 4 c.args.letters.now)
 cut c =
@@ -29,4 +30,5 @@ returns-clause-split c =
     let at = (goal.at.returns-clause-split c).After-split_at in
     rw c.to_le_bytes-bytes.ensures
     (begins_with_group _ _ _ _ (cut at).0 (cut at).1
-    (is_group _ c.in_ok-number.number c.saturating_sub-len.result (sym c.in_ok-number.ensures.value) (omega arith) (omega arith) (omega arith) c.if-number-len-ne0.false))
+    (is_group _ c.in_ok-number.number c.saturating_sub-len.result (sym c.in_ok-number.ensures.value) (omega arith)
+    (omega arith) (omega arith) c.if-number-len-ne0.false))

@@ -4,5 +4,6 @@ use Rattle.password_hash.proofs.mcf.hash.PasswordHash.push_base64.Goals as goal
 
 pub returns-clause-err : goal.returns-clause-err
 returns-clause-err c =
-    let field : IsField c.as_str.result.now = rw (c.as_str.ensures.value, c.in_ok-letters.ensures.ok) (IsField-crypt64_of c.args.bytes.now) in
+    let field : IsField c.as_str.result.now = rw (c.as_str.ensures.value, c.in_ok-letters.ensures.ok)
+    (IsField-crypt64_of c.args.bytes.now) in
     only_memory c.push_str.result (λ wrong. c.push_str.ensures.invalid.0 wrong field)

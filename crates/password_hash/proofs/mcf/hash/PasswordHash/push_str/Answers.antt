@@ -8,5 +8,11 @@ pub invariant_of-self-2 : goal.invariant_of-self-2
 invariant_of-self-2 c =
     let before = string_bytes c.self.inside.text in
     let written : string_bytes c.push_str.new.self ≡ before ++ dollar ∷ c.args.field.now =
-    rw (c.in_ok-push_str.ensures.bytes, c.in_ok-push.ensures.bytes, c.in_ok-reserve.ensures.bytes, append_assoc, c.in_ok-push.ensures.ascii (lit< tt)) refl in
+    rw (
+      c.in_ok-push_str.ensures.bytes,
+      c.in_ok-push.ensures.bytes,
+      c.in_ok-reserve.ensures.bytes,
+      append_assoc,
+      c.in_ok-push.ensures.ascii (lit< tt),
+    ) refl in
     IsMcfText-pushed before _ c.args.field.now written c.self.invariant (c.is_field.ensures.0 c.if-not-is_field.false)

@@ -18,5 +18,6 @@ loop-ident-preserved c =
 pub returns-clause-none : goal.returns-clause-none
 returns-clause-none c =
     let seen = map item_pair c.loop-ident.yielded in
-    let all : c.args.self.now ≡ seen = sym (sym (append-nil seen) ∙ ap (λ rest. seen ++ rest) (sym c.in-None.ensures.steps.0) ∙ c.loop-ident.invariant.rest) in
+    let all : c.args.self.now ≡ seen =
+    sym (sym (append-nil seen) ∙ ap (λ rest. seen ++ rest) (sym c.in-None.ensures.steps.0) ∙ c.loop-ident.invariant.rest) in
     All-same (λ pair. pair.0 ≢ c.args.name.now) c.args.self.now seen all c.loop-ident.invariant.others

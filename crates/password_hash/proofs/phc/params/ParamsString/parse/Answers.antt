@@ -11,9 +11,12 @@ use Rattle.password_hash.proofs.ParamsFacts.{no_pairs, pieces_of_text, same_pair
 use Rattle.password_hash.proofs.phc.params.ParamsString.parse.Goals as goal
 
 -- one more pair, and the piece that it was read from
-read_more : (params : List (List ℕ × List ℕ)) (pieces : List (Bor (List ℕ))) (pair : List ℕ × List ℕ) (piece : Bor (List ℕ)) → map pair_text params ≡ map (λ p. p.now) pieces → pair_text pair ≡ piece.now → map pair_text (params ++ pair ∷ []) ≡ map (λ p. p.now) (pieces ++ piece ∷ [])
+read_more : (params : List (List ℕ × List ℕ)) (pieces : List (Bor (List ℕ))) (pair : List ℕ × List ℕ)
+    (piece : Bor (List ℕ)) → map pair_text params ≡ map (λ p. p.now) pieces → pair_text pair ≡ piece.now
+    → map pair_text (params ++ pair ∷ []) ≡ map (λ p. p.now) (pieces ++ piece ∷ [])
 read_more params pieces pair piece before last =
-    map_push pair_text params pair ∙ ap (λ texts. texts ++ pair_text pair ∷ []) before ∙ ap (λ text. map (λ p. p.now) pieces ++ text ∷ []) last ∙ sym (map_push (λ p. p.now) pieces piece)
+    map_push pair_text params pair ∙ ap (λ texts. texts ++ pair_text pair ∷ []) before
+    ∙ ap (λ text. map (λ p. p.now) pieces ++ text ∷ []) last ∙ sym (map_push (λ p. p.now) pieces piece)
 
 pub returns-then-is_empty-clause-only : goal.returns-then-is_empty-clause-only
 returns-then-is_empty-clause-only c = λ pairs h e.
@@ -23,10 +26,14 @@ returns-then-is_empty-clause-only c = λ pairs h e.
 pub loop-pair-preserved : goal.loop-pair-preserved
 loop-pair-preserved c =
     let after = c.in_ok-add.ensures.exact.0 refl in
-    let piece = last_read c.loop-pair.params c.cut.result.0.now c.cut.result.1.now c.in-Some.pair.now c.cut.ensures.before c.cut.ensures.after after in
+    let piece = last_read c.loop-pair.params c.cut.result.0.now c.cut.result.1.now c.in-Some.pair.now
+    c.cut.ensures.before c.cut.ensures.after after in
     record {
       pairs = rw c.in_ok-add.ensures.ok after;
-      read = rw (c.in_ok-add.ensures.ok) (read_more c.loop-pair.params c.loop-pair.yielded (c.cut.result.0.now, c.cut.result.1.now) c.in-Some.pair c.loop-pair.invariant.read piece);
+      read = rw (c.in_ok-add.ensures.ok) (read_more c.loop-pair.params c.loop-pair.yielded (
+        c.cut.result.0.now,
+        c.cut.result.1.now,
+      ) c.in-Some.pair c.loop-pair.invariant.read piece);
     }
 
 pub returns-in_err-add-clause-only : goal.returns-in_err-add-clause-only

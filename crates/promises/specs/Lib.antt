@@ -1,0 +1,2 @@
+-- the verdict on a text within limits, in memory that is allocated
+pub mod Within

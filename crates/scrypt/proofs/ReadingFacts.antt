@@ -1,0 +1,182 @@
+-- What follows from the reading of a hash: the verdict, and the memory that is left.
+use Rattle.std.proofs.Common.{◌≡◌, ◌↔◌, ◌≢◌, ◌⊎◌, ◌∙◌, ℕ, ◌≤◌, List, length, Ok, Err, inl, inr, true, false, refl, sym, ap, arith}
+use Rattle.std.specs.Prelude.{Bool, Result, if◌then◌else◌, nat_le, ⊤}
+use Rattle.std.specs.Bool.{Decides}
+use Rattle.std.proofs.lemmas.Bool.Decides.{Decides-and, nat_tests, same_from_decides}
+use Rattle.std.proofs.lemmas.Slice.Eq.{bytes_eq-Decides}
+use Rattle.password_hash.specs.Refusal.{Refusal, OutOfMemory, PasswordInvalid}
+use Rattle.password_hash.specs.declared.error.Error.{Error}
+use Rattle.password_hash.specs.declared.error.Error.TheVariants as error
+use Rattle.scrypt.specs.Accepted.{Parameters, without_len}
+use Rattle.scrypt.specs.Cost.{chunks_bytes, scratch_words, table_words}
+use Rattle.scrypt.specs.Hashing.{key_len_or_default}
+use Rattle.scrypt.specs.KeyOfParams.{key_by}
+use Rattle.scrypt.proofs.AcceptedFacts.{not_true, ok_if}
+use Rattle.scrypt.proofs.KeyFacts.{length-key_by}
+use Rattle.std.proofs.lemmas.Bool.{le-ltb}
+use Rattle.scrypt.specs.Reading.{ReadError, Algorithm, Stored, is_below, is_right, mapped, reported, told, verdict, weaker}
+use Rattle.scrypt.specs.InBuffers.{AreEnough}
+use Rattle.scrypt.specs.Limits.{are_within}
+use Rattle.scrypt.specs.WithinLimits.{BoundedRefusal, IsLeftWithin, KeyTooShort, TooCostly, unbounded, verdict_within, within}
+use Rattle.scrypt.specs.declared.limits.Limits.{Limits}
+use Rattle.scrypt.specs.WorkInBuffers.{IsDone, IsLeft, IsVerifying, Work, has_room, verdict_in}
+
+-- reading is refused neither as a wrong password nor for memory
+
+pub otherwise : {A : Type 0} (reading : Result A ReadError)
+    → (reported reading ≢ Err PasswordInvalid) × (reported reading ≢ Err OutOfMemory)
+otherwise (Ok x) = (λ is. absurd cc, λ is. absurd cc)
+otherwise (Err Algorithm) = (λ is. absurd cc, λ is. absurd cc)
+otherwise (Err _) = (λ is. absurd cc, λ is. absurd cc)
+
+-- nor is a part of what was read
+pub part_otherwise : {A B : Type 0} (f : A → B) (reading : Result A Refusal) → (reading ≢ Err PasswordInvalid) × (reading ≢ Err OutOfMemory)
+    → (mapped f reading ≢ Err PasswordInvalid) × (mapped f reading ≢ Err OutOfMemory)
+part_otherwise f (Ok x) other = (λ is. absurd cc, λ is. absurd cc)
+part_otherwise f (Err why) other = (λ is. other.0 cc, λ is. other.1 cc)
+
+-- what was read without an error
+pub reported_ok : {A : Type 0} (reading : Result A ReadError) {x : A} → reported reading ≡ Ok x → reading ≡ Ok x
+reported_ok (Ok y) is = ap Ok cc
+reported_ok (Err why) is = absurd cc
+
+-- the password is right exactly if the stored key is its key
+pub right_decided : (password : List ℕ) (s : Stored)
+    → Decides (is_right password s) (s.key ≡ key_by s.params password s.salt (length s.key))
+unfolding is_right
+right_decided password s = bytes_eq-Decides s.key (key_by s.params password s.salt (length s.key))
+
+pub told_right : (password : List ℕ) (s : Stored) (same : Bool) → (same ≡ true → s.key ≡ key_by s.params password s.salt (length s.key))
+    × (s.key ≡ key_by s.params password s.salt (length s.key) → same ≡ true) → same ≡ is_right password s
+told_right password s same tells = same_from_decides same (is_right password s) tells (right_decided password s)
+
+-- the verdict, if it is known whether the password is right
+abbrev pub by_right : Bool → Result ⊤ Refusal
+by_right right = if right then Ok tt else Err PasswordInvalid
+
+-- the keys that a verdict compared
+
+pub verdict_right : (password : List ℕ) (reading : Result Stored Refusal) → (verdict password reading ≡ Ok tt)
+    ↔ ((s : Stored) × (reading ≡ Ok s) × (s.key ≡ key_by s.params password s.salt (length s.key)))
+verdict_right password reading = (there reading, λ h. ap (verdict password) h.1 ∙ rw ((right_decided password h.0).1 h.2) refl)
+  where
+    there : (reading : Result Stored Refusal) → verdict password reading ≡ Ok tt
+        → (s : Stored) × (reading ≡ Ok s) × (s.key ≡ key_by s.params password s.salt (length s.key))
+    there (Ok s) is = (s, refl, (right_decided password s).0 (ok_if (is_right password s) (Ok tt) PasswordInvalid is).0)
+    there (Err why) is = absurd cc
+
+pub verdict_wrong : (password : List ℕ) (reading : Result Stored Refusal) → verdict password reading ≡ Err PasswordInvalid
+    → ((s : Stored) × (reading ≡ Ok s) × (s.key ≢ key_by s.params password s.salt (length s.key))) ⊎ (reading ≡ Err PasswordInvalid)
+verdict_wrong password (Err why) is = let same : why ≡ PasswordInvalid = cc in inr (ap Err same)
+verdict_wrong password (Ok s) is =
+    inl (s, refl, λ same. let right : ◌≡◌ {A = Result ⊤ Refusal} (Ok tt) (Err PasswordInvalid) = sym (right_is_told same) ∙ is in absurd cc)
+  where
+    right_is_told : s.key ≡ key_by s.params password s.salt (length s.key) → verdict password (Ok s) ≡ Ok tt
+    right_is_told same = rw ((right_decided password s).1 same) refl
+
+-- a key that was derived from a password accepts it
+pub made_right : (c : Parameters) (password salt : List ℕ)
+    → verdict password (Ok (record { params = without_len c; salt = salt; key = key_by c password salt (key_len_or_default c) })) ≡ Ok tt
+made_right c password salt =
+    (verdict_right password _).1 (_, refl, ap (key_by c password salt) (sym (length-key_by c password salt (key_len_or_default c))))
+
+-- and is not weaker than its parameters ask for
+pub not_weaker : (c : Parameters) (salt key : List ℕ) → length key ≡ key_len_or_default c
+    → weaker c (Ok (record { params = without_len c; salt = salt; key = key })) ≡ Ok false
+unfolding is_below
+not_weaker c salt key long =
+    let same = λ (n : ℕ). le-ltb n n (omega arith) in
+    rw (same c.log_n, same c.r, same c.p, le-ltb (length key) (key_len_or_default c) (omega arith)) refl
+
+-- the test of the buffers
+pub room_decided : (c : Parameters) (w : Work) → Decides (has_room c w)
+    ((chunks_bytes c.r c.p ≤ length w.chunks) × ((table_words c.log_n c.r ≤ length w.table) × (scratch_words c.r ≤ length w.scratch)))
+unfolding has_room
+room_decided c w =
+    Decides-and _ _ (leb_decided _ _) (Decides-and _ _ (leb_decided _ _) (leb_decided _ _))
+  where
+    leb_decided : (m n : ℕ) → Decides (nat_le m n) (m ≤ n)
+    leb_decided m n = grind (arith, nat_tests)
+
+pub room_enough : (c : Parameters) (w : Work) → AreEnough c w.chunks w.table w.scratch → has_room c w ≡ true
+room_enough c w enough = (room_decided c w).1 (enough.chunks_fit, (enough.table_fits, enough.scratch_fits))
+
+pub room_too_short : (c : Parameters) (w : Work) → ¬ AreEnough c w.chunks w.table w.scratch → has_room c w ≡ false
+room_too_short c w short = not_true (has_room c w) (λ is. let fits = (room_decided c w).0 is in
+    short (record { chunks_fit = fits.0; table_fits = fits.1.0; scratch_fits = fits.1.1 }))
+
+-- verifying in memory that is too short, or long enough
+
+pub no_room : (password : List ℕ) (s : Stored) (before : Work) → has_room s.params before ≡ false
+    → IsVerifying password (Ok s) (Err error.OutOfMemory) before before
+no_room password s before short = record { verdict = rw short refl; left = rw short refl }
+
+pub with_room : (password : List ℕ) (s : Stored) (out : Result ⊤ Error) (before after : Work) → has_room s.params before ≡ true
+    → told out ≡ verdict password (Ok s) → IsDone s.params before after → IsVerifying password (Ok s) out before after
+with_room password s out before after long is done = record { verdict = rw long is; left = rw long done }
+
+-- memory of the same lengths has the same verdict
+pub same_verdict : (w w' : Work) → length w.chunks ≡ length w'.chunks → length w.table ≡ length w'.table
+    → length w.scratch ≡ length w'.scratch
+    → (password : List ℕ) (reading : Result Stored Refusal) → verdict_in w password reading ≡ verdict_in w' password reading
+unfolding has_room
+same_verdict w w' chunks table scratch password (Ok s) = rw (chunks, table, scratch) refl
+same_verdict w w' chunks table scratch password (Err why) = refl
+
+-- within limits
+
+-- a hash whose parameters are refused
+pub too_costly : (limits : Limits) (reading : Result Stored Refusal) (c : Parameters) (n : ℕ)
+    → Ok (c, n) ≡ mapped {B = Parameters × ℕ} (λ s. (s.params, length s.key)) reading → are_within limits c ≡ false
+    → Err TooCostly ≡ mapped (λ s. s.params) (within limits reading)
+too_costly limits (Err why) c n is costly = absurd cc
+too_costly limits (Ok s) c n is costly =
+    let one : Parameters × ℕ = (c, n) in
+    let other : Parameters × ℕ = (s.params, length s.key) in
+    let pairs : one ≡ other = cc in
+    let same : c ≡ s.params = ap (λ (pair : Parameters × ℕ). pair.0) pairs in
+    let costs : are_within limits s.params ≡ false = ap (are_within limits) (sym same) ∙ costly in
+    rw costs refl
+
+-- a hash that is refused
+pub refused_within : (limits : Limits) (password : List ℕ) (w : Work) (reading : Result Stored Refusal) (why : BoundedRefusal)
+    → Err why ≡ mapped (λ s. s.params) (within limits reading)
+    → (Err why ≡ verdict_within w password (within limits reading)) × IsLeftWithin (within limits reading) w w
+refused_within limits password w reading why is = at (within limits reading) is
+  where
+    at : (bounded : Result Stored BoundedRefusal) → Err why ≡ mapped (λ s. s.params) bounded
+        → (Err why ≡ verdict_within w password bounded) × IsLeftWithin bounded w w
+    at (Ok s) is = absurd cc
+    at (Err other) is = (let same : why ≡ other = cc in ap Err same, refl)
+
+-- a hash that is not is read as it is without limits
+within_is : (limits : Limits) (reading : Result Stored Refusal) (s : Stored) → within limits reading ≡ Ok s → reading ≡ Ok s
+within_is limits (Err why) s is = absurd cc
+within_is limits (Ok read) s is = at (are_within limits read.params) (nat_le limits.least_key_len (length read.key)) is
+  where
+    at : (cheap long : Bool)
+        → if◌then◌else◌ {A = Result Stored BoundedRefusal} cheap (if◌then◌else◌ {A = Result Stored BoundedRefusal} long
+        (Ok read) (Err KeyTooShort)) (Err TooCostly) ≡ Ok s
+        → ◌≡◌ {A = Result Stored Refusal} (Ok read) (Ok s)
+    at true true is = let same : read ≡ s = cc in ap (λ z. Ok z) same
+    at true false is = absurd cc
+    at false long is = absurd cc
+
+pub allowed_within : (limits : Limits) (password : List ℕ) (before after : Work) (reading : Result Stored Refusal) (c : Parameters)
+    (out : Result ⊤ Refusal) → Ok c ≡ mapped (λ s. s.params) (within limits reading)
+    → out ≡ verdict_in before password reading → IsLeft reading before after
+    → (unbounded out ≡ verdict_within before password (within limits reading)) × IsLeftWithin (within limits reading) before after
+allowed_within limits password before after reading c out is told left = at (within limits reading) refl is
+  where
+    at : (bounded : Result Stored BoundedRefusal) → within limits reading ≡ bounded → Ok c ≡ mapped (λ s. s.params) bounded
+        → (unbounded out ≡ verdict_within before password bounded) × IsLeftWithin bounded before after
+    at (Ok s) same is =
+        let read = within_is limits reading s same in
+        (ap unbounded (rw read at told), rw read at left)
+    at (Err why) same is = absurd cc
+
+pub same_verdict_within : (w w' : Work) → length w.chunks ≡ length w'.chunks → length w.table ≡ length w'.table
+    → length w.scratch ≡ length w'.scratch
+    → (password : List ℕ) (reading : Result Stored BoundedRefusal) → verdict_within w password reading ≡ verdict_within w' password reading
+same_verdict_within w w' chunks table scratch password (Ok s) = ap unbounded (same_verdict w w' chunks table scratch password (Ok s))
+same_verdict_within w w' chunks table scratch password (Err why) = refl

@@ -1,0 +1,13 @@
+use Rattle.std.proofs.Common.{◌≡◌, ◌+◌, ◌*◌}
+use Rattle.scrypt.specs.Cost.{ro_mix_cost}
+use Rattle.scrypt.proofs.KeyFacts.{AreMixed}
+use Rattle.scrypt.proofs.derivation.pairs.mix_chunk_pairs.Given as goal
+
+abbrev pub invariant-pairs : goal.invariant-pairs
+invariant-pairs l =
+    let cores = ro_mix_cost l.params.log_n l.params.r * (2 * l.k) in
+    record {
+      mixed : AreMixed l.initial.chunks l.params.log_n l.params.r (2 * l.k) l.chunks;
+      all : l.cores.all ≡ l.initial.cores.all + cores;
+      lanes : l.cores.lanes ≡ l.initial.cores.lanes + cores;
+    }

@@ -1,0 +1,9 @@
+use Rattle.std.proofs.Common.{rules}
+use Rattle.scrypt.specs.Hashing.{by_memory}
+use Rattle.scrypt.proofs.mcf.hashing.hash_with_buffers.Goals as goal
+
+pub returns-then-text-len-clause-err : goal.returns-then-text-len-clause-err
+returns-then-text-len-clause-err c = search (rules, by_memory)
+
+pub returns-in_default-clause-err : goal.returns-in_default-clause-err
+returns-in_default-clause-err c = search (rules, by_memory)

@@ -1,0 +1,9 @@
+use Rattle.std.proofs.Common.{rules}
+use Rattle.scrypt.specs.Hashing.{by_memory, by_salt}
+use Rattle.scrypt.proofs.phc.hashing.hash_with_buffers.Goals as goal
+
+pub returns-in_default-clause-err : goal.returns-in_default-clause-err
+returns-in_default-clause-err c = search (rules, by_salt)
+
+pub returns-in_default-used_lens-clause-err : goal.returns-in_default-used_lens-clause-err
+returns-in_default-used_lens-clause-err c = search (rules, by_memory)

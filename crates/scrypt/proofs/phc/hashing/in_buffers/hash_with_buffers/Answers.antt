@@ -1,9 +1,0 @@
-use Rattle.std.proofs.Common.{rules}
-use Rattle.scrypt.specs.Hashing.{by_memory, by_salt}
-use Rattle.scrypt.proofs.phc.hashing.in_buffers.hash_with_buffers.Goals as goal
-
-pub returns-in_default-clause-err : goal.returns-in_default-clause-err
-returns-in_default-clause-err c = search (rules, by_salt)
-
-pub returns-then-not-are_enough-clause-err : goal.returns-then-not-are_enough-clause-err
-returns-then-not-are_enough-clause-err c = search (rules, by_memory)

@@ -1,0 +1,92 @@
+// Memory for the tables of a derivation: one that it allocates, or the caller's.
+
+ghost use Rattle.std.specs.Prelude.{◌≡◌, ℕ, ◌+◌, ◌≤◌, length};
+ghost use Rattle.std.specs.Vec.{vec_capacity};
+ghost use Rattle.scrypt.specs.Cost.{chunks_bytes, cost, scratch_words, table_words};
+ghost use Rattle.scrypt.specs.Key.{chunks_of};
+
+use crate::buffers::uses_two_tables;
+use crate::derivation::mix_chunks;
+use crate::derivation::pairs::mix_chunk_pairs;
+use crate::{BufferLens, CoreCount, Params};
+use scrypt_kernel::memory::Buffer;
+
+/// Memory for one table or more.
+pub(crate) trait Tables {
+    // how many words it has room for
+    ghost room: { Self → ℕ };
+
+    /// Steps 1 and 2 (RFC 7914, section 6): `chunks` becomes B after its chunks were mixed.
+    ///
+    /// There is room for at least one table in this memory, and for at least one scratch in
+    /// `scratch`.
+    fn mix(
+        &mut self,
+        password: &[u8],
+        salt: &[u8],
+        params: &Params,
+        chunks: &mut [u8],
+        scratch: &mut [u32],
+        cores: &mut CoreCount,
+    )
+        requires chunks { length chunks.old ≡ chunks_bytes params.now.r params.now.p }
+        requires room { table_words params.now.log_n params.now.r ≤ room self.old }
+        requires scratch { scratch_words params.now.r ≤ length scratch.old }
+        ensures value { chunks.new ≡ chunks_of password.now salt.now
+            params.now.log_n params.now.r params.now.p }
+        ensures all { cores.new.all ≡ cores.old.all
+            + cost params.now.log_n params.now.r params.now.p }
+        ensures lanes { cores.new.lanes ≡ cores.old.lanes
+            + cost params.now.log_n params.now.r params.now.p };
+}
+
+/// One table, which grows within the capacity of the vector.
+impl Tables for Vec<u32> {
+    ghost room = { λ table. vec_capacity table };
+
+    fn mix(
+        &mut self,
+        password: &[u8],
+        salt: &[u8],
+        params: &Params,
+        chunks: &mut [u8],
+        scratch: &mut [u32],
+        cores: &mut CoreCount,
+    ) {
+        mix_chunks::<Vec<u32>>(password, salt, params, 0, chunks, self, scratch, cores);
+    }
+}
+
+/// The caller's buffer: two chunks are mixed at a time if there is room for two tables and for two
+/// scratches.
+impl<'a> Tables for &'a mut [u32] {
+    ghost room = { λ table. length table.now };
+
+    fn mix(
+        &mut self,
+        password: &[u8],
+        salt: &[u8],
+        params: &Params,
+        chunks: &mut [u8],
+        scratch: &mut [u32],
+        cores: &mut CoreCount,
+    ) {
+        let table = &mut **self;
+        if uses_two_tables(params, table, scratch) {
+            let (table, other_table) = table.split_at_mut(BufferLens::of(params).table);
+            mix_chunk_pairs(
+                password,
+                salt,
+                params,
+                chunks,
+                table,
+                other_table,
+                scratch,
+                cores,
+            );
+        } else {
+            let mut rows = Buffer::new(table);
+            mix_chunks::<Buffer<'_>>(password, salt, params, 0, chunks, &mut rows, scratch, cores);
+        }
+    }
+}

@@ -1,0 +1,112 @@
+//! What a call needs, within limits, before it allocates.
+
+ghost use Rattle.std.specs.Prelude.{◌≡◌, ◌≢◌, ◌↔◌, ◌⊎◌, IfOk, IsTrue};
+ghost use Rattle.scrypt.specs.Accepted.{AreAccepted};
+ghost use Rattle.scrypt.specs.Limits.{are_within};
+ghost use Rattle.scrypt.specs.StoredHash.{StoredText};
+ghost use Rattle.scrypt.specs.WithinLimits.{bounded_refusal, within};
+ghost use Rattle.scrypt_c.specs.Buffers.{AreBuffers};
+ghost use Rattle.scrypt_c.specs.Limits.{bounded_status, limits_of, needs_status, params_of};
+ghost use Rattle.scrypt_c.specs.Texts.{ReadsBytes};
+
+use crate::statuses::{INVALID_PARAMS, KEY_TOO_SHORT, OK, TOO_COSTLY, status_of};
+use crate::texts::stored_hash;
+use scrypt::{BoundedError, BufferLens, Limits, Params};
+
+/// Returns in `chunks_len` (bytes), `table_len` and `scratch_len` (words) the lengths of the buffers that verifying
+/// with this text needs. Does not allocate.
+///
+/// Returns `OK`, or the first of these, and then no length is written: the errors of `scrypt_verify` for a hash that
+/// cannot be read, `MISMATCH` for one without a salt or a key among them; `TOO_COSTLY` if the buffers have more than
+/// `most_bytes` bytes together, or if the work, `4 * (2^log_n + 32) * r * p`, is above `most_work`; and
+/// `KEY_TOO_SHORT` if the key has fewer than `least_key_len` bytes.
+#[unsafe(no_mangle)]
+pub extern "C" fn scrypt_hash_needs(
+    text: &[u8],
+    most_bytes: usize,
+    most_work: u64,
+    least_key_len: usize,
+    chunks_len: &mut usize,
+    table_len: &mut usize,
+    scratch_len: &mut usize,
+) -> i32
+    ensures status { (hash : StoredText) × ReadsBytes text.now hash
+        × (result ≡ needs_status (within (limits_of most_bytes most_work least_key_len) hash.whole)) }
+    ensures lens { (hash : StoredText) × ReadsBytes text.now hash
+        × IfOk (within (limits_of most_bytes most_work least_key_len) hash.whole)
+        (λ s. AreBuffers s.params.log_n s.params.r s.params.p 0 chunks_len.new table_len.new scratch_len.new) }
+    ensures refused { result ≢ OK
+        → (chunks_len.new ≡ chunks_len.old) × (table_len.new ≡ table_len.old) × (scratch_len.new ≡ scratch_len.old) }
+{
+    let hash = match stored_hash(text) {
+        Ok(hash) => hash,
+        Err(error) => return status_of(error),
+    };
+    let limits = Limits {
+        most_bytes,
+        most_work,
+        least_key_len,
+    };
+    match hash.buffer_lens_within(&limits) {
+        Ok(lens) => {
+            *chunks_len = lens.chunks;
+            *table_len = lens.table;
+            *scratch_len = lens.scratch;
+            OK
+        }
+        Err(error) => bounded_status(error),
+    }
+}
+
+/// Returns in `chunks_len` (bytes), `table_len` and `scratch_len` (words) the lengths of the buffers that a derivation
+/// with these parameters needs. Does not allocate.
+///
+/// Returns `OK`, or the first of these, and then no length is written: `INVALID_PARAMS` if the parameters are not
+/// accepted, and `TOO_COSTLY` as `scrypt_hash_needs` does.
+#[unsafe(no_mangle)]
+pub extern "C" fn scrypt_params_need(
+    log_n: u8,
+    r: u32,
+    p: u32,
+    most_bytes: usize,
+    most_work: u64,
+    chunks_len: &mut usize,
+    table_len: &mut usize,
+    scratch_len: &mut usize,
+) -> i32
+    ensures params { (result ≡ INVALID_PARAMS) ↔ (¬ AreAccepted log_n r p) }
+    ensures costly { (result ≡ TOO_COSTLY) ↔ (AreAccepted log_n r p
+        × (¬ IsTrue (are_within (limits_of most_bytes most_work 0) (params_of log_n r p)))) }
+    ensures status { (result ≡ OK) ⊎ (result ≡ INVALID_PARAMS) ⊎ (result ≡ TOO_COSTLY) }
+    ensures lens { result ≡ OK → AreBuffers log_n r p 0 chunks_len.new table_len.new scratch_len.new }
+    ensures refused { result ≢ OK
+        → (chunks_len.new ≡ chunks_len.old) × (table_len.new ≡ table_len.old) × (scratch_len.new ≡ scratch_len.old) }
+{
+    let Ok(params) = Params::new(log_n, r, p) else {
+        return INVALID_PARAMS;
+    };
+    let limits = Limits {
+        most_bytes,
+        most_work,
+        least_key_len: 0,
+    };
+    if !limits.allow(&params) {
+        return TOO_COSTLY;
+    }
+    let lens = BufferLens::of(&params);
+    *chunks_len = lens.chunks;
+    *table_len = lens.table;
+    *scratch_len = lens.scratch;
+    OK
+}
+
+// Returns the status of an error of verifying within limits.
+fn bounded_status(error: BoundedError) -> i32
+    ensures { result ≡ bounded_status (bounded_refusal error) }
+{
+    match error {
+        BoundedError::TooCostly => TOO_COSTLY,
+        BoundedError::KeyTooShort => KEY_TOO_SHORT,
+        BoundedError::Hash(error) => status_of(error),
+    }
+}

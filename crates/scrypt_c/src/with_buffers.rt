@@ -1,0 +1,184 @@
+//! Hashes in the caller's buffers.
+
+ghost use Rattle.std.specs.Prelude.{◌≡◌, ◌≢◌, ◌↔◌, ◌⊎◌, ◌<◌, ◌≤◌, length, replicate};
+ghost use Rattle.password_hash.specs.Refusal.{told};
+ghost use Rattle.scrypt.specs.Accepted.{AreAccepted, IsStoredLen};
+ghost use Rattle.scrypt.specs.InBuffers.{AreEnough};
+ghost use Rattle.scrypt.specs.McfHash.{IsMadeHash as IsMadeMcf, made_text_len};
+ghost use Rattle.scrypt.specs.PhcHash.{IsMadeText, IsSaltLen};
+ghost use Rattle.scrypt.specs.StoredHash.{StoredText};
+ghost use Rattle.scrypt.specs.WorkInBuffers.{verdict_in};
+ghost use Rattle.scrypt_c.specs.InBuffers.{AreLeft, AreUsed, buffers};
+ghost use Rattle.scrypt_c.specs.Made.{IsTooLong, IsWrittenTo, wanted};
+ghost use Rattle.scrypt_c.specs.Statuses.{buffers_status};
+ghost use Rattle.scrypt_c.specs.Texts.{ReadsBytes};
+
+use crate::statuses::{BUFFER_SIZE, INVALID_PARAMS, OK, SALT_INVALID, status_of};
+use crate::texts::{copy_to, stored_hash};
+use password_hash::{Error, Result};
+use scrypt::{CoreCount, Params, mcf, phc, wipe};
+
+/// Does what `scrypt_hash_phc` does, in the caller's buffers, and allocates nothing.
+///
+/// Returns `OK`, or the first of these: `INVALID_PARAMS` and `SALT_INVALID` as there; `BUFFER_SIZE`
+/// unless each buffer is at least as long as `scrypt_buffer_lens` returns for `log_n`, `r` and `p`,
+/// with `s` of 0, and then `text_len` is unchanged, however short `text` is; and `BUFFER_SIZE` if the
+/// new text is longer than `text`, and then `text_len` is its length. On any other error `text_len`
+/// is unchanged, and on every error `text` is. Only so many elements at the front of each buffer are
+/// used. After the derivation, with `OK` or a text that is too long, those of the chunks and of the
+/// scratch are zeros, those of the table are unspecified, and nothing after them has changed;
+/// otherwise the buffers are unchanged.
+#[unsafe(no_mangle)]
+pub extern "C" fn scrypt_hash_phc_with_buffers(
+    password: &[u8],
+    salt: &[u8],
+    log_n: u8,
+    r: u32,
+    p: u32,
+    key_len: usize,
+    text: &mut [u8],
+    text_len: &mut usize,
+    chunks: &mut [u8],
+    table: &mut [u32],
+    scratch: &mut [u32],
+) -> i32
+    ensures made { result ≡ OK → IsWrittenTo (IsMadeText (wanted log_n r p key_len) password.now salt.now)
+        text.old text.new text_len.new }
+    ensures params { (result ≡ INVALID_PARAMS) ↔ (¬ (AreAccepted log_n r p × IsStoredLen key_len)) }
+    ensures salt { (result ≡ SALT_INVALID)
+        ↔ (AreAccepted log_n r p × IsStoredLen key_len × ¬ IsSaltLen (length salt.now)) }
+    ensures buffers { result ≡ OK → AreEnough (wanted log_n r p key_len) chunks.old table.old scratch.old }
+    ensures size { result ≡ BUFFER_SIZE → AreEnough (wanted log_n r p key_len) chunks.old table.old scratch.old
+        → IsTooLong (IsMadeText (wanted log_n r p key_len) password.now salt.now) text.old text_len.new }
+    ensures status { (result ≡ OK) ⊎ (result ≡ INVALID_PARAMS) ⊎ (result ≡ SALT_INVALID) ⊎ (result ≡ BUFFER_SIZE) }
+    ensures used { (result ≡ OK) ⊎ (result ≡ BUFFER_SIZE)
+        → AreEnough (wanted log_n r p key_len) chunks.old table.old scratch.old → AreUsed (wanted log_n r p key_len)
+        (buffers chunks.old table.old scratch.old) (buffers chunks.new table.new scratch.new) }
+    ensures refused { result ≢ OK → text.new ≡ text.old }
+    ensures unchanged { (result ≡ INVALID_PARAMS) ⊎ (result ≡ SALT_INVALID)
+        ⊎ (¬ AreEnough (wanted log_n r p key_len) chunks.old table.old scratch.old)
+        → (text_len.new ≡ text_len.old) × (chunks.new ≡ chunks.old) × (table.new ≡ table.old)
+        × (scratch.new ≡ scratch.old) }
+{
+    let Ok(params) = Params::new_with_output_len(log_n, r, p, key_len) else {
+        return INVALID_PARAMS;
+    };
+    let mut cores = CoreCount::new();
+    match phc::hash_with_buffers(password, salt, &params, chunks, table, scratch, &mut cores) {
+        Ok(hash) => copy_to(hash.to_array_string().as_str(), text, text_len),
+        Err(error) => buffers_status(Err(error)),
+    }
+}
+
+/// Does what `scrypt_hash_mcf` does, in the caller's buffers, and allocates nothing.
+///
+/// Returns `OK`, or the first of these: `INVALID_PARAMS` as there; `BUFFER_SIZE` if the new text is
+/// longer than `text`, and then `text_len` is its length, however short the buffers are; and
+/// `BUFFER_SIZE` unless each buffer is at least as long as `scrypt_buffer_lens` returns for `log_n`,
+/// `r` and `p`, with `s` of 0. Unless the text is too long, an error leaves `text_len` unchanged, and
+/// every error leaves `text` and the buffers unchanged. Only so many elements at the front of each
+/// buffer are used. After `OK` those of the chunks and of the scratch are zeros, those of the table
+/// are unspecified, and nothing after them has changed.
+#[unsafe(no_mangle)]
+pub extern "C" fn scrypt_hash_mcf_with_buffers(
+    password: &[u8],
+    salt: &[u8],
+    log_n: u8,
+    r: u32,
+    p: u32,
+    key_len: usize,
+    text: &mut [u8],
+    text_len: &mut usize,
+    chunks: &mut [u8],
+    table: &mut [u32],
+    scratch: &mut [u32],
+) -> i32
+    ensures made { result ≡ OK → IsWrittenTo (IsMadeMcf (wanted log_n r p key_len) password.now salt.now)
+        text.old text.new text_len.new }
+    ensures params { (result ≡ INVALID_PARAMS) ↔ (¬ (AreAccepted log_n r p × IsStoredLen key_len)) }
+    ensures buffers { result ≡ OK → AreEnough (wanted log_n r p key_len) chunks.old table.old scratch.old }
+    ensures too_long { result ≡ BUFFER_SIZE
+        → length text.old < made_text_len (wanted log_n r p key_len) (length salt.now)
+        → IsTooLong (IsMadeMcf (wanted log_n r p key_len) password.now salt.now) text.old text_len.new }
+    ensures short { result ≡ BUFFER_SIZE
+        → made_text_len (wanted log_n r p key_len) (length salt.now) ≤ length text.old
+        → (¬ AreEnough (wanted log_n r p key_len) chunks.old table.old scratch.old) × (text_len.new ≡ text_len.old) }
+    ensures status { (result ≡ OK) ⊎ (result ≡ INVALID_PARAMS) ⊎ (result ≡ BUFFER_SIZE) }
+    ensures used { result ≡ OK → AreUsed (wanted log_n r p key_len)
+        (buffers chunks.old table.old scratch.old) (buffers chunks.new table.new scratch.new) }
+    ensures unchanged { result ≢ OK → (text.new ≡ text.old) × (chunks.new ≡ chunks.old) × (table.new ≡ table.old)
+        × (scratch.new ≡ scratch.old) }
+    ensures len { result ≡ INVALID_PARAMS → text_len.new ≡ text_len.old }
+{
+    let Ok(params) = Params::new_with_output_len(log_n, r, p, key_len) else {
+        return INVALID_PARAMS;
+    };
+    let mut cores = CoreCount::new();
+    let hashed = mcf::hash_with_buffers(
+        password, salt, &params, text, chunks, table, scratch, &mut cores,
+    );
+    match hashed {
+        Ok(len) => {
+            *text_len = len;
+            OK
+        }
+        Err(error) => {
+            let len = mcf::hash_len(&params, salt);
+            if text.len() < len {
+                *text_len = len;
+            }
+            buffers_status(Err(error))
+        }
+    }
+}
+
+/// Does what `scrypt_verify` does, in the caller's buffers, and allocates nothing.
+///
+/// Returns `OK` as there, or the first of these: the first error of `scrypt_verify` before it
+/// allocates; `BUFFER_SIZE` unless each buffer is at least as long as `scrypt_buffer_lens` returns
+/// for the parameters of the hash, with `s` of 0; and `MISMATCH` if it is another password. Only so
+/// many elements at the front of each buffer are used. If the keys are compared, those of the chunks
+/// and of the scratch are zeros afterwards, those of the table are unspecified, and nothing after
+/// them has changed; otherwise the buffers are unchanged.
+#[unsafe(no_mangle)]
+pub extern "C" fn scrypt_verify_with_buffers(
+    password: &[u8],
+    text: &[u8],
+    chunks: &mut [u8],
+    table: &mut [u32],
+    scratch: &mut [u32],
+) -> i32
+    ensures status { (hash : StoredText) × ReadsBytes text.now hash
+        × (result ≡ buffers_status (verdict_in (buffers chunks.old table.old scratch.old) password.now hash.whole)) }
+    ensures left { (hash : StoredText) × ReadsBytes text.now hash × AreLeft hash.whole
+        (buffers chunks.old table.old scratch.old) (buffers chunks.new table.new scratch.new) }
+{
+    let mut cores = CoreCount::new();
+    match stored_hash(text) {
+        Ok(hash) => buffers_status(hash.verify_with_buffers(
+            password, chunks, table, scratch, &mut cores,
+        )),
+        Err(error) => status_of(error),
+    }
+}
+
+/// Writes zeros to the buffers of a derivation.
+#[unsafe(no_mangle)]
+pub extern "C" fn scrypt_wipe(chunks: &mut [u8], table: &mut [u32], scratch: &mut [u32])
+    ensures chunks { chunks.new ≡ replicate (length chunks.old) 0 }
+    ensures table { table.new ≡ replicate (length table.old) 0 }
+    ensures scratch { scratch.new ≡ replicate (length scratch.old) 0 }
+{
+    wipe(chunks, table, scratch);
+}
+
+// Returns the status of the result of verifying in the caller's buffers.
+fn buffers_status(verified: Result<()>) -> i32
+    ensures { result ≡ buffers_status (told verified) }
+{
+    match verified {
+        Ok(()) => OK,
+        Err(Error::OutOfMemory) => BUFFER_SIZE,
+        Err(error) => status_of(error),
+    }
+}
