@@ -20,7 +20,7 @@ if [ "${1:-}" = short ]; then
   echo "called from Python"
   exit
 fi
-for test in test_hasher test_turns test_processes; do PYTHONWARNINGS=error run python3 $test; done
+for test in test_hasher test_bounds test_turns test_processes; do PYTHONWARNINGS=error run python3 $test; done
 echo "called from Python"
 
 # What the interpreter does with its own copies of the outputs is none of this: so that it doesn't save registers while it
@@ -48,6 +48,7 @@ if python3 -c 'import venv, ensurepip' 2> /dev/null; then
   python3 -m venv "$room/by_folder"
   "$room/by_folder/bin/pip" install --quiet --no-index ./bindings/python
   run "$room/by_folder/bin/python" test_hasher
+  run "$room/by_folder/bin/python" test_bounds
   python3 -m venv "$room/by_wheel"
   "$room/by_wheel/bin/pip" wheel --quiet --no-index --wheel-dir "$room/wheels" ./bindings/python
   "$room/by_wheel/bin/pip" install --quiet --no-index "$room"/wheels/*.whl

@@ -11,8 +11,9 @@
     if hasher.check_needs_rehash(text):
         ...                                   # store hasher.hash(password) in its place
 
-A hash from somebody else may ask for much memory and time: one that needs more than 256 MiB, or than four times the
-recommended work, is a TooCostlyError at once. Both bounds are arguments of PasswordHasher.
+An untrusted hash chooses its own cost: one that needs more than 256 MiB, or than four times the recommended work, is a
+TooCostlyError at once. Both bounds are arguments of PasswordHasher. A hash with a key of fewer than 16 bytes is a
+KeyTooShortError.
 
 `scrypt` is hashlib.scrypt by this library. While a key is derived the interpreter's lock is released.
 
@@ -21,31 +22,36 @@ or else the one inside this package, or else the one that the system's loader fi
 """
 
 from .arguments import Bytes, Password
+from .bounds import LEAST_KEY_LEN, MOST_BYTES, MOST_CORES, MOST_WORK
 from .calibration import calibrate
 from .errors import (
     InvalidHashError,
     InvalidOutputLenError,
     InvalidParamsError,
     InvalidSaltError,
+    KeyTooShortError,
     ScryptError,
     TooCostlyError,
     VerifyMismatchError,
 )
 from .hasher import PasswordHasher
 from .key import scrypt
-from .params import MOST_BYTES, MOST_CORES, RECOMMENDED, Params, params_of
+from .params import RECOMMENDED, Params, params_of
 
 __version__ = "0.12.0+proved.1"
 
 __all__ = [
+    "LEAST_KEY_LEN",
     "MOST_BYTES",
     "MOST_CORES",
+    "MOST_WORK",
     "RECOMMENDED",
     "Bytes",
     "InvalidHashError",
     "InvalidOutputLenError",
     "InvalidParamsError",
     "InvalidSaltError",
+    "KeyTooShortError",
     "Params",
     "Password",
     "PasswordHasher",

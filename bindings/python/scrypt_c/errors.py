@@ -27,7 +27,11 @@ class InvalidParamsError(ScryptError, ValueError):
 
 
 class TooCostlyError(ScryptError):
-    """The parameters need more memory, or more cores, than the bounds allow. Nothing was derived."""
+    """The parameters need more memory, or more work, than the bounds allow. Nothing was derived."""
+
+
+class KeyTooShortError(ScryptError):
+    """The key in the hash is shorter than the hasher allows: wrong passwords match it too often. Nothing was derived."""
 
 
 class InvalidSaltError(ScryptError, ValueError):
@@ -51,9 +55,10 @@ _ERRORS: dict[int, tuple[type[ScryptError], str, str]] = {
     10: (InvalidSaltError, "SCRYPT_SALT_INVALID", "a salt of a PHC hash has 1 to 64 bytes"),
     11: (InvalidHashError, "SCRYPT_VERSION", "the hash names a version, and scrypt has none"),
     13: (TooCostlyError, "SCRYPT_TOO_COSTLY", "the parameters need more than is allowed"),
+    15: (KeyTooShortError, "SCRYPT_KEY_TOO_SHORT", "the key in the hash is too short"),
 }
 
-OUT_OF_MEMORY, TOO_COSTLY = 4, 13
+OUT_OF_MEMORY, TOO_COSTLY, KEY_TOO_SHORT = 4, 13, 15
 
 
 def invalid_params(words: str) -> InvalidParamsError:

@@ -9,9 +9,10 @@ from typing import Any, Callable, Literal, Optional, Union
 
 from . import library
 from .arguments import Bytes, Password, number, raw_bytes, raw_password, raw_text, seconds
-from .errors import OUT_OF_MEMORY, TOO_COSTLY, check, invalid_params
+from .bounds import Bounds, named_work
+from .errors import OUT_OF_MEMORY, check, invalid_params
 from .memories import Memories
-from .params import MOST_BYTES, MOST_CORES, Params, accepted, check_derived, params_of, within
+from .params import Params, accepted, check_derived, params_of
 
 
 class PasswordHasher:
@@ -21,9 +22,12 @@ class PasswordHasher:
     default as many as there are processors; other threads wait for their turn, and after `timeout` seconds raise
     TimeoutError. Any number of threads may use a hasher.
 
-    A hash that needs more than `most_bytes` of memory or more than `most_cores` cores is refused before any work. By
-    default these are 256 MiB and the cores of four times the recommended parameters, or what new hashes need if that is
-    more. The hasher keeps the memory in which it verifies for the next time, at most `at_once` times `most_bytes`, until
+    A hash that needs more than `most_bytes` of memory, or whose `Params.work` is above `most_work`, is refused without
+    waiting. By default these are 256 MiB and four times the work of the recommended parameters, or what new hashes need
+    if that is more. A hash whose key has fewer than 16 bytes, or than `key_len` if that is less, is refused too.
+    `most_cores` is the deprecated name of `most_work`.
+
+    The hasher keeps the memory in which it verifies for the next time, at most `at_once` times `most_bytes`, until
     `close` or the end of a `with` block.
     """
 
@@ -37,12 +41,14 @@ class PasswordHasher:
         salt_len: int = 16,
         mcf: bool = False,
         most_bytes: Optional[int] = None,
-        most_cores: Optional[int] = None,
+        most_work: Optional[int] = None,
         at_once: Optional[int] = None,
         timeout: Optional[float] = None,
+        most_cores: Optional[int] = None,
     ) -> None:
         self._params = Params(*accepted(log_n, r, p), number(key_len, "key_len"))
-        memory, cores = self._params.memory, self._params.cores  # refuses parameters that are not accepted
+        most_work = named_work(most_work, most_cores)
+        self._bounds = Bounds.of_hasher(self._params, most_bytes, most_work)  # or InvalidParamsError
         if not 10 <= self._params.key_len <= 64:
             raise invalid_params(f"the key of a hash has 10 to 64 bytes, not {key_len}")
         if not 1 <= number(salt_len, "salt_len") <= 64:
@@ -51,13 +57,11 @@ class PasswordHasher:
         self._at_once = number(at_once, "at_once") if at_once is not None else os.cpu_count() or 1
         if self._at_once < 1:
             raise ValueError(f"at_once is positive, not {at_once}")
-        self._most_bytes = max(MOST_BYTES, memory) if most_bytes is None else number(most_bytes, "most_bytes")
-        self._most_cores = max(MOST_CORES, cores) if most_cores is None else number(most_cores, "most_cores")
-        within(self._params, self._most_bytes, self._most_cores)
+        self._bounds.check_params(self._params)
         # As they were passed: what is None depends on the machine, and a copy may be on another one.
-        bounds = {"most_bytes": most_bytes, "most_cores": most_cores, "at_once": at_once, "timeout": timeout}
+        bounds = {"most_bytes": most_bytes, "most_work": most_work, "at_once": at_once, "timeout": timeout}
         self._options: dict[str, Any] = {"salt_len": salt_len, "mcf": self._mcf, **bounds}
-        self._memories = Memories(self._at_once, self._most_bytes, self._most_cores, seconds(timeout, "timeout"))
+        self._memories = Memories(self._at_once, self._bounds, seconds(timeout, "timeout"))
 
     @property
     def params(self) -> Params:
@@ -98,13 +102,15 @@ class PasswordHasher:
 
     def verify(self, text: Union[str, bytes], password: Password) -> Literal[True]:
         """True if the password is that of the hash, in either format, and else VerifyMismatchError, also for a hash
-        without salt or key; InvalidHashError if the text is no hash of scrypt, and TooCostlyError if the hash needs
-        more than the bounds allow."""
+        without salt or key; InvalidHashError if the text is no hash of scrypt, TooCostlyError if the hash needs more
+        than the bounds allow, and KeyTooShortError if its key is shorter than they allow: each before it waits."""
         raw, secret = raw_text(text), raw_password(password)
+        self._memories.check_open()
+        self._bounds.check_text(raw)
         with self._memories.one() as memory:
             status = library.verify(memory, secret, len(secret), raw, len(raw))
-        if status in (OUT_OF_MEMORY, TOO_COSTLY):  # the errors that have what the hash needs
-            check_derived(status, within(params_of(text), self._most_bytes, self._most_cores))
+        if status == OUT_OF_MEMORY:  # the error that has what the hash needs
+            check_derived(status, params_of(raw))
         check(status)
         return True
 

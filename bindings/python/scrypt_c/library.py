@@ -30,6 +30,7 @@ def _loaded() -> ctypes.CDLL:
 _lib = _loaded()
 _bytes = [ctypes.c_char_p, ctypes.c_size_t]
 _params = [ctypes.c_uint8, ctypes.c_uint32, ctypes.c_uint32]
+_bounds = [ctypes.c_size_t, ctypes.c_uint64]
 _size_out = ctypes.POINTER(ctypes.c_size_t)
 _text_out = [ctypes.c_size_t, ctypes.c_char_p, ctypes.c_size_t, _size_out]
 
@@ -37,9 +38,16 @@ buffer_lens = _lib.scrypt_buffer_lens
 buffer_lens.argtypes = [*_params, ctypes.c_uint8, _size_out, _size_out, _size_out]
 kdf = _lib.scrypt_kdf_mapped
 kdf.argtypes = [*_bytes, *_bytes, *_params, *_bytes]
+hash_needs = _lib.scrypt_hash_needs
+hash_needs.argtypes = [*_bytes, *_bounds, ctypes.c_size_t, _size_out, _size_out, _size_out]
+params_need = _lib.scrypt_params_need
+params_need.argtypes = [*_params, *_bounds, _size_out, _size_out, _size_out]
 memory_new = _lib.scrypt_memory_new
-memory_new.argtypes = [ctypes.c_size_t, ctypes.c_uint64]
+memory_new.argtypes = _bounds
 memory_new.restype = ctypes.c_void_p
+memory_set_least_key_len = _lib.scrypt_memory_set_least_key_len
+memory_set_least_key_len.argtypes = [ctypes.c_void_p, ctypes.c_size_t]
+memory_set_least_key_len.restype = None
 memory_free = _lib.scrypt_memory_free
 memory_free.argtypes = [ctypes.c_void_p]
 memory_free.restype = None

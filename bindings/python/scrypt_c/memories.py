@@ -8,6 +8,7 @@ import weakref
 from typing import Iterator, Optional
 
 from . import library
+from .bounds import Bounds
 from .turns import Turns
 
 
@@ -21,9 +22,8 @@ def _free_all(memories: list[int]) -> None:
 class Memories:
     """At most `at_once` memories, each of which one thread has for one derivation. They are kept for the next one."""
 
-    def __init__(self, at_once: int, most_bytes: int, most_cores: int, timeout: Optional[float] = None) -> None:
-        self._at_once, self._timeout = at_once, timeout
-        self._bounds = min(most_bytes, (1 << 64) - 1), min(most_cores, (1 << 64) - 1)
+    def __init__(self, at_once: int, bounds: Bounds, timeout: Optional[float] = None) -> None:
+        self._at_once, self._bounds, self._timeout = at_once, bounds, timeout
         self._idle: list[int] = []
         self._is_closed = False
         self._turns = Turns(at_once)
@@ -39,6 +39,11 @@ class Memories:
         """Frees the memories; one that is in use is freed when its derivation ends."""
         self._is_closed = True
         _free_all(self._idle)
+
+    def check_open(self) -> None:
+        """Raises ValueError after `close`."""
+        if self._is_closed:
+            raise ValueError("the hasher is closed")
 
     @contextlib.contextmanager
     def one(self) -> Iterator[int]:
@@ -59,13 +64,13 @@ class Memories:
                 turns.give_back()
 
     def _take(self) -> int:
-        if self._is_closed:
-            raise ValueError("the hasher is closed")
+        self.check_open()
         with contextlib.suppress(IndexError):
             return self._idle.pop()
-        memory = library.memory_new(*self._bounds)
+        memory = library.memory_new(*self._bounds.in_c)
         if not memory:
             raise MemoryError("no memory for a derivation")
+        library.memory_set_least_key_len(memory, self._bounds.least_key_len)
         return memory
 
 

@@ -7,7 +7,7 @@ from typing import NamedTuple, Union
 
 from . import library
 from .arguments import number, raw_text
-from .errors import OUT_OF_MEMORY, TooCostlyError, check, invalid_params
+from .errors import OUT_OF_MEMORY, check, invalid_params
 
 
 def accepted(log_n: int, r: int, p: int) -> tuple[int, int, int]:
@@ -28,9 +28,15 @@ class Params(NamedTuple):
 
     @property
     def cores(self) -> int:
-        """The work: how many Salsa20/8 cores a derivation runs."""
+        """How many Salsa20/8 cores a derivation runs."""
         log_n, r, p = accepted(self.log_n, self.r, self.p)
         return 4 * (r * p << log_n)
+
+    @property
+    def work(self) -> int:
+        """The work, which bounds are on: the Salsa20/8 cores, and for PBKDF2 the time of 32 more rows for each chunk."""
+        log_n, r, p = accepted(self.log_n, self.r, self.p)
+        return 4 * ((1 << log_n) + 32) * r * p
 
     @property
     def memory(self) -> int:
@@ -44,27 +50,11 @@ class Params(NamedTuple):
 
 RECOMMENDED = Params()
 
-# What a hash may cost, unless the caller says otherwise.
-MOST_BYTES = 256 << 20
-MOST_CORES = 4 * RECOMMENDED.cores
-
 
 def check_derived(status: int, params: Params) -> None:
     """Raises the error of a derivation with these parameters; that for want of memory has how much was asked for."""
     log_n, r, p, _ = params
     check(status, f"log_n={log_n}, r={r}, p={p} need {params.memory} bytes" if status == OUT_OF_MEMORY else "")
-
-
-def within(params: Params, most_bytes: int, most_cores: int) -> Params:
-    """The parameters, or TooCostlyError if they need more than one of the bounds."""
-    if params.memory > most_bytes or params.cores > most_cores:
-        log_n, r, p, _ = params
-        raise TooCostlyError(
-            "SCRYPT_TOO_COSTLY",
-            f"log_n={log_n}, r={r}, p={p} need {params.memory} bytes and {params.cores} cores, where at most {most_bytes} "
-            f"and {most_cores} are allowed",
-        )
-    return params
 
 
 def params_of(text: Union[str, bytes]) -> Params:

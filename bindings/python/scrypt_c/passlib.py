@@ -14,8 +14,9 @@ from __future__ import annotations
 import passlib.hash
 
 from .arguments import raw_password
+from .bounds import MOST_BYTES, MOST_WORK, Bounds
 from .key import scrypt as _derive
-from .params import MOST_BYTES, MOST_CORES, Params, within
+from .params import Params
 
 
 class scrypt(passlib.hash.scrypt):  # passlib names handlers as their scheme
@@ -23,10 +24,12 @@ class scrypt(passlib.hash.scrypt):  # passlib names handlers as their scheme
 
     default_rounds = 17
     most_bytes = MOST_BYTES
-    most_cores = MOST_CORES
+    most_work = MOST_WORK
+    most_cores: int | None = None  # deprecated: most_work, if a subclass sets it
 
     def _calc_checksum(self, secret: str | bytes) -> bytes:
-        within(Params(self.rounds, self.block_size, self.parallelism), self.most_bytes, self.most_cores)
+        most_work = self.most_work if self.most_cores is None else self.most_cores
+        Bounds(self.most_bytes, most_work).check_params(Params(self.rounds, self.block_size, self.parallelism))
         derived = {"n": 1 << self.rounds, "r": self.block_size, "p": self.parallelism, "dklen": self.checksum_size}
         return _derive(raw_password(secret), salt=self.salt, **derived)
 

@@ -3,6 +3,7 @@
 import base64
 import hashlib
 import importlib.util
+import time
 import unittest
 
 import django
@@ -97,13 +98,38 @@ class Hashers(unittest.TestCase):
             hashers.check_password("pw", "argon2$argon2id$v=19$m=102400,t=2,p=8$c2FsdHNhbHQ", preferred="argon2")
 
     def test_hostile_hashes(self):
-        for stored in (
-            "scrypt$8192$salt$1$8192$AAAA",
-            "scrypt$1099511627776$salt$8$1$AAAA",
-            "scrypt_c$scrypt$ln=13,r=1,p=8192$c2FsdHNhbHQ$AAAAAAAAAAAAAAAAAAAA",
-        ):
-            with self.assertRaises(scrypt_c.TooCostlyError, msg=stored):
+        for stored, why in [
+            ("scrypt$2$salt$1$2000000$AAAA", "11 seconds of PBKDF2"),
+            ("scrypt$8192$salt$1$8192$AAAA", "16 times the recommended work"),
+            ("scrypt$1099511627776$salt$8$1$AAAA", "a table of 2^50 bytes"),
+            ("scrypt_c$scrypt$ln=1,r=1,p=2000000$c2FsdHNhbHQ$AAAAAAAAAAAAAAAAAAAA", "11 seconds of PBKDF2"),
+            ("scrypt_c$scrypt$ln=13,r=1,p=8192$c2FsdHNhbHQ$AAAAAAAAAAAAAAAAAAAA", "16 times the recommended work"),
+        ]:
+            began = time.perf_counter()
+            with self.assertRaises(scrypt_c.TooCostlyError, msg=f"{stored}: {why}"):
                 hashers.check_password("pw", stored)
+            self.assertLess(time.perf_counter() - began, 0.1, why)
+
+    def test_bounds_exactly(self):
+        work = scrypt_c.Params(10, 8, 2).work
+        for name in ("most_work", "most_cores"):  # the old name too
+            for bound, is_allowed in [(work, True), (work - 1, False)]:
+                hasher = type("Bounded", (ScryptPasswordHasher,), {name: bound})()
+                if is_allowed:
+                    self.assertTrue(hasher.verify("pw", hasher.encode("pw", "seasalt", 1024, 8, 2)), name)
+                else:
+                    self.assertRaises(scrypt_c.TooCostlyError, hasher.encode, "pw", "seasalt", 1024, 8, 2)
+
+    def test_short_keys(self):
+        """They raise, and nothing new is stored; in Django's own format a key that is not whole is another key."""
+        new = []
+        for text in ("$7$46..../....saltsalt$..", "$scrypt$ln=6,r=8,p=1$c2FsdHNhbHQ$AAAAAAAAAAAAAAAAAAAA"):
+            with self.assertRaises(scrypt_c.KeyTooShortError, msg=text):
+                hashers.check_password("pw", "scrypt_c" + text, setter=new.append)
+        stored = ScryptPasswordHasher().encode("pw", "seasalt", 16)
+        for cut in (stored[:-80], stored[:-88]):
+            self.assertFalse(hashers.check_password("pw", cut, setter=new.append), cut)
+        self.assertEqual(new, [])
 
     def test_numbers(self):
         """Each is refused, and none taken for the default or cut off."""

@@ -21,7 +21,7 @@ OF_HASHERS = [
     ({"salt_len": 16 - (1 << 64)}, InvalidSaltError, "16 in 64 bits"),
     ({"at_once": 1 - (1 << 64)}, ValueError, "1 in 64 bits"),
     ({"most_bytes": -1}, TooCostlyError, "no bound at all in 64 bits"),
-    ({"most_cores": -1}, TooCostlyError, "no bound at all in 64 bits"),
+    ({"most_work": -1}, TooCostlyError, "no bound at all in 64 bits"),
 ]
 OF_KEYS = [
     ({"n": 1 << 260}, InvalidParamsError, "a log_n of 4 in 8 bits"),
@@ -53,13 +53,13 @@ class Numbers(unittest.TestCase):
 
     def test_of_params(self):
         for params, why in OF_PARAMS:
-            for read in (lambda: params.memory, lambda: params.cores):
+            for read in (lambda: params.memory, lambda: params.cores, lambda: params.work):
                 with self.assertRaises(InvalidParamsError, msg=(params, why)):
                     read()
 
     def test_bounds_above_64_bits(self):
         """A bound of 2^64 + 1 is no bound of 1."""
-        hasher = PasswordHasher(log_n=4, most_bytes=(1 << 64) + 1, most_cores=(1 << 64) + 1)
+        hasher = PasswordHasher(log_n=4, most_bytes=(1 << 64) + 1, most_work=(1 << 64) + 1)
         self.assertTrue(hasher.verify(hasher.hash("pw"), "pw"))
         key = scrypt_c.scrypt(b"pw", salt=b"salt", n=16, r=8, p=1, maxmem=(1 << 64) + 1)
         self.assertEqual(key, scrypt_c.scrypt(b"pw", salt=b"salt", n=16, r=8, p=1))

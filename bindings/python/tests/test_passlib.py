@@ -1,5 +1,6 @@
 """The handler for passlib, beside passlib's own."""
 
+import time
 import unittest
 import warnings
 
@@ -69,9 +70,31 @@ class Handler(unittest.TestCase):
             self.assertNotIn("hunter", f"{caught.exception!r} {caught.exception.__context__!r}")
 
     def test_hostile_hashes(self):
-        for costs in ("ln=13,r=1,p=8192", "ln=21,r=8,p=1"):
-            with self.assertRaises(scrypt_c.TooCostlyError, msg=costs):
+        for costs, why in [
+            ("ln=1,r=1,p=2000000", "11 seconds of PBKDF2"),
+            ("ln=13,r=1,p=8192", "16 times the recommended work"),
+            ("ln=21,r=8,p=1", "2 GiB"),
+        ]:
+            began = time.perf_counter()
+            with self.assertRaises(scrypt_c.TooCostlyError, msg=why):
                 scrypt.verify("pw", f"$scrypt${costs}$c2FsdHNhbHQ$" + 43 * "A")
+            self.assertLess(time.perf_counter() - began, 0.1, why)
+
+    def test_bounds_exactly(self):
+        text, work = scrypt.using(**SMALL).hash("pw"), scrypt_c.Params(6, 8, 1).work
+        for name in ("most_work", "most_cores"):  # the old name too
+            for bound, is_allowed in [(work, True), (work - 1, False)]:
+                handler = type("scrypt", (scrypt,), {name: bound})
+                if is_allowed:
+                    self.assertTrue(handler.verify("pw", text), name)
+                else:
+                    self.assertRaises(scrypt_c.TooCostlyError, handler.verify, "pw", text)
+
+    def test_short_keys(self):
+        """passlib's own rule, which is stricter: the key of its hashes has 32 bytes."""
+        for text in ("$7$46..../....saltsalt$..", "$scrypt$ln=6,r=8,p=1$c2FsdHNhbHQ$AAAAAAAAAAAAAAAAAAAA"):
+            with self.assertRaisesRegex(ValueError, "exactly 32 bytes", msg=text):
+                scrypt.verify("pw", text)
 
     def test_numbers(self):
         """Each is refused, and none cut off."""

@@ -148,7 +148,7 @@ class Copies(unittest.TestCase):
             ({"log_n": 4, "r": 3, "p": 2, "key_len": 33}, "parameters"),
             ({"log_n": 4, "salt_len": 40, "mcf": True}, "format and salt"),
             ({"log_n": 4, "at_once": 3, "timeout": 0.5}, "turns"),
-            ({"log_n": 4, "most_bytes": 1 << 20, "most_cores": 1 << 13}, "bounds"),
+            ({"log_n": 4, "most_bytes": 1 << 20, "most_work": 1 << 15}, "bounds"),
         ]:
             hasher = PasswordHasher(**options)
             for copied in (pickle.loads(pickle.dumps(hasher)), copy.copy(hasher), copy.deepcopy(hasher)):

@@ -159,8 +159,9 @@ class Threads(unittest.TestCase):
         for at_once in (1, 3):
             most = 0
             hasher = PasswordHasher(log_n=4, at_once=at_once)
+            text = hasher.hash("")
             with mock.patch.object(library, "verify", slow):
-                threads = [threading.Thread(target=hasher.verify, args=("", "")) for _ in range(8)]
+                threads = [threading.Thread(target=hasher.verify, args=(text, "")) for _ in range(8)]
                 for it in threads:
                     it.start()
                 for it in threads:
