@@ -4,6 +4,7 @@ import (
 	"context"
 	"errors"
 	"io"
+	"strings"
 	"sync"
 	"testing"
 	"time"
@@ -80,9 +81,10 @@ func TestCloseEndsWaits(t *testing.T) {
 	if err != nil {
 		t.Fatal(err)
 	}
+	text := "$scrypt$ln=4,r=8,p=1$c2FsdHNhbHQ$" + strings.Repeat("A", 43)
 	waiting := make(chan error)
 	for i := 0; i < 4; i++ {
-		go func() { waiting <- hasher.Verify(context.Background(), "", nil) }()
+		go func() { waiting <- hasher.Verify(context.Background(), text, nil) }()
 	}
 	time.Sleep(10 * time.Millisecond)
 	if err := hasher.Close(); err != nil {

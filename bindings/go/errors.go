@@ -21,8 +21,9 @@ const (
 	ErrHashParamsInvalid Error = 9  // the parameters in the hash are not accepted, or are not scrypt's
 	ErrSaltInvalid       Error = 10 // the salt of a PHC hash does not have 1 to 64 bytes
 	ErrVersion           Error = 11 // the hash names a version, and scrypt has none
-	ErrTooCostly         Error = 13 // the parameters need more memory or more cores than is allowed
+	ErrTooCostly         Error = 13 // the parameters need more memory or more work than is allowed
 	ErrNoRandomBytes     Error = 14 // the system has no random bytes for a salt
+	ErrKeyTooShort       Error = 15 // the key in the hash is shorter than is allowed
 )
 
 // Error returns the error in words.

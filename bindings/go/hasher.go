@@ -16,9 +16,14 @@ type Options struct {
 	SaltLen int  // the length of a new hash's salt, 1 to 64 bytes: 16
 	AtOnce  int  // how many derivations may run at the same time: runtime.GOMAXPROCS(0)
 
-	// What a hash may need before it is refused with ErrTooCostly: by default the constants of the same names, or
-	// what new hashes need if that is more.
-	MostBytes, MostCores uint64
+	// What a hash may need before it is refused with ErrTooCostly, its Params.Memory and Params.Work: by default the
+	// constants of the same names, or what new hashes need if that is more.
+	MostBytes, MostWork uint64
+
+	// MostCores is MostWork, if that is 0.
+	//
+	// Deprecated: use MostWork.
+	MostCores uint64
 }
 
 // A Hasher makes password hashes, and verifies passwords by hashes of either format. Any number of goroutines may use
@@ -35,7 +40,7 @@ type Hasher struct {
 // ErrInvalidOption, and ErrTooCostly if new hashes need more than the bounds.
 func NewHasher(options Options) (*Hasher, error) {
 	options = options.withDefaults()
-	needed, err := options.Params.Memory()
+	memory, err := options.Params.Memory()
 	if err != nil {
 		return nil, fmt.Errorf("%w: LogN is %d, R is %d and P is %d", err, options.LogN, options.R, options.P)
 	}
@@ -48,14 +53,11 @@ func NewHasher(options Options) (*Hasher, error) {
 	if options.AtOnce < 1 {
 		return nil, fmt.Errorf("%w: AtOnce is %d, and has to be positive", ErrInvalidOption, options.AtOnce)
 	}
-	cores := options.Params.Cores()
-	options.MostBytes = bound(options.MostBytes, MostBytes, needed)
-	options.MostCores = bound(options.MostCores, MostCores, cores)
-	if needed > options.MostBytes || cores > options.MostCores {
-		return nil, fmt.Errorf("%w: new hashes need %d bytes and %d cores, and MostBytes is %d and MostCores %d",
-			ErrTooCostly, needed, cores, options.MostBytes, options.MostCores)
+	of := boundsOf(options, memory)
+	if err := of.checkParams(options.Params); err != nil {
+		return nil, err
 	}
-	return &Hasher{options, make(chan struct{}, options.AtOnce), newMemories(options.MostBytes, options.MostCores)}, nil
+	return &Hasher{options, make(chan struct{}, options.AtOnce), newMemories(of)}, nil
 }
 
 // withDefaults returns the options with the default in place of each zero. The bounds depend on the parameters.
@@ -77,18 +79,6 @@ func (options Options) withDefaults() Options {
 		}
 	}
 	return options
-}
-
-// bound returns the wanted bound, or without one the usual one, or what new hashes need if that is more.
-func bound(wanted, usual, needed uint64) uint64 {
-	switch {
-	case wanted != 0:
-		return wanted
-	case needed > usual:
-		return needed
-	default:
-		return usual
-	}
 }
 
 // Close frees the memory that the Hasher keeps; that of a derivation which is running is freed when it ends. Calls of
@@ -122,10 +112,16 @@ func (h *Hasher) HashWithSalt(ctx context.Context, password, salt []byte) (strin
 }
 
 // Verify returns nil if the password is that of the hash, and ErrMismatch if it is not, or if the hash has no salt or
-// no key. The other errors are that of the context, if it ends before the derivation begins, ErrTooCostly if the hash
-// needs more than the bounds, before any work, ErrOutOfMemory, ErrClosed, and those that are ErrInvalidHash to
-// errors.Is.
+// no key. To errors.Is the other errors are that of the context, if it ends before the derivation begins, ErrClosed,
+// ErrInvalidHash, ErrTooCostly if the hash needs more than the bounds, ErrKeyTooShort if its key has fewer than 16 bytes, or
+// than new keys if that is less, and ErrOutOfMemory. What the text alone decides is returned without waiting.
 func (h *Hasher) Verify(ctx context.Context, text string, password []byte) error {
+	if err := h.ready(ctx); err != nil {
+		return err
+	}
+	if err := h.memories.bounds.checkText(text); err != nil {
+		return err
+	}
 	m, err := h.begin(ctx)
 	if err != nil {
 		return err
@@ -143,12 +139,17 @@ func (h *Hasher) NeedsRehash(text string) (bool, error) {
 	return needsRehash(text, h.options.Params)
 }
 
+// ready returns ErrClosed, or the error of a context that has ended.
+func (h *Hasher) ready(ctx context.Context) error {
+	if h.memories == nil || h.memories.isClosed() {
+		return ErrClosed
+	}
+	return ctx.Err()
+}
+
 // begin waits for a turn to derive, or for the end of the context, and returns the memory for it.
 func (h *Hasher) begin(ctx context.Context) (*memory, error) {
-	if h.memories == nil {
-		return nil, ErrClosed
-	}
-	if err := ctx.Err(); err != nil {
+	if err := h.ready(ctx); err != nil {
 		return nil, err
 	}
 	select {

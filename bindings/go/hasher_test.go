@@ -74,7 +74,8 @@ func TestRefusedOptions(t *testing.T) {
 		{"a negative salt", Options{SaltLen: -1}, ErrSaltInvalid},
 		{"less than no derivation", Options{AtOnce: -1}, ErrInvalidOption},
 		{"new hashes above the bound of memory", Options{MostBytes: 128 << 20}, ErrTooCostly},
-		{"new hashes above the bound of cores", Options{MostCores: 4194303}, ErrTooCostly},
+		{"new hashes above the bound of work", Options{MostWork: 4195327}, ErrTooCostly},
+		{"the same by the old name", Options{MostCores: 4195327}, ErrTooCostly},
 	} {
 		if _, err := NewHasher(it.options); !errors.Is(err, it.want) {
 			t.Errorf("%s: %v", it.why, err)

@@ -79,7 +79,7 @@ func TestAKeyThatNoMemoryHolds(t *testing.T) {
 func TestWordsOfErrors(t *testing.T) {
 	for _, e := range []Error{ErrClosed, ErrInvalidOption, ErrInvalidHash, ErrMismatch, ErrInvalidParams,
 		ErrInvalidOutputLen, ErrOutOfMemory, ErrAlgorithm, ErrEncodingInvalid, ErrOutputSize, ErrHashParamInvalid,
-		ErrHashParamsInvalid, ErrSaltInvalid, ErrVersion, ErrTooCostly, ErrNoRandomBytes} {
+		ErrHashParamsInvalid, ErrSaltInvalid, ErrVersion, ErrTooCostly, ErrNoRandomBytes, ErrKeyTooShort} {
 		if !strings.HasPrefix(e.Error(), "scrypt: ") || strings.Contains(e.Error(), "unknown") {
 			t.Errorf("%d has no words: %s", int(e), e)
 		}

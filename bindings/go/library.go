@@ -19,12 +19,18 @@ import (
 
 const maxOutputLen = C.SCRYPT_MAX_OUTPUT_LEN
 
-// What a hash may cost, unless the caller says otherwise: 256 MiB, and four times the cores of the recommended
-// parameters.
+// What a hash may cost, unless the caller says otherwise: 256 MiB, and four times the work of the recommended
+// parameters; and the least length of its key, or that of new keys if that is less.
 const (
-	MostBytes uint64 = C.SCRYPT_MOST_BYTES
-	MostCores uint64 = C.SCRYPT_MOST_CORES
+	MostBytes   uint64 = C.SCRYPT_MOST_BYTES
+	MostWork    uint64 = C.SCRYPT_MOST_WORK
+	LeastKeyLen        = C.SCRYPT_LEAST_KEY_LEN
 )
+
+// MostCores is the name of MostWork before.
+//
+// Deprecated: use MostWork.
+const MostCores = MostWork
 
 func statusText(e Error) string { return C.GoString(C.scrypt_status_text(C.int(e))) }
 
@@ -71,13 +77,43 @@ func (params Params) Memory() (uint64, error) {
 
 // Cores returns how many Salsa20/8 cores a derivation runs, 4 * N * R * P, or math.MaxUint64 if there are more or a
 // parameter is out of range.
-func (params Params) Cores() uint64 {
+func (params Params) Cores() uint64 { return params.rows(0) }
+
+// Work returns the work of a derivation, which bounds are on: 4 * (N + 32) * R * P, where 32 is for PBKDF2, in Salsa20/8
+// cores. It is math.MaxUint64 if there is more or a parameter is out of range.
+func (params Params) Work() uint64 { return params.rows(32) }
+
+// rows returns 4 * (N + more) * R * P, at most math.MaxUint64.
+func (params Params) rows(more uint64) uint64 {
 	of, err := params.cost()
-	high, low := bits.Mul64(4*uint64(of.r), uint64(of.p))
-	if err != nil || high != 0 || low > math.MaxUint64>>of.logN {
+	high, each := bits.Mul64(4*uint64(of.r), uint64(of.p))
+	if err != nil || high != 0 || of.logN > 63 {
 		return math.MaxUint64
 	}
-	return low << of.logN
+	high, low := bits.Mul64(each, 1<<of.logN+more)
+	if high != 0 {
+		return math.MaxUint64
+	}
+	return low
+}
+
+// paramsNeed returns ErrInvalidParams, or ErrTooCostly if a derivation needs more than the bounds.
+func paramsNeed(params Params, within bounds) error {
+	of, err := params.cost()
+	if err != nil {
+		return err
+	}
+	var chunks, table, scratch C.size_t
+	return failed(C.scrypt_params_need(of.logN, of.r, of.p, C.size_t(within.mostBytes), C.uint64_t(within.mostWork),
+		&chunks, &table, &scratch))
+}
+
+// hashNeeds returns the errors of a text that come before any work: its own, ErrTooCostly and ErrKeyTooShort.
+func hashNeeds(text string, within bounds) error {
+	raw := []byte(text)
+	var chunks, table, scratch C.size_t
+	return failed(C.scrypt_hash_needs(chars(raw), size(raw), C.size_t(within.mostBytes), C.uint64_t(within.mostWork),
+		C.size_t(within.leastKeyLen), &chunks, &table, &scratch))
 }
 
 func deriveKey(password, salt []byte, params Params, key []byte) error {
@@ -97,11 +133,12 @@ func drawSalt(salt []byte) error {
 type memory struct{ c *C.scrypt_memory }
 
 // newMemory returns a memory with these bounds, which is freed when nothing refers to it, or ErrOutOfMemory.
-func newMemory(mostBytes, mostCores uint64) (*memory, error) {
-	c := C.scrypt_memory_new(C.size_t(mostBytes), C.uint64_t(mostCores))
+func newMemory(of bounds) (*memory, error) {
+	c := C.scrypt_memory_new(C.size_t(of.mostBytes), C.uint64_t(of.mostWork))
 	if c == nil {
 		return nil, ErrOutOfMemory
 	}
+	C.scrypt_memory_set_least_key_len(c, C.size_t(of.leastKeyLen))
 	m := &memory{c}
 	runtime.SetFinalizer(m, (*memory).free)
 	return m, nil

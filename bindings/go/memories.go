@@ -6,15 +6,15 @@ import "sync"
 
 // memories are those of a Hasher that no derivation has.
 type memories struct {
-	mostBytes, mostCores uint64
-	closed               chan struct{} // closed by close
+	bounds bounds
+	closed chan struct{} // closed by close
 
 	mutex sync.Mutex
 	idle  []*memory
 }
 
-func newMemories(mostBytes, mostCores uint64) *memories {
-	return &memories{mostBytes: mostBytes, mostCores: mostCores, closed: make(chan struct{})}
+func newMemories(of bounds) *memories {
+	return &memories{bounds: of, closed: make(chan struct{})}
 }
 
 func (m *memories) isClosed() bool {
@@ -35,7 +35,7 @@ func (m *memories) take() (*memory, error) {
 	}
 	last := len(m.idle) - 1
 	if last < 0 {
-		return newMemory(m.mostBytes, m.mostCores)
+		return newMemory(m.bounds)
 	}
 	taken := m.idle[last]
 	m.idle = m.idle[:last]

@@ -61,8 +61,8 @@ func TestNumbers(t *testing.T) {
 		}
 	}
 	for _, negative := range []Params{{-1, 8, 1, 32}, {17, -8, 1, 32}, {17, 8, -1, 32}, {1 << 8, 8, 1, 32}} {
-		if cores := negative.Cores(); cores != 1<<64-1 {
-			t.Errorf("%+v has %d cores, which is within a bound", negative, cores)
+		if cores, work := negative.Cores(), negative.Work(); cores != 1<<64-1 || work != 1<<64-1 {
+			t.Errorf("%+v has %d Salsa20/8 cores and a work of %d, which is within a bound", negative, cores, work)
 		}
 	}
 }
@@ -99,6 +99,7 @@ func TestRefusedOptionsAreNamed(t *testing.T) {
 		{"LogN is 256", Options{Params: Params{LogN: 256}}, ErrInvalidParams},
 		{"R is -8", Options{Params: Params{R: -8}}, ErrInvalidParams},
 		{"MostBytes is 1024", Options{MostBytes: 1024}, ErrTooCostly},
+		{"a work of 4195328; MostBytes is 268435456 and MostWork is 4194304", Options{MostWork: 1 << 22}, ErrTooCostly},
 	} {
 		_, err := NewHasher(it.options)
 		if !errors.Is(err, it.want) || !strings.Contains(err.Error(), it.words) {

@@ -74,7 +74,7 @@ func (a *Accounts) verify(ctx context.Context, name, password string) (string, e
 		return "", err
 	}
 	err = a.hasher.Verify(ctx, text, []byte(password))
-	if errors.Is(err, scrypt.ErrInvalidHash) || errors.Is(err, scrypt.ErrTooCostly) {
+	if isRefused(err) {
 		log.Printf("the hash of %q is refused: %v", name, err)
 		known, err = false, a.hasher.Verify(ctx, a.nobody, []byte(password))
 	}
@@ -82,6 +82,12 @@ func (a *Accounts) verify(ctx context.Context, name, password string) (string, e
 		return "", errWrong
 	}
 	return text, err
+}
+
+// isRefused reports whether a hash is at fault, and not a password.
+func isRefused(err error) bool {
+	return errors.Is(err, scrypt.ErrInvalidHash) || errors.Is(err, scrypt.ErrTooCostly) ||
+		errors.Is(err, scrypt.ErrKeyTooShort)
 }
 
 // put hashes a password, and returns the text if the statement stores it, or else `otherwise`.

@@ -156,6 +156,8 @@ func hostile(t testing.TB, number int) (string, scrypt.Error) {
 		{"$scrypt$ln=20,r=8,p=1$" + salt + "$" + key, scrypt.ErrTooCostly},
 		{"$scrypt$ln=10,r=8,p=100000$" + salt + "$" + key, scrypt.ErrTooCostly},
 		{"$scrypt$ln=1,r=134217727,p=1$" + salt + "$" + key, scrypt.ErrTooCostly},
+		{"$scrypt$ln=1,r=1,p=2000000$" + salt + "$" + key, scrypt.ErrTooCostly},
+		{"$7$26..../....saltsalt$..", scrypt.ErrKeyTooShort},
 		{"$scrypt$ln=010,r=8,p=1$" + salt + "$" + key, scrypt.ErrHashParamInvalid},
 		{"$scrypt$v=1$ln=10,r=8,p=1$" + salt + "$" + key, scrypt.ErrVersion},
 		{"$argon2id$m=65536,t=3,p=4$" + salt + "$" + key, scrypt.ErrAlgorithm},
@@ -195,7 +197,7 @@ func TestHostileHashes(t *testing.T) {
 	})
 	logged, named := w.logged(), map[string]int{}
 	for i, why := range reasons {
-		if !strings.Contains(logged, fmt.Sprintf("the hash of \"hostile%d\" is refused: %v\n", i, why)) {
+		if !strings.Contains(logged, fmt.Sprintf("the hash of \"hostile%d\" is refused: %v", i, why)) {
 			t.Errorf("hostile%d is not refused as %v in the log", i, why)
 		}
 		named[why.Error()]++
