@@ -17,6 +17,7 @@ pub const SALT_INVALID: c_int = 10;
 pub const VERSION: c_int = 11;
 pub const TOO_COSTLY: c_int = 13;
 pub const NO_RANDOM_BYTES: c_int = 14;
+pub const KEY_TOO_SHORT: c_int = 15;
 
 pub const PHC_CAPACITY: usize = 256;
 pub const fn mcf_capacity(salt_len: usize) -> usize {
@@ -117,7 +118,28 @@ extern "C" {
         p: *mut u32,
         key_len: *mut usize,
     ) -> c_int;
-    pub fn scrypt_memory_new(most_bytes: usize, most_cores: u64) -> *mut RawMemory;
+    pub fn scrypt_hash_needs(
+        text: *const c_char,
+        text_len: usize,
+        most_bytes: usize,
+        most_work: u64,
+        least_key_len: usize,
+        chunks_len: *mut usize,
+        table_len: *mut usize,
+        scratch_len: *mut usize,
+    ) -> c_int;
+    pub fn scrypt_params_need(
+        log_n: u8,
+        r: u32,
+        p: u32,
+        most_bytes: usize,
+        most_work: u64,
+        chunks_len: *mut usize,
+        table_len: *mut usize,
+        scratch_len: *mut usize,
+    ) -> c_int;
+    pub fn scrypt_memory_new(most_bytes: usize, most_work: u64) -> *mut RawMemory;
+    pub fn scrypt_memory_set_least_key_len(memory: *mut RawMemory, least_key_len: usize);
     pub fn scrypt_memory_free(memory: *mut RawMemory);
     pub fn scrypt_draw_salt(salt: *mut u8, len: usize) -> c_int;
 }

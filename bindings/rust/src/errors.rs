@@ -45,8 +45,10 @@ pub enum Error {
     SaltInvalid,
     /// The hash names a version, and scrypt has none.
     Version,
-    /// The parameters need more memory or more cores than is allowed. Nothing was derived.
+    /// The parameters need more memory or more work than is allowed. Nothing was derived.
     TooCostly,
+    /// The key in the hash is shorter than is allowed: wrong passwords match it too often. Nothing was derived.
+    KeyTooShort,
     /// The system has no random bytes for a salt.
     NoRandomBytes,
     /// A status of a newer library.
@@ -80,6 +82,7 @@ impl Error {
             SALT_INVALID => Error::SaltInvalid,
             VERSION => Error::Version,
             TOO_COSTLY => Error::TooCostly,
+            KEY_TOO_SHORT => Error::KeyTooShort,
             NO_RANDOM_BYTES => Error::NoRandomBytes,
             other => Error::Status(other),
         }
@@ -141,7 +144,10 @@ impl fmt::Display for Error {
             Error::ParamsInvalid => "the parameters in the hash are invalid",
             Error::SaltInvalid => "invalid salt length",
             Error::Version => "the hash names a version",
-            Error::TooCostly => "the parameters need more than is allowed",
+            Error::TooCostly => "the parameters need more memory or more work than the bounds allow",
+            Error::KeyTooShort => {
+                "the key in the hash is shorter than 16 bytes, or than new keys if those are shorter"
+            }
             Error::NoRandomBytes => "the system has no random bytes",
             Error::Status(status) => return write!(f, "status {status} of a newer library"),
         })

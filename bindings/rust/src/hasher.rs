@@ -1,5 +1,6 @@
 //! Password hashes.
 
+use crate::bounds::TextBounds;
 use crate::calls::*;
 use crate::memories::Memories;
 use crate::{draw_salt, Bounds, Error, Params};
@@ -51,11 +52,13 @@ impl Default for Options {
 /// Makes password hashes, and verifies passwords by hashes of either format.
 ///
 /// Any number of threads may use it; at most [`Options::at_once`] of them derive at the same time, and the others wait.
-/// A hash that needs more than the bounds is refused before any work. The hasher keeps the memory in which it verifies for
-/// the next time, at most `at_once` times `most_bytes`.
+/// A hash that needs more than the bounds is refused without waiting, and so is one whose key has fewer than
+/// [`Bounds::LEAST_KEY_LEN`] bytes, or than new keys if that is less. The hasher keeps the memory in which it verifies for the
+/// next time, at most `at_once` times `most_bytes`.
 #[derive(Debug)]
 pub struct Hasher {
     options: Options,
+    within: TextBounds,
     memories: Memories,
 }
 
@@ -87,8 +90,10 @@ impl Hasher {
 
     fn with(options: Options) -> Hasher {
         let bounds = options.bounds.unwrap_or_else(|| Bounds::USUAL.or_more(&options.params));
-        let memories = Memories::new(options.at_once, bounds);
-        Hasher { options, memories }
+        let least_key_len = Bounds::LEAST_KEY_LEN.min(options.params.key_len());
+        let within = TextBounds { bounds, least_key_len };
+        let memories = Memories::new(options.at_once, within);
+        Hasher { options, within, memories }
     }
 
     /// The text of a new hash, with a salt that the system draws.
@@ -148,10 +153,12 @@ impl Hasher {
     ///
     /// # Errors
     ///
-    /// `PasswordInvalid` for another password, and for a hash without salt or key; `TooCostly` if the hash needs more
-    /// than the bounds, before any work; `OutOfMemory`; and those of [`Error::is_invalid_hash`].
+    /// Those of [`Error::is_invalid_hash`]; `PasswordInvalid` for another password, and for a hash without salt or key;
+    /// `TooCostly` if the hash needs more than the bounds; `KeyTooShort` if its key is shorter than they allow; and
+    /// `OutOfMemory`. What the text alone decides is returned without waiting.
     pub fn verify(&self, text: &str, password: impl AsRef<[u8]>) -> Result<(), Error> {
         let password = password.as_ref();
+        self.within.check(text)?;
         let memory = self.memories.take()?;
         let (text_at, text_len) = (text.as_ptr() as *const _, text.len());
         // SAFETY: the memory is this thread's, and each pointer that of a slice of the length after it.

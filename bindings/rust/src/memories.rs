@@ -1,7 +1,8 @@
 //! Memories of the library, which threads take in turn.
 
+use crate::bounds::TextBounds;
 use crate::calls::*;
-use crate::{Bounds, Error};
+use crate::Error;
 use std::ptr::NonNull;
 use std::sync::{Condvar, Mutex, MutexGuard, PoisonError};
 
@@ -11,6 +12,17 @@ struct Memory(NonNull<RawMemory>);
 
 // SAFETY: the library has no state beside the memory, which any thread may use that has it alone.
 unsafe impl Send for Memory {}
+
+impl Memory {
+    fn new(within: &TextBounds) -> Result<Memory, Error> {
+        // SAFETY: the call takes two numbers.
+        let new = unsafe { scrypt_memory_new(within.bounds.most_bytes, within.bounds.most_work) };
+        let memory = Memory(NonNull::new(new).ok_or(Error::OutOfMemory)?);
+        // SAFETY: the pointer is that of `scrypt_memory_new`, and nothing else has it.
+        unsafe { scrypt_memory_set_least_key_len(memory.0.as_ptr(), within.least_key_len) }
+        Ok(memory)
+    }
+}
 
 impl Drop for Memory {
     fn drop(&mut self) {
@@ -22,7 +34,7 @@ impl Drop for Memory {
 /// A number of memories, which are kept for the next derivation.
 #[derive(Debug)]
 pub struct Memories {
-    bounds: Bounds,
+    within: TextBounds,
     state: Mutex<State>,
     returned: Condvar,
 }
@@ -41,9 +53,9 @@ pub struct Taken<'a> {
 }
 
 impl Memories {
-    pub fn new(at_once: usize, bounds: Bounds) -> Memories {
+    pub fn new(at_once: usize, within: TextBounds) -> Memories {
         let state = Mutex::new(State { turns: at_once, idle: Vec::new() });
-        Memories { bounds, state, returned: Condvar::new() }
+        Memories { within, state, returned: Condvar::new() }
     }
 
     fn state(&self) -> MutexGuard<'_, State> {
@@ -59,9 +71,7 @@ impl Memories {
         drop(state);
         let mut taken = Taken { memories: self, memory: idle };
         if taken.memory.is_none() {
-            // SAFETY: the call takes two numbers.
-            let new = unsafe { scrypt_memory_new(self.bounds.most_bytes, self.bounds.most_cores) };
-            taken.memory = Some(Memory(NonNull::new(new).ok_or(Error::OutOfMemory)?));
+            taken.memory = Some(Memory::new(&self.within)?);
         }
         Ok(taken)
     }

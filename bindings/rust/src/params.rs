@@ -91,9 +91,14 @@ impl Params {
         chunks as u128 + 4 * (table as u128 + scratch as u128)
     }
 
-    /// The work: how many Salsa20/8 cores a derivation runs.
+    /// How many Salsa20/8 cores a derivation runs.
     pub fn cores(&self) -> u128 {
         (4 * u128::from(self.r) * u128::from(self.p)) << self.log_n
+    }
+
+    /// The work, which [`Bounds`](crate::Bounds) are on: `4 * (N + 32) * r * p`, where 32 is for PBKDF2, in Salsa20/8 cores.
+    pub fn work(&self) -> u128 {
+        self.cores() + 128 * u128::from(self.r) * u128::from(self.p)
     }
 
     /// The length of a hash's key in bytes.

@@ -77,7 +77,8 @@ pub trait PasswordVerifier<H: ?Sized> {
     ///
     /// # Errors
     ///
-    /// Those of [`Hasher::verify`](crate::Hasher::verify): `PasswordInvalid` for another password, and `TooCostly` for
-    /// a hash that needs more than [`Bounds::USUAL`](crate::Bounds::USUAL), and more than the parameters of this value.
+    /// Those of [`Hasher::verify`](crate::Hasher::verify): `PasswordInvalid` for another password, `TooCostly` for a
+    /// hash that needs more than [`Bounds::USUAL`](crate::Bounds::USUAL), and more than the parameters of this value, and
+    /// `KeyTooShort`.
     fn verify_password(&self, password: &[u8], hash: &H) -> Result<()>;
 }

@@ -122,12 +122,13 @@ fn refused_texts() {
 /// A hash that needs more than the usual bounds is refused, unless the value's own parameters need as much.
 #[test]
 fn costly_hashes() {
-    let text = |costs| format!("$scrypt${costs}$c2FsdHNhbHQ$AAAAAAAAAAAAAAAAAAAA");
+    let text = |costs| format!("$scrypt${costs}$c2FsdHNhbHQ${}", "A".repeat(43));
     let large = Scrypt::new_with_params(Params::new(10, 1, 8192).unwrap());
     for (why, scrypt, costs, wanted) in [
-        ("more cores", Scrypt::new(), "ln=13,r=1,p=8192", Error::TooCostly),
+        ("more work", Scrypt::new(), "ln=13,r=1,p=8192", Error::TooCostly),
+        ("seconds of PBKDF2", Scrypt::new(), "ln=1,r=1,p=2000000", Error::TooCostly),
         ("more memory", Scrypt::new(), "ln=21,r=8,p=1", Error::TooCostly),
-        ("as many cores as new hashes", large, "ln=10,r=1,p=8192", Error::PasswordInvalid),
+        ("as much work as new hashes", large, "ln=10,r=1,p=8192", Error::PasswordInvalid),
     ] {
         let hash = PasswordHash::new(&text(costs)).unwrap();
         assert_eq!(scrypt.verify_password(b"", &hash), Err(wanted), "{why}");

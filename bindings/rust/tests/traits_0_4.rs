@@ -34,7 +34,8 @@ fn customized() {
         assert_eq!(Params::try_from(&hash), Ok(params));
         assert_eq!(Scrypt.verify_password(b"pw", &hash), Ok(()));
         assert_eq!(hash.verify_password(&[&Scrypt], b"PW"), Err(Error::Password));
-        assert_eq!(Hasher::default().verify(&text, "pw"), Ok(()));
+        let by_hasher = if len < 16 { Err(scrypt_c::Error::KeyTooShort) } else { Ok(()) };
+        assert_eq!(Hasher::default().verify(&text, "pw"), by_hasher);
     }
 }
 
@@ -65,7 +66,8 @@ fn refused() {
         ("a version", "$scrypt$v=1$ln=4,r=8,p=1"),
         ("ln above 255", "$scrypt$ln=256,r=8,p=1"),
         ("ln of 57", "$scrypt$ln=57,r=8,p=1"),
-        ("more cores than the usual bound", "$scrypt$ln=13,r=1,p=8192"),
+        ("more work than the usual bound", "$scrypt$ln=13,r=1,p=8192"),
+        ("seconds of PBKDF2", "$scrypt$ln=1,r=1,p=2000000"),
         ("more memory than the usual bound", "$scrypt$ln=21,r=8,p=1"),
         ("r is no number", "$scrypt$ln=4,r=x,p=1"),
         ("a name that scrypt lacks", "$scrypt$ln=4,r=8,p=1,q=1"),
