@@ -47,7 +47,7 @@ class Trial:
             self.derived.append((password, costs, key))
             return key
 
-        self.shown["scrypt_c"] = type("Watched", (), {"scrypt": staticmethod(scrypt)})
+        self.shown["scrypt_c"] = type("Watched", (), {"scrypt": staticmethod(scrypt), "Params": binding.Params})
 
     def __getattr__(self, name):
         """A function of the page."""

@@ -26,7 +26,7 @@ MINISIGN_CASES = [
 ]
 
 # What the files of minisign and of `scrypt enc` ask for by default, (20, 8, 1).
-RAISED = {"most_memory": 1 << 30, "most_cores": 1 << 25}
+RAISED = {"most_memory": 1 << 30, "most_work": 8 * 4195328}
 
 
 def age(trial):
@@ -117,6 +117,9 @@ def ethereum(trial):
     refused_by_others(trial, key_vectors.ETHEREUM["crypto"]["kdfparams"], password)
     more = vector.replace("262144", str(1 << 40))
     trial.refuses_at_once("Ethereum: n of 2^40", trial.ethereum_secret, more, password.encode())
+    more = json.loads(vector)
+    more["crypto"]["kdfparams"].update(n=2, r=1, p=2000000)
+    trial.refuses_at_once("Ethereum: 11 seconds of PBKDF2", trial.ethereum_secret, json.dumps(more), password.encode())
     for costs in ((18, 8, 1), (12, 8, 6), (10, 1, 1)):
         secret, password = trial.content(32), trial.word()
         file = key_contents.ethereum_file(secret, password.encode(), costs, trial.key_of)
