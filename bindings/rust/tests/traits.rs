@@ -135,6 +135,22 @@ fn costly_hashes() {
     }
 }
 
+/// The least key is 16 bytes, or that of the value's own hashes if that is shorter.
+#[test]
+fn short_keys() {
+    let of = |len| Scrypt::from(Params::new_with_output_len(4, 3, 2, len).unwrap());
+    for (why, made, by, wanted) in [
+        ("the least", 16, 32, Ok(())),
+        ("a byte less", 15, 32, Err(Error::KeyTooShort)),
+        ("as long as new ones", 10, 10, Ok(())),
+    ] {
+        let phc: PasswordHash = of(made).hash_password(b"pw").unwrap();
+        let mcf: mcf::PasswordHash = of(made).hash_password(b"pw").unwrap();
+        assert_eq!(of(by).verify_password(b"pw", &phc), wanted, "{why}");
+        assert_eq!(of(by).verify_password(b"pw", &mcf), wanted, "{why}");
+    }
+}
+
 #[test]
 fn keys() {
     fn derived(kdf: &impl Pbkdf) -> [u8; 32] {
