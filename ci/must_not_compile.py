@@ -1,10 +1,16 @@
 #!/usr/bin/env python3
-"""Checks beside the gate: what has to be refused by the compiler, before any proof.
+"""Checks beside the gate: what has to be refused by the compiler, before any proof, and what no clause can refuse.
 
 Each file crates/NAME/must-not-compile/*.edit has to be refused as a use of something private, or as a constant whose
-`prove!` is false: clauses use the name of a constant, and so hold whatever its number is. Two more things would let a count of cores say what was not run, and both are refused: a proof by hand other than
-the three of the counter itself, and a new count anywhere but where a key's derivation begins, or in a test. The
-counter has one name: another one for it is refused too, since a new count could hide behind it.
+`prove!` is false: clauses use the name of a constant, and so hold whatever its number is.
+
+Three more things would let a count of cores say what was not run, and all are refused: a proof by hand other than the
+three of the counter itself; a new count anywhere but where a key's derivation begins, or in a test; and an impl for the
+counter that makes another count. The counter has one name: another one for it is refused too, since a new count could
+hide behind it.
+
+An impl of `PartialEq` chooses its own relation, and one of `Clone` needs to say nothing of the copy. So `Clone` is
+derived everywhere, and `PartialEq` is derived or says that the whole values are compared.
 """
 
 import glob
@@ -33,6 +39,20 @@ NEW = re.compile(r"\bCoreCount\s*>?\s*::\s*new\b")
 
 # Another name for the counter or for what is in it.
 OTHER_NAMES = re.compile(r"\bCoreCount\s+as\b|\btype\s+\w+[^=;]*=[^;]*\bCoreCount\b|\buse\s[^;]*\bCoreCount\s*::")
+
+# The counter's own file, and the only impls for it.
+COUNTER_SOURCE = "crates/scrypt_kernel/src/cores.rt"
+COUNTER_IMPLS = {"CoreCount", "Model for CoreCount"}
+
+COMMENT = re.compile(r"//[^\n]*|/\*.*?\*/", re.S)
+IMPL = re.compile(r"^\s*impl\b\s*(?:<[^{;]*?>\s)?([^{;]*?)\s*\{(.*?)^\}", re.M | re.S)
+
+# How an impl of `PartialEq` says that the whole values are compared.
+WHOLE = [
+    "ghost eq = { λ s t. pointwise nat_eq s t };",
+    "ghost eq = { pointwise pair_eq };",
+    "ensures exact { IsTrue result ↔ (self.now ≡ other.now) }",
+]
 
 
 # What the compiler may refuse an edit for, and the errors that say so.
@@ -67,6 +87,40 @@ def count_complaints(sources):
             yield f"{path}: another name for the counter of cores: {found}"
 
 
+def impls_of(source):
+    """The headers of the impls of a source, each with its body."""
+    return [(" ".join(header.split()), body) for header, body in IMPL.findall(source)]
+
+
+def counter_complaints(sources):
+    """What is refused of impls for the counter, and of derives above it."""
+    for path, text in sources.items():
+        for header, _ in impls_of(text):
+            if re.search(r"\bCoreCount\b", header.partition(" where ")[0]) and header not in COUNTER_IMPLS:
+                yield f"{path}: an impl for the counter of cores: {header}"
+    text = sources.get(COUNTER_SOURCE, "")
+    if re.search(r"\bSelf\s*::\s*new\b", text):
+        yield f"{COUNTER_SOURCE}: a new count by `Self::new`"
+    for derived in re.findall(r"#\[derive\(([^)]*)\)\]\s*pub struct CoreCount\b", text):
+        if derived != "Drop":
+            yield f"{COUNTER_SOURCE}: the counter derives {derived}"
+
+
+def derive_complaints(sources):
+    """What is refused of impls of `Clone` and `PartialEq`."""
+    for path, text in sources.items():
+        for header, body in impls_of(text):
+            trait = re.search(r"\b(Clone|PartialEq)\b(?:<[^>]*>)? for ", header)
+            if trait and (trait[1] == "Clone" or not any(it in body for it in WHOLE)):
+                yield f"{path}: an impl that need not copy or compare the whole value: {header}"
+
+
+def complaints(sources):
+    """What is refused in these sources, which are texts by their paths, whatever their comments say."""
+    bare = {path: COMMENT.sub(" ", text) for path, text in sources.items()}
+    return [*count_complaints(bare), *counter_complaints(bare), *derive_complaints(bare)]
+
+
 def main():
     failed = 0
     with edits.copied("out") as copy:
@@ -80,7 +134,7 @@ def main():
     if sorted(glob.glob("crates/*/proofs/**/Proof.antt", recursive=True)) != BY_HAND:
         print(f"proofs by hand other than {', '.join(BY_HAND)}")
         failed += 1
-    for complaint in count_complaints(own_sources()):
+    for complaint in complaints(own_sources()):
         print(complaint)
         failed += 1
     sys.exit(1 if failed else 0)

@@ -1,5 +1,6 @@
 #!/usr/bin/env python3
-"""Shows that must_not_compile.py sees a new count of cores however it is written, and nothing else, and what a check refuses for."""
+"""Shows that must_not_compile.py sees a new count of cores and an impl that copies or compares a part, however they are
+written, and nothing else, and what a check refuses for."""
 
 import sys
 
@@ -18,6 +19,25 @@ ROWS = [
     ("use crate::{CoreCount as Count, Params};\n", True, "another name in a group"),
     ("type Count = crate::CoreCount;\n", True, "another name by `type`"),
     ("use crate::CoreCount::{new};\n", True, "the function's own name"),
+    ("let mut cores = CoreCount /* a count */ ::new();\n", True, "a comment between the two"),
+    ("// CoreCount::new() begins a count.\n", False, "a comment alone"),
+    ("impl Clone for CoreCount {\n    fn clone(&self) -> CoreCount { }\n}\n", True, "a copy of a count"),
+    ("impl From<u32>\n    for CoreCount {\n}\n", True, "a count from a number"),
+    ("impl CoreCount {\n}\n", False, "the counter's own functions"),
+    ("impl Key {\n    fn f(cores: &mut CoreCount) {}\n}\n", False, "functions that are given a count"),
+    ("impl Clone for Limits {\n}\n", True, "a copy that is not derived"),
+    ("impl<const N: usize> Clone\n    for Bytes<N> {\n}\n", True, "the same, with parameters"),
+    ("#[derive(Clone, PartialEq)]\npub struct Limits {\n}\n", False, "what is derived"),
+    ("impl PartialEq for Output {\n    ghost eq = { first_ten };\n}\n", True, "a part that is compared"),
+    ("impl PartialEq<Key> for Output {\n    ghost eq = { first_ten };\n}\n", True, "the same, with another type"),
+    ("impl PartialEq for Text {\n    ghost eq = { λ s t. pointwise nat_eq s t };\n}\n", False, "all bytes, compared"),
+]
+
+# What the counter's own file may not hold besides.
+IN_COUNTER = [
+    ("impl CoreCount {\n    fn f() -> CoreCount { Self::new() }\n}\n", True, "a new count by the type's other name"),
+    ("#[derive(Drop, Clone)]\npub struct CoreCount {\n}\n", True, "a count that can be copied"),
+    ("#[derive(Drop)]\npub struct CoreCount {\n}\n", False, "the counter as it is"),
 ]
 
 PRIVATE = "src/lib.rt:3:5: error[private-field]: `seal` is private\n"
@@ -34,15 +54,17 @@ PRINTED = [
 
 
 def main():
+    placed = [("crates/a/src/lib.rt", *row) for row in ROWS]
+    placed += [(must_not_compile.COUNTER_SOURCE, *row) for row in IN_COUNTER]
     wrong = [
         reason
-        for source, refused, reason in ROWS
-        if bool(list(must_not_compile.count_complaints(RIGHT | {"crates/a/src/lib.rt": source}))) != refused
+        for path, source, refused, reason in placed
+        if bool(must_not_compile.complaints(RIGHT | {path: source})) != refused
     ]
     wrong += [reason for printed, kind, reason in PRINTED if must_not_compile.kind_of(printed) != kind]
     for reason in wrong:
         print(f"must_not_compile.py, {reason}: not as it should be")
-    cases = len(ROWS) + len(PRINTED)
+    cases = len(placed) + len(PRINTED)
     print(f"must_not_compile.py: {cases - len(wrong)} of {cases} cases as they should be")
     sys.exit(1 if wrong else 0)
 
