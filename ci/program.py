@@ -8,6 +8,7 @@ hashes are passlib's and libxcrypt's.
 usage: program.py PROGRAM
 """
 
+import os
 import subprocess
 import sys
 
@@ -30,6 +31,7 @@ ANSWERS = [
         "16b7ca20bc71b047b152bb150c62dd9e14d23f698eeaade5d0ed74a8e355acd2da",
         "each parameter is another, and a salt has digits of either case",
     ),
+    ("key 4 1 1 16 ", "x" * 5000, 0, "19e0dd858b21a85d5233e34f8025c066", "more than one read of the input"),
     ("key 4 1 1 16 ", "pass\nword\n", 0, "704d1995acb73578bcb377b08d0d622c", "newlines belong to the password"),
     (
         "hash phc 16 8 1 68cd79ef5debdd7b2fc5b8b7d65aabd5",
@@ -231,6 +233,13 @@ REHASHES = [
     ("rehash phc 4 1 1 32 00 $argon2id$ln=4$aA", "password", 2, "hash refused: Algorithm", "verifying refuses"),
 ]
 
+# A stream that is replaced by a file, its path, how the run ends, and the reason for the row.
+STREAMS = [
+    ("stdin", ".", (4, "", "input failed\n"), "a folder can't be read"),
+    ("stdout", "/dev/full", (4, "", "output failed\n"), "nothing can be written"),
+    ("stderr", "/dev/full", (0, "704d1995acb73578bcb377b08d0d622c\n", ""), "no error is written"),
+]
+
 
 def answer(program, line, text):
     """How a run of the program ends: its status, and what it wrote to the output and to the faults."""
@@ -238,16 +247,33 @@ def answer(program, line, text):
     return ran.returncode, ran.stdout.decode(), ran.stderr.decode()
 
 
+def answer_with(program, stream, path):
+    """How a run ends whose named stream is a file, by the same three."""
+    flags = os.O_RDONLY if stream == "stdin" else os.O_WRONLY
+    file = os.open(path, flags)
+    streams = {"stdout": subprocess.PIPE, "stderr": subprocess.PIPE} | {stream: file}
+    given = {} if stream == "stdin" else {"input": b"pass\nword\n"}
+    ran = subprocess.run([program, "key", "4", "1", "1", "16", ""], **streams, **given)
+    os.close(file)
+    return ran.returncode, (ran.stdout or b"").decode(), (ran.stderr or b"").decode()
+
+
 def main():
     rows = ANSWERS + FAULTS + REHASHES
     wrong = 0
+    for stream, path, wanted, reason in STREAMS:
+        got = answer_with(sys.argv[1], stream, path)
+        if got != wanted:
+            print(f"{stream} is {path} ({reason}): {got}, and not {wanted}")
+            wrong += 1
     for line, text, status, printed, reason in rows:
         wanted = (status, printed + "\n", "") if status < 2 else (status, "", printed + "\n")
         got = answer(sys.argv[1], line, text)
         if got != wanted:
             print(f"{line!r} ({reason}): {got}, and not {wanted}")
             wrong += 1
-    print(f"program: {len(rows) - wrong} of {len(rows)} command lines answered as they should be")
+    runs = len(rows) + len(STREAMS)
+    print(f"program: {runs - wrong} of {runs} runs ended as they should")
     sys.exit(1 if wrong else 0)
 
 
