@@ -240,6 +240,13 @@ STREAMS = [
     ("stderr", "/dev/full", (0, "704d1995acb73578bcb377b08d0d622c\n", ""), "no error is written"),
 ]
 
+# Parameters whose chunks take 2 GiB, and whose table is refused: log_n is 56, r is 1 and p is 2^24. Nothing is written
+# before everything is allocated, so that the run touches little memory. Each row has a bound on the addresses of the
+# run, or None, and the reason for the row.
+REFUSED_TABLE = "verify $7$s/......../$r/"
+MOST_TOUCHED = 64 << 20
+ADDRESSES = [(None, "there is room for the chunks"), (1 << 30, "there is none")]
+
 
 def answer(program, line, text):
     """How a run of the program ends: its status, and what it wrote to the output and to the faults."""
@@ -258,6 +265,16 @@ def answer_with(program, stream, path):
     return ran.returncode, (ran.stdout or b"").decode(), (ran.stderr or b"").decode()
 
 
+def touched_by(program, line, addresses):
+    """How a run ends whose addresses are bounded, and how many bytes of memory it touched."""
+    limit = [] if addresses is None else ["prlimit", f"--as={addresses}"]
+    run = subprocess.Popen([*limit, program, *line.split(" ")], stdin=subprocess.DEVNULL, stderr=subprocess.PIPE)
+    error = run.stderr.read().decode()
+    _, status, usage = os.wait4(run.pid, 0)
+    run.returncode = os.waitstatus_to_exitcode(status)
+    return (run.returncode, error), usage.ru_maxrss << 10
+
+
 def main():
     rows = ANSWERS + FAULTS + REHASHES
     wrong = 0
@@ -272,7 +289,12 @@ def main():
         if got != wanted:
             print(f"{line!r} ({reason}): {got}, and not {wanted}")
             wrong += 1
-    runs = len(rows) + len(STREAMS)
+    for addresses, reason in ADDRESSES:
+        got, touched = touched_by(sys.argv[1], REFUSED_TABLE, addresses)
+        if got != (3, "out of memory\n") or touched > MOST_TOUCHED:
+            print(f"{REFUSED_TABLE!r} ({reason}): {got}, and {touched} bytes touched")
+            wrong += 1
+    runs = len(rows) + len(STREAMS) + len(ADDRESSES)
     print(f"program: {runs - wrong} of {runs} runs ended as they should")
     sys.exit(1 if wrong else 0)
 
