@@ -29,7 +29,7 @@ NEW_COUNTS = {
     "crates/scrypt/src/mcf/hashing.rt": 1,
     "crates/scrypt/src/phc/hashing.rt": 1,
     "crates/scrypt/src/verifying.rt": 1,
-    "crates/scrypt_c/src/with_buffers.rt": 3,
+    "crates/scrypt_c/src/with_buffers.rt": 4,
     "crates/scrypt_c/src/keys.rt": 1,
     "crates/test_verdicts/src/main.rt": 1,
 }

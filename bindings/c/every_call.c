@@ -73,6 +73,13 @@ static int verify_with_buffers(void) {
   return status;
 }
 
+/* In buffers for one, and so one after the other. */
+static int verify_two_with_buffers(void) {
+  int other = -1, status = scrypt_verify_two_with_buffers(PASSWORD, phc, phc_len, PASSWORD, mcf, mcf_len, &other, BUFFERS);
+  scrypt_wipe(BUFFERS);
+  return status == SCRYPT_OK ? other : status;
+}
+
 static int hash_phc_with_buffers(void) {
   int status = scrypt_hash_phc_with_buffers(PASSWORD, SALT, PARAMS, KEY_LEN, phc, sizeof phc, &phc_len, BUFFERS);
   scrypt_wipe(BUFFERS);
@@ -111,6 +118,11 @@ static int hash_phc_in(void) {
 }
 static int hash_mcf_in(void) {
   return wiped(scrypt_hash_mcf_in(memory, PASSWORD, SALT, PARAMS, KEY_LEN, mcf, sizeof mcf, &mcf_len));
+}
+static int verify_two_in(void) {
+  int status = -1, other = -1;
+  scrypt_verify_two_in(memory, PASSWORD, phc, phc_len, &status, PASSWORD, mcf, mcf_len, &other);
+  return wiped(status == SCRYPT_OK ? other : status);
 }
 static int verify_in(void) { return wiped(scrypt_verify_in(memory, PASSWORD, mcf, mcf_len)); }
 
@@ -206,6 +218,7 @@ static const struct {
     {"scrypt_verify of a $7$ text", verify_mcf, NULL},
     {"scrypt_verify of another password", verify_another_password, NULL},
     {"scrypt_verify_with_buffers", verify_with_buffers, NULL},
+    {"scrypt_verify_two_with_buffers", verify_two_with_buffers, NULL},
     {"scrypt_needs_rehash", needs_rehash, NULL},
     {"scrypt_hash_needs", hash_needs, NULL},
     {"scrypt_hash_params", hash_params, NULL},
@@ -213,6 +226,7 @@ static const struct {
     {"scrypt_hash_phc_in", hash_phc_in, NULL},
     {"scrypt_hash_mcf_in", hash_mcf_in, NULL},
     {"scrypt_verify_in", verify_in, NULL},
+    {"scrypt_verify_two_in", verify_two_in, NULL},
     {"scrypt_memory_free", new_memory, NULL},
     {"crypto_scrypt", of_libscrypt_kdf, &drop_in},
     {"libscrypt_scrypt", of_libscrypt, &drop_in},

@@ -191,19 +191,75 @@ int scrypt_hash_mcf_in(scrypt_memory *memory, const uint8_t *password, size_t pa
                                       of.table_len, of.scratch, of.scratch_len);
 }
 
+/* A password and the text of a hash. */
+struct login {
+  const uint8_t *password;
+  size_t password_len;
+  const char *text;
+  size_t text_len;
+};
+
+/* The lengths of the buffers for verifying, if the text can be read and is within the bounds of the memory. */
+static int measure_login(const scrypt_memory *memory, struct login *login, struct buffers *buffers) {
+  if (memory == NULL || scrypt_is_null(login->password, login->password_len) ||
+      scrypt_is_null(login->text, login->text_len))
+    return SCRYPT_NULL_POINTER;
+  login->password = scrypt_bytes(login->password);
+  if (login->text == NULL) login->text = "";
+  return scrypt_hash_needs(login->text, login->text_len, memory->most_bytes, memory->most_work, memory->least_key_len,
+                           &buffers->chunks_len, &buffers->table_len, &buffers->scratch_len);
+}
+
+/* Verifies what is measured. */
+static int verify(scrypt_memory *memory, const struct login *login, struct buffers *of) {
+  int status = place(memory, of);
+  if (status != SCRYPT_OK) return status;
+  return scrypt_verify_with_buffers(login->password, login->password_len, login->text, login->text_len, of->chunks,
+                                    of->chunks_len, of->table, of->table_len, of->scratch, of->scratch_len);
+}
+
 int scrypt_verify_in(scrypt_memory *memory, const uint8_t *password, size_t password_len, const char *text,
                      size_t text_len) {
+  struct login login = {password, password_len, text, text_len};
   struct buffers of;
-  int status;
-  if (memory == NULL || scrypt_is_null(password, password_len) || scrypt_is_null(text, text_len))
-    return SCRYPT_NULL_POINTER;
-  if (text == NULL) text = "";
-  status = scrypt_hash_needs(text, text_len, memory->most_bytes, memory->most_work, memory->least_key_len,
-                             &of.chunks_len, &of.table_len, &of.scratch_len);
-  if (status == SCRYPT_OK) status = place(memory, &of);
-  if (status != SCRYPT_OK) return status;
-  return scrypt_verify_with_buffers(scrypt_bytes(password), password_len, text, text_len, of.chunks, of.chunks_len,
-                                    of.table, of.table_len, of.scratch, of.scratch_len);
+  int status = measure_login(memory, &login, &of);
+  return status == SCRYPT_OK ? verify(memory, &login, &of) : status;
+}
+
+/* Takes room for two such derivations: their bytes are within a bound of the memory, and twice as many may not be. */
+static int take_two(scrypt_memory *memory, const struct buffers *one, struct buffers *two) {
+  if (4 * (one->table_len + one->scratch_len) + one->chunks_len > SIZE_MAX / 2) return SCRYPT_OUT_OF_MEMORY;
+  two->chunks_len = 2 * one->chunks_len;
+  two->table_len = 2 * one->table_len;
+  two->scratch_len = 2 * one->scratch_len;
+  return place(memory, two);
+}
+
+/* Buffers have the same lengths only for the same parameters. */
+static int are_same(const struct buffers *of, const struct buffers *other) {
+  return of->chunks_len == other->chunks_len && of->table_len == other->table_len &&
+         of->scratch_len == other->scratch_len;
+}
+
+void scrypt_verify_two_in(scrypt_memory *memory, const uint8_t *password, size_t password_len, const char *text,
+                          size_t text_len, int *status, const uint8_t *other_password, size_t other_password_len,
+                          const char *other_text, size_t other_text_len, int *other_status) {
+  struct login one = {password, password_len, text, text_len};
+  struct login other = {other_password, other_password_len, other_text, other_text_len};
+  struct buffers of, others, both;
+  if (status == NULL || other_status == NULL) return;
+  *status = measure_login(memory, &one, &of);
+  *other_status = measure_login(memory, &other, &others);
+  if (*status == SCRYPT_OK && *other_status == SCRYPT_OK && are_same(&of, &others) &&
+      take_two(memory, &of, &both) == SCRYPT_OK) {
+    *status = scrypt_verify_two_with_buffers(one.password, one.password_len, one.text, one.text_len, other.password,
+                                             other.password_len, other.text, other.text_len, other_status, both.chunks,
+                                             both.chunks_len, both.table, both.table_len, both.scratch,
+                                             both.scratch_len);
+    return;
+  }
+  if (*status == SCRYPT_OK) *status = verify(memory, &one, &of);
+  if (*other_status == SCRYPT_OK) *other_status = verify(memory, &other, &others);
 }
 
 int scrypt_kdf_mapped(const uint8_t *password, size_t password_len, const uint8_t *salt, size_t salt_len,

@@ -52,6 +52,14 @@ CLEARING(scrypt_verify_with_buffers,
           size_t chunks_len, uint32_t *table, size_t table_len, uint32_t *scratch, size_t scratch_len),
          (password, password_len, text, text_len, chunks, chunks_len, table, table_len, scratch, scratch_len))
 
+CLEARING(scrypt_verify_two_with_buffers,
+         (const uint8_t *password, size_t password_len, const char *text, size_t text_len,
+          const uint8_t *other_password, size_t other_password_len, const char *other_text, size_t other_text_len,
+          int *other_status, uint8_t *chunks, size_t chunks_len, uint32_t *table, size_t table_len, uint32_t *scratch,
+          size_t scratch_len),
+         (password, password_len, text, text_len, other_password, other_password_len, other_text, other_text_len,
+          other_status, chunks, chunks_len, table, table_len, scratch, scratch_len))
+
 /* The last three take no password, but read the key in the text. */
 CLEARING(scrypt_hash_needs,
          (const char *text, size_t text_len, size_t most_bytes, uint64_t most_work, size_t least_key_len,

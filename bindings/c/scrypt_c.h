@@ -12,6 +12,7 @@
  *   the same with other parameters, or your salt     scrypt_hash_phc; scrypt_hash_mcf: $7$    yes
  *   to verify a password by a stored hash            scrypt_verify                            yes
  *   to verify with no allocation, in your buffers    scrypt_verify_with_buffers               yes
+ *   two verifications at once, in 0.6 of the time    scrypt_verify_two_with_buffers           yes
  *   to know whether a stored hash is too weak now    scrypt_needs_rehash                      yes
  *   to know what a stored hash costs                 scrypt_hash_params                       yes
  *   a salt for a new key or hash                     scrypt_draw_salt                         no
@@ -52,7 +53,7 @@
 
 /* The most bytes of the stack that any call uses, if malloc is the system's. Before a call that sees a password or a key
  * returns, it writes zeros to the part that it used; further below nothing is written. */
-#define SCRYPT_STACK_BYTES 8192
+#define SCRYPT_STACK_BYTES 10240
 
 /* gcc and clang warn if a status is not used, or if NULL is passed to a proved call. */
 #ifdef __GNUC__
@@ -208,6 +209,17 @@ int scrypt_verify_with_buffers(const uint8_t *password, size_t password_len, con
                                uint8_t *chunks, size_t chunks_len, uint32_t *table, size_t table_len,
                                uint32_t *scratch, size_t scratch_len);
 
+/* Verifies two passwords, each with its own hash: returns what scrypt_verify_with_buffers returns for the first alone in
+ * these buffers, and writes to *other_status what it returns for the other alone, whatever the first is. If both hashes
+ * have the same parameters, and each buffer is at least twice as long as scrypt_buffer_lens says with s = 0 for them,
+ * both keys are derived at once, which takes about 0.6 of the time, and otherwise one after the other. Afterwards what
+ * was used of chunks and scratch is zeros. */
+SCRYPT_CHECKED SCRYPT_NONNULL
+int scrypt_verify_two_with_buffers(const uint8_t *password, size_t password_len, const char *text, size_t text_len,
+                                   const uint8_t *other_password, size_t other_password_len, const char *other_text,
+                                   size_t other_text_len, int *other_status, uint8_t *chunks, size_t chunks_len,
+                                   uint32_t *table, size_t table_len, uint32_t *scratch, size_t scratch_len);
+
 /* SCRYPT_NEEDS_REHASH if log_n, r, p or the key's length is below the wanted one, or the hash has no salt or no key,
  * and SCRYPT_OK if not. Nothing is allocated. First SCRYPT_INVALID_PARAMS (also for key_len), then the errors of scrypt_verify
  * except SCRYPT_OUT_OF_MEMORY. */
@@ -281,6 +293,14 @@ int scrypt_hash_mcf_in(scrypt_memory *memory, const uint8_t *password, size_t pa
 SCRYPT_CHECKED
 int scrypt_verify_in(scrypt_memory *memory, const uint8_t *password, size_t password_len, const char *text,
                      size_t text_len);
+
+/* Verifies two passwords, each with its own hash. Each status is exactly what scrypt_verify_in returns for it alone,
+ * whatever the other is. Two with the same parameters are verified at once, in about 0.6 of the time. The bounds of the
+ * memory are those of one verification: two at once take twice as many bytes, or are verified one after the other if the
+ * system refuses so many. Nothing if a pointer to a status is NULL. */
+void scrypt_verify_two_in(scrypt_memory *memory, const uint8_t *password, size_t password_len, const char *text,
+                          size_t text_len, int *status, const uint8_t *other_password, size_t other_password_len,
+                          const char *other_text, size_t other_text_len, int *other_status);
 
 /* ---- Salts, and the version ---- */
 

@@ -177,6 +177,33 @@ static void verify_in_buffers(const char *text) {
   free(table);
 }
 
+/* Verifies two at once, in buffers for two and in those for one, and leaves what is behind them. */
+static void verify_two_in_buffers(const char *text) {
+  static uint8_t chunks[2049];
+  static uint32_t table[8193], scratch[1025];
+  size_t chunks_len, table_len, scratch_len, times, i, n = strlen(text);
+  check(scrypt_buffer_lens(4, 8, 1, 0, &chunks_len, &table_len, &scratch_len) == SCRYPT_OK, "lens for two");
+  for (times = 1; times <= 2; times++) {
+    size_t of = times * chunks_len, words = times * table_len, spare = times * scratch_len, nonzero = 0;
+    int other = -1;
+    chunks[of] = 7, table[words] = 7, scratch[spare] = 7;
+    check(scrypt_verify_two_with_buffers(b("pw"), 2, text, n, b("PW"), 2, text, n, &other, chunks, of, table, words,
+                                         scratch, spare) == SCRYPT_OK, "the password, beside another");
+    check(other == SCRYPT_MISMATCH, "another password, beside it");
+    for (i = 0; i < of; i++) nonzero += chunks[i] != 0;
+    for (i = 0; i < spare; i++) nonzero += scratch[i] != 0;
+    check(nonzero == 0, "chunks and scratch are zeros");
+    check(chunks[of] == 7 && table[words] == 7 && scratch[spare] == 7, "nothing behind them");
+    check(scrypt_verify_two_with_buffers(b("pw"), 2, "$8$", 3, b("pw"), 2, text, n, &other, chunks, of, table, words,
+                                         scratch, spare) == SCRYPT_ENCODING_INVALID && other == SCRYPT_OK, "no text");
+    check(scrypt_verify_two_with_buffers(b("pw"), 2, text, n, b("pw"), 2, "$8$", 3, &other, chunks, of, table, words,
+                                         scratch, spare) == SCRYPT_OK && other == SCRYPT_ENCODING_INVALID, "no other");
+    check(scrypt_verify_two_with_buffers(b("pw"), 2, text, n, b("pw"), 2, text, n, &other, chunks, chunks_len - 1, table,
+                                         words, scratch, spare) == SCRYPT_BUFFER_SIZE && other == SCRYPT_BUFFER_SIZE,
+          "short chunks for two");
+  }
+}
+
 /* scrypt_hash_phc_with_buffers or scrypt_hash_mcf_with_buffers: the same text as without buffers, zeros in chunks and
  * scratch after it, and refusals that leave what they should. */
 static void hash_in_buffers(int is_mcf, const char *made) {
@@ -247,7 +274,9 @@ static void hashes(void) {
   hash_in_buffers(0, phc);
   hash_in_buffers(1, mcf);
   verify_in_buffers(phc);
+  verify_two_in_buffers(phc);
   verify_in_buffers(mcf);
+  verify_two_in_buffers(mcf);
   hash_params(phc);
   hash_params(mcf);
   check(verify("pw ", phc) == SCRYPT_MISMATCH && verify("", mcf) == SCRYPT_MISMATCH, "another password");

@@ -201,8 +201,68 @@ static void needs(void) {
   scrypt_memory_free(memory);
 }
 
-/* In a child that may take 64 MiB more than it has a table of 128 MiB is refused, and then one of 16 MiB is not. */
+/* A text, its password or another one, and the reason for the row. The least key of the memory is 16 bytes. */
+static const struct {
+  const char *text, *password, *reason;
+} LOGINS[] = {
+    {"$scrypt$ln=4,r=8,p=1$c2FsdA$AAAAAAAAAAAAAAAAAAAAAA", "pw", "another password"},
+    {"$scrypt$ln=4,r=8,p=2$c2FsdA$AAAAAAAAAAAAAAAAAAAAAA", "pw", "another p"},
+    {"$scrypt$ln=4,r=16,p=1$c2FsdA$AAAAAAAAAAAAAAAAAAAAAA", "pw", "another r"},
+    {"$7$2/..../....salt$......................", "pw", "a $7$ text"},
+    {"$scrypt$ln=4,r=8,p=1", "pw", "no salt and no key"},
+    {"$scrypt$ln=40,r=8,p=1$c2FsdA$AAAAAAAAAAAAAAAAAAAAAA", "pw", "a costly text"},
+    {"$7$2/..../....salt$s/", "pw", "a key of one byte"},
+    {"$argon2id$ln=4", "pw", "another algorithm"},
+    {"\xff", "pw", "no text"},
+};
+
+/* Both statuses of two texts are those of each alone, and both passwords may be right. */
+static void check_two(scrypt_memory *memory, const char *text, const char *password, const char *other_text,
+                      const char *other_password, const char *reason) {
+  int status = -1, other_status = -1;
+  int alone = scrypt_verify_in(memory, b(password), strlen(password), text, strlen(text));
+  int other_alone = scrypt_verify_in(memory, b(other_password), strlen(other_password), other_text, strlen(other_text));
+  scrypt_verify_two_in(memory, b(password), strlen(password), text, strlen(text), &status, b(other_password),
+                       strlen(other_password), other_text, strlen(other_text), &other_status);
+  check(status == alone, reason);
+  check(other_status == other_alone, reason);
+}
+
+static void two_at_once(void) {
+  scrypt_memory *memory = bounded(), *narrow = scrypt_memory_new(19456, SCRYPT_MOST_WORK);
+  char phc[SCRYPT_PHC_CAPACITY], mcf[SCRYPT_MCF_CAPACITY(4)];
+  size_t i, j, len;
+  int status = -1, other_status = -1;
+  check(scrypt_hash_phc_z("one", 3, "salt", 4, 4, 8, 1, 32, phc, sizeof phc) == SCRYPT_OK, "a PHC hash");
+  check(scrypt_hash_mcf_z("two", 3, "salt", 4, 4, 8, 1, 16, mcf, sizeof mcf) == SCRYPT_OK, "a $7$ hash");
+  scrypt_memory_set_least_key_len(memory, 16);
+  for (i = 0; i < sizeof LOGINS / sizeof LOGINS[0]; i++) {
+    const char *text = LOGINS[i].text, *password = LOGINS[i].password, *reason = LOGINS[i].reason;
+    check_two(memory, phc, "one", text, password, reason);
+    check_two(memory, text, password, mcf, "two", reason);
+    for (j = 0; j < sizeof LOGINS / sizeof LOGINS[0]; j++)
+      check_two(memory, text, password, LOGINS[j].text, LOGINS[j].password, LOGINS[j].reason);
+  }
+  len = strlen(phc);
+  scrypt_verify_two_in(narrow, b("one"), 3, phc, len, &status, b("two"), 3, mcf, strlen(mcf), &other_status);
+  check(status == SCRYPT_OK && other_status == SCRYPT_OK, "both, in memory whose bound is that of one");
+  scrypt_verify_two_in(narrow, b("two"), 3, phc, len, &status, b("two"), 3, mcf, strlen(mcf), &other_status);
+  check(status == SCRYPT_MISMATCH && other_status == SCRYPT_OK, "a wrong one beside a right one");
+  scrypt_verify_two_in(narrow, b("one"), 3, phc, len, &status, b("one"), 3, mcf, strlen(mcf), &other_status);
+  check(status == SCRYPT_OK && other_status == SCRYPT_MISMATCH, "a right one beside a wrong one");
+  scrypt_verify_two_in(NULL, b("one"), 3, phc, len, &status, b("one"), 3, mcf, strlen(mcf), &other_status);
+  check(status == SCRYPT_NULL_POINTER && other_status == SCRYPT_NULL_POINTER, "no memory");
+  scrypt_verify_two_in(narrow, NULL, 3, phc, len, &status, b("two"), 3, mcf, strlen(mcf), &other_status);
+  check(status == SCRYPT_NULL_POINTER && other_status == SCRYPT_OK, "NULL beside a right one");
+  scrypt_memory_free(narrow);
+  scrypt_memory_free(memory);
+}
+
+/* In a child that may take 64 MiB more than it has a table of 128 MiB is refused, and then one of 16 MiB is not. Two tables
+ * of 32 MiB are refused, and so they are taken one after the other. */
 static int in_little_memory(void) {
+  static const char LARGE[] = "$scrypt$ln=15,r=8,p=1" SALT_AND_KEY;
+  int status = -1, other_status = -1;
   uint8_t key[4] = {1, 2, 3, 4};
   scrypt_memory *memory = bounded();
   struct rlimit most;
@@ -211,6 +271,8 @@ static int in_little_memory(void) {
   if (scrypt_kdf_in(memory, b(""), 0, b(""), 0, 17, 8, 1, key, 4) != SCRYPT_OUT_OF_MEMORY) return 4;
   if (memcmp(key, "\1\2\3\4", 4) != 0) return 5;
   if (scrypt_kdf_in(memory, b(""), 0, b(""), 0, 14, 8, 1, key, 4) != SCRYPT_OK) return 6;
+  scrypt_verify_two_in(memory, b(""), 0, LARGE, strlen(LARGE), &status, b("pw"), 2, LARGE, strlen(LARGE), &other_status);
+  if (status != SCRYPT_MISMATCH || other_status != SCRYPT_MISMATCH) return 7;
   scrypt_memory_free(memory);
   return 0;
 }
@@ -238,6 +300,7 @@ int main(int argc, char **argv) {
   hostile_hashes(is_watched);
   refusals();
   needs();
+  two_at_once();
   many_calls(is_watched ? 1000 : 100000, is_watched);
   child = fork();
   if (child == 0) _exit(in_little_memory());

@@ -1,11 +1,12 @@
--- What verifying leaves in the caller's buffers.
-use Rattle.std.proofs.Common.{◌≡◌, Ok, Err, true, false, refl, ap}
+-- What verifying leaves in the caller's buffers, one hash and two.
+use Rattle.std.proofs.Common.{◌≡◌, ℕ, List, Ok, Err, true, false, refl, ap}
 use Rattle.std.specs.Prelude.{Bool, MatchBool, Result}
 use Rattle.password_hash.specs.Refusal.{Refusal}
 use Rattle.scrypt.specs.Accepted.{Parameters}
 use Rattle.scrypt.specs.Reading.{Stored}
-use Rattle.scrypt.specs.WorkInBuffers.{IsDone, IsLeft, Work, has_room}
-use Rattle.scrypt_c.specs.InBuffers.{AreLeft, AreUsed, buffers}
+use Rattle.scrypt.specs.TwoVerdicts as two
+use Rattle.scrypt.specs.WorkInBuffers.{IsDone, IsLeft, Work, has_room, verdict_in}
+use Rattle.scrypt_c.specs.InBuffers.{AreLeft, AreTwoLeft, AreUsed, at_once, buffers, in_turn}
 
 -- the buffers without the count
 abbrev uncounted : Work → Work
@@ -25,3 +26,16 @@ pub left_uncounted : (reading : Result Stored Refusal) (before after : Work) →
 left_uncounted (Ok s) before after left =
     rw (has_room_uncounted s.params before) (done_left (has_room s.params before) s.params before after left)
 left_uncounted (Err why) before after same = ap uncounted same
+
+pub two_left_uncounted : (reading other : Result Stored Refusal) (before after : Work)
+    → two.AreLeft IsLeft reading other before after → AreTwoLeft reading other (uncounted before) (uncounted after)
+two_left_uncounted reading other before after (two.in_turn {between = between} left other_left) =
+    in_turn (uncounted between) (left_uncounted reading before between left) (left_uncounted other between after other_left)
+two_left_uncounted (Ok s) (Ok other) before after (two.at_once same done) =
+    at_once same (record { chunks = done.chunks; scratch = done.scratch; rest = done.rest })
+
+-- a verdict doesn't depend on the count
+pub verdict_uncounted : (w : Work) (password : List ℕ) (reading : Result Stored Refusal)
+    → verdict_in w password reading ≡ verdict_in (uncounted w) password reading
+verdict_uncounted w password (Ok s) = rw (has_room_uncounted s.params w) refl
+verdict_uncounted w password (Err why) = refl

@@ -8,7 +8,7 @@ ghost use Rattle.scrypt.specs.McfHash.{IsMadeHash as IsMadeMcf, made_text_len};
 ghost use Rattle.scrypt.specs.PhcHash.{IsMadeText, IsSaltLen};
 ghost use Rattle.scrypt.specs.StoredHash.{StoredText};
 ghost use Rattle.scrypt.specs.WorkInBuffers.{verdict_in};
-ghost use Rattle.scrypt_c.specs.InBuffers.{AreLeft, AreUsed, buffers};
+ghost use Rattle.scrypt_c.specs.InBuffers.{AreLeft, AreTwoLeft, AreUsed, buffers};
 ghost use Rattle.scrypt_c.specs.Made.{IsTooLong, IsWrittenTo, wanted};
 ghost use Rattle.scrypt_c.specs.Statuses.{buffers_status};
 ghost use Rattle.scrypt_c.specs.Texts.{ReadsBytes};
@@ -159,6 +159,70 @@ pub extern "C" fn scrypt_verify_with_buffers(
             password, chunks, table, scratch, &mut cores,
         )),
         Err(error) => status_of(error),
+    }
+}
+
+/// Verifies two passwords, each with its own hash, in the caller's buffers. Does not allocate.
+///
+/// Returns what `scrypt_verify_with_buffers` returns for the first alone in these buffers, and writes
+/// to `other_status` what it returns for the other alone, whatever the first is. If both hashes have
+/// the same parameters, and each buffer is at least twice as long as `scrypt_buffer_lens` returns for
+/// them, with `s` of 0, both keys are derived at once, which takes about 0.6 of the time. Afterwards
+/// what was used of the chunks and of the scratch is zeros, what was used of the table is
+/// unspecified, and nothing after them has changed.
+#[unsafe(no_mangle)]
+pub extern "C" fn scrypt_verify_two_with_buffers(
+    password: &[u8],
+    text: &[u8],
+    other_password: &[u8],
+    other_text: &[u8],
+    other_status: &mut i32,
+    chunks: &mut [u8],
+    table: &mut [u32],
+    scratch: &mut [u32],
+) -> i32
+    ensures status { (hash : StoredText) × ReadsBytes text.now hash
+        × (result ≡ buffers_status (verdict_in (buffers chunks.old table.old scratch.old) password.now hash.whole)) }
+    ensures other_status { (other : StoredText) × ReadsBytes other_text.now other
+        × (other_status.new
+        ≡ buffers_status (verdict_in (buffers chunks.old table.old scratch.old) other_password.now other.whole)) }
+    ensures left { (hash : StoredText) × ReadsBytes text.now hash
+        × (other : StoredText) × ReadsBytes other_text.now other × AreTwoLeft hash.whole other.whole
+        (buffers chunks.old table.old scratch.old) (buffers chunks.new table.new scratch.new) }
+{
+    let mut cores = CoreCount::new();
+    match (stored_hash(text), stored_hash(other_text)) {
+        (Ok(hash), Ok(other)) => {
+            let (result, other_result) = hash.verify_two(
+                password,
+                &other,
+                other_password,
+                chunks,
+                table,
+                scratch,
+                &mut cores,
+            );
+            *other_status = buffers_status(other_result);
+            buffers_status(result)
+        }
+        (Ok(hash), Err(error)) => {
+            *other_status = status_of(error);
+            buffers_status(hash.verify_with_buffers(password, chunks, table, scratch, &mut cores))
+        }
+        (Err(error), Ok(other)) => {
+            *other_status = buffers_status(other.verify_with_buffers(
+                other_password,
+                chunks,
+                table,
+                scratch,
+                &mut cores,
+            ));
+            status_of(error)
+        }
+        (Err(error), Err(other_error)) => {
+            *other_status = status_of(other_error);
+            status_of(error)
+        }
     }
 }
 
