@@ -30,6 +30,11 @@ def without_old_libraries():
             shutil.rmtree(folder)
 
 
+def without_links():
+    """Removes the libraries for C, which are built again below: `rt ci` refuses a clone with their links."""
+    shutil.rmtree("build/lib", ignore_errors=True)
+
+
 def libraries():
     """Brings libraries of an earlier `rt lib` up to date, and returns whether all are built."""
     names = [it for name in edits.crates_with("wrong-bodies") for it in words.below(name)]
@@ -64,6 +69,7 @@ def proved():
 
 def main():
     without_old_libraries()
+    without_links()
     count = proved()
     tool, verdicts = "crates/scrypt_tool/out/scrypt_tool", "crates/test_verdicts/out/test_verdicts"
     for script in [["ci/program.py", tool], ["ci/hashes.py", tool, verdicts]]:
