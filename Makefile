@@ -27,6 +27,7 @@
 #               and WORKERS="--callgrind" counts instructions
 #   make thin   measures the key by smaller tables, and draws docs/thin.svg
 #   make parameters  measures logins at each log_n, alone and at once, and draws docs/parameters.svg
+#   make bounds measures the dearest hash within the default bounds, for each log_n and some r
 #   make compare-worker WORKER=PATH  compares 10,000 keys with those of such a program
 #   make promises writes docs/PROMISES.md from the sources: each public function with its clauses, and the definitions
 #   make doc    makes the reader for the proof, build/doc/index.html, in seconds and without the kit or a network; it
@@ -38,7 +39,7 @@
 #   make clean  removes what was built
 
 .PHONY: help run check test documents wrong-bodies refused-by-tests oracle lib install uninstall \
-  crypt callers bench thin parameters compare-worker clean kit
+  crypt callers bench thin parameters bounds compare-worker clean kit
 
 help:
 	@sed -n '/^#/!q; s/^# \{0,1\}//p' Makefile
@@ -161,6 +162,9 @@ thin: lib
 
 parameters: lib
 	python3 bench/parameters.py build/lib/libscrypt_c.so 15 docs/parameters.svg
+
+bounds: lib
+	python3 bench/bounds.py build/lib/libscrypt_c.so
 
 compare-worker: kit
 	@test -n "$(WORKER)" || { echo "Say with what: make compare-worker WORKER=PATH" >&2; exit 1; }
