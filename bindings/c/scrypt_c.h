@@ -12,7 +12,7 @@
  *   the same with other parameters, or your salt     scrypt_hash_phc; scrypt_hash_mcf: $7$    yes
  *   to verify a password by a stored hash            scrypt_verify                            yes
  *   to verify with no allocation, in your buffers    scrypt_verify_with_buffers               yes
- *   two verifications at once, in 0.6 of the time    scrypt_verify_two_with_buffers           yes
+ *   two verifications at once, in 0.7 of the time    scrypt_verify_two_with_buffers           yes
  *   to know whether a stored hash is too weak now    scrypt_needs_rehash                      yes
  *   to know what a stored hash costs                 scrypt_hash_params                       yes
  *   a salt for a new key or hash                     scrypt_draw_salt                         no
@@ -212,7 +212,7 @@ int scrypt_verify_with_buffers(const uint8_t *password, size_t password_len, con
 /* Verifies two passwords, each with its own hash: returns what scrypt_verify_with_buffers returns for the first alone in
  * these buffers, and writes to *other_status what it returns for the other alone, whatever the first is. If both hashes
  * have the same parameters, and each buffer is at least twice as long as scrypt_buffer_lens says with s = 0 for them,
- * both keys are derived at once, which takes about 0.6 of the time, and otherwise one after the other. Afterwards what
+ * both keys are derived at once, which takes about 0.7 of the time, and otherwise one after the other. Afterwards what
  * was used of chunks and scratch is zeros. */
 SCRYPT_CHECKED SCRYPT_NONNULL
 int scrypt_verify_two_with_buffers(const uint8_t *password, size_t password_len, const char *text, size_t text_len,
@@ -295,7 +295,7 @@ int scrypt_verify_in(scrypt_memory *memory, const uint8_t *password, size_t pass
                      size_t text_len);
 
 /* Verifies two passwords, each with its own hash. Each status is exactly what scrypt_verify_in returns for it alone,
- * whatever the other is. Two with the same parameters are verified at once, in about 0.6 of the time. The bounds of the
+ * whatever the other is. Two with the same parameters are verified at once, in about 0.7 of the time. The bounds of the
  * memory are those of one verification: two at once take twice as many bytes, or are verified one after the other if the
  * system refuses so many. Nothing if a pointer to a status is NULL. */
 void scrypt_verify_two_in(scrypt_memory *memory, const uint8_t *password, size_t password_len, const char *text,

@@ -55,7 +55,7 @@ impl BufferLens {
 
     /// Returns the lengths for two chunks at a time: the table and the scratch are twice as long as
     /// those of [`BufferLens::of`]. In buffers of these lengths or more a derivation with a `p` of at
-    /// least 2 takes about 0.6 of the time.
+    /// least 2 takes about 0.7 of the time.
     #[tactic(auto, using(crate::proofs::AcceptedFacts::small_lens))]
     pub fn two_tables(params: &Params) -> BufferLens
         ensures chunks { result.chunks ≡ chunks_bytes params.now.r params.now.p }

@@ -160,7 +160,7 @@ impl<'a> StoredHash<'a> {
     ///
     /// Each buffer is at least as long as [`StoredHash::buffer_lens`] returns. If `p` is at least 2
     /// and the table and the scratch are twice as long, two chunks are mixed at a time, which takes
-    /// about 0.6 of the time. Only the first elements of each buffer are used, as many as that. What
+    /// about 0.7 of the time. Only the first elements of each buffer are used, as many as that. What
     /// they hold before the call does not matter. Afterwards those of `chunks` and `scratch` are
     /// zeros, and those of `table` are unspecified. `cores` counts the `4 * N * r * p` cores of the
     /// hash's parameters.

@@ -167,7 +167,7 @@ pub extern "C" fn scrypt_verify_with_buffers(
 /// Returns what `scrypt_verify_with_buffers` returns for the first alone in these buffers, and writes
 /// to `other_status` what it returns for the other alone, whatever the first is. If both hashes have
 /// the same parameters, and each buffer is at least twice as long as `scrypt_buffer_lens` returns for
-/// them, with `s` of 0, both keys are derived at once, which takes about 0.6 of the time. Afterwards
+/// them, with `s` of 0, both keys are derived at once, which takes about 0.7 of the time. Afterwards
 /// what was used of the chunks and of the scratch is zeros, what was used of the table is
 /// unspecified, and nothing after them has changed.
 #[unsafe(no_mangle)]

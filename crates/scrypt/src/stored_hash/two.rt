@@ -19,7 +19,7 @@ impl<'a> StoredHash<'a> {
     ///
     /// If both hashes can be read and have the same parameters, and each buffer is at least as long
     /// as [`BufferLens::two_derivations`](crate::BufferLens::two_derivations) returns for them, both
-    /// keys are derived at once, which takes about 0.6 of the time. Otherwise they are derived one
+    /// keys are derived at once, which takes about 0.7 of the time. Otherwise they are derived one
     /// after the other. Afterwards all that was used of `chunks` and `scratch` is zeros. `cores`
     /// counts the `4 * N * r * p` cores of each hash whose keys are compared.
     pub fn verify_two(
