@@ -177,7 +177,7 @@ static void verify_in_buffers(const char *text) {
   free(table);
 }
 
-/* Verifies two at once, in buffers for two and in those for one, and leaves what is behind them. */
+/* Verifies two at once, in buffers for two and in those for one, and leaves what is after them. */
 static void verify_two_in_buffers(const char *text) {
   static uint8_t chunks[2049];
   static uint32_t table[8193], scratch[1025];
@@ -193,7 +193,7 @@ static void verify_two_in_buffers(const char *text) {
     for (i = 0; i < of; i++) nonzero += chunks[i] != 0;
     for (i = 0; i < spare; i++) nonzero += scratch[i] != 0;
     check(nonzero == 0, "chunks and scratch are zeros");
-    check(chunks[of] == 7 && table[words] == 7 && scratch[spare] == 7, "nothing behind them");
+    check(chunks[of] == 7 && table[words] == 7 && scratch[spare] == 7, "nothing after them is written");
     check(scrypt_verify_two_with_buffers(b("pw"), 2, "$8$", 3, b("pw"), 2, text, n, &other, chunks, of, table, words,
                                          scratch, spare) == SCRYPT_ENCODING_INVALID && other == SCRYPT_OK, "no text");
     check(scrypt_verify_two_with_buffers(b("pw"), 2, text, n, b("pw"), 2, "$8$", 3, &other, chunks, of, table, words,

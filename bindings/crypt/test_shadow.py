@@ -65,7 +65,7 @@ FILES = [
      "names that begin alike"),
     (OLD + b"\n" + OTHER + line("second"), errno.ENOTUNIQ, "two lines of the user, which pwck has to repair"),
     (OLD + b"\n" + OLD, errno.ENOTUNIQ, "the same line twice"),
-    (OTHER, errno.ESRCH, "no line of the user"),
+    (OTHER, errno.ESRCH, "the user has no line"),
     (b"", errno.ESRCH, "an empty file"),
     (b"user\nuser:\nuser:old\nuser:old:19000\nuser:old:19000:0\n", errno.ESRCH, "lines that are too short"),
     (b"#" + OLD, errno.ESRCH, "only a comment"),
@@ -229,7 +229,7 @@ def locks():
              (b"", errno.EBUSY, "without a number, which shadow-utils don't take over"),
              (b"dead\0", errno.EBUSY, "no number"), (b"-1\0", errno.EBUSY, "all processes"), (b"0\0", errno.EBUSY, "a group"),
              (dead + b"\n", errno.EBUSY, "a number with a newline"), (b"9" * 40, errno.EBUSY, "a number that is too long"),
-             (str(2**32 + int(dead)).encode(), errno.EBUSY, "a number that is no process")]
+             (str(2**32 + int(dead)).encode(), errno.EBUSY, "a number that no process has")]
     for text, wanted, reason in kinds:
         write(OLD)
         write(text, LOCK)
@@ -341,7 +341,7 @@ def interrupted():
 
 
 def cut_lines():
-    """A comment is no line of the user if reading fails after its #."""
+    """A comment is not taken for the line of the user if reading fails after its #."""
     text = b"x" * 4094 + b"\n#" + OLD
     write(text)
     for number in range(1, 13):

@@ -55,6 +55,6 @@ def seconds(value: Optional[float], what: str) -> Optional[float]:
         return None
     if not isinstance(value, (int, float)):
         raise TypeError(f"{what} is a number of seconds, not {type(value).__name__}")
-    if not value >= 0:  # nor if it is no number
+    if not value >= 0:  # also if it is not a number
         raise ValueError(f"{what} is not negative, as {value} is")
     return min(value, threading.TIMEOUT_MAX)

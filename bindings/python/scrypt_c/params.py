@@ -52,7 +52,7 @@ RECOMMENDED = Params()
 
 
 def check_derived(status: int, params: Params) -> None:
-    """Raises the error of a derivation with these parameters; that for want of memory has how much was asked for."""
+    """Raises the error of a derivation with these parameters; a MemoryError has how much was asked for."""
     log_n, r, p, _ = params
     check(status, f"log_n={log_n}, r={r}, p={p} need {params.memory} bytes" if status == OUT_OF_MEMORY else "")
 

@@ -58,7 +58,7 @@ class Numbers(unittest.TestCase):
                     read()
 
     def test_bounds_above_64_bits(self):
-        """A bound of 2^64 + 1 is no bound of 1."""
+        """A bound of 2^64 + 1 is not cut to 1."""
         hasher = PasswordHasher(log_n=4, most_bytes=(1 << 64) + 1, most_work=(1 << 64) + 1)
         self.assertTrue(hasher.verify(hasher.hash("pw"), "pw"))
         key = scrypt_c.scrypt(b"pw", salt=b"salt", n=16, r=8, p=1, maxmem=(1 << 64) + 1)
