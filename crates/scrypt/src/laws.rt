@@ -1,6 +1,6 @@
 //! Laws of the definitions. Each function does nothing at run time: its contract is the law.
 
-ghost use Rattle.std.specs.Prelude.{◌≡◌, ◌≢◌, ◌⊎◌, ◌↔◌, false, true, ℕ, ◌-◌, ◌*◌, ◌%◌, ◌^◌, ◌<◌, ◌≤◌, List, [], ◌∷◌, ◌++◌, length, take, Option, Result, Ok, Err, IfSome, IsSome, Some, All};
+ghost use Rattle.std.specs.Prelude.{◌≡◌, ◌≢◌, ◌⊎◌, ◌↔◌, false, ℕ, ◌-◌, ◌*◌, ◌%◌, ◌^◌, ◌<◌, ◌≤◌, List, [], ◌∷◌, ◌++◌, length, take, Option, Result, Ok, Err, IfSome, IsSome, Some, All};
 ghost use Rattle.sha2.specs.Sha256.{sha256};
 ghost use Rattle.password_hash.specs.Crypt64.{Crypt64, crypt64_of, letter_value, letters_of};
 ghost use Rattle.password_hash.specs.Mcf.{IsMcfText};
@@ -19,13 +19,13 @@ ghost use Rattle.scrypt.specs.ThinKey.{thin_key};
 ghost use Rattle.scrypt.specs.Cost.{cost, thin_cost};
 ghost use Rattle.scrypt_kernel.specs.Table.{extra_rows};
 ghost use Rattle.scrypt.specs.McfCosts.{cost_letters, costs_text, five_letter_number};
-ghost use Rattle.scrypt.specs.McfHash.{HashIsRefused as McfHashIsRefused, IsMadeHash as IsMadeMcf, mcf_id, read_mcf};
+ghost use Rattle.scrypt.specs.McfHash.{HashIsRefused as McfHashIsRefused, IsMadeHash as IsMadeMcf, read_mcf};
 ghost use Rattle.scrypt.specs.Hashing.{key_len_or_default};
 ghost use Rattle.scrypt.specs.Accepted.{without_len};
 ghost use Rattle.scrypt.specs.PhcCosts.{params_of_pairs, written_pairs};
-ghost use Rattle.scrypt.specs.PhcHash.{HashIsRefused, IsMadeHash, phc_params, read_phc, scrypt_id};
+ghost use Rattle.scrypt.specs.PhcHash.{HashIsRefused, IsMadeHash, phc_params, read_phc};
 ghost use Rattle.scrypt.specs.Reading.{Stored, verdict, weaker};
-ghost use Rattle.scrypt.specs.StoredHash.{HasReading, Reads, StoredText, is_mcf_text};
+ghost use Rattle.scrypt.specs.StoredHash.{HasReading, Reads, StoredText};
 
 /// A shorter key is the beginning of a longer one, for any two lengths.
 #[tactic(auto, using(crate::proofs::KeyFacts::key_prefix))]
@@ -109,14 +109,6 @@ pub fn parameters_are_those_of_the_reading()
         → hash.params ≡ Ok (s.params, length s.key) }
     ensures refused { (text : List ℕ) (hash : StoredText) (why : Refusal) → Reads text hash → hash.params ≡ Err why
         → hash.whole ≡ Err why }
-{}
-
-/// A `$7$` text is read in its format, and so is the text of a PHC hash of scrypt.
-#[tactic(auto, using(crate::proofs::StoredHashFacts::mcf_is_seven, crate::proofs::StoredHashFacts::scrypt_is_phc))]
-pub fn formats_are_told_apart()
-    ensures mcf { (text : List ℕ) (fields : List (List ℕ)) → IsMcfText text mcf_id fields → is_mcf_text text ≡ true }
-    ensures phc { (text : List ℕ) (hash : PasswordHash) → IsHashText text hash → hash.algorithm ≡ scrypt_id
-        → is_mcf_text text ≡ false }
 {}
 
 /// The text of a hash made from a password with accepted parameters verifies against that password,
