@@ -2,6 +2,7 @@
 
 ghost use Rattle.std.specs.Prelude.{◌≡◌, ◌+◌, ◌≤◌, length, IfOk, OnOk, IsOk};
 ghost use Rattle.promises.specs.Within.{IsVerdictWithin};
+ghost use Rattle.scrypt.specs.McfHash.{IsMadeHash};
 ghost use Rattle.scrypt.specs.StoredHash.{ByReading};
 ghost use Rattle.scrypt.specs.WithinLimits.{told_within, within};
 ghost use Rattle.scrypt.specs.Accepted.{IsOutputLen};
@@ -9,7 +10,7 @@ ghost use Rattle.scrypt.specs.Cost.{thin_cost};
 ghost use Rattle.scrypt.specs.Key.{derived_key};
 
 use scrypt::{
-    BoundedError, BufferLens, CoreCount, Limits, Params, StoredHash, password_hash, scrypt_thin,
+    BoundedError, BufferLens, CoreCount, Limits, Params, StoredHash, mcf, password_hash, scrypt_thin,
     scrypt_with_buffers,
 };
 use std::alloc::{AllocError, Global};
@@ -119,6 +120,34 @@ pub fn verdict_in_own_buffers(
         &mut own.scratch,
         &mut cores,
     )
+}
+
+/// The text of a `$7$` hash fills a buffer of the length that `hash_len` returns.
+pub fn mcf_text_in_own_buffers(
+    alloc: Global,
+    password: &[u8],
+    salt: &[u8],
+    params: &Params,
+) -> Result<Vec<u8>, AllocError>
+    ensures whole { IfOk result (λ text. IsMadeHash params.now password.now salt.now text.items) }
+{
+    let mut text = vec![in alloc; 0u8; mcf::hash_len(params, salt)]?;
+    let mut own = allocate(alloc, &BufferLens::of(params))?;
+    let mut cores = CoreCount::new();
+    let written = mcf::hash_with_buffers(
+        password,
+        salt,
+        params,
+        &mut text,
+        &mut own.chunks,
+        &mut own.table,
+        &mut own.scratch,
+        &mut cores,
+    );
+    let Ok(_) = written else {
+        unreachable!();
+    };
+    Ok(text)
 }
 
 // Buffers that are allocated.
