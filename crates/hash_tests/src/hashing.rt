@@ -159,6 +159,31 @@ fn names_of_the_algorithm(rt: HostRuntime) -> Result<(), Fail> {
     Ok(())
 }
 
+// Known texts, which tell the password from the salt.
+#[test]
+fn customized_hashes(rt: HostRuntime) -> Result<(), Fail> {
+    let (alloc, params) = (rt.alloc(), Params::new(4, 1, 1)?);
+    let made: phc::PasswordHash = Scrypt::new().hash_password_customized(
+        alloc,
+        LONG_PASSWORD,
+        b"NaCl",
+        Some("scrypt"),
+        None,
+        params,
+    )?;
+    assert_eq!(rt; made.to_string(alloc)?.as_str(), LONG_PASSWORD_PHC);
+    let made: mcf::PasswordHash = Scrypt::new().hash_password_customized(
+        alloc,
+        LONG_PASSWORD,
+        b"NaCl",
+        Some("7"),
+        None,
+        params,
+    )?;
+    assert_eq!(rt; made.as_str(), LONG_PASSWORD_MCF);
+    Ok(())
+}
+
 #[test]
 fn costs_of_hashes(rt: HostRuntime) -> Result<(), Fail> {
     let hash = phc::PasswordHash::new(PASSLIB_HASH)?;
