@@ -45,6 +45,19 @@ def pieces(lexer, text):
     return tokens
 
 
+def by_lines(tokens):
+    """The tokens of each line. A token of several lines is cut."""
+    line = []
+    for kind, value in tokens:
+        first, *more = value.split("\n")
+        line.append((kind, first))
+        for piece in more:
+            yield line
+            line = [(kind, piece)]
+    if any(value for _, value in line):
+        yield line
+
+
 def marked_up(tokens, link):
     """HTML of tokens. `link` returns the address for the token at a place, or None."""
     out = []

@@ -179,6 +179,11 @@ def read_crates(path):
     return {it.split(":")[0].split()[0]: it.split(":")[1].split() for it in lines if ":" in it}
 
 
+def text_page(path):
+    """The page of a file as it is."""
+    return f"text.{path.removeprefix('crates/').replace('/', '.')}.html"
+
+
 def page_of(source):
     return f"{source.name.replace('::', '.')}.html"
 

@@ -26,10 +26,12 @@ except ImportError as missing:
 import checks
 import comments
 import kit_pages
+import lexers
 import picture
-from library import Library, module_page, page_of
+from library import Library, module_page, page_of, text_page
 from views import Views
 
+TAG = re.compile(r"<[^>]+>")
 FIRST_SENTENCE = re.compile(r"\n\s*\n|(?<=\.)\s")
 HERE = os.path.dirname(os.path.abspath(__file__))
 
@@ -55,11 +57,13 @@ class Pages:
         text = self.env.get_template(template).render(page=name, **values)
         self.written[name] = re.sub(r"\n\s*\n+", "\n", text)
 
-    def name(self, name, kind, href, of=""):
-        """Puts a name into the list of all names."""
+    def name(self, name, kind, href, of="", shown=None):
+        """Puts a name into the list of all names, with the sections of standards and the words that are said of it."""
         kind = "definition" if kind in ("abbrev", "unfoldable", "record", "data") else kind
+        standards = "; ".join(words for words, _ in shown.standards) if shown else ""
+        said = " ".join(TAG.sub("", shown.words).split()) if shown else ""
         if name:
-            self.named.append((name, kind, href, of))
+            self.named.append((name, kind, href, of, standards, said))
 
     def facts_on(self, shown):
         """What a definition's place on a page says beside its text."""
@@ -72,7 +76,7 @@ class Pages:
         for crate, modules in self.views.definitions.items():
             for module, shown in modules:
                 for it in shown:
-                    self.name(it.name, it.kind, it.href, module.short)
+                    self.name(it.name, it.kind, it.href, module.short, it)
                 those = [(it, self.facts_on(it)) for it in shown]
                 listed.setdefault(crate, []).append((module, those))
                 self.write(module_page(module.name), "definitions.html", title=module.short, crate=crate, module=module,
@@ -82,7 +86,7 @@ class Pages:
             if found:
                 module, shown = found
                 for it in shown:
-                    self.name(it.name, it.kind, it.href, crate)
+                    self.name(it.name, it.kind, it.href, crate, it)
                 self.write(module_page(module.name), "definitions.html", title=f"The vectors of {crate}", crate=crate,
                            module=module, shown=[(it, None) for it in shown], vectors=True)
 
@@ -90,7 +94,7 @@ class Pages:
         for crate, sources in self.views.sources.items():
             for source, shown in sources:
                 for it in shown:
-                    self.name(it.name, "function" if it.kind == "fn" else it.kind, it.href, "")
+                    self.name(it.name, "function" if it.kind == "fn" else it.kind, it.href, "", it)
                     for part in it.parts:
                         self.name(part["name"], "clause", part["href"], it.name)
                 template = "source.html" if source.module else "crate.html"
@@ -161,6 +165,15 @@ class Pages:
         named = sorted(set(self.named), key=lambda it: (it[0].lower(), it))
         self.write("names.html", "names.html", title="All names", named=named)
         self.written["names.js"] = "const NAMES = " + json.dumps(named, ensure_ascii=False) + ";\n"
+        for path in sorted(self.views.paths):
+            self.text(path)
+
+    def text(self, path):
+        """A page of a file as it is, with a place for each line."""
+        with open(f"{self.library.folder}/{path}", encoding="utf-8") as file:
+            tokens = lexers.pieces(lexers.ANTT if path.endswith(".antt") else lexers.RUST, file.read())
+        lines = [lexers.marked_up(it, lambda at: None) for it in lexers.by_lines(tokens)]
+        self.write(text_page(path), "text.html", title=path, crate=path.split("/")[1], lines=lines)
 
     def kit_libraries(self):
         own = set(self.library.uses)

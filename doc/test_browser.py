@@ -63,7 +63,10 @@ class Reading(unittest.TestCase):
         cls.chromium = browser.Browser()
         with open(f"{HERE}/headline.json", encoding="utf-8") as file:
             cls.clicks = json.load(file)["clicks"]
-        cls.others = [it for it in sorted(os.listdir(PAGES)) if it.endswith(".html") and it not in KINDS]
+        others = [it for it in sorted(os.listdir(PAGES)) if it.endswith(".html") and it not in KINDS]
+        texts = [it for it in others if it.startswith("text.")]
+        # Pages of files are alike, and one of them is read.
+        cls.others = [it for it in others if it not in texts[1:]]
 
     @classmethod
     def tearDownClass(cls):
@@ -154,6 +157,54 @@ class Reading(unittest.TestCase):
             self.chromium.picture(f"{PICTURES}/search.png")
         self.chromium.press("Enter")
         self.arrived(urljoin(BASE, self.clicks["to"]))
+
+    def search(self, text):
+        """The first name that is found, what it is, and what a screen reader says."""
+        self.chromium.open(f"{BASE}index.html")
+        self.chromium.run("document.getElementById('query').focus()")
+        self.chromium.type(text)
+        return self.chromium.run("""(() => {
+          const [line] = document.querySelectorAll('#found li');
+          const status = document.querySelector('[role=status]').textContent;
+          return [line.querySelector('span') ? line.querySelector('a').firstChild.data : line.textContent, line.textContent, status];
+        })()""")
+
+    def test_what_is_searched(self):
+        rows = [
+            ("RFC 7914, section 5", "RFC 7914, section 5", "es", "a section of a standard"),
+            ("section 4 block", "RFC 7914, section 4", "", "a section and a part of a name"),
+            ("Salsa20/8 cores of a chunk", "", "", "words that are said of a function"),
+            ("quartre_round", "No match", "No match", "nothing"),
+        ]
+        for text, shown, status, reason in rows:
+            name, line, said = self.search(text)
+            self.assertIn(shown, line, reason)
+            self.assertIn(status, said, reason)
+            self.assertTrue(name, reason)
+
+    def test_a_source_line(self):
+        self.chromium.open(urljoin(BASE, self.clicks["to"]))
+        href = self.chromium.run("document.querySelector(':target .where a').href")
+        self.chromium.open(href)
+        self.arrived(href)
+        self.assertIn("quarter_round", self.chromium.run("document.querySelector(':target').textContent"))
+
+    def test_the_legend_is_above_the_clauses(self):
+        self.chromium.open(f"{BASE}index.html")
+        ids = self.chromium.run("[...document.querySelectorAll('h2')].map((it) => it.id)")
+        self.assertEqual(ids[0], "reading-a-clause")
+
+    def test_code_on_a_phone(self):
+        self.chromium.look(360)
+        for page in ("index.html", urldefrag(self.clicks["to"])[0]):
+            self.chromium.open(BASE + page)
+            wide = "[...document.querySelectorAll('pre')].filter((it) => it.scrollWidth > it.clientWidth).length"
+            self.assertEqual(self.chromium.run(wide), 0, f"code of {page} has to be moved sideways")
+
+    def test_links_to_the_kit_are_seen(self):
+        self.chromium.open(urljoin(BASE, self.clicks["to"]))
+        line = "getComputedStyle(document.querySelector('pre a[href^=\"kit.\"]')).textDecorationLine"
+        self.assertEqual(self.chromium.run(line), "underline")
 
     def test_without_a_script(self):
         self.chromium.script(False)

@@ -6,7 +6,7 @@ from dataclasses import dataclass, field
 import comments
 import links
 import specs
-from library import STANDARD_FACTS, definition_target, page_of
+from library import STANDARD_FACTS, definition_target, page_of, text_page
 
 # types are shown also if they are private, since clauses and definitions may cite them
 TYPES = ("struct", "enum", "trait")
@@ -30,6 +30,16 @@ class Shown:
     standards: list = field(default_factory=list)
     lines: int = 0
     members: list = field(default_factory=list)
+
+    @property
+    def path(self):
+        return self.where.rsplit(":", 1)[0]
+
+    @property
+    def text_href(self):
+        """The line of the file as it is."""
+        path, line = self.where.rsplit(":", 1)
+        return f"{text_page(path)}#L{line}"
 
 
 def statement(definition):
@@ -55,10 +65,16 @@ class Views:
         self.definitions = {crate: [it for it in those if it[1]] for crate, those in self.definitions.items()}
         self.vectors = {crate: self.of_vectors(crate) for crate in self.crates}
         self.sources = {crate: self.of_crate(crate) for crate in self.crates}
+        self.paths = {it.path for shown in self.all() for it in shown}
         self.cites = {}
         for target, citers in self.links.cited.items():
             for citer in citers:
                 self.cites.setdefault(citer, []).append(target)
+
+    def all(self):
+        """Everything that has a place on a page, with its file."""
+        for those in (*self.definitions.values(), *self.sources.values(), filter(None, self.vectors.values())):
+            yield from (shown for _, shown in those)
 
     def of_module(self, module):
         return [self.of_definition(module, it) for it in module.definitions.values()]
