@@ -25,7 +25,7 @@ done
 awk '/^scrypt_/ { print $1 }' bindings/c/abi > "$parts/symbols"
 # A proved call that sees a password or a key is called by the one in clearing.c, which has its name.
 nm -g --defined-only "$parts"/libscrypt_c/*.o |
-  awk '$2 == "T" && $3 !~ /^scrypt_(buffer_lens|params_need|wipe)$/ { print $3, "proved_" $3 }' > "$parts/proved"
+  awk '$2 == "T" && $3 !~ /^scrypt_(buffer_lens|params_need|params_can_use|wipe)$/ { print $3, "proved_" $3 }' > "$parts/proved"
 objcopy --redefine-syms="$parts/proved" "$parts"/libscrypt_c/*.o
 for name in malloc realloc free memcpy memmove memset; do echo "$name clearing_$name"; done > "$parts/clearing"
 for object in "$parts"/*/*.o; do objcopy --redefine-syms="$parts/clearing" "$object"; done

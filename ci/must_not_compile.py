@@ -30,7 +30,7 @@ NEW_COUNTS = {
     "crates/scrypt/src/phc/hashing.rt": 1,
     "crates/scrypt/src/verifying.rt": 1,
     "crates/scrypt_c/src/with_buffers.rt": 4,
-    "crates/scrypt_c/src/keys.rt": 1,
+    "crates/scrypt_c/src/keys.rt": 2,
     "crates/test_verdicts/src/main.rt": 1,
 }
 

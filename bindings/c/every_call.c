@@ -25,6 +25,11 @@ static void *drop_in, *crypt_library;
 #define PARAMS (uint8_t)the->log_n, the->r, the->p
 #define BUFFERS chunks, chunks_len, table, table_len, scratch, scratch_len
 
+/* The lengths for two chunks at a time, if there are two. */
+static int params_can_use(void) {
+  return scrypt_params_can_use(PARAMS, SIZE_MAX, UINT64_MAX, &chunks_len, &table_len, &scratch_len);
+}
+
 static int kdf(void) { return scrypt_kdf(PASSWORD, SALT, PARAMS, key, KEY_LEN); }
 static int kdf_mapped(void) { return scrypt_kdf_mapped(PASSWORD, SALT, PARAMS, key, KEY_LEN); }
 static int kdf_of_the_helper(void) { return scrypt_derive(PASSWORD, SALT, PARAMS, key, KEY_LEN); }
@@ -73,7 +78,7 @@ static int verify_with_buffers(void) {
   return status;
 }
 
-/* In buffers for one, and so one after the other. */
+/* In chunks for one, and so one after the other. */
 static int verify_two_with_buffers(void) {
   int other = -1, status = scrypt_verify_two_with_buffers(PASSWORD, phc, phc_len, PASSWORD, mcf, mcf_len, &other, BUFFERS);
   scrypt_wipe(BUFFERS);
@@ -222,6 +227,7 @@ static const struct {
     {"scrypt_needs_rehash", needs_rehash, NULL},
     {"scrypt_hash_needs", hash_needs, NULL},
     {"scrypt_hash_params", hash_params, NULL},
+    {"scrypt_params_can_use", params_can_use, NULL},
     {"scrypt_kdf_in", kdf_in, NULL},
     {"scrypt_hash_phc_in", hash_phc_in, NULL},
     {"scrypt_hash_mcf_in", hash_mcf_in, NULL},
@@ -241,7 +247,7 @@ static const struct {
 };
 
 static void take_buffers(void) {
-  if (scrypt_buffer_lens(PARAMS, 0, &chunks_len, &table_len, &scratch_len) != SCRYPT_OK) exit(3);
+  if (params_can_use() != SCRYPT_OK) exit(3);
   chunks = calloc(chunks_len, 1);
   table = calloc(table_len, 4);
   scratch = calloc(scratch_len, 8); /* room for that of a thin table too */

@@ -17,6 +17,7 @@ struct scrypt_memory {
   uint32_t *front; /* where the buffers begin */
   size_t room;     /* how many bytes there are from there on */
   size_t used;     /* how many of them were handed to a call since they were zeros */
+  size_t refused;  /* the least bytes that the system refused for two tables, which it isn't asked for again */
 };
 
 /* The buffers of a derivation: the table, the scratch and the chunks, one after another. */
@@ -31,6 +32,11 @@ struct buffers {
 static int measure(const scrypt_memory *memory, uint8_t log_n, uint32_t r, uint32_t p, struct buffers *buffers) {
   return scrypt_params_need(log_n, r, p, memory->most_bytes, memory->most_work, &buffers->chunks_len,
                             &buffers->table_len, &buffers->scratch_len);
+}
+
+/* The bytes of buffers whose lengths are measured: they are within a bound, so that the sum doesn't overflow. */
+static size_t bytes_of(const struct buffers *buffers) {
+  return 4 * (buffers->table_len + buffers->scratch_len) + buffers->chunks_len;
 }
 
 static void unmap(scrypt_memory *memory) {
@@ -71,9 +77,9 @@ static int map(scrypt_memory *memory, const struct buffers *buffers) {
   return SCRYPT_OK;
 }
 
-/* The buffers, whose lengths are measured: their sum is within a bound, so it does not overflow. */
+/* The buffers, whose lengths are measured. */
 static int place(scrypt_memory *memory, struct buffers *buffers) {
-  buffers->bytes = 4 * (buffers->table_len + buffers->scratch_len) + buffers->chunks_len;
+  buffers->bytes = bytes_of(buffers);
   if (buffers->bytes > memory->room) {
     int status = map(memory, buffers);
     if (status != SCRYPT_OK) return status;
@@ -85,10 +91,31 @@ static int place(scrypt_memory *memory, struct buffers *buffers) {
   return SCRYPT_OK;
 }
 
+/* The buffers, if the system gives so much memory: less will do too. */
+static int place_two(scrypt_memory *memory, struct buffers *two) {
+  if (bytes_of(two) > memory->room && bytes_of(two) >= memory->refused) return SCRYPT_OUT_OF_MEMORY;
+  if (place(memory, two) == SCRYPT_OK) return SCRYPT_OK;
+  memory->refused = two->bytes;
+  return SCRYPT_OUT_OF_MEMORY;
+}
+
+/* The buffers for parameters that are measured: for two chunks at a time if there are two, and the bound and the system
+ * allow it. */
+static int place_widest(scrypt_memory *memory, uint8_t log_n, uint32_t r, uint32_t p, struct buffers *buffers) {
+  struct buffers two;
+  int status = scrypt_params_can_use(log_n, r, p, memory->most_bytes, memory->most_work, &two.chunks_len, &two.table_len,
+                                     &two.scratch_len);
+  if (status == SCRYPT_OK && two.table_len > buffers->table_len && place_two(memory, &two) == SCRYPT_OK) {
+    *buffers = two;
+    return SCRYPT_OK;
+  }
+  return place(memory, buffers);
+}
+
 /* The buffers for these parameters. */
 static int take(scrypt_memory *memory, uint8_t log_n, uint32_t r, uint32_t p, struct buffers *buffers) {
   int status = measure(memory, log_n, r, p, buffers);
-  return status == SCRYPT_OK ? place(memory, buffers) : status;
+  return status == SCRYPT_OK ? place_widest(memory, log_n, r, p, buffers) : status;
 }
 
 scrypt_memory *scrypt_memory_new(size_t most_bytes, uint64_t most_work) {
@@ -96,6 +123,7 @@ scrypt_memory *scrypt_memory_new(size_t most_bytes, uint64_t most_work) {
   if (memory == NULL) return NULL;
   memory->most_bytes = most_bytes;
   memory->most_work = most_work;
+  memory->refused = SIZE_MAX;
   return memory;
 }
 
@@ -131,7 +159,7 @@ static int derive(scrypt_memory *memory, const uint8_t *password, size_t passwor
   int status = measure(memory, log_n, r, p, &of);
   if (status == SCRYPT_INVALID_PARAMS) return status;
   if (output_len == 0 || output_len > SCRYPT_MAX_OUTPUT_LEN) return SCRYPT_INVALID_OUTPUT_LEN;
-  if (status == SCRYPT_OK) status = place(memory, &of);
+  if (status == SCRYPT_OK) status = place_widest(memory, log_n, r, p, &of);
   if (status != SCRYPT_OK) return status;
   return scrypt_kdf_with_buffers(scrypt_bytes(password), password_len, scrypt_bytes(salt), salt_len, log_n, r, p,
                                  output, output_len, of.chunks, of.chunks_len, of.table, of.table_len, of.scratch,
@@ -212,7 +240,11 @@ static int measure_login(const scrypt_memory *memory, struct login *login, struc
 
 /* Verifies what is measured. */
 static int verify(scrypt_memory *memory, const struct login *login, struct buffers *of) {
-  int status = place(memory, of);
+  uint8_t log_n = 0;
+  uint32_t r = 0, p = 0;
+  size_t key_len;
+  int status = scrypt_hash_params(login->text, login->text_len, &log_n, &r, &p, &key_len);
+  if (status == SCRYPT_OK) status = place_widest(memory, log_n, r, p, of);
   if (status != SCRYPT_OK) return status;
   return scrypt_verify_with_buffers(login->password, login->password_len, login->text, login->text_len, of->chunks,
                                     of->chunks_len, of->table, of->table_len, of->scratch, of->scratch_len);
@@ -228,11 +260,11 @@ int scrypt_verify_in(scrypt_memory *memory, const uint8_t *password, size_t pass
 
 /* Takes room for two such derivations: their bytes are within a bound of the memory, and twice as many may not be. */
 static int take_two(scrypt_memory *memory, const struct buffers *one, struct buffers *two) {
-  if (4 * (one->table_len + one->scratch_len) + one->chunks_len > SIZE_MAX / 2) return SCRYPT_OUT_OF_MEMORY;
+  if (bytes_of(one) > SIZE_MAX / 2) return SCRYPT_OUT_OF_MEMORY;
   two->chunks_len = 2 * one->chunks_len;
   two->table_len = 2 * one->table_len;
   two->scratch_len = 2 * one->scratch_len;
-  return place(memory, two);
+  return place_two(memory, two);
 }
 
 /* Buffers have the same lengths only for the same parameters. */
@@ -264,7 +296,7 @@ void scrypt_verify_two_in(scrypt_memory *memory, const uint8_t *password, size_t
 
 int scrypt_kdf_mapped(const uint8_t *password, size_t password_len, const uint8_t *salt, size_t salt_len,
                       uint8_t log_n, uint32_t r, uint32_t p, uint8_t *output, size_t output_len) {
-  scrypt_memory memory = {SIZE_MAX, UINT64_MAX, 0, NULL, 0, NULL, 0, 0};
+  scrypt_memory memory = {SIZE_MAX, UINT64_MAX, 0, NULL, 0, NULL, 0, 0, SIZE_MAX};
   struct buffers of;
   int status;
   if (is_input_null(password, password_len, salt, salt_len) || scrypt_is_null(output, output_len))
@@ -272,6 +304,7 @@ int scrypt_kdf_mapped(const uint8_t *password, size_t password_len, const uint8_
   status = measure(&memory, log_n, r, p, &of);
   if (status == SCRYPT_INVALID_PARAMS) return status;
   if (output == NULL) return SCRYPT_INVALID_OUTPUT_LEN;
+  if (status == SCRYPT_OK) memory.most_bytes = bytes_of(&of); /* one table */
   /* No huge page fits in such a table, and to map it again takes longer than malloc, which reuses memory. */
   if (status == SCRYPT_OK && of.table_len < HUGE_PAGE / 4)
     return scrypt_kdf(scrypt_bytes(password), password_len, scrypt_bytes(salt), salt_len, log_n, r, p, output,

@@ -78,6 +78,44 @@ static void keys_in_buffers(size_t i, uint8_t s) {
   free(scratch);
 }
 
+/* The key of vector 1, which has 16 chunks, in buffers that are longer than needed: how many tables are used of them, and
+ * nothing after those is written. */
+static const struct {
+  size_t table_more, scratch_more; /* than one of each */
+  size_t used;
+  const char *reason;
+} LONGER[] = {
+    {1, 1, 1, "a word more than one table and one scratch"},
+    {262144, 512, 2, "two tables and two scratches: two chunks at a time"},
+    {262145, 513, 2, "a word more than these"},
+    {262144, 511, 1, "two tables, and a word too few for two scratches"},
+    {262143, 512, 1, "two scratches, and a word too few for two tables"},
+};
+
+static void key_in_longer_buffers(size_t row) {
+  static uint8_t chunks[16385];
+  static uint32_t table[524290], scratch[1026];
+  const size_t one = 262144, spare = 512;
+  size_t i, used = LONGER[row].used, untouched = 0, written = 0;
+  uint8_t key[64];
+  char hex[129];
+  memset(chunks, 7, sizeof chunks);
+  memset(table, 7, sizeof table);
+  memset(scratch, 7, sizeof scratch);
+  check(scrypt_kdf_with_buffers(b("password"), 8, b("NaCl"), 4, 10, 8, 16, key, 64, chunks, sizeof chunks, table,
+                                one + LONGER[row].table_more, scratch, spare + LONGER[row].scratch_more) == SCRYPT_OK,
+        LONGER[row].reason);
+  hex_of(key, 64, hex);
+  check(strcmp(hex, VECTORS[1].key) == 0, LONGER[row].reason);
+  for (i = used * one; i < 524290; i++) untouched += table[i] != 0x07070707;
+  for (i = used * spare; i < 1026; i++) untouched += scratch[i] != 0x07070707;
+  check(untouched == 0 && chunks[16384] == 7, "nothing is written after what is used");
+  for (i = (used - 1) * one; i < used * one; i++) written += table[i] != 0x07070707;
+  check(written > one / 2, "and all of that is used");
+  check(scrypt_kdf_thin(b("password"), 8, b("NaCl"), 4, 10, 8, 16, 0, key, 64, chunks, 16384, table, one,
+                        scratch, spare + 1) == SCRYPT_BUFFER_SIZE, "scrypt_kdf_thin wants exact lengths");
+}
+
 static void keys(int small) {
   size_t i, count = sizeof VECTORS / sizeof VECTORS[0] - (small ? 1 : 0);
   uint8_t key[64];
@@ -98,6 +136,7 @@ static void keys(int small) {
   for (i = 0; i < 3; i++) keys_in_buffers(0, (uint8_t)i);
   keys_in_buffers(1, 0);
   keys_in_buffers(2, 3);
+  for (i = 0; i < sizeof LONGER / sizeof LONGER[0]; i++) key_in_longer_buffers(i);
 }
 
 static void refusals_of_keys(void) {
@@ -247,6 +286,28 @@ static void hash_in_buffers(int is_mcf, const char *made) {
             (is_mcf ? SCRYPT_OK : SCRYPT_SALT_INVALID), "an empty salt");
 }
 
+/* Hashes of two chunks, in buffers in which both are mixed at a time: the same texts, which verify. */
+static void two_chunks_in_buffers(void) {
+  static uint8_t chunks[2048];
+  static uint32_t table[8192], scratch[1025];
+  char phc[SCRYPT_PHC_CAPACITY], mcf[SCRYPT_MCF_CAPACITY(8)], text[SCRYPT_PHC_CAPACITY];
+  size_t i, nonzero = 0, len = 0;
+  check(scrypt_hash_phc_z("pw", 2, "saltsalt", 8, 4, 8, 2, 32, phc, sizeof phc) == SCRYPT_OK, "phc");
+  check(scrypt_hash_mcf_z("pw", 2, "saltsalt", 8, 4, 8, 2, 32, mcf, sizeof mcf) == SCRYPT_OK, "mcf");
+  scratch[1024] = 7;
+  check(scrypt_hash_phc_with_buffers(b("pw"), 2, b("saltsalt"), 8, 4, 8, 2, 32, text, sizeof text, &len, chunks, 2048,
+                                     table, 8192, scratch, 1024) == SCRYPT_OK, "two chunks");
+  check(len == strlen(phc) && memcmp(text, phc, len) == 0, "the same PHC text");
+  check(scrypt_verify_with_buffers(b("pw"), 2, text, len, chunks, 2048, table, 8192, scratch, 1024) == SCRYPT_OK, "phc");
+  check(scrypt_hash_mcf_with_buffers(b("pw"), 2, b("saltsalt"), 8, 4, 8, 2, 32, text, sizeof text, &len, chunks, 2048,
+                                     table, 8192, scratch, 1024) == SCRYPT_OK, "two chunks");
+  check(len == strlen(mcf) && memcmp(text, mcf, len) == 0, "the same $7$ text");
+  check(scrypt_verify_with_buffers(b("pw"), 2, text, len, chunks, 2048, table, 8192, scratch, 1024) == SCRYPT_OK, "mcf");
+  for (i = 0; i < 2048; i++) nonzero += chunks[i] != 0;
+  for (i = 0; i < 1024; i++) nonzero += scratch[i] != 0;
+  check(nonzero == 0 && scratch[1024] == 7, "zeros in both scratches, and nothing after them is written");
+}
+
 static void hash_params(const char *text) {
   uint8_t log_n = 99;
   uint32_t r = 99, p = 99;
@@ -275,6 +336,7 @@ static void hashes(void) {
   hash_in_buffers(1, mcf);
   verify_in_buffers(phc);
   verify_two_in_buffers(phc);
+  two_chunks_in_buffers();
   verify_in_buffers(mcf);
   verify_two_in_buffers(mcf);
   hash_params(phc);

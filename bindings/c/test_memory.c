@@ -201,6 +201,40 @@ static void needs(void) {
   scrypt_memory_free(memory);
 }
 
+/* What a derivation can use: two tables exactly if there are two chunks, and the bound allows two. */
+static const struct {
+  uint32_t p;
+  size_t most_bytes;
+  int status;
+  size_t tables;
+  const char *reason;
+} CAN_USE[] = {
+    {3, 768 + 2 * (4096 + 512), SCRYPT_OK, 2, "just room for two tables"},
+    {3, 768 + 2 * (4096 + 512) - 1, SCRYPT_OK, 1, "a byte too few for two"},
+    {3, 768 + 4096 + 512, SCRYPT_OK, 1, "just room for one"},
+    {3, 768 + 4096 + 512 - 1, SCRYPT_TOO_COSTLY, 0, "a byte too few for one"},
+    {2, SIZE_MAX, SCRYPT_OK, 2, "two chunks"},
+    {1, SIZE_MAX, SCRYPT_OK, 1, "one chunk"},
+    {0, SIZE_MAX, SCRYPT_INVALID_PARAMS, 0, "none"},
+};
+
+static void can_use(void) {
+  size_t i, chunks_len, table_len, scratch_len;
+  for (i = 0; i < sizeof CAN_USE / sizeof CAN_USE[0]; i++) {
+    size_t p = CAN_USE[i].p, tables = CAN_USE[i].tables;
+    int status;
+    chunks_len = table_len = scratch_len = 7;
+    status = scrypt_params_can_use(4, 2, CAN_USE[i].p, CAN_USE[i].most_bytes, UINT64_MAX, &chunks_len, &table_len,
+                                   &scratch_len);
+    check(status == CAN_USE[i].status, CAN_USE[i].reason);
+    check(status == SCRYPT_OK ? chunks_len == 256 * p && table_len == 1024 * tables && scratch_len == 128 * tables
+                              : chunks_len == 7 && table_len == 7 && scratch_len == 7, CAN_USE[i].reason);
+  }
+  check(scrypt_params_can_use(4, 2, 3, SIZE_MAX, 1151, &chunks_len, &table_len, &scratch_len) == SCRYPT_TOO_COSTLY,
+        "a little work less");
+  check(scrypt_params_can_use(4, 2, 3, SIZE_MAX, 1152, &chunks_len, &table_len, &scratch_len) == SCRYPT_OK, "its work");
+}
+
 /* A text, its password or another one, and the reason for the row. The least key of the memory is 16 bytes. */
 static const struct {
   const char *text, *password, *reason;
@@ -261,7 +295,7 @@ static void two_at_once(void) {
 /* In a child that may take 64 MiB more than it has a table of 128 MiB is refused, and then one of 16 MiB is not. Two tables
  * of 32 MiB are refused, and so they are taken one after the other. */
 static int in_little_memory(void) {
-  static const char LARGE[] = "$scrypt$ln=15,r=8,p=1" SALT_AND_KEY;
+  static const char LARGE[] = "$scrypt$ln=15,r=8,p=1" SALT_AND_KEY, TWO_CHUNKS[] = "$scrypt$ln=15,r=8,p=2" SALT_AND_KEY;
   int status = -1, other_status = -1;
   uint8_t key[4] = {1, 2, 3, 4};
   scrypt_memory *memory = bounded();
@@ -273,6 +307,9 @@ static int in_little_memory(void) {
   if (scrypt_kdf_in(memory, b(""), 0, b(""), 0, 14, 8, 1, key, 4) != SCRYPT_OK) return 6;
   scrypt_verify_two_in(memory, b(""), 0, LARGE, strlen(LARGE), &status, b("pw"), 2, LARGE, strlen(LARGE), &other_status);
   if (status != SCRYPT_MISMATCH || other_status != SCRYPT_MISMATCH) return 7;
+  /* Nor are two tables of one derivation given, which does with one. */
+  if (scrypt_kdf_in(memory, b(""), 0, b(""), 0, 15, 8, 2, key, 4) != SCRYPT_OK) return 8;
+  if (scrypt_verify_in(memory, b("pw"), 2, TWO_CHUNKS, strlen(TWO_CHUNKS)) != SCRYPT_MISMATCH) return 9;
   scrypt_memory_free(memory);
   return 0;
 }
@@ -300,6 +337,7 @@ int main(int argc, char **argv) {
   hostile_hashes(is_watched);
   refusals();
   needs();
+  can_use();
   two_at_once();
   many_calls(is_watched ? 1000 : 100000, is_watched);
   child = fork();

@@ -119,12 +119,9 @@ static void drawn_texts(void) {
   }
 }
 
-int main(int argc, char **argv) {
-  static const struct traces_case CASE = {4, 8, 1, 40, 32, "a password that has a length of 40 bytes",
-                                        "a salt has 32 bytes, as this has"};
+static void all_calls(const struct traces_case *of) {
   size_t i;
-  if (argc > 1 && (drop_in = dlopen(argv[1], RTLD_NOW)) == NULL) return 3;
-  the = &CASE;
+  the = of;
   take_buffers();
   for (i = 0; i < sizeof CALLS / sizeof *CALLS; i++) {
     if (CALLS[i].library != NULL && *CALLS[i].library == NULL) continue;
@@ -134,6 +131,17 @@ int main(int argc, char **argv) {
   }
   drawn_texts();
   free_buffers();
+}
+
+/* One chunk, and three: two at a time, and the last alone. */
+int main(int argc, char **argv) {
+  static const struct traces_case ONE = {4, 8, 1, 40, 32, "a password that has a length of 40 bytes",
+                                       "a salt has 32 bytes, as this has"};
+  struct traces_case three = ONE;
+  three.p = 3;
+  if (argc > 1 && (drop_in = dlopen(argv[1], RTLD_NOW)) == NULL) return 3;
+  all_calls(&ONE);
+  all_calls(&three);
   printf("%zu bytes of the stack were used at most\n", deepest);
   return failed;
 }

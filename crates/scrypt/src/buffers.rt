@@ -30,8 +30,10 @@ pub(crate) fn hold_two(params: &Params, chunks: &[u8], table: &[u32], scratch: &
     two.chunks <= chunks.len() && two.table <= table.len() && two.scratch <= scratch.len()
 }
 
-/// Returns how much a derivation uses of such buffers, or `None` if one is too short.
-pub(crate) fn used_lens(
+/// Returns how much of these buffers a derivation uses: the lengths of [`BufferLens::two_tables`] if `p` is at
+/// least 2 and the table and the scratch are that long, and otherwise those of [`BufferLens::of`]. Returns `None` if a
+/// buffer is too short.
+pub fn used_lens(
     params: &Params,
     chunks: &[u8],
     table: &[u32],

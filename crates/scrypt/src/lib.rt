@@ -31,6 +31,7 @@ mod verifying;
 mod wiping;
 
 pub use algorithm::Scrypt;
+pub use buffers::used_lens;
 pub use derivation::{
     BufferLens, output_len_ok, scrypt, scrypt_counted, scrypt_thin, scrypt_with_buffers,
 };

@@ -19,6 +19,14 @@ pub record AreUsed (c : Parameters) (before after : Work) : Type 0 where
   pub rest : let used = tables_used c before.table before.scratch * table_words c.log_n c.r in
       drop used after.table ≡ drop used before.table
 
+-- what is after the part of each buffer that a derivation with these parameters used is unchanged
+pub record IsRestKept (c : Parameters) (before after : Work) : Type 0 where
+  pub chunks : drop (chunks_bytes c.r c.p) after.chunks ≡ drop (chunks_bytes c.r c.p) before.chunks
+  pub table : let used = tables_used c before.table before.scratch * table_words c.log_n c.r in
+      drop used after.table ≡ drop used before.table
+  pub scratch : let used = tables_used c before.table before.scratch * scratch_words c.r in
+      drop used after.scratch ≡ drop used before.scratch
+
 -- what verifying leaves: a derivation was done if keys were compared, and nothing changed if not
 abbrev pub AreLeft : Result Stored Refusal → Work → Work → Type 0
 AreLeft (Ok s) before after = MatchBool (has_room s.params before) (AreUsed s.params before after) (after ≡ before)

@@ -2,13 +2,16 @@
 
 ghost use Rattle.std.specs.Prelude.{◌≡◌, ◌≢◌, ◌⊎◌, ◌↔◌, pos, length, None, IsSome, IfSome};
 ghost use Rattle.scrypt.specs.Accepted.{AreAccepted, IsOutputLen};
+ghost use Rattle.scrypt.specs.InBuffers.{AreEnough};
 ghost use Rattle.scrypt.specs.Key.{derived_key};
 ghost use Rattle.scrypt_c.specs.Buffers.{AreBuffers, IsSpacing};
+ghost use Rattle.scrypt_c.specs.InBuffers.{IsRestKept, buffers};
+ghost use Rattle.scrypt_c.specs.Limits.{params_of};
 
 use crate::statuses::{BUFFER_SIZE, INVALID_OUTPUT_LEN, INVALID_PARAMS, OK, OUT_OF_MEMORY};
 use scrypt::{
     BufferLens, CoreCount, DeriveError, InvalidOutputLen, Params, output_len_ok, scrypt,
-    scrypt_thin, scrypt_with_buffers,
+    scrypt_thin, scrypt_with_buffers, used_lens,
 };
 use std::alloc::Global;
 
@@ -80,9 +83,11 @@ pub extern "C" fn scrypt_buffer_lens(
 /// Does what `scrypt_kdf` does, in the caller's buffers, and allocates nothing.
 ///
 /// Returns `OK`, or the first of these: `INVALID_PARAMS`, `INVALID_OUTPUT_LEN`, and `BUFFER_SIZE`
-/// unless the three buffers have the lengths of `scrypt_buffer_lens` with `s` of 0. What they hold
-/// before the call does not matter, and what they hold after it is unspecified. On an error they and
-/// the output are unchanged.
+/// unless each buffer is at least as long as `scrypt_buffer_lens` returns with `s` of 0. Only so many
+/// elements at the front of each buffer are used; if `p` is at least 2 and the table and the scratch
+/// are twice as long, twice as many of both, and two chunks are mixed at a time. What the buffers hold
+/// before the call does not matter. After `OK`, what was used is unspecified, and nothing after it has
+/// changed. On an error the buffers and the output are unchanged.
 #[unsafe(no_mangle)]
 pub extern "C" fn scrypt_kdf_with_buffers(
     password: &[u8],
@@ -101,24 +106,44 @@ pub extern "C" fn scrypt_kdf_with_buffers(
     ensures length { (result ≡ INVALID_OUTPUT_LEN)
         ↔ (AreAccepted log_n r p × ¬ IsOutputLen (length output.old)) }
     ensures buffers { (result ≡ BUFFER_SIZE) ↔ (AreAccepted log_n r p × IsOutputLen (length output.old)
-        × ¬ AreBuffers log_n r p 0 (length chunks.old) (length table.old) (length scratch.old)) }
+        × ¬ AreEnough (params_of log_n r p) chunks.old table.old scratch.old) }
     ensures status { (result ≡ OK) ⊎ (result ≡ INVALID_PARAMS) ⊎ (result ≡ INVALID_OUTPUT_LEN)
         ⊎ (result ≡ BUFFER_SIZE) }
+    ensures rest { result ≡ OK → IsRestKept (params_of log_n r p)
+        (buffers chunks.old table.old scratch.old) (buffers chunks.new table.new scratch.new) }
     ensures refused { result ≢ OK → output.new ≡ output.old }
     ensures unchanged { result ≢ OK →
         (chunks.new ≡ chunks.old) × (table.new ≡ table.old) × (scratch.new ≡ scratch.old) }
 {
-    scrypt_kdf_thin(
-        password, salt, log_n, r, p, 0, output, chunks, table, scratch,
-    )
+    let Ok(params) = Params::new(log_n, r, p) else {
+        return INVALID_PARAMS;
+    };
+    if !output_len_ok(output.len()) {
+        return INVALID_OUTPUT_LEN;
+    }
+    let Some(used) = used_lens(&params, chunks, table, scratch) else {
+        return BUFFER_SIZE;
+    };
+    let chunks = &mut chunks[..used.chunks];
+    let table = &mut table[..used.table];
+    let scratch = &mut scratch[..used.scratch];
+    let mut cores = CoreCount::new();
+    let derived = scrypt_with_buffers(
+        password, salt, &params, chunks, table, scratch, output, &mut cores,
+    );
+    match derived {
+        Ok(()) => OK,
+        Err(InvalidOutputLen) => INVALID_OUTPUT_LEN,
+    }
 }
 
 /// Does what `scrypt_kdf_with_buffers` does, with a table that keeps one row in `2^s`: it has `2^s` times
 /// fewer words, and any other row is recomputed whenever it is needed.
 ///
 /// Returns `OK`, or the first of these: `INVALID_PARAMS`, also if `s` is above `log_n`,
-/// `INVALID_OUTPUT_LEN`, and `BUFFER_SIZE` unless the three buffers have the lengths of
-/// `scrypt_buffer_lens` with this `s`. On an error they and the output are unchanged.
+/// `INVALID_OUTPUT_LEN`, and `BUFFER_SIZE` unless the three buffers have exactly the lengths of
+/// `scrypt_buffer_lens` with this `s`. What they hold after it is unspecified. On an error they and the
+/// output are unchanged.
 #[unsafe(no_mangle)]
 pub extern "C" fn scrypt_kdf_thin(
     password: &[u8],
@@ -155,16 +180,13 @@ pub extern "C" fn scrypt_kdf_thin(
     if chunks.len() != lens.chunks || table.len() != lens.table || scratch.len() != lens.scratch {
         return BUFFER_SIZE;
     }
+    if s == 0 {
+        return scrypt_kdf_with_buffers(password, salt, log_n, r, p, output, chunks, table, scratch);
+    }
     let mut cores = CoreCount::new();
-    let derived = if s == 0 {
-        scrypt_with_buffers(
-            password, salt, &params, chunks, table, scratch, output, &mut cores,
-        )
-    } else {
-        scrypt_thin(
-            password, salt, &params, s, chunks, table, scratch, output, &mut cores,
-        )
-    };
+    let derived = scrypt_thin(
+        password, salt, &params, s, chunks, table, scratch, output, &mut cores,
+    );
     match derived {
         Ok(()) => OK,
         Err(InvalidOutputLen) => INVALID_OUTPUT_LEN,

@@ -5,7 +5,7 @@ ghost use Rattle.scrypt.specs.Accepted.{AreAccepted};
 ghost use Rattle.scrypt.specs.Limits.{are_within};
 ghost use Rattle.scrypt.specs.StoredHash.{StoredText};
 ghost use Rattle.scrypt.specs.WithinLimits.{bounded_refusal, within};
-ghost use Rattle.scrypt_c.specs.Buffers.{AreBuffers};
+ghost use Rattle.scrypt_c.specs.Buffers.{AreBuffers, AreUsable};
 ghost use Rattle.scrypt_c.specs.Limits.{bounded_status, limits_of, needs_status, params_of};
 ghost use Rattle.scrypt_c.specs.Texts.{ReadsBytes};
 
@@ -97,6 +97,55 @@ pub extern "C" fn scrypt_params_need(
     *chunks_len = lens.chunks;
     *table_len = lens.table;
     *scratch_len = lens.scratch;
+    OK
+}
+
+/// Returns in `chunks_len` (bytes), `table_len` and `scratch_len` (words) the lengths of the buffers that a derivation
+/// with these parameters can use: if `p` is at least 2 and so many bytes are within `most_bytes`, the table and the
+/// scratch are twice as long as `scrypt_params_need` returns, so that two chunks are mixed at a time; otherwise the
+/// lengths are those of `scrypt_params_need`. Does not allocate.
+///
+/// Returns what `scrypt_params_need` returns, and on an error no length is written.
+#[unsafe(no_mangle)]
+pub extern "C" fn scrypt_params_can_use(
+    log_n: u8,
+    r: u32,
+    p: u32,
+    most_bytes: usize,
+    most_work: u64,
+    chunks_len: &mut usize,
+    table_len: &mut usize,
+    scratch_len: &mut usize,
+) -> i32
+    ensures params { (result ≡ INVALID_PARAMS) ↔ (¬ AreAccepted log_n r p) }
+    ensures costly { (result ≡ TOO_COSTLY) ↔ (AreAccepted log_n r p
+        × (¬ IsTrue (are_within (limits_of most_bytes most_work 0) (params_of log_n r p)))) }
+    ensures status { (result ≡ OK) ⊎ (result ≡ INVALID_PARAMS) ⊎ (result ≡ TOO_COSTLY) }
+    ensures lens { result ≡ OK → AreUsable most_bytes log_n r p chunks_len.new table_len.new scratch_len.new }
+    ensures refused { result ≢ OK
+        → (chunks_len.new ≡ chunks_len.old) × (table_len.new ≡ table_len.old) × (scratch_len.new ≡ scratch_len.old) }
+{
+    let status = scrypt_params_need(
+        log_n,
+        r,
+        p,
+        most_bytes,
+        most_work,
+        chunks_len,
+        table_len,
+        scratch_len,
+    );
+    if status != OK {
+        return status;
+    }
+    let Some(params) = Params::new(log_n, r, p).ok() else {
+        return INVALID_PARAMS;
+    };
+    let two = BufferLens::two_tables(&params);
+    if p >= 2 && two.bytes() <= most_bytes as u128 {
+        *table_len = two.table;
+        *scratch_len = two.scratch;
+    }
     OK
 }
 

@@ -6,6 +6,3 @@ returns-then-chunks-lens-clause-length c = (
   λ status. (search rules, search rules, search rules),
   λ refused. search rules,
 )
-
-pub scrypt_with_buffers-derived-requires-clause-scratch : goal.scrypt_with_buffers-derived-requires-clause-scratch
-scrypt_with_buffers-derived-requires-clause-scratch c = search rules
