@@ -1,5 +1,6 @@
 #!/usr/bin/env python3
-"""Compares what the libraries export with the list in the file `abi` beside this script, and refuses what differs.
+"""Compares what the libraries export with the list in the file `abi` beside this script, and the names of the arguments in
+the header with those of the proved functions, and refuses what differs.
 
 usage: abi.py FOLDER            FOLDER has the libraries and the header, as build/lib has
        abi.py FOLDER --print    prints the list that they have
@@ -8,6 +9,7 @@ A line of the list is an exported name and sizes in bytes: of the result, and of
 its number. A program that was linked with the library relies on all of these.
 """
 
+import glob
 import os
 import re
 import subprocess
@@ -17,20 +19,48 @@ SONAME, VERSION = "libscrypt_c.so.0", "SCRYPT_C_0.12"
 SIZES = {"int": 4, "uint8_t": 1, "uint32_t": 4, "uint64_t": 8, "size_t": 8}
 
 
+HERE = os.path.dirname(os.path.abspath(__file__))
+SOURCES = os.path.join(HERE, "../../crates/scrypt_c/src/*.rt")
+
+
 def size(declared):
     """The size of an argument, which ends in its name."""
     return 8 if "*" in declared else SIZES[declared.split()[-2]]
 
 
+def calls_of(header):
+    """The result, the name and the arguments of each call."""
+    text = re.sub(r"/\*.*?\*/", "", header, flags=re.S)
+    return re.findall(r"^(int|void|scrypt_memory \*|const char \*) ?(scrypt_\w+)\(([^{}]*?)\);", text, re.M)
+
+
 def of_header(text):
     """The list that a header has."""
-    text = re.sub(r"/\*.*?\*/", "", text, flags=re.S)
-    calls = re.findall(r"^(int|void|scrypt_memory \*|const char \*) ?(scrypt_\w+)\(([^{}]*?)\);", text, re.M)
     lines = []
-    for result, name, arguments in calls:
+    for result, name, arguments in calls_of(text):
         sizes = [8 if "*" in result else SIZES.get(result, 0), *(size(it) for it in arguments.split(",") if it != "void")]
         lines.append(" ".join([name, *map(str, sizes)]))
     return sorted(lines) + [f"{name} {number}" for name, number in re.findall(r"^  (SCRYPT_\w+) = (\d+)", text, re.M)]
+
+
+def proved():
+    """The names of the arguments of each proved call, in order: a slice has two, and a text that is written a capacity."""
+    for path in glob.glob(SOURCES):
+        with open(path, encoding="utf-8") as file:
+            functions = re.findall(r'^pub extern "C" fn (\w+)\((.*?)\)(?: -> i32)?$', file.read(), re.M | re.S)
+        for name, arguments in functions:
+            names = []
+            for it, kind in re.findall(r"(\w+): ([^,]+)", arguments):
+                length = "capacity" if (it, kind) == ("text", "&mut [u8]") else f"{it}_len"
+                names += [] if kind == "Global" else [it, length] if "[" in kind else [it]
+            yield name, names
+
+
+def misnamed(header):
+    """A contract is proved whatever the order of the arguments, and the header has its own."""
+    named = {name: [it.split()[-1].lstrip("*") for it in arguments.split(",")] for _, name, arguments in calls_of(header)}
+    yield from (f"{name} has the arguments {names}, and in the header {named.get(name)}"
+                for name, names in proved() if named.get(name) != names)
 
 
 def output(*command):
@@ -39,7 +69,9 @@ def output(*command):
 
 def complaints(folder, wanted):
     with open(os.path.join(folder, "scrypt_c.h"), encoding="utf-8") as file:
-        listed = of_header(file.read())
+        header = file.read()
+    listed = of_header(header)
+    yield from misnamed(header)
     yield from (f"the list has it, and not the header: {it}" for it in wanted if it not in listed)
     yield from (f"the header has it, and not the list: {it}" for it in listed if it not in wanted)
     names = {it.split()[0] for it in wanted if it.startswith("scrypt_")}
@@ -55,7 +87,7 @@ def complaints(folder, wanted):
 
 
 def main(folder, *options):
-    with open(os.path.join(os.path.dirname(os.path.abspath(__file__)), "abi"), encoding="utf-8") as file:
+    with open(os.path.join(HERE, "abi"), encoding="utf-8") as file:
         wanted = [line.rstrip("\n") for line in file if not line.startswith("#")]
     if options == ("--print",):
         with open(os.path.join(folder, "scrypt_c.h"), encoding="utf-8") as file:

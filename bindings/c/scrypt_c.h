@@ -8,6 +8,7 @@
  *   a key with no allocation, in your own buffers    scrypt_kdf_with_buffers                  yes
  *   a key on a small device, with a smaller table    scrypt_kdf_thin                          yes
  *   the lengths of buffers; zeros over them          scrypt_buffer_lens; scrypt_wipe          yes
+ *   lengths with which p of 2 or more is faster      scrypt_params_can_use                    yes
  *   a password hash to store                         scrypt_hash_new                          no
  *   the same with other parameters, or your salt     scrypt_hash_phc; scrypt_hash_mcf: $7$    yes
  *   to verify a password by a stored hash            scrypt_verify                            yes
@@ -75,8 +76,8 @@
 extern "C" {
 #endif
 
-/* What the calls return. With anything but SCRYPT_OK the outputs are unchanged, except for the length that comes with
- * SCRYPT_BUFFER_SIZE. */
+/* What the calls return. If there is more than one error, it is the one that comes first in the comment of the call. With
+ * anything but SCRYPT_OK the outputs are unchanged, except for the length of a text that does not fit its capacity. */
 enum scrypt_status {
   SCRYPT_OK = 0,
   SCRYPT_MISMATCH = 1,            /* scrypt_verify: it is not the password of the hash */
@@ -114,24 +115,27 @@ SCRYPT_CHECKED
 int scrypt_kdf_mapped(const uint8_t *password, size_t password_len, const uint8_t *salt, size_t salt_len,
                       uint8_t log_n, uint32_t r, uint32_t p, uint8_t *output, size_t output_len);
 
-/* The lengths of the buffers: chunks in bytes, table and scratch in words. With s = 0 they are those of
- * scrypt_kdf_with_buffers; with another s, at most log_n, those of scrypt_kdf_thin with this s.
+/* The lengths of the buffers: chunks in bytes, table and scratch in words. With s = 0 they are the least ones of
+ * scrypt_kdf_with_buffers; with any s, at most log_n, those of scrypt_kdf_thin with this s.
  * SCRYPT_INVALID_PARAMS. */
 SCRYPT_CHECKED SCRYPT_NONNULL
 int scrypt_buffer_lens(uint8_t log_n, uint32_t r, uint32_t p, uint8_t s, size_t *chunks,
                        size_t *table, size_t *scratch);
 
-/* The same key, in the caller's buffers. What they hold before the call does not matter, and what they hold after it
- * is unspecified. Nothing is allocated. An error leaves the buffers unchanged too.
- * SCRYPT_INVALID_PARAMS, SCRYPT_INVALID_OUTPUT_LEN, SCRYPT_BUFFER_SIZE. */
+/* The same key, in the caller's buffers, each of which is at least as long as scrypt_buffer_lens says with s = 0. If p is
+ * at least 2, and the table and the scratch are twice as long as that, two chunks are mixed at a time. What the buffers
+ * hold before does not matter; afterwards what was used of them is unspecified, and what is after that never changes.
+ * Nothing is allocated. An error leaves the buffers unchanged too.
+ * SCRYPT_INVALID_PARAMS, SCRYPT_INVALID_OUTPUT_LEN, SCRYPT_BUFFER_SIZE if a buffer is too short. */
 SCRYPT_CHECKED SCRYPT_NONNULL
 int scrypt_kdf_with_buffers(const uint8_t *password, size_t password_len, const uint8_t *salt,
                             size_t salt_len, uint8_t log_n, uint32_t r, uint32_t p, uint8_t *output,
                             size_t output_len, uint8_t *chunks, size_t chunks_len, uint32_t *table,
                             size_t table_len, uint32_t *scratch, size_t scratch_len);
 
-/* The same key, with a table that keeps one row in 2^s: 2^s times smaller, for more work. Nothing is allocated. An
- * error leaves the buffers unchanged too. SCRYPT_INVALID_PARAMS, SCRYPT_INVALID_OUTPUT_LEN, SCRYPT_BUFFER_SIZE. */
+/* The same key, with a table that keeps one row in 2^s: 2^s times smaller, for more work. Each buffer has exactly the
+ * length that scrypt_buffer_lens says with this s. Nothing is allocated. An error leaves the buffers unchanged too.
+ * SCRYPT_INVALID_PARAMS, also if s is above log_n, SCRYPT_INVALID_OUTPUT_LEN, SCRYPT_BUFFER_SIZE. */
 SCRYPT_CHECKED SCRYPT_NONNULL
 int scrypt_kdf_thin(const uint8_t *password, size_t password_len, const uint8_t *salt,
                     size_t salt_len, uint8_t log_n, uint32_t r, uint32_t p, uint8_t s,
@@ -154,15 +158,15 @@ int scrypt_hash_new(const void *password, size_t password_len, char *text, size_
 
 /* Writes the PHC text of a hash, $scrypt$ln=.., to the front of text, and its length to *text_len. The salt has 1 to
  * 64 bytes and the key key_len bytes, 10 to 64. No zero byte follows the text. With SCRYPT_BUFFER_SIZE *text_len is the
- * capacity that the text needs. SCRYPT_INVALID_PARAMS (also for key_len), SCRYPT_SALT_INVALID, SCRYPT_OUT_OF_MEMORY,
- * SCRYPT_BUFFER_SIZE. */
+ * capacity that the text needs, and with any other error it is unchanged. SCRYPT_INVALID_PARAMS (also for key_len),
+ * SCRYPT_SALT_INVALID, SCRYPT_OUT_OF_MEMORY, SCRYPT_BUFFER_SIZE, which is found after the derivation. */
 SCRYPT_CHECKED SCRYPT_NONNULL
 int scrypt_hash_phc(const uint8_t *password, size_t password_len, const uint8_t *salt,
                     size_t salt_len, uint8_t log_n, uint32_t r, uint32_t p, size_t key_len,
                     char *text, size_t capacity, size_t *text_len);
 
 /* The same for the $7$ text of crypt(3), with a salt of any length.
- * SCRYPT_INVALID_PARAMS, SCRYPT_OUT_OF_MEMORY, SCRYPT_BUFFER_SIZE. */
+ * SCRYPT_INVALID_PARAMS (also for key_len), SCRYPT_OUT_OF_MEMORY, SCRYPT_BUFFER_SIZE. */
 SCRYPT_CHECKED SCRYPT_NONNULL
 int scrypt_hash_mcf(const uint8_t *password, size_t password_len, const uint8_t *salt,
                     size_t salt_len, uint8_t log_n, uint32_t r, uint32_t p, size_t key_len,
@@ -195,15 +199,20 @@ int scrypt_hash_mcf_with_buffers(const uint8_t *password, size_t password_len, c
  * A text that is $7 or begins with $7$ is read as a $7$ text, and any other as a PHC text.
  * The parameters are those of the hash, which may ask for much memory and time: call scrypt_hash_needs first, or
  * scrypt_verify_in, if the hash is not your own.
- * SCRYPT_ALGORITHM, SCRYPT_ENCODING_INVALID, SCRYPT_OUTPUT_SIZE, SCRYPT_HASH_PARAM_INVALID, SCRYPT_HASH_PARAMS_INVALID,
- * SCRYPT_VERSION, SCRYPT_OUT_OF_MEMORY. */
+ * For a PHC text: SCRYPT_ENCODING_INVALID, SCRYPT_ALGORITHM, SCRYPT_VERSION; SCRYPT_HASH_PARAM_INVALID or
+ * SCRYPT_HASH_PARAMS_INVALID, whichever the first parameter has that is refused; SCRYPT_HASH_PARAMS_INVALID if the
+ * parameters are not accepted; SCRYPT_MISMATCH without a salt or a key. For a $7$ text: SCRYPT_ENCODING_INVALID if its
+ * first field encodes no parameters; SCRYPT_HASH_PARAMS_INVALID; SCRYPT_ENCODING_INVALID for what follows;
+ * SCRYPT_OUTPUT_SIZE. Then SCRYPT_OUT_OF_MEMORY, and last SCRYPT_MISMATCH if it is another password. */
 SCRYPT_CHECKED SCRYPT_NONNULL
 int scrypt_verify(const uint8_t *password, size_t password_len, const char *text, size_t text_len);
 
 /* The same, in the caller's buffers, each of which is at least as long as scrypt_buffer_lens says with s = 0 for the
  * parameters of the hash. What they hold before does not matter; afterwards chunks and scratch are zeros if the keys
- * were compared, and otherwise all are unchanged. Nothing is allocated: the errors are those of scrypt_verify except
- * SCRYPT_OUT_OF_MEMORY, and after them SCRYPT_BUFFER_SIZE if a buffer is too short. */
+ * were compared, and otherwise all are unchanged; what is after the used part of a buffer never changes. If p is at least
+ * 2, and the table and the scratch are twice as long as that, two chunks are mixed at a time. Nothing is allocated: the
+ * errors are those of scrypt_verify, but in place of SCRYPT_OUT_OF_MEMORY it is SCRYPT_BUFFER_SIZE if a buffer is too
+ * short. */
 SCRYPT_CHECKED SCRYPT_NONNULL
 int scrypt_verify_with_buffers(const uint8_t *password, size_t password_len, const char *text, size_t text_len,
                                uint8_t *chunks, size_t chunks_len, uint32_t *table, size_t table_len,
@@ -227,7 +236,7 @@ SCRYPT_CHECKED SCRYPT_NONNULL
 int scrypt_needs_rehash(const char *text, size_t text_len, uint8_t log_n, uint32_t r, uint32_t p, size_t key_len);
 
 /* Writes the parameters of a hash, and the length of its key, or 0 if it has none. Nothing is allocated.
- * The errors of scrypt_verify except SCRYPT_OUT_OF_MEMORY. */
+ * The errors of scrypt_verify except SCRYPT_OUT_OF_MEMORY and SCRYPT_MISMATCH. */
 SCRYPT_CHECKED SCRYPT_NONNULL
 int scrypt_hash_params(const char *text, size_t text_len, uint8_t *log_n, uint32_t *r, uint32_t *p, size_t *key_len);
 
@@ -280,9 +289,10 @@ void scrypt_memory_wipe(scrypt_memory *memory);
 /* Wipes and unmaps it. Nothing for NULL. */
 void scrypt_memory_free(scrypt_memory *memory);
 
-/* As the calls without _in, but also SCRYPT_NULL_POINTER, and SCRYPT_TOO_COSTLY after SCRYPT_INVALID_PARAMS of
- * log_n, r and p, SCRYPT_INVALID_OUTPUT_LEN, SCRYPT_SALT_INVALID, and the errors of the text of a hash; and
- * scrypt_verify_in also SCRYPT_KEY_TOO_SHORT, after SCRYPT_TOO_COSTLY. */
+/* As the calls without _in, but also SCRYPT_NULL_POINTER, before any other error, and SCRYPT_TOO_COSTLY, after all others but
+ * SCRYPT_OUT_OF_MEMORY, SCRYPT_BUFFER_SIZE and SCRYPT_MISMATCH for another password; and scrypt_verify_in also
+ * SCRYPT_KEY_TOO_SHORT, just after SCRYPT_TOO_COSTLY. If p is at least 2, and most_bytes allows two tables, two chunks are
+ * mixed at a time, or one if the system refuses so much memory. */
 SCRYPT_CHECKED
 int scrypt_kdf_in(scrypt_memory *memory, const uint8_t *password, size_t password_len, const uint8_t *salt,
                   size_t salt_len, uint8_t log_n, uint32_t r, uint32_t p, uint8_t *output, size_t output_len);
@@ -312,7 +322,8 @@ void scrypt_verify_two_in(scrypt_memory *memory, const uint8_t *password, size_t
 /* ---- Salts, and the version ---- */
 
 /* Draws a salt by the system's getrandom: SCRYPT_SALT_LEN bytes are enough. Not proved.
- * SCRYPT_NULL_POINTER, or SCRYPT_NO_RANDOM_BYTES if the system has none: do not use the salt then. */
+ * SCRYPT_NULL_POINTER, or SCRYPT_NO_RANDOM_BYTES if the system has none, which may leave a part of the salt written: do
+ * not use it then. */
 SCRYPT_CHECKED
 int scrypt_draw_salt(uint8_t *salt, size_t len);
 

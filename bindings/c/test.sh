@@ -78,7 +78,7 @@ if has gcc gcc && has qemu-x86_64-static qemu-user-static; then
   grep "lacks a feature of x86-64-v2" "$room/refused"
 fi
 
-tests="test test_mapped test_memory test_null test_wipe test_salt test_traces threads"
+tests="test test_order test_mapped test_memory test_null test_wipe test_salt test_traces threads"
 memcheck() {
   valgrind -q --error-exitcode=1 --leak-check=full --errors-for-leak-kinds=all "$@"
 }
