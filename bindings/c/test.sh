@@ -91,6 +91,10 @@ if has gcc gcc; then
     "$room/$test"
   done
   echo "no report by AddressSanitizer: the tests, and four threads at once"
+  # Without a checker, which takes memory of its own.
+  gcc -O2 -Wall -Wextra -Wl,-z,now -I"$lib" bindings/c/test_out_of_memory.c -o "$room/out_of_memory" "$lib/libscrypt_c.a"
+  "$room/out_of_memory"
+  echo "a table that is refused: little memory is touched before"
 fi
 if has gcc gcc && has valgrind valgrind; then
   for test in $tests; do memcheck "$room/$test" small; done
