@@ -5,10 +5,10 @@
 //! length in C.
 #![tactic(auto)]
 
+mod argument_order;
 pub mod hashes;
 pub mod keys;
 pub mod needs;
-mod promises;
 pub mod statuses;
 mod texts;
 pub mod with_buffers;

@@ -2,7 +2,7 @@ use Rattle.std.proofs.Common.{◌≡◌, rules}
 use Rattle.std.specs.Prelude.{IfOk}
 use Rattle.scrypt_c.proofs.TextFacts.{each_reading}
 use Rattle.scrypt_c.specs.Statuses.{result_status}
-use Rattle.scrypt_c.proofs.promises.stored_hashes.hash_params.Goals as goal
+use Rattle.scrypt_c.proofs.argument_order.stored_hashes.hash_params.Goals as goal
 
 pub returns : goal.returns
 returns c =

@@ -3,7 +3,7 @@ use Rattle.scrypt.specs.Reading.{weaker}
 use Rattle.scrypt_c.proofs.TextFacts.{each_reading}
 use Rattle.scrypt_c.specs.Made.{wanted}
 use Rattle.scrypt_c.specs.Statuses.{rehash_status}
-use Rattle.scrypt_c.proofs.promises.stored_hashes.needs_rehash.Goals as goal
+use Rattle.scrypt_c.proofs.argument_order.stored_hashes.needs_rehash.Goals as goal
 
 pub returns : goal.returns
 returns c = record {

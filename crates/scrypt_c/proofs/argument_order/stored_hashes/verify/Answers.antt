@@ -1,7 +1,7 @@
 use Rattle.std.proofs.Common.{rules}
 use Rattle.scrypt_c.proofs.TextFacts.{each_reading}
 use Rattle.scrypt_c.specs.Statuses.{IsVerifyStatus}
-use Rattle.scrypt_c.proofs.promises.stored_hashes.verify.Goals as goal
+use Rattle.scrypt_c.proofs.argument_order.stored_hashes.verify.Goals as goal
 
 pub returns : goal.returns
 returns c =

@@ -5,8 +5,8 @@ use Rattle.scrypt.specs.PhcHash.{IsMadeText}
 use Rattle.scrypt_c.proofs.MadeFacts.{IsAsMade, phc_back, verified_status, written_back}
 use Rattle.scrypt_c.specs.Made.{wanted}
 use Rattle.scrypt_c.specs.Statuses.{rehash_status}
-use Rattle.scrypt_c.proofs.promises.new_hashes.phc_round_trip.Goals as goal
-use Rattle.scrypt_c.proofs.promises.new_hashes.phc_round_trip.Goals.{After-needs_rehash-compared}
+use Rattle.scrypt_c.proofs.argument_order.new_hashes.phc_round_trip.Goals as goal
+use Rattle.scrypt_c.proofs.argument_order.new_hashes.phc_round_trip.Goals.{After-needs_rehash-compared}
 
 -- the text that was made, as it is read back
 back : (c : After-needs_rehash-compared) → IsAsMade (wanted c.args.log_n c.args.r c.args.p c.args.key_len) c.args.password.now

@@ -3,7 +3,7 @@ use Rattle.scrypt.specs.WorkInBuffers.{verdict_in}
 use Rattle.scrypt_c.proofs.TextFacts.{each_reading}
 use Rattle.scrypt_c.specs.InBuffers.{AreLeft, buffers}
 use Rattle.scrypt_c.specs.Statuses.{buffers_status}
-use Rattle.scrypt_c.proofs.promises.stored_hashes.verify_with_buffers.Goals as goal
+use Rattle.scrypt_c.proofs.argument_order.stored_hashes.verify_with_buffers.Goals as goal
 
 pub returns-clause-status : goal.returns-clause-status
 returns-clause-status c =
