@@ -103,8 +103,8 @@ static int place_two(scrypt_memory *memory, struct buffers *two) {
  * allow it. */
 static int place_widest(scrypt_memory *memory, uint8_t log_n, uint32_t r, uint32_t p, struct buffers *buffers) {
   struct buffers two;
-  int status = scrypt_params_can_use(log_n, r, p, memory->most_bytes, memory->most_work, &two.chunks_len, &two.table_len,
-                                     &two.scratch_len);
+  int status = scrypt_params_can_use(log_n, r, p, memory->most_bytes, memory->most_work, &two.chunks_len,
+                                     &two.table_len, &two.scratch_len);
   if (status == SCRYPT_OK && two.table_len > buffers->table_len && place_two(memory, &two) == SCRYPT_OK) {
     *buffers = two;
     return SCRYPT_OK;
@@ -173,9 +173,15 @@ int scrypt_kdf_in(scrypt_memory *memory, const uint8_t *password, size_t passwor
   return derive(memory, password, password_len, salt, salt_len, log_n, r, p, output, output_len);
 }
 
-int scrypt_hash_phc_in(scrypt_memory *memory, const uint8_t *password, size_t password_len, const uint8_t *salt,
-                       size_t salt_len, uint8_t log_n, uint32_t r, uint32_t p, size_t key_len, char *text,
-                       size_t capacity, size_t *text_len) {
+/* scrypt_hash_phc_with_buffers or scrypt_hash_mcf_with_buffers. */
+typedef int hash_call(const uint8_t *password, size_t password_len, const uint8_t *salt, size_t salt_len, uint8_t log_n,
+                      uint32_t r, uint32_t p, size_t key_len, char *text, size_t capacity, size_t *text_len,
+                      uint8_t *chunks, size_t chunks_len, uint32_t *table, size_t table_len, uint32_t *scratch,
+                      size_t scratch_len);
+
+static int hash_in(hash_call *hash, scrypt_memory *memory, const uint8_t *password, size_t password_len,
+                   const uint8_t *salt, size_t salt_len, uint8_t log_n, uint32_t r, uint32_t p, size_t key_len,
+                   char *text, size_t capacity, size_t *text_len) {
   struct buffers of;
   char none = 0;
   uint8_t no_byte = 0;
@@ -187,36 +193,26 @@ int scrypt_hash_phc_in(scrypt_memory *memory, const uint8_t *password, size_t pa
     return SCRYPT_NULL_POINTER;
   if (text == NULL) text = &none;
   /* Without buffers: the errors that come before the bounds. */
-  status = scrypt_hash_phc_with_buffers(scrypt_bytes(password), password_len, scrypt_bytes(salt), salt_len, log_n, r, p,
-                                         key_len, text, 0, &unread, &no_byte, 0, &no_word, 0, &no_word, 0);
+  status = hash(scrypt_bytes(password), password_len, scrypt_bytes(salt), salt_len, log_n, r, p, key_len, text, 0,
+                &unread, &no_byte, 0, &no_word, 0, &no_word, 0);
   if (status == SCRYPT_BUFFER_SIZE) status = take(memory, log_n, r, p, &of);
   if (status != SCRYPT_OK) return status;
-  return scrypt_hash_phc_with_buffers(scrypt_bytes(password), password_len, scrypt_bytes(salt), salt_len, log_n, r, p,
-                                      key_len, text, capacity, text_len, of.chunks, of.chunks_len, of.table,
-                                      of.table_len, of.scratch, of.scratch_len);
+  return hash(scrypt_bytes(password), password_len, scrypt_bytes(salt), salt_len, log_n, r, p, key_len, text, capacity,
+              text_len, of.chunks, of.chunks_len, of.table, of.table_len, of.scratch, of.scratch_len);
+}
+
+int scrypt_hash_phc_in(scrypt_memory *memory, const uint8_t *password, size_t password_len, const uint8_t *salt,
+                       size_t salt_len, uint8_t log_n, uint32_t r, uint32_t p, size_t key_len, char *text,
+                       size_t capacity, size_t *text_len) {
+  return hash_in(scrypt_hash_phc_with_buffers, memory, password, password_len, salt, salt_len, log_n, r, p, key_len,
+                 text, capacity, text_len);
 }
 
 int scrypt_hash_mcf_in(scrypt_memory *memory, const uint8_t *password, size_t password_len, const uint8_t *salt,
                        size_t salt_len, uint8_t log_n, uint32_t r, uint32_t p, size_t key_len, char *text,
                        size_t capacity, size_t *text_len) {
-  struct buffers of;
-  char none = 0;
-  uint8_t no_byte = 0;
-  uint32_t no_word = 0;
-  size_t unread = 0;
-  int status;
-  if (memory == NULL || is_input_null(password, password_len, salt, salt_len) || scrypt_is_null(text, capacity) ||
-      text_len == NULL)
-    return SCRYPT_NULL_POINTER;
-  if (text == NULL) text = &none;
-  /* Without buffers: the errors that come before the bounds. */
-  status = scrypt_hash_mcf_with_buffers(scrypt_bytes(password), password_len, scrypt_bytes(salt), salt_len, log_n, r, p,
-                                         key_len, text, 0, &unread, &no_byte, 0, &no_word, 0, &no_word, 0);
-  if (status == SCRYPT_BUFFER_SIZE) status = take(memory, log_n, r, p, &of);
-  if (status != SCRYPT_OK) return status;
-  return scrypt_hash_mcf_with_buffers(scrypt_bytes(password), password_len, scrypt_bytes(salt), salt_len, log_n, r, p,
-                                      key_len, text, capacity, text_len, of.chunks, of.chunks_len, of.table,
-                                      of.table_len, of.scratch, of.scratch_len);
+  return hash_in(scrypt_hash_mcf_with_buffers, memory, password, password_len, salt, salt_len, log_n, r, p, key_len,
+                 text, capacity, text_len);
 }
 
 /* A password and the text of a hash. */
