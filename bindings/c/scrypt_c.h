@@ -255,7 +255,7 @@ int scrypt_params_need(uint8_t log_n, uint32_t r, uint32_t p, size_t most_bytes,
                        size_t *chunks_len, size_t *table_len, size_t *scratch_len);
 
 /* The lengths that such a derivation can use: if p is at least 2 and most_bytes allows it, the table and the scratch
- * are twice as long as scrypt_params_need says, in which two chunks are mixed at a time, which takes about 0.6 of the time;
+ * are twice as long as scrypt_params_need says, so that two chunks are mixed at a time, in about 0.7 of the time;
  * and otherwise its lengths. The statuses are the same. */
 SCRYPT_CHECKED SCRYPT_NONNULL
 int scrypt_params_can_use(uint8_t log_n, uint32_t r, uint32_t p, size_t most_bytes, uint64_t most_work,

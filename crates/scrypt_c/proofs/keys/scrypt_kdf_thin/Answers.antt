@@ -6,3 +6,6 @@ returns-then-chunks-lens-clause-length c = (
   λ status. (search rules, search rules, search rules),
   λ refused. search rules,
 )
+
+pub scrypt_thin-derived-requires-clause-scratch : goal.scrypt_thin-derived-requires-clause-scratch
+scrypt_thin-derived-requires-clause-scratch c = search rules
