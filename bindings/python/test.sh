@@ -20,7 +20,7 @@ if [ "${1:-}" = short ]; then
   echo "called from Python"
   exit
 fi
-for test in test_hasher test_bounds test_turns test_processes; do PYTHONWARNINGS=error run python3 $test; done
+for test in test_hasher test_bounds test_turns test_processes test_pairs; do PYTHONWARNINGS=error run python3 $test; done
 echo "called from Python"
 
 # What the interpreter does with its own copies of the outputs is none of this: so that it doesn't save registers while it

@@ -55,18 +55,21 @@ class Bounds(NamedTuple):
     def check_params(self, params: Params) -> None:
         """Raises TooCostlyError if a derivation with these parameters needs more, and InvalidParamsError."""
         log_n, r, p = accepted(*params[:3])
-        status = library.params_need(log_n, r, p, *self.in_c, *_places())
+        status = library.params_need(log_n, r, p, *self.in_c, *map(ctypes.byref, _lens()))
         check(status, self._costs(params) if status == TOO_COSTLY else f"log_n={log_n}, r={r}, p={p}")
 
-    def check_text(self, raw: bytes) -> None:
+    def check_text(self, raw: bytes) -> tuple[int, int]:
         """Raises what verifying with this text does before any work: InvalidHashError, VerifyMismatchError without a
-        salt or a key, then TooCostlyError, then KeyTooShortError."""
-        status = library.hash_needs(raw, len(raw), *self.in_c, self.least_key_len, *_places())
+        salt or a key, then TooCostlyError, then KeyTooShortError. Returns the lengths of the table and of the scratch,
+        which are equal for two texts if and only if N and r are."""
+        lens = _lens()
+        status = library.hash_needs(raw, len(raw), *self.in_c, self.least_key_len, *map(ctypes.byref, lens))
         if status == TOO_COSTLY:
             check(status, self._costs(params_of(raw)))
         if status == KEY_TOO_SHORT:
             check(status, f"its length is {params_of(raw).key_len}, and at least {self.least_key_len} is required")
         check(status)
+        return lens[1].value, lens[2].value
 
     def _costs(self, params: Params) -> str:
         log_n, r, p, _ = params
@@ -76,6 +79,6 @@ class Bounds(NamedTuple):
         )
 
 
-def _places() -> list[object]:
-    """Where the library writes the lengths of the three buffers."""
-    return [ctypes.byref(ctypes.c_size_t()) for _ in range(3)]
+def _lens() -> list[ctypes.c_size_t]:
+    """Where the library writes the lengths of the three buffers: the chunks, the table and the scratch."""
+    return [ctypes.c_size_t() for _ in range(3)]

@@ -11,16 +11,22 @@ from . import library
 from .arguments import Bytes, Password, number, raw_bytes, raw_password, raw_text, seconds
 from .bounds import Bounds, named_work
 from .errors import OUT_OF_MEMORY, check, invalid_params
-from .memories import Memories
+from .memories import Memories, processors
 from .params import Params, accepted, check_derived, params_of
 
 
 class PasswordHasher:
     """Makes password hashes with these parameters, and verifies passwords by hashes with any.
 
-    `mcf` makes `$7$` hashes of crypt(3) instead of PHC hashes. At most `at_once` derivations run at the same time, by
-    default as many as there are processors; other threads wait for their turn, and after `timeout` seconds raise
-    TimeoutError. Any number of threads may use a hasher.
+    `mcf` makes `$7$` hashes of crypt(3) instead of PHC hashes. Any number of threads may use a hasher. As many derive
+    at the same time as there are processors; others wait for their turn, and after `timeout` seconds raise
+    TimeoutError. Of those that wait, two verifications with the same N and r are done at once, in twice the memory of
+    one and little more than its time. Nobody waits for a second one, and neither of two is touched by what becomes of
+    the other.
+
+    `at_once` is how many verifications and new hashes may have memory at the same time: by default two for each
+    processor, which is 1 GiB for four processors and the recommended parameters. With one for each processor, or less,
+    there are no two at once: that takes half the memory, and carries fewer log-ins.
 
     A hash that needs more than `most_bytes` of memory, or whose `Params.work` is above `most_work`, is refused without
     waiting. By default these are 256 MiB and four times the work of the recommended parameters, or what new hashes need
@@ -54,7 +60,7 @@ class PasswordHasher:
         if not 1 <= number(salt_len, "salt_len") <= 64:
             check(10, f"salt_len={salt_len}")
         self._salt_len, self._mcf = salt_len, bool(mcf)
-        self._at_once = number(at_once, "at_once") if at_once is not None else os.cpu_count() or 1
+        self._at_once = number(at_once, "at_once") if at_once is not None else 2 * processors()
         if self._at_once < 1:
             raise ValueError(f"at_once is positive, not {at_once}")
         self._bounds.check_params(self._params)
@@ -106,9 +112,7 @@ class PasswordHasher:
         than the bounds allow, and KeyTooShortError if its key is shorter than they allow: each before it waits."""
         raw, secret = raw_text(text), raw_password(password)
         self._memories.check_open()
-        self._bounds.check_text(raw)
-        with self._memories.one() as memory:
-            status = library.verify(memory, secret, len(secret), raw, len(raw))
+        status = self._memories.verify(secret, raw, self._bounds.check_text(raw))
         if status == OUT_OF_MEMORY:  # the error that has what the hash needs
             check_derived(status, params_of(raw))
         check(status)

@@ -1,87 +1,104 @@
-"""Memories of the library, which threads take in turn."""
+"""Derivations in memories of the library, each by a thread that has a turn."""
 
 from __future__ import annotations
 
 import contextlib
+import ctypes
 import os
 import weakref
 from typing import Iterator, Optional
 
 from . import library
 from .bounds import Bounds
-from .turns import Turns
+from .turns import Turn, Turns, Wait
+
+_NOT_YET = -1  # no status of the library
 
 
-def _free_all(memories: list[int]) -> None:
-    """Frees them, also if another thread does so at the same time."""
-    with contextlib.suppress(IndexError):
-        while True:
-            library.memory_free(memories.pop())
+def processors() -> int:
+    """How many processors this process may use."""
+    return len(os.sched_getaffinity(0))
+
+
+class Verification:
+    """A password and the text of a hash. The status is written by the thread that derives."""
+
+    def __init__(self, password: bytes, text: bytes) -> None:
+        self.arguments = (password, len(password), text, len(text))
+        self.status = ctypes.c_int(_NOT_YET)
 
 
 class Memories:
-    """At most `at_once` memories, each of which one thread has for one derivation. They are kept for the next one."""
+    """At most `at_once` derivations have memory at the same time. It is kept for the next ones."""
 
     def __init__(self, at_once: int, bounds: Bounds, timeout: Optional[float] = None) -> None:
-        self._at_once, self._bounds, self._timeout = at_once, bounds, timeout
-        self._idle: list[int] = []
-        self._is_closed = False
-        self._turns = Turns(at_once)
-        weakref.finalize(self, _free_all, self._idle)
-        _live.add(self)
-
-    def reset_turns(self) -> None:
-        """Makes every turn free again. If a signal interrupted the wait of the thread that forks, it ends."""
-        before, self._turns = self._turns, Turns(self._at_once)
-        before.let_all_go()
+        self._bounds, self._timeout = bounds, timeout
+        self._turns: Turns[Verification] = Turns(at_once, processors())
+        _live.add(self._turns)
 
     def close(self) -> None:
         """Frees the memories; one that is in use is freed when its derivation ends."""
-        self._is_closed = True
-        _free_all(self._idle)
+        self._turns.close()
 
     def check_open(self) -> None:
         """Raises ValueError after `close`."""
-        if self._is_closed:
+        if self._turns.is_closed:
             raise ValueError("the hasher is closed")
+
+    def verify(self, password: bytes, text: bytes, like: object) -> int:
+        """The status. Another thread may derive for this one, or this one for another, if `like` is equal for both."""
+        mine = Verification(password, text)
+        while mine.status.value == _NOT_YET:
+            with self._wait(Wait(mine, like)) as wait:
+                if wait.turn is not None:
+                    self._derive(mine, wait.turn, wait.partner)
+        return mine.status.value
+
+    def _derive(self, mine: Verification, turn: Turn, partner: Optional[Wait[Verification]]) -> None:
+        memory = self._memory_of(turn)
+        if partner is None or partner.work is None:
+            mine.status.value = library.verify(memory, *mine.arguments)
+            return
+        other = partner.work
+        statuses = ctypes.byref(mine.status), ctypes.byref(other.status)
+        library.verify_two(memory, *mine.arguments, statuses[0], *other.arguments, statuses[1])
 
     @contextlib.contextmanager
     def one(self) -> Iterator[int]:
-        """A memory; waits until one is free. The one that was used last comes first."""
-        turns = self._turns
-        if not turns.take(self._timeout):
-            raise TimeoutError(f"no turn within {self._timeout} seconds: {self._at_once} other derivations are running")
+        """A memory for one derivation; waits for a turn."""
+        with contextlib.ExitStack() as waits:
+            turn = None
+            while turn is None:
+                turn = waits.enter_context(self._wait(Wait())).turn
+            yield self._memory_of(turn)
+
+    @contextlib.contextmanager
+    def _wait(self, wait: Wait[Verification]) -> Iterator[Wait[Verification]]:
         try:
-            memory = self._take()
-            try:
-                yield memory
-            finally:
-                self._idle.append(memory)
-                if self._is_closed:
-                    _free_all(self._idle)
+            if not self._turns.take(wait, self._timeout):
+                raise TimeoutError(f"no turn within {self._timeout} seconds: {len(self._turns)} other threads derive")
+            yield wait
         finally:
-            if turns is self._turns:  # and this is not a child whose turns are all free again
-                turns.give_back()
+            self._turns.leave(wait)
 
-    def _take(self) -> int:
+    def _memory_of(self, turn: Turn) -> int:
         self.check_open()
-        with contextlib.suppress(IndexError):
-            return self._idle.pop()
-        memory = library.memory_new(*self._bounds.in_c)
-        if not memory:
-            raise MemoryError("no memory for a derivation")
-        library.memory_set_least_key_len(memory, self._bounds.least_key_len)
-        return memory
+        if turn.memory is None:
+            memory = library.memory_new(*self._bounds.in_c)
+            if not memory:
+                raise MemoryError("no memory for a derivation")
+            library.memory_set_least_key_len(memory, self._bounds.least_key_len)
+            turn.memory = memory
+        return turn.memory
 
 
-# The threads that hold turns when a process forks do not exist in the child, so nothing there would give the turns back.
-# The child uses its copies of the memories that were idle. Those that were in use may be half changed, so it leaves them.
-_live: weakref.WeakSet[Memories] = weakref.WeakSet()
+# Those of all hashers, for children of a fork.
+_live: weakref.WeakSet[Turns[Verification]] = weakref.WeakSet()
 
 
 def _reset_turns_in_child() -> None:
-    for memories in list(_live):
-        memories.reset_turns()
+    for turns in list(_live):
+        turns.reset_in_child()
 
 
 os.register_at_fork(after_in_child=_reset_turns_in_child)

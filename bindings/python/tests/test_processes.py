@@ -15,6 +15,7 @@ from concurrent.futures import ThreadPoolExecutor
 
 import scrypt_c
 from scrypt_c import PasswordHasher
+from scrypt_c.turns import Wait
 from test_turns import turns_taken
 
 WAIT = 20  # seconds, after which a child is taken to wait for ever
@@ -70,7 +71,7 @@ class Forks(unittest.TestCase):
 
         def count():
             with turns_taken(hasher, 2):
-                assert not hasher._memories._turns.take(0)
+                assert not hasher._memories._turns.take(Wait(), 0)
 
         with turns_taken(hasher, 2):
             self.assertEqual(forked(count), 0)

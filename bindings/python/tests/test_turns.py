@@ -2,6 +2,7 @@
 
 import contextlib
 import gc
+import os
 import random
 import signal
 import threading
@@ -11,7 +12,7 @@ from unittest import mock
 
 import scrypt_c
 from scrypt_c import PasswordHasher, library
-from scrypt_c.turns import Turns
+from scrypt_c.turns import Turns, Wait
 
 MEMORY_FREE = library.memory_free
 
@@ -36,6 +37,21 @@ def turns_taken(hasher, count, seconds=None):
         done.set()
         for it in threads:
             it.join()
+
+
+def processors(count):
+    """Lets hashers that are made meanwhile have so many processors."""
+    return mock.patch.object(os, "sched_getaffinity", lambda _: set(range(count)))
+
+
+def both(one):
+    """In place of the call for two: each by this call."""
+
+    def two(memory, *arguments):
+        arguments[4]._obj.value = one(memory, *arguments[:4])
+        arguments[9]._obj.value = one(memory, *arguments[5:9])
+
+    return two
 
 
 def resident():
@@ -156,17 +172,22 @@ class Threads(unittest.TestCase):
                 inside -= 1
             return 0
 
-        for at_once in (1, 3):
+        for at_once, count, why in [
+            (1, 4, "one"),
+            (3, 4, "fewer than processors"),
+            (8, 3, "as many as processors"),
+        ]:
             most = 0
-            hasher = PasswordHasher(log_n=4, at_once=at_once)
+            with processors(count):
+                hasher = PasswordHasher(log_n=4, at_once=at_once)
             text = hasher.hash("")
-            with mock.patch.object(library, "verify", slow):
+            with mock.patch.object(library, "verify", slow), mock.patch.object(library, "verify_two", both(slow)):
                 threads = [threading.Thread(target=hasher.verify, args=(text, "")) for _ in range(8)]
                 for it in threads:
                     it.start()
                 for it in threads:
                     it.join()
-            self.assertEqual(most, at_once)
+            self.assertEqual(most, min(at_once, count), why)
 
     def test_the_longest_wait_is_next(self):
         """Threads that begin again at once do not pass the others: each gets about as many turns."""
@@ -204,20 +225,21 @@ class Threads(unittest.TestCase):
 
     def test_waits_that_end_lose_no_turn(self):
         """Timeouts come while turns are handed over, and in the end all turns are free."""
-        turns, stop = Turns(2), time.monotonic() + 1
+        turns, stop = Turns(4, 2), time.monotonic() + 1
 
         def take():
             while time.monotonic() < stop:
-                if turns.take(random.choice((0, 0.0001, 0.001))):
+                wait = Wait(like=random.choice((None, 1, 2)))
+                if turns.take(wait, random.choice((0, 0.0001, 0.001))):
                     time.sleep(0.0002)
-                    turns.give_back()
+                turns.leave(wait)
 
         threads = [threading.Thread(target=take) for _ in range(6)]
         for it in threads:
             it.start()
         for it in threads:
             it.join()
-        self.assertEqual([turns.take(0) for _ in range(3)], [True, True, False])
+        self.assertEqual([turns.take(Wait(), 0) for _ in range(3)], [True, True, False])
 
     def test_a_wait_that_is_interrupted(self):
         """By Ctrl-C, say: the turn that comes later is for another thread."""
