@@ -47,19 +47,21 @@ func (b bounds) checkParams(params Params) error {
 
 // checkText returns what verifying by this text returns before any work: an error that is ErrInvalidHash to errors.Is,
 // ErrMismatch without a salt or a key, then ErrTooCostly, then ErrKeyTooShort.
-func (b bounds) checkText(text string) error {
-	err := hashNeeds(text, b)
+func (b bounds) checkText(text []byte) (likeness, error) {
+	like, err := hashNeeds(text, b)
 	if err != ErrTooCostly && err != ErrKeyTooShort {
-		return err
+		return like, err
 	}
-	params, unread := ParamsOf(text)
-	if unread != nil {
-		return unread
+	params, unread := ParamsOf(string(text))
+	switch {
+	case unread != nil:
+		err = unread
+	case err == ErrTooCostly:
+		err = b.tooCostly(params)
+	default:
+		err = fmt.Errorf("%w: it has %d bytes, and at least %d are required", err, params.KeyLen, b.leastKeyLen)
 	}
-	if err == ErrTooCostly {
-		return b.tooCostly(params)
-	}
-	return fmt.Errorf("%w: it has %d bytes, and at least %d are required", err, params.KeyLen, b.leastKeyLen)
+	return like, err
 }
 
 // tooCostly returns ErrTooCostly with what these parameters need, and what is allowed.

@@ -104,11 +104,7 @@ func TestUsualBounds(t *testing.T) {
 // What is refused by its text does not wait for the derivation of another.
 func TestRefusedWithoutATurn(t *testing.T) {
 	hasher := newHasher(t, Options{Params: small(), AtOnce: 1})
-	taken, err := hasher.begin(context.Background())
-	if err != nil {
-		t.Fatal(err)
-	}
-	defer hasher.end(taken)
+	defer hasher.turns.end(taken(t, hasher))
 	ctx, cancel := context.WithTimeout(context.Background(), 5*time.Second)
 	defer cancel()
 	for _, it := range []struct {

@@ -12,6 +12,16 @@ import (
 
 var _ io.Closer = (*Hasher)(nil)
 
+// kept returns how many memories are kept that no derivation has.
+func kept(hasher *Hasher) (count int) {
+	for _, it := range hasher.turns.free {
+		if it.memory != nil {
+			count++
+		}
+	}
+	return count
+}
+
 // refused returns the errors of the calls that need a turn.
 func refused(ctx context.Context, hasher *Hasher) []error {
 	_, drawn := hasher.Hash(ctx, nil)
@@ -38,19 +48,16 @@ func TestAZeroHasher(t *testing.T) {
 
 func TestClose(t *testing.T) {
 	ctx := context.Background()
-	hasher := newHasher(t, Options{Params: small(), AtOnce: 2})
+	hasher := on(t, 2, Options{Params: small()})
 	text, err := hasher.Hash(ctx, nil)
 	if err != nil {
 		t.Fatal(err)
 	}
-	running, err := hasher.begin(ctx)
-	if err != nil {
-		t.Fatal(err)
-	}
+	running := taken(t, hasher)
 	if err := hasher.Verify(ctx, text, nil); err != nil {
 		t.Fatal(err)
 	}
-	if kept := len(hasher.memories.idle); kept != 1 {
+	if kept := kept(hasher); kept != 1 {
 		t.Errorf("%d memories are kept before it is closed", kept)
 	}
 	for i := 0; i < 2; i++ {
@@ -66,21 +73,18 @@ func TestClose(t *testing.T) {
 	if weak, err := hasher.NeedsRehash(text); weak || err != nil {
 		t.Errorf("NeedsRehash of a closed Hasher: %v, %v", weak, err)
 	}
-	if err := running.verify(text, nil); err != nil {
+	if err := running.turn.memory.verify(&login{text: []byte(text)}); err != nil {
 		t.Errorf("a derivation that began before: %v", err)
 	}
-	hasher.end(running)
-	if kept := len(hasher.memories.idle); kept != 0 {
+	hasher.turns.end(running)
+	if kept := kept(hasher); kept != 0 {
 		t.Errorf("%d memories are kept after it is closed", kept)
 	}
 }
 
 func TestCloseEndsWaits(t *testing.T) {
 	hasher := newHasher(t, Options{Params: small(), AtOnce: 1})
-	running, err := hasher.begin(context.Background())
-	if err != nil {
-		t.Fatal(err)
-	}
+	running := taken(t, hasher)
 	text := "$scrypt$ln=4,r=8,p=1$c2FsdHNhbHQ$" + strings.Repeat("A", 43)
 	waiting := make(chan error)
 	for i := 0; i < 4; i++ {
@@ -95,7 +99,7 @@ func TestCloseEndsWaits(t *testing.T) {
 			t.Errorf("who waited: %v", err)
 		}
 	}
-	hasher.end(running)
+	hasher.turns.end(running)
 }
 
 func TestCloseWhileManyDerive(t *testing.T) {
@@ -120,7 +124,7 @@ func TestCloseWhileManyDerive(t *testing.T) {
 			t.Error(err)
 		}
 		all.Wait()
-		if kept := len(hasher.memories.idle); kept != 0 {
+		if kept := kept(hasher); kept != 0 {
 			t.Errorf("%d memories are kept", kept)
 		}
 	}

@@ -14,7 +14,10 @@ type Options struct {
 	Params       // the parameters of new hashes: each that of Recommended()
 	MCF     bool // whether new hashes are $7$ texts of crypt(3) and not PHC texts
 	SaltLen int  // the length of a new hash's salt, 1 to 64 bytes: 16
-	AtOnce  int  // how many derivations may run at the same time: runtime.GOMAXPROCS(0)
+
+	// How many verifications and new hashes may have memory at the same time: two for each processor, as many as
+	// runtime.GOMAXPROCS(0) says, so that two that wait are done at once.
+	AtOnce int
 
 	// What a hash may need before it is refused with ErrTooCostly, its Params.Memory and Params.Work: by default the
 	// constants of the same names, or what new hashes need if that is more.
@@ -27,19 +30,29 @@ type Options struct {
 }
 
 // A Hasher makes password hashes, and verifies passwords by hashes of either format. Any number of goroutines may use
-// it; at most Options.AtOnce of them derive at the same time, and the others wait. It keeps the memory in which it
-// verifies for the next time, at most AtOnce times MostBytes, until Close. NewHasher makes one: with the zero value
-// each method returns ErrClosed.
+// it; as many derive at the same time as there are processors, and the others wait.
+//
+// Of those that wait, two verifications with the same N and R are done at once, in twice the memory of one and little
+// more than its time. Nobody waits for a second one, and neither of two is touched by what becomes of the other. By
+// default four processors take 1 GiB with the recommended parameters. With an AtOnce of one for each processor, or
+// less, there are no two at once: that takes half the memory, and carries fewer log-ins.
+//
+// It keeps the memory in which it verifies for the next time, at most AtOnce times MostBytes, until Close. NewHasher
+// makes one: with the zero value each method returns ErrClosed.
 type Hasher struct {
-	options  Options
-	turns    chan struct{}
-	memories *memories
+	options Options
+	turns   *turns
 }
 
 // NewHasher returns a Hasher. The errors, which name the option, are to errors.Is ErrInvalidParams, ErrSaltInvalid,
 // ErrInvalidOption, and ErrTooCostly if new hashes need more than the bounds.
 func NewHasher(options Options) (*Hasher, error) {
-	options = options.withDefaults()
+	return newHasherOn(runtime.GOMAXPROCS(0), options)
+}
+
+// newHasherOn returns a Hasher for so many processors.
+func newHasherOn(processors int, options Options) (*Hasher, error) {
+	options = options.withDefaults(processors)
 	memory, err := options.Params.Memory()
 	if err != nil {
 		return nil, fmt.Errorf("%w: LogN is %d, R is %d and P is %d", err, options.LogN, options.R, options.P)
@@ -57,11 +70,11 @@ func NewHasher(options Options) (*Hasher, error) {
 	if err := of.checkParams(options.Params); err != nil {
 		return nil, err
 	}
-	return &Hasher{options, make(chan struct{}, options.AtOnce), newMemories(of)}, nil
+	return &Hasher{options, newTurns(of, options.AtOnce, processors)}, nil
 }
 
 // withDefaults returns the options with the default in place of each zero. The bounds depend on the parameters.
-func (options Options) withDefaults() Options {
+func (options Options) withDefaults(processors int) Options {
 	usual := Recommended()
 	for _, it := range []struct {
 		field *int
@@ -72,7 +85,7 @@ func (options Options) withDefaults() Options {
 		{&options.P, usual.P},
 		{&options.KeyLen, usual.KeyLen},
 		{&options.SaltLen, 16},
-		{&options.AtOnce, runtime.GOMAXPROCS(0)},
+		{&options.AtOnce, 2 * processors},
 	} {
 		if *it.field == 0 {
 			*it.field = it.usual
@@ -84,8 +97,8 @@ func (options Options) withDefaults() Options {
 // Close frees the memory that the Hasher keeps; that of a derivation which is running is freed when it ends. Calls of
 // Hash and Verify that wait, and later ones, return ErrClosed. Close returns nil.
 func (h *Hasher) Close() error {
-	if h.memories != nil {
-		h.memories.close()
+	if h.turns != nil {
+		h.turns.close()
 	}
 	return nil
 }
@@ -103,37 +116,47 @@ func (h *Hasher) Hash(ctx context.Context, password []byte) (string, error) {
 // HashWithSalt is Hash with a salt of the caller's, which a PHC hash takes with 1 to 64 bytes: else it returns
 // ErrSaltInvalid.
 func (h *Hasher) HashWithSalt(ctx context.Context, password, salt []byte) (string, error) {
-	m, err := h.begin(ctx)
-	if err != nil {
+	if err := h.ready(ctx); err != nil {
 		return "", err
 	}
-	defer h.end(m)
-	return m.hash(password, salt, h.options.Params, h.options.MCF)
+	mine := newWait(nil)
+	if err := h.turns.begin(ctx, mine); err != nil {
+		return "", err
+	}
+	defer h.turns.end(mine)
+	return mine.turn.memory.hash(password, salt, h.options.Params, h.options.MCF)
 }
 
 // Verify returns nil if the password is that of the hash, and ErrMismatch if it is not, or if the hash has no salt or
 // no key. To errors.Is the other errors are that of the context, if it ends before the derivation begins, ErrClosed,
-// ErrInvalidHash, ErrTooCostly if the hash needs more than the bounds, ErrKeyTooShort if its key has fewer than 16 bytes, or
-// than new keys if that is less, and ErrOutOfMemory. What the text alone decides is returned without waiting.
+// ErrInvalidHash, ErrTooCostly if the hash needs more than the bounds, ErrKeyTooShort if its key has fewer than 16
+// bytes, or than new keys if that is less, and ErrOutOfMemory. What the text alone decides is returned without waiting.
 func (h *Hasher) Verify(ctx context.Context, text string, password []byte) error {
 	if err := h.ready(ctx); err != nil {
 		return err
 	}
-	if err := h.memories.bounds.checkText(text); err != nil {
-		return err
-	}
-	m, err := h.begin(ctx)
+	raw := []byte(text)
+	like, err := h.turns.bounds.checkText(raw)
 	if err != nil {
 		return err
 	}
-	defer h.end(m)
-	return m.verify(text, password)
+	mine := newWait(&login{password, raw, like})
+	if err := h.turns.begin(ctx, mine); err != nil || mine.turn == nil {
+		return err
+	}
+	defer h.turns.end(mine)
+	if mine.partner == nil {
+		return mine.turn.memory.verify(mine.login)
+	}
+	err, others := mine.turn.memory.verifyTwo(mine.login, mine.partner.login)
+	mine.finish(others)
+	return err
 }
 
 // NeedsRehash reports whether one of the parameters of the hash, or its key's length, is below that of new hashes. The
 // errors are those that are ErrInvalidHash to errors.Is. It needs no memory, so a closed Hasher answers too.
 func (h *Hasher) NeedsRehash(text string) (bool, error) {
-	if h.memories == nil {
+	if h.turns == nil {
 		return false, ErrClosed
 	}
 	return needsRehash(text, h.options.Params)
@@ -141,34 +164,8 @@ func (h *Hasher) NeedsRehash(text string) (bool, error) {
 
 // ready returns ErrClosed, or the error of a context that has ended.
 func (h *Hasher) ready(ctx context.Context) error {
-	if h.memories == nil || h.memories.isClosed() {
+	if h.turns == nil || h.turns.isClosed() {
 		return ErrClosed
 	}
 	return ctx.Err()
-}
-
-// begin waits for a turn to derive, or for the end of the context, and returns the memory for it.
-func (h *Hasher) begin(ctx context.Context) (*memory, error) {
-	if err := h.ready(ctx); err != nil {
-		return nil, err
-	}
-	select {
-	case h.turns <- struct{}{}:
-	case <-h.memories.closed:
-		return nil, ErrClosed
-	case <-ctx.Done():
-		return nil, ctx.Err()
-	}
-	m, err := h.memories.take()
-	if err != nil {
-		<-h.turns
-		return nil, err
-	}
-	return m, nil
-}
-
-// end keeps the memory for another turn.
-func (h *Hasher) end(m *memory) {
-	h.memories.put(m)
-	<-h.turns
 }

@@ -3,6 +3,7 @@ package scrypt
 import (
 	"context"
 	"errors"
+	"runtime"
 	"strings"
 	"sync"
 	"testing"
@@ -13,11 +14,27 @@ func small() Params { return Params{LogN: 4, R: 8, P: 1, KeyLen: 32} }
 
 func newHasher(t *testing.T, options Options) *Hasher {
 	t.Helper()
-	hasher, err := NewHasher(options)
+	return on(t, runtime.GOMAXPROCS(0), options)
+}
+
+// on returns a Hasher for so many processors.
+func on(t *testing.T, processors int, options Options) *Hasher {
+	t.Helper()
+	hasher, err := newHasherOn(processors, options)
 	if err != nil {
 		t.Fatal(err)
 	}
 	return hasher
+}
+
+// taken returns a turn of the hasher, which has to end.
+func taken(t *testing.T, hasher *Hasher) *wait {
+	t.Helper()
+	taken := newWait(nil)
+	if err := hasher.turns.begin(context.Background(), taken); err != nil {
+		t.Fatal(err)
+	}
+	return taken
 }
 
 func TestHashes(t *testing.T) {
@@ -134,16 +151,13 @@ func TestWaiting(t *testing.T) {
 	if err != nil {
 		t.Fatal(err)
 	}
-	taken, err := hasher.begin(context.Background())
-	if err != nil {
-		t.Fatal(err)
-	}
+	other := taken(t, hasher)
 	ctx, cancel := context.WithTimeout(context.Background(), 20*time.Millisecond)
 	defer cancel()
 	if err := hasher.Verify(ctx, text, nil); !errors.Is(err, context.DeadlineExceeded) {
 		t.Errorf("while another derives: %v", err)
 	}
-	hasher.end(taken)
+	hasher.turns.end(other)
 	if err := hasher.Verify(context.Background(), text, nil); err != nil {
 		t.Errorf("after it: %v", err)
 	}

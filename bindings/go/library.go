@@ -108,12 +108,16 @@ func paramsNeed(params Params, within bounds) error {
 		&chunks, &table, &scratch))
 }
 
+// A likeness is what two texts have in common whose N and R are the same: the lengths of the table and of the scratch.
+type likeness struct{ table, scratch C.size_t }
+
 // hashNeeds returns the errors of a text that come before any work: its own, ErrTooCostly and ErrKeyTooShort.
-func hashNeeds(text string, within bounds) error {
-	raw := []byte(text)
-	var chunks, table, scratch C.size_t
-	return failed(C.scrypt_hash_needs(chars(raw), size(raw), C.size_t(within.mostBytes), C.uint64_t(within.mostWork),
-		C.size_t(within.leastKeyLen), &chunks, &table, &scratch))
+func hashNeeds(text []byte, within bounds) (likeness, error) {
+	var chunks C.size_t
+	var like likeness
+	err := failed(C.scrypt_hash_needs(chars(text), size(text), C.size_t(within.mostBytes), C.uint64_t(within.mostWork),
+		C.size_t(within.leastKeyLen), &chunks, &like.table, &like.scratch))
+	return like, err
 }
 
 func deriveKey(password, salt []byte, params Params, key []byte) error {
@@ -129,7 +133,7 @@ func drawSalt(salt []byte) error {
 	return failed(C.scrypt_draw_salt(bytes(salt), size(salt)))
 }
 
-// A memory holds the buffers of one derivation at a time.
+// A memory holds the buffers of one derivation at a time, or of two at once.
 type memory struct{ c *C.scrypt_memory }
 
 // newMemory returns a memory with these bounds, which is freed when nothing refers to it, or ErrOutOfMemory.
@@ -177,9 +181,16 @@ func (m *memory) hash(password, salt []byte, params Params, mcf bool) (string, e
 	return string(text[:textLen]), nil
 }
 
-func (m *memory) verify(text string, password []byte) error {
-	raw := []byte(text)
-	return failed(C.scrypt_verify_in(m.c, bytes(password), size(password), chars(raw), size(raw)))
+func (m *memory) verify(it *login) error {
+	return failed(C.scrypt_verify_in(m.c, bytes(it.password), size(it.password), chars(it.text), size(it.text)))
+}
+
+// verifyTwo returns for each what verify returns, and derives both at once.
+func (m *memory) verifyTwo(it, other *login) (error, error) {
+	var status, others C.int
+	C.scrypt_verify_two_in(m.c, bytes(it.password), size(it.password), chars(it.text), size(it.text), &status,
+		bytes(other.password), size(other.password), chars(other.text), size(other.text), &others)
+	return failed(status), failed(others)
 }
 
 // ParamsOf returns the parameters of a hash, with a KeyLen of 0 if it has no key. The errors are those that are
