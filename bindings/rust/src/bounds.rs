@@ -72,10 +72,13 @@ pub(crate) struct TextBounds {
     pub least_key_len: usize,
 }
 
+/// The lengths of the table and of the scratch, which are equal for two texts if and only if N and r are.
+pub(crate) type Likeness = (usize, usize);
+
 impl TextBounds {
     /// The errors of verifying with this text that come before any work: those of [`Error::is_invalid_hash`],
     /// `PasswordInvalid` without a salt or a key, then `TooCostly`, then `KeyTooShort`.
-    pub fn check(&self, text: &str) -> Result<(), Error> {
+    pub fn check(&self, text: &str) -> Result<Likeness, Error> {
         let (mut chunks, mut table, mut scratch) = (0, 0, 0);
         // SAFETY: the pointer is that of a text of this length, and the three places are this function's own.
         let status = unsafe {
@@ -91,7 +94,7 @@ impl TextBounds {
             )
         };
         match status {
-            OK => Ok(()),
+            OK => Ok((table, scratch)),
             other => Err(Error::of(other)),
         }
     }

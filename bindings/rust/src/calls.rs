@@ -102,6 +102,19 @@ extern "C" {
         text: *const c_char,
         text_len: usize,
     ) -> c_int;
+    pub fn scrypt_verify_two_in(
+        memory: *mut RawMemory,
+        password: *const u8,
+        password_len: usize,
+        text: *const c_char,
+        text_len: usize,
+        status: *mut c_int,
+        other_password: *const u8,
+        other_password_len: usize,
+        other_text: *const c_char,
+        other_text_len: usize,
+        other_status: *mut c_int,
+    );
     pub fn scrypt_needs_rehash(
         text: *const c_char,
         text_len: usize,

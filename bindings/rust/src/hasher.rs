@@ -2,7 +2,7 @@
 
 use crate::bounds::TextBounds;
 use crate::calls::*;
-use crate::memories::Memories;
+use crate::turns::Turns;
 use crate::{draw_salt, Bounds, Error, Params};
 
 /// The format of a hash's text.
@@ -24,10 +24,16 @@ pub struct Options {
     pub format: Format,
     /// How long the salt of a new hash is: 1 to 64 bytes.
     pub salt_len: usize,
-    /// How many derivations may run at the same time: by default as many as there are processors.
+    /// How many verifications and new hashes may have memory at the same time: by default two for each processor, so
+    /// that two that wait are done at once.
     pub at_once: usize,
-    /// What a hash may need before it is refused: by default [`Bounds::USUAL`], or what new hashes need if that is more.
+    /// What a hash may need before it is refused: by default [`Bounds::USUAL`], or what new hashes need if that is
+    /// more.
     pub bounds: Option<Bounds>,
+}
+
+fn processors() -> usize {
+    std::thread::available_parallelism().map_or(1, usize::from)
 }
 
 impl Options {
@@ -37,7 +43,7 @@ impl Options {
             params,
             format: Format::Phc,
             salt_len: 16,
-            at_once: std::thread::available_parallelism().map_or(1, usize::from),
+            at_once: 2 * processors(),
             bounds: None,
         }
     }
@@ -51,20 +57,25 @@ impl Default for Options {
 
 /// Makes password hashes, and verifies passwords by hashes of either format.
 ///
-/// Any number of threads may use it; at most [`Options::at_once`] of them derive at the same time, and the others wait.
+/// Any number of threads may use it; as many derive at the same time as there are processors, and the others wait. Of
+/// those that wait, two verifications with the same N and r are done at once, in twice the memory of one and little
+/// more than its time. Nobody waits for a second one, and no error of one touches the other. By default four processors
+/// take 1 GiB with the recommended parameters; with [`Options::at_once`] of one for each processor, or less, there are
+/// no two at once, which takes half the memory, and carries fewer log-ins.
+///
 /// A hash that needs more than the bounds is refused without waiting, and so is one whose key has fewer than
-/// [`Bounds::LEAST_KEY_LEN`] bytes, or than new keys if that is less. The hasher keeps the memory in which it verifies for the
-/// next time, at most `at_once` times `most_bytes`.
+/// [`Bounds::LEAST_KEY_LEN`] bytes, or than new keys if that is less. The hasher keeps the memory in which it verifies
+/// for the next time, at most `at_once` times `most_bytes`.
 #[derive(Debug)]
 pub struct Hasher {
     options: Options,
     within: TextBounds,
-    memories: Memories,
+    turns: Turns,
 }
 
 impl Default for Hasher {
     fn default() -> Hasher {
-        Hasher::with(Options::default())
+        Hasher::with(processors(), Options::default())
     }
 }
 
@@ -73,9 +84,13 @@ impl Hasher {
     ///
     /// # Errors
     ///
-    /// `SaltInvalid` unless the salt has 1 to 64 bytes, `InvalidParams` if no derivation may run at all, and `TooCostly`
-    /// if new hashes need more than the bounds.
+    /// `SaltInvalid` unless the salt has 1 to 64 bytes, `InvalidParams` if no derivation may run at all, and
+    /// `TooCostly` if new hashes need more than the bounds.
     pub fn new(options: Options) -> Result<Hasher, Error> {
+        Hasher::on(processors(), options)
+    }
+
+    pub(crate) fn on(processors: usize, options: Options) -> Result<Hasher, Error> {
         if !(1..=64).contains(&options.salt_len) {
             return Err(Error::SaltInvalid);
         }
@@ -85,15 +100,15 @@ impl Hasher {
         if options.bounds.map_or(false, |bounds| !bounds.allow(&options.params)) {
             return Err(Error::TooCostly);
         }
-        Ok(Hasher::with(options))
+        Ok(Hasher::with(processors, options))
     }
 
-    fn with(options: Options) -> Hasher {
+    fn with(processors: usize, options: Options) -> Hasher {
         let bounds = options.bounds.unwrap_or_else(|| Bounds::USUAL.or_more(&options.params));
         let least_key_len = Bounds::LEAST_KEY_LEN.min(options.params.key_len());
         let within = TextBounds { bounds, least_key_len };
-        let memories = Memories::new(options.at_once, within);
-        Hasher { options, within, memories }
+        let turns = Turns::new(options.at_once, processors, within);
+        Hasher { options, within, turns }
     }
 
     /// The text of a new hash, with a salt that the system draws.
@@ -123,12 +138,13 @@ impl Hasher {
         text.resize(capacity, 0);
         let (password, params) = (password.as_ref(), &self.options.params);
         let mut text_len = 0;
-        let memory = self.memories.take()?;
+        let mut turn = self.turns.take();
+        let memory = turn.memory()?;
         // SAFETY: the memory is this thread's, each pointer that of a slice of the length after it, and the text this
         // function's own.
         let status = unsafe {
             call(
-                memory.as_ptr(),
+                memory,
                 password.as_ptr(),
                 password.len(),
                 salt.as_ptr(),
@@ -157,18 +173,16 @@ impl Hasher {
     /// `TooCostly` if the hash needs more than the bounds; `KeyTooShort` if its key is shorter than they allow; and
     /// `OutOfMemory`. What the text alone decides is returned without waiting.
     pub fn verify(&self, text: &str, password: impl AsRef<[u8]>) -> Result<(), Error> {
-        let password = password.as_ref();
-        self.within.check(text)?;
-        let memory = self.memories.take()?;
-        let (text_at, text_len) = (text.as_ptr() as *const _, text.len());
-        // SAFETY: the memory is this thread's, and each pointer that of a slice of the length after it.
-        let status = unsafe {
-            scrypt_verify_in(memory.as_ptr(), password.as_ptr(), password.len(), text_at, text_len)
-        };
-        match status {
+        let like = self.within.check(text)?;
+        match self.turns.verify(password.as_ref(), text, like)? {
             OK => Ok(()),
             other => Err(Error::of(other)),
         }
+    }
+
+    #[cfg(test)]
+    pub(crate) fn turns(&self) -> (&Turns, &TextBounds) {
+        (&self.turns, &self.within)
     }
 
     /// Whether one of the parameters of the hash, or its key's length, is below that of new hashes.

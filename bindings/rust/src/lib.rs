@@ -31,12 +31,14 @@ pub mod errors;
 mod hasher;
 pub mod kdf;
 pub mod mcf;
-mod memories;
+#[cfg(test)]
+mod pairs_tests;
 mod params;
 pub mod password_hash;
 pub mod phc;
 #[cfg(feature = "password-hash")]
 mod traits_0_4;
+mod turns;
 
 pub use algorithm::Scrypt;
 pub use bounds::{params_of, Bounds};
