@@ -205,8 +205,8 @@ func TestHostileHashes(t *testing.T) {
 	t.Logf("%d hostile hashes are refused in the log: %v", count, named)
 	peak := w.peak()
 	t.Logf("slowest %v, peak %d MiB", time.Duration(slowest), peak)
-	if peak > 4+64 {
-		t.Error("more memory than four derivations and 64 MiB")
+	if peak > 8+64 {
+		t.Error("more memory than eight verifications and 64 MiB")
 	}
 }
 

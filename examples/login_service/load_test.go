@@ -143,13 +143,13 @@ func TestLoad(t *testing.T) {
 		if err != nil {
 			t.Fatal(err)
 		}
-		bound := processors*int(memory>>20) + 64
+		bound := 2*processors*int(memory>>20) + 64
 		w := newWorld(t, fmt.Sprint("-log-n=", logN))
 		w.users(256, "a password", logN)
 		for _, clients := range []int{1, 4, 16, 64, 256} {
 			callers := clients
-			if callers > processors {
-				callers = processors
+			if callers > 4*processors { // of which two are always waiting
+				callers = 4 * processors
 			}
 			w.peak()
 			got := &count{untold: map[string]int{}}

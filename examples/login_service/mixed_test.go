@@ -207,8 +207,8 @@ func TestMixedLoad(t *testing.T) {
 	if percentile(m.full, 0.99) > 100*time.Millisecond && percentile(m.late, 0.99) < 20*time.Millisecond {
 		t.Error("a client that is refused has to wait for the answer")
 	}
-	if peak > 4*4+64 {
-		t.Error("more memory than four derivations and 64 MiB")
+	if peak > 8*4+64 {
+		t.Error("more memory than eight verifications and 64 MiB")
 	}
 }
 
