@@ -261,6 +261,17 @@ class Pairs(unittest.TestCase):
             self.assertEqual([first.result(WAIT), other.result(WAIT)], [True, True])
             self.assertTrue(hasher.verify(new.result(WAIT), "pw"))
         self.assertEqual((calls.ones, calls.twos), (1, 1), "the pair, and this thread")
+        turns, held, waits = Turns(2, 1), Wait(), [Wait(), Wait()]
+        turns.take(held)
+        with ThreadPoolExecutor(2) as threads:
+            for it in waits:
+                threads.submit(turns.take, it)
+            while len(turns._waiting) < 2:
+                time.sleep(0.001)
+            turns.leave(held)
+            self.assertEqual([it.partner for it in waits], [None, None], "nor are two new hashes a pair")
+            for it in 2 * waits:
+                turns.leave(it)
 
     def test_memory(self):
         """What is kept after a load is at most at_once times what one verification needs, and a pair takes two."""
