@@ -76,9 +76,10 @@ func TestClose(t *testing.T) {
 	if err := running.turn.memory.verify(&login{text: []byte(text)}); err != nil {
 		t.Errorf("a derivation that began before: %v", err)
 	}
+	used := running.turn
 	hasher.turns.end(running)
-	if kept := kept(hasher); kept != 0 {
-		t.Errorf("%d memories are kept after it is closed", kept)
+	if kept := kept(hasher); kept != 0 || used.memory != nil {
+		t.Errorf("%d memories are kept after it is closed, and that in use: %v", kept, used.memory)
 	}
 }
 

@@ -185,6 +185,30 @@ func TestRooms(t *testing.T) {
 	}
 }
 
+// Who has waited longest is next.
+func TestInOrder(t *testing.T) {
+	hasher := on(t, 1, Options{Params: small()})
+	other, order := taken(t, hasher), make(chan int, 8)
+	for i := 0; i < 8; i++ {
+		go func(i int) {
+			mine := newWait(nil)
+			if err := hasher.turns.begin(context.Background(), mine); err != nil {
+				t.Error(err)
+				return
+			}
+			order <- i
+			hasher.turns.end(mine)
+		}(i)
+		waitFor(t, hasher, i+1)
+	}
+	hasher.turns.end(other)
+	for i := 0; i < 8; i++ {
+		if got := <-order; got != i {
+			t.Errorf("turn %d is that of %d", i, got)
+		}
+	}
+}
+
 // While a turn is free nobody waits for a partner, also if others derive.
 func TestASingleOneStartsAtOnce(t *testing.T) {
 	hasher, text := on(t, 2, Options{Params: small()}), hashOf(t, small(), false)

@@ -2,6 +2,7 @@
 
 use crate::turns::Turns;
 use crate::{Error, Format, Hasher, Options, Params};
+use std::sync::Mutex;
 use std::thread::{scope, sleep, ScopedJoinHandle};
 use std::time::{Duration, Instant};
 
@@ -139,6 +140,26 @@ fn rooms() {
     }
     let usual = Hasher::default().turns().0.rooms();
     assert!(usual.iter().all(|it| *it), "two for each processor by default");
+}
+
+/// Who has waited longest is next.
+#[test]
+fn in_order() {
+    let (hasher, order) = (on(1, 2), Mutex::new(Vec::new()));
+    scope(|scope| {
+        let held = turns(&hasher).take();
+        for number in 0..8 {
+            let (hasher, order) = (&hasher, &order);
+            scope.spawn(move || {
+                let taken = turns(hasher).take();
+                order.lock().unwrap().push(number);
+                drop(taken);
+            });
+            wait_for(hasher, number + 1);
+        }
+        drop(held);
+    });
+    assert_eq!(order.into_inner().unwrap(), (0..8).collect::<Vec<_>>());
 }
 
 /// While a turn is free nobody waits for a partner, also if others derive.
