@@ -16,7 +16,7 @@ type Options struct {
 	SaltLen int  // the length of a new hash's salt, 1 to 64 bytes: 16
 
 	// How many verifications and new hashes may have memory at the same time: two for each processor, as many as
-	// runtime.GOMAXPROCS(0) says, so that two that wait are done at once.
+	// runtime.GOMAXPROCS(0) says, so that two that wait are done at once. More change nothing.
 	AtOnce int
 
 	// What a hash may need before it is refused with ErrTooCostly, its Params.Memory and Params.Work: by default the

@@ -26,7 +26,7 @@ class PasswordHasher:
 
     `at_once` is how many verifications and new hashes may have memory at the same time: by default two for each
     processor, which is 1 GiB for four processors and the recommended parameters. With one for each processor, or less,
-    there are no two at once: that takes half the memory, and carries fewer log-ins.
+    there are no two at once: that takes half the memory, and carries fewer log-ins. More than two change nothing.
 
     A hash that needs more than `most_bytes` of memory, or whose `Params.work` is above `most_work`, is refused without
     waiting. By default these are 256 MiB and four times the work of the recommended parameters, or what new hashes need

@@ -25,7 +25,7 @@ pub struct Options {
     /// How long the salt of a new hash is: 1 to 64 bytes.
     pub salt_len: usize,
     /// How many verifications and new hashes may have memory at the same time: by default two for each processor, so
-    /// that two that wait are done at once.
+    /// that two that wait are done at once. More change nothing.
     pub at_once: usize,
     /// What a hash may need before it is refused: by default [`Bounds::USUAL`], or what new hashes need if that is
     /// more.
