@@ -4,7 +4,7 @@ use Rattle.std.proofs.lemmas.Slice.Eq.{bytes_eq-Decides}
 use Rattle.scrypt_commands.specs.Args.{args_of, format_of, hash_args, key_args, rehash_args, verify_args}
 
 -- a test that is not met
-not_true : (met : Bool) → (met ≡ true → ⊥) → met ≡ false
+pub not_true : (met : Bool) → (met ≡ true → ⊥) → met ≡ false
 not_true true h = absurd (h refl)
 not_true false h = refl
 
@@ -108,7 +108,7 @@ args_by_command args rest name are =
     (λ is. rw (are, is) refl, λ is. rw (are, is) refl, λ is. rw (are, is) refl, λ is. rw (are, is) refl)
 
 -- a text that is not this one
-other : (text name : List ℕ) → text ≢ name → bytes_eq text name ≡ false
+pub other : (text name : List ℕ) → text ≢ name → bytes_eq text name ≡ false
 other text name h = not_true (bytes_eq text name) (λ same. h ((bytes_eq-Decides text name).0 same))
 
 -- no command has another name

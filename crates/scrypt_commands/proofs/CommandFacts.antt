@@ -76,7 +76,7 @@ both_read target unchecked salt_hex salt params is accepted are = rw (is, (param
 
 refused_request : (request : Result Request CliError) (error : CliError) → status_of error ≡ 2 → request ≡ Err error
     → IsCommandFor request (Err error)
-refused_request request error two is = rw is (inr (two, (tt, λ input. refl)))
+refused_request request error two is = rw is (inr (two, (tt, λ bounds input. refl)))
 
 pub make_refused : (target : Target) (unchecked : UncheckedParams) (salt_hex : List ℕ) (error : CliError)
     → FailsWith (λ error. salt_and_params target unchecked salt_hex ≡ Err error) error

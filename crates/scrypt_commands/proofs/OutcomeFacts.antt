@@ -10,12 +10,18 @@ use Rattle.password_hash.specs.declared.phc.hash.PasswordHash.{PasswordHash}
 use Rattle.scrypt.specs.Accepted.{Parameters}
 use Rattle.scrypt.specs.Hashing.{by_algorithm, by_memory, by_salt, by_version}
 use Rattle.scrypt.specs.PhcHash.{HashIsRefused, IsMadeHash, IsSaltLen}
+use Rattle.scrypt.specs.declared.limits.Limits.{Limits}
 use Rattle.scrypt_commands.proofs.CommandFacts.{between_decided, fails}
-use Rattle.scrypt_commands.specs.Command.{AreRefused}
+use Rattle.scrypt_commands.specs.Bounds.{bounds_of, command_of}
+use Rattle.scrypt_commands.specs.Command.{AreRefused, request_of}
 use Rattle.scrypt_commands.specs.CliError.{error_line, error_of, status_of}
 use Rattle.scrypt_commands.specs.Outcome.{new_outcome, rehash_outcome, verdict_outcome, wrong_outcome, HasOutcome}
-use Rattle.scrypt_commands.specs.Outcome.{OnInput, Outcome, OutcomeIs, is_salt_len, new_hash, phc_text, refusal_of}
-use Rattle.scrypt_commands.specs.Steps.{Answers, answer_line, answer_status, right_of, wrong_or_error, Ends, FailsWith}
+use Rattle.scrypt_commands.specs.Outcome.{HasOutcomeOf}
+use Rattle.scrypt_commands.specs.declared.bounds.Bounds.{Bounds}
+use Rattle.scrypt_commands.specs.declared.command.Command.{Command}
+use Rattle.scrypt_commands.specs.Outcome.{excess, outcome_within, OnInput, Outcome, OutcomeIs, is_salt_len, new_hash, phc_text, refusal_of}
+use Rattle.scrypt_commands.specs.Steps.{Answers, command_outcome, answer_line, answer_status, right_of, right_within, wrong_or_error}
+use Rattle.scrypt_commands.specs.Steps.{Ends, FailsWith, IsCommandFor}
 use Rattle.scrypt_commands.specs.Steps.{no_input, no_memory, no_output, refused}
 use Rattle.scrypt_commands.specs.declared.answer.Answer.{Answer}
 use Rattle.scrypt_commands.specs.declared.answer.Answer.TheVariants.{Verdict}
@@ -50,6 +56,13 @@ pub on_any_input : (known : Option (List ℕ)) (P : List ℕ → Type 0) → ((i
 on_any_input None P h = ([], tt, h [])
 on_any_input (Some input) P h = (input, refl, h input)
 
+-- the outcome of a command is that of the arguments, which have it after their options
+pub has_outcome : (args words : List (List ℕ)) (bounds : Option Bounds) (command : Command) (input : List ℕ)
+    → bounds ≡ bounds_of args → words ≡ command_of args
+    → ((bounds : Option Bounds) (input : List ℕ) → HasOutcomeOf bounds (request_of words) input (command_outcome bounds command input))
+    → HasOutcome args input (command_outcome bounds command input)
+has_outcome args words bounds command input is are has = rw (is, ← are) (has (bounds_of args) input)
+
 -- nothing was appended
 appends_nothing : (old new : Option (List ℕ)) → Keeps old new → Appends old new []
 appends_nothing None new h = tt
@@ -60,10 +73,9 @@ appends_nothing (Some xs) (Some ys) h = rw h (sym (append-nil xs))
 module _ (args : List (List ℕ)) (known : Option (List ℕ)) (Read : Type 0) where
   -- by refused arguments
   pub refused_args : (error : CliError)
-      → FailsWith (λ error. AreRefused args × ((input : List ℕ) → HasOutcome args input (refusal_of error))) error
-      → Ends args known Read error
+      → IsCommandFor (request_of (command_of args)) (Err error) → Ends args known Read error
   refused_args error (inl h) = rw h no_memory
-  refused_args error (inr (two, (is, h))) = refused two (inl is) (on_any_input known _ h)
+  refused_args error (inr (two, (is, h))) = refused two (inl is) (on_any_input known _ (h (bounds_of args)))
 
   -- as the input is read
   pub unread_input : (error : CliError) → (error ≡ OutOfMemory) ⊎ (error ≡ InputFailed) → Ends args known Read error
@@ -118,6 +130,20 @@ verdict_answers (Err why) right is = no_error (error_of why) is
     no_error : (error : Option CliError) → wrong_or_error error ≡ Ok right → Answers (wrong_outcome error) (Ok (Verdict right))
     no_error None is = let same : false ≡ right = cc in rw (← same) refl
     no_error (Some error) is = absurd cc
+
+-- within bounds
+
+-- a hash that cannot be read asks for nothing
+pub unread_within : (limits : Option Limits) (why : Refusal) (outcome : Outcome)
+    → outcome_within (excess limits (Err why)) outcome ≡ outcome
+unread_within None why outcome = refl
+unread_within (Some limits) why outcome = refl
+
+-- a hash that was verified does not ask for too much
+pub verified : (error : Option CliError) (right : Result Bool CliError) (is_right : Bool)
+    → right_within error right ≡ Ok is_right → (error ≡ None) × (right ≡ Ok is_right)
+verified None right is_right is = (refl, is)
+verified (Some error) right is_right is = absurd cc
 
 -- by a new hash that is due
 pub due_answers : (verdict : Result ⊤ Refusal) (weaker : Result Bool Refusal) (new : Result (List ℕ) CliError)

@@ -5,7 +5,7 @@ use Rattle.password_hash.specs.Refusal as refusals
 use Rattle.scrypt_commands.specs.declared.error.CliError.{CliError}
 use Rattle.scrypt_commands.specs.declared.error.CliError.TheVariants.{Usage, SaltNotHex, InvalidParams, InvalidOutputLen, HashRefused, OutOfMemory, InputFailed, OutputFailed}
 use Rattle.scrypt_commands.specs.declared.error.HashError.{HashError}
-use Rattle.scrypt_commands.specs.declared.error.HashError.TheVariants.{Algorithm, EncodingInvalid, OutputSize, LnInvalid, RInvalid, PInvalid, ParamsInvalid, SaltInvalid, Version}
+use Rattle.scrypt_commands.specs.declared.error.HashError.TheVariants.{Algorithm, EncodingInvalid, OutputSize, LnInvalid, RInvalid, PInvalid, ParamsInvalid, SaltInvalid, Version, TooCostly, KeyTooShort}
 
 -- the exit status
 abbrev pub status_of : CliError → ℕ
@@ -29,6 +29,8 @@ hash_error_line PInvalid = codes "hash refused: ParamInvalid p\n"
 hash_error_line ParamsInvalid = codes "hash refused: ParamsInvalid\n"
 hash_error_line SaltInvalid = codes "hash refused: SaltInvalid\n"
 hash_error_line Version = codes "hash refused: Version\n"
+hash_error_line TooCostly = codes "hash refused: TooCostly, it needs more than --most-bytes or --most-work allows\n"
+hash_error_line KeyTooShort = codes "hash refused: KeyTooShort, its key is shorter than --least-key-len allows\n"
 
 -- the line of an error, with its newline
 abbrev pub error_line : CliError → List ℕ

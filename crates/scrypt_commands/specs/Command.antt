@@ -5,6 +5,7 @@ use Rattle.hex.specs.Hex.{decode_of}
 use Rattle.scrypt.specs.Accepted.{Parameters, are_accepted, is_output_len}
 use Rattle.scrypt.specs.StoredHash.{IsStoredText}
 use Rattle.scrypt_commands.specs.Args.{CommandArgs, MakeArgs, RehashArgs, VerifyArgs, args_of}
+use Rattle.scrypt_commands.specs.Bounds.{command_of}
 use Rattle.scrypt_commands.specs.declared.args.Format.{Format}
 use Rattle.scrypt_commands.specs.declared.args.Target.{Target}
 use Rattle.scrypt_commands.specs.declared.args.Target.TheVariants.{Key, Hash}
@@ -75,7 +76,7 @@ abbrev pub usage_or_request : Option CommandArgs → Result Request CliError
 usage_or_request None = Err Usage
 usage_or_request (Some args) = command_request args
 
--- what the arguments after the program's name ask for
+-- what the arguments of a command ask for
 abbrev pub request_of : List (List ℕ) → Result Request CliError
 request_of args = usage_or_request (args_of args)
 
@@ -88,4 +89,4 @@ IsRefused (Err error) = ⊤
 
 -- the arguments are refused before the input is read
 abbrev pub AreRefused : List (List ℕ) → Type 0
-AreRefused args = IsRefused (request_of args)
+AreRefused args = IsRefused (request_of (command_of args))

@@ -3,6 +3,8 @@
 
 -- the arguments of each command
 pub mod Args
+-- the options before a command
+pub mod Bounds
 -- why a run ends without an answer: statuses and lines
 pub mod CliError
 -- what the arguments ask for, and what they are refused for

@@ -1,6 +1,6 @@
 -- Private: the steps of a run. Only the clauses of private functions cite these.
 use Rattle.std.specs.Prelude.{◌≡◌, ◌⊎◌, ℕ, Bool, false, true, if◌then◌else◌, List, codes, Option, None, Some, Result}
-use Rattle.std.specs.Prelude.{Ok, Err, IfSome, IsTrue, string_bytes, ⊤}
+use Rattle.std.specs.Prelude.{Ok, Err, IfSome, IsTrue, option_map, string_bytes, ⊤}
 use Rattle.std.specs.Io.KnownBytes.{Appends}
 use Rattle.password_hash.specs.Refusal.{Refusal}
 use Rattle.scrypt.specs.Accepted.{AreAccepted, IsStoredLen}
@@ -8,16 +8,18 @@ use Rattle.scrypt.specs.Reading.{verdict, weaker}
 use Rattle.scrypt.specs.declared.errors.DeriveError.{DeriveError}
 use Rattle.scrypt.specs.declared.errors.DeriveError.TheVariants.{InvalidOutputLen as DerivedBadLength, OutOfMemory as DerivedOutOfMemory}
 use Rattle.scrypt_commands.specs.Args.{CommandArgs, MakeArgs, RehashArgs, VerifyArgs}
+use Rattle.scrypt_commands.specs.Bounds.{rehash_limits, verify_limits}
 use Rattle.scrypt_commands.specs.CliError.{error_of, status_of}
 use Rattle.scrypt_commands.specs.Command.{AreRefused, IsRefused, Request, has_allowed_len, requested_len}
 use Rattle.scrypt_commands.specs.Outcome.{HasOutcome, HasOutcomeOf, OnInput, Outcome, answer_of, new_hash, new_outcome}
-use Rattle.scrypt_commands.specs.Outcome.{new_text, refusal_of, rehash_outcome, verdict_outcome}
+use Rattle.scrypt_commands.specs.Outcome.{excess, new_text, outcome_within, refusal_of, rehash_outcome, verdict_outcome}
 use Rattle.scrypt_commands.specs.declared.answer.Answer.{Answer}
 use Rattle.scrypt_commands.specs.declared.answer.Answer.TheVariants.{Verdict, Made}
 use Rattle.scrypt_commands.specs.declared.args.Args.{Args}
 use Rattle.scrypt_commands.specs.declared.args.Args.TheVariants.{Make as MakeOf, Rehash as RehashOf, Verify as VerifyOf}
 use Rattle.scrypt_commands.specs.declared.args.Target.{Target}
 use Rattle.scrypt_commands.specs.declared.args.UncheckedParams.{UncheckedParams}
+use Rattle.scrypt_commands.specs.declared.bounds.Bounds.{Bounds}
 use Rattle.scrypt_commands.specs.declared.command.Command.{Command}
 use Rattle.scrypt_commands.specs.declared.command.Command.TheVariants.{Make, Rehash, Verify}
 use Rattle.scrypt_commands.specs.declared.error.CliError.{CliError}
@@ -58,18 +60,25 @@ abbrev pub right_of : Result ⊤ Refusal → Result Bool CliError
 right_of (Ok right) = Ok true
 right_of (Err why) = wrong_or_error (error_of why)
 
+-- the same, unless the hash asks for too much
+abbrev pub right_within : Option CliError → Result Bool CliError → Result Bool CliError
+right_within None right = right
+right_within (Some error) right = Err error
+
 -- the length of the key that a command is to make is allowed
 abbrev pub IsPossible : Command → Type 0
 IsPossible (Make target params salt) = IsTrue (has_allowed_len target)
 IsPossible (Verify hash) = ⊤
 IsPossible (Rehash format params salt hash) = ⊤
 
--- the outcome of a command on this input
-abbrev pub command_outcome : Command → List ℕ → Outcome
-command_outcome (Make target params salt) input = new_outcome (new_text target params input salt.items)
-command_outcome (Verify hash) input = verdict_outcome (verdict input hash.whole)
-command_outcome (Rehash format params salt hash) input =
-    rehash_outcome (verdict input hash.whole) (weaker params hash.whole) (new_hash format params input salt.items)
+-- the outcome of a command within bounds on this input
+abbrev pub command_outcome : Option Bounds → Command → List ℕ → Outcome
+command_outcome bounds (Make target params salt) input = new_outcome (new_text target params input salt.items)
+command_outcome bounds (Verify hash) input =
+    outcome_within (excess (option_map verify_limits bounds) hash.whole) (verdict_outcome (verdict input hash.whole))
+command_outcome bounds (Rehash format params salt hash) input =
+    outcome_within (excess (option_map (λ b. rehash_limits b params) bounds) hash.whole)
+    (rehash_outcome (verdict input hash.whole) (weaker params hash.whole) (new_hash format params input salt.items))
 
 -- the status of an answer
 abbrev pub answer_status : Answer → ℕ
@@ -89,9 +98,11 @@ Answers outcome (Err error) = FailsWith (λ error. outcome ≡ refusal_of error)
 -- the command of a request has its outcome on each input, and the error of refused arguments has theirs
 abbrev pub IsCommandFor : Result Request CliError → Result Command CliError → Type 0
 IsCommandFor request (Ok command) =
-    (¬ IsRefused request) × IsPossible command × ((input : List ℕ) → HasOutcomeOf request input (command_outcome command input))
+    (¬ IsRefused request) × IsPossible command × ((bounds : Option Bounds) (input : List ℕ)
+    → HasOutcomeOf bounds request input (command_outcome bounds command input))
 IsCommandFor request (Err error) =
-    FailsWith (λ error. IsRefused request × ((input : List ℕ) → HasOutcomeOf request input (refusal_of error))) error
+    FailsWith (λ error. IsRefused request
+    × ((bounds : Option Bounds) (input : List ℕ) → HasOutcomeOf bounds request input (refusal_of error))) error
 
 -- the line that answers these arguments with this status was appended
 abbrev pub AppendsAnswer : List (List ℕ) → Option (List ℕ) → Option (List ℕ) → Option (List ℕ) → ℕ → Type 0

@@ -1,23 +1,25 @@
 // The answer to a command.
 
-ghost use Rattle.std.specs.Prelude.{◌≡◌, ◌++◌, IfOk, IfErr, IsOk, IsTrue, Ok, codes, string_bytes};
+ghost use Rattle.std.specs.Prelude.{◌≡◌, ◌++◌, IfOk, IfErr, IsOk, IsTrue, Ok, codes, option_map, string_bytes};
 ghost use Rattle.hex.specs.Hex.{encode_lower};
 ghost use Rattle.scrypt.specs.Accepted.{IsOutputLen};
 ghost use Rattle.scrypt.specs.KeyOfParams.{key_by};
 ghost use Rattle.scrypt.specs.Reading.{verdict, weaker};
+ghost use Rattle.scrypt_commands.specs.Bounds.{rehash_limits, verify_limits};
 ghost use Rattle.scrypt_commands.specs.Command.{has_allowed_len};
-ghost use Rattle.scrypt_commands.specs.Outcome.{IsAnswer, new_hash, new_text};
-ghost use Rattle.scrypt_commands.specs.Steps.{Answers, Gives, IsPossible, answer_line, answer_status, command_outcome, right_of};
+ghost use Rattle.scrypt_commands.specs.Outcome.{IsAnswer, excess, new_hash, new_text};
+ghost use Rattle.scrypt_commands.specs.Steps.{Answers, Gives, IsPossible, answer_line, answer_status, command_outcome, right_of, right_within};
 ghost use Rattle.scrypt_commands.specs.declared.args.Format.TheVariants.{Mcf, Phc};
 ghost use Rattle.scrypt_commands.specs.declared.args.Target.TheVariants.{Key};
 ghost use Rattle.scrypt_commands.specs.declared.error.CliError.TheVariants.{OutOfMemory};
 
 use crate::args::{Format, Target};
+use crate::bounds::Bounds;
 use crate::command::Command;
-use crate::error::CliError;
+use crate::error::{CliError, HashError};
 use password_hash::{PasswordHasher, mcf, phc};
 use scrypt::laws::{hashers_are_accepted, made_hashes_are_accepted, texts_have_one_reading};
-use scrypt::{Params, Scrypt, StoredHash, scrypt};
+use scrypt::{BoundedError, Limits, Params, Scrypt, StoredHash, scrypt};
 use std::alloc::Global;
 
 /// The answer to a command.
@@ -55,13 +57,19 @@ impl Answer {
 }
 
 impl<'a> Command<'a> {
-    /// Carries out the command on this input, which is the password.
+    /// Carries out the command on this input, which is the password. A hash is verified only
+    /// within the bounds, if there are any.
     ///
-    /// Returns `HashRefused` if hashing or verifying refuses, and `OutOfMemory` if an allocation
-    /// fails.
-    pub fn answer(&self, alloc: Global, input: &[u8]) -> Result<Answer, CliError>
+    /// Returns `HashRefused` if hashing or verifying refuses, or if a hash exceeds the bounds, and
+    /// `OutOfMemory` if an allocation fails.
+    pub fn answer(
+        &self,
+        alloc: Global,
+        input: &[u8],
+        bounds: Option<Bounds>,
+    ) -> Result<Answer, CliError>
         requires { IsPossible self.now }
-        ensures { Answers (command_outcome self.now input.now) result }
+        ensures outcome { Answers (command_outcome bounds self.now input.now) result }
     {
         match self {
             Command::Make {
@@ -70,7 +78,8 @@ impl<'a> Command<'a> {
                 salt,
             } => on_a_line(make(alloc, input, salt, params, target)?),
             Command::Verify { hash } => {
-                let right = verify(alloc, hash, input)?;
+                let limits = verify_limits(bounds);
+                let right = verify(alloc, hash, input, limits)?;
                 Ok(Answer::Verdict { right })
             }
             Command::Rehash {
@@ -79,7 +88,8 @@ impl<'a> Command<'a> {
                 salt,
                 hash,
             } => {
-                let right = verify(alloc, hash, input)?;
+                let limits = rehash_limits(bounds, params);
+                let right = verify(alloc, hash, input, limits)?;
                 if right && is_weaker(hash, params) {
                     on_a_line(make_hash(alloc, input, salt, params, *format)?)
                 } else {
@@ -90,10 +100,45 @@ impl<'a> Command<'a> {
     }
 }
 
-// Returns whether the password is that of the hash.
-fn verify(alloc: Global, hash: &StoredHash<'_>, password: &[u8]) -> Result<bool, CliError>
-    ensures { Gives (λ right. right) (right_of (verdict password.now hash.now.whole)) result }
+// Returns the limits of `verify`, if there are bounds.
+fn verify_limits(bounds: Option<Bounds>) -> Option<Limits>
+    ensures { result ≡ option_map verify_limits bounds }
 {
+    Some(bounds?.for_verifying())
+}
+
+// Returns the limits of `rehash`, if there are bounds.
+fn rehash_limits(bounds: Option<Bounds>, wanted: &Params) -> Option<Limits>
+    ensures { result ≡ option_map (λ b. rehash_limits b wanted.now) bounds }
+{
+    Some(bounds?.for_rehashing(wanted))
+}
+
+// Returns the error of a hash that exceeds the limits, if there are any. A hash that cannot be read
+// is left to verifying.
+fn excess(hash: &StoredHash<'_>, limits: Option<Limits>) -> Option<CliError>
+    ensures { result ≡ excess limits hash.now.whole }
+{
+    match hash.buffer_lens_within(&limits?) {
+        Err(BoundedError::TooCostly) => Some(CliError::HashRefused(HashError::TooCostly)),
+        Err(BoundedError::KeyTooShort) => Some(CliError::HashRefused(HashError::KeyTooShort)),
+        Ok(_) | Err(BoundedError::Hash(_)) => None,
+    }
+}
+
+// Returns whether the password is that of the hash, which is within the limits.
+fn verify(
+    alloc: Global,
+    hash: &StoredHash<'_>,
+    password: &[u8],
+    limits: Option<Limits>,
+) -> Result<bool, CliError>
+    ensures { Gives (λ right. right)
+        (right_within (excess limits hash.now.whole) (right_of (verdict password.now hash.now.whole))) result }
+{
+    if let Some(error) = excess(hash, limits) {
+        return Err(error);
+    }
     match hash.verify(alloc, password) {
         Ok(()) => Ok(true),
         Err(refused) => match CliError::of(refused) {

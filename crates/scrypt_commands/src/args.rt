@@ -159,9 +159,9 @@ fn parse_rehash<'a>(args: &'a [String]) -> Option<Args<'a>>
     })
 }
 
-// Parses LEN.
-fn parse_len(arg: &str) -> Option<usize>
-    ensures { result ≡ decimal_below (2 ^ 64) arg.now }
+/// Parses LEN.
+pub fn parse_len(arg: &str) -> Option<usize>
+    ensures value { result ≡ decimal_below (2 ^ 64) arg.now }
 {
     decimals_are_read();
     read_decimal(arg)

@@ -39,13 +39,13 @@ pub enum Command<'a> {
 }
 
 impl<'a> Command<'a> {
-    /// Constructs the command of the arguments after the program's name.
+    /// Constructs the command of the arguments after the options.
     ///
     /// Returns the error of the first of these that is wrong: `Usage`, `SaltNotHex`,
     /// `InvalidParams`, `InvalidOutputLen`, and `HashRefused` with `EncodingInvalid`. Returns
     /// `OutOfMemory` if the allocation of the salt fails.
     pub fn from_args(alloc: Global, args: &'a [String]) -> Result<Command<'a>, CliError>
-        ensures { IsCommandFor (request_of (texts_of args.now)) result }
+        ensures command { IsCommandFor (request_of (texts_of args.now)) result }
     {
         let Some(args) = Args::parse(args) else {
             return Err(CliError::Usage);

@@ -52,6 +52,10 @@ pub enum HashError {
     SaltInvalid,
     /// There is a version.
     Version,
+    /// The hash needs more memory or work than the bounds allow.
+    TooCostly,
+    /// The key of the hash is shorter than the bounds allow.
+    KeyTooShort,
 }
 
 impl CliError {
@@ -123,6 +127,12 @@ impl HashError {
             HashError::ParamsInvalid => "hash refused: ParamsInvalid\n",
             HashError::SaltInvalid => "hash refused: SaltInvalid\n",
             HashError::Version => "hash refused: Version\n",
+            HashError::TooCostly => {
+                "hash refused: TooCostly, it needs more than --most-bytes or --most-work allows\n"
+            }
+            HashError::KeyTooShort => {
+                "hash refused: KeyTooShort, its key is shorter than --least-key-len allows\n"
+            }
         }
     }
 }

@@ -4,6 +4,7 @@
 
 mod answer;
 mod args;
+mod bounds;
 mod command;
 mod error;
 pub mod laws;

@@ -9,6 +9,7 @@ ghost use Rattle.scrypt_commands.specs.Outcome.{IsAnswer, OutcomeIs};
 ghost use Rattle.scrypt_commands.specs.Steps.{AppendsAnswer, Ends};
 ghost use Rattle.scrypt_commands.specs.declared.error.CliError.TheVariants.{InputFailed, OutOfMemory, OutputFailed};
 
+use crate::bounds::parse_options;
 use crate::command::Command;
 use crate::error::CliError;
 use std::alloc::Global;
@@ -82,9 +83,10 @@ fn execute<R: Read, W: Write>(
     ensures refused { AreRefused (texts_of args.now) → IfErr result (λ error. (error ≡ OutOfMemory) ⊎ (status_of error ≡ 2))
         × IsErr result × Keeps (R.remaining reader.old) (R.remaining reader.new) }
 {
+    let (bounds, args) = parse_options(args);
     let command = Command::from_args(alloc, args)?;
     let input = read_all(alloc, reader)?;
-    let answer = command.answer(alloc, &input)?;
+    let answer = command.answer(alloc, &input, bounds)?;
     write_line(writer, answer.line())?;
     Ok(answer.status())
 }
@@ -109,8 +111,8 @@ fn read_all<R: Read>(alloc: Global, reader: &mut R) -> Result<Vec<u8>, CliError>
     Err(CliError::InputFailed)
 }
 
-// Writes the whole line at once, and flushes it.
-fn write_line<W: Write>(writer: &mut W, line: &str) -> Result<(), CliError>
+/// Writes the whole line at once, and flushes it.
+pub(crate) fn write_line<W: Write>(writer: &mut W, line: &str) -> Result<(), CliError>
     ensures ok { OnOk result (Appends (W.contents writer.old) (W.contents writer.new) line.now) }
     ensures err { IfErr result (λ error. error ≡ OutputFailed) }
 {
@@ -120,8 +122,8 @@ fn write_line<W: Write>(writer: &mut W, line: &str) -> Result<(), CliError>
     Ok(())
 }
 
-// Ends the run with this status, after its line was written.
-fn answered(status: u8) -> Exit
+/// Ends the run with this status, after its line was written.
+pub(crate) fn answered(status: u8) -> Exit
     ensures status { result.status ≡ status }
     ensures no_error { (result.input_failed ≡ false) × (result.error_written ≡ true) }
 {
@@ -132,8 +134,8 @@ fn answered(status: u8) -> Exit
     }
 }
 
-// Ends the run with this error, and writes its line.
-fn end<F: Write>(error: CliError, errors: &mut F) -> Exit
+/// Ends the run with this error, and writes its line.
+pub(crate) fn end<F: Write>(error: CliError, errors: &mut F) -> Exit
     ensures status { result.status ≡ status_of error }
     ensures failed { IsTrue result.input_failed ↔ (error ≡ InputFailed) }
     ensures written { IsTrue result.error_written →

@@ -57,7 +57,7 @@ returns-in_err-len-in-len6 c =
       c.from_residual-in_err-len-in-len6.ensures,
       six,
       sym c.parse_params-in-len6.ensures ∙ c.in_ok-unchecked-in-len6.was,
-      sym c.parse_len.ensures ∙ c.in_err-len-in-len6.was,
+      sym c.parse_len.ensures.value ∙ c.in_err-len-in-len6.was,
     ) refl
 
 pub returns-in_ok-len-in-len6 : goal.returns-in_ok-len-in-len6
@@ -70,5 +70,5 @@ returns-in_ok-len-in-len6 c =
     c.p-item-then-args-lt7.is c.salt_hex-item-then-args-lt7.is c.len-item.is
     c.as_str-in-len6-5.ensures.value c.as_str-in-len6.ensures.value c.as_str-in-len6-2.ensures.value
     c.as_str-in-len6-3.ensures.value c.as_str-in-len6-6.ensures.value c.as_str-in-len6-4.ensures.value in
-    rw (six, sym c.parse_params-in-len6.ensures ∙ c.in_ok-unchecked-in-len6.was, sym c.parse_len.ensures ∙ c.in_ok-len-in-len6.was)
+    rw (six, sym c.parse_params-in-len6.ensures ∙ c.in_ok-unchecked-in-len6.was, sym c.parse_len.ensures.value ∙ c.in_ok-len-in-len6.was)
     c.parse_named_hash-in-len6.ensures

@@ -31,7 +31,7 @@ returns-in_err-len c =
       c.from_residual-in_err-len.ensures,
       five,
       sym c.parse_params.ensures ∙ c.in_ok-unchecked.was,
-      sym c.parse_len.ensures ∙ c.in_err-len.was,
+      sym c.parse_len.ensures.value ∙ c.in_err-len.was,
     ) refl
 
 pub returns : goal.returns
@@ -41,4 +41,4 @@ returns c =
     c.log_n-item.result c.r-item.result c.p-item.result c.len-item.result c.salt_hex-item.result (omega arith)
     c.log_n-item.is c.r-item.is c.p-item.is c.len-item.is c.salt_hex-item.is
     c.as_str.ensures.value c.as_str-2.ensures.value c.as_str-3.ensures.value c.as_str-4.ensures.value c.as_str-5.ensures.value in
-    rw (five, sym c.parse_params.ensures ∙ c.in_ok-unchecked.was, sym c.parse_len.ensures ∙ c.in_ok-len.was) refl
+    rw (five, sym c.parse_params.ensures ∙ c.in_ok-unchecked.was, sym c.parse_len.ensures.value ∙ c.in_ok-len.was) refl

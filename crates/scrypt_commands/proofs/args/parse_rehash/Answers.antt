@@ -46,7 +46,7 @@ returns-in_err-len c =
       seven,
       sym c.parse_format.ensures ∙ c.in_ok-format.was,
       sym c.parse_params.ensures ∙ c.in_ok-unchecked.was,
-      sym c.parse_len.ensures ∙ c.in_err-len.was,
+      sym c.parse_len.ensures.value ∙ c.in_err-len.was,
     ) refl
 
 pub returns : goal.returns
@@ -61,5 +61,5 @@ returns c =
       seven,
       sym c.parse_format.ensures ∙ c.in_ok-format.was,
       sym c.parse_params.ensures ∙ c.in_ok-unchecked.was,
-      sym c.parse_len.ensures ∙ c.in_ok-len.was,
+      sym c.parse_len.ensures.value ∙ c.in_ok-len.was,
     ) refl

@@ -14,4 +14,4 @@ returns-then-not-has_allowed_len c = make_too_long _ _ _ _ _ c.in_ok-salt.ensure
 pub returns : goal.returns
 returns c =
     let allowed = c.if-not-has_allowed_len.ensures in
-    rw (make_asked _ _ _ _ _ c.in_ok-salt.ensures cc) (λ none. none, cc, λ input. refl)
+    rw (make_asked _ _ _ _ _ c.in_ok-salt.ensures cc) (λ none. none, cc, λ bounds input. refl)
