@@ -11,5 +11,7 @@ pub mod CliError
 pub mod Command
 -- what the program prints for its arguments and its input
 pub mod Outcome
+-- the texts that --help and --version print
+pub mod Information
 -- private: the steps of a run
 pub mod Steps

@@ -6,6 +6,8 @@ mod answer;
 mod args;
 mod bounds;
 mod command;
+pub mod defaults;
 mod error;
+pub mod information;
 pub mod laws;
 pub mod run;

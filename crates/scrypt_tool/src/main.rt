@@ -3,31 +3,40 @@
 //!
 //! ```text
 //! scrypt_tool key LOG_N R P LEN SALT_HEX < password
-//! scrypt_tool hash phc|mcf LOG_N R P SALT_HEX [LEN] < password
+//! scrypt_tool hash phc|mcf LOG_N R P [SALT_HEX [LEN]] < password
 //! scrypt_tool verify HASH < password
 //! scrypt_tool rehash phc|mcf LOG_N R P LEN SALT_HEX HASH < password
 //! ```
 //!
 //! The password is every byte of the standard input; no newline is cut off. The key is written in
 //! lower-case hexadecimal, the hash as its text, and the verdict as `ok` or `no` with status 0 or 1. In place
-//! of `ok`, `rehash` writes a new hash if the old one is weaker than wanted.
+//! of `ok`, `rehash` writes a new hash if the old one is weaker than wanted. `--help` prints more.
 #![tactic(auto)]
 
+use scrypt_commands::defaults::complete;
+use scrypt_commands::information::{information, print};
 use scrypt_commands::run::run;
 use std::process::ExitCode;
 use std::{env, io};
 
 fn main(rt: HostRuntime) -> ExitCode {
-    let mut errors = rt.stderr();
+    let (mut output, mut errors) = (rt.stdout(), rt.stderr());
     let Ok(args) = arguments(&rt) else {
         let _ = errors.write_all(b"the arguments can't be read\n");
+        return ExitCode::from(3);
+    };
+    if let Some(text) = information(&args) {
+        return ExitCode::from(print(text, &mut output, &mut errors).status);
+    }
+    let Ok(args) = complete(rt.alloc(), &rt, args) else {
+        let _ = errors.write_all(b"out of memory, or no salt can be drawn\n");
         return ExitCode::from(3);
     };
     let exit = run(
         rt.alloc(),
         &args,
         &mut rt.stdin(),
-        &mut rt.stdout(),
+        &mut output,
         &mut errors,
     );
     ExitCode::from(exit.status)
