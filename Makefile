@@ -47,6 +47,10 @@ help:
 run: kit
 	$(MAKE) -j$(SIDE_BY_SIDE) $(LIBRARIES)
 	$(KEEP) scrypt_tool rt run -- key 4 1 1 64 "" < /dev/null
+	$(TERMINAL)
+
+# The program that is installed asks for a password at a terminal, which the proved one reads as any input.
+TERMINAL = bindings/terminal/build.sh crates/scrypt_tool/out/scrypt_tool build/bin/scrypt_tool
 
 # Runs a command in the folder of a crate, and keeps the verdict that it prints in build/verdicts, for make dist.
 KEEP = python3 -B release/keep_verdict.py
@@ -137,7 +141,7 @@ install uninstall:
 .PHONY: dist dist-test
 dist:
 	@if command -v rt > /dev/null; then $(MAKE) -j$(SIDE_BY_SIDE) $(LIBRARIES) && bindings/lib.sh && \
-	  $(KEEP) scrypt_tool rt run -- key 0 1 1 1 "" > /dev/null < /dev/null; \
+	  $(KEEP) scrypt_tool rt run -- key 0 1 1 1 "" > /dev/null < /dev/null && $(TERMINAL); \
 	else echo "The kit isn't here: what is built already is packed, and nothing is proved."; fi
 	python3 release/dist.py
 

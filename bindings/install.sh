@@ -7,7 +7,7 @@
 set -eu
 cd "$(dirname "$0")/.."
 action=$1
-program=crates/scrypt_tool/out/scrypt_tool
+program=build/bin/scrypt_tool
 room=$(mktemp -d)
 trap 'rm -rf "$room"' EXIT
 for place in "$bindir" "$libdir" "$includedir" "$datarootdir" "$mandir" "$docdir" "$pythondir"; do

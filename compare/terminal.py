@@ -2,14 +2,21 @@
 
 import os
 import pty
+import termios
 
 
-def on_terminal(words, answers):
-    """The status of a program that is given an answer to each line of its terminal that ends in a colon."""
+def has_echo(terminal):
+    """Whether what is typed is shown."""
+    return bool(termios.tcgetattr(terminal)[3] & termios.ECHO)
+
+
+def session(words, answers):
+    """The status of a program that is given an answer to each line of its terminal that ends in a colon, what it wrote,
+    and whether what was typed was shown, at each answer and at the end."""
     pid, terminal = pty.fork()
     if pid == 0:
         os.execvp(words[0], words)
-    told, answers = b"", list(answers)
+    told, line, answers, echo = b"", b"", list(answers), []
     while True:
         try:
             part = os.read(terminal, 1024)
@@ -17,9 +24,17 @@ def on_terminal(words, answers):
             break
         if not part:
             break
-        told += part
-        if told.rstrip().endswith(b":") and answers:
-            os.write(terminal, answers.pop(0).encode() + b"\n")
-            told = b""
+        told, line = told + part, line + part
+        if line.rstrip().endswith(b":") and answers:
+            echo.append(has_echo(terminal))
+            os.write(terminal, answers.pop(0))
+            line = b""
+    status = os.waitstatus_to_exitcode(os.waitpid(pid, 0)[1])
+    echo.append(has_echo(terminal))
     os.close(terminal)
-    return os.waitstatus_to_exitcode(os.waitpid(pid, 0)[1])
+    return status, told, echo
+
+
+def on_terminal(words, answers):
+    """The status of a program that is given these answers, each with a newline."""
+    return session(words, [it.encode() + b"\n" for it in answers])[0]

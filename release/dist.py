@@ -17,7 +17,7 @@ from proved import proved, read, verdict_sections
 ROOT = os.path.dirname(os.path.dirname(os.path.abspath(__file__)))
 DIST, PARTS = os.path.join(ROOT, "build/dist"), os.path.join(ROOT, "build/dist-parts")
 MAINTAINER = "Nilomafy maintainers <maintainers@users.noreply.nilomafy.example>"
-NEEDED = ["build/lib/libscrypt_c.a", "build/lib/libscrypt_drop_in.so", "crates/scrypt_tool/out/scrypt_tool"]
+NEEDED = ["build/lib/libscrypt_c.a", "build/lib/libscrypt_drop_in.so", "build/bin/scrypt_tool"]
 # The newest glibc whose names each binary may take: the wheel's tag manylinux2014 promises 2.17 for the library.
 GLIBC = {f"{LIBDIR}/libscrypt_c.so.{{numbers}}": (2, 17), "usr/bin/scrypt_tool": (2, 34), DROP_IN: (2, 34)}
 

@@ -1,0 +1,100 @@
+/* Asks for the password of scrypt_tool at a terminal, without echo. The proved program reads its standard input by a
+   function of this name: build.sh renames it. This file is tested and not proved. */
+#include <errno.h>
+#include <signal.h>
+#include <string.h>
+#include <termios.h>
+#include <unistd.h>
+
+ssize_t read_or_ask(int fd, void *buffer, size_t len);
+
+enum { LINE = 4096 }; /* the longest line that Linux takes from a terminal, with its newline */
+
+static int is_hash; /* whether the command is `hash`, whose password is asked for twice */
+static const int SIGNALS[] = {SIGINT, SIGQUIT, SIGTERM, SIGHUP, SIGTSTP};
+enum { SIGNAL_COUNT = sizeof SIGNALS / sizeof *SIGNALS };
+static volatile sig_atomic_t caught;
+
+/* glibc hands a constructor the arguments of main. The first word that names a command is the command. */
+__attribute__((constructor)) static void find_command(int argc, char **argv) {
+  for (int i = 1; i < argc; i++) {
+    const char *const names[] = {"key", "verify", "rehash", "hash"};
+    for (int j = 0; j < 4; j++)
+      if (strcmp(argv[i], names[j]) == 0) {
+        is_hash = j == 3;
+        return;
+      }
+  }
+}
+
+static void note(int signal) { caught = signal; }
+
+/* Writes to the terminal, or, if that was opened for reading alone, to the standard error. */
+static void say(const char *text) {
+  size_t len = strlen(text);
+  if (write(STDIN_FILENO, text, len) < 0 && write(STDERR_FILENO, text, len) < 0) {
+    /* nobody sees the prompt, and the password is read all the same */
+  }
+}
+
+/* Reads a line without its newline, and returns its length, or -1 at the end of the input, on an error or a signal. */
+static ssize_t line_of(const char *prompt, char *line) {
+  say(prompt);
+  ssize_t len = caught ? -1 : read(STDIN_FILENO, line, LINE);
+  say("\n");
+  if (len > 0 && line[len - 1] == '\n') return len - 1;
+  return -1;
+}
+
+/* Reads the password, for `hash` twice, and returns its length or -1. */
+static ssize_t password_of(char *line) {
+  ssize_t len = line_of("Password: ", line);
+  if (len < 0 || !is_hash) return len;
+  char again[LINE];
+  ssize_t second = line_of("The same again: ", again);
+  int same = second == len && memcmp(line, again, (size_t)len) == 0;
+  if (second >= 0 && !same) say("The passwords differ.\n");
+  explicit_bzero(again, sizeof again);
+  return same ? len : -1;
+}
+
+/* The same without echo. A signal that ends or stops the program does so only once the echo is back. */
+static ssize_t ask(char *line) {
+  struct termios with_echo, silent;
+  struct sigaction noted, before[SIGNAL_COUNT];
+  if (tcgetattr(STDIN_FILENO, &with_echo) != 0) return -1;
+  memset(&noted, 0, sizeof noted);
+  noted.sa_handler = note; /* without SA_RESTART, so that the read ends */
+  for (int i = 0; i < SIGNAL_COUNT; i++) {
+    sigaction(SIGNALS[i], &noted, &before[i]);
+    if (before[i].sa_handler == SIG_IGN) sigaction(SIGNALS[i], &before[i], NULL);
+  }
+  silent = with_echo;
+  silent.c_lflag &= ~(tcflag_t)(ECHO | ECHOE | ECHOK | ECHONL);
+  ssize_t len = -1;
+  if (tcsetattr(STDIN_FILENO, TCSAFLUSH, &silent) == 0) len = password_of(line);
+  tcsetattr(STDIN_FILENO, TCSAFLUSH, &with_echo);
+  for (int i = 0; i < SIGNAL_COUNT; i++) sigaction(SIGNALS[i], &before[i], NULL);
+  if (len < 0) explicit_bzero(line, LINE);
+  if (caught) raise(caught);
+  return len;
+}
+
+/* As read(2), but that the first read of a terminal gives the password that was asked for, and later ones its end. */
+ssize_t read_or_ask(int fd, void *buffer, size_t len) {
+  static char line[LINE];
+  static ssize_t rest = -2; /* how much of the line is left; -2 before it was asked for, and -1 if that failed */
+  static char *next = line;
+  if (fd != STDIN_FILENO || (rest == -2 && !isatty(fd))) return read(fd, buffer, len);
+  if (rest == -2) rest = ask(line);
+  if (rest < 0) {
+    errno = EIO; /* not EINTR, which a reader may try again */
+    return -1;
+  }
+  size_t taken = len < (size_t)rest ? len : (size_t)rest;
+  memcpy(buffer, next, taken);
+  explicit_bzero(next, taken);
+  next += taken;
+  rest -= (ssize_t)taken;
+  return (ssize_t)taken;
+}

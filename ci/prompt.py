@@ -1,0 +1,50 @@
+"""Runs the program that is installed on a terminal, where it asks for the password without echo."""
+
+import os
+import subprocess
+import sys
+import tempfile
+
+ROOT = os.path.join(os.path.dirname(os.path.abspath(__file__)), "..")
+sys.path.append(os.path.join(ROOT, "compare"))
+from terminal import session
+
+KEY, HASH = "key 4 1 1 16 ", "hash phc 4 1 1 4e61436c"
+VERIFY = "verify $scrypt$ln=4,r=1,p=1$TmFDbA$rsa3SD7SbgiAK0H0AyCGoOiGvnrEj8/ZL/DO+BCXUvQ"
+MADE = "$scrypt$ln=4,r=1,p=1$TmFDbA$rsa3SD7SbgiAK0H0AyCGoOiGvnrEj8/ZL/DO+BCXUvQ"
+ONCE, TWICE = ["Password: "], ["Password: ", "The same again: "]
+
+# The words, what is typed at each question, the status (below 0 for a signal), the lines on the terminal, and the reason.
+ROWS = [
+    (KEY, ["password\n"], 0, [*ONCE, "d33c6ec1818daaf728f55afadfeaa558"], "a key is asked for once"),
+    (HASH, ["password\n"] * 2, 0, [*TWICE, MADE], "a hash twice"),
+    (HASH, ["password\n", "passwort\n"], 4, [*TWICE, "The passwords differ.", "input failed"], "two that differ"),
+    (HASH, ["password\n", "\x04"], 4, [*TWICE, "input failed"], "no second one"),
+    (f"--most-work=192 {VERIFY}", ["password\n"], 0, [*ONCE, "ok"], "after an option"),
+    (VERIFY, ["\n"], 1, [*ONCE, "no"], "an empty one"),
+    (VERIFY, ["pass\x7f\x7fssword\n"], 0, [*ONCE, "ok"], "one that was corrected"),
+    (f"rehash phc 4 1 1 32 00 {MADE}", ["password\n"], 0, [*ONCE, "ok"], "a login asks once"),
+    (VERIFY, ["\x04"], 4, [*ONCE, "input failed"], "none at all"),
+    (VERIFY, ["pass\x03"], -2, ONCE, "Ctrl-C ends it"),
+    (HASH, ["password\n", "pass\x03"], -2, TWICE, "Ctrl-C at the second question"),
+    ("verify $8$", [], 2, ["hash refused: EncodingInvalid"], "what is refused without a password asks for none"),
+    ("--version", [], 0, [None], "nor does what needs none"),
+]
+
+
+def wrong_rows(program):
+    """How many rows end otherwise, by the program that is linked of the proved one, and how many there are."""
+    with tempfile.TemporaryDirectory() as room:
+        built = os.path.join(room, "scrypt_tool")
+        subprocess.run([os.path.join(ROOT, "bindings/terminal/build.sh"), program, built], check=True)
+        return sum(is_wrong(built, *row) for row in ROWS), len(ROWS)
+
+
+def is_wrong(program, words, typed, status, lines, reason):
+    got, told, echo = session([program, *words.split(" ")], [it.encode() for it in typed])
+    written = told.decode().removesuffix("\r\n").split("\r\n")
+    same = len(written) == len(lines) and all(line in (None, it) for line, it in zip(lines, written))
+    if got == status and same and echo == [False] * len(typed) + [True]:
+        return False
+    print(f"on a terminal, {words!r} ({reason}): {got}, {written}, echo {echo}")
+    return True
