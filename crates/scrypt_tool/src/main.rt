@@ -16,6 +16,7 @@
 use scrypt_commands::defaults::complete;
 use scrypt_commands::information::{information, print};
 use scrypt_commands::run::run;
+use std::io::ErrorKind;
 use std::process::ExitCode;
 use std::{env, io};
 
@@ -28,17 +29,17 @@ fn main(rt: HostRuntime) -> ExitCode {
     if let Some(text) = information(&args) {
         return ExitCode::from(print(text, &mut output, &mut errors).status);
     }
-    let Ok(args) = complete(rt.alloc(), &rt, args) else {
-        let _ = errors.write_all(b"out of memory, or no salt can be drawn\n");
-        return ExitCode::from(3);
+    let args = match complete(rt.alloc(), &rt, args) {
+        Ok(args) => args,
+        Err(error) => {
+            let _ = errors.write_all(match error.kind() {
+                ErrorKind::OutOfMemory => b"out of memory\n".as_slice(),
+                _ => b"no salt can be drawn\n".as_slice(),
+            });
+            return ExitCode::from(3);
+        }
     };
-    let exit = run(
-        rt.alloc(),
-        &args,
-        &mut rt.stdin(),
-        &mut output,
-        &mut errors,
-    );
+    let exit = run(rt.alloc(), &args, &mut rt.stdin(), &mut output, &mut errors);
     ExitCode::from(exit.status)
 }
 
