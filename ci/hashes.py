@@ -149,7 +149,7 @@ SHORTER_PHC_KEYS = [61, 65, 69, 73, 77, 81, 85]
 
 def answer(tool, words, password):
     """What a run of the program prints: a line of its output, the reason of a refused hash, or another fault."""
-    ran = subprocess.run([tool, *words], input=password, capture_output=True)
+    ran = subprocess.run([tool, "--no-limits", *words], input=password, capture_output=True)
     return (ran.stdout + ran.stderr).decode().strip().removeprefix("hash refused: ")
 
 

@@ -9,8 +9,13 @@ usage: program.py PROGRAM
 """
 
 import os
+import shutil
 import subprocess
 import sys
+import tempfile
+
+import limits
+from prompt import wrong_rows
 
 FIRST_KEY = (
     "77d6576238657b203b19ca42c18a0497f16b4844e3074ae8dfdffa3fede21442"
@@ -98,7 +103,7 @@ ANSWERS = [
         "another password",
     ),
     (
-        "verify $scrypt$ln=14,r=8,p=1$U29kaXVtQ2hsb3JpZGU$cCO9yzr9c0hGHA",
+        "--least-key-len=10 verify $scrypt$ln=14,r=8,p=1$U29kaXVtQ2hsb3JpZGU$cCO9yzr9c0hGHA",
         "pleaseletmein\n",
         1,
         "no",
@@ -114,7 +119,7 @@ ANSWERS = [
         "a salt that is not ASCII, by Python's hashlib",
     ),
     ("verify $7$2/..../....$rNxJWVHNv/mCNcgE/f6/L4zO6Fos5c2uTzhyzoisI62", "\n", 1, "no", "another password"),
-    ("verify $7$2/..../....$r/", "", 0, "ok", "a shorter key is the beginning of a longer one"),
+    ("--least-key-len=1 verify $7$2/..../....$r/", "", 0, "ok", "a shorter key is the beginning of a longer one"),
     (
         "verify $7$C6..../....SodiumChloride$kBGj9fHznVYFQMEn/qDCfrDevf9YDtcDdKvEqHJLV8D",
         "pleaseletmein",
@@ -149,7 +154,7 @@ FAULTS = [
     ("verify $7$2/..../....$", "password", 2, "hash refused: OutputSize", "an empty key"),
     ("key 56 1 1 32 ", "", 3, "out of memory", "a table of 2^63 bytes"),
     ("hash phc 56 1 1 00", "", 3, "out of memory", "the same for a hash"),
-    ("verify $7$s/..../....$r/", "", 3, "out of memory", "the same for a verdict"),
+    ("--no-limits verify $7$s/..../....$r/", "", 3, "out of memory", "the same for a verdict"),
     (
         "rehash mcf 56 1 1 32  $7$2/..../....$rNxJWVHNv/mCNcgE/f6/L4zO6Fos5c2uTzhyzoisI62",
         "",
@@ -243,7 +248,7 @@ STREAMS = [
 # Parameters whose chunks take 2 GiB, and whose table is refused: log_n is 56, r is 1 and p is 2^24. Nothing is written
 # before everything is allocated, so that the run touches little memory. Each row has a bound on the addresses of the
 # run, or None, and the reason for the row.
-REFUSED_TABLE = "verify $7$s/......../$r/"
+REFUSED_TABLE = "--no-limits verify $7$s/......../$r/"
 MOST_TOUCHED = 64 << 20
 ADDRESSES = [(None, "there is room for the chunks"), (1 << 30, "there is none")]
 
@@ -265,6 +270,54 @@ def answer_with(program, stream, path):
     return ran.returncode, (ran.stdout or b"").decode(), (ran.stderr or b"").decode()
 
 
+def drawn_salts(program):
+    """Whether hashes without a salt have different ones of 16 bytes, and accept their passwords."""
+    salts = set()
+    # The salt of a `$7$` text has its 11 letters of the parameters before it.
+    for form, letters in (("phc", 22), ("mcf", 33)) * 2:
+        status, line, _ = answer(program, f"hash {form} 4 1 1", "password")
+        stored = line.removesuffix("\n")
+        salt = stored.split("$")[-2]
+        salts.add(salt)
+        right = answer(program, f"verify {stored}", "password") == (0, "ok\n", "")
+        if status or not right or len(salt) != letters:
+            return False
+    return len(salts) == 4
+
+
+def without_source(program):
+    """How a run ends that cannot draw a salt, and one that needs none."""
+    with tempfile.TemporaryDirectory() as room:
+        library, source = os.path.join(room, "failing.so"), os.path.join(room, "failing.c")
+        with open(source, "w", encoding="ascii") as file:
+            file.write("int getentropy(void *buffer, unsigned long len) { return buffer && len ? -1 : 0; }\n")
+        subprocess.run([os.environ.get("CC", "cc"), "-shared", "-fPIC", "-o", library, source], check=True)
+        return [
+            subprocess.run([program, *words], input=b"", capture_output=True, env={"LD_PRELOAD": library})
+            for words in (["hash", "phc", "4", "1", "1"], ["verify", limits.EMPTY])
+        ]
+
+
+def others(program):
+    """The runs that are not in a table: each has its name, and whether it ended as it should."""
+    with open(os.path.join(os.path.dirname(os.path.abspath(__file__)), "../VERSION"), encoding="ascii") as file:
+        version = file.read().strip()
+    status, text, error = answer(program, "--help", "")
+    # The usage line has each command as the help has it, which makes the salt of hash optional.
+    named = USAGE.removeprefix("usage: ").replace("SALT_HEX [LEN]", "[SALT_HEX [LEN]]").split(" | ")
+    yield "--help", (status, error) == (0, "") and set(named) <= {it.strip() for it in text.splitlines()}
+    yield "--version", answer(program, "--version", "") == (0, f"scrypt_tool {version}\n", "")
+    with open("/dev/full", "wb") as full:
+        ran = subprocess.run([program, "--help"], stdout=full, stderr=subprocess.PIPE, stdin=subprocess.DEVNULL)
+    yield "--help that cannot be written", (ran.returncode, ran.stderr) == (4, b"output failed\n")
+    yield "drawn salts", drawn_salts(program)
+    if shutil.which(os.environ.get("CC", "cc")):
+        drawn, verified = without_source(program)
+        line = b"no salt can be drawn\n"
+        yield "no salt can be drawn", (drawn.returncode, drawn.stdout, drawn.stderr) == (3, b"", line)
+        yield "none is needed", (verified.returncode, verified.stdout, verified.stderr) == (0, b"ok\n", b"")
+
+
 def touched_by(program, line, addresses):
     """How a run ends whose addresses are bounded, and how many bytes of memory it touched."""
     limit = [] if addresses is None else ["prlimit", f"--as={addresses}"]
@@ -276,7 +329,7 @@ def touched_by(program, line, addresses):
 
 
 def main():
-    rows = ANSWERS + FAULTS + REHASHES
+    rows = ANSWERS + FAULTS + REHASHES + limits.rows(USAGE)
     wrong = 0
     for stream, path, wanted, reason in STREAMS:
         got = answer_with(sys.argv[1], stream, path)
@@ -295,6 +348,16 @@ def main():
             print(f"{REFUSED_TABLE!r} ({reason}): {got}, and {touched} bytes touched")
             wrong += 1
     runs = len(rows) + len(STREAMS) + len(ADDRESSES)
+    for name, right in others(sys.argv[1]):
+        runs += 1
+        if not right:
+            print(f"{name}: wrong")
+            wrong += 1
+    if shutil.which(os.environ.get("CC", "cc")):
+        wrong_at_terminal, at_terminal = wrong_rows(sys.argv[1])
+        wrong, runs = wrong + wrong_at_terminal, runs + at_terminal
+    else:
+        print("No C compiler is here (package gcc): the program was not run on a terminal.")
     print(f"program: {runs - wrong} of {runs} runs ended as they should")
     sys.exit(1 if wrong else 0)
 
