@@ -1,5 +1,5 @@
 #!/usr/bin/env python3
-"""Writes the program's completions for bash, zsh and fish, from its usage line alone.
+"""Writes the program's completions for bash, zsh and fish, from its usage line and the options of its help.
 
 usage: completions.py SHARE       writes them below the folder SHARE (as /usr/share), where the shells look for them
        completions.py --test      writes them to a folder of their own, and completes words by each shell that is here
@@ -12,13 +12,18 @@ import subprocess
 import sys
 import tempfile
 
-SOURCE = os.path.join(os.path.dirname(os.path.abspath(__file__)), "../crates/scrypt_commands/src/error.rt")
+SOURCES = os.path.join(os.path.dirname(os.path.abspath(__file__)), "../crates/scrypt_commands/src")
 
 BASH = """# Completes the words of scrypt_tool, which its usage line names.
 _scrypt_tool() {{
-  local word=${{COMP_WORDS[COMP_CWORD]}} choices=""
-  case $COMP_CWORD:${{COMP_WORDS[1]}} in
-    1:*) choices="{commands}" ;;
+  local word=${{COMP_WORDS[COMP_CWORD]}} first=1 choices=""
+  # Bash takes an equals sign, and what comes after it, for words of their own.
+  while [[ $first -lt $COMP_CWORD && ${{COMP_WORDS[first]}} == --* ]]; do
+    [[ ${{COMP_WORDS[first + 1]}} == "=" ]] && first=$((first + 2))
+    first=$((first + 1))
+  done
+  case $((COMP_CWORD - first + 1)):${{COMP_WORDS[first]}} in
+    1:*) choices="{commands} {options}" ;;
 {cases}
   esac
   COMPREPLY=($(compgen -W "$choices" -- "$word"))
@@ -28,24 +33,32 @@ complete -F _scrypt_tool scrypt_tool
 
 ZSH = """#compdef scrypt_tool
 # Completes the words of scrypt_tool, which its usage line names.
-case $CURRENT:$words[2] in
-  2:*) compadd {commands} ;;
+integer first=2
+while (( first < CURRENT )) && [[ $words[first] == --* ]]; do (( first++ )); done
+case $(( CURRENT - first + 2 )):$words[first] in
+  2:*) compadd -- {commands} {options} ;;
 {cases}
 esac
 """
 
 FISH = """# Completes the words of scrypt_tool, which its usage line names.
 complete -c scrypt_tool -f
-complete -c scrypt_tool -f -n 'test (count (commandline -opc)) -eq 1' -a '{commands}'
+complete -c scrypt_tool -f -n 'test (commandline -opc | string match -v -- "--*" | count) -eq 1' -a '{commands} {options}'
 {cases}
 """
 
 
 def commands():
     """Of each command its words: each is a name of a value, or the choices that it has."""
-    with open(SOURCE, encoding="utf-8") as source:
+    with open(os.path.join(SOURCES, "error.rt"), encoding="utf-8") as source:
         line = re.search(r"usage: ([^\\\"]+)", source.read()).group(1)
     return {name: words for name, *words in (it.split() for it in line.split(" | "))}
+
+
+def options():
+    """The options of the help."""
+    with open(os.path.join(SOURCES, "information.rt"), encoding="utf-8") as source:
+        return re.findall(r"(?<=[ ])--[a-z-]+=?", source.read().split("HELP")[1].split('";')[0])
 
 
 def choices():
@@ -58,19 +71,19 @@ def choices():
 
 def written(share):
     """Writes the three files, and gives their paths."""
-    names = " ".join(commands())
+    words = {"commands": " ".join(commands()), "options": " ".join(options())}
     bash = "\n".join(f'    {place}:{name}) choices="{" ".join(of)}" ;;' for name, place, of in choices())
     zsh = "\n".join(f"  {place + 1}:{name}) compadd {' '.join(of)} ;;" for name, place, of in choices())
     fish = "\n".join(
-        f"complete -c scrypt_tool -f -n 'test (count (commandline -opc)) -eq {place};"
+        f"complete -c scrypt_tool -f -n 'test (commandline -opc | string match -v -- \"--*\" | count) -eq {place};"
         f" and __fish_seen_subcommand_from {name}' -a '{' '.join(of)}'"
         for name, place, of in choices()
     )
     paths = []
     for place, text in [
-        ("bash-completion/completions/scrypt_tool", BASH.format(commands=names, cases=bash)),
-        ("zsh/site-functions/_scrypt_tool", ZSH.format(commands=names, cases=zsh)),
-        ("fish/vendor_completions.d/scrypt_tool.fish", FISH.format(commands=names, cases=fish)),
+        ("bash-completion/completions/scrypt_tool", BASH.format(**words, cases=bash)),
+        ("zsh/site-functions/_scrypt_tool", ZSH.format(**words, cases=zsh)),
+        ("fish/vendor_completions.d/scrypt_tool.fish", FISH.format(**words, cases=fish)),
     ]:
         path = os.path.join(share, place)
         os.makedirs(os.path.dirname(path), exist_ok=True)
@@ -82,7 +95,10 @@ def written(share):
 
 # what is before the cursor, and the words that are offered
 LINES = [
-    ("scrypt_tool ", {"hash", "key", "rehash", "verify"}),
+    ("scrypt_tool ", {"hash", "key", "rehash", "verify", *options()}),
+    ("scrypt_tool --ver", {"--version"}),
+    ("scrypt_tool --no-limits ver", {"verify"}),
+    ("scrypt_tool --most-work=192 --least-key-len=10 rehash ", {"mcf", "phc"}),
     ("scrypt_tool ha", {"hash"}),
     ("scrypt_tool hash ", {"mcf", "phc"}),
     ("scrypt_tool rehash p", {"phc"}),
@@ -91,7 +107,7 @@ LINES = [
 
 
 def by_bash(path, line):
-    words = line.split(" ")
+    words = [word for it in line.split(" ") for word in re.split("(=)", it)]
     script = f'. "{path}"; COMP_WORDS=("$@"); COMP_CWORD=$(($# - 1)); _scrypt_tool; printf "%s\\n" "${{COMPREPLY[@]}}"'
     return subprocess.run(["bash", "-c", script, "bash", *words], capture_output=True, text=True).stdout
 
