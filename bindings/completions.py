@@ -43,7 +43,8 @@ esac
 
 FISH = """# Completes the words of scrypt_tool, which its usage line names.
 complete -c scrypt_tool -f
-complete -c scrypt_tool -f -n 'test (commandline -opc | string match -v -- "--*" | count) -eq 1' -a '{commands} {options}'
+set -l words 'commandline -opc | string match -v -- "--*" | count'
+complete -c scrypt_tool -f -n "test ($words) -eq 1" -a '{commands} {options}'
 {cases}
 """
 
@@ -75,8 +76,8 @@ def written(share):
     bash = "\n".join(f'    {place}:{name}) choices="{" ".join(of)}" ;;' for name, place, of in choices())
     zsh = "\n".join(f"  {place + 1}:{name}) compadd {' '.join(of)} ;;" for name, place, of in choices())
     fish = "\n".join(
-        f"complete -c scrypt_tool -f -n 'test (commandline -opc | string match -v -- \"--*\" | count) -eq {place};"
-        f" and __fish_seen_subcommand_from {name}' -a '{' '.join(of)}'"
+        f'complete -c scrypt_tool -f -n "test ($words) -eq {place};'
+        f""" and __fish_seen_subcommand_from {name}" -a '{' '.join(of)}'"""
         for name, place, of in choices()
     )
     paths = []

@@ -5,8 +5,8 @@ KEY_TOO_SHORT = "hash refused: KeyTooShort, its key is shorter than --least-key-
 EMPTY = "$7$2/..../....$rNxJWVHNv/mCNcgE/f6/L4zO6Fos5c2uTzhyzoisI62"
 KEY = "nFNh2CVHVjNldFVKDHDlm4CbdRSCdEBsjjJxD+iCs5E"
 
-# The words, the input, the status, the line, and the reason for the row. EMPTY needs 128 + 2048 + 256 bytes, and the work
-# 4 * (16 + 32).
+# The words, the input, the status, the line, and the reason for the row. EMPTY needs 128 + 2048 + 256 bytes, and the
+# work 4 * (16 + 32).
 LIMITS = [
     (f"--most-bytes=2432 verify {EMPTY}", "", 0, "ok", "as much memory as is allowed"),
     (f"--most-bytes=2431 verify {EMPTY}", "", 2, TOO_COSTLY, "a byte more"),
@@ -18,7 +18,7 @@ LIMITS = [
     (f"--most-work=191 --most-work=192 verify {EMPTY}", "", 0, "ok", "a later option overrides an earlier one"),
     (f"--most-work=191 --usual-limits verify {EMPTY}", "", 0, "ok", "so does one for all of them"),
     (f"--most-work=191 --no-limits verify {EMPTY}", "", 0, "ok", "and the one for none"),
-    ("--no-limits --most-work=192 verify $7$2/..../....$r/", "", 2, KEY_TOO_SHORT, "the others are then the usual ones"),
+    ("--no-limits --most-work=192 verify $7$2/..../....$r/", "", 2, KEY_TOO_SHORT, "the others are the usual ones"),
     (f"verify $scrypt$ln=17,r=8,p=5$aM15713r3Xsvxbi31lqr1Q${KEY}", "", 2, TOO_COSTLY, "five times the usual work"),
     (f"verify $scrypt$ln=18,r=8,p=1$aM15713r3Xsvxbi31lqr1Q${KEY}", "", 2, TOO_COSTLY, "more than 256 MiB"),
     ("verify $7$s/..../....$r/", "", 2, TOO_COSTLY, "a table of 2^63 bytes"),

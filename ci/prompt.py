@@ -14,7 +14,8 @@ VERIFY = "verify $scrypt$ln=4,r=1,p=1$TmFDbA$rsa3SD7SbgiAK0H0AyCGoOiGvnrEj8/ZL/D
 MADE = "$scrypt$ln=4,r=1,p=1$TmFDbA$rsa3SD7SbgiAK0H0AyCGoOiGvnrEj8/ZL/DO+BCXUvQ"
 ONCE, TWICE = ["Password: "], ["Password: ", "The same again: "]
 
-# The words, what is typed at each question, the status (below 0 for a signal), the lines on the terminal, and the reason.
+# The words, what is typed at each question, the status (below 0 for a signal), the lines on the terminal, and the
+# reason.
 ROWS = [
     (KEY, ["password\n"], 0, [*ONCE, "d33c6ec1818daaf728f55afadfeaa558"], "a key is asked for once"),
     (HASH, ["password\n"] * 2, 0, [*TWICE, MADE], "a hash twice"),
