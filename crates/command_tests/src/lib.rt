@@ -5,6 +5,8 @@
 #[cfg(test)]
 mod allocations;
 #[cfg(test)]
+mod drawn_salts;
+#[cfg(test)]
 mod fault_lines;
 #[cfg(test)]
 mod readers;
