@@ -1,5 +1,6 @@
 -- The options before a command.
-use Rattle.std.proofs.Common.{[], ◌∷◌, map, String, string_bytes, ap, get_or, ◌∙◌, arith, ◌≡◌, ◌≢◌, ◌++◌, ℕ, List, None, Option, Some, length, take, drop, refl, subst, sym, bytes_eq, false, true}
+use Rattle.std.proofs.Common.{[], ◌∷◌, map, String, string_bytes, ap, get_or, ◌∙◌, arith, ◌≡◌, ◌≢◌, ◌++◌, ℕ}
+use Rattle.std.proofs.Common.{List, None, Option, Some, length, take, drop, refl, subst, sym, bytes_eq, false, true}
 use Rattle.std.specs.Borrow.{Bor}
 use Rattle.std.specs.Global.{Global}
 use Rattle.std.specs.Prelude.{IfOk, Result, Ok, Err, if◌then◌else◌, MatchOption, codes, option_map, unwrap_or}
@@ -69,6 +70,10 @@ other_salt text (x0 ∷ x1 ∷ x2 ∷ []) n = refl
 other_salt text (x0 ∷ x1 ∷ x2 ∷ x3 ∷ []) n = refl
 other_salt text (x0 ∷ x1 ∷ x2 ∷ x3 ∷ x4 ∷ []) n = absurd (n refl)
 other_salt text (x0 ∷ x1 ∷ x2 ∷ x3 ∷ x4 ∷ x5 ∷ xs) n = refl
+
+pub other_command : (args : List (List ℕ)) (rest : List (String Global)) → map string_bytes rest ≡ command_of args
+    → length rest ≢ 5 → false ≡ lacks_salt (command_of args)
+other_command args rest is n = sym (ap lacks_salt (sym is) ∙ other_salt string_bytes rest n)
 
 pub named_hash : {A : Type 0} (text : A → List ℕ) (args : List A) (a : A) → length args ≡ 5 → a ≡ get_or args 0 a
     → lacks_salt (map text args) ≡ bytes_eq (text a) (codes "hash")

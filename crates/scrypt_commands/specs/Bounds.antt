@@ -27,11 +27,11 @@ number_of name word = after_prefix name word >>= decimal_below (2 ^ 64)
 unfoldable pub with_number : Bounds → List ℕ → Option Bounds
 with_number b word =
     option_or (option_map (λ n. record { most_bytes = n; most_work = b.most_work; least_key_len = b.least_key_len })
-        (number_of (codes "--most-bytes=") word))
+    (number_of (codes "--most-bytes=") word))
     (option_or (option_map (λ n. record { most_bytes = b.most_bytes; most_work = n; least_key_len = b.least_key_len })
-        (number_of (codes "--most-work=") word))
+    (number_of (codes "--most-work=") word))
     (option_map (λ n. record { most_bytes = b.most_bytes; most_work = b.most_work; least_key_len = Some n })
-        (number_of (codes "--least-key-len=") word)))
+    (number_of (codes "--least-key-len=") word)))
 
 -- the bounds after an option, if the word is one; `None` is no bounds
 unfoldable pub with_option : Option Bounds → List ℕ → Option (Option Bounds)

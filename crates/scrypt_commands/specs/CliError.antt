@@ -5,7 +5,8 @@ use Rattle.password_hash.specs.Refusal as refusals
 use Rattle.scrypt_commands.specs.declared.error.CliError.{CliError}
 use Rattle.scrypt_commands.specs.declared.error.CliError.TheVariants.{Usage, SaltNotHex, InvalidParams, InvalidOutputLen, HashRefused, OutOfMemory, InputFailed, OutputFailed}
 use Rattle.scrypt_commands.specs.declared.error.HashError.{HashError}
-use Rattle.scrypt_commands.specs.declared.error.HashError.TheVariants.{Algorithm, EncodingInvalid, OutputSize, LnInvalid, RInvalid, PInvalid, ParamsInvalid, SaltInvalid, Version, TooCostly, KeyTooShort}
+use Rattle.scrypt_commands.specs.declared.error.HashError.TheVariants.{Algorithm, EncodingInvalid, OutputSize, LnInvalid, RInvalid, PInvalid, ParamsInvalid, SaltInvalid, Version}
+use Rattle.scrypt_commands.specs.declared.error.HashError.TheVariants.{TooCostly, KeyTooShort}
 
 -- the exit status
 abbrev pub status_of : CliError → ℕ

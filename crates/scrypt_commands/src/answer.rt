@@ -68,7 +68,7 @@ impl<'a> Command<'a> {
         input: &[u8],
         bounds: Option<Bounds>,
     ) -> Result<Answer, CliError>
-        requires { IsPossible self.now }
+        requires possible { IsPossible self.now }
         ensures outcome { Answers (command_outcome bounds self.now input.now) result }
     {
         match self {

@@ -1,4 +1,4 @@
-//! The options before a command: what a stored hash may need, and how short its key may be.
+// The options before a command: what a stored hash may need, and how short its key may be.
 
 ghost use Rattle.std.specs.Prelude.{◌≡◌};
 ghost use Rattle.scrypt_commands.specs.Args.{texts_of};
@@ -33,9 +33,7 @@ impl Bounds {
         Limits {
             most_bytes: self.most_bytes,
             most_work: self.most_work,
-            least_key_len: self
-                .least_key_len
-                .unwrap_or(Limits::USUAL.least_key_len),
+            least_key_len: self.least_key_len.unwrap_or(Limits::USUAL.least_key_len),
         }
     }
 
@@ -47,7 +45,9 @@ impl Bounds {
         let bytes = BufferLens::of(wanted).bytes();
         let work = wanted.work();
         Limits {
-            most_bytes: self.most_bytes.max(bytes.min(u128::from(u64::MAX)) as usize),
+            most_bytes: self
+                .most_bytes
+                .max(bytes.min(u128::from(u64::MAX)) as usize),
             most_work: self.most_work.max(work.min(u128::from(u64::MAX)) as u64),
             least_key_len: self.least_key_len.unwrap_or(0),
         }

@@ -34,6 +34,9 @@ pub struct Exit {
 /// or verifying refuses. It is 3 if an allocation failed, and 4 if the input or the output failed.
 /// Only on `output failed` may a part of the line have been written. The error line is written to
 /// `errors` by one `write_all`; if that fails, the status stays the same.
+///
+/// Options before the command limit what the hash of `verify` and `rehash` may need; without one
+/// there are no limits.
 pub fn run<R: Read, W: Write, F: Write>(
     alloc: Global,
     args: &[String],

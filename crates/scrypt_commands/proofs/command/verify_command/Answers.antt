@@ -10,4 +10,6 @@ returns-in-Ok c = (λ none. none (_, c.in-Ok.ensures.ok), tt, λ bounds input. (
 
 pub returns-in-Err : goal.returns-in-Err
 unfolding command_request
-returns-in-Err c = rw c.in-Err.ensures.err.0 (inr (refl, (c.in-Err.ensures.err.1, λ bounds input. (_, of_none c.in-Err.ensures.err.1, sym (unread_within _ _ _)))))
+returns-in-Err c =
+    rw c.in-Err.ensures.err.0
+    (inr (refl, (c.in-Err.ensures.err.1, λ bounds input. (_, of_none c.in-Err.ensures.err.1, sym (unread_within _ _ _)))))

@@ -13,8 +13,10 @@ returns-in_ok-make_hash-in-Rehash c =
     let right = verified (excess c.rehash_limits-limits.result c.in-Rehash.hash.whole)
     (right_of (verdict c.args.input.now c.in-Rehash.hash.whole)) _ c.in_ok-right-in-Rehash.ensures in
     let fits = ap (λ limits. excess limits c.in-Rehash.hash.whole) (sym c.rehash_limits-limits.ensures) ∙ right.0 in
-    record { outcome = rw (c.in-Rehash.is, fits) (due_answers (verdict c.args.input.now c.in-Rehash.hash.whole)
-        (weaker c.in-Rehash.params c.in-Rehash.hash.whole) _ _ (cc right.1) (cc) (made_answers _ _ _ made line.status line.line line.err)) }
+    record {
+      outcome = rw (c.in-Rehash.is, fits) (due_answers (verdict c.args.input.now c.in-Rehash.hash.whole)
+          (weaker c.in-Rehash.params c.in-Rehash.hash.whole) _ _ (cc right.1) (cc) (made_answers _ _ _ made line.status line.line line.err));
+    }
 
 pub returns-else-right : goal.returns-else-right
 returns-else-right c =
