@@ -1,13 +1,19 @@
 -- Only functions that scrypt does not export cite this: a block in diagonal order as four vectors of four
 -- lanes.
-use Rattle.std.specs.Prelude.{ℕ, List, ◌++◌, map, take, drop, slice_index}
+use Rattle.std.specs.Prelude.{ℕ, List, ◌++◌, map, take, drop, slice_index, bit_xor}
+use Rattle.std.specs.Int.{w32, rotate_left}
 use Rattle.std.specs.List.{range_with_len}
+use Rattle.std.specs.Simd.Lanes.{zip2}
 use Rattle.scrypt_kernel.specs.Words.{part}
 use Rattle.scrypt_kernel.specs.Salsa.{quarter_round}
 
 -- a block as the lanes of four vectors
 abbrev pub lanes_of : List ℕ → List ℕ × List ℕ × List ℕ × List ℕ
 lanes_of x = (part 4 x 0, part 4 x 1, part 4 x 2, part 4 x 3)
+
+-- the words of x, and those of y rotated to the left by k bits, joined by exclusive or
+abbrev pub xor_rotated : ℕ → List ℕ → List ℕ → List ℕ
+xor_rotated k x y = zip2 (λ a b. bit_xor a (rotate_left w32 b k)) x y
 
 -- the quarter rounds of four columns, whose words are the lanes of the vectors a, b, c and d
 abbrev pub quarter_rounds : List ℕ → List ℕ → List ℕ → List ℕ → List ℕ × List ℕ × List ℕ × List ℕ

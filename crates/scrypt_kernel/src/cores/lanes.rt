@@ -1,16 +1,13 @@
 //! The Salsa20/8 core (RFC 7914, section 3) on words in diagonal order, four lanes at a time.
 
-ghost use Rattle.std.specs.Prelude.{◌≡◌, ◌+◌, ◌*◌, ◌<◌, ◌++◌, bit_xor};
-ghost use Rattle.std.specs.Int.{w32, rotate_left};
-ghost use Rattle.std.specs.Simd.Lanes.{zip2};
-ghost use Rattle.scrypt_kernel.specs.Words.{add32};
+ghost use Rattle.std.specs.Prelude.{◌≡◌, ◌+◌, ◌*◌, ◌<◌, ◌++◌};
 ghost use Rattle.scrypt_kernel.specs.Salsa.{double_round, salsa20_8};
 ghost use Rattle.scrypt_kernel.specs.Diagonal.{diagonal_order, standard_order};
-ghost use Rattle.scrypt_kernel.specs.Lanes.{lanes_of, quarter_rounds, turned};
+ghost use Rattle.scrypt_kernel.specs.Lanes.{lanes_of, quarter_rounds, turned, xor_rotated};
 
 use crate::cores::CoreCount;
 use crate::words::{lanes, put_lanes};
-use std::simd::u32x4;
+use std::simd::{Simd, u32x4};
 
 /// Replaces the 16 words, which are in diagonal order, by their Salsa20/8 core in diagonal order, and
 /// counts it as a SIMD core (RFC 7914, section 3).
@@ -34,10 +31,18 @@ fn salsa20_8(x: &mut [u32; 16])
     let twice = double_round(once.0, once.1, once.2, once.3);
     let thrice = double_round(twice.0, twice.1, twice.2, twice.3);
     let all = double_round(thrice.0, thrice.1, thrice.2, thrice.3);
-    put_lanes(x, 0, a + all.0);
-    put_lanes(x, 1, b + all.1);
-    put_lanes(x, 2, c + all.2);
-    put_lanes(x, 3, d + all.3);
+    put_all(x, a + all.0, b + all.1, c + all.2, d + all.3);
+}
+
+// Writes the lanes of four vectors, one vector after another.
+#[inline(always)]
+pub(super) fn put_all(x: &mut [u32; 16], a: u32x4, b: u32x4, c: u32x4, d: u32x4)
+    ensures { lanes_of x.new ≡ (a, b, c, d) }
+{
+    put_lanes(x, 0, a);
+    put_lanes(x, 1, b);
+    put_lanes(x, 2, c);
+    put_lanes(x, 3, d);
 }
 
 // A double round is two turns: the first is the columns, and the second the rows.
@@ -81,11 +86,11 @@ fn quarter_round(a: u32x4, b: u32x4, c: u32x4, d: u32x4) -> (u32x4, u32x4, u32x4
 // or of the parts first. The part that is used last is computed first, so that the other one, for
 // which the next step waits, needs no copy.
 #[inline(always)]
-fn xor_rotated(x: u32x4, y: u32x4, k: u32) -> u32x4
+pub(super) fn xor_rotated<const N: usize>(x: Simd<u32, N>, y: Simd<u32, N>, k: u32) -> Simd<u32, N>
     requires { (0 < k) × (k < 32) }
-    ensures { result ≡ zip2 (λ a b. bit_xor a (rotate_left w32 b k)) x y }
+    ensures { result ≡ xor_rotated k x.entry y.entry }
 {
-    let right = y >> u32x4::splat(32 - k);
-    let left = y << u32x4::splat(k);
+    let right = y >> Simd::<u32, N>::splat(32 - k);
+    let left = y << Simd::<u32, N>::splat(k);
     x ^ left ^ right
 }

@@ -1,9 +1,7 @@
 //! The Salsa20/8 core (RFC 7914, section 3) of two blocks at once. Both are in diagonal order, and
 //! each vector has four lanes of the one block and then four of the other.
 
-ghost use Rattle.std.specs.Prelude.{◌≡◌, ◌≢◌, ℕ, ◌+◌, ◌<◌, ◌++◌, take, drop, bit_xor};
-ghost use Rattle.std.specs.Int.{w32, rotate_left};
-ghost use Rattle.std.specs.Simd.Lanes.{zip2};
+ghost use Rattle.std.specs.Prelude.{◌≡◌, ◌+◌, ◌<◌, ◌++◌, take, drop};
 ghost use Rattle.scrypt_kernel.specs.Words.{part};
 ghost use Rattle.scrypt_kernel.specs.Salsa.{double_round, salsa20_8};
 ghost use Rattle.scrypt_kernel.specs.Diagonal.{diagonal_order, standard_order};
@@ -11,8 +9,9 @@ ghost use Rattle.scrypt_kernel.specs.Lanes.{lanes_of, quarter_rounds, turned};
 ghost use Rattle.scrypt_kernel.specs.Pair.{first, second};
 
 use crate::cores::CoreCount;
-use crate::words::{lanes, put_lanes};
-use std::simd::u32x8;
+use crate::cores::lanes::{put_all, xor_rotated};
+use crate::words::lanes;
+use std::simd::{u32x4, u32x8};
 
 #[inline(always)]
 fn quarter_round(a: u32x8, b: u32x8, c: u32x8, d: u32x8) -> (u32x8, u32x8, u32x8, u32x8)
@@ -24,16 +23,6 @@ fn quarter_round(a: u32x8, b: u32x8, c: u32x8, d: u32x8) -> (u32x8, u32x8, u32x8
     let d = xor_rotated(d, c + b, 13);
     let a = xor_rotated(a, d + c, 18);
     (a, b, c, d)
-}
-
-#[inline(always)]
-fn xor_rotated(x: u32x8, y: u32x8, k: u32) -> u32x8
-    requires { (0 < k) × (k < 32) }
-    ensures { result ≡ zip2 (λ a b. bit_xor a (rotate_left w32 b k)) x y }
-{
-    let right = y >> u32x8::splat(32 - k);
-    let left = y << u32x8::splat(k);
-    x ^ left ^ right
 }
 
 // Four quarter rounds of each block at once, and then the turns of its lanes, as for one block.
@@ -87,10 +76,9 @@ fn salsa20_8(x: &mut [u32; 16], y: &mut [u32; 16])
     let twice = double_round(once.0, once.1, once.2, once.3);
     let thrice = double_round(twice.0, twice.1, twice.2, twice.3);
     let all = double_round(thrice.0, thrice.1, thrice.2, thrice.3);
-    put_both(x, y, 0, a + all.0);
-    put_both(x, y, 1, b + all.1);
-    put_both(x, y, 2, c + all.2);
-    put_both(x, y, 3, d + all.3);
+    let (a, b, c, d) = (a + all.0, b + all.1, c + all.2, d + all.3);
+    put_all(x, one(a), one(b), one(c), one(d));
+    put_all(y, other(a), other(b), other(c), other(d));
 }
 
 // Part `k` of both blocks, which are cut into parts of four words, in one vector.
@@ -103,15 +91,18 @@ fn both(x: &[u32; 16], y: &[u32; 16], k: usize) -> u32x8
     lanes(x, k).shuffle(lanes(y, k), [0, 1, 2, 3, 4, 5, 6, 7])
 }
 
-// Writes four lanes each as part `k` of the blocks.
+// The lanes of the one block.
 #[inline(always)]
-fn put_both(x: &mut [u32; 16], y: &mut [u32; 16], k: usize, from: u32x8)
-    requires { k < 4 }
-    ensures one { part 4 x.new k ≡ take 4 from }
-    ensures other { part 4 y.new k ≡ drop 4 from }
-    ensures rest_of_one { (j : ℕ) → j ≢ k → part 4 x.new j ≡ part 4 x.old j }
-    ensures rest_of_other { (j : ℕ) → j ≢ k → part 4 y.new j ≡ part 4 y.old j }
+fn one(v: u32x8) -> u32x4
+    ensures { result ≡ take 4 v }
 {
-    put_lanes(x, k, from.extract::<0, 4>());
-    put_lanes(y, k, from.extract::<4, 4>());
+    v.extract::<0, 4>()
+}
+
+// And those of the other.
+#[inline(always)]
+fn other(v: u32x8) -> u32x4
+    ensures { result ≡ drop 4 v }
+{
+    v.extract::<4, 4>()
 }

@@ -1,5 +1,13 @@
-use Rattle.scrypt_kernel.proofs.LaneFacts.{xor_rotated}
+use Rattle.std.proofs.Common.{arith}
+use Rattle.std.proofs.lemmas.Simd.{shifts_fit_splat}
+use Rattle.scrypt_kernel.proofs.LaneFacts.{xor_rotated_by_parts}
 use Rattle.scrypt_kernel.proofs.cores.lanes.xor_rotated.Goals as goal
 
+pub overflow_shr-right : goal.overflow_shr-right
+overflow_shr-right g c = shifts_fit_splat 32 c.args.y g.row.N _ (omega arith)
+
+pub overflow_shl-left : goal.overflow_shl-left
+overflow_shl-left g c = shifts_fit_splat 32 c.args.y g.row.N _ (omega arith)
+
 pub returns : goal.returns
-returns c = xor_rotated c.args.k c.requires.0 c.requires.1 4 c.args.x c.args.y c.fits-x.0 c.fits-y.0 c.fits-y.1
+returns g c = xor_rotated_by_parts c.args.k c.requires.0 c.requires.1 g.row.N c.args.x c.args.y c.fits-x.0 c.fits-y.0 c.fits-y.1
