@@ -5,7 +5,7 @@ Each file crates/NAME/must-not-compile/*.edit has to be refused as a use of some
 `prove!` is false: clauses use the name of a constant, and so hold whatever its number is.
 
 Three more things would let a count of cores say what was not run, and all are refused: a proof by hand other than the
-three of the counter itself; a new count anywhere but where a key's derivation begins, or in a test; and an impl for the
+two of the counter itself; a new count anywhere but where a key's derivation begins, or in a test; and an impl for the
 counter that makes another count. The counter has one name: another one for it is refused too, since a new count could
 hide behind it.
 
@@ -22,7 +22,7 @@ import sys
 import edits
 
 COUNTER = "crates/scrypt_kernel/proofs/cores/CoreCount/"
-BY_HAND = [COUNTER + it + "/Proof.antt" for it in ["after_core", "after_lanes_core", "new"]]
+BY_HAND = [COUNTER + it + "/Proof.antt" for it in ["after_core", "new"]]
 NEW_COUNTS = {
     "crates/promises/src/lengths.rt": 2,
     "crates/scrypt/src/derivation.rt": 1,

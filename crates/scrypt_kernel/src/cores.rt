@@ -1,10 +1,10 @@
 //! The Salsa20/8 cores, and the count of how many were run. Nothing outside this module and those
 //! below it raises a count.
 
-ghost use Rattle.std.specs.Prelude.{◌≡◌, ℕ, ◌+◌};
+ghost use Rattle.std.specs.Prelude.{◌≡◌, ℕ, ◌+◌, Bool, if◌then◌else◌};
 ghost use Rattle.std.specs.Borrow.{ftrue};
 ghost use Rattle.scrypt_kernel.specs.Salsa.{salsa20_8};
-ghost use Rattle.scrypt_kernel.specs.Diagonal.{diagonal_order, standard_order};
+ghost use Rattle.scrypt_kernel.specs.Diagonal.{diagonal_core};
 
 pub mod lanes;
 pub mod pair;
@@ -35,18 +35,13 @@ impl CoreCount {
         CoreCount { seal: () }
     }
 
-    // The count after one more core, whose input and output are the evidence that it was run.
+    // The count after one more core, whose input and output are the evidence that it was run. Those of
+    // a SIMD core are in diagonal order.
     fn after_core(_before: &CoreCount, _from: &[u32; 16], _to: &[u32; 16]) -> CoreCount
-        requires { _to.now ≡ salsa20_8 _from.now }
-        ensures { (result.all ≡ _before.now.all + 1) × (result.lanes ≡ _before.now.lanes) }
-    {
-        CoreCount { seal: () }
-    }
-
-    // The count after one more SIMD core, whose input and output are in diagonal order.
-    fn after_lanes_core(_before: &CoreCount, _from: &[u32; 16], _to: &[u32; 16]) -> CoreCount
-        requires { _to.now ≡ diagonal_order (salsa20_8 (standard_order _from.now)) }
-        ensures { (result.all ≡ _before.now.all + 1) × (result.lanes ≡ _before.now.lanes + 1) }
+        ghost simd: { Bool }
+        requires { _to.now ≡ (if simd then diagonal_core _from.now else salsa20_8 _from.now) }
+        ensures { (result.all ≡ _before.now.all + 1)
+            × (result.lanes ≡ _before.now.lanes + (if simd then 1 else 0)) }
     {
         CoreCount { seal: () }
     }

@@ -19,7 +19,7 @@ pub fn core(x: &mut [u32; 16], cores: &mut CoreCount)
 {
     let from = *x;
     salsa20_8(x);
-    *cores = CoreCount::after_lanes_core(cores, &from, x);
+    *cores = CoreCount::after_core(cores, &from, x);
 }
 
 #[inline(always)]

@@ -62,8 +62,8 @@ pub(crate) fn core_pair(x: &mut [u32; 16], y: &mut [u32; 16], cores: &mut CoreCo
 {
     let (from, other) = (*x, *y);
     salsa20_8(x, y);
-    *cores = CoreCount::after_lanes_core(cores, &from, x);
-    *cores = CoreCount::after_lanes_core(cores, &other, y);
+    *cores = CoreCount::after_core(cores, &from, x);
+    *cores = CoreCount::after_core(cores, &other, y);
 }
 
 #[inline(always)]

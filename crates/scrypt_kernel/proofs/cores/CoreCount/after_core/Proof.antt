@@ -32,7 +32,8 @@ use Rattle.scrypt_kernel.specs.contracts.cores.CoreCount.after_core as f
 use Rattle.scrypt_kernel.proofs.cores.CoreCount.after_core.Statement as stated
 use Rattle.scrypt_kernel.proofs.cores.CoreCount.after_core.Code as code
 use Rattle.scrypt_kernel.specs.contracts.cores.CoreCount as made
-use Rattle.std.proofs.Common.{◌+◌}
+use Rattle.std.proofs.Common.{◌+◌, Bool}
+use Rattle.std.specs.Bool.{if◌then◌else◌}
 use Rattle.scrypt_kernel.specs.declared.cores.CoreCount.{CoreCount}
 
 abbrev words : Slot 3
@@ -47,7 +48,7 @@ stayed = (
 module _ {M : Type 1} {𝓤 : Ura M} (𝓛 : Logic 𝓤) (mem : Memory → SProp 𝓤) (run : Routine → Fun 𝓤) (C : Calls 𝓤 𝓛.H) (Λ : Loops 𝓤 𝓛.H) where
   open 𝓛 use {H}
 
-  module _ (κs : Lfts 3) (qs : Shares 3) (a : Args f.signature κs) where
+  module _ (κs : Lfts 3) (qs : Shares 3) (a : Args f.signature κs) (simd : Bool) where
     abbrev before : Val
     before = vptr a.0.ref_ptr.0 a.0.ref_ptr.1
 
@@ -58,10 +59,10 @@ module _ {M : Type 1} {𝓤 : Ura M} (𝓛 : Logic 𝓤) (mem : Memory → SProp
     to = vptr a.1.1.0.ref_ptr.0 a.1.1.0.ref_ptr.1
 
     abbrev counted : CoreCount
-    counted = record { seal = tt; all = a.0.now.all + 1; lanes = a.0.now.lanes }
+    counted = record { seal = tt; all = a.0.now.all + 1; lanes = a.0.now.lanes + (if simd then 1 else 0) }
 
     abbrev bound : (walk_of 𝓛 f.ended stayed (f.clauses 𝓛 mem run)).Ghost
-    bound = ((κs, qs, tt, a, (before ∷ [], (from ∷ [], (to ∷ [], tt)))), tt)
+    bound = ((κs, qs, tt, a, (before ∷ [], (from ∷ [], (to ∷ [], tt)))), simd)
 
     abbrev passed : Fml
     passed = owns (types_at f.signature.params κs) a (before ∷ [], (from ∷ [], (to ∷ [], tt)))
@@ -91,7 +92,7 @@ module _ {M : Type 1} {𝓤 : Ura M} (𝓛 : Logic 𝓤) (mem : Memory → SProp
           (shr_Tells (named 2) κs.1.1.0 (words.row κs), tt),
         ),
       ))
-      (λ κs qs bounds a g are. via 𝓤 _ (fst∗ 𝓤 _ ((f.clauses 𝓛 mem run κs a).requires g)) (walk κs qs a))
+      (λ κs qs bounds a g are. via 𝓤 _ (fst∗ 𝓤 _ ((f.clauses 𝓛 mem run κs a).requires g)) (walk κs qs a g))
 
 meets : {M : Type 1} {𝓤 : Ura M} (𝓛 : Logic 𝓤) (mem : Memory → SProp 𝓤) (run : Routine → Fun 𝓤) (𝓣 : Tables 𝓤 𝓛.H)
     → Meets 𝓛 f.signature (WpFn 𝓤 𝓛.H 𝓣.C 𝓣.Λ code.function) (f.spec 𝓛 mem run)

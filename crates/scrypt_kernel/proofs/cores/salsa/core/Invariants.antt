@@ -1,0 +1,5 @@
+use Rattle.std.proofs.Common.{false}
+use Rattle.scrypt_kernel.proofs.cores.salsa.core.Given as goal
+
+abbrev pub ghost-after_core : goal.ghost-after_core
+ghost-after_core a = false
