@@ -127,14 +127,6 @@ module _ (p q : List ℕ) (inverse : AreInverse p q) where
             ∙ row_after_in b last (i * t) t (omega arith) (held.each i (omega arith)) ∙ ap (λ n. permuted p (row b n)) there);
       }
 
-  -- the row after the last row m of a table that keeps every row
-  pub row_after_last : (b v x : List ℕ) (s m n : ℕ) → s % 32 ≡ 0 → HoldsRows p b s 1 (m + 1) v → x ≡ part s v m → m + 1 ≡ n
-      → permuted p (block_mix (permuted q x)) ≡ permuted p (row b n)
-  row_after_last b v x s m n whole held is all =
-      let long : length x ≡ s = ap length is ∙ length-part s m v (omega (arith, held.len)) in
-      let there : m * 1 + 1 ≡ n = omega arith in
-      next_row_in b x (m * 1) (omega arith) (is ∙ held.each m (omega arith)) ∙ ap (λ i. permuted p (row b i)) there
-
   -- the step after one, which takes in row j
   pub next_step_in : (b : List ℕ) (log_n k : ℕ) (x u : List ℕ) (j : ℕ) → length x % 16 ≡ 0 → length u ≡ length x
       → x ≡ permuted p (walk b log_n k) → j ≡ integerify (permuted q x) % 2 ^ log_n → u ≡ permuted p (row b j)

@@ -1,18 +1,51 @@
 -- Facts on the walk over a table that keeps some rows, or all of them.
 use Rattle.std.proofs.Common.{◌≡◌, ℕ, zero, suc, ◌<◌, ◌≤◌, ◌+◌, ◌-◌, ◌*◌, ◌/◌, ◌%◌, ◌^◌, List, length, refl, sym, ap}
 use Rattle.std.proofs.Common.{ap₂, subst, ◌∙◌, arith, add-one}
-use Rattle.std.proofs.lemmas.Nat.{pow_pos, shr_below}
-use Rattle.std.proofs.Math.Nat.{div-mul-le_self, mul-le-mul_right}
+use Rattle.std.proofs.lemmas.Nat.{one_shl, pow-add, pow_pos, shr_below}
+use Rattle.std.proofs.Math.Nat.{div-mul-le_self, lt_of_mul-lt-mul_left, mul-le-mul_right}
 use Rattle.scrypt_kernel.specs.Words.{part, xor_words}
 use Rattle.scrypt_kernel.specs.BlockMix.{block_mix}
-use Rattle.scrypt_kernel.specs.RoMix.{integerify, row, walk}
+use Rattle.scrypt_kernel.specs.RoMix.{integerify, ro_mix, row, walk}
 use Rattle.scrypt_kernel.specs.RoMixCost.{ro_mix_cost}
 use Rattle.scrypt_kernel.specs.Table.{extra_rows, recomputed_rows, thin_ro_mix_cost}
-use Rattle.scrypt_kernel.specs.KeptRows.{AfterSteps, KeepsRows, StartsWalk}
+use Rattle.scrypt_kernel.specs.KeptRows.{AfterSteps, AreWalkLens, IsFilled, IsNext, IsWalked, KeepsRows, StartsWalk}
 use Rattle.scrypt_kernel.specs.Diagonal.{AreInverse, permuted}
 use Rattle.scrypt_kernel.proofs.PartFacts.{length-part}
 use Rattle.scrypt_kernel.proofs.OrderFacts.{in_then_out, length-permuted}
-use Rattle.scrypt_kernel.proofs.RoMixFacts.{length-row, next_step_in, row_after_in}
+use Rattle.scrypt_kernel.proofs.RoMixFacts.{HoldsRows, length-row, next_step_in, row_after_in, row_zero_in}
+
+-- a table's number of kept rows, of which m is the last
+pub kept_rows : (log_n s m : ℕ) → log_n ≤ 56 → m ≡ 1 * 2 ^ (log_n - s) % 2 ^ 64 - 1 → m + 1 ≡ 2 ^ (log_n - s)
+kept_rows log_n s m small last =
+    let shifted = one_shl (log_n - s) 64 (omega arith) in
+    omega (arith, shifted, last, pow_pos (log_n - s))
+
+-- and of all rows
+pub all_rows : (log_n s m : ℕ) → s ≤ log_n → m + 1 ≡ 2 ^ (log_n - s) → (m + 1) * 2 ^ s ≡ 2 ^ log_n
+all_rows log_n s m fits rows =
+    let parts : log_n ≡ (log_n - s) + s = omega arith in
+    ap (λ n. n * 2 ^ s) rows ∙ sym (pow-add 2 (log_n - s) s) ∙ ap (λ n. 2 ^ n) (sym parts)
+
+-- the rows that are held are those of a filled table, and the row that is 2 ^ s rows after the last is the one after them
+pub filled : (p q : List ℕ) → AreInverse p q → (log_n s m size : ℕ) (x v last end : List ℕ) → log_n ≤ 56 → s ≤ log_n
+    → m ≡ 1 * 2 ^ (log_n - s) % 2 ^ 64 - 1 → length x ≡ size → size % 32 ≡ 0 → HoldsRows p (permuted q x) size (2 ^ s) (m + 1) v
+    → last ≡ part size v m → end ≡ permuted p (row (permuted q last) (2 ^ s)) → IsFilled p q log_n s x v end
+filled p q inverse log_n s m size x v last end small fits count same whole held last_is end_is =
+    let t : ℕ = 2 ^ s in
+    let kept = kept_rows log_n s m small count in
+    let all = all_rows log_n s m fits kept in
+    let there : m * t + t ≡ 2 ^ log_n = omega (arith, all) in
+    let source : last ≡ permuted p (row (permuted q x) (m * t)) = last_is ∙ held.each m (omega arith) in
+    let long : length last ≡ size = ap length last_is ∙ length-part size m v (omega (arith, held.len)) in
+    record {
+      len = held.len ∙ ap₂ (λ n i. n * i) kept (sym same);
+      rows = record {
+        each = λ k h. let below : t * k < t * (m + 1) = omega (arith, all, h) in
+            ap (λ n. part n v k) same ∙ held.each k (lt_of_mul-lt-mul_left t below);
+      };
+      after = end_is ∙ row_after_in p q inverse (permuted q x) last (m * t) t (omega arith) source
+          ∙ ap (λ n. permuted p (row (permuted q x) n)) there;
+    }
 
 -- the kept row below row j
 pub kept_inside : (s log_n j size len : ℕ) → s ≤ log_n → j < 2 ^ log_n → len ≡ 2 ^ (log_n - s) * size
@@ -65,29 +98,46 @@ pub some_missing : (s j : ℕ) → (j % (1 * 2 ^ s % 2 ^ 64) ≡ 0 → ⊥) → 
 some_missing zero j missing = absurd (missing (omega arith))
 some_missing (suc s) j missing = omega arith
 
--- the step after one, which takes in row j of a table
-pub step_with_row : (p q : List ℕ) → AreInverse p q → (b : List ℕ) (log_n s k : ℕ) (kept x u : List ℕ) (j : ℕ)
-    → 0 < length x → length x % 32 ≡ 0 → length kept ≡ 2 ^ (log_n - s) * length x → KeepsRows p b s (length x) (2 ^ log_n) kept
-    → x ≡ permuted p (walk b log_n k) → j ≡ integerify (permuted q x) % 2 ^ log_n → u ≡ permuted p (row b j)
-    → permuted p (block_mix (permuted q (xor_words x u))) ≡ permuted p (walk b log_n (k + 1))
-step_with_row p q inverse b log_n s k kept x u j some whole rows keeps is names taken =
-    let input : length b ≡ length x = input_long p b log_n s _ kept keeps rows in
-    let long : length u ≡ length x =
-    ap length taken ∙ length-permuted p (row b j) ∙ length-row b (omega arith) (omega arith) j ∙ input in
-    next_step_in p q inverse b log_n k x u j (omega arith) long is names taken
+-- the step after one, which takes in row j: the kept row below it is low, and u is mixed from that
+module _ (p q : List ℕ) (inverse : AreInverse p q) {log_n s y spare : ℕ} (kept x low : List ℕ) (j : ℕ)
+    (lens : AreWalkLens log_n s (length x) y spare (length kept)) (names : j ≡ integerify (permuted q x) % 2 ^ log_n)
+    (inside : j < 2 ^ log_n) where
+  pub next_step : (u : List ℕ) → low ≡ part (length x) kept (j / 2 ^ s) → u ≡ permuted p (row (permuted q low) (j % 2 ^ s))
+      → IsNext p log_n s kept x (permuted p (block_mix (permuted q (xor_words x u))))
+  next_step u below mixed b k keeps is =
+      let fits = kept_inside s log_n j (length x) (length kept) lens.spacing inside lens.rows in
+      let taken : u ≡ permuted p (row b j) =
+      mixed ∙ row_from_kept p q inverse b low kept s (length x) (2 ^ log_n) j (omega (arith, lens.whole)) keeps inside fits below in
+      let input : length b ≡ length x = input_long p b log_n s _ kept keeps lens.rows in
+      let long : length u ≡ length x = ap length taken ∙ length-permuted p (row b j)
+      ∙ length-row b (omega (arith, lens.some)) (omega (arith, lens.whole)) j ∙ input in
+      next_step_in p q inverse b log_n k x u j (omega (arith, lens.whole)) long is names taken
 
--- the same, with a table that keeps every row
-pub step_with_kept_row : (p q : List ℕ) → AreInverse p q → (b : List ℕ) (log_n k size : ℕ) (v x u : List ℕ) (j : ℕ)
-    → length x ≡ size → size % 16 ≡ 0 → length v ≡ 2 ^ log_n * size → KeepsRows p b 0 size (2 ^ log_n) v
-    → x ≡ permuted p (walk b log_n k) → j ≡ integerify (permuted q x) % 2 ^ log_n → j < 2 ^ log_n → u ≡ part size v j
-    → permuted p (block_mix (permuted q (xor_words x u))) ≡ permuted p (walk b log_n (k + 1))
-step_with_kept_row p q inverse b log_n k size v x u j long whole rows keeps is names inside taken =
-    let last : suc j ≤ 2 ^ log_n = omega arith in
-    let room : j * size + size ≤ length v = omega (arith, mul-le-mul_right size last) in
-    let same : length u ≡ length x = ap length taken ∙ length-part size j v room ∙ sym long in
-    let there : j * 1 ≡ j = omega arith in
-    next_step_in p q inverse b log_n k x u j (omega arith) same is names
-    (taken ∙ keeps.each j (omega arith) ∙ ap (λ i. permuted p (row b i)) there)
+  -- u is the kept row itself
+  pub next_step_kept : low ≡ part (length x) kept (j / 2 ^ s) → j % 2 ^ s ≡ 0
+      → IsNext p log_n s kept x (permuted p (block_mix (permuted q (xor_words x low))))
+  next_step_kept below none =
+      let fits = kept_inside s log_n j (length x) (length kept) lens.spacing inside lens.rows in
+      let long : length low ≡ length x = ap length below ∙ length-part (length x) (j / 2 ^ s) kept (omega (arith, fits)) in
+      next_step low below (row_zero_in p q inverse low (omega (arith, lens.whole)) ∙ ap (λ n. permuted p (row (permuted q low) n)) (sym none))
+
+-- two more steps
+pub two_steps : (p : List ℕ) (log_n s size k : ℕ) (kept start x y z : List ℕ) → IsNext p log_n s kept x y → IsNext p log_n s kept y z
+    → length start ≡ size → length x ≡ size → length y ≡ size
+    → IsWalked p log_n s kept start (2 * k) x → IsWalked p log_n s kept start (2 * (k + 1)) z
+two_steps p log_n s size k kept start x y z one two long long_x long_y before b starts =
+    let rows = λ (n : ℕ) (same : n ≡ size). subst (λ n. KeepsRows p b s n (2 ^ log_n) kept) (long ∙ sym same) starts.rows in
+    let next : 2 * k + 1 + 1 ≡ 2 * (k + 1) = omega arith in
+    rw (← next) (two b (2 * k + 1) (rows _ long_y) (one b (2 * k) (rows _ long_x) (before b starts)))
+
+-- the steps of all turns, two in each
+pub all_steps : (log_n k : ℕ) → 0 < log_n → log_n ≤ 56 → k ≡ 1 * 2 ^ (log_n - 1) % 2 ^ 64 → 2 * k ≡ 2 ^ log_n
+all_steps log_n k some small is =
+    let half : ℕ = log_n - 1 in
+    let shifted = one_shl half 64 (omega arith) in
+    let parts : log_n ≡ 1 + half = omega arith in
+    let double : 2 ^ log_n ≡ 2 ^ 1 * 2 ^ half = ap (λ n. 2 ^ n) parts ∙ pow-add 2 1 half in
+    omega (arith, is, shifted, double)
 
 -- before the first step
 pub no_step : (p b : List ℕ) (log_n s l all lanes : ℕ) (kept x : List ℕ) → StartsWalk p b log_n s kept x
@@ -112,8 +162,7 @@ module _ (p q : List ℕ) (inverse : AreInverse p q) (b : List ℕ) (log_n s siz
     (kept start x y : List ℕ) (all lanes all_next lanes_next : ℕ) where
   pub one_more_step : StartsWalk p b log_n s kept start → AfterSteps p b log_n s size l all_before lanes_before k x all lanes
       → length start ≡ size → length x ≡ size → size % 16 ≡ 0
-      → ((b : List ℕ) (k : ℕ) → KeepsRows p b s (length x) (2 ^ log_n) kept → x ≡ permuted p (walk b log_n k)
-      → y ≡ permuted p (walk b log_n (k + 1)))
+      → IsNext p log_n s kept x y
       → all_next ≡ all + (recomputed_rows s (integerify (permuted q x) % 2 ^ log_n) + 1) * (2 * (length x / 32))
       → lanes_next ≡ lanes + l * ((recomputed_rows s (integerify (permuted q x) % 2 ^ log_n) + 1) * (2 * (length x / 32)))
       → AfterSteps p b log_n s size l all_before lanes_before (k + 1) y all_next lanes_next
@@ -135,16 +184,26 @@ module _ (p q : List ℕ) (inverse : AreInverse p q) (b : List ℕ) (log_n s siz
             ∙ more_of_lanes lanes_before l k e d m ∙ ap (λ n. lanes_before + l * ((k + 1 + n) * m)) (sym (extra_rows-more b log_n s k));
       }
 
--- a table that was filled from x, which is the input b in the order p
-pub starts_filled : (p q b x last kept : List ℕ) (log_n s : ℕ) → permuted q x ≡ b → length last ≡ length x
-    → KeepsRows p (permuted q x) s (length x) (2 ^ log_n) kept → last ≡ permuted p (row (permuted q x) (2 ^ log_n))
-    → StartsWalk p b log_n s kept last
-starts_filled p q b x last kept log_n s input long rows last_is =
-    let P : List ℕ → Type 0 = λ z. KeepsRows p z s (length x) (2 ^ log_n) kept in
-    record {
-      rows = subst (λ n. KeepsRows p b s n (2 ^ log_n) kept) (sym long) (subst P input rows);
-      start = last_is ∙ ap (λ z. permuted p (row z (2 ^ log_n))) input;
-    }
+-- the words w of a chunk after all steps: put into the order p, a table filled from them, and the walk
+module _ (p q : List ℕ) (inverse : AreInverse p q) (w x kept last : List ℕ) (log_n s : ℕ) (whole : length w % 16 ≡ 0)
+    (is : x ≡ permuted p w) (fill : IsFilled p q log_n s x kept last) (same : length last ≡ length x) where
+  pub filled_starts : StartsWalk p w log_n s kept last
+  filled_starts =
+      let input : permuted q x ≡ w = ap (permuted q) is ∙ in_then_out p q inverse w whole in
+      let P : List ℕ → Type 0 = λ z. KeepsRows p z s (length x) (2 ^ log_n) kept in
+      record {
+        rows = subst (λ n. KeepsRows p w s n (2 ^ log_n) kept) (sym same) (subst P input fill.rows);
+        start = fill.after ∙ ap (λ z. permuted p (row z (2 ^ log_n))) input;
+      }
+
+  pub ro_mixed : (end : List ℕ) → IsWalked p log_n s kept last (2 ^ log_n) end → length end ≡ length x → permuted q end ≡ ro_mix w log_n
+  unfolding ro_mix
+  ro_mixed end walked end_long =
+      let z = walk w log_n (2 ^ log_n) in
+      let after = walked w filled_starts in
+      let long : length z ≡ length w =
+      sym (length-permuted p z) ∙ sym (ap length after) ∙ end_long ∙ ap length is ∙ length-permuted p w in
+      ap (permuted q) after ∙ in_then_out p q inverse z (ap (λ n. n % 16) long ∙ whole)
 
 -- the cores of the fill and of the walk
 pub filled_and_walked : (before filled after rows size words r e : ℕ) → size / 32 ≡ r → words ≡ size

@@ -4,7 +4,7 @@
 ghost use Rattle.std.specs.Prelude.{◌≡◌, ◌+◌, ◌-◌, ◌*◌, ◌/◌, ◌%◌, ◌^◌, ◌<◌, ◌≤◌, ◌++◌, length};
 ghost use Rattle.scrypt_kernel.specs.Words.{part};
 ghost use Rattle.scrypt_kernel.specs.RoMix.{row};
-ghost use Rattle.scrypt_kernel.specs.KeptRows.{KeepsRows};
+ghost use Rattle.scrypt_kernel.specs.KeptRows.{IsFilled};
 ghost use Rattle.scrypt_kernel.specs.Diagonal.{permuted};
 
 pub(crate) mod pair;
@@ -33,10 +33,7 @@ pub(crate) fn fill<O: Order, M: Memory>(
     requires spacing { s ≤ log_n }
     requires room { 2 ^ (log_n - s) * length x.old ≤ M.room rows.old }
     ensures room { M.room rows.old ≤ M.room rows.new }
-    ensures len { length (M.words rows.new) ≡ 2 ^ (log_n - s) * length x.old }
-    ensures rows { KeepsRows O.pivot (permuted O.inverse_pivot x.old) s (length x.old) (2 ^ log_n)
-        (M.words rows.new) }
-    ensures last { x.new ≡ permuted O.pivot (row (permuted O.inverse_pivot x.old) (2 ^ log_n)) }
+    ensures filled { IsFilled O.pivot O.inverse_pivot log_n s x.old (M.words rows.new) x.new }
     ensures all { cores.new.all ≡ cores.old.all + 2 ^ log_n * (2 * (length x.old / 32)) }
     ensures lanes { cores.new.lanes ≡ cores.old.lanes
         + O.lanes_of_core * (2 ^ log_n * (2 * (length x.old / 32))) }

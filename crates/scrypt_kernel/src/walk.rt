@@ -4,9 +4,9 @@ ghost use Rattle.std.specs.Prelude.{◌≡◌, ℕ, ◌+◌, ◌-◌, ◌*◌, �
 ghost use Rattle.scrypt_kernel.specs.Diagonal.{permuted};
 ghost use Rattle.scrypt_kernel.specs.Words.{xor_words};
 ghost use Rattle.scrypt_kernel.specs.BlockMix.{block_mix};
-ghost use Rattle.scrypt_kernel.specs.RoMix.{integerify, row, walk};
+ghost use Rattle.scrypt_kernel.specs.RoMix.{integerify, row};
 ghost use Rattle.scrypt_kernel.specs.Table.{recomputed_rows};
-ghost use Rattle.scrypt_kernel.specs.KeptRows.{AfterSteps, KeepsRows, StartsWalk};
+ghost use Rattle.scrypt_kernel.specs.KeptRows.{AfterSteps, AreWalkLens, IsNext, StartsWalk};
 
 pub(crate) mod pair;
 
@@ -31,13 +31,7 @@ pub(crate) fn take_steps<O: Order>(
     s: u8,
     cores: &mut CoreCount,
 )
-    requires some { 0 < length x.old }
-    requires whole { length x.old % 32 ≡ 0 }
-    requires small { log_n ≤ 56 }
-    requires scratch { length y.old ≡ length x.old }
-    requires spare { 0 < s → length x.old ≤ length spare.old }
-    requires spacing { s ≤ log_n }
-    requires rows { length v.now ≡ 2 ^ (log_n - s) * length x.old }
+    requires lens { AreWalkLens log_n s (length x.old) (length y.old) (length spare.old) (length v.now) }
     ensures walked { (b : List ℕ) → StartsWalk O.pivot b log_n s v.now x.old
         → AfterSteps O.pivot b log_n s (length x.old) O.lanes_of_core
         cores.old.all cores.old.lanes (2 ^ log_n) x.new cores.new.all cores.new.lanes }
@@ -64,15 +58,8 @@ fn step<O: Order>(
     s: u8,
     cores: &mut CoreCount,
 )
-    requires some { 0 < length x.now }
-    requires whole { length x.now % 32 ≡ 0 }
-    requires small { log_n ≤ 56 }
-    requires scratch { length y.old ≡ length x.now }
-    requires spare { 0 < s → length x.now ≤ length spare.old }
-    requires spacing { s ≤ log_n }
-    requires rows { length v.now ≡ 2 ^ (log_n - s) * length x.now }
-    ensures value { (b : List ℕ) (k : ℕ) → KeepsRows O.pivot b s (length x.now) (2 ^ log_n) v.now
-        → x.now ≡ permuted O.pivot (walk b log_n k) → y.new ≡ permuted O.pivot (walk b log_n (k + 1)) }
+    requires lens { AreWalkLens log_n s (length x.now) (length y.old) (length spare.old) (length v.now) }
+    ensures value { IsNext O.pivot log_n s v.now x.now y.new }
     ensures all { let j = integerify (permuted O.inverse_pivot x.now) % 2 ^ log_n in
         cores.new.all ≡ cores.old.all + (recomputed_rows s j + 1) * (2 * (length x.now / 32)) }
     ensures lanes { let j = integerify (permuted O.inverse_pivot x.now) % 2 ^ log_n in

@@ -1,9 +1,8 @@
 //! Two whole tables of scryptROMix (RFC 7914, section 5, step 2), filled at once.
 
 ghost use Rattle.std.specs.Prelude.{◌≡◌, ◌+◌, ◌*◌, ◌/◌, ◌%◌, ◌^◌, ◌<◌, ◌≤◌, length};
-ghost use Rattle.scrypt_kernel.specs.RoMix.{row};
-ghost use Rattle.scrypt_kernel.specs.KeptRows.{KeepsRows};
-ghost use Rattle.scrypt_kernel.specs.Diagonal.{diagonal_order, pivot, standard_order};
+ghost use Rattle.scrypt_kernel.specs.KeptRows.{IsFilled};
+ghost use Rattle.scrypt_kernel.specs.Diagonal.{inverse_pivot, pivot};
 ghost use Rattle.scrypt_kernel.specs.Memory.{buffer_room, buffer_words};
 
 use crate::CoreCount;
@@ -29,15 +28,9 @@ pub(crate) fn fill_pair(
     requires small { log_n ≤ 56 }
     requires room { 2 ^ log_n * length x.old ≤ buffer_room rows.old }
     requires other_room { 2 ^ log_n * length x.old ≤ buffer_room other_rows.old }
-    ensures len { length (buffer_words rows.new) ≡ 2 ^ log_n * length x.old }
-    ensures other_len { length (buffer_words other_rows.new) ≡ 2 ^ log_n * length x.old }
-    ensures rows { KeepsRows pivot (standard_order x.old) 0 (length x.old) (2 ^ log_n)
-        (buffer_words rows.new) }
-    ensures other_rows { KeepsRows pivot (standard_order other_x.old) 0 (length x.old) (2 ^ log_n)
-        (buffer_words other_rows.new) }
-    ensures last { x.new ≡ diagonal_order (row (standard_order x.old) (2 ^ log_n)) }
-    ensures other_last { other_x.new
-        ≡ diagonal_order (row (standard_order other_x.old) (2 ^ log_n)) }
+    ensures filled { IsFilled pivot inverse_pivot log_n 0 x.old (buffer_words rows.new) x.new }
+    ensures other_filled { IsFilled pivot inverse_pivot log_n 0 other_x.old (buffer_words other_rows.new)
+        other_x.new }
     ensures all { cores.new.all ≡ cores.old.all + 2 * (2 ^ log_n * (2 * (length x.old / 32))) }
     ensures lanes { cores.new.lanes
         ≡ cores.old.lanes + 2 * (2 ^ log_n * (2 * (length x.old / 32))) }

@@ -1,9 +1,8 @@
 //! Two walks of scryptROMix (RFC 7914, section 5, step 3) at once, over whole tables.
 
-ghost use Rattle.std.specs.Prelude.{◌≡◌, ℕ, ◌+◌, ◌*◌, ◌/◌, ◌%◌, ◌^◌, ◌<◌, ◌≤◌, List, length};
-ghost use Rattle.scrypt_kernel.specs.Diagonal.{diagonal_order, pivot};
-ghost use Rattle.scrypt_kernel.specs.RoMix.{walk};
-ghost use Rattle.scrypt_kernel.specs.KeptRows.{KeepsRows, StartsWalk};
+ghost use Rattle.std.specs.Prelude.{◌≡◌, ◌+◌, ◌*◌, ◌/◌, ◌^◌, length};
+ghost use Rattle.scrypt_kernel.specs.Diagonal.{pivot};
+ghost use Rattle.scrypt_kernel.specs.KeptRows.{AreWalkLens, IsNext, IsWalked};
 
 use crate::CoreCount;
 use crate::block_mix::Xor;
@@ -27,18 +26,11 @@ pub(crate) fn take_steps_pair(
     log_n: u8,
     cores: &mut CoreCount,
 )
-    requires some { 0 < length x.old }
-    requires whole { length x.old % 32 ≡ 0 }
-    requires small { log_n ≤ 56 }
-    requires other_x { length other_x.old ≡ length x.old }
-    requires scratch { length y.old ≡ length x.old }
-    requires other_scratch { length other_y.old ≡ length x.old }
-    requires rows { length v.now ≡ 2 ^ log_n * length x.old }
-    requires other_rows { length other_v.now ≡ 2 ^ log_n * length x.old }
-    ensures walked { (b : List ℕ) → StartsWalk pivot b log_n 0 v.now x.old
-        → x.new ≡ diagonal_order (walk b log_n (2 ^ log_n)) }
-    ensures other_walked { (b : List ℕ) → StartsWalk pivot b log_n 0 other_v.now other_x.old
-        → other_x.new ≡ diagonal_order (walk b log_n (2 ^ log_n)) }
+    requires lens { AreWalkLens log_n 0 (length x.old) (length y.old) 0 (length v.now) }
+    requires other_lens { AreWalkLens log_n 0 (length other_x.old) (length other_y.old) 0 (length other_v.now) }
+    requires same { length other_x.old ≡ length x.old }
+    ensures walked { IsWalked pivot log_n 0 v.now x.old (2 ^ log_n) x.new }
+    ensures other_walked { IsWalked pivot log_n 0 other_v.now other_x.old (2 ^ log_n) other_x.new }
     ensures all { cores.new.all ≡ cores.old.all + 2 * (2 ^ log_n * (2 * (length x.old / 32))) }
     ensures lanes { cores.new.lanes
         ≡ cores.old.lanes + 2 * (2 ^ log_n * (2 * (length x.old / 32))) }
@@ -67,20 +59,11 @@ fn step(
     log_n: u8,
     cores: &mut CoreCount,
 )
-    requires some { 0 < length x.now }
-    requires whole { length x.now % 32 ≡ 0 }
-    requires small { log_n ≤ 56 }
-    requires other_x { length other_x.now ≡ length x.now }
-    requires scratch { length y.old ≡ length x.now }
-    requires other_scratch { length other_y.old ≡ length x.now }
-    requires rows { length v.now ≡ 2 ^ log_n * length x.now }
-    requires other_rows { length other_v.now ≡ 2 ^ log_n * length x.now }
-    ensures value { (b : List ℕ) (k : ℕ) → KeepsRows pivot b 0 (length x.now) (2 ^ log_n) v.now
-        → x.now ≡ diagonal_order (walk b log_n k) → y.new ≡ diagonal_order (walk b log_n (k + 1)) }
-    ensures other_value { (b : List ℕ) (k : ℕ)
-        → KeepsRows pivot b 0 (length x.now) (2 ^ log_n) other_v.now
-        → other_x.now ≡ diagonal_order (walk b log_n k)
-        → other_y.new ≡ diagonal_order (walk b log_n (k + 1)) }
+    requires lens { AreWalkLens log_n 0 (length x.now) (length y.old) 0 (length v.now) }
+    requires other_lens { AreWalkLens log_n 0 (length other_x.now) (length other_y.old) 0 (length other_v.now) }
+    requires same { length other_x.now ≡ length x.now }
+    ensures value { IsNext pivot log_n 0 v.now x.now y.new }
+    ensures other_value { IsNext pivot log_n 0 other_v.now other_x.now other_y.new }
     ensures all { cores.new.all ≡ cores.old.all + 2 * (2 * (length x.now / 32)) }
     ensures lanes { cores.new.lanes ≡ cores.old.lanes + 2 * (2 * (length x.now / 32)) }
 {

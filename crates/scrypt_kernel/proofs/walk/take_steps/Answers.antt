@@ -1,6 +1,5 @@
-use Rattle.std.proofs.Common.{◌≡◌, ◌*◌, ◌+◌, ◌-◌, ◌^◌, length, refl, ap, ◌∙◌, arith, ℕ}
-use Rattle.std.proofs.lemmas.Nat.{one_shl, pow-add}
-use Rattle.scrypt_kernel.proofs.WalkFacts.{no_step, one_more_step}
+use Rattle.std.proofs.Common.{◌≡◌, ◌*◌, ◌+◌, ◌^◌, length, refl, ◌∙◌, arith}
+use Rattle.scrypt_kernel.proofs.WalkFacts.{all_steps, no_step, one_more_step}
 use Rattle.scrypt_kernel.proofs.walk.take_steps.Goals as goal
 
 pub pairs-init : goal.pairs-init
@@ -32,10 +31,6 @@ returns-then-log_n-eq0 g c = record {
 pub returns : goal.returns
 returns g c = record {
   walked = λ b starts.
-      let half : ℕ = c.args.log_n - 1 in
-      let shifted = one_shl half 64 (omega arith) in
-      let double : 2 ^ c.args.log_n ≡ 2 ^ 1 * 2 ^ half = let parts : c.args.log_n ≡ 1 + half = omega arith in
-      ap (λ n. 2 ^ n) parts ∙ pow-add 2 1 half in
-      let whole : 2 * c.pairs._k ≡ 2 ^ c.args.log_n = omega (arith, shifted, double) in
+      let whole = all_steps c.args.log_n c.pairs._k (omega arith) (omega arith) (omega arith) in
       rw (← whole) (c.pairs.invariant b starts);
 }

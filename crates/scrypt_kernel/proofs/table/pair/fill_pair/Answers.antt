@@ -1,17 +1,15 @@
-use Rattle.std.proofs.Common.{◌≡◌, ◌≤◌, ℕ, length, ◌*◌, ◌%◌, ◌+◌, ◌-◌, ◌^◌, ◌++◌, refl, sym, ap, ◌∙◌, arith}
-use Rattle.std.proofs.lemmas.Nat.{one_shl, pow_pos}
+use Rattle.std.proofs.Common.{◌≡◌, ℕ, length, ◌*◌, ◌%◌, ◌-◌, ◌^◌, ◌++◌, refl, sym, ap, ap₂, ◌∙◌, arith}
 use Rattle.scrypt_kernel.specs.Words.{part}
 use Rattle.scrypt_kernel.specs.Diagonal.{diagonal_order, inverse_pivot, pivot, standard_order}
 use Rattle.scrypt_kernel.specs.Memory.{buffer_words}
 use Rattle.scrypt_kernel.proofs.OrderFacts.{diagonal_inverse}
-use Rattle.scrypt_kernel.proofs.RoMixFacts.{first_row, more_rows, row_after_last, row_one}
+use Rattle.scrypt_kernel.proofs.RoMixFacts.{first_row, more_rows, row_one}
+use Rattle.scrypt_kernel.proofs.WalkFacts.{filled}
 use Rattle.scrypt_kernel.proofs.table.pair.fill_pair.Goals as goal
 
--- the number of rows
-all_rows : (log_n m : ℕ) → log_n ≤ 56 → m ≡ 1 * 2 ^ log_n % 2 ^ 64 - 1 → m + 1 ≡ 2 ^ log_n
-all_rows log_n m small last =
-    let shifted = one_shl log_n 64 (omega arith) in
-    omega (arith, shifted, last, pow_pos log_n)
+-- m is the last row
+last_row : (log_n m : ℕ) → 1 * 2 ^ log_n % 2 ^ 64 - 1 ≡ m → m ≡ 1 * 2 ^ (log_n - 0) % 2 ^ 64 - 1
+last_row log_n m is = let same : log_n ≡ log_n - 0 = omega arith in sym is ∙ ap (λ n. 1 * 2 ^ n % 2 ^ 64 - 1) same
 
 pub rows-init : goal.rows-init
 rows-init c =
@@ -46,28 +44,19 @@ rows-preserved c =
       lanes = c.append_mix_pair.ensures.lanes ∙ omega (arith, c.rows.invariant.lanes);
     }
 
-pub returns-clause-last : goal.returns-clause-last
-returns-clause-last c =
-    let size = length c.args.x.now in
-    let m = c.rows.m in
-    let k : ℕ = 1 * 2 ^ c.args.log_n % 2 ^ 64 - 1 in
-    let last : k ≡ m = omega arith in
-    c.mix_pair.ensures.value
-    ∙ row_after_last pivot inverse_pivot diagonal_inverse (standard_order c.args.x.now) (buffer_words c.rows.rows)
-    c.part.result.now size m (2 ^ c.args.log_n)
-    c.requires.whole c.rows.invariant.held
-    (c.part.ensures.value ∙ ap (λ z. part size z k) c.words.ensures.value ∙ ap (part size (buffer_words c.rows.rows)) last)
-    (all_rows c.args.log_n m c.requires.small (sym last))
+pub returns-clause-filled : goal.returns-clause-filled
+returns-clause-filled c =
+    let last : 1 * 2 ^ c.args.log_n % 2 ^ 64 - 1 ≡ c.rows.m = omega arith in
+    filled pivot inverse_pivot diagonal_inverse c.args.log_n 0 c.rows.m (length c.args.x.now) c.args.x.now (buffer_words c.rows.rows)
+    c.part.result.now _ c.requires.small (omega arith) (last_row _ _ last) refl c.requires.whole c.rows.invariant.held
+    (c.part.ensures.value ∙ ap₂ (λ v k. part (length c.args.x.now) v k) c.words.ensures.value last)
+    (c.mix_pair.ensures.value ∙ ap diagonal_order (row_one _))
 
-pub returns-clause-other_last : goal.returns-clause-other_last
-returns-clause-other_last c =
-    let size = length c.args.x.now in
-    let m = c.rows.m in
-    let k : ℕ = 1 * 2 ^ c.args.log_n % 2 ^ 64 - 1 in
-    let last : k ≡ m = omega arith in
-    c.mix_pair.ensures.other_value
-    ∙ row_after_last pivot inverse_pivot diagonal_inverse (standard_order c.args.other_x.now)
-    (buffer_words c.rows.other_rows) c.part-2.result.now size m (2 ^ c.args.log_n)
-    c.requires.whole c.rows.invariant.other_held
-    (c.part-2.ensures.value ∙ ap (λ z. part size z k) c.words-2.ensures.value ∙ ap (part size (buffer_words c.rows.other_rows)) last)
-    (all_rows c.args.log_n m c.requires.small (sym last))
+pub returns-clause-other_filled : goal.returns-clause-other_filled
+returns-clause-other_filled c =
+    let last : 1 * 2 ^ c.args.log_n % 2 ^ 64 - 1 ≡ c.rows.m = omega arith in
+    filled pivot inverse_pivot diagonal_inverse c.args.log_n 0 c.rows.m (length c.args.x.now) c.args.other_x.now
+    (buffer_words c.rows.other_rows) c.part-2.result.now _ c.requires.small (omega arith) (last_row _ _ last) c.requires.other_x c.requires.whole
+    c.rows.invariant.other_held
+    (c.part-2.ensures.value ∙ ap₂ (λ v k. part (length c.args.x.now) v k) c.words-2.ensures.value last)
+    (c.mix_pair.ensures.other_value ∙ ap diagonal_order (row_one _))

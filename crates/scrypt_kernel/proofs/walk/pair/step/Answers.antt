@@ -1,30 +1,42 @@
-use Rattle.std.proofs.Common.{length, bit_xor, refl, arith, ◌∙◌}
+use Rattle.std.proofs.Common.{◌≡◌, ◌<◌, ◌≤◌, ◌+◌, ◌-◌, ◌*◌, ◌/◌, ◌^◌, ℕ, List, refl, ap, ap₂, bit_xor, arith, ◌∙◌}
 use Rattle.std.proofs.lemmas.Simd.{length-zip2}
+use Rattle.scrypt_kernel.specs.Words.{part}
 use Rattle.scrypt_kernel.specs.Diagonal.{inverse_pivot, pivot}
 use Rattle.scrypt_kernel.proofs.OrderFacts.{diagonal_inverse}
-use Rattle.scrypt_kernel.proofs.WalkFacts.{step_with_kept_row}
+use Rattle.scrypt_kernel.proofs.WalkFacts.{kept_inside, next_step_kept}
 use Rattle.scrypt_kernel.proofs.walk.pair.step.Goals as goal
+
+row_inside : (log_n j size len : ℕ) → j < 2 ^ log_n → len ≡ 2 ^ (log_n - 0) * size → j * size + size ≤ len
+row_inside log_n j size len inside long =
+    let there : j / 1 ≡ j = omega arith in
+    omega (arith, ap (λ i. (i + 1) * size) there, kept_inside 0 log_n j size len (omega arith) inside long)
+
+-- each row is kept
+same_row : (n size j : ℕ) (v : List ℕ) → n ≡ size → part n v j ≡ part size v (j / 2 ^ 0)
+same_row n size j v same = let there : j ≡ j / 1 = omega arith in ap₂ (λ n j. part n v j) same there
 
 pub mix_pair-requires-clause-same : goal.mix_pair-requires-clause-same
 mix_pair-requires-clause-same c =
     omega (arith, length-zip2 bit_xor c.args.x.now c.part-taken.result.now (omega arith))
 
 pub returns-clause-value : goal.returns-clause-value
-returns-clause-value c b k keeps is =
-    let j = c.integerify_diagonal.ensures in
-    c.mix_pair.ensures.value
-    ∙ step_with_kept_row pivot inverse_pivot diagonal_inverse b c.args.log_n k (length c.args.x.now) c.args.v.now c.args.x.now
-    c.part-taken.result.now c.integerify_diagonal.result refl (omega arith) c.requires.rows keeps is j.value j.inside
-    c.part-taken.ensures.value
+returns-clause-value c =
+    let j = c.integerify_diagonal in
+    rw c.mix_pair.ensures.value (next_step_kept pivot inverse_pivot diagonal_inverse c.args.v.now c.args.x.now c.part-taken.result.now
+    j.result c.requires.lens j.ensures.value j.ensures.inside (c.part-taken.ensures.value ∙ same_row _ _ j.result c.args.v.now refl) (omega arith))
+
+pub part-other_taken-requires : goal.part-other_taken-requires
+part-other_taken-requires c =
+    let j = c.integerify_diagonal-2 in
+    rw (← c.requires.same) (row_inside c.args.log_n j.result _ _ j.ensures.inside c.requires.other_lens.rows)
 
 pub mix_pair-requires-clause-other_same : goal.mix_pair-requires-clause-other_same
 mix_pair-requires-clause-other_same c =
     omega (arith, length-zip2 bit_xor c.args.other_x.now c.part-other_taken.result.now (omega arith))
 
 pub returns-clause-other_value : goal.returns-clause-other_value
-returns-clause-other_value c b k keeps is =
-    let j = c.integerify_diagonal-2.ensures in
-    c.mix_pair.ensures.other_value
-    ∙ step_with_kept_row pivot inverse_pivot diagonal_inverse b c.args.log_n k (length c.args.x.now) c.args.other_v.now c.args.other_x.now
-    c.part-other_taken.result.now c.integerify_diagonal-2.result c.requires.other_x (omega arith) c.requires.other_rows
-    keeps is j.value j.inside c.part-other_taken.ensures.value
+returns-clause-other_value c =
+    let j = c.integerify_diagonal-2 in
+    rw c.mix_pair.ensures.other_value (next_step_kept pivot inverse_pivot diagonal_inverse c.args.other_v.now c.args.other_x.now
+    c.part-other_taken.result.now j.result c.requires.other_lens j.ensures.value j.ensures.inside
+    (c.part-other_taken.ensures.value ∙ same_row _ _ j.result c.args.other_v.now (omega arith)) (omega arith))
