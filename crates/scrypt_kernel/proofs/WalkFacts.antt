@@ -107,11 +107,11 @@ module _ (p q : List ℕ) (inverse : AreInverse p q) {log_n s y spare : ℕ} (ke
   next_step u below mixed b k keeps is =
       let fits = kept_inside s log_n j (length x) (length kept) lens.spacing inside lens.rows in
       let taken : u ≡ permuted p (row b j) =
-      mixed ∙ row_from_kept p q inverse b low kept s (length x) (2 ^ log_n) j (omega (arith, lens.whole)) keeps inside fits below in
+      mixed ∙ row_from_kept p q inverse b low kept s (length x) (2 ^ log_n) j (omega (arith, lens.row.whole)) keeps inside fits below in
       let input : length b ≡ length x = input_long p b log_n s _ kept keeps lens.rows in
       let long : length u ≡ length x = ap length taken ∙ length-permuted p (row b j)
-      ∙ length-row b (omega (arith, lens.some)) (omega (arith, lens.whole)) j ∙ input in
-      next_step_in p q inverse b log_n k x u j (omega (arith, lens.whole)) long is names taken
+      ∙ length-row b (omega (arith, lens.row.some)) (omega (arith, lens.row.whole)) j ∙ input in
+      next_step_in p q inverse b log_n k x u j (omega (arith, lens.row.whole)) long is names taken
 
   -- u is the kept row itself
   pub next_step_kept : low ≡ part (length x) kept (j / 2 ^ s) → j % 2 ^ s ≡ 0
@@ -119,7 +119,8 @@ module _ (p q : List ℕ) (inverse : AreInverse p q) {log_n s y spare : ℕ} (ke
   next_step_kept below none =
       let fits = kept_inside s log_n j (length x) (length kept) lens.spacing inside lens.rows in
       let long : length low ≡ length x = ap length below ∙ length-part (length x) (j / 2 ^ s) kept (omega (arith, fits)) in
-      next_step low below (row_zero_in p q inverse low (omega (arith, lens.whole)) ∙ ap (λ n. permuted p (row (permuted q low) n)) (sym none))
+      let first = row_zero_in p q inverse low (omega (arith, lens.row.whole)) in
+      next_step low below (first ∙ ap (λ n. permuted p (row (permuted q low) n)) (sym none))
 
 -- two more steps
 pub two_steps : (p : List ℕ) (log_n s size k : ℕ) (kept start x y z : List ℕ) → IsNext p log_n s kept x y → IsNext p log_n s kept y z

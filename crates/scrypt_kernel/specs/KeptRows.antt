@@ -6,6 +6,11 @@ use Rattle.scrypt_kernel.specs.RoMix.{row, walk}
 use Rattle.scrypt_kernel.specs.Diagonal.{permuted}
 use Rattle.scrypt_kernel.specs.Table.{extra_rows}
 
+-- the length of a row in words: 32 * r with r at least 1
+pub record IsRowLen (n : ℕ) : Type 0 where
+  pub some : 0 < n
+  pub whole : n % 32 ≡ 0
+
 -- of the rows 0 to n - 1 for the input b, each of this size and in the order p, those are kept
 pub record KeepsRows (p b : List ℕ) (s size n : ℕ) (kept : List ℕ) : Type 0 where
   pub each : (m : ℕ) → m * 2 ^ s < n → part size kept m ≡ permuted p (row b (m * 2 ^ s))
@@ -23,8 +28,7 @@ pub record StartsWalk (p b : List ℕ) (log_n s : ℕ) (kept x : List ℕ) : Typ
 
 -- the lengths in a walk: X has x words, the X after it y, a row that is recomputed spare, and the kept rows v
 pub record AreWalkLens (log_n s x y spare v : ℕ) : Type 0 where
-  pub some : 0 < x
-  pub whole : x % 32 ≡ 0
+  pub row : IsRowLen x
   pub small : log_n ≤ 56
   pub spacing : s ≤ log_n
   pub scratch : y ≡ x

@@ -4,6 +4,7 @@ ghost use Rattle.std.specs.Prelude.{◌≡◌, ℕ, ◌+◌, ◌*◌, ◌/◌, �
 ghost use Rattle.scrypt_kernel.specs.Words.{block, xor_words};
 ghost use Rattle.scrypt_kernel.specs.Salsa.{salsa20_8};
 ghost use Rattle.scrypt_kernel.specs.BlockMix.{block_mix};
+ghost use Rattle.scrypt_kernel.specs.KeptRows.{IsRowLen};
 ghost use Rattle.scrypt_kernel.specs.Diagonal.{permuted};
 
 pub mod lanes;
@@ -57,8 +58,7 @@ impl<'a> Input for Xor<'a> {
 #[inline(always)]
 pub(crate) fn mix<O: Order, I: Input>(input: &I, output: &mut [u32], cores: &mut CoreCount)
     requires same { length (I.words input.now) ≡ length output.old }
-    requires some { 0 < length output.old }
-    requires whole { length output.old % 32 ≡ 0 }
+    requires row { IsRowLen (length output.old) }
     ensures value { output.new
         ≡ permuted O.pivot (block_mix (permuted O.inverse_pivot (I.words input.now))) }
     ensures all { cores.new.all ≡ cores.old.all + 2 * (length output.old / 32) }

@@ -4,7 +4,7 @@
 ghost use Rattle.std.specs.Prelude.{◌≡◌, ◌+◌, ◌-◌, ◌*◌, ◌/◌, ◌%◌, ◌^◌, ◌<◌, ◌≤◌, ◌++◌, length};
 ghost use Rattle.scrypt_kernel.specs.Words.{part};
 ghost use Rattle.scrypt_kernel.specs.RoMix.{row};
-ghost use Rattle.scrypt_kernel.specs.KeptRows.{IsFilled};
+ghost use Rattle.scrypt_kernel.specs.KeptRows.{IsFilled, IsRowLen};
 ghost use Rattle.scrypt_kernel.specs.Diagonal.{permuted};
 
 pub(crate) mod pair;
@@ -26,8 +26,7 @@ pub(crate) fn fill<O: Order, M: Memory>(
     s: u8,
     cores: &mut CoreCount,
 )
-    requires some { 0 < length x.old }
-    requires whole { length x.old % 32 ≡ 0 }
+    requires row { IsRowLen (length x.old) }
     requires scratch { length y.old ≡ length x.old }
     requires small { log_n ≤ 56 }
     requires spacing { s ≤ log_n }
@@ -58,8 +57,7 @@ fn append_next<O: Order, M: Memory>(
     y: &mut [u32],
     cores: &mut CoreCount,
 )
-    requires some { 0 < length x.old }
-    requires whole { length x.old % 32 ≡ 0 }
+    requires row { IsRowLen (length x.old) }
     requires scratch { length y.old ≡ length x.old }
     requires small { s ≤ 56 }
     requires last { length (M.words rows.old) ≡ (m + 1) * length x.old }
@@ -90,9 +88,8 @@ pub(crate) fn recompute<O: Order>(
     cores: &mut CoreCount,
 )
     requires count { 0 < n }
-    requires some { 0 < length kept.now }
-    requires whole { length kept.now % 32 ≡ 0 }
-    requires row { length x.old ≡ length kept.now }
+    requires row { IsRowLen (length kept.now) }
+    requires same { length x.old ≡ length kept.now }
     requires scratch { length y.old ≡ length kept.now }
     ensures value { x.new ≡ permuted O.pivot (row (permuted O.inverse_pivot kept.now) n) }
     ensures all { cores.new.all ≡ cores.old.all + n * (2 * (length kept.now / 32)) }

@@ -1,10 +1,8 @@
 //! The walk of scryptROMix (RFC 7914, section 5, step 3).
 
-ghost use Rattle.std.specs.Prelude.{◌≡◌, ℕ, ◌+◌, ◌-◌, ◌*◌, ◌/◌, ◌%◌, ◌^◌, ◌<◌, ◌≤◌, List, length};
+ghost use Rattle.std.specs.Prelude.{◌≡◌, ℕ, ◌+◌, ◌*◌, ◌/◌, ◌%◌, ◌^◌, List, length};
 ghost use Rattle.scrypt_kernel.specs.Diagonal.{permuted};
-ghost use Rattle.scrypt_kernel.specs.Words.{xor_words};
-ghost use Rattle.scrypt_kernel.specs.BlockMix.{block_mix};
-ghost use Rattle.scrypt_kernel.specs.RoMix.{integerify, row};
+ghost use Rattle.scrypt_kernel.specs.RoMix.{integerify};
 ghost use Rattle.scrypt_kernel.specs.Table.{recomputed_rows};
 ghost use Rattle.scrypt_kernel.specs.KeptRows.{AfterSteps, AreWalkLens, IsNext, StartsWalk};
 
@@ -73,32 +71,9 @@ fn step<O: Order>(
     if missing == 0 {
         mix::<O, Xor<'_>>(&Xor { x, y: kept }, y, cores);
     } else {
-        mix_with_recomputed::<O>(x, kept, missing, &mut spare[..x.len()], y, cores);
+        // Row j is recomputed from the kept row below it.
+        let row = &mut spare[..x.len()];
+        recompute::<O>(kept, missing, row, y, cores);
+        mix::<O, Xor<'_>>(&Xor { x, y: row }, y, cores);
     }
-}
-
-// T = X xor V[j], X = scryptBlockMix (T), for the row that is `n` rows after `kept`, and that is
-// recomputed in `spare`. X is `x` before and `y` after.
-fn mix_with_recomputed<O: Order>(
-    x: &[u32],
-    kept: &[u32],
-    n: usize,
-    spare: &mut [u32],
-    y: &mut [u32],
-    cores: &mut CoreCount,
-)
-    requires count { 0 < n }
-    requires some { 0 < length x.now }
-    requires whole { length x.now % 32 ≡ 0 }
-    requires kept { length kept.now ≡ length x.now }
-    requires spare { length spare.old ≡ length x.now }
-    requires scratch { length y.old ≡ length x.now }
-    ensures value { y.new ≡ permuted O.pivot (block_mix (permuted O.inverse_pivot
-        (xor_words x.now (permuted O.pivot (row (permuted O.inverse_pivot kept.now) n))))) }
-    ensures all { cores.new.all ≡ cores.old.all + (n + 1) * (2 * (length x.now / 32)) }
-    ensures lanes { cores.new.lanes ≡ cores.old.lanes
-        + O.lanes_of_core * ((n + 1) * (2 * (length x.now / 32))) }
-{
-    recompute::<O>(kept, n, spare, y, cores);
-    mix::<O, Xor<'_>>(&Xor { x, y: spare }, y, cores);
 }

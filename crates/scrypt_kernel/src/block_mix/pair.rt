@@ -4,6 +4,7 @@ ghost use Rattle.std.specs.Prelude.{◌≡◌, ◌+◌, ◌*◌, ◌/◌, ◌%�
 ghost use Rattle.scrypt_kernel.specs.Words.{block, xor_words};
 ghost use Rattle.scrypt_kernel.specs.Salsa.{salsa20_8};
 ghost use Rattle.scrypt_kernel.specs.BlockMix.{block_mix};
+ghost use Rattle.scrypt_kernel.specs.KeptRows.{IsRowLen};
 ghost use Rattle.scrypt_kernel.specs.Diagonal.{diagonal_order, standard_order};
 
 use crate::CoreCount;
@@ -24,8 +25,7 @@ pub(crate) fn mix_pair<I: Input>(
     requires same { length (I.words input.now) ≡ length output.old }
     requires other_same { length (I.words other_input.now) ≡ length output.old }
     requires other_output { length other_output.old ≡ length output.old }
-    requires some { 0 < length output.old }
-    requires whole { length output.old % 32 ≡ 0 }
+    requires row { IsRowLen (length output.old) }
     ensures value { output.new ≡ diagonal_order (block_mix (standard_order (I.words input.now))) }
     ensures other_value { other_output.new
         ≡ diagonal_order (block_mix (standard_order (I.words other_input.now))) }

@@ -3,6 +3,7 @@
 ghost use Rattle.std.specs.Prelude.{◌≡◌, ◌+◌, ◌*◌, ◌/◌, ◌%◌, ◌<◌, ◌≤◌, ◌++◌, length};
 ghost use Rattle.scrypt_kernel.specs.Words.{part};
 ghost use Rattle.scrypt_kernel.specs.BlockMix.{block_mix};
+ghost use Rattle.scrypt_kernel.specs.KeptRows.{IsRowLen};
 ghost use Rattle.scrypt_kernel.specs.Diagonal.{diagonal_order, standard_order};
 ghost use Rattle.scrypt_kernel.specs.Memory.{buffer_room, buffer_words};
 
@@ -22,8 +23,7 @@ pub(crate) fn append_mix_pair(
     s: usize,
     cores: &mut CoreCount,
 )
-    requires some { 0 < s }
-    requires whole { s % 32 ≡ 0 }
+    requires row { IsRowLen s }
     requires last { length (buffer_words rows.old) ≡ (i + 1) * s }
     requires other_last { length (buffer_words other_rows.old) ≡ (i + 1) * s }
     requires room { (i + 2) * s ≤ buffer_room rows.old }

@@ -1,7 +1,7 @@
 //! Two whole tables of scryptROMix (RFC 7914, section 5, step 2), filled at once.
 
 ghost use Rattle.std.specs.Prelude.{◌≡◌, ◌+◌, ◌*◌, ◌/◌, ◌%◌, ◌^◌, ◌<◌, ◌≤◌, length};
-ghost use Rattle.scrypt_kernel.specs.KeptRows.{IsFilled};
+ghost use Rattle.scrypt_kernel.specs.KeptRows.{IsFilled, IsRowLen};
 ghost use Rattle.scrypt_kernel.specs.Diagonal.{inverse_pivot, pivot};
 ghost use Rattle.scrypt_kernel.specs.Memory.{buffer_room, buffer_words};
 
@@ -22,8 +22,7 @@ pub(crate) fn fill_pair(
     log_n: u8,
     cores: &mut CoreCount,
 )
-    requires some { 0 < length x.old }
-    requires whole { length x.old % 32 ≡ 0 }
+    requires row { IsRowLen (length x.old) }
     requires other_x { length other_x.old ≡ length x.old }
     requires small { log_n ≤ 56 }
     requires room { 2 ^ log_n * length x.old ≤ buffer_room rows.old }

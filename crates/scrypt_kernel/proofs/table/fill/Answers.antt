@@ -23,7 +23,7 @@ rows-init g c =
     let words : g.M.Memory.words c.append.new.self ≡ [] ++ x = c.append.ensures.words ∙ ap (λ z. z ++ x) c.clear.ensures.words in
     record {
       room = omega (arith, c.clear.ensures.room, c.append.ensures.room);
-      held = first_row g.O.Order.pivot g.O.Order.inverse_pivot g.met.O.Order.inverse x _ _ (2 ^ c.args.s) refl c.requires.whole words;
+      held = first_row g.O.Order.pivot g.O.Order.inverse_pivot g.met.O.Order.inverse x _ _ (2 ^ c.args.s) refl c.requires.row.whole words;
       all = omega arith;
       lanes = no_cores _ g.O.Order.lanes_of_core (2 ^ c.args.s) (2 * (length x / 32));
     }
@@ -58,7 +58,7 @@ returns-clause-filled g c =
     let row_is = c.part.ensures.value ∙ ap (λ z. part (length c.rows.x) z k) c.words.ensures.value
     ∙ ap₂ (λ n i. part n (g.M.Memory.words c.rows.rows) i) c.rows.auto.x last in
     filled g.O.Order.pivot g.O.Order.inverse_pivot g.met.O.Order.inverse c.args.log_n c.args.s c.rows.m (length c.args.x.now)
-    c.args.x.now (g.M.Memory.words c.rows.rows) c.part.result.now _ c.requires.small c.requires.spacing (sym last) refl c.requires.whole
+    c.args.x.now (g.M.Memory.words c.rows.rows) c.part.result.now _ c.requires.small c.requires.spacing (sym last) refl c.requires.row.whole
     c.rows.invariant.held row_is
     (c.recompute.ensures.value ∙ ap (λ n. permuted g.O.Order.pivot (row (permuted g.O.Order.inverse_pivot c.part.result.now) n))
     (one_shl c.args.s 64 (omega arith)))

@@ -16,17 +16,6 @@ pub mix-requires-clause-same : goal.mix-requires-clause-same
 mix-requires-clause-same g c =
     omega (arith, length-zip2 bit_xor c.args.x.now c.part-kept.result.now (sym c.part-kept.ensures.len))
 
-pub slice_bounds-mix_with_recomputed-end : goal.slice_bounds-mix_with_recomputed-end
-slice_bounds-mix_with_recomputed-end g c = c.requires.lens.room (some_missing _ _ c.if-missing-eq0.false)
-
-pub slice_bounds-mix_with_recomputed-end-else-missing-eq0 : goal.slice_bounds-mix_with_recomputed-end-else-missing-eq0
-slice_bounds-mix_with_recomputed-end-else-missing-eq0 g c =
-    sym (length-take-le (length c.args.x.now) c.args.spare.now (c.requires.lens.room (some_missing _ _ c.if-missing-eq0.false)))
-
-pub mix_with_recomputed-requires-clause-spare : goal.mix_with_recomputed-requires-clause-spare
-mix_with_recomputed-requires-clause-spare g c =
-    length-take-le (length c.args.x.now) c.args.spare.now (c.requires.lens.room (some_missing _ _ c.if-missing-eq0.false))
-
 pub returns-then-missing-eq0-clause-value : goal.returns-then-missing-eq0-clause-value
 returns-then-missing-eq0-clause-value g c =
     let j = c.integerify-j in
@@ -34,12 +23,19 @@ returns-then-missing-eq0-clause-value g c =
     rw c.mix.ensures.value (next_step_kept g.O.Order.pivot g.O.Order.inverse_pivot g.met.O.Order.inverse c.args.v.now c.args.x.now
     c.part-kept.result.now j.result c.requires.lens j.ensures.value j.ensures.inside c.part-kept.ensures.value none)
 
+pub mix-requires-else-missing-eq0-clause-same : goal.mix-requires-else-missing-eq0-clause-same
+mix-requires-else-missing-eq0-clause-same g c =
+    let x = c.args.x.now in
+    let room = c.requires.lens.room (some_missing _ _ c.if-missing-eq0.false) in
+    let long : length c.recompute.new.x ≡ length x = c.recompute.auto.x ∙ length-take-le (length x) c.args.spare.now room in
+    omega (arith, length-zip2 bit_xor x c.recompute.new.x (sym long))
+
 pub returns-else-missing-eq0-clause-value : goal.returns-else-missing-eq0-clause-value
 returns-else-missing-eq0-clause-value g c =
     let j = c.integerify-j in
     let p = g.O.Order.pivot in
     let q = g.O.Order.inverse_pivot in
     let kept = c.part-kept.result.now in
-    rw c.mix_with_recomputed.ensures.value (next_step p q g.met.O.Order.inverse c.args.v.now c.args.x.now kept j.result c.requires.lens
+    rw c.mix-else-missing-eq0.ensures.value (next_step p q g.met.O.Order.inverse c.args.v.now c.args.x.now kept j.result c.requires.lens
     j.ensures.value j.ensures.inside _ c.part-kept.ensures.value
-    (ap (λ n. permuted p (row (permuted q kept) (j.result % n))) (one_shl c.args.s 64 (omega arith))))
+    (c.recompute.ensures.value ∙ ap (λ n. permuted p (row (permuted q kept) (j.result % n))) (one_shl c.args.s 64 (omega arith))))

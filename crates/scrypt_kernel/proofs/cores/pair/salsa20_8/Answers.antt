@@ -13,7 +13,8 @@ returns-clause-one c =
     let turned = four_rounds x c.told-x from c.double_round-once.ensures.one
     c.double_round-twice.ensures.one c.double_round-thrice.ensures.one c.double_round-all.ensures.one in
     core_by_lanes x c.put_all.new.x c.told-x (omega arith)
-    (c.put_all.ensures ∙ rw (c.one.ensures, c.one-2.ensures, c.one-3.ensures, c.one-4.ensures) (simp take-zip2 (ap₂ sums from turned)))
+    (c.put_all.ensures ∙ rw (c.one.ensures, c.one-2.ensures, c.one-3.ensures, c.one-4.ensures)
+    (simp take-zip2 (ap₂ sums from turned)))
 
 pub returns-clause-other : goal.returns-clause-other
 returns-clause-other c =
@@ -23,4 +24,5 @@ returns-clause-other c =
     let turned = four_rounds y c.told-y from c.double_round-once.ensures.other
     c.double_round-twice.ensures.other c.double_round-thrice.ensures.other c.double_round-all.ensures.other in
     core_by_lanes y c.put_all-2.new.x c.told-y (omega arith)
-    (c.put_all-2.ensures ∙ rw (c.other.ensures, c.other-2.ensures, c.other-3.ensures, c.other-4.ensures) (simp drop-zip2 (ap₂ sums from turned)))
+    (c.put_all-2.ensures ∙ rw (c.other.ensures, c.other-2.ensures, c.other-3.ensures, c.other-4.ensures)
+    (simp drop-zip2 (ap₂ sums from turned)))

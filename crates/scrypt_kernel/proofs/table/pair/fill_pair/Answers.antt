@@ -18,9 +18,9 @@ rows-init c =
     record {
       room = omega (arith, c.clear.ensures.room, c.append.ensures.room);
       other_room = omega (arith, c.clear-2.ensures.room, c.append-2.ensures.room);
-      held = first_row pivot inverse_pivot diagonal_inverse x _ _ 1 refl c.requires.whole
+      held = first_row pivot inverse_pivot diagonal_inverse x _ _ 1 refl c.requires.row.whole
           (c.append.ensures.words ∙ ap (λ z. z ++ x) c.clear.ensures.words);
-      other_held = first_row pivot inverse_pivot diagonal_inverse other _ _ 1 c.requires.other_x c.requires.whole
+      other_held = first_row pivot inverse_pivot diagonal_inverse other _ _ 1 c.requires.other_x c.requires.row.whole
           (c.append-2.ensures.words ∙ ap (λ z. z ++ other) c.clear-2.ensures.words);
       all = omega arith;
       lanes = omega arith;
@@ -35,9 +35,10 @@ rows-preserved c =
     record {
       room = omega (arith, c.rows.invariant.room, c.append_mix_pair.ensures.room);
       other_room = omega (arith, c.rows.invariant.other_room, c.append_mix_pair.ensures.other_room);
-      held = more_rows pivot inverse_pivot diagonal_inverse _ words _ size 1 m c.requires.some c.requires.whole c.rows.invariant.held
+      held = more_rows pivot inverse_pivot diagonal_inverse _ words _ size 1 m c.requires.row.some c.requires.row.whole
+          c.rows.invariant.held
           (c.append_mix_pair.ensures.words ∙ ap (λ z. words ++ diagonal_order z) (row_one (standard_order (part size words m))));
-      other_held = more_rows pivot inverse_pivot diagonal_inverse _ other _ size 1 m c.requires.some c.requires.whole
+      other_held = more_rows pivot inverse_pivot diagonal_inverse _ other _ size 1 m c.requires.row.some c.requires.row.whole
           c.rows.invariant.other_held
           (c.append_mix_pair.ensures.other_words ∙ ap (λ z. other ++ diagonal_order z) (row_one (standard_order (part size other m))));
       all = c.append_mix_pair.ensures.all ∙ omega (arith, c.rows.invariant.all);
@@ -48,7 +49,7 @@ pub returns-clause-filled : goal.returns-clause-filled
 returns-clause-filled c =
     let last : 1 * 2 ^ c.args.log_n % 2 ^ 64 - 1 ≡ c.rows.m = omega arith in
     filled pivot inverse_pivot diagonal_inverse c.args.log_n 0 c.rows.m (length c.args.x.now) c.args.x.now (buffer_words c.rows.rows)
-    c.part.result.now _ c.requires.small (omega arith) (last_row _ _ last) refl c.requires.whole c.rows.invariant.held
+    c.part.result.now _ c.requires.small (omega arith) (last_row _ _ last) refl c.requires.row.whole c.rows.invariant.held
     (c.part.ensures.value ∙ ap₂ (λ v k. part (length c.args.x.now) v k) c.words.ensures.value last)
     (c.mix_pair.ensures.value ∙ ap diagonal_order (row_one _))
 
@@ -56,7 +57,7 @@ pub returns-clause-other_filled : goal.returns-clause-other_filled
 returns-clause-other_filled c =
     let last : 1 * 2 ^ c.args.log_n % 2 ^ 64 - 1 ≡ c.rows.m = omega arith in
     filled pivot inverse_pivot diagonal_inverse c.args.log_n 0 c.rows.m (length c.args.x.now) c.args.other_x.now
-    (buffer_words c.rows.other_rows) c.part-2.result.now _ c.requires.small (omega arith) (last_row _ _ last) c.requires.other_x c.requires.whole
-    c.rows.invariant.other_held
+    (buffer_words c.rows.other_rows) c.part-2.result.now _ c.requires.small (omega arith) (last_row _ _ last) c.requires.other_x
+    c.requires.row.whole c.rows.invariant.other_held
     (c.part-2.ensures.value ∙ ap₂ (λ v k. part (length c.args.x.now) v k) c.words-2.ensures.value last)
     (c.mix_pair.ensures.other_value ∙ ap diagonal_order (row_one _))

@@ -22,8 +22,9 @@ mix_pair-requires-clause-same c =
 pub returns-clause-value : goal.returns-clause-value
 returns-clause-value c =
     let j = c.integerify_diagonal in
-    rw c.mix_pair.ensures.value (next_step_kept pivot inverse_pivot diagonal_inverse c.args.v.now c.args.x.now c.part-taken.result.now
-    j.result c.requires.lens j.ensures.value j.ensures.inside (c.part-taken.ensures.value ∙ same_row _ _ j.result c.args.v.now refl) (omega arith))
+    rw c.mix_pair.ensures.value (next_step_kept pivot inverse_pivot diagonal_inverse c.args.v.now c.args.x.now
+    c.part-taken.result.now j.result c.requires.lens j.ensures.value j.ensures.inside
+    (c.part-taken.ensures.value ∙ same_row _ _ j.result c.args.v.now refl) (omega arith))
 
 pub part-other_taken-requires : goal.part-other_taken-requires
 part-other_taken-requires c =
