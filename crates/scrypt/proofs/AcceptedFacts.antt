@@ -40,13 +40,12 @@ accepted_decided log_n r p =
     (Decides-and _ _ (Decides-and _ _ (Decides-ltb 0 r) (Decides-ltb 0 p))
     (Decides-and _ _ (Decides-ltb (128 * r * 2 ^ log_n) (2 ^ 64)) (Decides-ltb (r * p) (2 ^ 30))))
 
+pub leb_decided : (m n : ℕ) → Decides (nat_le m n) (m ≤ n)
+leb_decided m n = grind (arith, nat_tests)
+
 pub output_len_decided : (n : ℕ) → Decides (is_output_len n) (IsOutputLen n)
 unfolding is_output_len
-output_len_decided n =
-    Decides-and _ _ (leb_decided 1 n) (leb_decided n max_output_len)
-  where
-    leb_decided : (m n : ℕ) → Decides (nat_le m n) (m ≤ n)
-    leb_decided m n = grind (arith, nat_tests)
+output_len_decided n = Decides-and _ _ (leb_decided 1 n) (leb_decided n max_output_len)
 
 -- numbers that are accepted are parameters
 

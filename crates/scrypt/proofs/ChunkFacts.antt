@@ -17,7 +17,7 @@ use Rattle.scrypt_kernel.proofs.WordFacts.{length-bytes_of}
 use Rattle.scrypt_kernel.proofs.PartFacts.{length-part, part_put_same, part_put_other, parts_all, parts_apart}
 
 -- a chunk keeps its length
-length-mixed_chunk : (b : List ℕ) (log_n r i : ℕ) → 0 < r → i * (128 * r) + 128 * r ≤ length b → length (mixed_chunk b log_n r i) ≡ 128 * r
+pub length-mixed_chunk : (b : List ℕ) (log_n r i : ℕ) → 0 < r → i * (128 * r) + 128 * r ≤ length b → length (mixed_chunk b log_n r i) ≡ 128 * r
 length-mixed_chunk b log_n r i some room =
     let long : length (part (128 * r) b i) ≡ 128 * r = length-part (128 * r) i b room in
     let x : List ℕ = words_of (part (128 * r) b i) in

@@ -1,10 +1,9 @@
 -- Facts on the cores of a derivation.
 use Rattle.std.proofs.Common.{◌≡◌, ℕ, zero, suc, ◌+◌, ◌*◌, ◌^◌, List, refl, sym, ap, ◌∙◌, arith, add-one}
 use Rattle.scrypt_kernel.specs.Words.{part, words_of}
-use Rattle.scrypt_kernel.specs.Pbkdf2.{pbkdf2}
 use Rattle.scrypt_kernel.specs.Table.{extra_rows}
 use Rattle.scrypt_kernel.proofs.WalkFacts.{extra_rows-whole}
-use Rattle.scrypt.specs.Cost.{cost, extra_rows_of_chunks, ro_mix_cost, thin_cost}
+use Rattle.scrypt.specs.Cost.{cost, extra_rows_of_chunks, ro_mix_cost, thin_chunks_cost}
 
 none_of_chunks : (b : List ℕ) (log_n r i : ℕ) → extra_rows_of_chunks b log_n 0 r i ≡ 0
 unfolding extra_rows_of_chunks
@@ -15,9 +14,9 @@ none_of_chunks b log_n r (suc i) =
     omega arith
 
 -- a table that keeps every row has the cost of the standard's
-pub whole_table_cost : (password salt : List ℕ) (log_n r p : ℕ) → thin_cost password salt log_n r p 0 ≡ cost log_n r p
-whole_table_cost password salt log_n r p =
-    let none = none_of_chunks (pbkdf2 password salt (p * (128 * r))) log_n r p in
+pub whole_table_cost : (b : List ℕ) (log_n r p : ℕ) → thin_chunks_cost b log_n r p 0 ≡ cost log_n r p
+whole_table_cost b log_n r p =
+    let none = none_of_chunks b log_n r p in
     ap (λ e. cost log_n r p + 2 * r * e) none ∙ omega arith
 
 -- one more chunk

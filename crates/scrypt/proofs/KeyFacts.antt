@@ -81,15 +81,10 @@ mixed_pair b x front back one other log_n r i a n m is at size_front size size_o
     subst (AreMixed b log_n r (i + 1 + 1)) made twice
 
 -- all p chunks
-pub mixed_all : (b x : List ℕ) (log_n r p : ℕ) → length x ≡ p * (128 * r)
-    → AreMixed b log_n r p x → x ≡ mixed_chunks b log_n r p
-mixed_all b x log_n r p long mixed = parts_all (mixed_chunk b log_n r) (128 * r) p x long mixed.done
-
--- all p chunks of the B that was derived
-pub chunks_are : (b w x : List ℕ) (log_n r p i : ℕ) → b ≡ w → i ≡ p → length x ≡ p * (128 * r) → AreMixed b log_n r i x
-    → x ≡ mixed_chunks w log_n r p
-chunks_are b w x log_n r p i is done long mixed =
-    mixed_all b x log_n r p long (rw done at mixed) ∙ ap (λ z. mixed_chunks z log_n r p) is
+pub chunks_are : (b x : List ℕ) (log_n r p i : ℕ) → i ≡ p → length x ≡ p * (128 * r) → AreMixed b log_n r i x
+    → x ≡ mixed_chunks b log_n r p
+chunks_are b x log_n r p i all long mixed =
+    parts_all (mixed_chunk b log_n r) (128 * r) p x long (λ k inside. mixed.done k (omega (arith, all, inside)))
 
 -- a shorter key is the beginning of a longer one
 pub key_prefix : (password salt : List ℕ) (log_n r p m n : ℕ) → m ≤ n

@@ -2,7 +2,7 @@
 use Rattle.std.proofs.Common.{◌≡◌, ◌↔◌, ◌≢◌, ◌⊎◌, ◌∙◌, ℕ, ◌≤◌, List, length, Ok, Err, inl, inr, true, false, refl, sym, ap, arith}
 use Rattle.std.specs.Prelude.{Bool, Result, if◌then◌else◌, nat_le, ⊤}
 use Rattle.std.specs.Bool.{Decides}
-use Rattle.std.proofs.lemmas.Bool.Decides.{Decides-and, nat_tests, same_from_decides}
+use Rattle.std.proofs.lemmas.Bool.Decides.{Decides-and, same_from_decides}
 use Rattle.std.proofs.lemmas.Slice.Eq.{bytes_eq-Decides}
 use Rattle.password_hash.specs.Refusal.{Refusal, OutOfMemory, PasswordInvalid}
 use Rattle.password_hash.specs.declared.error.Error.{Error}
@@ -11,7 +11,7 @@ use Rattle.scrypt.specs.Accepted.{Parameters, without_len}
 use Rattle.scrypt.specs.Cost.{chunks_bytes, scratch_words, table_words}
 use Rattle.scrypt.specs.Hashing.{key_len_or_default}
 use Rattle.scrypt.specs.KeyOfParams.{key_by}
-use Rattle.scrypt.proofs.AcceptedFacts.{not_true, ok_if}
+use Rattle.scrypt.proofs.AcceptedFacts.{leb_decided, not_true, ok_if}
 use Rattle.scrypt.proofs.KeyFacts.{length-key_by}
 use Rattle.std.proofs.lemmas.Bool.{le-ltb}
 use Rattle.scrypt.specs.Reading.{ReadError, Algorithm, Stored, is_below, is_right, mapped, reported, told, verdict, weaker}
@@ -94,9 +94,6 @@ pub room_decided : (c : Parameters) (w : Work) → Decides (has_room c w)
 unfolding has_room
 room_decided c w =
     Decides-and _ _ (leb_decided _ _) (Decides-and _ _ (leb_decided _ _) (leb_decided _ _))
-  where
-    leb_decided : (m n : ℕ) → Decides (nat_le m n) (m ≤ n)
-    leb_decided m n = grind (arith, nat_tests)
 
 pub room_enough : (c : Parameters) (w : Work) → AreEnough c w.chunks w.table w.scratch → has_room c w ≡ true
 room_enough c w enough = (room_decided c w).1 (enough.chunks_fit, (enough.table_fits, enough.scratch_fits))

@@ -21,8 +21,10 @@ extra_rows_of_chunks b log_n s r zero = 0
 extra_rows_of_chunks b log_n s r (suc i) =
     extra_rows_of_chunks b log_n s r i + extra_rows (words_of (part (128 * r) b i)) log_n s (2 ^ log_n)
 
--- the cores of a derivation with such a table: 2 * r more for each row that is recomputed
+-- the cores of mixing p chunks with such a table: 2 * r more for each row that is recomputed
+abbrev pub thin_chunks_cost : List ℕ → ℕ → ℕ → ℕ → ℕ → ℕ
+thin_chunks_cost b log_n r p s = cost log_n r p + 2 * r * extra_rows_of_chunks b log_n s r p
+
+-- the cores of a derivation with such a table
 abbrev pub thin_cost : List ℕ → List ℕ → ℕ → ℕ → ℕ → ℕ → ℕ
-thin_cost password salt log_n r p s =
-    let b = pbkdf2 password salt (p * (128 * r)) in
-    cost log_n r p + 2 * r * extra_rows_of_chunks b log_n s r p
+thin_cost password salt log_n r p s = thin_chunks_cost (pbkdf2 password salt (p * (128 * r))) log_n r p s

@@ -4,6 +4,7 @@ ghost use Rattle.std.specs.Prelude.{◌≡◌, ◌↔◌, ◌*◌, ◌≤◌, le
 ghost use Rattle.std.specs.Vec.{vec_capacity};
 ghost use Rattle.scrypt.specs.Cost.{chunks_bytes, scratch_words, table_words};
 ghost use Rattle.scrypt.specs.InBuffers.{AreEnough};
+ghost use Rattle.scrypt.specs.TwoVerdicts.{hold_two};
 ghost use Rattle.scrypt.specs.WorkInBuffers.{tables_used, uses_two};
 
 use crate::{BufferLens, Params};
@@ -20,14 +21,23 @@ pub(crate) fn uses_two_tables(params: &Params, table: &[u32], scratch: &[u32]) -
     params.p() >= 2 && two.table <= table.len() && two.scratch <= scratch.len()
 }
 
-/// Returns whether such buffers have room for two derivations at once.
-pub(crate) fn hold_two(params: &Params, chunks: &[u8], table: &[u32], scratch: &[u32]) -> bool
-    ensures chunks { IsTrue result → 2 * chunks_bytes params.now.r params.now.p ≤ length chunks.now }
-    ensures table { IsTrue result → 2 * table_words params.now.log_n params.now.r ≤ length table.now }
-    ensures scratch { IsTrue result → 2 * scratch_words params.now.r ≤ length scratch.now }
+/// Returns whether two derivations are done at once in such buffers.
+#[tactic(auto, unfolding(crate::specs::TwoVerdicts::hold_two))]
+pub(crate) fn hold_two(
+    params: &Params,
+    other: &Params,
+    chunks: &[u8],
+    table: &[u32],
+    scratch: &[u32],
+) -> bool
+    ensures exact { result ≡ hold_two params.now other.now chunks.now table.now scratch.now }
 {
-    let two = BufferLens::two_derivations(params);
-    two.chunks <= chunks.len() && two.table <= table.len() && two.scratch <= scratch.len()
+    match BufferLens::two_derivations(params, other) {
+        Some(two) => {
+            two.chunks <= chunks.len() && two.table <= table.len() && two.scratch <= scratch.len()
+        }
+        None => false,
+    }
 }
 
 /// Returns how much of these buffers a derivation uses: the lengths of [`BufferLens::two_tables`] if `p` is at

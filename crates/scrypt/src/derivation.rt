@@ -1,15 +1,16 @@
 // The derived key (RFC 7914, section 6).
 
 ghost use Rattle.std.specs.Prelude.{◌≡◌, ◌↔◌, ◌+◌, ◌-◌, ◌*◌, ◌^◌, ◌<◌, ◌≤◌, length, IfSome, IsOk, IsSome, IsTrue, IsErrOf, OnOk, OnErr};
-ghost use Rattle.scrypt_kernel.specs.Pbkdf2.{max_output_len};
+ghost use Rattle.scrypt_kernel.specs.Pbkdf2.{max_output_len, pbkdf2};
 ghost use Rattle.scrypt.specs.Accepted.{IsOutputLen};
 ghost use Rattle.scrypt.specs.Cost.{chunks_bytes, cost, scratch_words, table_words, thin_cost, thin_scratch_words};
-ghost use Rattle.scrypt.specs.Key.{chunks_of, derived_key};
+ghost use Rattle.scrypt.specs.Cost.{thin_chunks_cost};
+ghost use Rattle.scrypt.specs.Key.{derived_key, mixed_chunks};
+ghost use Rattle.scrypt.specs.TwoVerdicts.{AreAlike, both_chunks_bytes};
 ghost use Rattle.scrypt.specs.declared.errors.DeriveError.TheVariants.{InvalidOutputLen as BadLength, OutOfMemory};
 
-mod pairs;
+pub(crate) mod pairs;
 pub(crate) mod tables;
-pub(crate) mod two;
 
 use crate::buffers::Buffers;
 use crate::derivation::tables::Tables;
@@ -71,20 +72,28 @@ impl BufferLens {
         }
     }
 
-    /// Returns the lengths for two derivations at once, each twice that of [`BufferLens::of`].
+    /// Returns the lengths for two derivations at once, or `None` if their `N` or their `r` differ: the
+    /// chunks of both, and the table and the scratch of [`BufferLens::two_tables`]. Their `p` may
+    /// differ.
     #[tactic(auto, using(crate::proofs::AcceptedFacts::small_lens))]
-    pub fn two_derivations(params: &Params) -> BufferLens
-        ensures chunks { result.chunks ≡ 2 * chunks_bytes params.now.r params.now.p }
-        ensures table { result.table ≡ 2 * table_words params.now.log_n params.now.r }
-        ensures scratch { result.scratch ≡ 2 * scratch_words params.now.r }
+    pub fn two_derivations(params: &Params, other: &Params) -> Option<BufferLens>
+        ensures exact { IsSome result ↔ AreAlike params.now other.now }
+        ensures chunks { IfSome result (λ lens. lens.chunks ≡ both_chunks_bytes params.now other.now) }
+        ensures table { IfSome result (λ lens. lens.table ≡ 2 * table_words params.now.log_n params.now.r) }
+        ensures scratch { IfSome result (λ lens. lens.scratch ≡ 2 * scratch_words params.now.r) }
     {
+        if params.log_n() != other.log_n() || params.r() != other.r() {
+            return None;
+        }
         let two = BufferLens::two_tables(params);
+        let others = BufferLens::of(other);
         params.known();
-        BufferLens {
-            chunks: 2 * two.chunks,
+        other.known();
+        Some(BufferLens {
+            chunks: two.chunks + others.chunks,
             table: two.table,
             scratch: two.scratch,
-        }
+        })
     }
 
     /// Returns the lengths for [`scrypt_thin`](crate::scrypt_thin) with a table that keeps one row
@@ -278,7 +287,9 @@ pub fn scrypt_thin(
         return Err(InvalidOutputLen);
     }
     let mut rows = Buffer::new(table);
-    mix_chunks::<Buffer<'_>>(password, salt, params, s, chunks, &mut rows, scratch, cores);
+    derive_chunks(password, salt, params, chunks);
+    mix_chunks::<Buffer<'_>>(params, s, chunks, &mut rows, scratch, cores);
+    // Step 3: DK, with B as salt.
     pbkdf2_one(password, chunks, output);
     Ok(())
 }
@@ -304,16 +315,25 @@ pub(crate) fn derive_in<T: Tables>(
     ensures all { cores.new.all ≡ cores.old.all + cost params.now.log_n params.now.r params.now.p }
     ensures lanes { cores.new.lanes ≡ cores.old.lanes + cost params.now.log_n params.now.r params.now.p }
 {
-    tables.mix(password, salt, params, chunks, scratch, cores);
+    derive_chunks(password, salt, params, chunks);
+    tables.mix(params, chunks, scratch, cores);
     // Step 3: DK, with B as salt.
     pbkdf2_one(password, chunks, output);
 }
 
-/// Steps 1 and 2, in any memory, with a table that keeps one row in `2^s`: `chunks` becomes B after
-/// its chunks were mixed.
+/// Step 1: `chunks` becomes B, which has `p` chunks.
+#[tactic(auto, using(crate::proofs::AcceptedFacts::small_lens))]
+pub(crate) fn derive_chunks(password: &[u8], salt: &[u8], params: &Params, chunks: &mut [u8])
+    requires chunks { length chunks.old ≡ chunks_bytes params.now.r params.now.p }
+    ensures value { chunks.new ≡ pbkdf2 password.now salt.now (chunks_bytes params.now.r params.now.p) }
+{
+    params.known();
+    pbkdf2_one(password, salt, chunks);
+}
+
+/// Step 2, in any memory, with a table that keeps one row in `2^s`: each of the `p` chunks becomes its
+/// scryptROMix.
 fn mix_chunks<M: Memory>(
-    password: &[u8],
-    salt: &[u8],
     params: &Params,
     s: u8,
     chunks: &mut [u8],
@@ -326,19 +346,15 @@ fn mix_chunks<M: Memory>(
     requires room { table_words (params.now.log_n - s) params.now.r ≤ M.room rows.old }
     requires scratch { scratch_words params.now.r ≤ length scratch.old }
     requires spare { 0 < s → thin_scratch_words params.now.r ≤ length scratch.old }
-    ensures value { chunks.new ≡ chunks_of password.now salt.now
-        params.now.log_n params.now.r params.now.p }
-    ensures all { cores.new.all ≡ cores.old.all + thin_cost password.now salt.now
-        params.now.log_n params.now.r params.now.p s }
-    ensures lanes { cores.new.lanes ≡ cores.old.lanes + thin_cost password.now salt.now
-        params.now.log_n params.now.r params.now.p s }
+    ensures value { chunks.new ≡ mixed_chunks chunks.old params.now.log_n params.now.r params.now.p }
+    ensures all { cores.new.all ≡ cores.old.all
+        + thin_chunks_cost chunks.old params.now.log_n params.now.r params.now.p s }
+    ensures lanes { cores.new.lanes ≡ cores.old.lanes
+        + thin_chunks_cost chunks.old params.now.log_n params.now.r params.now.p s }
 {
     let chunk_len = 128 * params.r() as usize;
-    let p = params.p() as usize;
-    // Step 1: B, which has p chunks.
-    pbkdf2_one(password, salt, chunks);
     // Step 2: for i = 0 to p - 1 do B[i] = scryptROMix (r, B[i], N).
-    'chunks: for i in 0..p {
+    'chunks: for i in 0..params.p() as usize {
         let at = i * chunk_len;
         let chunk = &mut chunks[at..at + chunk_len];
         mix_chunk::<Diagonal, M>(chunk, rows, scratch, params.log_n(), s, cores);

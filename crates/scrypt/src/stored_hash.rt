@@ -9,7 +9,7 @@ ghost use Rattle.scrypt.specs.StoredHash.{HasReading, IsStoredText, Reads, is_mc
 ghost use Rattle.scrypt.specs.StoredRead.{IsHashOf};
 ghost use Rattle.scrypt.specs.WorkInBuffers.{IsLeft, verdict_in, work_in};
 
-mod parts;
+pub(crate) mod parts;
 mod two;
 mod within;
 
@@ -108,18 +108,10 @@ impl<'a> StoredHash<'a> {
     pub fn verify(&self, alloc: Global, password: &[u8]) -> Result<()>
         ensures verdict { IsVerdict password.now self.now.whole (told result) }
     {
-        let parts = match self.parts() {
-            Ok(parts) => parts,
-            Err(error) => return Err(error),
-        };
-        verify_allocating(
-            alloc,
-            password,
-            parts.salt,
-            &parts.params,
-            &parts.key,
-            parts.key_len,
-        )
+        match self.parts() {
+            Ok(parts) => verify_allocating(alloc, password, &parts),
+            Err(error) => Err(error),
+        }
     }
 
     /// Returns whether `log_n`, `r`, `p` or the length of the key is below that of `wanted`, which
@@ -182,17 +174,7 @@ impl<'a> StoredHash<'a> {
             (work_in chunks.old table.old scratch.old cores.old) (work_in chunks.new table.new scratch.new cores.new) }
     {
         match self.parts() {
-            Ok(parts) => verify_in_buffers(
-                password,
-                parts.salt,
-                &parts.params,
-                &parts.key,
-                parts.key_len,
-                chunks,
-                table,
-                scratch,
-                cores,
-            ),
+            Ok(parts) => verify_in_buffers(password, &parts, chunks, table, scratch, cores),
             Err(unread) => Err(unread),
         }
     }

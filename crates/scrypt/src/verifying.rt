@@ -1,17 +1,19 @@
 // Verifying, in every format, with any source of memory.
 
-ghost use Rattle.std.specs.Prelude.{◌≡◌, ◌↔◌, ℕ, ◌+◌, ◌*◌, ◌^◌, ◌≤◌, List, length, replicate, if◌then◌else◌, IsTrue, Err, Ok};
+ghost use Rattle.std.specs.Prelude.{◌≡◌, ◌↔◌, ◌+◌, ◌*◌, ◌^◌, ◌≤◌, length, replicate, if◌then◌else◌, IsTrue, Err, Ok};
 ghost use Rattle.password_hash.specs.Refusal.{PasswordInvalid};
-ghost use Rattle.scrypt.specs.Accepted.{IsOutputLen};
 ghost use Rattle.scrypt.specs.Cost.{chunks_bytes, cost, scratch_words, table_words};
-ghost use Rattle.scrypt.specs.Reading.{IsVerdict, is_right, told};
+ghost use Rattle.scrypt.specs.Reading.{IsVerdict, Stored, is_right, told};
+ghost use Rattle.scrypt.specs.StoredParts.{ArePartsOf};
 ghost use Rattle.scrypt.specs.WorkInBuffers.{IsVerifying, work_in};
 
 pub(crate) mod two;
 
 use crate::buffers::{Buffers, used_lens};
-use crate::comparing::{StoredKey, is_derived_key};
+use crate::comparing::is_derived_key;
+use crate::derivation::derive_chunks;
 use crate::derivation::tables::Tables;
+use crate::stored_hash::parts::Parts;
 use crate::{CoreCount, Params};
 use password_hash::{Error, Result};
 use std::alloc::Global;
@@ -29,33 +31,29 @@ fn verdict(same: bool) -> Result<()>
 
 // Derives the key of the stored one's length, in any memory, and returns whether it is the stored
 // key. Afterwards the chunks and the scratch are zeros.
-fn is_key_of<T: Tables, K: StoredKey>(
+fn is_key_of<T: Tables>(
     password: &[u8],
-    salt: &[u8],
-    params: &Params,
-    key: &K,
-    key_len: usize,
+    parts: &Parts<'_>,
     chunks: &mut [u8],
     tables: &mut T,
     scratch: &mut [u32],
     cores: &mut CoreCount,
 ) -> bool
-    requires len { IsOutputLen key_len }
-    requires key { (bytes : List ℕ) × K.is_key key.now bytes × (length bytes ≡ key_len) }
-    requires chunks { length chunks.old ≡ chunks_bytes params.now.r params.now.p }
-    requires room { table_words params.now.log_n params.now.r ≤ T.room tables.old }
-    requires scratch { scratch_words params.now.r ≤ length scratch.old }
-    ensures exact { (bytes : List ℕ) → K.is_key key.now bytes → length bytes ≡ key_len
-        → result ≡ is_right password.now (record { params = params.now; salt = salt.now; key = bytes }) }
+    requires parts { (s : Stored) × ArePartsOf s parts.now }
+    requires chunks { length chunks.old ≡ chunks_bytes parts.now.params.r parts.now.params.p }
+    requires room { table_words parts.now.params.log_n parts.now.params.r ≤ T.room tables.old }
+    requires scratch { scratch_words parts.now.params.r ≤ length scratch.old }
+    ensures exact { (s : Stored) → ArePartsOf s parts.now → result ≡ is_right password.now s }
     ensures all { cores.new.all ≡ cores.old.all
-        + cost params.now.log_n params.now.r params.now.p }
+        + cost parts.now.params.log_n parts.now.params.r parts.now.params.p }
     ensures lanes { cores.new.lanes ≡ cores.old.lanes
-        + cost params.now.log_n params.now.r params.now.p }
-    ensures chunks { chunks.new ≡ replicate (chunks_bytes params.now.r params.now.p) 0 }
+        + cost parts.now.params.log_n parts.now.params.r parts.now.params.p }
+    ensures chunks { chunks.new ≡ replicate (length chunks.old) 0 }
     ensures scratch { scratch.new ≡ replicate (length scratch.old) 0 }
 {
-    tables.mix(password, salt, params, chunks, scratch, cores);
-    let same = is_derived_key(password, chunks, key, key_len);
+    derive_chunks(password, parts.salt, &parts.params, chunks);
+    tables.mix(&parts.params, chunks, scratch, cores);
+    let same = is_derived_key(password, chunks, parts);
     chunks.fill(0);
     scratch.fill(0);
     same
@@ -65,27 +63,15 @@ fn is_key_of<T: Tables, K: StoredKey>(
 /// scratch, allocated in this order.
 ///
 /// Returns `OutOfMemory` if an allocation fails, and otherwise `PasswordInvalid` if the keys differ.
-pub(crate) fn verify_allocating<K: StoredKey>(
-    alloc: Global,
-    password: &[u8],
-    salt: &[u8],
-    params: &Params,
-    key: &K,
-    key_len: usize,
-) -> Result<()>
-    requires len { IsOutputLen key_len }
-    requires key { (bytes : List ℕ) × K.is_key key.now bytes × (length bytes ≡ key_len) }
-    ensures compared { (bytes : List ℕ) → K.is_key key.now bytes → length bytes ≡ key_len
-        → IsVerdict password.now (Ok (record { params = params.now; salt = salt.now; key = bytes })) (told result) }
+pub(crate) fn verify_allocating(alloc: Global, password: &[u8], parts: &Parts<'_>) -> Result<()>
+    requires parts { (s : Stored) × ArePartsOf s parts.now }
+    ensures verdict { (s : Stored) → ArePartsOf s parts.now → IsVerdict password.now (Ok s) (told result) }
 {
-    let mut own = Buffers::allocate(alloc, params)?;
+    let mut own = Buffers::allocate(alloc, &parts.params)?;
     let mut cores = CoreCount::new();
-    let same = is_key_of::<Vec<u32>, K>(
+    let same = is_key_of::<Vec<u32>>(
         password,
-        salt,
-        params,
-        key,
-        key_len,
+        parts,
         &mut own.chunks,
         &mut own.table,
         &mut own.scratch,
@@ -96,33 +82,26 @@ pub(crate) fn verify_allocating<K: StoredKey>(
 
 /// Verifies with the parts of a hash, in the caller's buffers. Does not allocate.
 ///
-/// Returns `OutOfMemory` exactly if a buffer is too short for `params`, and changes nothing then, and
-/// otherwise `PasswordInvalid` if the keys differ.
-pub(crate) fn verify_in_buffers<K: StoredKey>(
+/// Returns `OutOfMemory` exactly if a buffer is too short for its parameters, and changes nothing
+/// then, and otherwise `PasswordInvalid` if the keys differ.
+pub(crate) fn verify_in_buffers(
     password: &[u8],
-    salt: &[u8],
-    params: &Params,
-    key: &K,
-    key_len: usize,
+    parts: &Parts<'_>,
     chunks: &mut [u8],
     table: &mut [u32],
     scratch: &mut [u32],
     cores: &mut CoreCount,
 ) -> Result<()>
-    requires len { IsOutputLen key_len }
-    requires key { (bytes : List ℕ) × K.is_key key.now bytes × (length bytes ≡ key_len) }
-    ensures compared { (bytes : List ℕ) → K.is_key key.now bytes → length bytes ≡ key_len
-        → IsVerifying password.now (Ok (record { params = params.now; salt = salt.now; key = bytes })) result
+    requires parts { (s : Stored) × ArePartsOf s parts.now }
+    ensures verifying { (s : Stored) → ArePartsOf s parts.now → IsVerifying password.now (Ok s) result
         (work_in chunks.old table.old scratch.old cores.old) (work_in chunks.new table.new scratch.new cores.new) }
 {
-    let Some(lens) = used_lens(params, chunks, table, scratch) else {
+    let Some(lens) = used_lens(&parts.params, chunks, table, scratch) else {
         return Err(Error::OutOfMemory);
     };
     let chunks = &mut chunks[..lens.chunks];
     let mut table = &mut table[..lens.table];
     let scratch = &mut scratch[..lens.scratch];
-    let same = is_key_of::<&mut [u32], K>(
-        password, salt, params, key, key_len, chunks, &mut table, scratch, cores,
-    );
+    let same = is_key_of::<&mut [u32]>(password, parts, chunks, &mut table, scratch, cores);
     verdict(same)
 }

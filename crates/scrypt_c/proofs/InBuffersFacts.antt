@@ -5,8 +5,9 @@ use Rattle.password_hash.specs.Refusal.{Refusal}
 use Rattle.scrypt.specs.Accepted.{Parameters}
 use Rattle.scrypt.specs.Reading.{Stored}
 use Rattle.scrypt.specs.TwoVerdicts as two
+use Rattle.scrypt.specs.TwoVerdicts.{hold_two}
 use Rattle.scrypt.specs.WorkInBuffers.{IsDone, IsLeft, Work, has_room, verdict_in}
-use Rattle.scrypt_c.specs.InBuffers.{AreLeft, AreTwoLeft, AreUsed, at_once, buffers, in_turn}
+use Rattle.scrypt_c.specs.InBuffers.{AreBothUsed, AreLeft, AreTwoLeft, AreUsed, buffers}
 
 -- the buffers without the count
 abbrev uncounted : Work → Work
@@ -27,12 +28,30 @@ left_uncounted (Ok s) before after left =
     rw (has_room_uncounted s.params before) (done_left (has_room s.params before) s.params before after left)
 left_uncounted (Err why) before after same = ap uncounted same
 
+in_turn_uncounted : (reading other : Result Stored Refusal) (before after : Work)
+    → two.AreLeftInTurn IsLeft reading other before after → two.AreLeftInTurn AreLeft reading other (uncounted before) (uncounted after)
+in_turn_uncounted reading other before after (between, left, other_left) =
+    (uncounted between, left_uncounted reading before between left, left_uncounted other between after other_left)
+
+both_left : (test : Bool) (s other : Stored) (before after : Work)
+    → MatchBool test (two.AreDone s.params other.params before after) (two.AreLeftInTurn IsLeft (Ok s) (Ok other) before after)
+    → MatchBool test (AreBothUsed s.params other.params (uncounted before) (uncounted after))
+    (two.AreLeftInTurn AreLeft (Ok s) (Ok other) (uncounted before) (uncounted after))
+both_left true s other before after done = record { chunks = done.chunks; scratch = done.scratch; rest = done.rest }
+both_left false s other before after turn = in_turn_uncounted (Ok s) (Ok other) before after turn
+
 pub two_left_uncounted : (reading other : Result Stored Refusal) (before after : Work)
-    → two.AreLeft IsLeft reading other before after → AreTwoLeft reading other (uncounted before) (uncounted after)
-two_left_uncounted reading other before after (two.in_turn {between = between} left other_left) =
-    in_turn (uncounted between) (left_uncounted reading before between left) (left_uncounted other between after other_left)
-two_left_uncounted (Ok s) (Ok other) before after (two.at_once same done) =
-    at_once same (record { chunks = done.chunks; scratch = done.scratch; rest = done.rest })
+    → two.AreLeft IsLeft two.AreDone reading other before after → AreTwoLeft reading other (uncounted before) (uncounted after)
+two_left_uncounted (Ok s) (Ok other) before after left =
+    both_left (hold_two s.params other.params before.chunks before.table before.scratch) s other before after left
+two_left_uncounted (Ok s) (Err why) before after turn = in_turn_uncounted (Ok s) (Err why) before after turn
+two_left_uncounted (Err why) other before after turn = in_turn_uncounted (Err why) other before after turn
+
+-- beside a text that cannot be read, one is verified after the other
+pub in_turn_left : (reading : Result Stored Refusal) (why : Refusal) (before after : Work)
+    → two.AreLeftInTurn AreLeft reading (Err why) before after → AreTwoLeft reading (Err why) before after
+in_turn_left (Ok s) why before after turn = turn
+in_turn_left (Err _) why before after turn = turn
 
 -- a verdict doesn't depend on the count
 pub verdict_uncounted : (w : Work) (password : List ℕ) (reading : Result Stored Refusal)

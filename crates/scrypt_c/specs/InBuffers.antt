@@ -5,6 +5,8 @@ use Rattle.scrypt.specs.Accepted.{Parameters}
 use Rattle.scrypt.specs.Cost.{chunks_bytes, scratch_words, table_words}
 use Rattle.scrypt.specs.InBuffers.{IsWiped}
 use Rattle.scrypt.specs.Reading.{Stored}
+use Rattle.scrypt.specs.TwoVerdicts as two
+use Rattle.scrypt.specs.TwoVerdicts.{both_chunks_bytes}
 use Rattle.scrypt.specs.WorkInBuffers.{Work, has_room, tables_used}
 
 -- the buffers of a call, which counts from 0
@@ -32,16 +34,13 @@ abbrev pub AreLeft : Result Stored Refusal → Work → Work → Type 0
 AreLeft (Ok s) before after = MatchBool (has_room s.params before) (AreUsed s.params before after) (after ≡ before)
 AreLeft (Err why) before after = after ≡ before
 
--- two derivations with these parameters were done at once, each in a half of what they used
-pub record AreBothUsed (c : Parameters) (before after : Work) : Type 0 where
-  pub chunks : IsWiped (2 * chunks_bytes c.r c.p) before.chunks after.chunks
+-- two derivations with these parameters, which have the same N and the same r, were done at once
+pub record AreBothUsed (c other : Parameters) (before after : Work) : Type 0 where
+  pub chunks : IsWiped (both_chunks_bytes c other) before.chunks after.chunks
   pub scratch : IsWiped (2 * scratch_words c.r) before.scratch after.scratch
   pub rest : drop (2 * table_words c.log_n c.r) after.table ≡ drop (2 * table_words c.log_n c.r) before.table
 
--- what verifying two hashes leaves: what that of each leaves, one after the other, or, if both have the same parameters,
--- what two derivations at once leave
-pub data AreTwoLeft : Result Stored Refusal → Result Stored Refusal → Work → Work → Type 0 where
-  in_turn : {reading other : Result Stored Refusal} {before after : Work} → (between : Work)
-      → AreLeft reading before between → AreLeft other between after → AreTwoLeft reading other before after
-  at_once : {s other : Stored} {before after : Work}
-      → s.params ≡ other.params → AreBothUsed s.params before after → AreTwoLeft (Ok s) (Ok other) before after
+-- what verifying two hashes leaves: what two derivations at once leave, if keys of both are compared and the buffers hold
+-- two, and otherwise what verifying each leaves, one after the other
+abbrev pub AreTwoLeft : Result Stored Refusal → Result Stored Refusal → Work → Work → Type 0
+AreTwoLeft = two.AreLeft AreLeft AreBothUsed

@@ -165,9 +165,10 @@ pub extern "C" fn scrypt_verify_with_buffers(
 /// Verifies two passwords, each with its own hash, in the caller's buffers. Does not allocate.
 ///
 /// Returns what `scrypt_verify_with_buffers` returns for the first alone in these buffers, and writes
-/// to `other_status` what it returns for the other alone, whatever the first is. If both hashes have
-/// the same parameters, and each buffer is at least twice as long as `scrypt_buffer_lens` returns for
-/// them, with `s` of 0, both keys are derived at once, which takes about 0.7 of the time. Afterwards
+/// to `other_status` what it returns for the other alone, whatever the first is. If keys of both are
+/// compared, the `log_n` and the `r` of both hashes are the same, the chunks are at least as long as
+/// those of both that `scrypt_buffer_lens` returns, with `s` of 0, and the table and the scratch are
+/// at least twice as long, both keys are derived at once, which takes about 0.7 of the time. Afterwards
 /// what was used of the chunks and of the scratch is zeros, what was used of the table is
 /// unspecified, and nothing after them has changed.
 #[unsafe(no_mangle)]

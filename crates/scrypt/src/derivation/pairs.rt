@@ -1,46 +1,37 @@
-// Steps 1 and 2 of a derivation (RFC 7914, section 6), two chunks at a time.
+// Step 2 of a derivation (RFC 7914, section 6), two chunks at a time.
 
 ghost use Rattle.std.specs.Prelude.{◌≡◌, ◌+◌, ◌*◌, ◌≤◌, length};
 ghost use Rattle.scrypt.specs.Cost.{chunks_bytes, cost, scratch_words, table_words};
-ghost use Rattle.scrypt.specs.Key.{chunks_of};
+ghost use Rattle.scrypt.specs.Key.{mixed_chunks};
 
-use crate::{CoreCount, Params};
+use crate::{BufferLens, CoreCount, Params};
 use scrypt_kernel::memory::Buffer;
 use scrypt_kernel::order::diagonal::Diagonal;
-use scrypt_kernel::pbkdf2::pbkdf2_one;
 use scrypt_kernel::romix::mix_chunk;
 use scrypt_kernel::romix::pair::mix_two_chunks;
 
-/// `chunks` becomes B after its chunks were mixed, two at a time and the last alone if `p` is odd.
+/// Each of `count` chunks becomes its scryptROMix, two at a time and the last alone if their number is
+/// odd. They are those of one derivation or of several, all with the `N` and the `r` of `params`.
 ///
-/// Each table has room for all rows.
-pub(crate) fn mix_chunk_pairs(
-    password: &[u8],
-    salt: &[u8],
+/// There is room for two tables and for two scratches.
+pub(crate) fn mix_pairs(
     params: &Params,
+    count: usize,
     chunks: &mut [u8],
     table: &mut [u32],
-    other_table: &mut [u32],
     scratch: &mut [u32],
     cores: &mut CoreCount,
 )
-    requires chunks { length chunks.old ≡ chunks_bytes params.now.r params.now.p }
-    requires room { table_words params.now.log_n params.now.r ≤ length table.old }
-    requires other_room { table_words params.now.log_n params.now.r ≤ length other_table.old }
+    requires chunks { length chunks.old ≡ chunks_bytes params.now.r count }
+    requires room { 2 * table_words params.now.log_n params.now.r ≤ length table.old }
     requires scratch { 2 * scratch_words params.now.r ≤ length scratch.old }
-    ensures value { chunks.new ≡ chunks_of password.now salt.now
-        params.now.log_n params.now.r params.now.p }
-    ensures all { cores.new.all ≡ cores.old.all
-        + cost params.now.log_n params.now.r params.now.p }
-    ensures lanes { cores.new.lanes ≡ cores.old.lanes
-        + cost params.now.log_n params.now.r params.now.p }
+    ensures value { chunks.new ≡ mixed_chunks chunks.old params.now.log_n params.now.r count }
+    ensures all { cores.new.all ≡ cores.old.all + cost params.now.log_n params.now.r count }
+    ensures lanes { cores.new.lanes ≡ cores.old.lanes + cost params.now.log_n params.now.r count }
 {
     let chunk_len = 128 * params.r() as usize;
-    let p = params.p() as usize;
-    // Step 1: B, which has p chunks.
-    pbkdf2_one(password, salt, chunks);
-    // Step 2: for i = 0 to p - 1 do B[i] = scryptROMix (r, B[i], N).
-    'pairs: for k in 0..p / 2 {
+    let (table, other_table) = table.split_at_mut(BufferLens::of(params).table);
+    'pairs: for k in 0..count / 2 {
         let at = 2 * k * chunk_len;
         let (front, back) = chunks.split_at_mut(at + chunk_len);
         let (chunk, other_chunk) = (&mut front[at..], &mut back[..chunk_len]);
@@ -54,8 +45,8 @@ pub(crate) fn mix_chunk_pairs(
             cores,
         );
     }
-    if p % 2 == 1 {
-        let at = (p - 1) * chunk_len;
+    if count % 2 == 1 {
+        let at = (count - 1) * chunk_len;
         let chunk = &mut chunks[at..at + chunk_len];
         let mut rows = Buffer::new(table);
         mix_chunk::<Diagonal, Buffer<'_>>(chunk, &mut rows, scratch, params.log_n(), 0, cores);

@@ -3,12 +3,12 @@
 ghost use Rattle.std.specs.Prelude.{◌≡◌, ℕ, ◌+◌, ◌≤◌, length};
 ghost use Rattle.std.specs.Vec.{vec_capacity};
 ghost use Rattle.scrypt.specs.Cost.{chunks_bytes, cost, scratch_words, table_words};
-ghost use Rattle.scrypt.specs.Key.{chunks_of};
+ghost use Rattle.scrypt.specs.Key.{mixed_chunks};
 
 use crate::buffers::uses_two_tables;
 use crate::derivation::mix_chunks;
-use crate::derivation::pairs::mix_chunk_pairs;
-use crate::{BufferLens, CoreCount, Params};
+use crate::derivation::pairs::mix_pairs;
+use crate::{CoreCount, Params};
 use scrypt_kernel::memory::Buffer;
 
 /// Memory for one table or more.
@@ -16,14 +16,12 @@ pub(crate) trait Tables {
     // how many words it has room for
     ghost room: { Self → ℕ };
 
-    /// Steps 1 and 2 (RFC 7914, section 6): `chunks` becomes B after its chunks were mixed.
+    /// Step 2 (RFC 7914, section 6): each of the `p` chunks becomes its scryptROMix.
     ///
     /// There is room for at least one table in this memory, and for at least one scratch in
     /// `scratch`.
     fn mix(
         &mut self,
-        password: &[u8],
-        salt: &[u8],
         params: &Params,
         chunks: &mut [u8],
         scratch: &mut [u32],
@@ -32,7 +30,7 @@ pub(crate) trait Tables {
         requires chunks { length chunks.old ≡ chunks_bytes params.now.r params.now.p }
         requires room { table_words params.now.log_n params.now.r ≤ room self.old }
         requires scratch { scratch_words params.now.r ≤ length scratch.old }
-        ensures value { chunks.new ≡ chunks_of password.now salt.now
+        ensures value { chunks.new ≡ mixed_chunks chunks.old
             params.now.log_n params.now.r params.now.p }
         ensures all { cores.new.all ≡ cores.old.all
             + cost params.now.log_n params.now.r params.now.p }
@@ -46,14 +44,12 @@ impl Tables for Vec<u32> {
 
     fn mix(
         &mut self,
-        password: &[u8],
-        salt: &[u8],
         params: &Params,
         chunks: &mut [u8],
         scratch: &mut [u32],
         cores: &mut CoreCount,
     ) {
-        mix_chunks::<Vec<u32>>(password, salt, params, 0, chunks, self, scratch, cores);
+        mix_chunks::<Vec<u32>>(params, 0, chunks, self, scratch, cores);
     }
 }
 
@@ -64,8 +60,6 @@ impl<'a> Tables for &'a mut [u32] {
 
     fn mix(
         &mut self,
-        password: &[u8],
-        salt: &[u8],
         params: &Params,
         chunks: &mut [u8],
         scratch: &mut [u32],
@@ -73,20 +67,10 @@ impl<'a> Tables for &'a mut [u32] {
     ) {
         let table = &mut **self;
         if uses_two_tables(params, table, scratch) {
-            let (table, other_table) = table.split_at_mut(BufferLens::of(params).table);
-            mix_chunk_pairs(
-                password,
-                salt,
-                params,
-                chunks,
-                table,
-                other_table,
-                scratch,
-                cores,
-            );
+            mix_pairs(params, params.p() as usize, chunks, table, scratch, cores);
         } else {
             let mut rows = Buffer::new(table);
-            mix_chunks::<Buffer<'_>>(password, salt, params, 0, chunks, &mut rows, scratch, cores);
+            mix_chunks::<Buffer<'_>>(params, 0, chunks, &mut rows, scratch, cores);
         }
     }
 }

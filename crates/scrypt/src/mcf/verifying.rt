@@ -7,6 +7,7 @@ ghost use Rattle.scrypt.specs.Reading.{verdict as verdict_of};
 
 use crate::Scrypt;
 use crate::mcf::reading::stored_of_mcf;
+use crate::stored_hash::parts::{Key, Parts};
 use crate::verifying::verify_allocating;
 use password_hash::mcf::{PasswordHash, PasswordHashRef};
 use password_hash::{PasswordVerifier, Result};
@@ -33,14 +34,15 @@ impl<'a> PasswordVerifier<PasswordHashRef<'a>> for Scrypt {
         hash: &PasswordHashRef<'a>,
     ) -> Result<()> {
         match stored_of_mcf(hash) {
-            Ok(stored) => verify_allocating(
-                alloc,
-                password,
-                stored.salt,
-                &stored.params,
-                &stored.key,
-                stored.key_len,
-            ),
+            Ok(stored) => {
+                let parts = Parts {
+                    params: stored.params,
+                    salt: stored.salt,
+                    key: Key::Mcf(stored.key),
+                    key_len: stored.key_len,
+                };
+                verify_allocating(alloc, password, &parts)
+            }
             Err(error) => Err(error),
         }
     }

@@ -6,6 +6,7 @@ ghost use Rattle.scrypt.specs.Reading.{verdict as verdict_of};
 
 use crate::Scrypt;
 use crate::phc::reading::{read_params, stored_of};
+use crate::stored_hash::parts::{Key, Parts};
 use crate::verifying::verify_allocating;
 use password_hash::phc::PasswordHash;
 use password_hash::{PasswordVerifier, Result};
@@ -26,14 +27,15 @@ impl PasswordVerifier<PasswordHash> for Scrypt {
     /// keys differ.
     fn verify_password(&self, alloc: Global, password: &[u8], hash: &PasswordHash) -> Result<()> {
         match stored_of(hash, &read_params(hash)) {
-            Ok(stored) => verify_allocating(
-                alloc,
-                password,
-                stored.salt,
-                &stored.params,
-                stored.key,
-                stored.key.len(),
-            ),
+            Ok(stored) => {
+                let parts = Parts {
+                    params: stored.params,
+                    salt: stored.salt,
+                    key: Key::Phc(stored.key),
+                    key_len: stored.key.len(),
+                };
+                verify_allocating(alloc, password, &parts)
+            }
             Err(error) => Err(error),
         }
     }

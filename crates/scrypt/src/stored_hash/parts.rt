@@ -1,13 +1,13 @@
 // What a stored hash of either format holds.
 
-ghost use Rattle.std.specs.Prelude.{◌≡◌, ℕ, List, length, IfErr, IfOk, Err, Ok};
+ghost use Rattle.std.specs.Prelude.{◌≡◌, ◌↔◌, ℕ, List, length, take, drop, IfErr, IfOk, IsTrue, Err, Ok};
+ghost use Rattle.password_hash.specs.Crypt64.{IsPiece};
 ghost use Rattle.password_hash.specs.Refusal.{refusal};
-ghost use Rattle.scrypt.specs.Accepted.{IsOutputLen};
-ghost use Rattle.scrypt.specs.StoredParts.{IsKey};
+ghost use Rattle.scrypt.specs.Reading.{Stored};
+ghost use Rattle.scrypt.specs.StoredParts.{ArePartsOf, IsKey};
 
 use super::{Format, StoredHash};
 use crate::Params;
-use crate::comparing::StoredKey;
 use crate::mcf::reading::stored_of_mcf;
 use crate::phc::reading::stored_of;
 use password_hash::Result;
@@ -21,12 +21,14 @@ pub(crate) enum Key<'a> {
     Phc(&'a Output),
 }
 
-impl<'a> StoredKey for Key<'a> {
-    ghost use Rattle.scrypt.specs.StoredParts.{IsKey};
-
-    ghost is_key = { IsKey };
-
-    fn matches_at(&self, at: usize, bytes: &[u8]) -> bool {
+impl<'a> Key<'a> {
+    /// Returns whether `bytes` are those of the key at byte `at`. Every byte is compared, also
+    /// after a difference.
+    pub(crate) fn matches_at(&self, at: usize, bytes: &[u8]) -> bool
+        requires piece { (key : List ℕ) × IsKey self.now key × IsPiece at (length bytes.now) (length key) }
+        ensures exact { (key : List ℕ) → IsKey self.now key
+            → IsTrue result ↔ (bytes.now ≡ take (length bytes.now) (drop at key)) }
+    {
         match self {
             Key::Mcf(field) => field.base64_matches_at(at, bytes),
             Key::Phc(output) => output.matches_at(at, bytes),
@@ -47,9 +49,7 @@ pub(crate) struct Parts<'a> {
 impl<'a> StoredHash<'a> {
     /// Returns the parts of the hash, or the error of reading it.
     pub(crate) fn parts(&self) -> Result<Parts<'_>>
-        ensures ok { IfOk result (λ parts. (key : List ℕ) × IsKey parts.key key × (length key ≡ parts.key_len)
-            × (self.now.whole ≡ Ok (record { params = parts.params; salt = parts.salt.now; key = key }))) }
-        ensures len { IfOk result (λ parts. IsOutputLen parts.key_len) }
+        ensures ok { IfOk result (λ parts. (s : Stored) × ArePartsOf s parts × (self.now.whole ≡ Ok s)) }
         ensures err { IfErr result (λ e. self.now.whole ≡ Err (refusal e)) }
     {
         match &self.format {

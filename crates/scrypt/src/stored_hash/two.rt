@@ -1,12 +1,14 @@
 // Verifying two stored hashes in the caller's buffers, at once if possible.
 
-ghost use Rattle.std.specs.Prelude.{◌≡◌};
-ghost use Rattle.scrypt.specs.Reading.{told};
-ghost use Rattle.scrypt.specs.TwoVerdicts.{AreLeft};
+ghost use Rattle.std.specs.Prelude.{◌≡◌, true, false, IfSome, None, Ok};
+ghost use Rattle.scrypt.specs.Reading.{Stored, told};
+ghost use Rattle.scrypt.specs.StoredParts.{ArePartsOf};
+ghost use Rattle.scrypt.specs.TwoVerdicts.{AreDone, AreLeft, hold_two};
 ghost use Rattle.scrypt.specs.WithinLimits.{IsLeftWithin, told_within, verdict_within, within};
 ghost use Rattle.scrypt.specs.WorkInBuffers.{IsLeft, verdict_in, work_in};
 
 use super::StoredHash;
+use super::parts::Parts;
 use super::within::without_limits;
 use crate::buffers::hold_two;
 use crate::verifying::two::verify_at_once;
@@ -17,11 +19,12 @@ impl<'a> StoredHash<'a> {
     /// [`StoredHash::verify_with_buffers`] does it alone in these buffers, whatever the other is.
     /// Does not allocate.
     ///
-    /// If both hashes can be read and have the same parameters, and each buffer is at least as long
-    /// as [`BufferLens::two_derivations`](crate::BufferLens::two_derivations) returns for them, both
-    /// keys are derived at once, which takes about 0.7 of the time. Otherwise they are derived one
-    /// after the other. Afterwards all that was used of `chunks` and `scratch` is zeros. `cores`
-    /// counts the `4 * N * r * p` cores of each hash whose keys are compared.
+    /// If both hashes can be read, have the same `N` and the same `r`, and each buffer is at least as
+    /// long as [`BufferLens::two_derivations`](crate::BufferLens::two_derivations) returns for them,
+    /// both keys are derived at once: their chunks are mixed two at a time, which takes about 0.7 of
+    /// the time. Otherwise they are derived one after the other. Afterwards all that was used of
+    /// `chunks` and `scratch` is zeros. `cores` counts the `4 * N * r * p` cores of each hash whose
+    /// keys are compared.
     pub fn verify_two(
         &self,
         password: &[u8],
@@ -36,37 +39,59 @@ impl<'a> StoredHash<'a> {
             ≡ verdict_in (work_in chunks.old table.old scratch.old cores.old) password.now self.now.whole }
         ensures other_verdict { told result.1
             ≡ verdict_in (work_in chunks.old table.old scratch.old cores.old) other_password.now other.now.whole }
-        ensures left { AreLeft IsLeft self.now.whole other.now.whole
+        ensures left { AreLeft IsLeft AreDone self.now.whole other.now.whole
             (work_in chunks.old table.old scratch.old cores.old) (work_in chunks.new table.new scratch.new cores.new) }
     {
-        if let (Ok(parts), Ok(others)) = (self.parts(), other.parts()) {
-            if parts.params == others.params && hold_two(&parts.params, chunks, table, scratch) {
-                return verify_at_once(
-                    password,
-                    parts.salt,
-                    &parts.key,
-                    parts.key_len,
-                    other_password,
-                    others.salt,
-                    &others.key,
-                    others.key_len,
-                    &parts.params,
-                    chunks,
-                    table,
-                    scratch,
-                    cores,
-                );
-            }
+        match self.parts_of_two(other, chunks, table, scratch) {
+            Some((parts, others)) => verify_at_once(
+                password,
+                &parts,
+                other_password,
+                &others,
+                chunks,
+                table,
+                scratch,
+                cores,
+            ),
+            None => (
+                self.verify_with_buffers(password, chunks, table, scratch, cores),
+                other.verify_with_buffers(other_password, chunks, table, scratch, cores),
+            ),
         }
-        let result = self.verify_with_buffers(password, chunks, table, scratch, cores);
-        let other_result = other.verify_with_buffers(other_password, chunks, table, scratch, cores);
-        (result, other_result)
+    }
+
+    // Returns the parts of both hashes, if both can be read and their keys are derived at once in such
+    // buffers.
+    fn parts_of_two<'b>(
+        &'b self,
+        other: &'b StoredHash<'_>,
+        chunks: &[u8],
+        table: &[u32],
+        scratch: &[u32],
+    ) -> Option<(Parts<'b>, Parts<'b>)>
+        ensures some { IfSome result (λ both. (s t : Stored) × ArePartsOf s both.0 × ArePartsOf t both.1
+            × (self.now.whole ≡ Ok s) × (other.now.whole ≡ Ok t)
+            × (hold_two both.0.params both.1.params chunks.now table.now scratch.now ≡ true)) }
+        ensures none { result ≡ None → (s t : Stored) → self.now.whole ≡ Ok s → other.now.whole ≡ Ok t
+            → hold_two s.params t.params chunks.now table.now scratch.now ≡ false }
+    {
+        let Ok(parts) = self.parts() else {
+            return None;
+        };
+        let Ok(others) = other.parts() else {
+            return None;
+        };
+        if !hold_two(&parts.params, &others.params, chunks, table, scratch) {
+            return None;
+        }
+        Some((parts, others))
     }
 
     /// Verifies two passwords as [`StoredHash::verify_two`] does, each as
     /// [`StoredHash::verify_within`] does it alone. Does not allocate.
     ///
-    /// The limits are those of one verification: two at once use twice as much of the buffers.
+    /// The limits are those of one verification: two at once use the chunks of both, two tables and two
+    /// scratches.
     pub fn verify_two_within(
         &self,
         password: &[u8],
@@ -82,30 +107,24 @@ impl<'a> StoredHash<'a> {
             password.now (within limits.now self.now.whole) }
         ensures other_verdict { told_within result.1 ≡ verdict_within (work_in chunks.old table.old scratch.old cores.old)
             other_password.now (within limits.now other.now.whole) }
-        ensures left { AreLeft IsLeftWithin (within limits.now self.now.whole) (within limits.now other.now.whole)
+        ensures left { AreLeft IsLeftWithin AreDone (within limits.now self.now.whole) (within limits.now other.now.whole)
             (work_in chunks.old table.old scratch.old cores.old) (work_in chunks.new table.new scratch.new cores.new) }
     {
-        if self.is_within(limits) && other.is_within(limits) {
-            let (result, other_result) = self.verify_two(
-                password,
-                other,
-                other_password,
-                chunks,
-                table,
-                scratch,
-                cores,
+        if !self.is_within(limits) || !other.is_within(limits) {
+            return (
+                self.verify_within(password, limits, chunks, table, scratch, cores),
+                other.verify_within(other_password, limits, chunks, table, scratch, cores),
             );
-            return (without_limits(result), without_limits(other_result));
         }
-        let result = self.verify_within(password, limits, chunks, table, scratch, cores);
-        let other_result = other.verify_within(
+        let (result, other_result) = self.verify_two(
+            password,
+            other,
             other_password,
-            limits,
             chunks,
             table,
             scratch,
             cores,
         );
-        (result, other_result)
+        (without_limits(result), without_limits(other_result))
     }
 }

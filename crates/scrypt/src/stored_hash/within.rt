@@ -1,6 +1,6 @@
 // Verifying with stored hashes of either format within limits.
 
-ghost use Rattle.std.specs.Prelude.{◌≡◌, length, IsTrue, Ok};
+ghost use Rattle.std.specs.Prelude.{◌≡◌, ◌↔◌, length, IsOk, IsTrue, Ok};
 ghost use Rattle.scrypt.specs.Cost.{chunks_bytes, scratch_words, table_words};
 ghost use Rattle.scrypt.specs.Reading.{Stored, mapped, told};
 ghost use Rattle.scrypt.specs.WithinLimits.{IsLeftWithin, told_within, unbounded, verdict_within, within};
@@ -58,7 +58,8 @@ impl<'a> StoredHash<'a> {
 
     // Returns whether the hash can be read and is within the limits.
     pub(super) fn is_within(&self, limits: &Limits) -> bool
-        ensures { IsTrue result → (s : Stored) × (within limits.now self.now.whole ≡ Ok s) × (self.now.whole ≡ Ok s) }
+        ensures exact { IsTrue result ↔ IsOk (within limits.now self.now.whole) }
+        ensures read { IsTrue result → (s : Stored) × (within limits.now self.now.whole ≡ Ok s) × (self.now.whole ≡ Ok s) }
     {
         self.params_within(limits).is_ok()
     }

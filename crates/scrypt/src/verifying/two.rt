@@ -1,132 +1,94 @@
-// Verifying two passwords at once, each with its own salt and stored key, by the same parameters.
+// Verifying with two hashes at once, whose keys are derived with the same N and the same r.
 
-ghost use Rattle.std.specs.Prelude.{◌≡◌, ℕ, ◌+◌, ◌*◌, ◌≤◌, List, length, replicate, Ok};
-ghost use Rattle.scrypt.specs.Accepted.{IsOutputLen};
-ghost use Rattle.scrypt.specs.Cost.{chunks_bytes, cost, scratch_words, table_words};
-ghost use Rattle.scrypt.specs.Reading.{is_right, told, verdict as verdict_of};
-ghost use Rattle.scrypt.specs.TwoVerdicts.{AreDone};
+ghost use Rattle.std.specs.Prelude.{◌≡◌, ◌+◌, ◌*◌, ◌≤◌, length, replicate, Ok};
+ghost use Rattle.scrypt.specs.Cost.{scratch_words, table_words};
+ghost use Rattle.scrypt.specs.Reading.{Stored, is_right, told, verdict as verdict_of};
+ghost use Rattle.scrypt.specs.StoredParts.{ArePartsOf};
+ghost use Rattle.scrypt.specs.TwoVerdicts.{AreAlike, AreDone, both_chunks_bytes, both_cost};
 ghost use Rattle.scrypt.specs.WorkInBuffers.{work_in};
 
-use crate::comparing::{StoredKey, is_derived_key};
-use crate::derivation::two::mix_both_chunks;
+use crate::comparing::is_derived_key;
+use crate::derivation::derive_chunks;
+use crate::derivation::pairs::mix_pairs;
+use crate::stored_hash::parts::Parts;
 use crate::verifying::verdict;
-use crate::{BufferLens, CoreCount, Params};
+use crate::{BufferLens, CoreCount};
 use password_hash::Result;
 
-// Derives the key of each stored one's length, and returns whether each is its stored key.
-// Afterwards the chunks and the scratch are zeros.
-fn are_keys_of<K: StoredKey, L: StoredKey>(
+// Derives the key of each stored one's length, and returns whether each is its stored key. The chunks
+// of both are one list. Afterwards the chunks and the scratch are zeros.
+fn are_keys_of(
     password: &[u8],
-    salt: &[u8],
-    key: &K,
-    key_len: usize,
+    parts: &Parts<'_>,
     other_password: &[u8],
-    other_salt: &[u8],
-    other_key: &L,
-    other_key_len: usize,
-    params: &Params,
+    others: &Parts<'_>,
     chunks: &mut [u8],
-    other_chunks: &mut [u8],
     table: &mut [u32],
-    other_table: &mut [u32],
     scratch: &mut [u32],
     cores: &mut CoreCount,
 ) -> (bool, bool)
-    requires len { IsOutputLen key_len }
-    requires key { (bytes : List ℕ) × K.is_key key.now bytes × (length bytes ≡ key_len) }
-    requires other_len { IsOutputLen other_key_len }
-    requires other_key { (bytes : List ℕ) × L.is_key other_key.now bytes × (length bytes ≡ other_key_len) }
-    requires chunks { length chunks.old ≡ chunks_bytes params.now.r params.now.p }
-    requires other_chunks { length other_chunks.old ≡ chunks_bytes params.now.r params.now.p }
-    requires room { table_words params.now.log_n params.now.r ≤ length table.old }
-    requires other_room { table_words params.now.log_n params.now.r ≤ length other_table.old }
-    requires scratch { length scratch.old ≡ 2 * scratch_words params.now.r }
-    ensures exact { (bytes : List ℕ) → K.is_key key.now bytes → length bytes ≡ key_len
-        → result.0 ≡ is_right password.now (record { params = params.now; salt = salt.now; key = bytes }) }
-    ensures other_exact { (bytes : List ℕ) → L.is_key other_key.now bytes → length bytes ≡ other_key_len
-        → result.1 ≡ is_right other_password.now (record { params = params.now; salt = other_salt.now; key = bytes }) }
-    ensures all { cores.new.all ≡ cores.old.all
-        + 2 * cost params.now.log_n params.now.r params.now.p }
-    ensures lanes { cores.new.lanes ≡ cores.old.lanes
-        + 2 * cost params.now.log_n params.now.r params.now.p }
-    ensures chunks { chunks.new ≡ replicate (chunks_bytes params.now.r params.now.p) 0 }
-    ensures other_chunks { other_chunks.new ≡ replicate (chunks_bytes params.now.r params.now.p) 0 }
-    ensures scratch { scratch.new ≡ replicate (2 * scratch_words params.now.r) 0 }
+    requires parts { (s : Stored) × ArePartsOf s parts.now }
+    requires others { (s : Stored) × ArePartsOf s others.now }
+    requires alike { AreAlike parts.now.params others.now.params }
+    requires chunks { length chunks.old ≡ both_chunks_bytes parts.now.params others.now.params }
+    requires room { 2 * table_words parts.now.params.log_n parts.now.params.r ≤ length table.old }
+    requires scratch { 2 * scratch_words parts.now.params.r ≤ length scratch.old }
+    ensures exact { (s : Stored) → ArePartsOf s parts.now → result.0 ≡ is_right password.now s }
+    ensures other_exact { (s : Stored) → ArePartsOf s others.now → result.1 ≡ is_right other_password.now s }
+    ensures all { cores.new.all ≡ cores.old.all + both_cost parts.now.params others.now.params }
+    ensures lanes { cores.new.lanes ≡ cores.old.lanes + both_cost parts.now.params others.now.params }
+    ensures chunks { chunks.new ≡ replicate (length chunks.old) 0 }
+    ensures scratch { scratch.new ≡ replicate (length scratch.old) 0 }
 {
-    mix_both_chunks(
-        password,
-        salt,
-        other_password,
-        other_salt,
-        params,
-        chunks,
-        other_chunks,
-        table,
-        other_table,
-        scratch,
-        cores,
-    );
-    let same = is_derived_key(password, chunks, key, key_len);
-    let other_same = is_derived_key(other_password, other_chunks, other_key, other_key_len);
+    parts.params.known();
+    let len = BufferLens::of(&parts.params).chunks;
+    let count = parts.params.p() as usize + others.params.p() as usize;
+    let (front, back) = chunks.split_at_mut(len);
+    derive_chunks(password, parts.salt, &parts.params, front);
+    derive_chunks(other_password, others.salt, &others.params, back);
+    mix_pairs(&parts.params, count, chunks, table, scratch, cores);
+    let (front, back) = chunks.split_at(len);
+    let same = is_derived_key(password, front, parts);
+    let other_same = is_derived_key(other_password, back, others);
     chunks.fill(0);
-    other_chunks.fill(0);
     scratch.fill(0);
     (same, other_same)
 }
 
-/// Verifies with the parts of two hashes at once, in the caller's buffers, which have room for two
-/// derivations. Returns `PasswordInvalid` for each whose keys differ. Does not allocate.
-pub(crate) fn verify_at_once<K: StoredKey, L: StoredKey>(
+/// Verifies with the parts of two hashes at once, in the caller's buffers, which hold both. Returns
+/// `PasswordInvalid` for each whose keys differ. Does not allocate.
+pub(crate) fn verify_at_once(
     password: &[u8],
-    salt: &[u8],
-    key: &K,
-    key_len: usize,
+    parts: &Parts<'_>,
     other_password: &[u8],
-    other_salt: &[u8],
-    other_key: &L,
-    other_key_len: usize,
-    params: &Params,
+    others: &Parts<'_>,
     chunks: &mut [u8],
     table: &mut [u32],
     scratch: &mut [u32],
     cores: &mut CoreCount,
 ) -> (Result<()>, Result<()>)
-    requires len { IsOutputLen key_len }
-    requires key { (bytes : List ℕ) × K.is_key key.now bytes × (length bytes ≡ key_len) }
-    requires other_len { IsOutputLen other_key_len }
-    requires other_key { (bytes : List ℕ) × L.is_key other_key.now bytes × (length bytes ≡ other_key_len) }
-    requires chunks { 2 * chunks_bytes params.now.r params.now.p ≤ length chunks.old }
-    requires table { 2 * table_words params.now.log_n params.now.r ≤ length table.old }
-    requires scratch { 2 * scratch_words params.now.r ≤ length scratch.old }
-    ensures verdict { (bytes : List ℕ) → K.is_key key.now bytes → length bytes ≡ key_len
-        → told result.0 ≡ verdict_of password.now (Ok (record { params = params.now; salt = salt.now; key = bytes })) }
-    ensures other_verdict { (bytes : List ℕ) → L.is_key other_key.now bytes → length bytes ≡ other_key_len
-        → told result.1 ≡ verdict_of other_password.now (Ok (record { params = params.now; salt = other_salt.now; key = bytes })) }
-    ensures done { AreDone params.now
+    requires parts { (s : Stored) × ArePartsOf s parts.now }
+    requires others { (s : Stored) × ArePartsOf s others.now }
+    requires alike { AreAlike parts.now.params others.now.params }
+    requires chunks { both_chunks_bytes parts.now.params others.now.params ≤ length chunks.old }
+    requires table { 2 * table_words parts.now.params.log_n parts.now.params.r ≤ length table.old }
+    requires scratch { 2 * scratch_words parts.now.params.r ≤ length scratch.old }
+    ensures verdict { (s : Stored) → ArePartsOf s parts.now → told result.0 ≡ verdict_of password.now (Ok s) }
+    ensures other_verdict { (s : Stored) → ArePartsOf s others.now
+        → told result.1 ≡ verdict_of other_password.now (Ok s) }
+    ensures done { AreDone parts.now.params others.now.params
         (work_in chunks.old table.old scratch.old cores.old) (work_in chunks.new table.new scratch.new cores.new) }
 {
-    let one = BufferLens::of(params);
-    let two = BufferLens::two_tables(params);
-    let (chunks, rest) = chunks.split_at_mut(one.chunks);
-    let other_chunks = &mut rest[..one.chunks];
-    let (table, rest) = table.split_at_mut(one.table);
-    let other_table = &mut rest[..one.table];
-    let scratch = &mut scratch[..two.scratch];
-    let (same, other_same) = are_keys_of::<K, L>(
+    let two = BufferLens::two_tables(&parts.params);
+    let others_len = BufferLens::of(&others.params).chunks;
+    let (same, other_same) = are_keys_of(
         password,
-        salt,
-        key,
-        key_len,
+        parts,
         other_password,
-        other_salt,
-        other_key,
-        other_key_len,
-        params,
-        chunks,
-        other_chunks,
-        table,
-        other_table,
-        scratch,
+        others,
+        &mut chunks[..two.chunks + others_len],
+        &mut table[..two.table],
+        &mut scratch[..two.scratch],
         cores,
     );
     (verdict(same), verdict(other_same))

@@ -1,8 +1,10 @@
-use Rattle.std.proofs.Common.{◌≡◌, ◌↔◌, ℕ, ◌*◌, List, length, take, true}
+use Rattle.std.proofs.Common.{◌≡◌, ◌↔◌, ◌*◌, length, take, true}
 use Rattle.scrypt_kernel.specs.Pbkdf2.{pbkdf2}
+use Rattle.scrypt.specs.Reading.{Stored}
+use Rattle.scrypt.specs.StoredParts.{ArePartsOf}
 use Rattle.scrypt.proofs.comparing.is_derived_key.Given as goal
 
 -- the keys are the same as far as they were compared
 abbrev pub invariant-loop-i : goal.invariant-loop-i
-invariant-loop-i g l = (key : List ℕ) → g.K.StoredKey.is_key l.key key → length key ≡ l.len
-    → (l.same ≡ true) ↔ (take (96 * l.i) key ≡ take (96 * l.i) (pbkdf2 l.password l.mixed l.len))
+invariant-loop-i l = (s : Stored) → ArePartsOf s l.parts
+    → (l.same ≡ true) ↔ (take (96 * l.i) s.key ≡ take (96 * l.i) (pbkdf2 l.password l.mixed (length s.key)))

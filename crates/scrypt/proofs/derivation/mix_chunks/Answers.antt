@@ -3,10 +3,8 @@ use Rattle.std.proofs.lemmas.List.{length-drop, length-take-le}
 use Rattle.scrypt_kernel.specs.Words.{bytes_of, part, words_of}
 use Rattle.scrypt_kernel.specs.RoMix.{ro_mix}
 use Rattle.scrypt_kernel.specs.Table.{extra_rows, thin_ro_mix_cost}
-use Rattle.scrypt_kernel.specs.Pbkdf2.{pbkdf2}
 use Rattle.scrypt.specs.Cost.{extra_rows_of_chunks}
-use Rattle.scrypt.specs.Key.{mixed_chunks}
-use Rattle.scrypt.proofs.KeyFacts.{mixed_more, mixed_all}
+use Rattle.scrypt.proofs.KeyFacts.{chunks_are, mixed_more}
 use Rattle.scrypt.proofs.CostFacts.{counted_chunk}
 use Rattle.scrypt_kernel.proofs.PartFacts.{part_of_slice, parts_apart}
 use Rattle.scrypt.proofs.derivation.mix_chunks.Goals as goal
@@ -26,7 +24,7 @@ chunks-preserved g c =
     let log_n = c.args.params.now.log_n in
     let i = c.chunks.i in
     let x = c.chunks.chunks in
-    let b = c.pbkdf2_one.new.out in
+    let b = c.args.chunks.now in
     let s = c.args.s in
     let mixed = c.mix_chunk in
     let r_is : c.r.result ≡ r = c.r.ensures.value in
@@ -59,12 +57,5 @@ chunks-preserved g c =
 
 pub returns-clause-value : goal.returns-clause-value
 returns-clause-value g c =
-    let r = c.args.params.now.r in
-    let p = c.args.params.now.p in
-    let log_n = c.args.params.now.log_n in
-    let b_is : c.pbkdf2_one.new.out ≡ pbkdf2 c.args.password.now c.args.salt.now (p * (128 * r)) =
-    c.pbkdf2_one.ensures.value ∙ ap (pbkdf2 c.args.password.now c.args.salt.now) c.requires.chunks in
-    let done : c.chunks.i ≡ p = omega arith in
-    let mixed : c.chunks.chunks ≡ mixed_chunks c.pbkdf2_one.new.out log_n r p =
-    mixed_all _ _ log_n r p (omega (arith, c.requires.chunks)) (rw done at c.chunks.invariant.mixed) in
-    mixed ∙ ap (λ z. mixed_chunks z log_n r p) b_is
+    chunks_are c.args.chunks.now _ c.args.params.now.log_n c.args.params.now.r c.args.params.now.p c.chunks.i
+    (omega arith) (omega (arith, c.requires.chunks)) c.chunks.invariant.mixed

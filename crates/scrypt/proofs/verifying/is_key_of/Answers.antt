@@ -1,14 +1,11 @@
-use Rattle.std.proofs.Common.{rules}
-use Rattle.scrypt.specs.Key.{derived_key}
-use Rattle.scrypt.proofs.ReadingFacts.{told_right}
+use Rattle.std.proofs.Common.{◌∙◌, ap}
+use Rattle.scrypt.specs.Key.{mixed_chunks}
+use Rattle.scrypt.proofs.ComparingFacts.{right_by_parts}
 use Rattle.scrypt.proofs.verifying.is_key_of.Goals as goal
 
 pub returns-clause-exact : goal.returns-clause-exact
-unfolding derived_key
-returns-clause-exact g c bytes is long =
-    let tells = rw (c.mix.ensures.value, ← long) at (c.is_derived_key-same.ensures.exact bytes is long) in
-    told_right c.args.password.now (record { params = c.args.params.now; salt = c.args.salt.now; key = bytes })
-    c.is_derived_key-same.result tells
-
-pub returns-clause-scratch : goal.returns-clause-scratch
-returns-clause-scratch g c = search rules
+returns-clause-exact g c s are =
+    let params = c.args.parts.now.params in
+    right_by_parts c.args.password.now c.mix.new.chunks s c.args.parts.now c.is_derived_key-same.result are
+    (c.mix.ensures.value ∙ ap (λ b. mixed_chunks b params.log_n params.r params.p) c.derive_chunks.ensures.value)
+    (c.is_derived_key-same.ensures.exact s are)

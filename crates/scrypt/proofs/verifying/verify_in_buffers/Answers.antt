@@ -5,19 +5,18 @@ use Rattle.scrypt.proofs.ReadingFacts.{by_right, no_room, room_enough, room_too_
 use Rattle.scrypt.proofs.verifying.verify_in_buffers.Goals as goal
 
 pub returns-in_default : goal.returns-in_default
-returns-in_default g c = record {
-  compared = λ bytes is long.
+returns-in_default c = record {
+  verifying = λ s are.
       let before = work_in c.args.chunks.now c.args.table.now c.args.scratch.now c.args.cores.now in
-      no_room c.args.password.now (record { params = c.args.params.now; salt = c.args.salt.now; key = bytes }) before
-      (room_too_short c.args.params.now before (search rules));
+      no_room c.args.password.now s before (rw are.params (room_too_short c.args.parts.now.params before (search rules)));
 }
 
 pub returns : goal.returns
-returns g c = record {
-  compared = λ bytes is long.
+returns c = record {
+  verifying = λ s are.
       let before = work_in c.args.chunks.now c.args.table.now c.args.scratch.now c.args.cores.now in
-      with_room c.args.password.now (record { params = c.args.params.now; salt = c.args.salt.now; key = bytes }) _ before _
-      (room_enough c.args.params.now before (search rules))
-      (c.verdict.ensures ∙ ap by_right (c.is_key_of-same.ensures.exact bytes is long))
-      (search (rules, drop-append-drop));
+      with_room c.args.password.now s c.verdict.result before _
+      (rw are.params (room_enough c.args.parts.now.params before (search rules)))
+      (c.verdict.ensures ∙ ap by_right (c.is_key_of-same.ensures.exact s are))
+      (rw are.params (search (rules, drop-append-drop)));
 }

@@ -1,9 +1,9 @@
 use Rattle.std.proofs.Common.{◌≡◌, ◌∙◌, ap, refl, rules}
 use Rattle.scrypt.specs.WorkInBuffers.{verdict_in}
-use Rattle.scrypt_c.specs.InBuffers.{buffers, in_turn}
+use Rattle.scrypt_c.specs.InBuffers.{buffers}
 use Rattle.scrypt_c.specs.Statuses.{buffers_status}
 use Rattle.scrypt_c.specs.Texts.{no_hash}
-use Rattle.scrypt_c.proofs.InBuffersFacts.{left_uncounted, two_left_uncounted, verdict_uncounted}
+use Rattle.scrypt_c.proofs.InBuffersFacts.{in_turn_left, left_uncounted, two_left_uncounted, verdict_uncounted}
 use Rattle.scrypt_c.proofs.with_buffers.scrypt_verify_two_with_buffers.Goals as goal
 
 pub returns-in-Ok-Ok-clause-left : goal.returns-in-Ok-Ok-clause-left
@@ -21,7 +21,7 @@ returns-in-Ok-Err-clause-left c = (
   c.in-Ok-Err.ensures.ok,
   no_hash c.args.other_text.now,
   c.in-Ok-Err.ensures'.err.1,
-  in_turn _ (left_uncounted c.in-Ok-Err.hash.whole _ _ c.verify_with_buffers.ensures.left) refl,
+  in_turn_left c.in-Ok-Err.hash.whole _ _ _ (_, left_uncounted c.in-Ok-Err.hash.whole _ _ c.verify_with_buffers.ensures.left, refl),
 )
 
 pub returns-in-Err-Ok-clause-left : goal.returns-in-Err-Ok-clause-left
@@ -30,7 +30,7 @@ returns-in-Err-Ok-clause-left c = (
   c.in-Err-Ok.ensures.err.1,
   c.in-Err-Ok.other,
   c.in-Err-Ok.ensures'.ok,
-  in_turn _ refl (left_uncounted c.in-Err-Ok.other.whole _ _ c.verify_with_buffers-in-Err-Ok.ensures.left),
+  (_, refl, left_uncounted c.in-Err-Ok.other.whole _ _ c.verify_with_buffers-in-Err-Ok.ensures.left),
 )
 
 pub returns-in-Err-Err-clause-left : goal.returns-in-Err-Err-clause-left
@@ -39,7 +39,7 @@ returns-in-Err-Err-clause-left c = (
   c.in-Err-Err.ensures.err.1,
   no_hash c.args.other_text.now,
   c.in-Err-Err.ensures'.err.1,
-  in_turn _ refl refl,
+  (_, refl, refl),
 )
 
 pub returns-in-Ok-Ok-clause-status : goal.returns-in-Ok-Ok-clause-status

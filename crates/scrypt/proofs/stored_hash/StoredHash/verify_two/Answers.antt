@@ -1,40 +1,42 @@
-use Rattle.std.proofs.Common.{◌≡◌, ◌∙◌, Ok, ap, refl, sym}
-use Rattle.scrypt.specs.Accepted.{Parameters}
-use Rattle.scrypt.specs.Reading.{Stored}
-use Rattle.scrypt.specs.TwoVerdicts.{in_turn}
-use Rattle.scrypt.specs.WorkInBuffers.{work_in}
+use Rattle.std.proofs.Common.{◌∙◌, refl}
+use Rattle.scrypt.specs.WorkInBuffers.{IsLeft, work_in}
 use Rattle.scrypt.proofs.ReadingFacts.{same_verdict}
-use Rattle.scrypt.proofs.TwoVerdictsFacts.{left_at_once, verdict_alone}
+use Rattle.scrypt.proofs.TwoVerdictsFacts.{hold_two_decided, left_at_once, left_in_turn, room_for_each, verdict_alone}
 use Rattle.scrypt.proofs.stored_hash.StoredHash.verify_two.Goals as goal
 
-pub returns-then-hold_two : goal.returns-then-hold_two
-returns-then-hold_two c =
-    let parts = c.in-Ok-Ok.parts in
-    let others = c.in-Ok-Ok.others in
-    let read = c.in-Ok-Ok.ensures.ok in
-    let other_read = c.in-Ok-Ok.ensures'.ok in
-    let same : parts.params ≡ others.params = c.eq.ensures.exact.0 c.if-eq.true in
-    let s : Stored = record { params = parts.params; salt = parts.salt.now; key = read.0 } in
-    let other : Parameters → Stored = λ params. record { params = params; salt = others.salt.now; key = other_read.0 } in
-    let other_is = other_read.3 ∙ ap (λ params. Ok (other params)) (sym same) in
-    let before = work_in c.args.chunks.now c.args.table.now c.args.scratch.now c.args.cores.now in
-    let verified = c.verify_at_once in
-    let chunks = c.hold_two.ensures.chunks c.if-hold_two.true in
-    let table = c.hold_two.ensures.table c.if-hold_two.true in
-    let scratch = c.hold_two.ensures.scratch c.if-hold_two.true in
+pub verify_at_once-requires : goal.verify_at_once-requires
+verify_at_once-requires c =
+    let both = c.in-Some.ensures.some in
+    let fits = (hold_two_decided c.in-Some.parts.params c.in-Some.others.params c.args.chunks.now c.args.table.now c.args.scratch.now).0
+    both.6 in
     record {
-      verdict = verdict_alone before c.args.password.now _ s _ chunks table scratch read.3
-          (verified.ensures.verdict read.0 read.1 read.2);
-      other_verdict = verdict_alone before c.args.other_password.now _ (other parts.params) _ chunks table scratch other_is
-          (verified.ensures.other_verdict other_read.0 other_read.1 other_read.2);
-      left = left_at_once before (work_in verified.new.chunks verified.new.table verified.new.scratch verified.new.cores) _ _
-          s (other parts.params) read.3 other_is refl verified.ensures.done;
+      parts = (both.0, both.2);
+      others = (both.1, both.3);
+      alike = fits.0;
+      chunks = fits.1.0;
+      table = fits.1.1.0;
+      scratch = fits.1.1.1;
     }
 
-pub returns : goal.returns
-returns c =
-    let first = c.verify_with_buffers-result in
-    let second = c.verify_with_buffers-other_result in
+pub returns-in-Some : goal.returns-in-Some
+returns-in-Some c =
+    let both = c.in-Some.ensures.some in
+    let verified = c.verify_at_once in
+    let before = work_in c.args.chunks.now c.args.table.now c.args.scratch.now c.args.cores.now in
+    let after = work_in verified.new.chunks verified.new.table verified.new.scratch verified.new.cores in
+    let room = room_for_each c.in-Some.parts.params c.in-Some.others.params before both.6 in
+    record {
+      verdict = verdict_alone before c.args.password.now _ both.0 _ (rw both.2.params room.0) both.4 (verified.ensures.verdict both.0 both.2);
+      other_verdict = verdict_alone before c.args.other_password.now _ both.1 _ (rw both.3.params room.1) both.5
+          (verified.ensures.other_verdict both.1 both.3);
+      left = left_at_once IsLeft before after _ _ both.0 both.1 both.4 both.5 (rw (both.2.params, both.3.params) both.6)
+          (rw (both.2.params, both.3.params) verified.ensures.done);
+    }
+
+pub returns-in-None : goal.returns-in-None
+returns-in-None c =
+    let first = c.verify_with_buffers in
+    let second = c.verify_with_buffers-in-None in
     let before = work_in c.args.chunks.now c.args.table.now c.args.scratch.now c.args.cores.now in
     let between = work_in first.new.chunks first.new.table first.new.scratch first.new.cores in
     record {
@@ -42,5 +44,5 @@ returns c =
       other_verdict = second.ensures.verdict
           ∙ same_verdict between before first.auto.chunks first.auto.table first.auto.scratch
           c.args.other_password.now c.args.other.now.whole;
-      left = in_turn first.ensures.left second.ensures.left;
+      left = left_in_turn IsLeft before _ _ _ (c.in-None.ensures.none refl) (between, first.ensures.left, second.ensures.left);
     }

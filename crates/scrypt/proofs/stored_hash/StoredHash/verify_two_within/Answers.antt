@@ -1,28 +1,41 @@
-use Rattle.std.proofs.Common.{◌∙◌}
-use Rattle.scrypt.specs.TwoVerdicts.{in_turn}
-use Rattle.scrypt.specs.WithinLimits.{within}
+use Rattle.std.proofs.Common.{◌≡◌, ◌∙◌, Ok, false, refl}
+use Rattle.scrypt.specs.Reading.{Stored}
+use Rattle.scrypt.specs.TwoVerdicts.{hold_two}
+use Rattle.scrypt.specs.WithinLimits.{IsLeftWithin, within}
 use Rattle.scrypt.specs.WorkInBuffers.{work_in}
 use Rattle.scrypt.proofs.ReadingFacts.{same_verdict_within}
-use Rattle.scrypt.proofs.TwoVerdictsFacts.{left_within}
+use Rattle.scrypt.proofs.TwoVerdictsFacts.{left_in_turn, left_within}
 use Rattle.scrypt.proofs.stored_hash.StoredHash.verify_two_within.Goals as goal
+use Rattle.scrypt.proofs.stored_hash.StoredHash.verify_two_within.Goals.{then-not-is_within-via-then-not-is_within}
+use Rattle.scrypt.proofs.stored_hash.StoredHash.verify_two_within.Goals.{then-not-is_within-via-else-not-is_within+then-not-is_within-2}
 
-pub returns-then-is_within-2-clause-left : goal.returns-then-is_within-2-clause-left
-returns-then-is_within-2-clause-left c =
-    let read = c.is_within.ensures c.if-is_within.true in
-    let other_read = c.is_within-then-is_within.ensures c.if-is_within-2.true in
-    left_within c.args.limits.now c.args.self.now.whole c.args.other.now.whole read.0 other_read.0 read.1 other_read.1 read.2 other_read.2
-    c.verify_two.ensures.left
+pub returns-clause-left : goal.returns-clause-left
+returns-clause-left c =
+    let read = c.is_within.ensures.read c.if-not-is_within.false in
+    let other_read = c.is_within-else-not-is_within.ensures.read c.if-not-is_within-2.false in
+    let before = work_in c.args.chunks.now c.args.table.now c.args.scratch.now c.args.cores.now in
+    left_within c.args.limits.now before _ c.args.self.now.whole c.args.other.now.whole read.0 other_read.0 read.1 other_read.1
+    read.2 other_read.2 c.verify_two.ensures.left
 
-pub returns : goal.returns
-returns c =
-    let first = c.verify_within-result in
-    let second = c.verify_within-other_result in
+pub returns-then-not-is_within : goal.returns-then-not-is_within
+returns-then-not-is_within c =
+    let first = c.verify_within in
+    let second = c.verify_within-then-not-is_within in
     let before = work_in c.args.chunks.now c.args.table.now c.args.scratch.now c.args.cores.now in
     let between = work_in first.new.chunks first.new.table first.new.scratch first.new.cores in
+    let reading = within c.args.limits.now c.args.self.now.whole in
+    let other = within c.args.limits.now c.args.other.now.whole in
+    let apart : (s t : Stored) → reading ≡ Ok s → other ≡ Ok t
+    → hold_two s.params t.params before.chunks before.table before.scratch ≡ false =
+    λ s t read other_read. elim c.then-not-is_within.branch [
+      | then-not-is_within-via-then-not-is_within w ↦
+          let yes = c.is_within.ensures.exact.1 (rw read refl) in absurd cc
+      | then-not-is_within-via-else-not-is_within+then-not-is_within-2 w ↦
+          let yes = w.is_within-else-not-is_within.ensures.exact.1 (rw other_read refl) in absurd cc
+    ] in
     record {
       verdict = first.ensures.verdict;
       other_verdict = second.ensures.verdict
-          ∙ same_verdict_within between before first.auto.chunks first.auto.table first.auto.scratch c.args.other_password.now
-          (within c.args.limits.now c.args.other.now.whole);
-      left = in_turn first.ensures.left second.ensures.left;
+          ∙ same_verdict_within between before first.auto.chunks first.auto.table first.auto.scratch c.args.other_password.now other;
+      left = left_in_turn IsLeftWithin before _ _ _ apart (between, first.ensures.left, second.ensures.left);
     }

@@ -1,7 +1,7 @@
 use Rattle.std.proofs.Common.{◌≡◌, ◌+◌, ◌*◌}
 use Rattle.scrypt.specs.Cost.{ro_mix_cost}
 use Rattle.scrypt.proofs.KeyFacts.{AreMixed}
-use Rattle.scrypt.proofs.derivation.pairs.mix_chunk_pairs.Given as goal
+use Rattle.scrypt.proofs.derivation.pairs.mix_pairs.Given as goal
 
 abbrev pub invariant-pairs : goal.invariant-pairs
 invariant-pairs l =

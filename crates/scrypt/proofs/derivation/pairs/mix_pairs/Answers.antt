@@ -3,11 +3,10 @@ use Rattle.std.proofs.lemmas.List.{length-drop, length-take-le}
 use borrow.Rule.Slice.PartMut.{same_len_mid}
 use Rattle.scrypt_kernel.specs.Words.{bytes_of, words_of}
 use Rattle.scrypt_kernel.specs.RoMix.{ro_mix}
-use Rattle.scrypt_kernel.specs.Pbkdf2.{pbkdf2}
 use Rattle.scrypt.specs.Cost.{ro_mix_cost}
 use Rattle.scrypt_kernel.proofs.WalkFacts.{whole_cost}
 use Rattle.scrypt.proofs.KeyFacts.{chunk_inside, chunks_are, mixed_more, mixed_pair}
-use Rattle.scrypt.proofs.derivation.pairs.mix_chunk_pairs.Goals as goal
+use Rattle.scrypt.proofs.derivation.pairs.mix_pairs.Goals as goal
 
 -- the second chunk of a pair is in what is left after the first
 left : (r p r' k len back : ℕ) → r' ≡ r → 2 * k + 1 < p → len ≡ p * (128 * r) → back + (2 * k * (128 * r') + 128 * r') ≡ len
@@ -16,15 +15,20 @@ left r p r' k len back r_is below long split =
     let room = chunk_inside r p r' ((2 * k + 1) * (128 * r')) (2 * k + 1) len r_is refl below long in
     omega (arith, room, split)
 
+pub split_at_mut-front-requires : goal.split_at_mut-front-requires
+split_at_mut-front-requires c =
+    chunk_inside c.args.params.now.r c.args.count c.r.result (2 * c.pairs.k * (128 * c.r.result)) (2 * c.pairs.k) (length c.pairs.chunks)
+    c.r.ensures.value refl (omega arith) (c.pairs.auto.chunks ∙ omega arith)
+
 pub slice_bounds-other_chunk-end : goal.slice_bounds-other_chunk-end
 slice_bounds-other_chunk-end c =
-    left c.args.params.now.r c.args.params.now.p c.r.result c.pairs.k (length c.pairs.chunks) _ c.r.ensures.value
+    left c.args.params.now.r c.args.count c.r.result c.pairs.k (length c.pairs.chunks) _ c.r.ensures.value
     (omega arith) (c.pairs.auto.chunks ∙ omega arith) c.split_at_mut-front.ensures.back_len
 
 pub slice_bounds-other_chunk-end-in-pairs : goal.slice_bounds-other_chunk-end-in-pairs
 slice_bounds-other_chunk-end-in-pairs c =
     sym (length-take-le _ c.split_at_mut-front.result.1.now
-    (left c.args.params.now.r c.args.params.now.p c.r.result c.pairs.k (length c.pairs.chunks) _ c.r.ensures.value
+    (left c.args.params.now.r c.args.count c.r.result c.pairs.k (length c.pairs.chunks) _ c.r.ensures.value
     (omega arith) (c.pairs.auto.chunks ∙ omega arith) c.split_at_mut-front.ensures.back_len))
 
 pub mix_two_chunks-requires-clause-other_input : goal.mix_two_chunks-requires-clause-other_input
@@ -33,7 +37,7 @@ mix_two_chunks-requires-clause-other_input c =
     let back = c.split_at_mut-front.result.1.now in
     let a : ℕ = 2 * c.pairs.k * (128 * c.r.result) in
     let long = c.split_at_mut-front.ensures.front_len in
-    let room = left c.args.params.now.r c.args.params.now.p c.r.result c.pairs.k (length c.pairs.chunks) (length back) c.r.ensures.value
+    let room = left c.args.params.now.r c.args.count c.r.result c.pairs.k (length c.pairs.chunks) (length back) c.r.ensures.value
     (omega arith) (c.pairs.auto.chunks ∙ omega arith) c.split_at_mut-front.ensures.back_len in
     let one : length (take (length front - a) (drop a front)) ≡ length front - a =
     length-take-le (length front - a) (drop a front) (omega (arith, length-drop a front)) in
@@ -57,7 +61,7 @@ pairs-preserved c =
     let m_is : m ≡ 128 * r = ap (λ i. 128 * i) c.r.ensures.value in
     let a_is : a ≡ 2 * k * (128 * r) = ap (λ i. 2 * k * i) m_is in
     let n_is : n ≡ 128 * r = omega (arith, split.front_len, m_is) in
-    let second = left r c.args.params.now.p c.r.result k (length c.pairs.chunks) (length back) c.r.ensures.value
+    let second = left r c.args.count c.r.result k (length c.pairs.chunks) (length back) c.r.ensures.value
     (omega arith) (c.pairs.auto.chunks ∙ omega arith) split.back_len in
     let room : 128 * r ≤ length back = omega (arith, second, m_is) in
     let one : length (take n (drop a front)) ≡ 128 * r =
@@ -67,7 +71,7 @@ pairs-preserved c =
     let cost_is = ap₂ ro_mix_cost c.log_n.ensures.value r_of_one in
     let next : 2 * k + 1 + 1 ≡ 2 * (k + 1) = omega arith in
     record {
-      mixed = rw (← next) (mixed_pair c.pbkdf2_one.new.out c.pairs.chunks front back mixed.new.b mixed.new.other_b log_n r (2 * k) a n m
+      mixed = rw (← next) (mixed_pair c.args.chunks.now c.pairs.chunks front back mixed.new.b mixed.new.other_b log_n r (2 * k) a n m
           split.value a_is (omega (arith, split.front_len, m_is)) n_is m_is room (mixed.auto.b ∙ one) (mixed.auto.other_b ∙ two)
           (mixed.ensures.value ∙ ap (λ i. bytes_of (ro_mix (words_of (take n (drop a front))) i)) c.log_n.ensures.value)
           (mixed.ensures.other_value ∙ ap (λ i. bytes_of (ro_mix (words_of (take m back)) i)) c.log_n.ensures.value)
@@ -77,27 +81,25 @@ pairs-preserved c =
           ∙ more_pairs _ _ (ro_mix_cost log_n r) k c.pairs.invariant.lanes;
     }
 
-pub returns-else-p-eq1-clause-value : goal.returns-else-p-eq1-clause-value
-returns-else-p-eq1-clause-value c =
-    let derived = pbkdf2 c.args.password.now c.args.salt.now in
-    chunks_are c.pbkdf2_one.new.out _ c.pairs.chunks _ c.args.params.now.r c.args.params.now.p (2 * c.pairs.k)
-    (c.pbkdf2_one.ensures.value ∙ ap derived c.requires.chunks) (omega arith) (omega (arith, c.requires.chunks)) c.pairs.invariant.mixed
+pub returns-else-count-eq1-clause-value : goal.returns-else-count-eq1-clause-value
+returns-else-count-eq1-clause-value c =
+    chunks_are c.args.chunks.now c.pairs.chunks _ c.args.params.now.r c.args.count (2 * c.pairs.k) (omega arith)
+    (omega (arith, c.requires.chunks)) c.pairs.invariant.mixed
 
 one_more : (first before m i p : ℕ) → before ≡ first + m * i → i + 1 ≡ p → before + m ≡ first + m * p
 one_more first before m i p until all = ap (λ n. n + m) until ∙ rw (← all) (omega arith)
 
 -- the last chunk, alone
-pub returns-then-p-eq1-clause-value : goal.returns-then-p-eq1-clause-value
-returns-then-p-eq1-clause-value c =
+pub returns-then-count-eq1-clause-value : goal.returns-then-count-eq1-clause-value
+returns-then-count-eq1-clause-value c =
     let r = c.args.params.now.r in
-    let p = c.args.params.now.p in
+    let p = c.args.count in
     let log_n = c.args.params.now.log_n in
-    let derived = pbkdf2 c.args.password.now c.args.salt.now in
-    let a : ℕ = (c.p-p.result - 1) * (128 * c.r.result) in
+    let a : ℕ = (c.args.count - 1) * (128 * c.r.result) in
     let n : ℕ = a + 128 * c.r.result - a in
     let x = c.pairs.chunks in
     let last : 2 * c.pairs.k + 1 ≡ p = omega arith in
-    let place : c.p-p.result - 1 ≡ 2 * c.pairs.k = omega arith in
+    let place : c.args.count - 1 ≡ 2 * c.pairs.k = omega arith in
     let m_is : 128 * c.r.result ≡ 128 * r = ap (λ i. 128 * i) c.r.ensures.value in
     let n_is : n ≡ 128 * r = omega (arith, m_is) in
     let a_is : a ≡ 2 * c.pairs.k * (128 * r) = ap₂ (λ i j. i * j) place m_is in
@@ -105,48 +107,48 @@ returns-then-p-eq1-clause-value c =
     let room : a + 128 * c.r.result ≤ length x =
     chunk_inside r p c.r.result a (2 * c.pairs.k) _ c.r.ensures.value (ap (λ i. i * (128 * c.r.result)) place) (omega arith) long in
     let one : length (take n (drop a x)) ≡ 128 * r = length-take-le n (drop a x) (omega (arith, length-drop a x, room)) ∙ n_is in
-    chunks_are c.pbkdf2_one.new.out _ _ log_n r p (2 * c.pairs.k + 1) (c.pbkdf2_one.ensures.value ∙ ap derived c.requires.chunks) last
+    chunks_are c.args.chunks.now _ log_n r p (2 * c.pairs.k + 1) last
     (same_len_mid a n x c.mix_chunk.new.b c.mix_chunk.auto.b ∙ long)
-    (mixed_more c.pbkdf2_one.new.out x c.mix_chunk.new.b log_n r (2 * c.pairs.k) a n a_is n_is (c.mix_chunk.auto.b ∙ one)
+    (mixed_more c.args.chunks.now x c.mix_chunk.new.b log_n r (2 * c.pairs.k) a n a_is n_is (c.mix_chunk.auto.b ∙ one)
     (omega (arith, room, m_is))
-    (c.mix_chunk.ensures.value ∙ ap (λ i. bytes_of (ro_mix (words_of (take n (drop a x))) i)) c.log_n-then-p-eq1.ensures.value)
+    (c.mix_chunk.ensures.value ∙ ap (λ i. bytes_of (ro_mix (words_of (take n (drop a x))) i)) c.log_n-then-count-eq1.ensures.value)
     c.pairs.invariant.mixed)
 
-pub returns-then-p-eq1-clause-all : goal.returns-then-p-eq1-clause-all
-returns-then-p-eq1-clause-all c =
+pub returns-then-count-eq1-clause-all : goal.returns-then-count-eq1-clause-all
+returns-then-count-eq1-clause-all c =
     let r = c.args.params.now.r in
-    let p = c.args.params.now.p in
+    let p = c.args.count in
     let log_n = c.args.params.now.log_n in
-    let a : ℕ = (c.p-p.result - 1) * (128 * c.r.result) in
+    let a : ℕ = (c.args.count - 1) * (128 * c.r.result) in
     let n : ℕ = a + 128 * c.r.result - a in
     let old : List ℕ = take n (drop a c.pairs.chunks) in
-    let place : c.p-p.result - 1 ≡ 2 * c.pairs.k = omega arith in
+    let place : c.args.count - 1 ≡ 2 * c.pairs.k = omega arith in
     let room : a + 128 * c.r.result ≤ length c.pairs.chunks =
     chunk_inside r p c.r.result a (2 * c.pairs.k) _ c.r.ensures.value (ap (λ i. i * (128 * c.r.result)) place) (omega arith)
     (c.pairs.auto.chunks ∙ omega arith) in
     let long : length old ≡ n = length-take-le n (drop a c.pairs.chunks) (omega (arith, length-drop a c.pairs.chunks, room)) in
     let r_of_old : length old / 128 ≡ r = omega (arith, long, c.r.ensures.value) in
-    c.mix_chunk.ensures.all ∙ ap (λ i. c.pairs.cores.all + i) (whole_cost _ _ _ ∙ ap₂ ro_mix_cost c.log_n-then-p-eq1.ensures.value r_of_old)
+    c.mix_chunk.ensures.all ∙ ap (λ i. c.pairs.cores.all + i) (whole_cost _ _ _ ∙ ap₂ ro_mix_cost c.log_n-then-count-eq1.ensures.value r_of_old)
     ∙ one_more _ _ (ro_mix_cost log_n r) (2 * c.pairs.k) p c.pairs.invariant.all (omega arith)
 
 once : (n : ℕ) → 1 * n ≡ n
 once n = omega arith
 
-pub returns-then-p-eq1-clause-lanes : goal.returns-then-p-eq1-clause-lanes
-returns-then-p-eq1-clause-lanes c =
+pub returns-then-count-eq1-clause-lanes : goal.returns-then-count-eq1-clause-lanes
+returns-then-count-eq1-clause-lanes c =
     let r = c.args.params.now.r in
-    let p = c.args.params.now.p in
+    let p = c.args.count in
     let log_n = c.args.params.now.log_n in
-    let a : ℕ = (c.p-p.result - 1) * (128 * c.r.result) in
+    let a : ℕ = (c.args.count - 1) * (128 * c.r.result) in
     let n : ℕ = a + 128 * c.r.result - a in
     let old : List ℕ = take n (drop a c.pairs.chunks) in
-    let place : c.p-p.result - 1 ≡ 2 * c.pairs.k = omega arith in
+    let place : c.args.count - 1 ≡ 2 * c.pairs.k = omega arith in
     let room : a + 128 * c.r.result ≤ length c.pairs.chunks =
     chunk_inside r p c.r.result a (2 * c.pairs.k) _ c.r.ensures.value (ap (λ i. i * (128 * c.r.result)) place) (omega arith)
     (c.pairs.auto.chunks ∙ omega arith) in
     let long : length old ≡ n = length-take-le n (drop a c.pairs.chunks) (omega (arith, length-drop a c.pairs.chunks, room)) in
     let r_of_old : length old / 128 ≡ r = omega (arith, long, c.r.ensures.value) in
-    let cost_is = whole_cost _ _ _ ∙ ap₂ ro_mix_cost c.log_n-then-p-eq1.ensures.value r_of_old in
+    let cost_is = whole_cost _ _ _ ∙ ap₂ ro_mix_cost c.log_n-then-count-eq1.ensures.value r_of_old in
     c.mix_chunk.ensures.lanes ∙ ap (λ i. c.pairs.cores.lanes + 1 * i) cost_is
     ∙ ap (λ i. c.pairs.cores.lanes + i) (once (ro_mix_cost log_n r))
     ∙ one_more _ _ (ro_mix_cost log_n r) (2 * c.pairs.k) p c.pairs.invariant.lanes (omega arith)
