@@ -254,19 +254,19 @@ int scrypt_verify_in(scrypt_memory *memory, const uint8_t *password, size_t pass
   return status == SCRYPT_OK ? verify(memory, &login, &of) : status;
 }
 
-/* Takes room for two such derivations: their bytes are within a bound of the memory, and twice as many may not be. */
-static int take_two(scrypt_memory *memory, const struct buffers *one, struct buffers *two) {
-  if (bytes_of(one) > SIZE_MAX / 2) return SCRYPT_OUT_OF_MEMORY;
-  two->chunks_len = 2 * one->chunks_len;
+/* Takes room for both derivations: the bytes of each are within a bound of the memory, and those of both may not be. */
+static int take_two(scrypt_memory *memory, const struct buffers *one, const struct buffers *other,
+                    struct buffers *two) {
+  if (bytes_of(one) > SIZE_MAX - bytes_of(other)) return SCRYPT_OUT_OF_MEMORY;
+  two->chunks_len = one->chunks_len + other->chunks_len;
   two->table_len = 2 * one->table_len;
   two->scratch_len = 2 * one->scratch_len;
   return place_two(memory, two);
 }
 
-/* Buffers have the same lengths only for the same parameters. */
-static int are_same(const struct buffers *of, const struct buffers *other) {
-  return of->chunks_len == other->chunks_len && of->table_len == other->table_len &&
-         of->scratch_len == other->scratch_len;
+/* Scratches have the same length only for the same r, and then tables only for the same log_n. */
+static int are_alike(const struct buffers *of, const struct buffers *other) {
+  return of->table_len == other->table_len && of->scratch_len == other->scratch_len;
 }
 
 void scrypt_verify_two_in(scrypt_memory *memory, const uint8_t *password, size_t password_len, const char *text,
@@ -278,8 +278,8 @@ void scrypt_verify_two_in(scrypt_memory *memory, const uint8_t *password, size_t
   if (status == NULL || other_status == NULL) return;
   *status = measure_login(memory, &one, &of);
   *other_status = measure_login(memory, &other, &others);
-  if (*status == SCRYPT_OK && *other_status == SCRYPT_OK && are_same(&of, &others) &&
-      take_two(memory, &of, &both) == SCRYPT_OK) {
+  if (*status == SCRYPT_OK && *other_status == SCRYPT_OK && are_alike(&of, &others) &&
+      take_two(memory, &of, &others, &both) == SCRYPT_OK) {
     *status = scrypt_verify_two_with_buffers(one.password, one.password_len, one.text, one.text_len, other.password,
                                              other.password_len, other.text, other.text_len, other_status, both.chunks,
                                              both.chunks_len, both.table, both.table_len, both.scratch,

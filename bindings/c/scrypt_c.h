@@ -220,9 +220,9 @@ int scrypt_verify_with_buffers(const uint8_t *password, size_t password_len, con
 
 /* Verifies two passwords, each with its own hash: returns what scrypt_verify_with_buffers returns for the first alone in
  * these buffers, and writes to *other_status what it returns for the other alone, whatever the first is. If both hashes
- * have the same parameters, and each buffer is at least twice as long as scrypt_buffer_lens says with s = 0 for them,
- * both keys are derived at once, which takes about 0.7 of the time, and otherwise one after the other. Afterwards what
- * was used of chunks and scratch is zeros. */
+ * have the same log_n and the same r, chunks is at least as long as those of both that scrypt_buffer_lens says with
+ * s = 0, and table and scratch are at least twice as long, both keys are derived at once, which takes about 0.7 of the
+ * time, and otherwise one after the other. Afterwards what was used of chunks and scratch is zeros. */
 SCRYPT_CHECKED SCRYPT_NONNULL
 int scrypt_verify_two_with_buffers(const uint8_t *password, size_t password_len, const char *text, size_t text_len,
                                    const uint8_t *other_password, size_t other_password_len, const char *other_text,
@@ -312,9 +312,9 @@ int scrypt_verify_in(scrypt_memory *memory, const uint8_t *password, size_t pass
                      size_t text_len);
 
 /* Verifies two passwords, each with its own hash. Each status is exactly what scrypt_verify_in returns for it alone,
- * whatever the other is. Two with the same parameters are verified at once, in about 0.7 of the time. The bounds of the
- * memory are those of one verification: two at once take twice as many bytes, or are verified one after the other if the
- * system refuses so many. Nothing if a pointer to a status is NULL. */
+ * whatever the other is. Two with the same log_n and the same r are verified at once, in about 0.7 of the time. The
+ * bounds of the memory are those of one verification: two at once take as many bytes as both, or are verified one after
+ * the other if the system refuses so many. Nothing if a pointer to a status is NULL. */
 void scrypt_verify_two_in(scrypt_memory *memory, const uint8_t *password, size_t password_len, const char *text,
                           size_t text_len, int *status, const uint8_t *other_password, size_t other_password_len,
                           const char *other_text, size_t other_text_len, int *other_status);
