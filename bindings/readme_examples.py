@@ -1,9 +1,8 @@
 #!/usr/bin/env python3
-"""Runs README's examples in Python, Go and C over the library of build/lib, as they are but for what is around that in Go,
-and that of Python's own page. `cargo test` runs those of Rust's.
+"""Runs the examples of README in Python, Go and C over the library of build/lib, and the one of Python's own page.
 
-What is not installed is said by its Debian package. The script fails if an example does, or if README has none of its
-language.
+Only Go's has code around it. README's example in Rust is a part of the one of Rust's page (ci/examples.py), which `cargo
+test` runs. What is not installed is named by its Debian package. The script fails if an example fails or is missing.
 """
 
 import os
@@ -81,9 +80,7 @@ def run_c(room):
     source = written(room, "login.c", example("c"))
     program = os.path.join(room, "login")
     run(["cc", "-std=c99", "-Wall", "-Wextra", "-Werror", f"-I{LIBRARY}", source, f"{LIBRARY}/libscrypt_c.a", "-o", program])
-    printed = run([program], stdout=subprocess.PIPE, text=True).stdout
-    if printed != "success\n":
-        sys.exit(f"README's example in C printed {printed!r}")
+    run([program])
 
 
 def main():
