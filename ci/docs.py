@@ -20,7 +20,7 @@ DOCS = [it for pattern in ("*.md", "docs/*.md", "bindings/**/*.md", "release/*.m
 
 # Names of other programs and libraries, and words of texts and commands.
 OTHERS = set("""
-check_password libscrypt_check libscrypt_hash maxmem_bytes must_use needs_update salt_length
+check_password maxmem_bytes must_use needs_update
 """.split())
 
 
@@ -36,7 +36,8 @@ def sources(suffix):
 def known_names():
     """Every word that the sources and the bindings have, which is what a name may consist of."""
     names = set()
-    callers = [it for suffix in ("c", "h", "py", "go", "rs") for it in glob.glob(f"bindings/**/*.{suffix}", recursive=True)]
+    callers = [it for folder in ("bindings", "examples") for suffix in ("c", "h", "py", "go", "rs")
+               for it in glob.glob(f"{folder}/**/*.{suffix}", recursive=True)]
     for path in sources("rt") + sources("antt") + [it for it in callers if "test" not in it]:
         names.update(re.findall(r"[A-Za-z_][A-Za-z0-9_']*", read(path)))
         names.update(re.split(r"[/.]", path))

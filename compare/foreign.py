@@ -1,4 +1,4 @@
-"""What other implementations of scrypt make, each in a process of its own, for migration.py."""
+"""What other implementations of scrypt make, each in a process of its own, for migration.py and key_files.py."""
 
 import json
 import os
@@ -23,27 +23,24 @@ for (const line of require("fs").readFileSync(0, "utf8").trim().split("\\n")) {
 }
 """
 
-# a program that makes the texts of keys; its function `text` is put in. Go's %q reads what JSON writes, as long
+# a program that makes the texts of keys by the example's function `text`. Go's %q reads what JSON writes, as long
 # as the texts are letters and digits
 GO_MAIN = """package main
 
 import (
 	"bufio"
-	"encoding/base64"
 	"encoding/hex"
 	"fmt"
 	"golang.org/x/crypto/scrypt"
-	"math/bits"
 	"os"
 )
 
-%s
 func main() {
 	in := bufio.NewReader(os.Stdin)
 	for {
 		var password, letters string
 		var n, r, p, length int
-		const line = "[%%q, %%q, %%d, %%d, %%d, %%d]\\n"
+		const line = "[%q, %q, %d, %d, %d, %d]\\n"
 		if count, _ := fmt.Fscanf(in, line, &password, &letters, &n, &r, &p, &length); count < 6 {
 			return
 		}
@@ -62,10 +59,10 @@ class Missing(Exception):
     """A tool isn't installed."""
 
 
-def installed(command):
+def installed(command, package=None):
     """The path of a command."""
     if not shutil.which(command):
-        raise Missing(command)
+        raise Missing(f"{command} (package {package})" if package else command)
     return shutil.which(command)
 
 
@@ -89,16 +86,17 @@ def asked(module, call, cases, what):
     return answers([python_with(module, what), "-c", module + "\n" + ASK.format(call)], cases)
 
 
-def go_keys(text, cases):
-    """What a Go program prints of these cases, where `text` is the function that writes a key's text."""
+def go_keys(example, cases):
+    """What a Go program prints of these cases, by the function of this file that writes a key's text."""
     command = installed("go")
     if not os.path.isdir(GO["GOPATH"] + "/src/golang.org/x/crypto/scrypt"):
         raise Missing("golang-golang-x-crypto-dev")
     with tempfile.TemporaryDirectory() as folder:
         source = os.path.join(folder, "main.go")
         with open(source, "w", encoding="utf-8") as file:
-            file.write(GO_MAIN % text)
-        return answers([command, "run", source], cases, GO)
+            file.write(GO_MAIN)
+        copy = shutil.copy(example, folder)
+        return answers([command, "run", source, copy], cases, GO)
 
 
 def openssl_key(password, salt, n, r, p, length):

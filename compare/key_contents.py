@@ -1,4 +1,4 @@
-"""What is around the keys of docs/KEY_FILES.md: their contents, and files like those of the real programs."""
+"""What is around the keys of examples/key_files: their contents, and files like those of the real programs."""
 
 import hashlib
 import hmac
@@ -14,7 +14,7 @@ from cryptography.hazmat.primitives.hashes import SHA256
 from cryptography.hazmat.primitives.kdf.hkdf import HKDF
 from cryptography.hazmat.primitives.serialization import Encoding, NoEncryption, PrivateFormat, PublicFormat
 
-from key_codecs import INTEGER, SEQUENCE, double_sha256, from_base64, keccak_256, to_base64, to_der
+from key_codecs import INTEGER, SEQUENCE, double_sha256, keccak_256, to_base64, to_der
 
 OCTET_STRING, OBJECT_ID = 0x04, 0x06
 PBES2_ID = bytes.fromhex("2a864886f70d01050d")

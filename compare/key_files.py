@@ -3,9 +3,8 @@
 
 usage: key_files.py PROGRAM LIBRARY [--seed N]
 
-PROGRAM is scrypt_tool and LIBRARY libscrypt_c.so, which the Python binding loads. The blocks of code come from
-docs/KEY_FILES.md, so what is tried is what that page shows; each key is also derived by the block for the shell. For
-each kind of file: one that the real program made is opened, and a published vector; a wrong password and a file that
+PROGRAM is scrypt_tool and LIBRARY libscrypt_c.so, which the Python binding loads. The files are opened by the functions
+of examples/key_files; each key is also derived by the shell's line of docs/KEY_FILES.md. For each kind of file: one that the real program made is opened, and a published vector; a wrong password and a file that
 was changed are refused; one that asks for too much is refused before anything is derived; and one that is made here is
 opened by the real program, if there is one.
 
@@ -18,7 +17,7 @@ import os
 import sys
 import tempfile
 
-from key_trial import Missing, Trial
+from foreign import Missing
 
 HERE = os.path.dirname(os.path.abspath(__file__))
 
@@ -41,8 +40,9 @@ def main():
     parser.add_argument("--seed", type=int, default=7914)
     args = parser.parse_args()
     os.environ["SCRYPT_C_LIBRARY"] = os.path.abspath(args.library)
-    sys.path.insert(0, os.path.join(HERE, "..", "bindings", "python"))
+    sys.path[:0] = [os.path.join(HERE, "..", *path) for path in (["bindings", "python"], ["examples", "key_files"])]
     try:
+        from key_trial import Trial
         from key_trials import KINDS
     except ModuleNotFoundError as missing:
         if missing.name != "cryptography":

@@ -1,45 +1,32 @@
-"""What a kind of key file is tried by: the blocks of docs/KEY_FILES.md, the program, and what differs."""
+"""What a kind of key file is tried by: examples/key_files, the shell's line of docs/KEY_FILES.md, and what differs."""
 
 import os
 import random
 import re
-import shutil
 import string
 import subprocess
+
+import key_file
 
 HERE = os.path.dirname(os.path.abspath(__file__))
 PAGE = os.path.join(HERE, "..", "docs", "KEY_FILES.md")
 
-
 CHANGES = 40  # of each file whose bytes are changed
 
 
-class Missing(Exception):
-    """A tool isn't installed."""
-
-
-def installed(command, package):
-    if not shutil.which(command):
-        raise Missing(f"{command} (package {package})")
-    return shutil.which(command)
-
-
 class Trial:
-    """The program, the blocks of the page, and what was tried of one kind of file."""
+    """The program, the shell's line, and what was tried of one kind of file."""
 
     def __init__(self, program, seed, folder):
         self.program, self.rng, self.folder = os.path.abspath(program), random.Random(seed), folder
         self.tried, self.agreed, self.notes, self.derived = 0, 0, [], []
         with open(PAGE, encoding="utf-8") as page:
-            blocks = re.findall(r"^```(\w+)\n(.*?)^```$", page.read(), re.M | re.S)
-        self.shown = {}
-        exec("".join(text for language, text in blocks if language == "python"), self.shown)
-        self.shell = [text for language, text in blocks if language == "sh"]
+            self.shell = re.search(r"^```sh\n(.*?)^```$", page.read(), re.M | re.S).group(1)
         self.watch()
 
     def watch(self):
         """Remembers each key that the binding derives, with what it is derived from."""
-        binding = self.shown["scrypt_c"]
+        binding = key_file.scrypt_c
         derive = binding.scrypt
 
         def scrypt(password, **costs):
@@ -47,11 +34,11 @@ class Trial:
             self.derived.append((password, costs, key))
             return key
 
-        self.shown["scrypt_c"] = type("Watched", (), {"scrypt": staticmethod(scrypt), "Params": binding.Params})
+        key_file.scrypt_c = type("Watched", (), {"scrypt": staticmethod(scrypt), "Params": binding.Params})
 
     def __getattr__(self, name):
-        """A function of the page."""
-        return self.shown[name]
+        """A function of the example."""
+        return getattr(key_file, name)
 
     def check(self, agrees, about):
         """Counts a case. What differs is printed."""
@@ -92,14 +79,13 @@ class Trial:
             else:
                 self.check(opened == wanted, (about, "is opened", other))
 
-    def in_shell(self, number, **values):
-        """The key of the last file that was opened, by the shell block of the page with this number."""
-        _, costs, key = self.derived[-1]
-        salt = values.pop("salt", costs["salt"]).hex()
-        numbers = {"log_n": costs["n"].bit_length() - 1, "r": costs["r"], "p": costs["p"]}
-        env = {name: str(value) for name, value in {"salt": salt, **numbers, **values}.items()}
-        script = 'scrypt_tool() { "$PROGRAM" "$@"; }\n' + self.shell[number]
-        env |= {"PROGRAM": self.program}
+    def in_shell(self):
+        """The key of the last file that was opened, by the shell's line of the page."""
+        password, costs, key = self.derived[-1]
+        numbers = {"log_n": costs["n"].bit_length() - 1, "r": costs["r"], "p": costs["p"], "length": len(key)}
+        env = {name: str(value) for name, value in {"salt": costs["salt"].hex(), **numbers}.items()}
+        env |= {"PROGRAM": self.program, "password": password.decode()}
+        script = 'scrypt_tool() { "$PROGRAM" "$@"; }\n' + self.shell
         ran = subprocess.run(["sh", "-c", script], env=os.environ | env, capture_output=True)
         self.check(ran.stdout.decode().strip() == key.hex(), ("the shell", script, env, ran))
 

@@ -1,4 +1,4 @@
-"""The trials of each kind of key file of docs/KEY_FILES.md."""
+"""The trials of each kind of key file of docs/KEY_FILES.md, which examples/key_files opens."""
 
 import hashlib
 import json
@@ -8,12 +8,10 @@ import sys
 
 import key_contents
 import key_vectors
+from foreign import Missing, installed
 from key_codecs import double_sha256, from_base58, keccak_256, to_base58
-from key_trial import Missing, changed, installed, read, run
+from key_trial import changed, read, run
 from terminal import on_terminal
-
-# The shell blocks of the page, in their order.
-AGE, TARSNAP, ETHEREUM, PKCS8, MINISIGN, BIP38, BLOCK = range(7)
 
 # Contents of files: none, some, and more than one chunk of age.
 LENGTHS = (0, 1000, 70000)
@@ -38,7 +36,7 @@ def age(trial):
         on_terminal([command, "-p", "-o", path, plain], [password] * 2)
         file = read(path)
         key = trial.age_file_key(file, password.encode())
-        trial.in_shell(AGE, password=password, salt=trial.derived[-1][1]["salt"][28:])
+        trial.in_shell()
         trial.opens(content, "a file of age", key_contents.age_content, file, key)
         trial.refuses("age: a changed content", key_contents.age_content, changed(file, file.index(b"--- ") + 10), key)
         trial.refuses("age: a wrong password", trial.age_file_key, file, password.encode() + b"x")
@@ -72,7 +70,7 @@ def tarsnap(trial):
         run([command, "enc", *numbers, *by_input, trial.path("plain", content), path], password + "\n")
         file = read(path)
         keys = trial.tarsnap_keys(file, password.encode())
-        trial.in_shell(TARSNAP, password=password)
+        trial.in_shell()
         trial.opens(content, "a file of scrypt enc", key_contents.tarsnap_content, file, keys)
         trial.refuses("scrypt enc: a changed file", key_contents.tarsnap_content, changed(file, len(file) - 40), keys)
         trial.refuses("scrypt enc: the header alone", key_contents.tarsnap_content, file[:96], keys)
@@ -112,7 +110,7 @@ def ethereum(trial):
     secret = bytes.fromhex(key_vectors.ETHEREUM_SECRET)
     trial.opens(secret, "the published vector", trial.ethereum_secret, vector, password.encode())
     trial.check(key_contents.ethereum_address(secret) == key_vectors.ETHEREUM_ADDRESS, "the address of the vector")
-    trial.in_shell(ETHEREUM, password=password)
+    trial.in_shell()
     trial.refuses("Ethereum: a wrong password", trial.ethereum_secret, vector, b"another")
     refused_by_others(trial, key_vectors.ETHEREUM["crypto"]["kdfparams"], password)
     more = vector.replace("262144", str(1 << 40))
@@ -168,7 +166,7 @@ def pkcs8(trial):
         file, wanted = read(path).decode(), key_contents.private_info(trial.load_der_private_key(info, None))
         opened = trial.pkcs8_key(file, password.encode())
         trial.check(key_contents.private_info(opened) == wanted, "a key of OpenSSL is not opened")
-        trial.in_shell(PKCS8, password=password)
+        trial.in_shell()
         trial.refuses("PKCS#8: a wrong password", trial.pkcs8_key, file, password.encode() + b"x")
         for made_with, status in ((costs, 0), ((17, 8, 1), 1)):
             made = key_contents.pkcs8_file(info, password.encode(), made_with, trial.key_of, *ids)
@@ -201,7 +199,7 @@ def minisign(trial):
     file = read(secret_path).decode()
     trial.refuses_at_once("minisign: a key of its own", trial.minisign_secret, file, password.encode())
     number, secret = trial.minisign_secret(file, password.encode(), **RAISED)
-    trial.in_shell(MINISIGN, password=password)
+    trial.in_shell()
     public = trial.from_base64(read(public_path).decode().split("\n")[1])
     trial.check(public == b"Ed" + number + secret[32:], "the public key beside the secret one")
     trial.check(key_contents.ed25519_public(secret[:32]) == secret[32:], "the public key of the seed")
@@ -242,7 +240,7 @@ def bip38(trial):
         trial.check(not wrong, ("a wrong password", text))
         if not multiplied:
             trial.bip38_key(data, password.encode())
-            trial.in_shell(BIP38, password=password)
+            trial.in_shell()
             address = to_base58(key_contents.bitcoin_address(opened[0], compressed))
             made = key_contents.bip38_file(opened[0], compressed, password.encode(), address, trial.key_of)
             trial.check(to_base58(made) == text, ("the encrypted key", text, made.hex()))
@@ -264,7 +262,6 @@ def block_hashes(trial):
     trial.check(double_sha256(header)[::-1].hex() == key_vectors.LITECOIN_BLOCK, "the name of the first block")
     trial.opens(True, "the first block", trial.is_mined, header)
     trial.check(trial.derived[-1][2][::-1].hex() == key_vectors.LITECOIN_WORK, "the work of the first block")
-    trial.in_shell(BLOCK, header=header.hex().upper())
     trial.opens(False, "another nonce", trial.is_mined, header[:-1] + b"\0")
     for _ in range(50):
         header = trial.content(80)

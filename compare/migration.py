@@ -1,11 +1,10 @@
 #!/usr/bin/env python3
-"""Tries every way of docs/MIGRATION.md on what the other tools make.
+"""Tries every conversion of examples/migration on what the other tools make.
 
 usage: migration.py PROGRAM [--worker PATH] [--seed N]
 
-The blocks of code come from docs/MIGRATION.md, so what is tried is what that page shows. Each tool makes hashes, keys
-or files of random passwords. They are rewritten by the block of that tool, and the program has to verify the right
-password and to refuse another. What a tool or the program refuses is tried too. WORKER calls the Rust crate and speaks
+Each tool makes hashes, keys or files of random passwords. They are converted by the example for that tool, and the program
+has to verify the right password and to refuse another. What a tool or the program refuses is tried too. WORKER calls the Rust crate and speaks
 the protocol that bench/bench.py describes.
 
 What isn't installed is named and skipped. A module of Python may be installed for this Python or for the system's.
@@ -18,7 +17,6 @@ import ctypes
 import hashlib
 import os
 import random
-import re
 import string
 import subprocess
 import sys
@@ -29,10 +27,11 @@ from foreign import NODE, Missing, answers, asked, go_keys, installed, openssl_k
 from oracle import run, some_bytes, verified
 
 HERE = os.path.dirname(os.path.abspath(__file__))
-sys.path.insert(0, os.path.join(HERE, "..", "bench"))
+EXAMPLES = os.path.join(HERE, "..", "examples", "migration")
+sys.path[:0] = [os.path.join(HERE, "..", "bench"), EXAMPLES]
+import stored_text
 from worker import Worker
 
-PAGE = os.path.join(HERE, "..", "docs", "MIGRATION.md")
 CASES = 20
 
 # Texts of Django's own tests, each after its password: Django has scrypt from 4.0, and Debian 12 an older one.
@@ -71,18 +70,11 @@ def verifies(text, password):
 
 
 class Trial:
-    """The program, the blocks of the page, and what was tried of one tool."""
+    """The program, and what was tried of one tool."""
 
     def __init__(self, program, worker, rng):
         self.program, self.worker, self.rng = os.path.abspath(program), worker, rng
         self.agreed, self.notes = [], []
-        with open(PAGE, encoding="utf-8") as page:
-            self.blocks = re.findall(r"^```(\w+)\n(.*?)^```$", page.read(), re.M | re.S)
-        self.shown = {}
-        exec("".join(self.blocks_of("python")), self.shown)
-
-    def blocks_of(self, language):
-        return [text for name, text in self.blocks if name == language]
 
     def check(self, agrees, about):
         """Counts a case. What differs is printed."""
@@ -119,6 +111,11 @@ class Trial:
         return [(self.word(), self.word(8, 32), *self.costs()) for _ in range(CASES)]
 
 
+def example(name):
+    with open(os.path.join(EXAMPLES, name), encoding="utf-8") as file:
+        return file.read()
+
+
 def passlib(trial):
     """Texts as they are, those that are refused, and these rewritten."""
     module, cases = "from passlib.hash import scrypt", trial.cases()
@@ -130,14 +127,14 @@ def passlib(trial):
         case = trial.word(), salt, *trial.costs()
         text = asked(module, call.format(""), [case], "passlib")[0]
         trial.refuses(text, "EncodingInvalid")
-        trial.verifies(trial.shown["from_passlib"](text), case[0].encode())
+        trial.verifies(stored_text.from_passlib(text), case[0].encode())
     text = asked(module, call.format(""), [("password", "s", 16, 8, 1)], "passlib")[0]
     for old, new, error in PASSLIB_SPELLINGS:
         other = text.replace(old, new)
         there = asked(module, f"scrypt.verify(password, {other!r})", [("password", "", 0, 0, 0)], "passlib")
         trial.check(other != text and there == ["True"], ("passlib does not verify", other))
         trial.refuses(other, error)
-        trial.verifies(trial.shown["from_passlib"](other), b"password")
+        trial.verifies(stored_text.from_passlib(other), b"password")
 
 
 def converted(trial, convert, text, password):
@@ -149,7 +146,7 @@ def converted(trial, convert, text, password):
 def django(trial):
     """The texts of Django's tests, and random ones if the installed Django has scrypt."""
     for password, text in DJANGO_TEXTS:
-        converted(trial, trial.shown["from_django"], text, password)
+        converted(trial, stored_text.from_django, text, password)
     module = "from django.conf import settings; settings.configure()"
     module += "; from django.contrib.auth.hashers import ScryptPasswordHasher"
     cases = trial.cases()
@@ -159,7 +156,7 @@ def django(trial):
         trial.notes.append("no Django from 4.0 is installed: two texts of its tests alone")
         return
     for case, text in zip(cases, made):
-        converted(trial, trial.shown["from_django"], text, case[0])
+        converted(trial, stored_text.from_django, text, case[0])
 
 
 def werkzeug(trial):
@@ -171,7 +168,7 @@ def werkzeug(trial):
     made = asked(module, 'make(password, f"scrypt:{n}:{r}:{p}", salt)', cases, "Werkzeug 2.3")
     made += asked(module, "make(password)", cases[:2], "Werkzeug 2.3")
     for case, text in zip(cases + cases[:2], made):
-        converted(trial, trial.shown["from_werkzeug"], text, case[0])
+        converted(trial, stored_text.from_werkzeug, text, case[0])
 
 
 def libxcrypt(trial):
@@ -187,13 +184,13 @@ def libxcrypt(trial):
         setting = f"{costs}{salt[:20]}$a${salt}$"
         text = crypt(password.encode(), setting.encode()).decode()
         trial.check(text.startswith(setting), ("crypt(3) refuses the salt", text))
-        converted(trial, trial.shown["from_crypt"], text, password)
+        converted(trial, stored_text.from_crypt, text, password)
     for costs, salt, password in CRYPT_REFUSES:
         text = trial.answer(["hash", "mcf", *map(str, costs[:3]), salt.hex(), str(costs[3])], password)
         trial.verifies(text, password)
         trial.check(crypt(password, text.encode()) != text.encode(), ("crypt(3) verifies", text))
     key = hashlib.scrypt(b"password", salt=b"a+b", n=16, r=1, p=1, dklen=32)
-    text = trial.shown["mcf_text"](b"a+b", key, 16, 1, 1)
+    text = stored_text.mcf_text(b"a+b", key, 16, 1, 1)
     trial.verifies(text, b"password")
     trial.check(crypt(b"password", text.encode()) != text.encode(), ("crypt(3) verifies", text))
 
@@ -229,13 +226,13 @@ def libscrypt(trial):
     for password, _, n, r, p in trial.cases():
         text = ctypes.create_string_buffer(128)
         library.libscrypt_hash(text, password.encode(), n, r, p)
-        converted(trial, trial.shown["from_libscrypt"], text.value.decode(), password)
+        converted(trial, stored_text.from_libscrypt, text.value.decode(), password)
         salt = some_bytes(trial.rng, 15) + b"!"
         key = trial.key(password.encode(), salt, n.bit_length() - 1, r, p, 64)
         library.libscrypt_mcf(n, r, p, base64.b64encode(salt), base64.b64encode(key), text)
         made = text.value.decode()
         trial.check(library.libscrypt_check(text, password.encode()) > 0, ("libscrypt does not verify", made))
-        trial.verifies(trial.shown["from_libscrypt"](made), password.encode())
+        trial.verifies(stored_text.from_libscrypt(made), password.encode())
 
 
 def of_hashlib(trial):
@@ -247,10 +244,10 @@ def of_hashlib(trial):
         salt, length = trial.rng.choice([plain, (b"", some), (long, some), short])
         key = hashlib.scrypt(password, salt=salt, n=n, r=r, p=p, dklen=length)
         trial.check(trial.key(password, salt, n.bit_length() - 1, r, p, length) == key, ("keys", password, salt))
-        trial.verifies(trial.shown["stored_text"](salt, key, n, r, p), password)
+        trial.verifies(stored_text.stored_text(salt, key, n, r, p), password)
     for salt in (b"\xff" * 65, b"$" * 65):
         try:
-            trial.check(False, ("is stored", trial.shown["stored_text"](salt, key, n, r, p)))
+            trial.check(False, ("is stored", stored_text.stored_text(salt, key, n, r, p)))
         except ValueError:
             trial.check(True, salt)
     for log_n, r, p in ((0, 8, 1), (16, 1, 1), (17, 8, 1)):
@@ -268,7 +265,7 @@ def key_cases(trial):
 
 def node(trial):
     """Texts of Node's keys, and its cap."""
-    words, cases = [installed("node"), "-e", trial.blocks_of("js")[0] + NODE], key_cases(trial)
+    words, cases = [installed("node"), "-e", example("stored_text.js") + NODE], key_cases(trial)
     for case, text in zip(cases, answers(words, cases)):
         trial.verifies(text, case[0].encode())
     for n, r in ((1, 8), (1 << 16, 1), (1 << 17, 8)):
@@ -279,7 +276,7 @@ def node(trial):
 def go(trial):
     """Texts of Go's keys, also with log_n from 16 * r, and its refusal of N = 1."""
     cases = [*key_cases(trial), ("password", "00", 1 << 16, 1, 1, 32), ("password", "00", 1, 8, 1, 32)]
-    made = go_keys(trial.blocks_of("go")[0], cases)
+    made = go_keys(os.path.join(EXAMPLES, "stored_text.go"), cases)
     for case, text in zip(cases[:-1], made):
         trial.verifies(text, case[0].encode())
     trial.check(made[-1] == "scrypt: N must be > 1 and a power of 2", ("Go", made[-1]))
@@ -288,7 +285,7 @@ def go(trial):
 def openssl(trial):
     """Texts of the keys that the program openssl prints, and its limits."""
     installed("openssl")
-    script = trial.blocks_of("sh")[0] + 'printf %s "$text"\n'
+    script = example("stored_text.sh") + 'printf %s "$text"\n'
     for case in key_cases(trial):
         password, salt, n, r, p, _ = case
         values = {"salt": salt, "key": openssl_key(*case)[1], "log_n": n.bit_length() - 1, "r": r, "p": p}
@@ -309,13 +306,13 @@ def rust_crate(trial):
         password, salt, costs = password.encode(), bytes.fromhex(salt), (n.bit_length() - 1, r, p)
         key = worker.derive(password, salt, costs, length)[1]
         trial.check(trial.key(password, salt, *costs, length) == key, ("keys", password, salt))
-        trial.verifies(trial.shown["stored_text"](salt, key, n, r, p), password)
+        trial.verifies(stored_text.stored_text(salt, key, n, r, p), password)
 
 
 def tarsnap(trial):
     """Files of `scrypt enc` are decrypted by the key of the program, but not if password or file is another."""
     command, _ = installed("scrypt"), installed("openssl")
-    script = 'scrypt_tool() { "$PROGRAM" "$@"; }\n' + trial.blocks_of("sh")[1]
+    script = 'scrypt_tool() { "$PROGRAM" "$@"; }\n' + example("scrypt_dec.sh")
     for _ in range(CASES):
         password, plain, (n, r, p) = trial.word(), trial.rng.randbytes(trial.rng.randrange(1000)), trial.costs()
         costs = [f"--logN={max(n.bit_length() - 1, 10)}", "-r", str(r), "-p", str(p)]

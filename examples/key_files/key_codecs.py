@@ -1,5 +1,4 @@
-"""What the key files of docs/KEY_FILES.md are written in and Python lacks: Base64 without padding, Base58Check, DER and
-Keccak-256."""
+"""What key files are written in and Python lacks: Base64 without padding, Base58Check, DER and Keccak-256."""
 
 import base64
 import hashlib

@@ -1,0 +1,137 @@
+"""Opens key files of other programs by keys that scrypt derives from their passwords. docs/KEY_FILES.md describes them.
+
+Each function takes the file and the password, and raises ValueError if the password is wrong, or the file is damaged or asks
+for more than is allowed. It needs the package scrypt_c, and python3-cryptography for the ciphers.
+"""
+
+import hashlib
+import hmac
+import json
+import re
+
+from cryptography.exceptions import InvalidTag
+from cryptography.hazmat.primitives.ciphers import Cipher, algorithms, modes
+from cryptography.hazmat.primitives.ciphers.aead import ChaCha20Poly1305
+from cryptography.hazmat.primitives.serialization import load_der_private_key
+
+import scrypt_c
+from key_codecs import double_sha256, from_base64, from_der, keccak_256
+
+MOST_MEMORY = 256 << 20  # bytes of the table
+MOST_WORK = scrypt_c.MOST_WORK  # four times the work of the recommended parameters (17, 8, 1)
+
+SCRYPT_ID, AES_256_CBC_ID = bytes.fromhex("2b06010401da47040b"), bytes.fromhex("60864801650304012a")
+ORDER = 0xFFFFFFFFFFFFFFFFFFFFFFFFFFFFFFFEBAAEDCE6AF48A03BBFD25E8CD0364141  # of secp256k1
+
+
+def key_of(password, salt, n, r, p, length, most_memory=MOST_MEMORY, most_work=MOST_WORK):
+    """The key. The parameters are bounded here, before anything is derived, and nowhere else."""
+    work = scrypt_c.Params(n.bit_length() - 1, r, p).work
+    if 128 * r * max(n, p) > most_memory or work > most_work:
+        raise ValueError("the file asks for more than is allowed")
+    return scrypt_c.scrypt(password, salt=salt, n=n, r=r, p=p, dklen=length)
+
+
+def age_file_key(file, password, **limits):
+    """The file key of a file of age, from which HKDF-SHA-256 makes the keys of the header and of the content."""
+    version, stanza, body = file.split(b"\n---", 1)[0].decode().split("\n")
+    _, method, salt, log_n = stanza.split(" ")
+    if version != "age-encryption.org/v1" or method != "scrypt" or not re.fullmatch("[1-9][0-9]?", log_n):
+        raise ValueError("not a file of age with a passphrase")
+    salt = b"age-encryption.org/v1/scrypt" + from_base64(salt)
+    key = key_of(password, salt, 1 << int(log_n), 8, 1, 32, **limits)
+    try:
+        return ChaCha20Poly1305(key).decrypt(bytes(12), from_base64(body), None)
+    except InvalidTag:
+        raise ValueError("another password") from None
+
+
+def tarsnap_keys(file, password, **limits):
+    """The keys of a file of `scrypt enc`: for AES-256-CTR from 0 over what follows the header, and for the HMAC of the file."""
+    if file[:7] != b"scrypt\0" or hashlib.sha256(file[:48]).digest()[:16] != file[48:64]:
+        raise ValueError("not a file of scrypt enc")
+    log_n, r, p = file[7], int.from_bytes(file[8:12], "big"), int.from_bytes(file[12:16], "big")
+    key = key_of(password, file[16:48], 1 << log_n, r, p, 64, **limits)
+    if not hmac.compare_digest(hmac.digest(key[32:], file[:64], "sha256"), file[64:96]):
+        raise ValueError("another password")
+    return key[:32], key[32:]
+
+
+def ethereum_secret(text, password, **limits):
+    """The private key in a file of Ethereum's secret storage, version 3."""
+    crypto = json.loads(text)["crypto"]
+    if (crypto["cipher"], crypto["kdf"]) != ("aes-128-ctr", "scrypt"):
+        raise ValueError("another method")
+    params, encrypted = crypto["kdfparams"], bytes.fromhex(crypto["ciphertext"])
+    key = key_of(password, bytes.fromhex(params["salt"]), params["n"], params["r"], params["p"], 32, **limits)
+    if keccak_256(key[16:] + encrypted).hex() != crypto["mac"]:
+        raise ValueError("another password")
+    counter = modes.CTR(bytes.fromhex(crypto["cipherparams"]["iv"]))
+    return Cipher(algorithms.AES(key[:16]), counter).decryptor().update(encrypted)
+
+
+def pkcs8_key(pem, password, **limits):
+    """The private key in a file of `openssl pkcs8 -topk8 -scrypt -v2 aes-256-cbc`."""
+    letters = "".join(pem.split("-----")[2].split())
+    [[[_, [[kdf, params], [cipher, iv]]], encrypted]] = from_der(from_base64(letters.rstrip("=")))
+    if (kdf, cipher) != (SCRYPT_ID, AES_256_CBC_ID):
+        raise ValueError("another method")
+    key = key_of(password, *params[:4], 32, **limits)
+    plain = Cipher(algorithms.AES(key), modes.CBC(iv)).decryptor().update(encrypted)
+    return load_der_private_key(plain[: -plain[-1]], None)
+
+
+def minisign_params(work, memory):
+    """log_n and p, for r = 8, that libsodium chooses by a limit on work and one on memory."""
+    work = max(work, 32768)
+    most = work // 32 if work < memory // 32 else memory // 1024
+    log_n = max(min(most.bit_length() - 1, 63), 1)
+    return log_n, 1 if work < memory // 32 else min(work // 4 >> log_n, 0x3FFFFFFF) // 8
+
+
+def minisign_secret(text, password, **limits):
+    """The number of a secret key of minisign, and the seed of Ed25519 with the public key."""
+    data = from_base64(text.split("\n")[1])
+    if data[:6] != b"EdScB2":
+        raise ValueError("not an encrypted key of minisign")
+    log_n, p = minisign_params(*(int.from_bytes(data[at : at + 8], "little") for at in (38, 46)))
+    plain = xor(data[54:], key_of(password, data[6:38], 1 << log_n, 8, p, 104, **limits))
+    number, secret, digest = plain[:8], plain[8:72], plain[72:]
+    if hashlib.blake2b(data[:2] + number + secret, digest_size=32).digest() != digest:
+        raise ValueError("another password")
+    return number, secret
+
+
+def aes(key):
+    return Cipher(algorithms.AES(key), modes.ECB()).decryptor()
+
+
+def xor(one, other):
+    return bytes(a ^ b for a, b in zip(one, other))
+
+
+def bip38_key(data, password):
+    """The private key in the 39 bytes of BIP38. It is right if its address has the hash that begins with data[3:7]."""
+    stream = key_of(password, data[3:7], 1 << 14, 8, 8, 64)
+    return xor(aes(stream[32:]).update(data[7:39]), stream)
+
+
+def bip38_multiplied_key(data, password, public_key):
+    """The same if it was multiplied by somebody else; `public_key` multiplies the generator of secp256k1."""
+    lot = data[2] & 4  # the owner's salt has four bytes, and then comes the number of a lot
+    factor = key_of(password, data[7:11] if lot else data[7:15], 1 << 14, 8, 8, 32)
+    if lot:
+        factor = double_sha256(factor + data[7:15])
+    point = public_key(int.from_bytes(factor, "big"), compressed=True)
+    stream = key_of(point, data[3:15], 1 << 10, 1, 1, 64)
+    second = xor(aes(stream[32:]).update(data[23:39]), stream[16:32])
+    first = xor(aes(stream[32:]).update(data[15:23] + second[:8]), stream)
+    seed = double_sha256(first + second[8:])
+    return (int.from_bytes(factor, "big") * int.from_bytes(seed, "big") % ORDER).to_bytes(32, "big")
+
+
+def is_mined(header):
+    """Whether the hash of a header of Litecoin, as a number, is at most its target."""
+    number = int.from_bytes(key_of(header, header, 1 << 10, 1, 1, 32), "little")
+    bits = int.from_bytes(header[72:76], "little")
+    return number <= (bits & 0x7FFFFF) << 8 * (bits >> 24) >> 24
