@@ -12,7 +12,7 @@
 #               tests have to (minutes for each)
 #   make oracle compares the program with independent implementations on random input, and with a
 #               reader in plain Python on hostile hashes, refuses each of its allocations, and tries
-#               docs/MIGRATION.md and docs/KEY_FILES.md; WORKER=PATH is a program that calls the Rust crate
+#               examples/migration and examples/key_files; WORKER=PATH is a program that calls the Rust crate
 #   make lib    builds the libraries for C into build/lib
 #   make install puts what is built below prefix=/usr/local, or below another folder, and in DESTDIR if it is said;
 #               make uninstall with the same words removes it
@@ -93,8 +93,6 @@ documents:
 	python3 ci/docs.py
 	python3 doc/test_promises.py
 	python3 doc/promises.py check
-	python3 ci/test_formats.py
-	python3 ci/formats.py
 	python3 ci/test_examples.py
 	python3 ci/examples.py
 	python3 compare/test_texts.py

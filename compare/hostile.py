@@ -114,7 +114,7 @@ def phc_costs(pairs):
         name, value = pair.split("=", 1)
         if name not in costs:
             return "ParamsInvalid"
-        if not re.fullmatch(phc.DECIMAL, value) or int(value) >= (256 if name == "ln" else 1 << 32):
+        if not re.fullmatch(phc.DECIMAL, value, re.VERBOSE) or int(value) >= (256 if name == "ln" else 1 << 32):
             return name
         costs[name] = int(value)
     if not accepted(*costs.values()):

@@ -4,12 +4,16 @@ import re
 
 import unpadded
 
-IDENT = r"[a-z0-9-]{1,32}"
-DECIMAL = r"(?:0|[1-9][0-9]*)"
-PAIR = rf"{IDENT}=[a-zA-Z0-9/+.-]+"
-BASE64 = r"[a-zA-Z0-9+/]+"
+DECIMAL = r"(?: 0 | [1-9][0-9]* )"
+PAIR = r"[a-z0-9-]{1,32} = [a-zA-Z0-9/+.-]+"
 TEXT = re.compile(
-    rf"\$({IDENT})(?:\$v=({DECIMAL}))?(?:\$({PAIR}(?:,{PAIR})*))?(?:\$({BASE64})(?:\$({BASE64}))?)?"
+    rf"""
+    \$ (?P<id> [a-z0-9-]{{1,32}} )
+    (?: \$v= (?P<version> {DECIMAL} ) )?
+    (?: \$ (?P<pairs> {PAIR} (?: , {PAIR} )* ) )?
+    (?: \$ (?P<salt> [a-zA-Z0-9+/]+ ) (?: \$ (?P<key> [a-zA-Z0-9+/]+ ) )? )?
+    """,
+    re.VERBOSE,
 )
 
 # passlib's hash of `password`
