@@ -84,17 +84,12 @@ test: kit documents
 	python3 ci/gate.py
 
 documents:
-	python3 ci/test_edits.py
-	python3 ci/test_gate.py
-	python3 ci/test_must_not_compile.py
-	python3 ci/test_functions.py
+	ci/lint.sh
+	python3 -B -m unittest discover -q -s ci
 	python3 ci/wrong_bodies.py fit
-	python3 ci/test_docs.py
 	python3 ci/docs.py
 	python3 doc/test_promises.py
 	python3 doc/promises.py check
-	python3 ci/test_examples.py
-	python3 ci/examples.py
 	python3 compare/test_texts.py
 	python3 -B release/test_proved.py
 	@if python3 -c "import sys; sys.path.append('/usr/lib/python3/dist-packages'); import jinja2, pygments" 2> /dev/null; \

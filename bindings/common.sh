@@ -1,3 +1,4 @@
+# shellcheck shell=sh
 # What the test scripts of the languages share. Sets lib, the folder of the libraries, and room, a folder that is
 # removed in the end.
 set -eu

@@ -1,13 +1,13 @@
 #!/usr/bin/env python3
 """Compares the documents with the sources, and refuses what does not fit.
 
-Refused are: a name in docs/*.md or README.md that no source has; a link that leads nowhere, or whose words name a
-definition that its file doesn't have; and a module of proofs without a comment in its crate's proofs/Lib.antt. That
-docs/PROMISES.md is what the sources say is for doc/promises.py to see.
+Refused are: a name in a document that no source has; a link that leads nowhere, or whose words name a definition that its
+file doesn't have; an example in Rust that is not a part of the file that it names; a module of proofs without a comment in
+its crate's proofs/Lib.antt; and a proof of a caller that names a proof of a library, since callers are proved from public
+clauses alone. doc/promises.py compares docs/PROMISES.md with the sources.
 
-A name is what is between backquotes and is a path (`mcf::Base64`, `Params::{log_n, n}`), a word
-with an underscore (`scrypt_ro_mix`), a call (`new()`), or a file of the repository. What belongs to others is listed
-below.
+A name is what is between backquotes and is a path (`mcf::Base64`, `Params::{log_n, n}`), a word with an underscore
+(`scrypt_ro_mix`), a call (`new()`), or a file of the repository. What belongs to others is listed below.
 """
 
 import glob
@@ -15,42 +15,36 @@ import os
 import re
 import sys
 
+from files import read
+
 DOCS = [it for pattern in ("*.md", "docs/*.md", "bindings/**/*.md", "release/*.md", "examples/**/*.md")
         for it in sorted(glob.glob(pattern, recursive=True))]
 
-# Names of other programs and libraries, and words of texts and commands.
-OTHERS = set("""
-check_password maxmem_bytes must_use needs_update
-""".split())
+# Names of other programs and libraries.
+OTHERS = {"check_password", "maxmem_bytes", "must_use", "needs_update"}
 
-
-def read(path):
-    with open(path, encoding="utf-8") as file:
-        return file.read()
-
-
-def sources(suffix):
-    return [it for it in glob.glob(f"crates/*/**/*.{suffix}", recursive=True) if "/out/" not in it]
+# The crates that are proved from public clauses, and the libraries that they call.
+CALLERS = ["promises", "scrypt_c", "scrypt_commands", "scrypt_examples"]
+LIBRARY_PROOF = re.compile(r"Rattle\.(?:scrypt|scrypt_kernel|password_hash)\.proofs\.\w+")
 
 
 def known_names():
     """Every word that the sources and the bindings have, which is what a name may consist of."""
-    names = set()
-    callers = [it for folder in ("bindings", "examples") for suffix in ("c", "h", "py", "go", "rs")
-               for it in glob.glob(f"{folder}/**/*.{suffix}", recursive=True)]
-    for path in sources("rt") + sources("antt") + [it for it in callers if "test" not in it]:
-        names.update(re.findall(r"[A-Za-z_][A-Za-z0-9_']*", read(path)))
-        names.update(re.split(r"[/.]", path))
+    names, paths = set(re.findall(r"^([\w-]+):", read("Makefile"), re.M)), []
+    for folder, suffixes in (("crates/*", ("rt", "antt")), ("bindings", ("c", "h", "py", "go", "rs")), ("examples", ("py",))):
+        for suffix in suffixes:
+            paths += glob.glob(f"{folder}/**/*.{suffix}", recursive=True)
+    for path in paths:
+        if "/out/" not in path and (path.startswith("crates/") or "test" not in path):
+            names.update(re.findall(r"[A-Za-z_][A-Za-z0-9_']*", read(path)))
+            names.update(re.split(r"[/.]", path))
     return names
 
 
 def expanded(name):
     """The paths of `a::{b, c}`."""
     found = re.fullmatch(r"(.*)\{(.*)\}(.*)", name)
-    if not found:
-        return [name]
-    before, choices, after = found.groups()
-    return [before + it.strip() + after for it in choices.split(",")]
+    return [found[1] + it.strip() + found[3] for it in found[2].split(",")] if found else [name]
 
 
 def words_of(name):
@@ -63,25 +57,21 @@ def words_of(name):
     return []
 
 
-def unknown_names(path, text, names, everything):
+def unknown_names(path, text, names):
     """What is named in a document and is nowhere."""
     for number, line in enumerate(text.splitlines(), 1):
         for name in re.findall(r"`([^`]+)`", line):
-            file = re.fullmatch(r"(crates|docs|ci|compare|bench|bindings)/[\w./-]+", name)
+            file = re.fullmatch(r"(crates|docs|ci|compare|bench|bindings|examples)/[\w./-]+", name)
             if file and "NAME" not in name and not glob.glob(name):
                 yield f"{path}:{number}: no file {name}"
             for word in words_of(name):
-                if word not in names and word not in OTHERS and word not in everything:
+                if word not in names and word not in OTHERS:
                     yield f"{path}:{number}: no source has the name {word}, of {name}"
 
 
 def headings(text):
     """The places of a document that a link can lead to, as forges name them."""
     return {re.sub(r"[^\w -]", "", it.lower()).replace(" ", "-") for it in re.findall(r"^#+ (.*)", text, re.M)}
-
-
-def declares(path, name):
-    return re.search(rf"^(?:(?:abbrev|unfoldable) )?pub (?:(?:record|data) )?{name}\b", read(path), re.M)
 
 
 def broken_links(path, text):
@@ -95,8 +85,25 @@ def broken_links(path, text):
             yield f"{path}: the link {target}#{place} leads nowhere".replace("# ", " ")
         elif file.endswith(".antt") and "/specs/" in file:
             for name in re.findall(r"`(\w+)`", words):
-                if not declares(file, name):
+                if not re.search(rf"^(?:(?:abbrev|unfoldable) )?pub (?:(?:record|data) )?{name}\b", read(file), re.M):
                     yield f"{path}: {file} has no definition {name}"
+
+
+def stripped(text):
+    return [it.strip() for it in text.strip().splitlines()]
+
+
+def other_examples(path, text):
+    """Examples in Rust whose lines don't follow each other in the file that is named after the word `rust`."""
+    for file, example in re.findall(r"^```rust +(\S+)\n(.*?)^```$", text, re.M | re.S):
+        part, whole = stripped(example), stripped(read(file))
+        if not any(whole[at : at + len(part)] == part for at in range(len(whole))):
+            yield f"{path}: the example is not a part of {file}"
+
+
+def complaints(path, text, names):
+    """Everything that is refused in a document."""
+    return [*unknown_names(path, text, names), *broken_links(path, text), *other_examples(path, text)]
 
 
 def unexplained_modules(path, text):
@@ -107,19 +114,20 @@ def unexplained_modules(path, text):
             yield f"{path}: no comment says what {line.split()[-1]} shows"
 
 
-def complaints(documents, names):
-    """Everything that is refused in these documents, which are texts by their paths."""
-    everything = set(re.findall(r"^([\w-]+):", read("Makefile"), re.M))
-    for path, text in documents.items():
-        yield from unknown_names(path, text, names, everything)
-        yield from broken_links(path, text)
+def inner_proofs(path, text):
+    """What a caller's proof names of the proofs of libraries."""
+    return [f"{path}: a proof of a library, {it}" for it in LIBRARY_PROOF.findall(text)]
 
 
 def main():
-    found = list(complaints({it: read(it) for it in DOCS}, known_names()))
+    names = known_names()
+    found = [it for path in DOCS for it in complaints(path, read(path), names)]
     for path in glob.glob("crates/*/proofs/Lib.antt"):
         found += unexplained_modules(path, read(path))
-    print("\n".join(found) or "docs: every name is in the sources, and every link leads somewhere")
+    for name in CALLERS:
+        for path in glob.glob(f"crates/{name}/proofs/**/*.antt", recursive=True):
+            found += inner_proofs(path, read(path))
+    print("\n".join(found) or "docs: names are in the sources, links lead somewhere, callers are proved from public clauses")
     sys.exit(1 if found else 0)
 
 

@@ -16,6 +16,8 @@ import os
 import shutil
 import tempfile
 
+from files import read, write
+
 FOLDERS = ["wrong-bodies", "more-wrong-bodies", "refused-by-tests", "must-not-compile"]
 
 
@@ -40,16 +42,6 @@ def crates_with(*folders):
 def edits_of(name, *folders):
     """The edits of a crate in these folders."""
     return sorted(it for folder in folders for it in glob.glob(f"crates/{name}/{folder}/*.edit"))
-
-
-def read(path):
-    with open(path, encoding="utf-8") as file:
-        return file.read()
-
-
-def write(path, text):
-    with open(path, "w", encoding="utf-8") as file:
-        file.write(text)
 
 
 def pairs(edit):

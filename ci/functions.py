@@ -8,7 +8,7 @@ import dataclasses
 import glob
 import re
 
-import edits
+from files import read
 
 HEADER = re.compile(r"^( *)(?:pub(?:\([a-z]+\))? )?(?:const )?(?:unsafe )?(?:extern \"C\" )?fn (\w+)", re.M)
 TYPE = re.compile(r"^(?:pub(?:\(\w+\))? )?(?:struct|enum) (\w+)", re.M)
@@ -68,7 +68,7 @@ def homes(crate):
     """The types of a crate, each with the modules that have one of this name."""
     found = {}
     for path in glob.glob("src/**/*.rt", root_dir=crate, recursive=True):
-        for name in TYPE.findall(edits.read(f"{crate}/{path}")):
+        for name in TYPE.findall(read(f"{crate}/{path}")):
             found.setdefault(name, []).append(module_of(path))
     return found
 

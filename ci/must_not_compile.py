@@ -20,6 +20,7 @@ import subprocess
 import sys
 
 import edits
+from files import read
 
 COUNTER = "crates/scrypt_kernel/proofs/cores/CoreCount/"
 BY_HAND = [COUNTER + it + "/Proof.antt" for it in ["after_core", "new"]]
@@ -74,7 +75,7 @@ def refused_as(crate):
 def own_sources():
     """The sources outside the test crates."""
     found = glob.glob("crates/*/src/**/*.rt", recursive=True)
-    return {it: edits.read(it) for it in found if not it.split("/")[1].endswith("_tests")}
+    return {it: read(it) for it in found if not it.split("/")[1].endswith("_tests")}
 
 
 def count_complaints(sources):

@@ -1,13 +1,13 @@
-#!/usr/bin/env python3
-"""Shows that docs.py refuses what it is there to refuse, and nothing else."""
+"""docs.py refuses what it is there to refuse, and nothing else."""
 
-import sys
+import unittest
 
 import docs
 
 PLAIN = "`Params::{log_n, n}` of `scrypt_counted`.\n"
 NAMES = {"Params", "log_n", "n", "scrypt_counted", "quarter_round", "ro_mix"}
 SALSA = "crates/scrypt_kernel/specs/Salsa.antt"
+RUST = "```rust bindings/rust/README.md\nlet hasher = Hasher::default();\n"
 
 # A document in docs/, and what has to be said of it, if anything.
 DOCUMENTS = [
@@ -22,6 +22,8 @@ DOCUMENTS = [
     ("a place that is gone", "[a](../README.md#what-is-hoped)", "README.md#what-is-hoped leads nowhere"),
     ("a definition", f"[`quarter_round`](../{SALSA})", None),
     ("a definition of another file", f"[`quarter_round`, `ro_mix`](../{SALSA})", "no definition ro_mix"),
+    ("a part of another page", RUST + "```\n", None),
+    ("an example with another line", RUST + "hasher.close();\n```\n", "not a part of bindings/rust/README.md"),
 ]
 
 # A list of modules, and the module that has to be named, if any.
@@ -31,25 +33,29 @@ MODULES = [
     ("the first module without a comment", "pub mod OneFacts\n", "OneFacts"),
 ]
 
-
-def failed(rows, found_in):
-    """How many rows are not refused for what they should be, and for nothing else."""
-    count = 0
-    for reason, text, wanted in rows:
-        found = list(found_in(text))
-        if len(found) != (wanted is not None) or wanted and wanted not in found[0]:
-            print(f"docs.py, {reason}: said {found}")
-            count += 1
-    return count
+# A line of a caller's proof, and what has to be said of it, if anything.
+PROOFS = [
+    ("a definition of a library", "use Rattle.scrypt.specs.PhcHash.{Accepts}\n", None),
+    ("a proof of its own", "use Rattle.scrypt_examples.proofs.RefusalFacts.{text_error}\n", None),
+    ("a proof of the kit", "use Rattle.std.proofs.Common.{refl}\n", None),
+    ("a proof of a library", "use Rattle.scrypt.proofs.VerdictFacts.{once}\n", "scrypt.proofs.VerdictFacts"),
+    ("a goal of the commands", "use Rattle.scrypt_commands.proofs.answer.verify.Goals as goal\n", None),
+]
 
 
-def main():
-    wrong = failed(DOCUMENTS, lambda text: docs.complaints({"docs/PLAIN.md": text}, NAMES))
-    wrong += failed(MODULES, lambda text: docs.unexplained_modules("crates/a/proofs/Lib.antt", text))
-    cases = len(DOCUMENTS) + len(MODULES)
-    print(f"docs.py: {cases - wrong} of {cases} cases as they should be")
-    sys.exit(1 if wrong else 0)
+class Docs(unittest.TestCase):
+    def each(self, rows, found_in):
+        for reason, text, wanted in rows:
+            with self.subTest(reason):
+                found = list(found_in(text))
+                self.assertEqual(len(found), wanted is not None, found)
+                self.assertIn(wanted or "", "".join(found))
 
+    def test_documents(self):
+        self.each(DOCUMENTS, lambda text: docs.complaints("docs/PLAIN.md", text, NAMES))
 
-if __name__ == "__main__":
-    main()
+    def test_modules(self):
+        self.each(MODULES, lambda text: docs.unexplained_modules("crates/a/proofs/Lib.antt", text))
+
+    def test_proofs(self):
+        self.each(PROOFS, lambda text: docs.inner_proofs("crates/scrypt_c/proofs/Lib.antt", text))

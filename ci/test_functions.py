@@ -1,7 +1,6 @@
-#!/usr/bin/env python3
-"""Shows that functions.py finds the function of a text, and takes a goal of its own for its refusal, and nothing else."""
+"""functions.py finds the function of a text, and takes a goal of its own for its refusal, and nothing else."""
 
-import sys
+import unittest
 
 import functions
 
@@ -143,19 +142,24 @@ def place(text):
     return found and (found.module, found.owner, found.name)
 
 
-def main():
-    step = {functions.Function("walk", "", "step")}
-    wrong = [reason for text, wanted, reason in PLACES if place(text) != wanted]
-    wrong += [reason for printed, wanted, reason in VERDICTS if functions.verdict(printed, step) != wanted]
-    wrong += [reason for printed, wanted, reason in CONSTANTS if functions.verdict(printed, set()) != wanted]
-    wrong += [reason for printed, wanted, reason in GOALS if bool(functions.unshown_goals(printed)) != wanted]
-    wrong += [reason for path, wanted, reason in PATHS if COST.is_printed_as(path) != wanted]
-    for reason in wrong:
-        print(f"functions.py, {reason}: not as it should be")
-    rows = sum(map(len, [PLACES, VERDICTS, CONSTANTS, GOALS, PATHS]))
-    print(f"functions.py: {rows - len(wrong)} of {rows} cases as they should be")
-    sys.exit(1 if wrong else 0)
+STEP = {functions.Function("walk", "", "step")}
 
 
-if __name__ == "__main__":
-    main()
+class Functions(unittest.TestCase):
+    def each(self, rows, outcome):
+        for given, wanted, reason in rows:
+            with self.subTest(reason):
+                self.assertEqual(outcome(given), wanted)
+
+    def test_places(self):
+        self.each(PLACES, place)
+
+    def test_verdicts(self):
+        self.each(VERDICTS, lambda printed: functions.verdict(printed, STEP))
+        self.each(CONSTANTS, lambda printed: functions.verdict(printed, set()))
+
+    def test_goals(self):
+        self.each(GOALS, lambda printed: bool(functions.unshown_goals(printed)))
+
+    def test_paths(self):
+        self.each(PATHS, COST.is_printed_as)

@@ -1,8 +1,7 @@
-#!/usr/bin/env python3
-"""Shows that must_not_compile.py sees a new count of cores and an impl that copies or compares a part, however they are
+"""must_not_compile.py sees a new count of cores and an impl that copies or compares a part, however they are
 written, and nothing else, and what a check refuses for."""
 
-import sys
+import unittest
 
 import must_not_compile
 
@@ -53,21 +52,15 @@ PRINTED = [
 ]
 
 
-def main():
-    placed = [("crates/a/src/lib.rt", *row) for row in ROWS]
-    placed += [(must_not_compile.COUNTER_SOURCE, *row) for row in IN_COUNTER]
-    wrong = [
-        reason
-        for path, source, refused, reason in placed
-        if bool(must_not_compile.complaints(RIGHT | {path: source})) != refused
-    ]
-    wrong += [reason for printed, kind, reason in PRINTED if must_not_compile.kind_of(printed) != kind]
-    for reason in wrong:
-        print(f"must_not_compile.py, {reason}: not as it should be")
-    cases = len(placed) + len(PRINTED)
-    print(f"must_not_compile.py: {cases - len(wrong)} of {cases} cases as they should be")
-    sys.exit(1 if wrong else 0)
+class MustNotCompile(unittest.TestCase):
+    def test_sources(self):
+        placed = [("crates/a/src/lib.rt", *row) for row in ROWS]
+        placed += [(must_not_compile.COUNTER_SOURCE, *row) for row in IN_COUNTER]
+        for path, source, refused, reason in placed:
+            with self.subTest(reason):
+                self.assertEqual(bool(must_not_compile.complaints(RIGHT | {path: source})), refused)
 
-
-if __name__ == "__main__":
-    main()
+    def test_printed(self):
+        for printed, kind, reason in PRINTED:
+            with self.subTest(reason):
+                self.assertEqual(must_not_compile.kind_of(printed), kind)

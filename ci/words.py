@@ -4,7 +4,7 @@ import os
 import re
 import shutil
 
-import edits
+from files import read
 
 
 def kit():
@@ -14,7 +14,7 @@ def kit():
 
 def crates():
     """The crates, each with its kind if it is a static library, and the libraries that it uses."""
-    lines = re.findall(r"^(\w+)( staticlib)?: *(.*)$", edits.read("crates.txt"), re.M)
+    lines = re.findall(r"^(\w+)( staticlib)?: *(.*)$", read("crates.txt"), re.M)
     return {name: (kind.strip(), used.split()) for name, kind, used in lines}
 
 

@@ -24,6 +24,7 @@ import tempfile
 import edits
 import functions
 import words
+from files import read, write
 
 FIRST, MORE = "wrong-bodies", "more-wrong-bodies"
 
@@ -35,7 +36,7 @@ def changed(edit, crate):
     """The functions that an edit changes, or none if it changes what stands outside of them."""
     found, types = set(), functions.homes(crate)
     for path, old, _ in edits.pairs(edit):
-        text = edits.read(os.path.join(crate, path))
+        text = read(os.path.join(crate, path))
         if text.count(old) != 1:
             raise edits.BadEdit(f"{edit}: the old text doesn't occur there once: {old}")
         at = text.index(old) + len(old) - len(old.lstrip())
@@ -76,7 +77,7 @@ def check(name, tried):
             if os.path.isdir(f"crates/{name}/{part}"):
                 shutil.copytree(f"crates/{name}/{part}", f"{crate}/{part}")
         for path, text in edits.texts_after_all(tried, crate).items():
-            edits.write(path, text)
+            write(path, text)
         only = [it for its in tried.values() for function in its for it in ("--only", function.path())]
         ran = subprocess.run([*words.of("check", name), *only], cwd=crate, capture_output=True, text=True, errors="replace")
     return ran.stdout + ran.stderr

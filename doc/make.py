@@ -19,17 +19,16 @@ import time
 sys.path.append("/usr/lib/python3/dist-packages")  # where Debian puts packages, also if python3 is another one
 try:
     import jinja2
-    import pygments  # noqa: F401, the other modules need it
+
+    import checks
+    import comments
+    import kit_pages
+    import lexers
+    import picture
+    from library import Library, module_page, page_of, text_page
+    from views import Views
 except ImportError as missing:
     sys.exit(f"make doc needs Debian's python3-jinja2 and python3-pygments: {missing}")
-
-import checks
-import comments
-import kit_pages
-import lexers
-import picture
-from library import Library, module_page, page_of, text_page
-from views import Views
 
 TAG = re.compile(r"<[^>]+>")
 FIRST_SENTENCE = re.compile(r"\n\s*\n|(?<=\.)\s")

@@ -1,3 +1,4 @@
+# shellcheck shell=sh
 # Derives the key of $file, which `scrypt enc` made, from $password, checks both HMACs and writes the decrypted contents.
 # For a wrong password or a changed file it writes nothing and the status is not 0. Nothing bounds $params: a file that
 # `scrypt enc` writes by default needs 1 GiB, and an untrusted one may ask for more. Other users of the machine can see the

@@ -1,0 +1,21 @@
+#!/bin/sh
+# Runs the linters and formatters that are installed over everything but what is built, and names the others.
+set -eu
+
+# The files of a kind, the Debian package of the linter, and its command, which prints nothing if all is well.
+lint() {
+  kind=$1 package=$2
+  shift 2
+  if ! command -v "$1" > /dev/null; then
+    echo "$1: SKIPPED: $package isn't installed"
+    return
+  fi
+  wrong=$(find ci compare doc bench bindings examples release -name "$kind" -not -path '*/out/*' -not -path '*/target/*' \
+    -exec "$@" {} + 2>&1) || test -n "$wrong" || wrong="$1 failed"
+  test -z "$wrong" || { echo "$wrong"; exit 1; }
+}
+
+lint '*.py' pyflakes3 pyflakes3
+lint '*.sh' shellcheck shellcheck --severity=error
+lint '*.go' golang-go gofmt -l
+lint '*.rs' rustfmt rustfmt --check --edition 2021 --config-path bindings/rust
