@@ -17,13 +17,9 @@ sys.path.insert(0, os.path.join(os.path.dirname(os.path.abspath(__file__)), ".."
 
 import crypt64
 import unpadded
+from program import CRYPT as MCF, EMPTY, PASSLIB as PHC, SHORT
 
-PHC = "$scrypt$ln=16,r=8,p=1$aM15713r3Xsvxbi31lqr1Q$nFNh2CVHVjNldFVKDHDlm4CbdRSCdEBsjjJxD+iCs5E"
-PHC_KEY = "$nFNh2CVHVjNldFVKDHDlm4CbdRSCdEBsjjJxD+iCs5E"
-SHORT = "$scrypt$ln=14,r=8,p=1$U29kaXVtQ2hsb3JpZGU$cCO9yzr9c0hGHA"
-MCF = "$7$CU..../....Mq4YHD2syxYT.MsH1Ek0n1$JyHIxez0DOwm0r6.kAIohc8UFBOLU4xX8a1wGBpLrw7"
-MCF_KEY = "$JyHIxez0DOwm0r6.kAIohc8UFBOLU4xX8a1wGBpLrw7"
-EMPTY = "$7$2/..../....$rNxJWVHNv/mCNcgE/f6/L4zO6Fos5c2uTzhyzoisI62"
+PHC_KEY, MCF_KEY = (it[it.rindex("$") :] for it in (PHC, MCF))
 KEY_AT = EMPTY.rindex("$") + 1
 
 # A hash, what is replaced in it by what, the verdict on its password, and the reason for the row.
