@@ -106,8 +106,8 @@ oracle: lib
 	python3 compare/test_texts.py
 	python3 compare/oracle.py crates/scrypt_tool/out/scrypt_tool
 	python3 compare/allocations.py crates/scrypt_tool/out/scrypt_tool
-	python3 compare/migration.py crates/scrypt_tool/out/scrypt_tool $(if $(WORKER),--worker $(WORKER))
-	python3 compare/key_files.py crates/scrypt_tool/out/scrypt_tool build/lib/libscrypt_c.so
+	python3 examples/migration/test_migration.py crates/scrypt_tool/out/scrypt_tool $(if $(WORKER),--worker $(WORKER))
+	python3 examples/key_files/test_key_files.py crates/scrypt_tool/out/scrypt_tool build/lib/libscrypt_c.so
 	cd crates/test_verdicts && rt run < stdin > /dev/null
 	python3 compare/hostile.py crates/test_verdicts/out/test_verdicts
 	python3 compare/thin_cost.py

@@ -1,4 +1,4 @@
-"""What other implementations of scrypt make, each in a process of its own, for migration.py and key_files.py."""
+"""What other implementations of scrypt make, each in a process of its own, for the tests of examples/."""
 
 import json
 import os

@@ -1,4 +1,4 @@
-"""What is around the keys of examples/key_files: their contents, and files like those of the real programs."""
+"""What is around the keys of key_file.py: their contents, and files like those of the real programs."""
 
 import hashlib
 import hmac

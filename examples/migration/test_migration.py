@@ -1,7 +1,7 @@
 #!/usr/bin/env python3
-"""Tries every conversion of examples/migration on what the other tools make.
+"""Tries every conversion of this folder on what the other tools make.
 
-usage: migration.py PROGRAM [--worker PATH] [--seed N]
+usage: test_migration.py PROGRAM [--worker PATH] [--seed N]
 
 Each tool makes hashes, keys or files of random passwords. They are converted by the example for that tool, and the program
 has to verify the right password and to refuse another. What a tool or the program refuses is tried too. WORKER calls the Rust crate and speaks
@@ -22,14 +22,13 @@ import subprocess
 import sys
 import tempfile
 
+import stored_text
+
+HERE = os.path.dirname(os.path.abspath(__file__))
+sys.path += [os.path.join(HERE, "..", "..", folder) for folder in ("compare", "bench")]
 import crypt64
 from foreign import NODE, Missing, answers, asked, go_keys, installed, openssl_key
 from oracle import run, some_bytes, verified
-
-HERE = os.path.dirname(os.path.abspath(__file__))
-EXAMPLES = os.path.join(HERE, "..", "examples", "migration")
-sys.path[:0] = [os.path.join(HERE, "..", "bench"), EXAMPLES]
-import stored_text
 from worker import Worker
 
 CASES = 20
@@ -112,7 +111,7 @@ class Trial:
 
 
 def example(name):
-    with open(os.path.join(EXAMPLES, name), encoding="utf-8") as file:
+    with open(os.path.join(HERE, name), encoding="utf-8") as file:
         return file.read()
 
 
@@ -276,7 +275,7 @@ def node(trial):
 def go(trial):
     """Texts of Go's keys, also with log_n from 16 * r, and its refusal of N = 1."""
     cases = [*key_cases(trial), ("password", "00", 1 << 16, 1, 1, 32), ("password", "00", 1, 8, 1, 32)]
-    made = go_keys(os.path.join(EXAMPLES, "stored_text.go"), cases)
+    made = go_keys(os.path.join(HERE, "stored_text.go"), cases)
     for case, text in zip(cases[:-1], made):
         trial.verifies(text, case[0].encode())
     trial.check(made[-1] == "scrypt: N must be > 1 and a power of 2", ("Go", made[-1]))

@@ -1,4 +1,4 @@
-"""The trials of each kind of key file of docs/KEY_FILES.md, which examples/key_files opens."""
+"""The trials of each kind of key file of docs/KEY_FILES.md, which key_file.py opens."""
 
 import hashlib
 import json

@@ -1,10 +1,10 @@
 #!/usr/bin/env python3
 """Opens key files of real programs with keys of this library, and has these programs open files that are made here.
 
-usage: key_files.py PROGRAM LIBRARY [--seed N]
+usage: test_key_files.py PROGRAM LIBRARY [--seed N]
 
 PROGRAM is scrypt_tool and LIBRARY libscrypt_c.so, which the Python binding loads. The files are opened by the functions
-of examples/key_files; each key is also derived by the shell's line of docs/KEY_FILES.md. For each kind of file: one that the real program made is opened, and a published vector; a wrong password and a file that
+of key_file.py; each key is also derived by the shell's line of docs/KEY_FILES.md. For each kind of file: one that the real program made is opened, and a published vector; a wrong password and a file that
 was changed are refused; one that asks for too much is refused before anything is derived; and one that is made here is
 opened by the real program, if there is one.
 
@@ -17,9 +17,9 @@ import os
 import sys
 import tempfile
 
+TOP = os.path.join(os.path.dirname(os.path.abspath(__file__)), "..", "..")
+sys.path += [os.path.join(TOP, "compare"), os.path.join(TOP, "bindings", "python")]
 from foreign import Missing
-
-HERE = os.path.dirname(os.path.abspath(__file__))
 
 
 def summary(trial, name, part):
@@ -40,7 +40,6 @@ def main():
     parser.add_argument("--seed", type=int, default=7914)
     args = parser.parse_args()
     os.environ["SCRYPT_C_LIBRARY"] = os.path.abspath(args.library)
-    sys.path[:0] = [os.path.join(HERE, "..", *path) for path in (["bindings", "python"], ["examples", "key_files"])]
     try:
         from key_trial import Trial
         from key_trials import KINDS
