@@ -22,9 +22,8 @@
 #   make callers calls them from each language of bindings/ that is installed here, and from programs that
 #               know the names of libsodium, libscrypt-kdf and crypt(3)
 #   make crypt  builds libscrypt_crypt.so, which has the names of crypt(3), and the PAM module into build/lib
-#   make bench  measures the library and the program against other implementations on this machine.
-#               Other programs join by WORKERS="--worker NAME=PATH ..", as bench/bench.py describes,
-#               and WORKERS="--callgrind" counts instructions
+#   make bench  measures the library against other implementations on this machine. Other programs join by
+#               WORKERS="--worker NAME=PATH ..", as bench/bench.py describes
 #   make thin   measures the key by smaller tables, and draws docs/thin.svg
 #   make parameters  measures logins at each log_n, alone and at once, and draws docs/parameters.svg
 #   make bounds measures the dearest hash within the default bounds, for each log_n and some r
@@ -150,9 +149,7 @@ callers: crypt
 	bindings/callers.sh
 
 bench: lib
-	cd crates/scrypt_tool && rt run -- key 0 1 1 1 "" > /dev/null < /dev/null
-	python3 bench/bench.py build/lib/libscrypt_c.so crates/scrypt_tool/out/scrypt_tool \
-	  --picture docs/speed.svg $(WORKERS)
+	python3 bench/bench.py build/lib/libscrypt_c.so --picture docs/speed.svg $(WORKERS)
 
 thin: lib
 	python3 bench/thin.py build/lib/libscrypt_c.so 2 docs/thin.svg

@@ -1,8 +1,7 @@
 #!/usr/bin/env python3
-"""Compares this library and its program with other implementations of scrypt on this machine.
+"""Compares this library with other implementations of scrypt on this machine.
 
-usage: bench.py LIBRARY PROGRAM [--worker NAME=PATH].. [--runs 15] [--cpu N] [--costs 14,8,1:17,8,1]
-                [--picture FILE] [--callgrind]
+usage: bench.py LIBRARY [--worker NAME=PATH].. [--runs 15] [--cpu N] [--costs 14,8,1:17,8,1] [--picture FILE]
 
 All libraries are called in one process: this one (LIBRARY is libscrypt_c.so) by scrypt_kdf and by
 scrypt_kdf_mapped; libxcrypt, libsodium, libscrypt-kdf, and hashlib, which calls OpenSSL. A library that
@@ -12,12 +11,10 @@ in Markdown. An implementation has no figure if it returns an error or another k
 
 Each call allocates its table and frees it, so page faults are part of its time. Everything is measured
 twice, the second time with GLIBC_TUNABLES=glibc.malloc.hugetlb=1, which lets malloc ask for pages of
-2 MiB instead of 4 KiB. This does not affect a table that is allocated by mmap. The table of page faults
-shows the difference.
+2 MiB instead of 4 KiB. This does not affect a table that is allocated by mmap.
 
-After that, verifications in a row are measured, as verifications.py describes, and then the program as a
-process. With --picture, the time of a core over log_n is drawn as SVG. With --callgrind, valgrind counts
-the instructions of a core, and no times are measured.
+After that, verifications in a row are measured, as verifications.py describes. With --picture, the time of a core
+over log_n is drawn as SVG.
 
 Other programs can be added with --worker. A worker is a process of its own on the same processor that
 reads lines and answers each one with a line, immediately:
@@ -33,9 +30,7 @@ import os
 import subprocess
 import sys
 
-import instructions
 import picture
-import program
 import tables
 
 COSTS = "10,8,16:14,8,1:17,8,1:20,8,1:14,32,1"
@@ -60,13 +55,24 @@ def without_repeats(costs):
     return ":".join(dict.fromkeys(costs.split(":")))
 
 
+def draw(path, rows):
+    """Draws the nanoseconds for a core over log_n."""
+    lines = {}
+    for costs in GROWTH.split(":"):
+        for name, figures in rows[costs].items():
+            if figures:
+                point = tables.numbers(costs)[0], figures["least"] / tables.cores(costs), ""
+                lines.setdefault(name, []).append(point)
+    title = "least nanoseconds for a Salsa20/8 core, r = 8, p = 1, pages of 4 KiB"
+    picture.draw(path, title, "log_n", lines, range(0, 121, 20))
+
+
 def compare(library, args):
     """Measures and prints everything."""
     whole = [args.costs, GROWTH] if args.picture else [args.costs]
     pages = {"4 KiB": measured(library, args, without_repeats(":".join(whole)))}
     if args.picture:
-        with open(args.picture, "w", encoding="utf-8") as file:
-            file.write(picture.drawn(pages["4 KiB"], GROWTH.split(":")))
+        draw(args.picture, pages["4 KiB"])
     if tables.has_huge_pages():
         pages["2 MiB"] = measured(library, args, args.costs, HUGE_PAGES)
     else:
@@ -77,13 +83,11 @@ def compare(library, args):
 def arguments():
     parser = argparse.ArgumentParser(usage=__doc__.split("usage: ")[1])
     parser.add_argument("library")
-    parser.add_argument("program")
     parser.add_argument("--worker", action="append", default=[])
     parser.add_argument("--runs", type=int, default=15)
     parser.add_argument("--cpu", type=int, default=max(os.sched_getaffinity(0)))
     parser.add_argument("--costs", default=COSTS)
     parser.add_argument("--picture")
-    parser.add_argument("--callgrind", action="store_true")
     return parser.parse_args()
 
 
@@ -91,14 +95,10 @@ def main():
     args = arguments()
     os.sched_setaffinity(0, {args.cpu})
     library = os.path.abspath(args.library)
-    if args.callgrind:
-        instructions.show(lambda costs: command(library, 1, costs, []), args.worker)
-        return
     print(tables.machine(args), flush=True)
     compare(library, args)
     script = os.path.join(HERE, "verifications.py")
     subprocess.run([sys.executable, script, library, *args.worker, "--cpu", str(args.cpu)], check=True)
-    program.show(args.program, args.costs.split(":"), args.runs)
 
 
 if __name__ == "__main__":

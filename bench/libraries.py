@@ -24,7 +24,7 @@ class InProcess:
     """An implementation that is called in this process."""
 
     def __init__(self, name, call):
-        self.name, self.call, self.pid = name, call, os.getpid()
+        self.name, self.call = name, call
 
     def derive(self, password, salt, costs, length):
         """The nanoseconds that one call took, and its key."""

@@ -1,7 +1,7 @@
 #!/usr/bin/env python3
 """Measures each implementation in one process, and prints the figures as JSON.
 
-usage: measure.py LIBRARY.so RUNS COSTS [NAME=WORKER..] [--only NAME]
+usage: measure.py LIBRARY.so RUNS COSTS [NAME=WORKER..]
 
 COSTS are the parameters of each row, as in 14,8,1:17,8,1. Each round calls every implementation once,
 in a new random order. bench.py starts this script, and its docstring describes workers.
@@ -22,32 +22,20 @@ PASSWORD, SALT, LENGTH = b"pleaseletmein", b"SodiumChloride", 64
 WARM_UP, WARM_UPS = (14, 8, 1), 3
 
 
-def faults(pid):
-    """The page faults of the process so far, by proc(5)."""
-    with open(f"/proc/{pid}/stat", encoding="ascii", errors="replace") as stat:
-        return int(stat.read().rpartition(")")[2].split()[7])
-
-
 def derived(implementation, costs):
-    """The time of one call, its page faults and its key, or None if it returns an error."""
-    before = faults(implementation.pid)
+    """The time of one call and its key, or None if it returns an error."""
     try:
-        time, key = implementation.derive(PASSWORD, SALT, costs, LENGTH)
+        return implementation.derive(PASSWORD, SALT, costs, LENGTH)
     except (Refused, ValueError):
         return None
-    return time, faults(implementation.pid) - before, key
 
 
 def figures(calls, key):
     """The figures of some calls, or None if one of them failed or returned another key."""
-    if None in calls or any(not key.startswith(one[2]) or len(one[2]) < 32 for one in calls):
+    if None in calls or any(not key.startswith(made) or len(made) < 32 for _, made in calls):
         return None
-    times = [one[0] for one in calls]
-    return {
-        "least": min(times),
-        "median": statistics.median(times),
-        "faults": statistics.median_low(one[1] for one in calls),
-    }
+    times = [time for time, _ in calls]
+    return {"least": min(times), "median": statistics.median(times)}
 
 
 def row(implementations, costs, runs):
@@ -63,7 +51,7 @@ def row(implementations, costs, runs):
 def reference(calls):
     """The key that all have to return: OpenSSL's, or that of the only one that is measured."""
     made = calls.get(OPENSSL) or next(iter(calls.values()))
-    return made[0][2] if made[0] else b""
+    return made[0][1] if made[0] else b""
 
 
 def everything(library, workers):
@@ -81,11 +69,8 @@ def main():
     for word in ("library", "runs", "costs"):
         parser.add_argument(word)
     parser.add_argument("workers", nargs="*")
-    parser.add_argument("--only")
     args = parser.parse_args()
     made = everything(args.library, args.workers)
-    if args.only:
-        made = [it for it in made if it.name == args.only]
     for it in made * WARM_UPS:
         derived(it, WARM_UP)
     rows = {}

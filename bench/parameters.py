@@ -15,7 +15,6 @@ import os
 import resource
 import sys
 import time
-from math import log2
 
 import picture
 
@@ -23,9 +22,6 @@ LOG_NS = range(10, 21)
 AT_ONCE_LOG_NS = (14, 15, 16, 17)
 SECONDS = 4  # how long logins at once are counted
 PASSWORD, SALT, KEY_LEN = b"pleaseletmein", b"SodiumChloride", 32
-# What a login or a key file may take, with the colour of its band: name, seconds from and to.
-BANDS = [("key files", 0.5, 5, 3), ("logins", 0.03, 0.5, 2)]
-WIDTH, HEIGHT, LEFT, RIGHT, TOP, BOTTOM = 720, 400, 64, 24, 40, 52
 
 
 class Library:
@@ -92,47 +88,6 @@ def logins_at_once(path, stored, processes):
     return sum(counts.get() for _ in workers)
 
 
-def place(mib, seconds, rows):
-    """The place of a point: both axes are logarithmic."""
-    (least, low), (most, high) = rows[0][1:3], rows[-1][1:3]
-    low, high = min(low, BANDS[-1][1]) / 2, max(high, BANDS[0][2])
-    x = LEFT + (log2(mib) - log2(least)) / (log2(most) - log2(least)) * (WIDTH - LEFT - RIGHT - 30)
-    y = HEIGHT - BOTTOM - (log2(seconds) - log2(low)) / (log2(high) - log2(low)) * (HEIGHT - BOTTOM - TOP)
-    return x, y
-
-
-def text(x, y, words, more=""):
-    return f'<text x="{x:.1f}" y="{y:.1f}"{more}>{words}</text>'
-
-
-def drawn(rows):
-    """The picture: seconds over the memory of the table, with a band for each use."""
-    parts = [
-        f'<svg xmlns="http://www.w3.org/2000/svg" viewBox="0 0 {WIDTH} {HEIGHT}" width="{WIDTH}" height="{HEIGHT}" '
-        'font-family="sans-serif" font-size="13">',
-        picture.style(),
-        f'<rect class="ground" width="{WIDTH}" height="{HEIGHT}"/>',
-        text(LEFT, 22, "seconds of a processor for one key, r = 8, p = 1; beside each point its log_n and seconds"),
-        text(WIDTH / 2, HEIGHT - 10, "MiB of the table; both axes are logarithmic", ' text-anchor="middle"'),
-    ]
-    for name, low, high, colour in BANDS:
-        top, bottom = place(1, high, rows)[1], place(1, low, rows)[1]
-        size = f'width="{WIDTH - LEFT - RIGHT}" height="{bottom - top:.1f}" fill-opacity="0.15"'
-        parts.append(f'<rect class="d{colour}" x="{LEFT}" y="{top:.1f}" {size}/>')
-        parts.append(text(LEFT + 8, top + 18, f"{name}: {low:g} to {high:g} seconds"))
-        parts.append(text(LEFT - 8, top + 4, f"{high:g}", ' text-anchor="end"'))
-    parts.append(text(LEFT - 8, bottom + 4, f"{low:g}", ' text-anchor="end"'))
-    points = [place(mib, seconds, rows) for _, mib, seconds, _ in rows]
-    joined = " ".join(f"{x:.1f},{y:.1f}" for x, y in points)
-    parts.append(f'<polyline class="c0" points="{joined}" fill="none" stroke-width="2"/>')
-    for (x, y), (log_n, mib, seconds, _) in zip(points, rows):
-        parts.append(f'<circle class="d0" cx="{x:.1f}" cy="{y:.1f}" r="3"/>')
-        side = ' text-anchor="end"' if x > WIDTH - 100 else ""
-        parts.append(text(x - 8 if side else x + 6, y - 6 if side else y + 14, f"{log_n}: {seconds:.2g}", side))
-        parts.append(text(x, HEIGHT - BOTTOM + 18, f"{mib:g}", ' text-anchor="middle"'))
-    return "\n".join([*parts, "</svg>", ""])
-
-
 def main():
     path, runs = os.path.abspath(sys.argv[1]), int(sys.argv[2]) if len(sys.argv) > 2 else 7
     print(f"{os.cpu_count()} processors, load {os.getloadavg()[0]:.1f} at the start, {runs} runs")
@@ -143,8 +98,9 @@ def main():
         rows.append((log_n, (1024 << log_n) / (1 << 20), seconds, held))
         print(f"| {log_n} | {rows[-1][1]:g} | {seconds:.3g} | {held:.0f} |", flush=True)
     if len(sys.argv) > 3:
-        with open(sys.argv[3], "w", encoding="utf-8") as file:
-            file.write(drawn(rows))
+        title = "seconds of a processor for one key, r = 8, p = 1; beside each point its log_n and seconds"
+        line = [(mib, seconds, f"{log_n}: {seconds:.2g}") for log_n, mib, seconds, _ in rows]
+        picture.draw_logarithmic(sys.argv[3], title, {"one login": line}, (0.001, 0.01, 0.1, 1, 4))
     at_once = [1 << it for it in range(os.cpu_count().bit_length())]
     print("\n| logins a second, log_n |", *(f" {it} at once |" for it in at_once), sep="")
     print("|---" * (len(at_once) + 1) + "|")

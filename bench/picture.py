@@ -1,19 +1,12 @@
-"""Draws the time of a core over log_n as SVG, for light and dark pages."""
+"""Draws lines over points as SVG, for light and dark pages."""
 
-from tables import cores, numbers
+from math import log2
 
-WIDTH, HEIGHT, LEFT, RIGHT, TOP, BOTTOM = 720, 400, 56, 24, 76, 44
+WIDTH, HEIGHT, LEFT, RIGHT, TOP, BOTTOM = 720, 400, 56, 64, 76, 44
 
-# the colour of each line, on light and on dark pages
-COLOURS = [
-    ("#c00000", "#ff7b72"),
-    ("#8a4b00", "#e3a04f"),
-    ("#0b5cad", "#79b8ff"),
-    ("#18753c", "#6fdd8b"),
-    ("#6f42c1", "#c8a6ff"),
-    ("#4d5761", "#b1bac4"),
-    ("#a0007a", "#ff8fd8"),
-]
+# The colour of each line, on light and on dark pages.
+COLOURS = [("#c00000", "#ff7b72"), ("#8a4b00", "#e3a04f"), ("#0b5cad", "#79b8ff"), ("#18753c", "#6fdd8b"),
+           ("#6f42c1", "#c8a6ff"), ("#4d5761", "#b1bac4"), ("#a0007a", "#ff8fd8")]
 
 
 def style():
@@ -22,78 +15,53 @@ def style():
     def rules(dark):
         ground, text, grid = ("#0d1117", "#e6edf3", "#3d444d") if dark else ("#fff", "#1f2328", "#d0d7de")
         lines = [f".ground {{ fill: {ground} }} text {{ fill: {text} }} .grid {{ stroke: {grid} }}"]
-        for at, pair in enumerate(COLOURS):
-            lines.append(f".c{at} {{ stroke: {pair[dark]} }} .d{at} {{ fill: {pair[dark]} }}")
+        lines += [f".c{at} {{ stroke: {pair[dark]} }} .d{at} {{ fill: {pair[dark]} }}" for at, pair in enumerate(COLOURS)]
         return " ".join(lines)
 
     return f"<style>{rules(False)} @media (prefers-color-scheme: dark) {{ {rules(True)} }}</style>"
-
-
-def series(rows, costs):
-    """Of each implementation the nanoseconds for a core, by log_n."""
-    made = {}
-    for one in costs:
-        for name, figures in rows[one].items():
-            if figures:
-                made.setdefault(name, {})[numbers(one)[0]] = figures["least"] / cores(one)
-    return made
-
-
-def x_of(log_n, least, most):
-    return LEFT + (log_n - least) * (WIDTH - LEFT - RIGHT) / max(most - least, 1)
-
-
-def y_of(nanoseconds, most):
-    return HEIGHT - BOTTOM - nanoseconds / most * (HEIGHT - BOTTOM - TOP)
 
 
 def text(x, y, words, more=""):
     return f'<text x="{x:.1f}" y="{y:.1f}"{more}>{words}</text>'
 
 
-def axes(log_ns, most):
-    """A line for every 20 nanoseconds, and the numbers on both axes."""
-    parts = [text(LEFT, 20, "least nanoseconds for a Salsa20/8 core, r = 8, p = 1, pages of 4 KiB")]
-    for nanoseconds in range(0, int(most) + 1, 20):
-        y = y_of(nanoseconds, most)
+def drawn(title, below, lines, levels, scale=float):
+    """The picture of some lines, by their names: points (x, y, label) over a grid at these levels, both axes by `scale`."""
+    points = [point for line in lines.values() for point in line]
+    xs = sorted({scale(x) for x, _, _ in points})
+    low, high = scale(levels[0]), max(scale(levels[-1]), *(scale(y) for _, y, _ in points))
+
+    def place(x, y):
+        return (LEFT + (scale(x) - xs[0]) / (xs[-1] - xs[0]) * (WIDTH - LEFT - RIGHT),
+                HEIGHT - BOTTOM - (scale(y) - low) / (high - low) * (HEIGHT - BOTTOM - TOP))
+
+    parts = [f'<svg xmlns="http://www.w3.org/2000/svg" viewBox="0 0 {WIDTH} {HEIGHT}" width="{WIDTH}" height="{HEIGHT}" '
+             'font-family="sans-serif" font-size="13">', style(), f'<rect class="ground" width="{WIDTH}" height="{HEIGHT}"/>',
+             text(LEFT, 20, title), text(WIDTH - RIGHT, HEIGHT - 8, below, ' text-anchor="end"')]
+    for level in levels:
+        _, y = place(points[0][0], level)
         parts.append(f'<line class="grid" x1="{LEFT}" x2="{WIDTH - RIGHT}" y1="{y:.1f}" y2="{y:.1f}"/>')
-        parts.append(text(LEFT - 8, y + 4, nanoseconds, ' text-anchor="end"'))
-    for log_n in log_ns:
-        x = x_of(log_n, log_ns[0], log_ns[-1])
-        parts.append(text(x, HEIGHT - BOTTOM + 18, log_n, ' text-anchor="middle"'))
-    parts.append(text(WIDTH - RIGHT, HEIGHT - 8, "log_n", ' text-anchor="end"'))
-    return parts
+        parts.append(text(LEFT - 8, y + 4, f"{level:g}", ' text-anchor="end"'))
+    for x in sorted({x for x, _, _ in points}):
+        parts.append(text(place(x, levels[0])[0], HEIGHT - BOTTOM + 18, f"{x:g}", ' text-anchor="middle"'))
+    for at, (name, line) in enumerate(lines.items()):
+        x, y = LEFT + 160 * (at % 4), 42 + 18 * (at // 4)
+        parts.append(f'<rect class="d{at}" x="{x}" y="{y - 9}" width="10" height="10"/>' + text(x + 16, y, name))
+        places, width = [place(x, y) for x, y, _ in line], 3 if at == 0 else 1.5
+        joined = " ".join(f"{x:.1f},{y:.1f}" for x, y in places)
+        parts.append(f'<polyline class="c{at}" points="{joined}" fill="none" stroke-width="{width}"/>')
+        rises = (places[-1][1] < places[0][1]) == (places[-1][0] > places[0][0])
+        for (x, y), (_, _, label) in zip(places, line):
+            parts.append(f'<circle class="d{at}" cx="{x:.1f}" cy="{y:.1f}" r="{width}"/>')
+            parts += [text(x + 6, y + (14 if rises else -6), label)] if label else []
+    return "\n".join([*parts, "</svg>", ""])
 
 
-def legend(at, name):
-    """The name of a line next to its colour, four in a row."""
-    x, y = LEFT + 160 * (at % 4), 42 + 18 * (at // 4)
-    mark = f'<rect class="d{at % len(COLOURS)}" x="{x}" y="{y - 9}" width="10" height="10"/>'
-    return [mark, text(x + 16, y, name)]
+def draw(path, title, below, lines, levels, scale=float):
+    with open(path, "w", encoding="utf-8") as file:
+        file.write(drawn(title, below, lines, levels, scale))
 
 
-def curve(at, points, log_ns, most):
-    """The line of one implementation, and a dot for each figure."""
-    colour = at % len(COLOURS)
-    places = [(x_of(log_n, log_ns[0], log_ns[-1]), y_of(it, most)) for log_n, it in points.items()]
-    joined = " ".join(f"{x:.1f},{y:.1f}" for x, y in places)
-    width = 3 if at == 0 else 1.5
-    parts = [f'<polyline class="c{colour}" points="{joined}" fill="none" stroke-width="{width}"/>']
-    return parts + [f'<circle class="d{colour}" cx="{x:.1f}" cy="{y:.1f}" r="{width}"/>' for x, y in places]
-
-
-def drawn(rows, costs):
-    """The picture of the figures for these parameters."""
-    made = series(rows, costs)
-    log_ns = [numbers(one)[0] for one in costs]
-    most = 1.05 * max(max(points.values()) for points in made.values())
-    parts = [
-        f'<svg xmlns="http://www.w3.org/2000/svg" viewBox="0 0 {WIDTH} {HEIGHT}" width="{WIDTH}" '
-        f'height="{HEIGHT}" font-family="sans-serif" font-size="13">',
-        style(),
-        f'<rect class="ground" width="{WIDTH}" height="{HEIGHT}"/>',
-        *axes(log_ns, most),
-    ]
-    for at, (name, points) in enumerate(made.items()):
-        parts += legend(at, name) + curve(at, points, log_ns, most)
-    return "\n".join([*parts, "</svg>"]) + "\n"
+def draw_logarithmic(path, title, lines, levels):
+    """The same with both axes logarithmic: seconds over MiB of the table."""
+    draw(path, title, "MiB of the table; both axes are logarithmic", lines, levels, log2)

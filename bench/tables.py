@@ -37,7 +37,7 @@ def cores(costs):
 
 
 def label(costs):
-    return "(" + ", ".join(str(number) for number in numbers(costs)) + ")"
+    return "(" + ", ".join(costs.split(",")) + ")"
 
 
 def line(cells):
@@ -58,26 +58,12 @@ def time_cell(name, row, costs, figure):
     return f"{nanoseconds} ({row[OURS][figure] / row[name][figure]:.2f})"
 
 
-def fault_cell(name, row):
-    return f"{row[name]['faults']:,}" if row[name] else "no figure"
-
-
-def table(pages, costs, cell):
-    """A row for each page size and each set of parameters, and a column for each implementation."""
-    names = list(pages["4 KiB"][costs[0]])
-    lines = [head(["pages", "(log_n, r, p)", *names])]
-    for kind, rows in pages.items():
-        for one in costs:
-            cells = [cell(name, rows[one], one) for name in names]
-            lines.append(line([kind, label(one), *cells]))
-    return "\n".join(lines)
-
-
 def show(pages, costs):
-    """Prints the least times, the medians, and the page faults."""
-    about = "nanoseconds for a Salsa20/8 core, and the time of this library relative to each"
+    """Prints the least times and the medians: a row for each page size and parameters, a column for each implementation."""
+    names = list(pages["4 KiB"][costs[0]])
     for figure in ("least", "median"):
-        print(f"\nThe {figure} time: {about}\n")
-        print(table(pages, costs, lambda *of, kind=figure: time_cell(*of, kind)))
-    print("\nPage faults of one call\n")
-    print(table(pages, costs, lambda name, row, _costs: fault_cell(name, row)), flush=True)
+        print(f"\nThe {figure} time: nanoseconds for a Salsa20/8 core, and the time of this library relative to each\n")
+        print(head(["pages", "(log_n, r, p)", *names]))
+        for kind, rows in pages.items():
+            for one in costs:
+                print(line([kind, label(one), *(time_cell(name, rows[one], one, figure) for name in names)]), flush=True)

@@ -3,8 +3,7 @@
 
 usage: thin.py LIBRARY [RUNS [PICTURE]]
 
-LIBRARY is the C library of this repository, shared or static (cc then links it as a shared one). The
-table keeps one row in 2^s. The time is the minimum of RUNS runs (by default 3). A step recomputes
+LIBRARY is the shared C library of this repository. The table keeps one row in 2^s. The time is the minimum of RUNS runs (by default 3). A step recomputes
 (2^s - 1) / 2 rows on average, so 2 * N * r * p * (2 + (2^s - 1) / 2) cores are expected;
 compare/thin_cost.py compares this with counted cores. Each key is compared with hashlib's. With PICTURE, time
 over memory is drawn there as SVG.
@@ -12,10 +11,7 @@ over memory is drawn there as SVG.
 
 import ctypes
 import hashlib
-import os
-import subprocess
 import sys
-import tempfile
 import time
 
 import picture
@@ -23,16 +19,6 @@ import picture
 COSTS = [(17, 8, 1), (20, 8, 1)]
 SPACINGS = range(7)
 PASSWORD, SALT, LENGTH = b"pleaseletmein", b"SodiumChloride", 64
-
-
-def shared(path, folder):
-    """The path of a shared library with this one in it."""
-    if not path.endswith(".a"):
-        return path
-    made = os.path.join(folder, "libscrypt_thin.so")
-    whole = ["-Wl,--whole-archive", path, "-Wl,--no-whole-archive"]
-    subprocess.run(["cc", "-shared", "-o", made, *whole], check=True)
-    return made
 
 
 def thin_call(path):
@@ -84,52 +70,20 @@ def measured(call, costs, runs):
     return rows
 
 
-def drawn(results):
-    """The picture: time over memory, on logarithmic axes."""
-    from math import log2
-
-    points = [(log2(mib), log2(taken)) for rows in results.values() for _, mib, _, taken in rows]
-    left, right = min(x for x, _ in points), max(x for x, _ in points)
-    low, high = min(y for _, y in points), max(y for _, y in points)
-
-    def place(mib, taken):
-        x = 70 + 500 * (log2(mib) - left) / (right - left)
-        y = 320 - 280 * (log2(taken) - low) / (high - low)
-        return x, y
-
-    lines = [
-        '<svg xmlns="http://www.w3.org/2000/svg" width="680" height="380" font-family="sans-serif" font-size="12">',
-        picture.style(),
-        '<rect class="ground" width="680" height="380"/>',
-        '<text x="310" y="370" text-anchor="middle">MiB of the table, logarithmic</text>',
-        '<text x="70" y="20">seconds, logarithmic; beside each point its MiB and its seconds, at (log_n, r, p)</text>',
-    ]
-    for number, (costs, rows) in enumerate(results.items()):
-        places = [place(mib, taken) for _, mib, _, taken in rows]
-        path = " ".join(f"{x:.0f},{y:.0f}" for x, y in places)
-        lines.append(f'<polyline points="{path}" fill="none" class="c{number}"/>')
-        for (x, y), (_, mib, _, taken) in zip(places, rows):
-            lines.append(f'<circle cx="{x:.0f}" cy="{y:.0f}" r="3" class="d{number}"/>')
-            lines.append(f'<text x="{x + 5:.0f}" y="{y - 5:.0f}">{mib:g}, {taken:.2g}</text>')
-        x, y = places[0]
-        lines.append(f'<text x="{x - 10:.0f}" y="{y + 18:.0f}" text-anchor="end" class="d{number}">{costs}</text>')
-    return "\n".join([*lines, "</svg>", ""])
-
-
 def main():
     runs = int(sys.argv[2]) if len(sys.argv) > 2 else 3
     results = {}
-    with tempfile.TemporaryDirectory() as folder:
-        call = thin_call(shared(sys.argv[1], folder))
-        for costs in COSTS:
-            results[costs] = measured(call, costs, runs)
+    call = thin_call(sys.argv[1])
+    for costs in COSTS:
+        results[costs] = measured(call, costs, runs)
     for costs, rows in results.items():
         print(f"\n| s at {costs} | table, MiB | expected cores | seconds |\n|---|---|---|---|")
         for s, mib, cores, taken in rows:
             print(f"| {s} | {mib:g} | {cores:.3g} | {taken:.3f} |")
     if len(sys.argv) > 3:
-        with open(sys.argv[3], "w", encoding="utf-8") as file:
-            file.write(drawn(results))
+        title = "seconds for a key; beside each point its seconds, at (log_n, r, p)"
+        lines = {str(costs): [(mib, taken, f"{taken:.2g}") for _, mib, _, taken in rows] for costs, rows in results.items()}
+        picture.draw_logarithmic(sys.argv[3], title, lines, (0.25, 1, 4, 16))
 
 
 if __name__ == "__main__":

@@ -16,7 +16,6 @@ class Worker:
         self.process = subprocess.Popen(
             [os.path.expanduser(path)], stdin=subprocess.PIPE, stdout=subprocess.PIPE, text=True, bufsize=1
         )
-        self.pid = self.process.pid
 
     def derive(self, password, salt, costs, length):
         """The nanoseconds that one call took, and its key."""
