@@ -89,7 +89,7 @@ documents:
 	python3 ci/docs.py
 	python3 doc/test_promises.py
 	python3 doc/promises.py check
-	python3 compare/test_texts.py
+	python3 -B -m unittest discover -q -s compare
 	python3 -B release/test_proved.py
 	@if python3 -c "import sys; sys.path.append('/usr/lib/python3/dist-packages'); import jinja2, pygments" 2> /dev/null; \
 	then python3 doc/make.py; else echo "doc: SKIPPED: Debian's python3-jinja2 and python3-pygments aren't installed"; fi
@@ -102,7 +102,6 @@ refused-by-tests: kit
 
 oracle: lib
 	cd crates/scrypt_tool && rt run -- key 0 1 1 1 "" > /dev/null < /dev/null
-	python3 compare/test_texts.py
 	python3 compare/oracle.py crates/scrypt_tool/out/scrypt_tool
 	python3 compare/allocations.py crates/scrypt_tool/out/scrypt_tool
 	python3 examples/migration/test_migration.py crates/scrypt_tool/out/scrypt_tool $(if $(WORKER),--worker $(WORKER))
@@ -163,7 +162,7 @@ bounds: lib
 compare-worker: kit
 	@test -n "$(WORKER)" || { echo "Say with what: make compare-worker WORKER=PATH" >&2; exit 1; }
 	cd crates/scrypt_tool && rt run -- key 0 1 1 1 "" > /dev/null < /dev/null
-	python3 compare/compare_worker.py crates/scrypt_tool/out/scrypt_tool $(WORKER)
+	python3 compare/oracle.py crates/scrypt_tool/out/scrypt_tool --seed 934532111 --worker $(WORKER)
 
 .PHONY: promises doc doc-test
 promises:

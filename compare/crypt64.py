@@ -9,11 +9,6 @@ HASHES = [
     ("", "$7$2/..../....$rNxJWVHNv/mCNcgE/f6/L4zO6Fos5c2uTzhyzoisI62"),
 ]
 
-# how many strings the generator makes, and the numbers that it steps by
-STRINGS = 1000
-FACTOR, SUMMAND = 6364136223846793005, 1442695040888963407
-
-
 def letters(data):
     """The letters of bytes."""
     written = ""
@@ -48,28 +43,3 @@ def costs(log_n, r, p):
     """What comes before the salt in a `$7$` text."""
     five = [ALPHABET[number // 64**place % 64] for number in (r, p) for place in range(5)]
     return "$7$" + ALPHABET[log_n] + "".join(five)
-
-
-def generated():
-    """Strings of up to 96 bytes: a length and then its bytes, each the highest of eight bytes."""
-    state = 0
-
-    def step():
-        nonlocal state
-        state = (state * FACTOR + SUMMAND) % (1 << 64)
-        return state >> 56
-
-    for _ in range(STRINGS):
-        length = step() % 97
-        yield bytes(step() for _ in range(length))
-
-
-def strings():
-    """Every byte string of up to two bytes, and then those of the generator."""
-    yield b""
-    for first in range(256):
-        yield bytes([first])
-    for first in range(256):
-        for second in range(256):
-            yield bytes([first, second])
-    yield from generated()

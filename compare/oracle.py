@@ -1,18 +1,19 @@
 #!/usr/bin/env python3
 """Compares the program with independent implementations on random input.
 
-usage: oracle.py PROGRAM [SEED]
+usage: oracle.py PROGRAM [--seed N] [--worker PATH]
 
 Each part prints how many cases agreed. What isn't installed is looked for where Debian puts it too, and
 otherwise counted as skipped. The last line is 'N passed, M failed, K skipped', with the names of what was
-skipped.
+skipped. WORKER speaks the protocol that bench/bench.py describes: with it 10,000 keys are compared with its own
+and nothing else, some of parameters and lengths that no key has, which both have to refuse.
 """
 
+import argparse
 import ctypes
 import hashlib
 import os
 import random
-import shutil
 import subprocess
 import sys
 
@@ -22,9 +23,10 @@ import reference
 import unpadded
 
 # Debian's packages, for an interpreter that is not the system's
-sys.path.append("/usr/lib/python3/dist-packages")
+sys.path += ["/usr/lib/python3/dist-packages", os.path.join(os.path.dirname(os.path.abspath(__file__)), "..", "bench")]
+from worker import Refused, Worker
 
-CASES = 200
+CASES, WORKER_CASES = 200, 10_000
 
 # what was skipped, by name
 MISSING = []
@@ -144,16 +146,6 @@ def crypt_letters(program, rng):
     return tally("letters of salts in crypt Base64", agree)
 
 
-def crypt_letters_passlib(_program, _rng):
-    """The same letters by passlib."""
-    try:
-        from passlib.utils.binary import h64
-    except ImportError:
-        return skipped("passlib")
-    agree = [h64.encode_bytes(data).decode() == crypt64.letters(data) for data in crypt64.strings()]
-    return tally("letters of byte strings by passlib", agree)
-
-
 def crypt_hashes(program, rng):
     """crypt(3) makes the hashes of the tests, its hashes are verified here and ours there."""
     try:
@@ -266,35 +258,6 @@ def hash_lengths(program, rng):
     return tally("hashes with keys of 10 to 64 bytes", agree)
 
 
-def mkpasswd_hashes(program, _rng):
-    """A hash of mkpasswd is verified here."""
-    if not shutil.which("mkpasswd"):
-        return skipped("mkpasswd")
-    made = subprocess.run(["mkpasswd", "--method=scrypt", "password"], capture_output=True)
-    return tally("hashes of mkpasswd", [verified(program, made.stdout.strip(), b"password")])
-
-
-def sodium_hashes(program, rng):
-    """libsodium's `$7$` hashes are verified here, and ours with a salt of 32 bytes there."""
-    try:
-        library = ctypes.CDLL("libsodium.so.23")
-    except OSError:
-        return skipped("libsodium")
-    make = library.crypto_pwhash_scryptsalsa208sha256_str
-    verify = library.crypto_pwhash_scryptsalsa208sha256_str_verify
-    agree = []
-    for _ in range(10):
-        password = some_bytes(rng, 40)
-        length = ctypes.c_ulonglong(len(password))
-        theirs = ctypes.create_string_buffer(102)
-        agree.append(make(theirs, password, length, ctypes.c_ulonglong(1 << 15), 1 << 24) == 0)
-        agree.append(verified(program, theirs.value, password))
-        words = ["hash", "mcf", str(rng.randrange(1, 11)), "8", "1", rng.randbytes(32).hex()]
-        ours = ctypes.create_string_buffer(run(program, words, password)[1].strip(), 102)
-        agree.append(verify(ours, password, length) == 0)
-    return tally("hashes of libsodium", agree)
-
-
 # one command of each kind, which all answer an empty password with status 0
 STREAM_COMMANDS = [
     ["key", "4", "1", "1", "64", ""],
@@ -354,22 +317,50 @@ PARTS = [
     hashes,
     phc_passlib,
     crypt_letters,
-    crypt_letters_passlib,
     crypt_hashes,
     hash_lengths,
     rehashes,
     rehashes_passlib,
-    mkpasswd_hashes,
-    sodium_hashes,
 ]
 
 
+def worker_case(rng):
+    """A password, a salt, parameters and a length, of which one in 50 is refused."""
+    password, salt = (rng.randbytes(rng.randrange(1 + rng.choice((0, 1, 16, 80, most)))) for most in (400, 300))
+    log_n, r = rng.randrange(11), rng.randrange(1, 17)
+    p = rng.randrange(1, 5) if r << log_n <= 2048 else 1
+    refused = [(64, r, p), (log_n, 0, p), (log_n, r, 0), (log_n, 1 << 15, 1 << 15)]
+    costs = rng.choice(refused) if rng.randrange(50) == 0 else (log_n, r, p)
+    return password, salt, costs, rng.randrange(1 + rng.choice((1, 32, 33, 65, 300)))
+
+
+def worker_keys(path):
+    """The keys of the program and of a worker, or that both refuse."""
+
+    def part(program, rng):
+        worker, agree = Worker("worker", path), []
+        for _ in range(WORKER_CASES):
+            password, salt, costs, length = case = worker_case(rng)
+            status, printed, _ = run(program, ["key", *map(str, costs), str(length), salt.hex()], password)
+            try:
+                wanted = 0, worker.derive(*case)[1].hex().encode() + b"\n"
+            except Refused:
+                wanted = 2, b""
+            agree.append(matches((status, printed), wanted, case))
+        return tally("keys of the worker", agree)
+
+    return part
+
+
 def main():
-    program = sys.argv[1]
-    rng = random.Random(int(sys.argv[2]) if len(sys.argv) > 2 else 7914)
-    totals = [0, 0, 0]
-    for part in PARTS:
-        totals = [total + more for total, more in zip(totals, part(program, rng))]
+    parser = argparse.ArgumentParser(usage=__doc__.split("usage: ")[1].split("\n")[0])
+    parser.add_argument("program")
+    parser.add_argument("--seed", type=int, default=7914)
+    parser.add_argument("--worker")
+    args = parser.parse_args()
+    rng, totals = random.Random(args.seed), [0, 0, 0]
+    for part in [worker_keys(args.worker)] if args.worker else PARTS:
+        totals = [total + more for total, more in zip(totals, part(args.program, rng))]
     print("{} passed, {} failed, {} skipped".format(*totals) + "".join(f", {it}" for it in sorted(set(MISSING))))
     sys.exit(1 if totals[1] else 0)
 

@@ -1,7 +1,6 @@
-#!/usr/bin/env python3
-"""Shows that the letters of bytes, which the comparisons are made with, are those of other programs, both ways."""
+"""The letters of bytes, which the comparisons are made with, are those of other programs, both ways."""
 
-import sys
+import unittest
 
 import crypt64
 import unpadded
@@ -26,17 +25,10 @@ ROWS = [
 ]
 
 
-def is_right(module, data, text):
-    return module.read(text) == data and (data is None or module.letters(data) == text)
-
-
-def main():
-    wrong = [(module.__name__, reason) for module, data, text, reason in ROWS if not is_right(module, data, text)]
-    for name, reason in wrong:
-        print(f"{name}.py, {reason}: not as it should be")
-    print(f"letters of bytes: {len(ROWS) - len(wrong)} of {len(ROWS)} cases as they should be")
-    sys.exit(1 if wrong else 0)
-
-
-if __name__ == "__main__":
-    main()
+class Letters(unittest.TestCase):
+    def test_rows(self):
+        for module, data, text, reason in ROWS:
+            with self.subTest(f"{module.__name__}, {reason}"):
+                self.assertEqual(module.read(text), data)
+                if data is not None:
+                    self.assertEqual(module.letters(data), text)

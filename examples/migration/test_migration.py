@@ -23,11 +23,11 @@ import sys
 import tempfile
 
 import stored_text
+from foreign import NODE, Missing, answers, asked, go_keys, installed, openssl_key
 
 HERE = os.path.dirname(os.path.abspath(__file__))
 sys.path += [os.path.join(HERE, "..", "..", folder) for folder in ("compare", "bench")]
 import crypt64
-from foreign import NODE, Missing, answers, asked, go_keys, installed, openssl_key
 from oracle import run, some_bytes, verified
 from worker import Worker
 

@@ -1,4 +1,4 @@
-"""What other implementations of scrypt make, each in a process of its own, for the tests of examples/."""
+"""What other implementations of scrypt make, each in a process of its own, for the tests of the examples."""
 
 import json
 import os
