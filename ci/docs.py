@@ -119,9 +119,15 @@ def inner_proofs(path, text):
     return [f"{path}: a proof of a library, {it}" for it in LIBRARY_PROOF.findall(text)]
 
 
+def lines_to_read():
+    """The lines of definitions for the key, as README has them and not docs/PROMISES.md."""
+    lines = re.search(r"For the key: \d+ definitions of (\d+) lines", read("docs/PROMISES.md"))[1]
+    return [] if f"{lines} lines for the key" in read("README.md") else [f"README.md: the key has {lines} lines to read"]
+
+
 def main():
     names = known_names()
-    found = [it for path in DOCS for it in complaints(path, read(path), names)]
+    found = [it for path in DOCS for it in complaints(path, read(path), names)] + lines_to_read()
     for path in glob.glob("crates/*/proofs/Lib.antt"):
         found += unexplained_modules(path, read(path))
     for name in CALLERS:
