@@ -1,7 +1,7 @@
 #!/usr/bin/env python3
 """Runs the examples of README in Python, Go and C over the library of build/lib, and the one of Python's own page.
 
-Only Go's has code around it. README's example in Rust is a part of the one of Rust's page (ci/examples.py), which `cargo
+Only Go's has code around it. README's example in Rust is a part of the one of Rust's page (ci/docs.py), which `cargo
 test` runs. What is not installed is named by its Debian package. The script fails if an example fails or is missing.
 """
 
