@@ -1,37 +1,34 @@
 # On a machine with the Rattle kit, three commands do everything:
 #   make run    proves and builds the program, and prints the first key of RFC 7914, section 12
-#   make check  is for daily work: the checks of the documents, and what changed since the last check, proved and
-#               tested. The first one takes as long as a proof of everything
-#   make test   is the whole gate: the checks of the documents and of what must not compile, every proof from nothing,
-#               every test and program, the built programs on command lines and hashes whose answers are known, the
-#               edits of wrong-bodies/, which the prover must refuse, and a short call of the library from C, Python
-#               and the drop-in names
+#   make check  is for daily work: checks the documents, and proves and tests what changed since the last check. The
+#               first one takes as long as proving everything
+#   make test   is the gate: checks the documents, proves everything from nothing, checks that wrong code is rejected
+#               (wrong-bodies/, must-not-compile/), runs every test, and calls the library from C, Python and by the
+#               drop-in names
 # And besides the gate:
-#   make wrong-bodies tries the edits of wrong-bodies/ and of more-wrong-bodies/, in all crates or in CRATES="NAME .."
-#   make refused-by-tests tries those of refused-by-tests/, wrong bodies that no clause can refuse, and that the
-#               tests have to (minutes for each)
-#   make oracle compares the program with independent implementations on random input, and with a
-#               reader in plain Python on hostile hashes, refuses each of its allocations, and tries
-#               examples/migration and examples/key_files; WORKER=PATH is a program that calls the Rust crate
+#   make wrong-bodies tries wrong-bodies/ and more-wrong-bodies/ of all crates, or of CRATES="NAME .."
+#   make refused-by-tests tries refused-by-tests/: wrong code that meets every contract, and fails a test (minutes each)
+#   make oracle compares the program with independent implementations on random input and hostile hashes, fails each of
+#               its allocations, and tries examples/migration and examples/key_files; WORKER=PATH calls the Rust crate
 #   make lib    builds the libraries for C into build/lib
-#   make install puts what is built below prefix=/usr/local, or below another folder, and in DESTDIR if it is said;
-#               make uninstall with the same words removes it
+#   make install installs what is built below prefix=/usr/local, and honours DESTDIR; make uninstall with the same
+#               variables removes it
 #   make dist   makes packages for Debian and Python, an archive, the sources and their hashes in build/dist, with the
 #               verdicts of make run and make lib, or of the gate; without any it stops, unless UNPROVED=1 is given
 #   make dist-test  installs, uses and removes them in a fresh root of Debian packages (needs root, mmdebstrap, lintian)
-#   make callers calls them from each language of bindings/ that is installed here, and from programs that
-#               know the names of libsodium, libscrypt-kdf and crypt(3)
+#   make callers calls them from each installed language of bindings/, and by the names of libsodium, libscrypt-kdf
+#               and crypt(3)
 #   make crypt  builds libscrypt_crypt.so, which has the names of crypt(3), and the PAM module into build/lib
 #   make bench  measures the library against other implementations on this machine. Other programs join by
 #               WORKERS="--worker NAME=PATH ..", as bench/bench.py describes
 #   make thin   measures the key by smaller tables, and draws docs/thin.svg
 #   make parameters  measures logins at each log_n, alone and at once, and draws docs/parameters.svg
-#   make bounds measures the dearest hash within the default bounds, for each log_n and some r
+#   make bounds measures the slowest hash within the default bounds, for each log_n and some r
 #   make compare-worker WORKER=PATH  compares 10,000 keys with those of such a program
 #   make promises writes docs/PROMISES.md from the sources: each public function with its clauses, and the definitions
-#   make doc    makes the reader for the proof, build/doc/index.html, in seconds and without the kit or a network; it
-#               needs Debian's python3-jinja2 and python3-pygments
-#   make doc-test tests the reader, and reads its pages in a headless Chromium if that is installed
+#   make doc    makes pages for reading the proof, build/doc/index.html, without the kit or a network; it needs Debian's
+#               python3-jinja2 and python3-pygments
+#   make doc-test tests these pages, in a headless Chromium if that is installed
 #   make axioms writes doc/axioms.txt, what the check of the program assumes, which those pages print
 #   make login-service  runs a small login service on 127.0.0.1:8080 with a PostgreSQL of its own (examples/login_service);
 #               make login-test tests it and its faults, and make login-load prints its table of logins a second
