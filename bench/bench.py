@@ -1,7 +1,7 @@
 #!/usr/bin/env python3
 """Compares this library with other implementations of scrypt on this machine.
 
-usage: bench.py LIBRARY [--worker NAME=PATH].. [--runs 15] [--cpu N] [--costs 14,8,1:17,8,1] [--picture FILE]
+usage: bench.py LIBRARY [--worker NAME=PATH].. [--runs 15] [--cpu N] [--params 14,8,1:17,8,1] [--picture FILE]
 
 All libraries are called in one process: this one (LIBRARY is libscrypt_c.so) by scrypt_kdf and by
 scrypt_kdf_mapped; libxcrypt, libsodium, libscrypt-kdf, and hashlib, which calls OpenSSL. A library that
@@ -33,35 +33,35 @@ import sys
 import picture
 import tables
 
-COSTS = "10,8,16:14,8,1:17,8,1:20,8,1:14,32,1"
+PARAMS = "10,8,16:14,8,1:17,8,1:20,8,1:14,32,1"
 GROWTH = ":".join(f"{log_n},8,1" for log_n in (10, 12, 14, 15, 16, 17, 18, 20))
 HUGE_PAGES = {"GLIBC_TUNABLES": "glibc.malloc.hugetlb=1"}
 HERE = os.path.dirname(os.path.abspath(__file__))
 
 
-def command(library, runs, costs, workers):
+def command(library, runs, params, workers):
     """The command that measures these parameters."""
     script = os.path.join(HERE, "measure.py")
-    return [sys.executable, script, library, str(runs), costs, *workers]
+    return [sys.executable, script, library, str(runs), params, *workers]
 
 
-def measured(library, args, costs, more=None):
+def measured(library, args, params, more=None):
     """The figures for these parameters, with `more` in the environment."""
-    words = command(library, args.runs, costs, args.worker)
+    words = command(library, args.runs, params, args.worker)
     return json.loads(subprocess.check_output(words, env=os.environ | (more or {})))
 
 
-def without_repeats(costs):
-    return ":".join(dict.fromkeys(costs.split(":")))
+def without_repeats(params):
+    return ":".join(dict.fromkeys(params.split(":")))
 
 
 def draw(path, rows):
     """Draws the nanoseconds for a core over log_n."""
     lines = {}
-    for costs in GROWTH.split(":"):
-        for name, figures in rows[costs].items():
+    for params in GROWTH.split(":"):
+        for name, figures in rows[params].items():
             if figures:
-                point = tables.numbers(costs)[0], figures["least"] / tables.cores(costs), ""
+                point = tables.numbers(params)[0], figures["least"] / tables.cores(params), ""
                 lines.setdefault(name, []).append(point)
     title = "least nanoseconds for a Salsa20/8 core, r = 8, p = 1, pages of 4 KiB"
     picture.draw(path, title, "log_n", lines, range(0, 121, 20))
@@ -69,15 +69,15 @@ def draw(path, rows):
 
 def compare(library, args):
     """Measures and prints everything."""
-    whole = [args.costs, GROWTH] if args.picture else [args.costs]
+    whole = [args.params, GROWTH] if args.picture else [args.params]
     pages = {"4 KiB": measured(library, args, without_repeats(":".join(whole)))}
     if args.picture:
         draw(args.picture, pages["4 KiB"])
     if tables.has_huge_pages():
-        pages["2 MiB"] = measured(library, args, args.costs, HUGE_PAGES)
+        pages["2 MiB"] = measured(library, args, args.params, HUGE_PAGES)
     else:
         print("this system has no huge pages: left out", file=sys.stderr)
-    tables.show(pages, args.costs.split(":"))
+    tables.show(pages, args.params.split(":"))
 
 
 def arguments():
@@ -86,7 +86,7 @@ def arguments():
     parser.add_argument("--worker", action="append", default=[])
     parser.add_argument("--runs", type=int, default=15)
     parser.add_argument("--cpu", type=int, default=max(os.sched_getaffinity(0)))
-    parser.add_argument("--costs", default=COSTS)
+    parser.add_argument("--params", default=PARAMS)
     parser.add_argument("--picture")
     return parser.parse_args()
 

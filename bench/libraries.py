@@ -26,10 +26,10 @@ class InProcess:
     def __init__(self, name, call):
         self.name, self.call = name, call
 
-    def derive(self, password, salt, costs, length):
+    def derive(self, password, salt, params, length):
         """The nanoseconds that one call took, and its key."""
         start = time.perf_counter_ns()
-        key = self.call(password, salt, *costs, length)
+        key = self.call(password, salt, *params, length)
         return time.perf_counter_ns() - start, key
 
 
@@ -96,7 +96,7 @@ def libxcrypt(library):
 
     def call(password, salt, log_n, r, p, _length):
         data = ctypes.create_string_buffer(CRYPT_DATA)
-        setting = crypt64.costs(log_n, r, p).encode() + salt + b"$"
+        setting = crypt64.params(log_n, r, p).encode() + salt + b"$"
         text = library.crypt_r(password, setting, data)
         if not text or not text.startswith(setting):
             raise Refused("libxcrypt")

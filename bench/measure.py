@@ -1,9 +1,9 @@
 #!/usr/bin/env python3
 """Measures each implementation in one process, and prints the figures as JSON.
 
-usage: measure.py LIBRARY.so RUNS COSTS [NAME=WORKER..]
+usage: measure.py LIBRARY.so RUNS PARAMS [NAME=WORKER..]
 
-COSTS are the parameters of each row, as in 14,8,1:17,8,1. Each round calls every implementation once,
+PARAMS are the parameters of each row, as in 14,8,1:17,8,1. Each round calls every implementation once,
 in a new random order. bench.py starts this script, and its docstring describes workers.
 """
 
@@ -22,10 +22,10 @@ PASSWORD, SALT, LENGTH = b"pleaseletmein", b"SodiumChloride", 64
 WARM_UP, WARM_UPS = (14, 8, 1), 3
 
 
-def derived(implementation, costs):
+def derived(implementation, params):
     """The time of one call and its key, or None if it returns an error."""
     try:
-        return implementation.derive(PASSWORD, SALT, costs, LENGTH)
+        return implementation.derive(PASSWORD, SALT, params, LENGTH)
     except (Refused, ValueError):
         return None
 
@@ -38,12 +38,12 @@ def figures(calls, key):
     return {"least": min(times), "median": statistics.median(times)}
 
 
-def row(implementations, costs, runs):
+def row(implementations, params, runs):
     """The figures of each implementation for these parameters."""
     calls = {it.name: [] for it in implementations}
     for _ in range(runs):
         for it in random.sample(implementations, len(implementations)):
-            calls[it.name].append(derived(it, costs))
+            calls[it.name].append(derived(it, params))
     key = reference(calls)
     return {name: figures(made, key) for name, made in calls.items()}
 
@@ -60,13 +60,13 @@ def everything(library, workers):
     return [*ours(library), *[Worker(*one) for one in named], *libraries(), openssl()]
 
 
-def costs_of(text):
+def params_of(text):
     return [tuple(int(number) for number in one.split(",")) for one in text.split(":")]
 
 
 def main():
     parser = argparse.ArgumentParser()
-    for word in ("library", "runs", "costs"):
+    for word in ("library", "runs", "params"):
         parser.add_argument(word)
     parser.add_argument("workers", nargs="*")
     args = parser.parse_args()
@@ -74,8 +74,8 @@ def main():
     for it in made * WARM_UPS:
         derived(it, WARM_UP)
     rows = {}
-    for costs in costs_of(args.costs):
-        rows[",".join(map(str, costs))] = row(made, costs, int(args.runs))
+    for params in params_of(args.params):
+        rows[",".join(map(str, params))] = row(made, params, int(args.runs))
     print(json.dumps(rows))
 
 

@@ -26,18 +26,18 @@ def machine(args):
     )
 
 
-def numbers(costs):
-    return [int(number) for number in costs.split(",")]
+def numbers(params):
+    return [int(number) for number in params.split(",")]
 
 
-def cores(costs):
+def cores(params):
     """How many Salsa20/8 cores a key takes."""
-    log_n, r, p = numbers(costs)
+    log_n, r, p = numbers(params)
     return 4 * (1 << log_n) * r * p
 
 
-def label(costs):
-    return "(" + ", ".join(costs.split(",")) + ")"
+def label(params):
+    return "(" + ", ".join(params.split(",")) + ")"
 
 
 def line(cells):
@@ -48,22 +48,22 @@ def head(cells):
     return line(cells) + "\n" + "|---" * len(cells) + "|"
 
 
-def time_cell(name, row, costs, figure):
+def time_cell(name, row, params, figure):
     """Nanoseconds for a core, and in parentheses the time of this library relative to it."""
     if not row[name]:
         return "no figure"
-    nanoseconds = f"{row[name][figure] / cores(costs):.1f}"
+    nanoseconds = f"{row[name][figure] / cores(params):.1f}"
     if name == OURS or not row[OURS]:
         return nanoseconds
     return f"{nanoseconds} ({row[OURS][figure] / row[name][figure]:.2f})"
 
 
-def show(pages, costs):
+def show(pages, params):
     """Prints the least times and the medians: a row for each page size and parameters, a column for each implementation."""
-    names = list(pages["4 KiB"][costs[0]])
+    names = list(pages["4 KiB"][params[0]])
     for figure in ("least", "median"):
         print(f"\nThe {figure} time: nanoseconds for a Salsa20/8 core, and the time of this library relative to each\n")
         print(head(["pages", "(log_n, r, p)", *names]))
         for kind, rows in pages.items():
-            for one in costs:
+            for one in params:
                 print(line([kind, label(one), *(time_cell(name, rows[one], one, figure) for name in names)]), flush=True)

@@ -16,7 +16,7 @@ import time
 
 import picture
 
-COSTS = [(17, 8, 1), (20, 8, 1)]
+PARAMS = [(17, 8, 1), (20, 8, 1)]
 SPACINGS = range(7)
 PASSWORD, SALT, LENGTH = b"pleaseletmein", b"SodiumChloride", 64
 
@@ -52,9 +52,9 @@ def expected_cores(log_n, r, p, s):
     return 2 * r * p * ((2 << log_n) + ((1 << s) - 1 << log_n) / 2)
 
 
-def measured(call, costs, runs):
+def measured(call, params, runs):
     """Rows of s, the table in MiB, the expected cores, and the least time."""
-    log_n, r, p = costs
+    log_n, r, p = params
     wanted = hashlib.scrypt(
         PASSWORD, salt=SALT, n=1 << log_n, r=r, p=p, dklen=LENGTH, maxmem=(1 << 31) - 1
     )
@@ -62,11 +62,11 @@ def measured(call, costs, runs):
     for s in SPACINGS:
         times = []
         for _ in range(runs):
-            taken, key = call(*costs, s)
+            taken, key = call(*params, s)
             if key != wanted:
-                sys.exit(f"{costs} at s = {s}: another key than hashlib's")
+                sys.exit(f"{params} at s = {s}: another key than hashlib's")
             times.append(taken)
-        rows.append((s, (128 * r << (log_n - s)) / (1 << 20), expected_cores(*costs, s), min(times)))
+        rows.append((s, (128 * r << (log_n - s)) / (1 << 20), expected_cores(*params, s), min(times)))
     return rows
 
 
@@ -74,15 +74,15 @@ def main():
     runs = int(sys.argv[2]) if len(sys.argv) > 2 else 3
     results = {}
     call = thin_call(sys.argv[1])
-    for costs in COSTS:
-        results[costs] = measured(call, costs, runs)
-    for costs, rows in results.items():
-        print(f"\n| s at {costs} | table, MiB | expected cores | seconds |\n|---|---|---|---|")
+    for params in PARAMS:
+        results[params] = measured(call, params, runs)
+    for params, rows in results.items():
+        print(f"\n| s at {params} | table, MiB | expected cores | seconds |\n|---|---|---|---|")
         for s, mib, cores, taken in rows:
             print(f"| {s} | {mib:g} | {cores:.3g} | {taken:.3f} |")
     if len(sys.argv) > 3:
         title = "seconds for a key; beside each point its seconds, at (log_n, r, p)"
-        lines = {str(costs): [(mib, taken, f"{taken:.2g}") for _, mib, _, taken in rows] for costs, rows in results.items()}
+        lines = {str(params): [(mib, taken, f"{taken:.2g}") for _, mib, _, taken in rows] for params, rows in results.items()}
         picture.draw_logarithmic(sys.argv[3], title, lines, (0.25, 1, 4, 16))
 
 

@@ -1,7 +1,7 @@
 #!/usr/bin/env python3
 """Measures verifications in a row, by each implementation as its users call it, and prints a table in Markdown.
 
-usage: verifications.py LIBRARY [NAME=WORKER..] [--runs 20] [--costs 14,8,1:17,8,1:20,8,1] [--cpu N]
+usage: verifications.py LIBRARY [NAME=WORKER..] [--runs 20] [--params 14,8,1:17,8,1:20,8,1] [--cpu N]
 
 This library (LIBRARY is libscrypt_c.so) verifies by scrypt_verify_in, in memory that is kept from call to call, and by
 scrypt_verify. libsodium verifies by crypto_pwhash_scryptsalsa208sha256_str_verify, and libxcrypt by crypt_r, whose
@@ -34,11 +34,11 @@ KEY_LEN = 32
 UNBOUNDED = (1 << 64) - 1
 
 
-def hash_of(costs):
+def hash_of(params):
     """The `$7$` hash of the password, and its key."""
-    log_n, r, p = costs
+    log_n, r, p = params
     key = hashlib.scrypt(PASSWORD, salt=SALT, n=1 << log_n, r=r, p=p, dklen=KEY_LEN, maxmem=(1 << 31) - 1)
-    return f"{crypt64.costs(*costs)}{SALT.decode()}${crypt64.letters(key)}".encode(), key
+    return f"{crypt64.params(*params)}{SALT.decode()}${crypt64.letters(key)}".encode(), key
 
 
 def timed(verify):
@@ -86,8 +86,8 @@ def libxcrypt(library):
 def deriving(implementation):
     """Of an implementation that derives keys; a worker measures its own time."""
 
-    def verified(password, _text, costs, key):
-        nanoseconds, derived = implementation.derive(password, SALT, costs, KEY_LEN)
+    def verified(password, _text, params, key):
+        nanoseconds, derived = implementation.derive(password, SALT, params, KEY_LEN)
         return nanoseconds, hmac.compare_digest(derived, key)
 
     return verified
@@ -117,20 +117,20 @@ def everything(path, workers):
 
 
 def check(made):
-    costs = (4, 8, 1)
-    text, key = hash_of(costs)
+    params = (4, 8, 1)
+    text, key = hash_of(params)
     for name, verified in made.items():
-        if not verified(PASSWORD, text, costs, key)[1] or verified(OTHER, text, costs, key)[1]:
+        if not verified(PASSWORD, text, params, key)[1] or verified(OTHER, text, params, key)[1]:
             sys.exit(f"{name} gives another verdict")
 
 
-def times(made, costs, runs):
+def times(made, params, runs):
     """The nanoseconds of each verification."""
-    text, key = hash_of(costs)
+    text, key = hash_of(params)
     taken = {name: [] for name in made}
     for _ in range(runs):
         for name in random.sample(list(made), len(made)):
-            nanoseconds, is_accepted = made[name](PASSWORD, text, costs, key)
+            nanoseconds, is_accepted = made[name](PASSWORD, text, params, key)
             assert is_accepted, name
             taken[name].append(nanoseconds)
     return taken
@@ -149,7 +149,7 @@ def main():
     parser.add_argument("library")
     parser.add_argument("workers", nargs="*")
     parser.add_argument("--runs", type=int, default=20)
-    parser.add_argument("--costs", default="14,8,1:17,8,1:20,8,1")
+    parser.add_argument("--params", default="14,8,1:17,8,1:20,8,1")
     parser.add_argument("--cpu", type=int, default=max(os.sched_getaffinity(0)))
     args = parser.parse_args()
     os.sched_setaffinity(0, {args.cpu})
@@ -157,7 +157,7 @@ def main():
     check(made)
     print(f"\n{args.runs} verifications in a row: milliseconds, and the time of {IN_MEMORY} relative to each\n")
     print(tables.head(["(log_n, r, p)", "", *made]))
-    for one in args.costs.split(":"):
+    for one in args.params.split(":"):
         taken = times(made, tuple(tables.numbers(one)), args.runs)
         for name, figure in (("least", min), ("median", statistics.median)):
             print(tables.line([tables.label(one), name, *cells(taken, figure)]), flush=True)

@@ -17,9 +17,9 @@ class Worker:
             [os.path.expanduser(path)], stdin=subprocess.PIPE, stdout=subprocess.PIPE, text=True, bufsize=1
         )
 
-    def derive(self, password, salt, costs, length):
+    def derive(self, password, salt, params, length):
         """The nanoseconds that one call took, and its key."""
-        numbers = " ".join(str(number) for number in (*costs, length))
+        numbers = " ".join(str(number) for number in (*params, length))
         texts = f"{password.hex() or '-'} {salt.hex() or '-'}"
         self.process.stdin.write(f"{numbers} {texts} 1\n")
         answer = self.process.stdout.readline().split()

@@ -24,14 +24,14 @@ KEY_AT = EMPTY.rindex("$") + 1
 
 # A hash, what is replaced in it by what, the verdict on its password, and the reason for the row.
 CHANGED = [
-    (PHC, ",r=8,p=1", "", "ok", "missing costs are the recommended ones"),
-    (PHC, "ln=16,r=8,p=1", "p=1,r=8,ln=16", "ok", "costs come in any order"),
+    (PHC, ",r=8,p=1", "", "ok", "missing parameters are the recommended ones"),
+    (PHC, "ln=16,r=8,p=1", "p=1,r=8,ln=16", "ok", "parameters come in any order"),
     (PHC, "s5E", "s5F", "EncodingInvalid", "spare bits of the key are set"),
     (PHC, "$ln", "$v=1$ln", "Version", "no version is supported"),
     (PHC, "ln=16", "ln=256", "ParamInvalid ln", "log_n is above 255"),
     (PHC, "ln=16", "ln=016", "ParamInvalid ln", "log_n begins with 0"),
     (PHC, "r=8", "r=4294967296", "ParamInvalid r", "r is 2^32"),
-    (PHC, "p=1", "p=1,x=1", "ParamsInvalid", "x is not a cost"),
+    (PHC, "p=1", "p=1,x=1", "ParamsInvalid", "x is not a parameter of scrypt"),
     (PHC, "ln=16", "ln=57", "ParamsInvalid", "N * r is 2^60"),
     (PHC, "r=8", "r=0", "ParamsInvalid", "r is 0"),
     (PHC, "$scrypt", "$argon2id", "Algorithm", "another algorithm"),
@@ -58,12 +58,12 @@ SHORT_TEXTS = [
     ("$7$2/..../....$s/", "no", "another key of one byte"),
     ("$7", "EncodingInvalid", "no field"),
     ("$7$", "EncodingInvalid", "one empty field"),
-    ("$7$$r/", "EncodingInvalid", "no costs"),
+    ("$7$$r/", "EncodingInvalid", "no parameters"),
     ("$7$é/..../....$r/", "EncodingInvalid", "log_n is not ASCII"),
     ("$7$*/..../....$r/", "ParamsInvalid", "log_n is outside the alphabet"),
     ("$7$*/...$r/", "EncodingInvalid", "r has four letters"),
     ("$7$t/..../....$r/", "ParamsInvalid", "log_n is 57"),
-    ("$7$t/..../....$$", "ParamsInvalid", "the costs come before the key"),
+    ("$7$t/..../....$$", "ParamsInvalid", "the parameters come before the key"),
     ("$7$2/..../....$$", "EncodingInvalid", "the fields come before the key's length"),
     ("$scrypt$ln=56,r=1,p=1$aA$AAAAAAAAAAAAAA", "out of memory", "the table would have 2^63 bytes"),
 ]

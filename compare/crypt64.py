@@ -39,7 +39,7 @@ def read(text):
     return data if letters(data) == text else None
 
 
-def costs(log_n, r, p):
+def params(log_n, r, p):
     """What comes before the salt in a `$7$` text."""
     five = [ALPHABET[number // 64**place % 64] for number in (r, p) for place in range(5)]
     return "$7$" + ALPHABET[log_n] + "".join(five)

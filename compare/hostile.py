@@ -7,7 +7,7 @@ VERDICTS is the program of crates/test_verdicts. First come the texts that are o
 both formats, and `$7$` texts with a key of up to three letters, all of them. Then come random texts of
 both formats (a million if not given): good ones, and good ones that are mutated, spliced, cut, doubled,
 or random, from a seed that is printed. Their log_n is 0 to 4, or so great that the table is refused.
-Then the same texts, and texts with random costs, are verified within limits, in less memory than these allow.
+Then the same texts, and texts with random parameters, are verified within limits, in less memory than these allow.
 Printed is how many texts fell on each verdict; it fails if a verdict differs, if one has no text, or if
 refusing a costly text takes a millisecond.
 """
@@ -67,7 +67,7 @@ BASES = [
 
 
 class Costly(Exception):
-    """The costs are too great to derive a key by, and too small to be refused."""
+    """The parameters are too great to derive a key by, and too small to be refused."""
 
 
 @functools.lru_cache(maxsize=1 << 16)
@@ -107,19 +107,19 @@ def compared_within(salt, log_n, r, p, key):
     return compared(salt, log_n, r, p, key)
 
 
-def phc_costs(pairs):
-    """The costs of the pairs, or the refusal."""
-    costs = {"ln": 17, "r": 8, "p": 1}
+def phc_params(pairs):
+    """The parameters of the pairs, or the refusal."""
+    params = {"ln": 17, "r": 8, "p": 1}
     for pair in pairs.split(",") if pairs else []:
         name, value = pair.split("=", 1)
-        if name not in costs:
+        if name not in params:
             return "ParamsInvalid"
         if not re.fullmatch(phc.DECIMAL, value, re.VERBOSE) or int(value) >= (256 if name == "ln" else 1 << 32):
             return name
-        costs[name] = int(value)
-    if not accepted(*costs.values()):
+        params[name] = int(value)
+    if not accepted(*params.values()):
         return "ParamsInvalid"
-    return tuple(costs.values())
+    return tuple(params.values())
 
 
 def phc_verdict(text, by=compared):
@@ -131,25 +131,25 @@ def phc_verdict(text, by=compared):
         return "Algorithm"
     if version is not None:
         return "Version"
-    costs = phc_costs(pairs)
-    if isinstance(costs, str):
-        return costs
+    params = phc_params(pairs)
+    if isinstance(params, str):
+        return params
     if key is None:
         return "PasswordInvalid"
-    return by(unpadded.read(salt), *costs, unpadded.read(key))
+    return by(unpadded.read(salt), *params, unpadded.read(key))
 
 
 def mcf_verdict(text, by=compared):
     """The verdict on a text that is `$7` or begins with `$7$`, by what compares its key."""
     fields = text.split("$")[2:]
-    costs = fields[0].encode() if fields else b""
-    if not costs or costs[0] > 127:
+    params = fields[0].encode() if fields else b""
+    if not params or params[0] > 127:
         return "EncodingInvalid"
-    five = [costs[at : at + 5].decode("latin-1") for at in (1, 6)]
+    five = [params[at : at + 5].decode("latin-1") for at in (1, 6)]
     r, p = (crypt64.number(it) if len(it) == 5 else None for it in five)
     if r is None or p is None:
         return "EncodingInvalid"
-    log_n = crypt64.number(chr(costs[0]))
+    log_n = crypt64.number(chr(params[0]))
     if log_n is None or not accepted(log_n, r, p):
         return "ParamsInvalid"
     key = crypt64.read(fields[1]) if len(fields) == 2 else None
@@ -157,7 +157,7 @@ def mcf_verdict(text, by=compared):
         return "EncodingInvalid"
     if not key:
         return "OutputSize"
-    return by(costs[11:], log_n, r, p, key)
+    return by(params[11:], log_n, r, p, key)
 
 
 def verdict(text, by=compared):
@@ -184,13 +184,13 @@ def printed_within(verdict):
 
 
 def texts_of(log_n, r, p):
-    """A text of each format with these costs; its password is not the empty one."""
+    """A text of each format with these parameters; its password is not the empty one."""
     salt, key = b"saltsalt", bytes(LEAST_KEY_LEN)
     phc_text = f"$scrypt$ln={log_n},r={r},p={p}${unpadded.letters(salt)}${unpadded.letters(key)}"
-    return phc_text, crypt64.costs(log_n, r, p) + "saltsalt$" + crypt64.letters(key)
+    return phc_text, crypt64.params(log_n, r, p) + "saltsalt$" + crypt64.letters(key)
 
 
-def random_costs(rng):
+def random_params(rng):
     """Costs of every size, without end."""
     while True:
         r, p = (rng.randrange(1, 2 << rng.randrange(24)) for _ in range(2))
@@ -210,7 +210,7 @@ def good_texts(rng):
         texts.append(f"$scrypt$ln={log_n},r={r},p={p}${unpadded.letters(salt)}${unpadded.letters(key)}")
         field = crypt64.letters(salt)
         key = derived_key(field.encode(), log_n, r, p, rng.choice((1, 32, 33)))
-        texts.append(crypt64.costs(log_n, r, p) + field + "$" + crypt64.letters(key))
+        texts.append(crypt64.params(log_n, r, p) + field + "$" + crypt64.letters(key))
     return texts
 
 
@@ -263,7 +263,7 @@ def random_texts(rng):
 
 
 def judged(texts, by=compared):
-    """Texts and their verdicts, but for those whose costs are too great."""
+    """Texts and their verdicts, but for those whose parameters are too great."""
     for text in texts:
         try:
             yield text, verdict(text, by)
@@ -301,7 +301,7 @@ def disagree(title, command, pairs, most_bytes, verdicts, as_printed):
 
 def slowly_refused(program):
     """Whether refusing a costly text takes a millisecond or more."""
-    texts = [text for costs in COSTLY for text in texts_of(*costs)] * 100
+    texts = [text for params in COSTLY for text in texts_of(*params)] * 100
     began = time.monotonic()
     written = told([program, "within"], texts, MOST_BYTES)
     taken = (time.monotonic() - began) / len(texts)
@@ -320,8 +320,8 @@ def main():
     pairs += itertools.islice(judged(random_texts(random.Random(seed))), count)
     # No text is to take more than 4 GiB.
     failed = disagree("hostile texts", [program], pairs, 1 << 32, VERDICTS, printed)
-    costs = COSTLY + ALLOWED + list(itertools.islice(random_costs(random.Random(seed)), count // 10))
-    texts = [text for text, _ in pairs] + [text for it in costs for text in texts_of(*it)]
+    params = COSTLY + ALLOWED + list(itertools.islice(random_params(random.Random(seed)), count // 10))
+    texts = [text for text, _ in pairs] + [text for it in params for text in texts_of(*it)]
     within = list(judged(texts, compared_within))
     command = [program, "within"]
     failed |= disagree("within limits", command, within, MOST_BYTES, VERDICTS + ["TooCostly", "KeyTooShort"], printed_within)

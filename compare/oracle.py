@@ -82,7 +82,7 @@ def verified(program, text, password):
 
 
 def keys(program, rng):
-    """The command `key` on random passwords, salts, costs and lengths."""
+    """The command `key` on random passwords, salts, parameters and lengths."""
     agree = []
     for _ in range(CASES):
         password, salt = some_bytes(rng, 140), some_bytes(rng, 70)
@@ -102,15 +102,15 @@ def phc_text(salt, key, log_n, r, p):
 
 
 def hashes(program, rng):
-    """The commands `hash phc` and `verify` on random passwords, salts, costs and key lengths."""
+    """The commands `hash phc` and `verify` on random passwords, salts, parameters and key lengths."""
     agree = []
     for _ in range(CASES):
         password, salt = some_bytes(rng, 140), some_bytes(rng, 64) + b"!"
-        costs = rng.randrange(8), rng.choice((1, 2, 3, 8)), rng.randrange(1, 4)
-        words = ["hash", "phc", *map(str, costs), salt.hex()]
-        key = expected_key(password, salt, *costs, 64)
-        short = phc_text(salt, key[: rng.randrange(10, 65)], *costs)
-        made = 0, phc_text(salt, key[:32], *costs).encode() + b"\n", b""
+        params = rng.randrange(8), rng.choice((1, 2, 3, 8)), rng.randrange(1, 4)
+        words = ["hash", "phc", *map(str, params), salt.hex()]
+        key = expected_key(password, salt, *params, 64)
+        short = phc_text(salt, key[: rng.randrange(10, 65)], *params)
+        made = 0, phc_text(salt, key[:32], *params).encode() + b"\n", b""
         agree.append(matches(run(program, words, password), made, (words, password.hex())))
         agree.append(verified(program, short, password))
     return tally("hashes of hashlib.scrypt and Python's Base64", agree)
@@ -142,7 +142,7 @@ def crypt_letters(program, rng):
     agree = []
     for salt in salts:
         text = run(program, ["hash", "mcf", "1", "1", "1", salt.hex()], b"")[1].decode()
-        agree.append(text.startswith(crypt64.costs(1, 1, 1) + crypt64.letters(salt) + "$"))
+        agree.append(text.startswith(crypt64.params(1, 1, 1) + crypt64.letters(salt) + "$"))
     return tally("letters of salts in crypt Base64", agree)
 
 
@@ -165,9 +165,9 @@ def crypt_hashes(program, rng):
         salt = some_bytes(rng, 20)
         words = ["hash", "mcf", str(log_n), str(r), str(p), salt.hex()]
         ours = run(program, words, password)[1].strip()
-        plain = crypt64.costs(log_n, r, p) + "SodiumChloride"[: rng.randrange(15)]
+        plain = crypt64.params(log_n, r, p) + "SodiumChloride"[: rng.randrange(15)]
         theirs = library.crypt(password, plain.encode() + b"$")
-        agree.append(ours.startswith((crypt64.costs(log_n, r, p) + crypt64.letters(salt) + "$").encode()))
+        agree.append(ours.startswith((crypt64.params(log_n, r, p) + crypt64.letters(salt) + "$").encode()))
         agree.append(library.crypt(password, ours) == ours)
         agree.append(verified(program, theirs, password))
     return tally("hashes of crypt(3)", agree)
@@ -177,26 +177,26 @@ def mcf_text(password, salt, log_n, r, p, length):
     """The text of a `$7$` hash. The salt of its key is the salt's letters."""
     letters = crypt64.letters(salt)
     key = expected_key(password, letters.encode(), log_n, r, p, length)
-    return crypt64.costs(log_n, r, p) + letters + "$" + crypt64.letters(key)
+    return crypt64.params(log_n, r, p) + letters + "$" + crypt64.letters(key)
 
 
-def hash_of(form, password, salt, costs):
+def hash_of(form, password, salt, params):
     """The text of a hash with log_n, r, p and the length of the key, in the format of that name."""
     if form == "mcf":
-        return mcf_text(password, salt, *costs)
-    return phc_text(salt, expected_key(password, salt, *costs), *costs[:3])
+        return mcf_text(password, salt, *params)
+    return phc_text(salt, expected_key(password, salt, *params), *params[:3])
 
 
-def some_costs(rng):
+def some_params(rng):
     """log_n, r, p and the length of a key, so few of each that two are often equal."""
     return rng.randrange(3, 6), rng.randrange(1, 4), rng.randrange(1, 4), rng.choice((16, 31, 32, 33))
 
 
 def rehashes(program, rng):
-    """The command `rehash` on random pairs of stored and wanted costs, by the definition in plain Python."""
+    """The command `rehash` on random pairs of stored and wanted parameters, by the definition in plain Python."""
     agree = []
     for _ in range(300):
-        stored, wanted = some_costs(rng), some_costs(rng)
+        stored, wanted = some_params(rng), some_params(rng)
         has, form = rng.choice(("phc", "mcf")), rng.choice(("phc", "mcf"))
         password, salt = some_bytes(rng, 40), some_bytes(rng, 20)
         text = hash_of(has, password, some_bytes(rng, 20) + b"!", stored)
@@ -228,10 +228,10 @@ def rehashes_passlib(program, rng):
         return skipped("passlib")
     agree = []
     for _ in range(100):
-        (*stored, _), (*wanted, _) = some_costs(rng), some_costs(rng)
+        (*stored, _), (*wanted, _) = some_params(rng), some_params(rng)
         password, salt = some_bytes(rng, 40), some_bytes(rng, 20) + b"!"
-        costs = dict(rounds=stored[0], block_size=stored[1], parallelism=stored[2])
-        text = scrypt.using(salt=b"stored", **costs).hash(password)
+        params = dict(rounds=stored[0], block_size=stored[1], parallelism=stored[2])
+        text = scrypt.using(salt=b"stored", **params).hash(password)
         wants = dict(block_size=wanted[1], parallelism=wanted[2])
         handler = scrypt.using(salt=salt, min_rounds=wanted[0], default_rounds=wanted[0], **wants)
         kept_here = not reference.is_weaker(stored, wanted)
@@ -330,8 +330,8 @@ def worker_case(rng):
     log_n, r = rng.randrange(11), rng.randrange(1, 17)
     p = rng.randrange(1, 5) if r << log_n <= 2048 else 1
     refused = [(64, r, p), (log_n, 0, p), (log_n, r, 0), (log_n, 1 << 15, 1 << 15)]
-    costs = rng.choice(refused) if rng.randrange(50) == 0 else (log_n, r, p)
-    return password, salt, costs, rng.randrange(1 + rng.choice((1, 32, 33, 65, 300)))
+    params = rng.choice(refused) if rng.randrange(50) == 0 else (log_n, r, p)
+    return password, salt, params, rng.randrange(1 + rng.choice((1, 32, 33, 65, 300)))
 
 
 def worker_keys(path):
@@ -340,8 +340,8 @@ def worker_keys(path):
     def part(program, rng):
         worker, agree = Worker("worker", path), []
         for _ in range(WORKER_CASES):
-            password, salt, costs, length = case = worker_case(rng)
-            status, printed, _ = run(program, ["key", *map(str, costs), str(length), salt.hex()], password)
+            password, salt, params, length = case = worker_case(rng)
+            status, printed, _ = run(program, ["key", *map(str, params), str(length), salt.hex()], password)
             try:
                 wanted = 0, worker.derive(*case)[1].hex().encode() + b"\n"
             except Refused:

@@ -80,9 +80,9 @@ def tarsnap_content(file, keys):
     return aes(keys[0], modes.CTR(bytes(16)), file[96:-32])
 
 
-def tarsnap_file(content, password, costs, key_of):
+def tarsnap_file(content, password, params, key_of):
     """A file like those of `scrypt enc`."""
-    (log_n, r, p), salt = costs, os.urandom(32)
+    (log_n, r, p), salt = params, os.urandom(32)
     key = key_of(password, salt, 1 << log_n, r, p, 64)
     file = b"scrypt\0" + bytes([log_n]) + r.to_bytes(4, "big") + p.to_bytes(4, "big") + salt
     file += hashlib.sha256(file).digest()[:16]
@@ -90,9 +90,9 @@ def tarsnap_file(content, password, costs, key_of):
     return file + hmac.digest(key[32:], file, "sha256")
 
 
-def ethereum_file(secret, password, costs, key_of):
+def ethereum_file(secret, password, params, key_of):
     """A file of Ethereum's secret storage."""
-    (log_n, r, p), salt, iv = costs, os.urandom(32), os.urandom(16)
+    (log_n, r, p), salt, iv = params, os.urandom(32), os.urandom(16)
     key = key_of(password, salt, 1 << log_n, r, p, 32)
     encrypted = aes(key[:16], modes.CTR(iv), secret)
     return json.dumps({"version": 3, "address": ethereum_address(secret), "crypto": {
@@ -107,9 +107,9 @@ def ethereum_address(secret):
     return keccak_256(public_key(int.from_bytes(secret, "big"), compressed=False)[1:])[12:].hex()
 
 
-def pkcs8_file(private_info, password, costs, key_of, scrypt_id, cipher_id):
+def pkcs8_file(private_info, password, params, key_of, scrypt_id, cipher_id):
     """A file like those of `openssl pkcs8 -topk8 -scrypt`."""
-    (log_n, r, p), salt, iv = costs, os.urandom(16), os.urandom(16)
+    (log_n, r, p), salt, iv = params, os.urandom(16), os.urandom(16)
     key, count = key_of(password, salt, 1 << log_n, r, p, 32), 16 - len(private_info) % 16
     encrypted = aes(key, modes.CBC(iv), private_info + bytes([count]) * count)
 
@@ -131,9 +131,9 @@ def private_info(key):
     return key.private_bytes(Encoding.DER, PrivateFormat.PKCS8, NoEncryption())
 
 
-def minisign_file(number, secret, password, limits, costs, key_of):
+def minisign_file(number, secret, password, limits, params, key_of):
     """A secret key of minisign with these limits of work and memory, which libsodium takes for these parameters."""
-    (log_n, r, p), salt = costs, os.urandom(32)
+    (log_n, r, p), salt = params, os.urandom(32)
     digest = hashlib.blake2b(b"Ed" + number + secret, digest_size=32).digest()
     stream = key_of(password, salt, 1 << log_n, r, p, 104)
     words = b"".join(limit.to_bytes(8, "little") for limit in limits)

@@ -29,9 +29,9 @@ class Trial:
         binding = key_file.scrypt_c
         derive = binding.scrypt
 
-        def scrypt(password, **costs):
-            key = derive(password, **costs)
-            self.derived.append((password, costs, key))
+        def scrypt(password, **params):
+            key = derive(password, **params)
+            self.derived.append((password, params, key))
             return key
 
         key_file.scrypt_c = type("Watched", (), {"scrypt": staticmethod(scrypt), "Params": binding.Params})
@@ -81,9 +81,9 @@ class Trial:
 
     def in_shell(self):
         """The key of the last file that was opened, by the shell's line of the page."""
-        password, costs, key = self.derived[-1]
-        numbers = {"log_n": costs["n"].bit_length() - 1, "r": costs["r"], "p": costs["p"], "length": len(key)}
-        env = {name: str(value) for name, value in {"salt": costs["salt"].hex(), **numbers}.items()}
+        password, params, key = self.derived[-1]
+        numbers = {"log_n": params["n"].bit_length() - 1, "r": params["r"], "p": params["p"], "length": len(key)}
+        env = {name: str(value) for name, value in {"salt": params["salt"].hex(), **numbers}.items()}
         env |= {"PROGRAM": self.program, "password": password.decode()}
         script = 'scrypt_tool() { "$PROGRAM" "$@"; }\n' + self.shell
         ran = subprocess.run(["sh", "-c", script], env=os.environ | env, capture_output=True)

@@ -64,9 +64,9 @@ def tarsnap(trial):
     """`scrypt enc` and `scrypt dec`."""
     command, path = installed("scrypt", "scrypt"), trial.path("tarsnap")
     by_input = ["--passphrase", "dev:stdin-once"]
-    for length, costs in zip(LENGTHS, ((10, 8, 1), (12, 1, 3), (14, 8, 2))):
+    for length, params in zip(LENGTHS, ((10, 8, 1), (12, 1, 3), (14, 8, 2))):
         content, password = trial.content(length), trial.word()
-        numbers = ["--logN", str(costs[0]), "-r", str(costs[1]), "-p", str(costs[2])]
+        numbers = ["--logN", str(params[0]), "-r", str(params[1]), "-p", str(params[2])]
         run([command, "enc", *numbers, *by_input, trial.path("plain", content), path], password + "\n")
         file = read(path)
         keys = trial.tarsnap_keys(file, password.encode())
@@ -75,7 +75,7 @@ def tarsnap(trial):
         trial.refuses("scrypt enc: a changed file", key_contents.tarsnap_content, changed(file, len(file) - 40), keys)
         trial.refuses("scrypt enc: the header alone", key_contents.tarsnap_content, file[:96], keys)
         trial.refuses("scrypt enc: a wrong password", trial.tarsnap_keys, file, password.encode() + b"x")
-        trial.path("tarsnap", key_contents.tarsnap_file(content, password.encode(), costs, trial.key_of))
+        trial.path("tarsnap", key_contents.tarsnap_file(content, password.encode(), params, trial.key_of))
         decrypt = [command, "dec", *by_input, path]
         trial.check(run(decrypt, password + "\n") == (0, content), "scrypt dec does not open a file")
         trial.check(run(decrypt, password + "x\n") == (1, b""), "scrypt dec takes a wrong password")
@@ -118,9 +118,9 @@ def ethereum(trial):
     more = json.loads(vector)
     more["crypto"]["kdfparams"].update(n=2, r=1, p=2000000)
     trial.refuses_at_once("Ethereum: 11 seconds of PBKDF2", trial.ethereum_secret, json.dumps(more), password.encode())
-    for costs in ((18, 8, 1), (12, 8, 6), (10, 1, 1)):
+    for params in ((18, 8, 1), (12, 8, 6), (10, 1, 1)):
         secret, password = trial.content(32), trial.word()
-        file = key_contents.ethereum_file(secret, password.encode(), costs, trial.key_of)
+        file = key_contents.ethereum_file(secret, password.encode(), params, trial.key_of)
         trial.opens(secret, "a file that is made here", trial.ethereum_secret, file, password.encode())
         trial.refuses("Ethereum: a wrong password", trial.ethereum_secret, file, password.encode() + b"x")
     trial.refuses_what_is_changed("Ethereum", whole_ethereum, file, password.encode(), trial)
@@ -135,10 +135,10 @@ def whole_ethereum(file, password, trial):
     return secret
 
 
-def refused_by_others(trial, costs, password):
+def refused_by_others(trial, params, password):
     """hashlib and PyNaCl refuse the parameters of the vector, also with much memory allowed."""
     call = "scrypt({password!r}, salt=bytes.fromhex({salt!r}), n={n}, r={r}, p={p}, maxmem=2**31-1, dklen={dklen})"
-    call = call.format(password=password.encode(), **costs)
+    call = call.format(password=password.encode(), **params)
     for module in ("hashlib", "nacl.hashlib"):
         script = f"from {module} import scrypt\ntry:\n    {call}\nexcept ValueError: print('refused')"
         for python in (sys.executable, "/usr/bin/python3"):
@@ -156,11 +156,11 @@ def pkcs8(trial):
     command, path = installed("openssl", "openssl"), trial.path("encrypted.pem")
     ids = trial.SCRYPT_ID, trial.AES_256_CBC_ID
     kinds = (["ED25519"], ["EC", "-pkeyopt", "ec_paramgen_curve:P-256"], ["RSA", "-pkeyopt", "rsa_keygen_bits:2048"])
-    for kind, costs in zip(kinds, ((14, 8, 1), (10, 8, 4), (11, 1, 1))):
+    for kind, params in zip(kinds, ((14, 8, 1), (10, 8, 4), (11, 1, 1))):
         key, password = trial.path("key.der"), trial.word()
         run([command, "genpkey", "-outform", "DER", "-out", key, "-algorithm", *kind])
         info = run([command, "pkcs8", "-topk8", "-nocrypt", "-inform", "DER", "-in", key, "-outform", "DER"])[1]
-        numbers = ["-scrypt_N", str(1 << costs[0]), "-scrypt_r", str(costs[1]), "-scrypt_p", str(costs[2])]
+        numbers = ["-scrypt_N", str(1 << params[0]), "-scrypt_r", str(params[1]), "-scrypt_p", str(params[2])]
         run([command, "pkcs8", "-topk8", "-scrypt", *numbers, "-v2", "aes-256-cbc", "-inform", "DER", "-in", key,
              "-passout", f"pass:{password}", "-out", path])
         file, wanted = read(path).decode(), key_contents.private_info(trial.load_der_private_key(info, None))
@@ -168,7 +168,7 @@ def pkcs8(trial):
         trial.check(key_contents.private_info(opened) == wanted, "a key of OpenSSL is not opened")
         trial.in_shell()
         trial.refuses("PKCS#8: a wrong password", trial.pkcs8_key, file, password.encode() + b"x")
-        for made_with, status in ((costs, 0), ((17, 8, 1), 1)):
+        for made_with, status in ((params, 0), ((17, 8, 1), 1)):
             made = key_contents.pkcs8_file(info, password.encode(), made_with, trial.key_of, *ids)
             trial.path("encrypted.pem", made)
             opened = trial.pkcs8_key(made, password.encode())
@@ -204,8 +204,8 @@ def minisign(trial):
     trial.check(public == b"Ed" + number + secret[32:], "the public key beside the secret one")
     trial.check(key_contents.ed25519_public(secret[:32]) == secret[32:], "the public key of the seed")
     trial.refuses("minisign: a wrong password", trial.minisign_secret, file, password.encode() + b"x", **RAISED)
-    for limits, costs in MINISIGN_CASES:
-        made = key_contents.minisign_file(number, secret, password.encode(), limits, costs, trial.key_of)
+    for limits, params in MINISIGN_CASES:
+        made = key_contents.minisign_file(number, secret, password.encode(), limits, params, trial.key_of)
         trial.path("secret", made)
         trial.opens((number, secret), f"a key with limits {limits}", trial.minisign_secret, made, password.encode())
         trial.refuses("minisign: a wrong password", trial.minisign_secret, made, password.encode() + b"x")

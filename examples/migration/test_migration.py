@@ -97,7 +97,7 @@ class Trial:
         """The key by the program."""
         return bytes.fromhex(self.answer(["key", str(log_n), str(r), str(p), str(length), salt.hex()], password))
 
-    def costs(self):
+    def params(self):
         """A small n, r and p."""
         return 1 << self.rng.randrange(4, 11), self.rng.choice((1, 2, 8)), self.rng.randrange(1, 4)
 
@@ -106,8 +106,8 @@ class Trial:
         return "".join(self.rng.choices(string.ascii_letters + string.digits, k=self.rng.randrange(least, most + 1)))
 
     def cases(self):
-        """Passwords and salts that are text, and costs."""
-        return [(self.word(), self.word(8, 32), *self.costs()) for _ in range(CASES)]
+        """Passwords and salts that are text, and parameters."""
+        return [(self.word(), self.word(8, 32), *self.params()) for _ in range(CASES)]
 
 
 def example(name):
@@ -123,7 +123,7 @@ def passlib(trial):
         for case, text in zip(cases, asked(module, call.format(more), cases, "passlib")):
             trial.verifies(text, case[0].encode())
     for salt in ["", *(trial.word(65, 200) for _ in range(9))]:
-        case = trial.word(), salt, *trial.costs()
+        case = trial.word(), salt, *trial.params()
         text = asked(module, call.format(""), [case], "passlib")[0]
         trial.refuses(text, "EncodingInvalid")
         trial.verifies(stored_text.from_passlib(text), case[0].encode())
@@ -161,7 +161,7 @@ def django(trial):
 def werkzeug(trial):
     """Texts of Werkzeug, with salts of up to 200 characters."""
     module = "from werkzeug.security import generate_password_hash as make; make('a', 'scrypt:128:1:1')"
-    cases = [(trial.word(), trial.rng.choice((1, 16, 64, 65, 200)), *trial.costs()) for _ in range(CASES)]
+    cases = [(trial.word(), trial.rng.choice((1, 16, 64, 65, 200)), *trial.params()) for _ in range(CASES)]
     # its cap of 132*n*r*p bytes is too small below n = 96
     cases = [(password, salt, max(n, 128), r, p) for password, salt, n, r, p in cases]
     made = asked(module, 'make(password, f"scrypt:{n}:{r}:{p}", salt)', cases, "Werkzeug 2.3")
@@ -178,14 +178,14 @@ def libxcrypt(trial):
         raise Missing("crypt(3)")
     crypt.restype = ctypes.c_char_p
     for password, salt, n, r, p in trial.cases():
-        costs = crypt64.costs(n.bit_length() - 1, r, p)
-        trial.verifies(crypt(password.encode(), f"{costs}{salt}$".encode()).decode(), password.encode())
-        setting = f"{costs}{salt[:20]}$a${salt}$"
+        params = crypt64.params(n.bit_length() - 1, r, p)
+        trial.verifies(crypt(password.encode(), f"{params}{salt}$".encode()).decode(), password.encode())
+        setting = f"{params}{salt[:20]}$a${salt}$"
         text = crypt(password.encode(), setting.encode()).decode()
         trial.check(text.startswith(setting), ("crypt(3) refuses the salt", text))
         converted(trial, stored_text.from_crypt, text, password)
-    for costs, salt, password in CRYPT_REFUSES:
-        text = trial.answer(["hash", "mcf", *map(str, costs[:3]), salt.hex(), str(costs[3])], password)
+    for params, salt, password in CRYPT_REFUSES:
+        text = trial.answer(["hash", "mcf", *map(str, params[:3]), salt.hex(), str(params[3])], password)
         trial.verifies(text, password)
         trial.check(crypt(password, text.encode()) != text.encode(), ("crypt(3) verifies", text))
     key = hashlib.scrypt(b"password", salt=b"a+b", n=16, r=1, p=1, dklen=32)
@@ -195,12 +195,12 @@ def libxcrypt(trial):
 
 
 def mkpasswd(trial):
-    """Hashes of mkpasswd with its own costs."""
+    """Hashes of mkpasswd with its own parameters."""
     for password in (trial.word(), trial.word()):
         words = [installed("mkpasswd"), "--method=scrypt", "--stdin"]
         made = subprocess.run(words, input=password, capture_output=True, text=True, check=True)
         trial.verifies(made.stdout.strip(), password.encode())
-        trial.check(made.stdout.startswith(crypt64.costs(14, 32, 1)), ("other costs", made.stdout))
+        trial.check(made.stdout.startswith(crypt64.params(14, 32, 1)), ("other parameters", made.stdout))
 
 
 def libsodium(trial):
@@ -237,7 +237,7 @@ def libscrypt(trial):
 def of_hashlib(trial):
     """Keys of hashlib as texts, with salts and lengths for both formats; and what it refuses."""
     for _ in range(2 * CASES):
-        password, (n, r, p) = some_bytes(trial.rng, 80), trial.costs()
+        password, (n, r, p) = some_bytes(trial.rng, 80), trial.params()
         some, long = trial.rng.randrange(1, 200), trial.word(65, 300).encode()
         plain, short = (some_bytes(trial.rng, 63) + b"!", some + 9), ("ö".encode(), some % 10 + 1)
         salt, length = trial.rng.choice([plain, (b"", some), (long, some), short])
@@ -257,9 +257,9 @@ def of_hashlib(trial):
 
 
 def key_cases(trial):
-    """Passwords that are text, salts in hexadecimal, costs, and lengths of keys."""
+    """Passwords that are text, salts in hexadecimal, parameters, and lengths of keys."""
     salts = [(some_bytes(trial.rng, 63) + b"!").hex() for _ in range(CASES)]
-    return [(trial.word(), salt, *trial.costs(), trial.rng.randrange(10, 65)) for salt in salts]
+    return [(trial.word(), salt, *trial.params(), trial.rng.randrange(10, 65)) for salt in salts]
 
 
 def node(trial):
@@ -302,9 +302,9 @@ def rust_crate(trial):
         raise Missing("worker that calls it (--worker PATH)")
     worker = Worker("Rust crate", trial.worker)
     for password, salt, n, r, p, length in key_cases(trial):
-        password, salt, costs = password.encode(), bytes.fromhex(salt), (n.bit_length() - 1, r, p)
-        key = worker.derive(password, salt, costs, length)[1]
-        trial.check(trial.key(password, salt, *costs, length) == key, ("keys", password, salt))
+        password, salt, params = password.encode(), bytes.fromhex(salt), (n.bit_length() - 1, r, p)
+        key = worker.derive(password, salt, params, length)[1]
+        trial.check(trial.key(password, salt, *params, length) == key, ("keys", password, salt))
         trial.verifies(stored_text.stored_text(salt, key, n, r, p), password)
 
 
@@ -313,13 +313,13 @@ def tarsnap(trial):
     command, _ = installed("scrypt"), installed("openssl")
     script = 'scrypt_tool() { "$PROGRAM" "$@"; }\n' + example("scrypt_dec.sh")
     for _ in range(CASES):
-        password, plain, (n, r, p) = trial.word(), trial.rng.randbytes(trial.rng.randrange(1000)), trial.costs()
-        costs = [f"--logN={max(n.bit_length() - 1, 10)}", "-r", str(r), "-p", str(p)]
+        password, plain, (n, r, p) = trial.word(), trial.rng.randbytes(trial.rng.randrange(1000)), trial.params()
+        params = [f"--logN={max(n.bit_length() - 1, 10)}", "-r", str(r), "-p", str(p)]
         with tempfile.TemporaryDirectory() as folder:
             file, source = os.path.join(folder, "encrypted"), os.path.join(folder, "plain")
             with open(source, "wb") as out:
                 out.write(plain)
-            words = [command, "enc", *costs, "--passphrase", "dev:stdin-once", source, file]
+            words = [command, "enc", *params, "--passphrase", "dev:stdin-once", source, file]
             subprocess.run(words, input=password.encode() + b"\n", check=True, capture_output=True)
             changed = file + ".changed"
             with open(file, "rb") as made, open(changed, "wb") as out:
@@ -338,7 +338,7 @@ def tarsnap(trial):
             ):
                 env = os.environ | {"PROGRAM": trial.program, "file": path, "password": tried}
                 ran = subprocess.run(["sh", "-c", script], env=env, capture_output=True)
-                trial.check((ran.returncode, ran.stdout) == wanted, (costs, wanted, ran))
+                trial.check((ran.returncode, ran.stdout) == wanted, (params, wanted, ran))
 
 
 TOOLS = [
