@@ -146,6 +146,8 @@ callers: crypt
 
 bench: lib
 	python3 bench/bench.py build/lib/libscrypt_c.so --picture docs/speed.svg $(WORKERS)
+	GLIBC_TUNABLES=glibc.malloc.hugetlb=1 python3 bench/bench.py build/lib/libscrypt_c.so $(WORKERS)
+	python3 bench/verifications.py build/lib/libscrypt_c.so $(subst --worker,,$(WORKERS))
 
 thin: lib
 	python3 bench/thin.py build/lib/libscrypt_c.so 2 docs/thin.svg

@@ -136,14 +136,6 @@ def times(made, params, runs):
     return taken
 
 
-def cells(taken, figure):
-    """Milliseconds, and in parentheses the time of scrypt_verify_in relative to them."""
-    first = figure(taken[IN_MEMORY])
-    for name, each in taken.items():
-        least = figure(each)
-        yield f"{least / 1e6:.1f}" + ("" if name == IN_MEMORY else f" ({first / least:.2f})")
-
-
 def main():
     parser = argparse.ArgumentParser(usage=__doc__.split("usage: ")[1])
     parser.add_argument("library")
@@ -158,9 +150,9 @@ def main():
     print(f"\n{args.runs} verifications in a row: milliseconds, and the time of {IN_MEMORY} relative to each\n")
     print(tables.head(["(log_n, r, p)", "", *made]))
     for one in args.params.split(":"):
-        taken = times(made, tuple(tables.numbers(one)), args.runs)
+        taken = times(made, tables.numbers(one), args.runs).values()
         for name, figure in (("least", min), ("median", statistics.median)):
-            print(tables.line([tables.label(one), name, *cells(taken, figure)]), flush=True)
+            print(tables.line([tables.label(one), name, *tables.relative(list(map(figure, taken)), 1e6)]), flush=True)
 
 
 if __name__ == "__main__":
