@@ -3,10 +3,9 @@
 
 usage: thin.py LIBRARY [RUNS [PICTURE]]
 
-LIBRARY is the shared C library of this repository. The table keeps one row in 2^s. The time is the minimum of RUNS runs (by default 3). A step recomputes
-(2^s - 1) / 2 rows on average, so 2 * N * r * p * (2 + (2^s - 1) / 2) cores are expected;
-compare/thin_cost.py compares this with counted cores. Each key is compared with hashlib's. With PICTURE, time
-over memory is drawn there as SVG.
+LIBRARY is the shared C library of this repository. The table keeps one row in 2^s. The time is the minimum of RUNS runs (by
+default 3). A step recomputes (2^s - 1) / 2 rows on average, so 2 * N * r * p * (2 + (2^s - 1) / 2) cores are expected. Each
+key is compared with hashlib's. With PICTURE, time over memory is drawn there as SVG.
 """
 
 import ctypes

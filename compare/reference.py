@@ -101,16 +101,3 @@ def thin_ro_mix(words, n, s):
             row = mix(row)
         words = mix(xor(words, row))
     return words, cores
-
-
-def walk_rows(words, n):
-    """The numbers of the rows that the walk of one scryptROMix reads."""
-    table, rows = [], []
-    for _ in range(n):
-        table.append(words)
-        words = block_mix(words)
-    for _ in range(n):
-        j = (words[-16] | words[-15] << 32) % n
-        rows.append(j)
-        words = block_mix(xor(words, table[j]))
-    return rows
