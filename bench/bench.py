@@ -55,9 +55,12 @@ def times(implementations, params, runs):
         for it in random.sample(implementations, len(implementations)):
             calls[it.name].append(derived(it, params))
     key = calls[OPENSSL][0][1] if calls[OPENSSL][0] else b""
-    # libxcrypt's keys have 32 bytes.
-    return {name: [time for time, _ in made] if all(it and len(it[1]) >= 32 and key.startswith(it[1]) for it in made) else []
-            for name, made in calls.items()}
+
+    def is_right(call):
+        # libxcrypt's keys have 32 bytes.
+        return call and len(call[1]) >= 32 and key.startswith(call[1])
+
+    return {name: [time for time, _ in made] if all(map(is_right, made)) else [] for name, made in calls.items()}
 
 
 def draw(path, implementations, runs):

@@ -47,7 +47,7 @@ def age_file_key(file, password, **limits):
 
 
 def tarsnap_keys(file, password, **limits):
-    """The keys of a file of `scrypt enc`: for AES-256-CTR from 0 over what follows the header, and for the HMAC of the file."""
+    """The keys of a file of `scrypt enc`: of AES-256-CTR from 0 over what follows the header, and of the file's HMAC."""
     if file[:7] != b"scrypt\0" or hashlib.sha256(file[:48]).digest()[:16] != file[48:64]:
         raise ValueError("not a file of scrypt enc")
     log_n, r, p = file[7], int.from_bytes(file[8:12], "big"), int.from_bytes(file[12:16], "big")

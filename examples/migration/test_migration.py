@@ -4,11 +4,11 @@
 usage: test_migration.py PROGRAM [--worker PATH] [--seed N]
 
 Each tool makes hashes, keys or files of random passwords. They are converted by the example for that tool, and the program
-has to verify the right password and to refuse another. What a tool or the program refuses is tried too. WORKER calls the Rust crate and speaks
-the protocol that bench/bench.py describes.
+has to verify the right password and to refuse another. What a tool or the program refuses is tried too. WORKER calls the
+Rust crate and speaks the protocol that bench/bench.py describes.
 
-What isn't installed is named and skipped. A module of Python may be installed for this Python or for the system's.
-The table at the end has what was tried and what agreed for each tool; the status is 1 if something differs.
+What isn't installed is named and skipped. A module of Python may be installed for this Python or for the system's. The
+table at the end has what was tried and what agreed for each tool; the status is 1 if something differs.
 """
 
 import argparse
