@@ -1,7 +1,7 @@
 #!/bin/sh
 # Installs what is built, or removes it: the libraries of build/lib with the header, its pages of the manual and the
-# files for pkg-config and CMake, the Python package, the licence, and if they are built the library for crypt(3), the PAM
-# module, and the program with its man page and its completions.
+# files for pkg-config and CMake, the Python package, the licence, and if they are built the library for x86-64-v3, that
+# for crypt(3), the PAM module, and the program with its man page and its completions.
 # usage: install.sh install|uninstall, by the Makefile, which hands the places in the environment. DESTDIR goes before
 # each place where files are written, and into none of the files.
 set -eu
@@ -62,7 +62,7 @@ if [ "$action" = install ] && [ ! -e build/lib/libscrypt_c.a ]; then
   exit 1
 fi
 libraries
-for file in libscrypt_crypt.so pam_scrypt.so; do
+for file in glibc-hwcaps/x86-64-v3/libscrypt_c.so.0 libscrypt_crypt.so pam_scrypt.so; do
   if [ "$action" = uninstall ] || [ -e build/lib/$file ]; then put 755 build/lib/$file "$libdir/$file"; fi
 done
 python_package
@@ -71,9 +71,9 @@ if [ "$action" = uninstall ] || [ -e "$program" ]; then
 else
   echo "the program is not built (make run), and is left out"
 fi
-# Folders of the library alone, if nothing is left in them.
+# Folders that the library may have made, if nothing is left in them.
 if [ "$action" = uninstall ]; then
-  for folder in "$libdir/cmake/scrypt_c" "$pythondir/scrypt_c" "$docdir"; do
+  for folder in "$libdir/cmake/scrypt_c" "$pythondir/scrypt_c" "$docdir" "$libdir/glibc-hwcaps/x86-64-v3" "$libdir/glibc-hwcaps"; do
     rmdir "$DESTDIR$folder" 2> /dev/null || true
   done
 fi

@@ -1,61 +1,84 @@
 #!/bin/sh
-# Builds the libraries for C into build/lib, of the crate scrypt_c, which the kit proves: the static one and the shared
-# one with its links, the header, and files for pkg-config and CMake. Needs the kit and a C compiler with its binutils.
-# With the word built, the crate's own library is there already.
+# Builds the libraries for C into build/lib, of the crate scrypt_c, which the kit proves for x86-64-v2 and for x86-64-v3:
+# the static one and the shared one with its links for x86-64-v2; the shared one for x86-64-v3 in the folder where the
+# dynamic linker of glibc 2.33 and later looks first on such a processor; the header, and files for pkg-config and CMake.
+# Needs the kit and a C compiler with its binutils. With the word built, the crate's own libraries are there already.
 set -eu
 cd "$(dirname "$0")/.."
 kit=$(dirname "$(rt doc)")
 out=build/lib
-parts=$out/parts
+common=$out/parts
 CC=${CC:-cc}
 version=$(cat VERSION)
 soname=libscrypt_c.so.0
 shared=libscrypt_c.so.${version%%+*}
+newer=glibc-hwcaps/x86-64-v3/$soname
 
-[ "${1:-}" = built ] || python3 -B release/keep_verdict.py scrypt_c rt lib
+if [ "${1:-}" != built ]; then
+  # rt lib leaves both under one name, so the newer one is moved.
+  python3 -B release/keep_verdict.py scrypt_c-x86-64-v3 \
+    sh -c 'rt lib --cpu x86-64-v3 && mkdir -p out/x86-64-v3 && mv out/libscrypt_c.a out/x86-64-v3/'
+  python3 -B release/keep_verdict.py scrypt_c rt lib
+fi
 rm -rf "$out"
-mkdir -p "$parts"
-# The kit's few lines that call malloc and free are in an archive of their own.
-for archive in "$PWD/crates/scrypt_c/out/libscrypt_c.a" "$kit/c/liblibc_c.a"; do
-  part=$parts/$(basename "$archive" .a)
-  mkdir "$part"
-  (cd "$part" && ar x "$archive")
-done
+mkdir -p "$common"
 # One object, of which only the names of the list are seen from outside.
-awk '/^scrypt_/ { print $1 }' bindings/c/abi > "$parts/symbols"
-# A proved call that sees a password or a key is called by the one in clearing.c, which has its name.
-nm -g --defined-only "$parts"/libscrypt_c/*.o |
-  awk '$2 == "T" && $3 !~ /^scrypt_(buffer_lens|params_need|params_can_use|wipe)$/ { print $3, "proved_" $3 }' > "$parts/proved"
-objcopy --redefine-syms="$parts/proved" "$parts"/libscrypt_c/*.o
-for name in malloc realloc free memcpy memmove memset; do echo "$name clearing_$name"; done > "$parts/clearing"
-for object in "$parts"/*/*.o; do objcopy --redefine-syms="$parts/clearing" "$object"; done
-# Functions of the C library are bound when a program is loaded, also with the static library, as blocks.c explains.
-flags="-O2 -Wall -Wextra -fPIC -fno-plt -Ibindings/c -I$parts -DLIBRARY_VERSION=\"$version\""
-for part in blocks registers cpu memory salt version stack_lens; do
-  $CC -std=c99 -pedantic $flags -c -o "$parts/$part.o" bindings/c/$part.c
-done
-# How much of the stack each proved call uses is measured, and cleared by what is compiled then.
-$CC -std=c99 $flags -Wl,-z,now -o "$parts/stack_lens" bindings/c/test.c "$parts"/*/*.o "$parts/stack_lens.o" \
-  "$parts/blocks.o" "$parts/memory.o" "$parts/salt.o" "$parts/version.o"
-"$parts/stack_lens" small > "$parts/stack_lens.h"
-$CC -std=c99 -pedantic $flags -c -o "$parts/clearing.o" bindings/c/clearing.c
-# The test of the processor is in it, so that each program that calls anything has it, also by the static library.
-ld -r -o "$parts/all.o" "$parts"/*/*.o "$parts"/clearing.o "$parts"/blocks.o "$parts"/registers.o "$parts"/cpu.o
-objcopy --keep-global-symbols="$parts/symbols" "$parts/all.o" "$parts/scrypt_c.o"
-# The calls that are written in C and not proved are beside it.
-objects="$parts/scrypt_c.o $parts/memory.o $parts/salt.o $parts/version.o"
-ar rcs "$out/libscrypt_c.a" $objects
+awk '/^scrypt_/ { print $1 }' bindings/c/abi > "$common/symbols"
 {
   echo "SCRYPT_C_0.12 {"
   echo "global:"
-  sed 's/$/;/' "$parts/symbols"
+  sed 's/$/;/' "$common/symbols"
   echo "local: *;"
   echo "};"
-} > "$parts/versions"
-$CC -shared -Wl,-soname,$soname -Wl,--version-script="$parts/versions" -Wl,-z,defs -Wl,-z,relro -Wl,-z,now \
-  -o "$out/$shared" $objects
+} > "$common/versions"
+for name in malloc realloc free memcpy memmove memset; do echo "$name clearing_$name"; done > "$common/clearing"
+
+# Makes the objects of the library for a level of x86-64, of what the kit built for it, and sets their names.
+make_objects() {
+  level=$1 archive=$2 parts=$common/v$1
+  mkdir "$parts"
+  # The kit's few lines that call malloc and free are in an archive of their own.
+  for it in "$archive" "$kit/c/liblibc_c.a"; do
+    part=$parts/$(basename "$it" .a)
+    mkdir "$part"
+    (cd "$part" && ar x "$it")
+  done
+  # A proved call that sees a password or a key is called by the one in clearing.c, which has its name.
+  nm -g --defined-only "$parts"/libscrypt_c/*.o |
+    awk '$2 == "T" && $3 !~ /^scrypt_(buffer_lens|params_need|params_can_use|wipe)$/ { print $3, "proved_" $3 }' > "$parts/proved"
+  objcopy --redefine-syms="$parts/proved" "$parts"/libscrypt_c/*.o
+  for object in "$parts"/*/*.o; do objcopy --redefine-syms="$common/clearing" "$object"; done
+  # Functions of the C library are bound when a program is loaded, also with the static library, as blocks.c explains.
+  flags="-O2 -Wall -Wextra -fPIC -fno-plt -Ibindings/c -I$parts -DX86_64_LEVEL=$level"
+  flags="$flags -DPROCESSOR=\"x86-64-v$level\" -DLIBRARY_VERSION=\"$version\""
+  for part in blocks registers cpu memory salt version stack_lens; do
+    $CC -std=c99 -pedantic $flags -c -o "$parts/$part.o" bindings/c/$part.c
+  done
+  # How much of the stack each proved call uses is measured, and cleared by what is compiled then.
+  $CC -std=c99 $flags -Wl,-z,now -o "$parts/stack_lens" bindings/c/test.c "$parts"/*/*.o "$parts/stack_lens.o" \
+    "$parts/blocks.o" "$parts/memory.o" "$parts/salt.o" "$parts/version.o"
+  "$parts/stack_lens" small > "$parts/stack_lens.h"
+  $CC -std=c99 -pedantic $flags -c -o "$parts/clearing.o" bindings/c/clearing.c
+  # The test of the processor is in it, so that each program that calls anything has it, also by the static library.
+  ld -r -o "$parts/all.o" "$parts"/*/*.o "$parts"/clearing.o "$parts"/blocks.o "$parts"/registers.o "$parts"/cpu.o
+  objcopy --keep-global-symbols="$common/symbols" "$parts/all.o" "$parts/scrypt_c.o"
+  # The calls that are written in C and not proved are beside it.
+  objects="$parts/scrypt_c.o $parts/memory.o $parts/salt.o $parts/version.o"
+}
+link_shared() {
+  $CC -shared -Wl,-soname,$soname -Wl,--version-script="$common/versions" -Wl,-z,defs -Wl,-z,relro -Wl,-z,now -o "$1" $objects
+}
+make_objects 2 "$PWD/crates/scrypt_c/out/libscrypt_c.a"
+ar rcs "$out/libscrypt_c.a" $objects
+link_shared "$out/$shared"
 ln -s "$shared" "$out/$soname"
 ln -s "$soname" "$out/libscrypt_c.so"
+# Its stack can be measured only where it runs.
+if /lib64/ld-linux-x86-64.so.2 --help | grep -q 'x86-64-v3 (supported'; then
+  make_objects 3 "$PWD/crates/scrypt_c/out/x86-64-v3/libscrypt_c.a"
+  mkdir -p "$out/${newer%/*}"
+  link_shared "$out/$newer"
+fi
 cp bindings/c/scrypt_c.h "$out/"
 # The names of other libraries, in a library of their own. It isn't unloaded while threads have memory of it.
 $CC -O2 -Wall -Wextra -fPIC -shared -fvisibility=hidden -Wl,--exclude-libs,ALL -Wl,-z,nodelete -Wl,-z,now \
@@ -63,4 +86,10 @@ $CC -O2 -Wall -Wextra -fPIC -shared -fvisibility=hidden -Wl,--exclude-libs,ALL -
 bindings/c/found.sh "$PWD/$out" "$PWD/$out" "$out" "$out"
 # The Go module is whole with the header and the static library in its folder.
 cp "$out/libscrypt_c.a" "$out/scrypt_c.h" bindings/go/
-rm -r "$parts"
+rm -r "$common"
+echo "$out: libscrypt_c.a, $shared and libscrypt_drop_in.so for x86-64-v2"
+if [ -e "$out/$newer" ]; then
+  echo "$out: $newer for x86-64-v3"
+else
+  echo "This processor is older than x86-64-v3, so the library for that one was not built."
+fi

@@ -42,10 +42,20 @@ def libraries():
 
 
 def build():
-    """Builds the static library for C, as `rt lib` does."""
-    os.makedirs("crates/scrypt_c/out", exist_ok=True)
-    built = words.of("build", "scrypt_c") + ["--toolchain", f"{words.kit()}/toolchain", "--backend", "llvm"]
-    return call([*built, "-o", "out/libscrypt_c.a"], "crates/scrypt_c")
+    """Builds the static libraries for C, as `rt lib` does, side by side, and prints the verdict of the newer processor's."""
+    newer, folder = "x86-64-v3", "crates/scrypt_c"
+    os.makedirs(f"{folder}/out/{newer}", exist_ok=True)
+    command = words.of("build", "scrypt_c") + ["--toolchain", f"{words.kit()}/toolchain", "--backend", "llvm"]
+    options = [["-o", "out/libscrypt_c.a"], ["--cpu", newer, "-o", f"out/{newer}/libscrypt_c.a"]]
+    how = {"cwd": folder, "stdout": subprocess.PIPE, "stderr": subprocess.STDOUT, "text": True}
+    running = [subprocess.Popen([*command, *it], **how) for it in options]
+    texts = [it.communicate()[0] for it in running]
+    for ran, text in zip(running, texts):
+        if ran.returncode:
+            print(text)
+    verdicts = [line for line in texts[1].splitlines() if line.startswith("logic=proved ") and f" cpu={newer} " in line]
+    print(f"== scrypt_c-{newer}", *verdicts, sep="\n")
+    return len(verdicts) == 1 and not any(it.returncode for it in running)
 
 
 def call(command, folder):

@@ -46,7 +46,7 @@ def write(root, crate, line):
 
 def keep(root, crate, command):
     """Runs the command and keeps the verdict. The status is that of the command."""
-    folder, before = os.path.join(root, "crates", crate), proved.sources(root, crate)
+    folder, before = os.path.join(root, "crates", proved.crate_of(crate)), proved.sources(root, crate)
     # rt run leaves standard output to the program.
     status, text = relayed(command, folder, "stderr" if "run" in command[:2] else "stdout")
     line = verdict(text)

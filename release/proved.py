@@ -11,9 +11,11 @@ KEPT = (
     "By their hashes the sources are those of these verdicts, and so is what the kit built of them. `incremental=trusted`\n"
     "means that a verdict was printed over what earlier checks kept."
 )
-# The crates whose code is packed, above the others, with what the kit built of each.
+# The crates whose code is packed, above the others, with what the kit built of each. A name that ends in a processor is
+# the crate built for that one.
 PACKED = {
     "scrypt_c": ["crates/scrypt_c/out/libscrypt_c.a"],
+    "scrypt_c-x86-64-v3": ["crates/scrypt_c/out/x86-64-v3/libscrypt_c.a"],
     "scrypt_tool": ["crates/scrypt_tool/out/scrypt_tool.o", "crates/scrypt_tool/out/scrypt_tool"],
 }
 
@@ -48,10 +50,14 @@ def verdicts(log, commit):
     return "\n".join(found)
 
 
-def below(root, crate):
+def crate_of(name):
+    return name.partition("-")[0]
+
+
+def below(root, name):
     """A crate and those of this repository below it."""
     uses = dict(re.findall(r"^(\w+)(?: staticlib)?: *(.*)$", read(os.path.join(root, "crates.txt")), re.M))
-    found = [crate]
+    found = [crate_of(name)]
     for it in found:
         found += [used for used in uses[it].split() if used in uses and used not in found]
     return sorted(found)
@@ -86,6 +92,9 @@ def kept(root, crate):
     wanted += [f"built {digest(os.path.join(root, path))} {path}" for path in built(root, crate)]
     if not line.startswith("logic=proved "):
         return None, f"{crate} is not proved: {line}"
+    processor = crate.partition("-")[2]
+    if processor and f"cpu={processor}" not in line.split():
+        return None, f"the verdict of {crate} is of another processor: {line}"
     if fields[:1] != wanted[:1]:
         return None, f"the sources of {crate} changed after its verdict"
     if fields != wanted:
@@ -95,7 +104,7 @@ def kept(root, crate):
 
 def all_kept(root):
     """The kept verdicts of all crates that are packed, or why there are none."""
-    crates = sorted({it for name in PACKED for it in below(root, name)})
+    crates = sorted({*PACKED, *(it for name in PACKED for it in below(root, name))})
     found = {it: kept(root, it) for it in crates}
     faults = [fault for _, fault in found.values() if fault]
     if faults:

@@ -11,7 +11,7 @@ import keep_verdict
 import proved
 
 COMMIT = "c" * 40
-LINE = "logic=proved functions=5 axioms=12"
+LINE, NEWER_LINE = "logic=proved functions=5 axioms=12", "logic=proved functions=5 cpu=x86-64-v3 axioms=12"
 GATE = f"{COMMIT}\nmake: a line\n== scrypt_tool\n{LINE}\nrt: scrypt_tool proved\n139 passed, 0 failed\n"
 
 # why the row is here, the log, and the verdicts, or a part of the refusal
@@ -47,6 +47,9 @@ FOLDERS = [
     ("a crate that is not packed changed", "echo more >> crates/other/src/lib.rt", OF_MAKE),
     ("what is built in a library's folder changed", "echo more >> crates/low/out/rlib", OF_MAKE),
     ("the library to pack changed", "echo more >> crates/scrypt_c/out/libscrypt_c.a", "what is built of scrypt_c changed"),
+    ("the newer library changed", "echo more >> crates/scrypt_c/out/x86-64-v3/libscrypt_c.a", "what is built of scrypt_c-x86"),
+    ("no verdict of the newer library", "rm build/verdicts/scrypt_c-*", "no verdict of scrypt_c-x86-64-v3"),
+    ("a verdict on another processor", "sed -i 's/cpu=x86-64-v3 //' build/verdicts/scrypt_c-*", "of another processor"),
     ("no verdict of one crate", "rm build/verdicts/low.txt", "no verdict of low"),
     ("an empty record", ": > build/verdicts/low.txt", "low is not proved"),
     ("a verdict that is not proved", "sed -i s/=proved/=failed/ build/verdicts/low.txt", "low is not proved"),
@@ -111,6 +114,7 @@ def folder_case(script):
     with folder() as root:
         for crate in ("low", "scrypt_c", "scrypt_tool"):
             keep_verdict.write(root, crate, LINE)
+        keep_verdict.write(root, "scrypt_c-x86-64-v3", NEWER_LINE)
         os.environ["UNPROVED"] = "1" if "UNPROVED=1" in script else "0"
         gate = f"gate() {{ cat > build/gate.log << END\n{GATE}END\n}}\n"
         assert os.system(gate + script) == 0

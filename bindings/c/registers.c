@@ -17,6 +17,10 @@ __attribute__((constructor)) static void look_for_zmm(void) {
 }
 
 void clear_registers(void) {
+#if X86_64_LEVEL == 3
+  /* All of ymm0 to ymm15, of which the code below clears the lower halves. */
+  __asm__ volatile("vzeroall" ::: "memory");
+#endif
   __asm__ volatile(
       "pxor %%xmm0, %%xmm0\n pxor %%xmm1, %%xmm1\n pxor %%xmm2, %%xmm2\n pxor %%xmm3, %%xmm3\n"
       "pxor %%xmm4, %%xmm4\n pxor %%xmm5, %%xmm5\n pxor %%xmm6, %%xmm6\n pxor %%xmm7, %%xmm7\n"

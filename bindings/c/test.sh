@@ -1,20 +1,59 @@
 #!/bin/sh
 # Tests the libraries of build/lib from C and C++: what they export, the header's warnings, every call, AddressSanitizer,
-# valgrind, the stack, and what is installed. With the word short: the exports, the version and one run.
+# valgrind, the stack, and what is installed; all calls of the library for x86-64-v3 too, if it is built. With the word
+# short: the exports, the version and one run of each.
 cd "$(dirname "$0")/../.."
 . bindings/common.sh
-
-python3 bindings/c/abi.py "$lib"
-python3 bindings/version.py --check
-if [ "${1:-}" = short ]; then
+newer=$lib/glibc-hwcaps/x86-64-v3
+if [ ! -e "$newer/libscrypt_c.so.0" ]; then
+  echo "no library for x86-64-v3, which an older processor does not build: only that for x86-64-v2 is tested"
+  newer=
+fi
+# The shared library for x86-64-v2 in a folder that has no other.
+older=$room/x86-64-v2
+mkdir "$older"
+cp -P "$lib"/libscrypt_c.so.0* "$older"
+# each NAMES COMMAND.. runs a command with each of these libraries, and the processor that it is for.
+each() {
+  libraries=$1
+  shift
+  for library in $libraries; do
+    case $library in */x86-64-v3/*) processor=x86-64-v3 ;; *) processor=x86-64-v2 ;; esac
+    LD_LIBRARY_PATH=${library%/*} "$@" "$library" $processor
+  done
+}
+built="$lib/libscrypt_c.a ${newer:+"$newer/libscrypt_c.so.0"}"
+shared="$older/libscrypt_c.so.0 ${newer:+"$newer/libscrypt_c.so.0"}"
+# Builds and runs tests with a library that is for a processor. Its calls are bound before: that uses the stack too.
+short_tests() {
   for test in test test_stack; do
-    ${CC:-cc} -std=gnu99 -O2 -Wall -Wextra -Werror -I"$lib" bindings/c/$test.c -o "$room/$test" "$lib/libscrypt_c.a" -lpthread
+    ${CC:-cc} -std=gnu99 -O2 -Wall -Wextra -Werror -Wl,-z,now -I"$lib" -DPROCESSOR="\"$2\"" bindings/c/$test.c \
+      -o "$room/$test" "$1" -lpthread
   done
   "$room/test" small
   "$room/test_stack" > /dev/null
-  echo "called from C, also on a small stack"
-  exit
-fi
+  echo "called from C, also on a small stack: $2"
+}
+# The dynamic linker chooses by the processor, which its own option and a tunable of the C library can make an older one.
+is_chosen() {
+  [ -n "$newer" ] || return 0
+  echo '#include <scrypt_c.h>' > "$room/version.c"
+  echo 'int puts(const char *); int main(void) { return puts(scrypt_version()) < 0; }' >> "$room/version.c"
+  ${CC:-cc} -I"$lib" "$room/version.c" -o "$room/version" "$lib/libscrypt_c.so"
+  expect() {
+    loaded=$(shift; env LD_LIBRARY_PATH="$lib" "$@" "$room/version")
+    case $loaded in *" $1") echo "chosen by the dynamic linker: $1" ;; *) echo "$2 takes that for $loaded" >&2; exit 1 ;; esac
+  }
+  expect x86-64-v3
+  expect x86-64-v2 /lib64/ld-linux-x86-64.so.2 --glibc-hwcaps-mask x86-64-v2
+  expect x86-64-v2 GLIBC_TUNABLES=glibc.cpu.hwcaps=-AVX2,-AVX2_Usable
+}
+
+python3 bindings/c/abi.py "$lib"
+python3 bindings/version.py --check
+each "$built" short_tests
+is_chosen
+if [ "${1:-}" = short ]; then exit; fi
 
 # A program that includes the header alone, with every warning as an error that does not ask for a newer language, or
 # for C++98, or complain of an inline function that is not called.
@@ -54,20 +93,23 @@ for compiler in gcc clang; do
   fi
 done
 
-# Compiles the test by the command that is given, against the static library and against the shared one.
+# Compiles the test by the command that is given, with each library.
+calls_one() {
+  compiler=$1 language=$2
+  "$compiler" $language -O2 -Wall -Wextra -Werror -pedantic -I"$lib" -DPROCESSOR="\"$4\"" bindings/c/test.c \
+    -o "$room/called" -x none "$3"
+  "$room/called"
+}
 calls() {
-  "$@" -O2 -Wall -Wextra -Werror -pedantic -I"$lib" bindings/c/test.c -o "$room/static" -x none "$lib/libscrypt_c.a"
-  "$room/static"
-  "$@" -O2 -Wall -Wextra -Werror -pedantic -I"$lib" bindings/c/test.c -o "$room/shared" -x none -L"$lib" -lscrypt_c
-  LD_LIBRARY_PATH=$lib "$room/shared"
+  each "$lib/libscrypt_c.a $shared" calls_one "$@"
   echo "called by: $*"
 }
 if has gcc gcc; then calls gcc -std=c99; fi
 if has clang clang; then calls clang -std=c99; fi
-if has g++ g++; then calls g++ -std=c++11 -x c++; fi
-if has clang++ clang; then calls clang++ -std=c++11 -x c++; fi
+if has g++ g++; then calls g++ "-std=c++11 -x c++"; fi
+if has clang++ clang; then calls clang++ "-std=c++11 -x c++"; fi
 
-# Older processors than x86-64-v2 are refused by name, and x86-64-v2 is not. Debian's emulator has both.
+# Older processors than a library is for are refused by name, and these are not. Debian's emulator has both.
 if has gcc gcc && has qemu-x86_64-static qemu-user-static; then
   gcc -O2 -I"$lib" bindings/c/test.c -o "$room/processor" "$lib/libscrypt_c.a"
   qemu-x86_64-static -cpu Nehalem "$room/processor" small
@@ -76,30 +118,43 @@ if has gcc gcc && has qemu-x86_64-static qemu-user-static; then
     exit 1
   fi
   grep "lacks a feature of x86-64-v2" "$room/refused"
+  if [ -n "$newer" ]; then
+    gcc -O2 -I"$lib" -DPROCESSOR='"x86-64-v3"' bindings/c/test.c -o "$room/processor" "$newer/libscrypt_c.so.0"
+    qemu-x86_64-static -cpu max -E LD_LIBRARY_PATH="$newer" "$room/processor" small
+    if qemu-x86_64-static -cpu Nehalem -E LD_LIBRARY_PATH="$newer" "$room/processor" small 2> "$room/refused"; then
+      echo "a processor without AVX2 was not refused" >&2
+      exit 1
+    fi
+    grep "lacks a feature of x86-64-v3" "$room/refused"
+  fi
 fi
 
 tests="test test_order test_mapped test_memory test_null test_wipe test_salt test_traces threads"
 memcheck() {
   valgrind -q --error-exitcode=1 --leak-check=full --errors-for-leak-kinds=all "$@"
 }
-if has gcc gcc; then
+sanitized() {
   for test in $tests; do
-    gcc -g -fsanitize=address,undefined -fno-sanitize-recover=all -Wall -Wextra -I"$lib" bindings/c/$test.c \
-      -o "$room/checked" "$lib/libscrypt_c.a" -lpthread
+    gcc -g -fsanitize=address,undefined -fno-sanitize-recover=all -Wall -Wextra -I"$lib" -DPROCESSOR="\"$2\"" \
+      bindings/c/$test.c -o "$room/checked" "$1" -lpthread
     "$room/checked"
-    gcc -g -Wall -Wextra -Wl,-z,now -I"$lib" bindings/c/$test.c -o "$room/$test" "$lib/libscrypt_c.a" -lpthread
-    "$room/$test"
+    gcc -g -Wall -Wextra -Wl,-z,now -I"$lib" -DPROCESSOR="\"$2\"" bindings/c/$test.c -o "$room/$test-$2" "$1" -lpthread
+    "$room/$test-$2"
   done
-  echo "no report by AddressSanitizer: the tests, and four threads at once"
+  echo "no report by AddressSanitizer: the tests, and four threads at once, on $2"
+}
+emulated() {
+  for test in $tests; do memcheck "$room/$test-$2" small; done
+  echo "no report by valgrind memcheck: the same on $2, but for the key of 1 GiB"
+}
+if has gcc gcc; then
+  each "$built" sanitized
   # Without a checker, which takes memory of its own.
   gcc -O2 -Wall -Wextra -Wl,-z,now -I"$lib" bindings/c/test_out_of_memory.c -o "$room/out_of_memory" "$lib/libscrypt_c.a"
   "$room/out_of_memory"
   echo "a table that is refused: little memory is touched before"
 fi
-if has gcc gcc && has valgrind valgrind; then
-  for test in $tests; do memcheck "$room/$test" small; done
-  echo "no report by valgrind memcheck: the same, but for the key of 1 GiB"
-fi
+if has gcc gcc && has valgrind valgrind; then each "$built" emulated; fi
 
 # The stack that calls use. With the static library the test binds functions at their first call, with the shared one
 # before: to bind a call of the library itself uses the stack that is looked at.
@@ -108,8 +163,11 @@ for compiler in gcc clang; do
     stack="$compiler -Wall -Wextra -I$lib bindings/c/test_stack.c -o $room/stack"
     $stack -O2 -Wl,-z,lazy "$lib/libscrypt_c.a" -lpthread
     "$room/stack"
-    $stack -O0 -Wl,-z,now -L"$lib" -lscrypt_c -lpthread
-    LD_LIBRARY_PATH=$lib "$room/stack" "$lib/libscrypt_drop_in.so"
+    small_stack() {
+      $stack -O0 -Wl,-z,now "$1" -lpthread
+      "$room/stack" "$lib/libscrypt_drop_in.so"
+    }
+    each "$shared" small_stack
   fi
 done
 
@@ -118,10 +176,13 @@ if has gcc gcc; then
   python3 -B bindings/c/traces.py "$lib/libscrypt_c.so" > "$room/secrets"
   others=$lib/libscrypt_drop_in.so
   if [ -e "$lib/libscrypt_crypt.so" ]; then others="$others $lib/libscrypt_crypt.so"; fi
-  "$room/test_traces" "$room/secrets" $others > /dev/null
-  gcc -O2 -Wl,-z,now bindings/c/test_traces.c -o "$room/traces_shared" -I"$lib" -L"$lib" -lscrypt_c -lpthread
+  "$room/test_traces-x86-64-v2" "$room/secrets" $others > /dev/null
   head -n 1 "$room/secrets" > "$room/first"
-  LD_LIBRARY_PATH=$lib "$room/traces_shared" "$room/first" > /dev/null
+  no_trace() {
+    gcc -O2 -Wl,-z,now bindings/c/test_traces.c -o "$room/traces_shared" -I"$lib" "$1" -lpthread
+    "$room/traces_shared" "$room/first" > /dev/null
+  }
+  each "$shared" no_trace
   echo "no trace of the password, the blocks or the key: each call, the drop-in names, crypt(3)"
   if command -v rt > /dev/null && [ -e crates/scrypt_c/out/libscrypt_c.a ]; then
     gcc -O2 -Ibindings/c bindings/c/test_traces.c bindings/c/memory.c bindings/c/salt.c -o "$room/not_cleared" \

@@ -8,12 +8,18 @@ cd "$(dirname "$0")/../.."
 mkdir "$room/client"
 cp -r bindings/c/test.c bindings/c/check.h bindings/c/cmake_client "$room/client"
 
-# Builds and runs the client by what is installed below a prefix, with the shared library and with the static one.
+# Builds and runs the client by what is installed below a prefix, with the shared libraries, of which the dynamic linker takes
+# the one for x86-64-v3 if it was built here and is not masked, and with the static one.
+newest=x86-64-v2
+if [ -d "$lib/glibc-hwcaps" ]; then newest=x86-64-v3; fi
 by_pkg_config() {
   flags() { PKG_CONFIG_PATH="$1/lib/pkgconfig" pkg-config $2 --cflags --libs scrypt_c; }
-  eval gcc "$room/client/test.c" -o "$room/by_pkg_config" "$(flags "$1" "")"
+  built() { eval gcc "'-DPROCESSOR=\"$2\"' $3" "$room/client/test.c" -o "$room/by_pkg_config" "$(flags "$1" "$4")"; }
+  built "$1" $newest "" ""
   LD_LIBRARY_PATH=$1/lib "$room/by_pkg_config" small
-  eval gcc -static "$room/client/test.c" -o "$room/by_pkg_config" "$(flags "$1" --static)"
+  built "$1" x86-64-v2 "" ""
+  /lib64/ld-linux-x86-64.so.2 --glibc-hwcaps-mask x86-64-v2 --library-path "$1/lib" "$room/by_pkg_config" small
+  built "$1" x86-64-v2 -static --static
   "$room/by_pkg_config" small
 }
 by_cmake() {
