@@ -67,7 +67,7 @@ impl Default for Bounds {
 
 /// What a hasher allows the texts that it verifies.
 #[derive(Clone, Copy, Debug)]
-pub(crate) struct TextBounds {
+pub struct TextBounds {
     pub bounds: Bounds,
     pub least_key_len: usize,
 }
