@@ -10,12 +10,15 @@
 #   make refused-by-tests tries refused-by-tests/: wrong code that meets every contract, and fails a test (minutes each)
 #   make oracle compares the program with independent implementations on random input and hostile hashes, fails each of
 #               its allocations, and tries examples/migration and examples/key_files; WORKER=PATH calls the Rust crate
-#   make lib    builds the libraries for C into build/lib
+#   make lib    proves and builds the libraries for C into build/lib, the shared one for x86-64-v2 and for x86-64-v3
 #   make install installs what is built below prefix=/usr/local, and honours DESTDIR; make uninstall with the same
 #               variables removes it
-#   make dist   makes packages for Debian and Python, an archive, the sources and their hashes in build/dist, with the
-#               verdicts of make run and make lib, or of the gate; without any it stops, unless UNPROVED=1 is given
-#   make dist-test  installs, uses and removes them in a fresh root of Debian packages (needs root, mmdebstrap, lintian)
+#   make dist   makes packages for Debian, Python, Go and Rust, an archive, the sources and their hashes in build/dist,
+#               with the verdicts of make run and make lib, or of the gate; without any it stops, unless UNPROVED=1 is
+#               given. Needs Debian's debhelper, python3-hatchling, cargo, librust-password-hash-dev, libcrypt-dev,
+#               libpam0g-dev
+#   make dist-test  makes them twice and compares them, and installs, uses and removes them in a fresh root of Debian
+#               packages (needs root, and Debian's reprotest, mmdebstrap and lintian)
 #   make callers calls them from each installed language of bindings/, and by the names of libsodium, libscrypt-kdf
 #               and crypt(3)
 #   make crypt  builds libscrypt_crypt.so, which has the names of crypt(3), and the PAM module into build/lib
@@ -128,10 +131,10 @@ install uninstall:
 
 .PHONY: dist dist-test
 dist:
-	@if command -v rt > /dev/null; then $(MAKE) -j$(SIDE_BY_SIDE) $(LIBRARIES) && bindings/lib.sh && \
+	@if command -v rt > /dev/null; then $(MAKE) -j$(SIDE_BY_SIDE) $(LIBRARIES) && bindings/lib.sh && bindings/crypt/build.sh && \
 	  $(KEEP) scrypt_tool rt run -- key 0 1 1 1 "" > /dev/null < /dev/null && $(TERMINAL); \
 	else echo "The kit isn't here: what is built already is packed, and nothing is proved."; fi
-	python3 release/dist.py
+	release/dist.sh
 
 dist-test:
 	python3 -B release/test_proved.py

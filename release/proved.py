@@ -1,9 +1,16 @@
-"""Makes the text PROVED.txt: what was proved, by what, what is trusted, and the hash of each binary."""
+#!/usr/bin/env python3
+"""Prints the text PROVED.txt: what was proved, by what, what is trusted, and the hash of each binary.
+
+usage: proved.py FOLDER        FOLDER has the files that are packed
+"""
 
 import hashlib
 import os
 import re
 import subprocess
+import sys
+
+ROOT = os.path.dirname(os.path.dirname(os.path.abspath(__file__)))
 
 UNPROVED = "There is no verdict here: `make dist UNPROVED=1` packed what was built, proved or not."
 GATE = "The gate proves each crate from nothing. What is packed was built of the same commit, over what checks kept."
@@ -156,17 +163,30 @@ def compiler():
     return ", ".join(text.split("\n")[0] for text in texts)
 
 
-def proved(root, version, commit, clean, verdict_texts, binaries):
-    """The text, with the sections of verdicts; `binaries` are packed, by their names in the packages."""
+def git(*words):
+    return subprocess.run(["git", "-C", ROOT, *words], check=True, capture_output=True, text=True).stdout.strip()
+
+
+def main(folder):
+    commit, version = git("rev-parse", "HEAD"), read(os.path.join(ROOT, "VERSION")).strip()
+    clean = not git("status", "--porcelain", "--untracked-files=no")
+    texts, taken = verdict_sections(ROOT, commit, clean)
+    packed = [os.path.join(place, name) for place, _, names in os.walk(folder) for name in names]
+    packed = [path for path in packed if re.search(r"\.so|\.a$|/bin/", path) and not os.path.islink(path)]
+    hashes = [f"{digest(path)}  {os.path.relpath(path, folder)}" for path in sorted(packed)]
+    objects = [f"{digest(os.path.join(ROOT, path))}  {path}" for crate in PACKED for path in built(ROOT, crate)]
     state = commit if clean else f"{commit}, with changes that are not committed"
-    hashes = [f"{digest(path)}  {name}" for name, path in sorted(binaries.items())]
-    objects = [f"{digest(os.path.join(root, path))}  {path}" for crate in PACKED for path in built(root, crate)]
     sections = [
         ("scrypt, proved", f"version {version}\ncommit  {state}\nkit     {kit()}\nlinker  {compiler()}"),
-        *verdict_texts,
-        ("What is trusted", claims(read(os.path.join(root, "README.md")))),
+        *texts,
+        ("What is trusted", claims(read(os.path.join(ROOT, "README.md")))),
         ("SHA-256 of the binaries, as they are in the packages", "\n".join(hashes)),
         ("SHA-256 of what the kit built, from which these were linked", "\n".join(objects)),
         ("To compare", "With the kit and this compiler and linker, `make dist` on this commit makes the same files."),
     ]
-    return "\n\n".join(f"{title}\n{'-' * len(title)}\n{text}" for title, text in sections) + "\n"
+    print("\n\n".join(f"{title}\n{'-' * len(title)}\n{text}" for title, text in sections))
+    print(f"PROVED.txt of {state} has {', and '.join(taken)}", file=sys.stderr)
+
+
+if __name__ == "__main__":
+    main(*sys.argv[1:])

@@ -1,7 +1,7 @@
 #!/bin/bash
 # Tests build/dist as a user meets it, in a fresh root made from Debian packages, without the kit: installs the packages,
-# uses each, removes them without a trace, and does the same with the archive without root. Needs root, mmdebstrap, lintian
-# and a network for Debian's packages.
+# uses each, removes them without a trace, does the same with the archive without root, and builds programs in C, Go and
+# Rust. Needs root, mmdebstrap, lintian and a network for Debian's packages.
 set -euo pipefail
 cd "$(dirname "$0")/.."
 dist=build/dist
@@ -31,9 +31,11 @@ else
   echo "qemu-x86_64-static is not here (package qemu-user-static): no older processor was tried"
 fi
 
-mmdebstrap --quiet --variant=apt --include=man-db,bash-completion,python3-venv bookworm "$root"
+mmdebstrap --quiet --variant=apt --include=man-db,bash-completion,python3-venv,passwd,pamtester bookworm "$root"
+# In a mount namespace of its own, for /proc, without which rustc doesn't run.
 inside() {
-  chroot "$root" env -i PATH=/usr/sbin:/usr/bin:/sbin:/bin HOME=/root LC_ALL=C.UTF-8 DEBIAN_FRONTEND=noninteractive "$@"
+  unshare --mount sh -c 'mount -t proc proc "$0/proc" && exec chroot "$0" "$@"' "$root" \
+    env -i PATH=/usr/sbin:/usr/bin:/sbin:/bin HOME=/root LC_ALL=C.UTF-8 DEBIAN_FRONTEND=noninteractive "$@"
 }
 as_user() { inside setpriv --reuid=nobody --regid=nogroup --clear-groups env HOME=/home/user "$@"; }
 # All files but those that apt, dpkg, ld.so and man keep about every package.
@@ -46,12 +48,18 @@ expect() {
   echo "$3"
 }
 cp /etc/resolv.conf "$root/etc/resolv.conf"
-cp release/check.c $dist/*.deb $dist/*.whl $dist/*-linux-*.tar.gz "$root/tmp/"
+cp release/check.c release/check.go release/check.rs $dist/* "$root/tmp/"
 install -d -o nobody -g nogroup "$root/home/user"
 listed > "$room/before"
 
 inside sh -c 'cd /tmp && apt-get install -qq -y ./*.deb' > "$room/log" 2>&1 || { cat "$room/log"; exit 1; }
 echo "apt-get install ./*.deb"
+# Each packed binary is in a file of the packages, and the other way round.
+packed=$(sed -n '/^SHA-256 of the binaries/,/^SHA-256 of what/s/^\([0-9a-f]\{64\}\) .*/\1/p' "$root/usr/share/doc/libscrypt-c0/PROVED.txt" | sort)
+installed=$(inside sh -c 'dpkg -L libscrypt-c0 libscrypt-c-dev libscrypt-drop-in libscrypt-crypt libpam-scrypt scrypt-tool |
+  grep -E "\.so|\.a$|/bin/." | sort -u | while read -r it; do [ -h "$it" ] || sha256sum "$it"; done | cut -c -64' | sort)
+expect "$installed" "$packed" "each installed binary has its hash in PROVED.txt: $(echo "$packed" | wc -l)" > "$room/log"
+tail -n 1 "$room/log"
 expect "$(inside scrypt_tool key 4 1 1 64 "" < /dev/null)" $key "the program prints the first key of RFC 7914, section 12"
 inside sh -c 'man scrypt_tool 2> /dev/null | grep -q "derive scrypt keys"'
 echo "man scrypt_tool"
@@ -61,6 +69,11 @@ expect "$(inside bash -c "$completed")" hash "bash completes scrypt_tool ha"
 drop_in=/usr/lib/x86_64-linux-gnu/scrypt_c/libscrypt_drop_in.so
 inside env LD_PRELOAD=$drop_in python3 -c 'import ctypes; ctypes.CDLL(None).crypto_scrypt'
 echo "the drop-in library gives crypto_scrypt by LD_PRELOAD"
+# Debian's Python calls crypt(3), which both libraries have: the same hash, by the preloaded one.
+crypt=/usr/lib/x86_64-linux-gnu/scrypt_c/libscrypt_crypt.so
+by_crypt() { inside env "$@" python3 -W ignore -c 'import crypt; print(crypt.crypt("password", "$7$6..../....salt"))'; }
+expect "$(by_crypt LD_PRELOAD=$crypt)" "$(by_crypt)" "the library for crypt(3) makes the hash of libcrypt by LD_PRELOAD"
+by_crypt LD_PRELOAD=$crypt LD_DEBUG=bindings 2>&1 > /dev/null | grep "to $crypt .*normal symbol .crypt" > /dev/null
 
 python='from scrypt_c import PasswordHasher; h = PasswordHasher(log_n=10); h.verify(h.hash("a"), "a"); print("ok")'
 as_user sh -c 'python3 -m venv /home/user/venv && /home/user/venv/bin/pip install -q --no-index /tmp/*.whl'
@@ -74,21 +87,50 @@ expect "$(as_user $tool "" < /dev/null)" $key "the archive's program prints it, 
 as_user sh -c '/home/user/scrypt-proved-*/install.sh --remove /home/user/prefix && rmdir /home/user/prefix'
 echo "the archive removes all that it installed"
 
-inside sh -c 'cd /tmp && apt-get purge -qq -y scrypt-tool libscrypt-c0 libscrypt-c-dev libscrypt-drop-in' > "$room/log" 2>&1
+inside sh -c 'apt-get purge -qq -y scrypt-tool libscrypt-c0 libscrypt-c-dev libscrypt-drop-in libscrypt-crypt libpam-scrypt' \
+  > "$room/log" 2>&1
 rm -rf "$root"/home/user/*
 listed > "$room/after"
 diff "$room/before" "$room/after"
-known=$(inside dpkg-query -W -f '${db:Status-Status}\n' 'libscrypt*' scrypt-tool 2> /dev/null | grep -v not-installed || true)
+known=$(inside dpkg-query -W -f '${db:Status-Status}\n' 'libscrypt*' libpam-scrypt scrypt-tool 2> /dev/null | grep -v not-installed || true)
 expect "$known" "" "dpkg knows none of them"
 echo "apt-get purge leaves no file"
 
-# A C program needs a compiler, which the root has from here on.
-inside sh -c 'apt-get update -qq && apt-get install -qq -y gcc libc6-dev pkg-config' > "$room/log" 2>&1 || { cat "$room/log"; exit 1; }
 inside sh -c 'cd /tmp && apt-get install -qq -y ./*.deb' > "$room/log" 2>&1
-built='cc /tmp/check.c -o /tmp/check $(pkg-config --cflags --libs scrypt_c) && /tmp/check'
-expect "$(inside sh -c "$built")" $key "a C program by pkg-config prints it, with the package"
+
+# A password that the PAM module stores, and pam_unix verifies.
+inside sh -c 'useradd somebody && echo "password required pam_scrypt.so" > /etc/pam.d/passwd &&
+  echo "auth required pam_unix.so nodelay" > /etc/pam.d/pamtester &&
+  printf "%s\n" "first 1 password" "first 1 password" | passwd somebody' > "$room/log" 2>&1 || { cat "$room/log"; exit 1; }
+grep -q '^somebody:\$7\$' "$root/etc/shadow"
+login() { echo "$1" | inside pamtester pamtester somebody authenticate > "$room/log" 2>&1; }
+login "first 1 password"
+if login "second 2 password"; then exit 1; fi
+echo "passwd stores a hash of scrypt by the PAM module, and pam_unix verifies it"
+
+# Programs in C, Go and Rust need compilers, which the root has from here on.
+inside sh -c 'apt-get update -qq && apt-get install -qq -y --no-install-recommends gcc libc6-dev pkg-config golang-go cargo \
+  librust-password-hash-dev' > "$room/log" 2>&1 || { cat "$room/log"; exit 1; }
+build='cc /tmp/check.c -o /tmp/check $(pkg-config --cflags --libs scrypt_c)'
+inside sh -c "$build"
+newest=x86-64-v2
+if "$root"/lib64/ld-linux-x86-64.so.2 --help | grep -q 'x86-64-v3 (supported'; then newest=x86-64-v3; fi
+expect "$(inside /tmp/check)" "$key $newest" "a C program by pkg-config prints it, with the package"
+masked="/lib64/ld-linux-x86-64.so.2 --glibc-hwcaps-mask x86-64-v2"
+expect "$(inside $masked /tmp/check)" "$key x86-64-v2" "and by the other library"
 as_user sh -c 'cd /home/user && tar xzf /tmp/*-linux-*.tar.gz && scrypt-proved-*/install.sh /home/user/prefix' > /dev/null
-built='cd; export PKG_CONFIG_PATH=$HOME/prefix/lib/pkgconfig LD_LIBRARY_PATH=$HOME/prefix/lib
+build='cd; export PKG_CONFIG_PATH=$HOME/prefix/lib/pkgconfig LD_LIBRARY_PATH=$HOME/prefix/lib
   cc /tmp/check.c -o check $(pkg-config --cflags --libs scrypt_c) && ldd check | grep -q "$HOME/prefix" && ./check'
-expect "$(as_user sh -c "$built")" $key "and with the archive, without root"
+expect "$(as_user sh -c "$build")" "$key $newest" "and with the archive, without root"
+
+# By the lines of README.md. Cargo looks up optional dependencies too: here in Debian's packages.
+lines() { sed -n "/^$1,/,/^\(Rust,\|## \)/s/^    //p" release/README.md; }
+in_a_folder() { as_user env GOPROXY=off CARGO_NET_OFFLINE=true sh -ec "mkdir -p ~/$1/client && cd ~/$1/client && cp /tmp/$2 . && $3"; }
+build="go mod init example.com/client 2> /dev/null; $(lines Go); cp /tmp/check.go . && go run check.go"
+expect "$(in_a_folder go 'scrypt-go-*' "$build")" "$key" "a Go program prints it, with the module of the release"
+install -d -o nobody "$root/home/user/.cargo"
+printf '[source.crates-io]\nreplace-with = "debian"\n[source.debian]\ndirectory = "/usr/share/cargo/registry"\n' \
+  > "$root/home/user/.cargo/config.toml"
+build="cargo init --quiet --vcs none; $(lines Rust); cp /tmp/check.rs src/main.rs && cargo run --quiet"
+expect "$(in_a_folder rust '*.crate' "$build")" "$key" "a Rust program prints it, with the crate of the release and the package"
 echo "build/dist: tested in a fresh Debian root"

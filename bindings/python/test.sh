@@ -43,25 +43,27 @@ for framework in django passlib; do
 done
 unset PYTHONPATH SCRYPT_C_LIBRARY
 
-# The same tests over the package as pip installs it, with the library inside: from the folder, and from the wheel.
-if python3 -c 'import venv, ensurepip' 2> /dev/null; then
-  python3 -m venv "$room/by_folder"
-  "$room/by_folder/bin/pip" install --quiet --no-index ./bindings/python
+# The same tests over the package as pip installs it, with the library inside: from the folder, and from a wheel that is made
+# of the source archive. By Debian's Python, which has hatchling; without it pip fetches that.
+if /usr/bin/python3 -c 'import venv, ensurepip, hatchling' 2> /dev/null; then
+  install() {
+    /usr/bin/python3 -m venv --system-site-packages "$room/$1"
+    "$room/$1/bin/pip" install --quiet --no-index --no-build-isolation "$2"
+  }
+  install by_folder ./bindings/python
   run "$room/by_folder/bin/python" test_hasher
   run "$room/by_folder/bin/python" test_bounds
-  python3 -m venv "$room/by_wheel"
-  "$room/by_wheel/bin/pip" wheel --quiet --no-index --wheel-dir "$room/wheels" ./bindings/python
-  "$room/by_wheel/bin/pip" install --quiet --no-index "$room"/wheels/*.whl
+  (cd bindings/python && /usr/bin/python3 -m hatchling build -t sdist -d "$room/source" > /dev/null)
+  (cd "$room/source" && tar xzf ./*.tar.gz && cd scrypt_c-*/ && /usr/bin/python3 -m hatchling build -t wheel -d "$room/wheels" > /dev/null)
+  install by_wheel "$(echo "$room"/wheels/*.whl)"
   run "$room/by_wheel/bin/python" test_hasher
   "$room/by_wheel/bin/pip" uninstall --quiet --yes scrypt_c
   test -z "$(find "$room/by_wheel" -name 'scrypt_c*')"
   echo "installed by pip from the folder and as the wheel $(cd "$room/wheels" && echo *.whl)"
   # README's own line, by Debian's Python, whose pip is refused outside a virtual environment.
-  if /usr/bin/python3 -c 'import venv, ensurepip' 2> /dev/null; then
-    line=$(sed -n 's/^    \(.*scrypt_c-\*\.whl\).*/\1/p' README.md)
-    (cd "$room/wheels" && PATH=/usr/bin:$PATH PIP_NO_INDEX=1 PIP_QUIET=1 sh -c "$line" && venv/bin/python -c 'import scrypt_c')
-    echo "installed by README's line: $line"
-  fi
+  line=$(sed -n 's/^    \(.*scrypt_c-\*\.whl\).*/\1/p' README.md)
+  (cd "$room/wheels" && PATH=/usr/bin:$PATH PIP_NO_INDEX=1 PIP_QUIET=1 sh -c "$line" && venv/bin/python -c 'import scrypt_c')
+  echo "installed by README's line: $line"
 else
-  echo "venv is not installed (package python3-venv): not run"
+  echo "venv or hatchling is not installed (packages python3-venv, python3-hatchling): not run"
 fi
