@@ -75,9 +75,12 @@ by_crypt() { inside env "$@" python3 -W ignore -c 'import crypt; print(crypt.cry
 expect "$(by_crypt LD_PRELOAD=$crypt)" "$(by_crypt)" "the library for crypt(3) makes the hash of libcrypt by LD_PRELOAD"
 by_crypt LD_PRELOAD=$crypt LD_DEBUG=bindings 2>&1 > /dev/null | grep "to $crypt .*normal symbol .crypt" > /dev/null
 
-python='from scrypt_c import PasswordHasher; h = PasswordHasher(log_n=10); h.verify(h.hash("a"), "a"); print("ok")'
+newest=x86-64-v2
+if "$root"/lib64/ld-linux-x86-64.so.2 --help | grep 'x86-64-v3 (supported' > /dev/null; then newest=x86-64-v3; fi
+python='from scrypt_c import PasswordHasher, library; h = PasswordHasher(log_n=10); h.verify(h.hash("a"), "a")
+version = library._lib.scrypt_version; version.restype = library.ctypes.c_char_p; print(version().split()[-1].decode())'
 as_user sh -c 'python3 -m venv /home/user/venv && /home/user/venv/bin/pip install -q --no-index /tmp/*.whl'
-expect "$(as_user /home/user/venv/bin/python -c "$python")" ok "the wheel hashes in a virtual environment"
+expect "$(as_user /home/user/venv/bin/python -c "$python")" $newest "the wheel hashes in a virtual environment"
 rm -r "$root/home/user/venv"
 
 # The archive, by a user who has no more rights than any.
@@ -113,11 +116,9 @@ inside sh -c 'apt-get update -qq && apt-get install -qq -y --no-install-recommen
   librust-password-hash-dev' > "$room/log" 2>&1 || { cat "$room/log"; exit 1; }
 build='cc /tmp/check.c -o /tmp/check $(pkg-config --cflags --libs scrypt_c)'
 inside sh -c "$build"
-newest=x86-64-v2
-if "$root"/lib64/ld-linux-x86-64.so.2 --help | grep -q 'x86-64-v3 (supported'; then newest=x86-64-v3; fi
 expect "$(inside /tmp/check)" "$key $newest" "a C program by pkg-config prints it, with the package"
 masked="/lib64/ld-linux-x86-64.so.2 --glibc-hwcaps-mask x86-64-v2"
-expect "$(inside $masked /tmp/check)" "$key x86-64-v2" "and by the other library"
+expect "$(inside $masked /tmp/check)" "$key x86-64-v2" "and by the library for x86-64-v2, if the other is masked"
 as_user sh -c 'cd /home/user && tar xzf /tmp/*-linux-*.tar.gz && scrypt-proved-*/install.sh /home/user/prefix' > /dev/null
 build='cd; export PKG_CONFIG_PATH=$HOME/prefix/lib/pkgconfig LD_LIBRARY_PATH=$HOME/prefix/lib
   cc /tmp/check.c -o check $(pkg-config --cflags --libs scrypt_c) && ldd check | grep -q "$HOME/prefix" && ./check'
