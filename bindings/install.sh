@@ -19,10 +19,22 @@ done
 
 # put MODE SOURCE PLACE installs one file; link TARGET PLACE one link. Uninstalling, both remove what is there.
 put() {
-  if [ "$action" = uninstall ]; then rm -f "$DESTDIR$3"; else install -D -m "$1" "$2" "$DESTDIR$3"; fi
+  if [ "$action" = uninstall ]; then remove "$3"; else install -D -m "$1" "$2" "$DESTDIR$3"; fi
 }
 link() {
-  if [ "$action" = uninstall ]; then rm -f "$DESTDIR$2"; else ln -sf "$1" "$DESTDIR$2"; fi
+  if [ "$action" = uninstall ]; then remove "$2"; else ln -sf "$1" "$DESTDIR$2"; fi
+}
+# Also the folders in which nothing is left then, up to those that every system has.
+remove() {
+  rm -f "$DESTDIR$1"
+  folder=${1%/*}
+  until is_common "$folder" || ! rmdir "$DESTDIR$folder" 2> /dev/null; do folder=${folder%/*}; done
+}
+is_common() {
+  for place in "$bindir" "$libdir" "$includedir" "$datarootdir" "$mandir"; do
+    if [ "$1" = "$place" ]; then return; fi
+  done
+  return 1
 }
 
 libraries() {
@@ -45,6 +57,7 @@ libraries() {
 }
 
 python_package() {
+  if [ "$action" = uninstall ]; then rm -rf "$DESTDIR$pythondir/scrypt_c/__pycache__"; fi
   (cd bindings/python && find scrypt_c -name '*.py' -o -name py.typed) > "$room/package"
   while read -r file; do put 644 "bindings/python/$file" "$pythondir/$file"; done < "$room/package"
 }
@@ -70,10 +83,4 @@ if [ "$action" = uninstall ] || [ -e "$program" ]; then
   program
 else
   echo "the program is not built (make run), and is left out"
-fi
-# Folders that the library may have made, if nothing is left in them.
-if [ "$action" = uninstall ]; then
-  for folder in "$libdir/cmake/scrypt_c" "$pythondir/scrypt_c" "$docdir" "$libdir/glibc-hwcaps/x86-64-v3" "$libdir/glibc-hwcaps"; do
-    rmdir "$DESTDIR$folder" 2> /dev/null || true
-  done
 fi

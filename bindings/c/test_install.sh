@@ -34,8 +34,10 @@ is_found() {
   if has gcc gcc && has pkg-config pkg-config; then by_pkg_config "$1"; fi
   if has cmake cmake; then by_cmake "$1"; fi
 }
+# Nothing is left but the folders that every system has.
 is_empty() {
-  test -z "$(find "$1" -type f -o -type l)" || { echo "uninstalled, and files are left in $1" >&2; exit 1; }
+  left=$(cd "$1" && find . ! -name . | grep -vE '^\./usr(/(bin|include|lib|share(/man)?))?$') || true
+  test -z "$left" || { echo "uninstalled, and this is left in $1: $left" >&2; exit 1; }
 }
 
 # Why, and the folder.
@@ -45,6 +47,9 @@ while IFS=: read -r why name; do
   mv "$room/$name" "$room/moved $name"
   is_found "$room/moved $name/usr"
   mv "$room/moved $name" "$room/$name"
+  if has python3 python3; then
+    SCRYPT_C_LIBRARY=$room/$name/usr/lib PYTHONPATH=$room/$name/usr/lib/python3/dist-packages python3 -c 'import scrypt_c'
+  fi
   make -s uninstall prefix="$room/$name/usr" DESTDIR= > /dev/null
   is_empty "$room/$name"
   echo "installed, found, moved, found again and uninstalled: a prefix with $why"
