@@ -3,9 +3,9 @@
 
 usage: keep_verdict.py CRATE COMMAND..    for example: keep_verdict.py scrypt rt lib --jobs 3
 
-A record has the verdict, the kit, a hash of all sources that the verdict is about, and the hash of what was built. Where
-nothing changed, the command prints no verdict and the record is still right. If there is none, `rt check` prints the verdict
-once more over what it kept.
+A record has the verdict, the kit, a hash of all sources that the verdict is about, and the hash of what was built. A library
+for C is not built again while its record is right. Where nothing changed for another crate, the command prints no verdict
+and the record is still right. If there is none, `rt check` prints the verdict once more over what it kept.
 """
 
 import os
@@ -46,6 +46,10 @@ def write(root, crate, line):
 
 def keep(root, crate, command):
     """Runs the command and keeps the verdict. The status is that of the command."""
+    right, _ = proved.kept(root, crate)
+    if right and right[1] == proved.kit() and any(path.endswith(".a") for path in proved.built(root, crate)):
+        print(f"{crate} is built already: {right[0]}")
+        return 0
     folder, before = os.path.join(root, "crates", proved.crate_of(crate)), proved.sources(root, crate)
     # rt run leaves standard output to the program.
     status, text = relayed(command, folder, "stderr" if "run" in command[:2] else "stdout")

@@ -73,6 +73,16 @@ COMMANDS = [
     ("a source changes while it is proved", ["sh", "-c", f"echo more >> src/lib.rt; echo {LINE}"], None, "", None),
 ]
 
+# why the row is here, what happens after a library for C was built, and whether it is built again
+AGAIN = [
+    ("nothing changed", "", False),
+    ("the library is gone", "rm crates/scrypt_c/out/libscrypt_c.a", True),
+    ("the library changed", "echo more >> crates/scrypt_c/out/libscrypt_c.a", True),
+    ("a source below it changed", "echo more >> crates/low/src/lib.rt", True),
+    ("another kit", "sed -i 's/echo a kit/echo another kit/' bin/rt", True),
+    ("no record", "rm build/verdicts/scrypt_c.txt", True),
+]
+
 
 def write(path, text):
     os.makedirs(os.path.dirname(path), exist_ok=True)
@@ -139,10 +149,21 @@ def command_case(command, before, checked):
         return proved.read(record).split("\n")[0] if os.path.exists(record) else None
 
 
+def again_case(script):
+    with folder() as root:
+        write(f"{root}/checked", "")
+        keep_verdict.write(root, "scrypt_c", LINE)
+        assert os.system(script) == 0
+        with contextlib.redirect_stdout(io.TextIOWrapper(io.BytesIO())):
+            keep_verdict.keep(root, "scrypt_c", ["sh", "-c", f"touch {root}/ran"])
+        return os.path.exists(f"{root}/ran")
+
+
 def main():
     wrong, rows = 0, [(it[0], it[-1], log_case, it[1:-1]) for it in LOGS]
     rows += [(it[0], it[-1], folder_case, it[1:-1]) for it in FOLDERS]
     rows += [(it[0], it[-1], command_case, it[1:-1]) for it in COMMANDS]
+    rows += [(it[0], it[-1], again_case, it[1:-1]) for it in AGAIN]
     for why, wanted, case, values in rows:
         try:
             found = case(*values)
