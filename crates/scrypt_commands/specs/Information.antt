@@ -1,9 +1,11 @@
 -- The texts that `--help` and `--version` print.
 use Rattle.std.specs.Prelude.{ℕ, ◌++◌, bytes_eq, codes, if◌then◌else◌, List, [], ◌∷◌, Option, None, Some}
 
+-- the line that `--version` prints
 unfoldable pub version_text : List ℕ
 version_text = codes "scrypt_tool 0.12.0+proved.1\n"
 
+-- what `--help` prints: the commands, the options, and the statuses
 unfoldable pub help_text : List ℕ
 help_text = codes "scrypt_tool: scrypt keys (RFC 7914) and password hashes\n"
     ++ codes "\n"
