@@ -29,7 +29,7 @@ if has gcc gcc; then
   gcc -O2 -fPIC -shared bindings/c/traces.c -o "$room/traces.so"
   python3 bindings/c/traces.py "$lib/libscrypt_c.so" > "$room/secrets"
   LD_BIND_NOW=1 python3 "$tests/test_traces.py" "$room/secrets" "$room/traces.so"
-  echo "no trace of the password, the blocks or the key: hashes, verifying and keys from Python"
+  echo "no trace of the password, the blocks or the key: hashes, verifying, two at once and keys from Python"
 fi
 
 # Debian's interpreter, which has Debian's packages.

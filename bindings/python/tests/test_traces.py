@@ -9,6 +9,9 @@ import sys
 import threading
 
 import scrypt_c
+from scrypt_c.turns import Wait
+from test_pairs import Calls, waiting
+from test_turns import processors
 
 
 class Case(ctypes.Structure):
@@ -57,6 +60,30 @@ def verified(case, password, salt):
         del made  # what it keeps for the next time holds rows of the table
 
 
+def verified_in_a_pair(case, password, salt):
+    """This thread derives for another one too, which waits when the only turn is free again."""
+    with processors(1):
+        made = hasher(case)
+    text, turns, held = made.hash(password, salt=salt), made._memories._turns, Wait()
+    other = threading.Thread(target=made.verify, args=(text, password))
+
+    def release():
+        waiting(made, 1)
+        other.start()
+        waiting(made, 2)
+        turns.leave(held)
+
+    turns.take(held)
+    releasing = threading.Thread(target=release)
+    releasing.start()
+    with Calls() as calls:
+        assert made.verify(text, password)
+        releasing.join()
+        other.join()
+    assert (calls.ones, calls.twos) == (0, 1)
+    made.close()
+
+
 def left_by(call, *arguments):
     """How many traces a call on a thread leaves, while the thread still has its stack."""
     called, searched = threading.Event(), threading.Event()
@@ -81,7 +108,7 @@ def main(secrets):
     while case := traces.traces_read(secrets.encode(), number):
         case = case.contents
         password, salt = leave_out(case.data("password")), case.data("salt")
-        for call in (key, hashed, verified):
+        for call in (key, hashed, verified, verified_in_a_pair):
             found = left_by(call, case, password, salt)
             assert found == 0, f"{found} traces of {call.__name__}"
         other = bytearray(password)  # a second copy, to see that the search finds one
