@@ -1,10 +1,11 @@
 #!/bin/sh
 # Makes build/dist from what is built: Debian packages, the Python wheel, the Go module, the Rust crate, an archive of
-# everything, the sources and the hashes of all. What comes out is the same byte by byte wherever and whenever it is made.
+# everything, the sources and the hashes of all. It is the same byte by byte wherever and whenever it is made.
 set -eu
 umask 022
 cd "$(dirname "$0")/.."
-export LC_ALL=C TZ=UTC SOURCE_DATE_EPOCH="$(git log -1 --format=%ct)"
+SOURCE_DATE_EPOCH=$(git log -1 --format=%ct)
+export SOURCE_DATE_EPOCH LC_ALL=C TZ=UTC
 dist=$PWD/build/dist parts=$PWD/build/dist-parts version=$(cat VERSION)
 name=scrypt-proved-$version
 lib=$parts/files/lib
@@ -15,14 +16,15 @@ needed() { echo "$1 is not here (Debian's package $2), and make dist needs it" >
 command -v dh > /dev/null || needed dh debhelper
 command -v cargo > /dev/null || needed cargo cargo
 $python -c 'import hatchling' 2> /dev/null || needed hatchling python3-hatchling
-[ -n "$(find $registry -maxdepth 1 -name 'password-hash-0.4*' 2> /dev/null)" ] || needed password-hash librust-password-hash-dev
-for built in build/bin/scrypt_tool build/lib/libscrypt_c.a build/lib/glibc-hwcaps build/lib/libscrypt_drop_in.so \
-  build/lib/libscrypt_crypt.so build/lib/pam_scrypt.so; do
+ls -d $registry/password-hash-0.4* > /dev/null 2>&1 || needed password-hash librust-password-hash-dev
+for built in build/bin/scrypt_tool build/lib/libscrypt_c.a build/lib/glibc-hwcaps \
+  build/lib/libscrypt_drop_in.so build/lib/libscrypt_crypt.so build/lib/pam_scrypt.so; do
   [ -e $built ] || { echo "not built: $built. \`make crypt\` and \`make run\` build all, with the kit" >&2; exit 1; }
 done
 python3 bindings/version.py --check
 rm -rf "$dist" "$parts"
 mkdir -p "$dist" "$parts"
+trap 'debian/rules clean > /dev/null 2>&1; rm -rf "$parts"' EXIT
 
 # The files below any prefix, and what PROVED.txt says of them.
 make -s install prefix="$parts/files" pythondir="$parts/python" docdir="$parts/doc" DESTDIR=
@@ -43,17 +45,21 @@ packed() {
     --pax-option=delete=atime,delete=ctime -cf - "$1" | gzip -9n > "$dist/$1.tar.gz"
 }
 debian/rules clean binary > "$parts/log" 2>&1 || { cat "$parts/log"; exit 1; }
-(cd bindings/python && SCRYPT_C_LIBRARY=$lib SCRYPT_C_PROVED=$parts/PROVED.txt $python -B -m hatchling build -t wheel -d "$dist")
+export SCRYPT_C_LIBRARY="$lib" SCRYPT_C_PROVED="$parts/PROVED.txt"
+(cd bindings/python && $python -B -m hatchling build -t wheel -d "$dist")
 
 texts="LICENSE release/NOTICES $parts/PROVED.txt"
 module=scrypt-go-$version
 mkdir "$parts/$module"
-cp $texts bindings/go/*.go bindings/go/go.mod bindings/go/README.md "$lib/libscrypt_c.a" build/lib/scrypt_c.h "$parts/$module"
+cp $texts bindings/go/*.go bindings/go/go.mod bindings/go/README.md "$parts/$module"
+cp "$lib/libscrypt_c.a" build/lib/scrypt_c.h "$parts/$module"
 packed "$module"
 
 mkdir "$parts/cargo"
-printf '[source.crates-io]\nreplace-with = "debian"\n[source.debian]\ndirectory = "%s"\n' $registry > "$parts/cargo/config.toml"
-(cd bindings/rust && CARGO_HOME=$parts/cargo cargo package --quiet --offline --no-verify --allow-dirty --target-dir "$parts/cargo")
+printf '[source.crates-io]\nreplace-with = "debian"\n[source.debian]\ndirectory = "%s"\n' $registry \
+  > "$parts/cargo/config.toml"
+export CARGO_HOME="$parts/cargo" CARGO_TARGET_DIR="$parts/cargo"
+(cd bindings/rust && cargo package --quiet --offline --no-verify --allow-dirty)
 cp "$parts"/cargo/package/*.crate "$dist"
 
 mkdir "$parts/$name-linux-x86_64"
@@ -64,6 +70,4 @@ git archive --format=tar --prefix="$name/" HEAD | gzip -9n > "$dist/$name-source
 chmod 644 "$dist"/*
 (cd "$dist" && sha256sum -- * > "$parts/SHA256SUMS")
 mv "$parts/SHA256SUMS" "$dist"
-debian/rules clean > /dev/null 2>&1
-rm -r "$parts"
 (cd "$dist" && du -ab -- *)

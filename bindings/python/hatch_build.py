@@ -1,8 +1,8 @@
 """Puts the library into the package, for x86-64-v2 and, if it is there, for x86-64-v3, with the licences.
 
 It is the file that SCRYPT_C_LIBRARY names, or that of this name in the folder that it names, or else the one that
-`make lib` put into build/lib of the repository; a source archive has it in the package already. What SCRYPT_C_PROVED names, if it is said, is a text about its
-proof, and goes beside the licences.
+`make lib` put into build/lib of the repository; a source archive has it in the package already. What SCRYPT_C_PROVED
+names, if it is said, is a text about its proof, and goes beside the licences.
 """
 
 import os
