@@ -93,6 +93,12 @@ def key_of(library, module, word):
     return next(((module, name) for name, members in constructors if word in members), None)
 
 
+def words_of(text):
+    """The words of a text; an operator is declared by its name between two places."""
+    words = set(WORD.findall(text))
+    return words | {f"◌{it}◌" for it in words}
+
+
 def key_in(library, path, name):
     """The same of a word that is imported."""
     target = library.find(path, name) if name and path.split(".")[1] in library.uses else None
@@ -106,7 +112,7 @@ def roots(library, crate, functions):
             for name, clauses in functions:
                 if item.kind == "fn" and name_of(item) == name and item.public:
                     for clause in (it for it in item.clauses if it.name in clauses):
-                        for word in WORD.findall(clause.text):
+                        for word in words_of(clause.text):
                             if word in source.imports:
                                 yield key_in(library, *source.imports[word])
 
@@ -118,7 +124,7 @@ def closure(library, found):
         module, name = todo.pop()
         if (module, name) not in known:
             known.add((module, name))
-            words = set(WORD.findall(library.modules[module].definitions[name].text))
+            words = words_of(library.modules[module].definitions[name].text)
             todo += [it for it in (key_of(library, module, word) for word in words) if it]
     return known
 

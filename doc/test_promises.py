@@ -42,7 +42,11 @@ def main():
     if not {"quarter_round", "double_round", "add32"} <= names or "block_mix" in names:
         print(f"promises.py: the core rests on {sorted(names)}")
         wrong += 1
-    print(f"promises.py: {len(ROWS) + 1 - wrong} of {len(ROWS) + 1} cases as they should be")
+    names = {name for _, name in promises.closure(library, [("Rattle.scrypt.specs.Reading", "verdict")])}
+    if "◌and_then◌" not in names:
+        print(f"promises.py: the verdict, which is written with an operator, rests on {sorted(names)}")
+        wrong += 1
+    print(f"promises.py: {len(ROWS) + 2 - wrong} of {len(ROWS) + 2} cases as they should be")
     sys.exit(1 if wrong else 0)
 
 

@@ -22,6 +22,8 @@ pub mod AlphabetFacts
 pub mod Crypt64Facts
 -- Bytes and letters by groups: how many there are, and what a group encodes.
 pub mod GroupFacts
+-- Letters of crypt Base64 are decoded as the bytes that they encode.
+pub mod DecodedFacts
 -- What follows from the definition of MCF texts: each has one id and one list of fields, and texts put together by parts are MCF texts.
 pub mod McfFacts
 -- A text has at most one reading.

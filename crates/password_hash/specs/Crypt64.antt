@@ -1,6 +1,7 @@
 -- Crypt Base64: the encoding of bytes in the letters of crypt(5).
 use Rattle.std.specs.Prelude.{◌≡◌, ◌==◌, ℕ, zero, suc, ◌+◌, ◌*◌, ◌/◌, ◌%◌, ◌<◌, ◌≤◌, List, [], ◌∷◌, ◌++◌, Option, Some}
-use Rattle.std.specs.Prelude.{None, All, codes, position, slice_index}
+use Rattle.std.specs.Prelude.{None, All, codes, if◌then◌else◌, length, position, slice_index, unwrap_or}
+use Rattle.std.specs.Str.{bytes_eq}
 
 -- the alphabet: the letter of each value from 0 to 63
 abbrev pub alphabet : List ℕ
@@ -45,6 +46,17 @@ pub record Crypt64 (bytes letters : List ℕ) : Type 0 where
 -- these letters are the encoding of some bytes
 abbrev pub IsCrypt64 : List ℕ → Type 0
 IsCrypt64 letters = (bytes : List ℕ) × Crypt64 bytes letters
+
+-- so many bytes of a number: its lowest digits in base 256, the lowest first
+unfoldable pub bytes_of_number : ℕ → ℕ → List ℕ
+bytes_of_number zero number = []
+bytes_of_number (suc count) number = (number % 256) ∷ bytes_of_number count (number / 256)
+
+-- the bytes whose encoding the letters are, if they are one
+unfoldable pub decoded : List ℕ → Option (List ℕ)
+decoded letters =
+    let bytes = bytes_of_number (3 * length letters / 4) (unwrap_or (number_of letters) 0) in
+    if bytes_eq letters (crypt64_of bytes) then Some bytes else None
 
 -- the number of letters of n bytes: four for three bytes, rounded up
 abbrev pub encoded_len : ℕ → ℕ

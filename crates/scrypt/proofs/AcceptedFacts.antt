@@ -1,6 +1,7 @@
 -- Bounds on accepted parameters.
 use Rattle.scrypt.specs.Accepted.{AreAccepted, IsOutputLen, IsStoredLen, Parameters, are_accepted, is_output_len, parameters_eq}
-use Rattle.scrypt.specs.Reading.{ParamsInvalid, checked}
+use Rattle.password_hash.specs.Refusal.{ParamsInvalid}
+use Rattle.scrypt.specs.Reading.{checked}
 use Rattle.scrypt.specs.Hashing.{key_len_or_default}
 use Rattle.scrypt_kernel.specs.Pbkdf2.{max_output_len}
 use Rattle.std.specs.Prelude.{Bool, IfSome, Option, Some, None, Result, Ok, Err, if◌then◌else◌, nat_eq, nat_le, unwrap_or}

@@ -24,8 +24,6 @@ pub mod PhcReadingFacts
 pub mod PhcHashFacts
 -- Facts on five-letter numbers and on the parameters with which a field begins.
 pub mod McfCostsFacts
--- Letters of crypt Base64 are decoded as the bytes that they encode.
-pub mod McfKeyFacts
 -- Facts on `$7$` hashes: a text says one hash or is refused, and says it as it was written.
 pub mod McfHashFacts
 -- The text that hashing writes is that of the hash.

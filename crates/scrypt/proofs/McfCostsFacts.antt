@@ -4,17 +4,19 @@ use Rattle.std.proofs.Common.{refl, sym, ap, ◌∙◌, arith, inl, inr, append_
 use Rattle.std.specs.List.{slice_get}
 use Rattle.std.proofs.Math.Seq.{take-append_seam}
 use Rattle.std.proofs.lemmas.Bool.{le-ltb, cases_lt, lt-ltb}
-use Rattle.std.specs.Prelude.{All, Err, IsSome, Ok, Option, nat_lt, slice_index}
+use Rattle.std.specs.Prelude.{All, Err, IsSome, Ok, Option, Result, nat_lt, ok_or, slice_index}
 use Rattle.std.proofs.lemmas.List.{append-nil, take_all, take-append-drop, length-take-le, drop-drop}
 use Rattle.std.proofs.lemmas.List.Elements.{All-head, All-tail}
 use Rattle.password_hash.specs.Crypt64.{letter, letter_value, letters_of, number_of, with_digit}
 use Rattle.password_hash.proofs.Crypt64Facts.{length-letters_of, letters_of-number_of, number_of-letters_of}
 use Rattle.password_hash.proofs.GroupFacts.{append_parts}
 use Rattle.password_hash.proofs.AlphabetFacts.{letter_value-letter, letter-of_value}
+use Rattle.password_hash.specs.Refusal.{Refusal, EncodingInvalid}
 use Rattle.scrypt.specs.Accepted.{AreAccepted, Parameters}
-use Rattle.scrypt.specs.McfCosts.{cost_letters, field_params, five_letter_number, params_of}
-use Rattle.scrypt.specs.Reading.{EncodingInvalid}
+use Rattle.scrypt.specs.McfCosts.{cost_letters, field_params, five_letter_number}
+use Rattle.scrypt.specs.Reading.{◌and_then◌, checked}
 use Rattle.scrypt.proofs.AcceptedFacts.{checked_ok, ok_if, small_params}
+use Rattle.scrypt.proofs.ReadingFacts.{NamesNoPassword, checked_none, err_none, if_none, some_none, then_none}
 
 -- where there are five letters, they say the number
 pub five_letter_number-some : (text : List ℕ) → 5 ≤ length text → five_letter_number text ≡ number_of (take 5 text)
@@ -51,10 +53,14 @@ unfolding field_params
 empty_says_none [] none = refl
 empty_says_none (first ∷ field) none = absurd (cc)
 
+-- the parameters of these numbers, if they are there
+abbrev pub of_numbers : ℕ → Option ℕ → Option ℕ → Result Parameters Refusal
+of_numbers log_n r p = ok_or r EncodingInvalid and_then λ r. ok_or p EncodingInvalid and_then λ p. checked log_n r p
+
 -- what a field is read as, by the numbers in it
 pub field_says : (field : List ℕ) (first log_n : ℕ) (r p : Option ℕ) → slice_index field 0 ≡ first → first < 128
     → unwrap_or (letter_value first) 255 ≡ log_n
-    → five_letter_number (drop 1 field) ≡ r → five_letter_number (drop 6 field) ≡ p → field_params field ≡ params_of log_n r p
+    → five_letter_number (drop 1 field) ≡ r → five_letter_number (drop 6 field) ≡ p → field_params field ≡ of_numbers log_n r p
 unfolding field_params
 field_says field first log_n r p is ascii log_n_is r_is p_is = rw (is, lt-ltb first 128 ascii, log_n_is, r_is, p_is) refl
 
@@ -63,9 +69,23 @@ unfolding field_params
 not_ascii field first is large = rw (is, le-ltb first 128 large) refl
 
 -- without r no numbers are there
-pub no_p : (log_n : ℕ) (r : Option ℕ) → params_of log_n r None ≡ Err EncodingInvalid
+pub no_p : (log_n : ℕ) (r : Option ℕ) → of_numbers log_n r None ≡ Err EncodingInvalid
 no_p log_n None = refl
 no_p log_n (Some r) = refl
+
+-- a field is refused neither as a wrong password nor for memory
+
+numbers_none : (log_n : ℕ) (r p : Option ℕ) → NamesNoPassword (of_numbers log_n r p)
+numbers_none log_n r p =
+    then_none _ _ (some_none r EncodingInvalid refl)
+    (λ r. then_none _ _ (some_none p EncodingInvalid refl) (λ p. checked_none log_n r p))
+
+pub field_none : (field : List ℕ) → NamesNoPassword (field_params field)
+unfolding field_params
+field_none field =
+    if_none (nat_lt (slice_index field 0) 128) _ _
+    (numbers_none (unwrap_or (letter_value (slice_index field 0)) 255) (five_letter_number (drop 1 field)) (five_letter_number (drop 6 field)))
+    (err_none EncodingInvalid refl)
 
 -- numbers below 2^30 are read back from their five letters alone
 pub five_letters_read_back : (number : ℕ) → number < 2 ^ 30 → five_letter_number (letters_of 5 number) ≡ Some number
@@ -148,7 +168,7 @@ letter_said None number says small = absurd (omega arith)
 letter_said (Some value) number says small = ap Some says
 
 -- the numbers that parameters were made of
-pub made_of : (log_n : ℕ) (r p : Option ℕ) (c : Parameters) → params_of log_n r p ≡ Ok c
+pub made_of : (log_n : ℕ) (r p : Option ℕ) (c : Parameters) → of_numbers log_n r p ≡ Ok c
     → AreAccepted c.log_n c.r c.p × (log_n ≡ c.log_n) × (r ≡ Some c.r) × (p ≡ Some c.p)
 made_of log_n None p c is = absurd cc
 made_of log_n (Some r) None c is = absurd cc

@@ -17,12 +17,11 @@ use Rattle.password_hash.proofs.McfFacts.{IsField-crypt64_of}
 use Rattle.scrypt.specs.Accepted.{AreAccepted, IsOutputLen, IsStoredLen, Parameters, without_len}
 use Rattle.scrypt.specs.KeyOfParams.{key_by}
 use Rattle.scrypt.proofs.KeyFacts.{key_by-are_bytes, length-key_by}
-use Rattle.scrypt.specs.McfCosts.{five_letter_number, cost_letters, costs_text, field_params, params_of}
+use Rattle.scrypt.specs.McfCosts.{five_letter_number, cost_letters, costs_text, field_params}
 use Rattle.scrypt.specs.McfHash.{IsMadeHash, made_text_len, mcf_id, read_mcf}
-use Rattle.scrypt.specs.Reading.{reported, stored_of}
 use Rattle.scrypt.specs.Hashing.{key_len_or_default}
 use Rattle.scrypt.proofs.AcceptedFacts.{checked_is, key_len_or_default_stored, small_params, small_log_n}
-use Rattle.scrypt.proofs.McfCostsFacts.{five_letter_number_letters_of, to_the_end}
+use Rattle.scrypt.proofs.McfCostsFacts.{five_letter_number_letters_of, of_numbers, to_the_end}
 use Rattle.scrypt.proofs.McfHashFacts.{key_read, read_seven, text_of}
 use Rattle.scrypt.proofs.PhcHashFacts.{made_is_text}
 
@@ -96,7 +95,7 @@ field_read c salt good =
     let says_p = ap five_letter_number from_p ∙ five_letter_number_letters_of c.p salt ∙ ap Some p_is in
     let first : nat_lt (letter c.log_n) 128 ≡ true = lt-ltb (letter c.log_n) 128 (letter-ascii c.log_n (omega (arith, small.0))).0 in
     let log_n = letter_value-letter c.log_n (omega (arith, small.0)) in
-    rw (first, log_n) (ap₂ (params_of c.log_n) says_r says_p ∙ checked_is c.log_n c.r c.p good)
+    rw (first, log_n) (ap₂ (of_numbers c.log_n) says_r says_p ∙ checked_is c.log_n c.r c.p good)
 
 -- the text of some parameters, a salt without a dollar, and a key
 pub text_is : (c : Parameters) (salt key : List ℕ) → AreAccepted c.log_n c.r c.p → IsField salt → All (λ byte. byte < 256) key
@@ -117,8 +116,7 @@ text_is c salt key good no_dollar are_bytes allowed =
           (sym (append_assoc letters salt (dollar ∷ crypt64_of key)) ∙ ap (λ z. field ++ (dollar ∷ z)) (sym (append-nil (crypt64_of key))));
     } in
     let rest : drop 11 field ≡ salt = drop_at letters salt 11 (count_letters c.log_n c.r c.p) in
-    read_seven parts refl ∙ ap₂ (λ params parts. reported (stored_of params parts)) (field_read c salt good)
-    (key_read (drop 11 field) (record { are_bytes = are_bytes; encoding = refl }) allowed ∙ ap (λ z. Ok (z, key)) rest)
+    read_seven parts refl ∙ rw (field_read c salt good, key_read (record { are_bytes = are_bytes; encoding = refl }) allowed, rest) refl
 
 -- the text that hashing makes
 pub stored_text : (c : Parameters) (password salt : List ℕ) → AreAccepted c.log_n c.r c.p → IsStoredLen (key_len_or_default c)

@@ -1,45 +1,44 @@
 -- Facts on PHC hashes of scrypt.
-use Rattle.std.proofs.Common.{◌≡◌, ◌≢◌, ℕ, List, refl, ap, ap₂, ◌∙◌, arith, lit≤, None, Some, Ok, Err, true, false}
-use Rattle.std.specs.Prelude.{IfSome, Option, Result, is_some}
+use Rattle.std.proofs.Common.{◌≡◌, ◌≢◌, ℕ, List, codes, refl, ap, ◌∙◌, arith, lit≤, Ok, Err, true, false}
+use Rattle.std.specs.Prelude.{IfSome, is_some}
 use Rattle.std.specs.Str.{bytes_eq}
 use Rattle.std.proofs.lemmas.Slice.Eq.{bytes_eq-Decides}
 use Rattle.password_hash.specs.Phc.{IsHashText, IsSalt, hash_text}
-use Rattle.password_hash.specs.Refusal.{Refusal}
-use Rattle.password_hash.specs.Refusal as refusals
+use Rattle.password_hash.specs.Refusal.{Algorithm, Version}
 use Rattle.password_hash.specs.declared.phc.hash.PasswordHash.{PasswordHash}
 use Rattle.scrypt.specs.Accepted.{AreAccepted, IsStoredLen, Parameters, without_len}
 use Rattle.scrypt.specs.KeyOfParams.{key_by}
 use Rattle.scrypt.specs.PhcCosts.{params_of_pairs}
-use Rattle.scrypt.specs.PhcHash.{IsMadeHash, phc_params, read_phc, scrypt_id, without_version}
+use Rattle.scrypt.specs.PhcHash.{IsMadeHash, phc_params, read_phc}
 use Rattle.scrypt.specs.Hashing.{key_len_or_default}
-use Rattle.scrypt.specs.Reading.{ReadError, Version, reported}
 use Rattle.scrypt.proofs.AcceptedFacts.{key_len_or_default_stored, not_true, small_params}
 use Rattle.scrypt.proofs.KeyFacts.{key_by-are_bytes, length-key_by}
 use Rattle.scrypt.proofs.PhcCostsFacts.{three_pairs}
-use Rattle.scrypt.proofs.PhcReadingFacts.{written_read}
+use Rattle.scrypt.proofs.PhcReadingFacts.{pairs_none, written_read}
+use Rattle.scrypt.proofs.ReadingFacts.{NamesNoPassword, err_none, if_none}
 
 -- the parameters of a hash
 
-pub of_scrypt : (hash : PasswordHash) → hash.algorithm ≡ scrypt_id
-    → phc_params hash ≡ reported (without_version hash.version (params_of_pairs hash.params))
-unfolding phc_params
-of_scrypt hash is = rw is refl
-
-pub other_algorithm : (hash : PasswordHash) → hash.algorithm ≢ scrypt_id → phc_params hash ≡ Err refusals.Algorithm
+pub other_algorithm : (hash : PasswordHash) → hash.algorithm ≢ codes "scrypt" → phc_params hash ≡ Err Algorithm
 unfolding phc_params
 other_algorithm hash other =
-    rw (not_true (bytes_eq hash.algorithm scrypt_id) (λ is. other ((bytes_eq-Decides hash.algorithm scrypt_id).0 is))) refl
+    rw (not_true (bytes_eq hash.algorithm (codes "scrypt")) (λ is. other ((bytes_eq-Decides hash.algorithm (codes "scrypt")).0 is))) refl
 
--- of a hash with a version
-pub versioned : {A : Type 0} (version : Option ℕ) (reading : Result A ReadError) → is_some version ≡ true
-    → without_version version reading ≡ Err Version
-versioned None reading some = absurd cc
-versioned (Some version) reading some = refl
+-- of scrypt
+module _ (hash : PasswordHash) (is : hash.algorithm ≡ codes "scrypt") where
+  pub versioned : is_some hash.version ≡ true → phc_params hash ≡ Err Version
+  unfolding phc_params
+  versioned some = rw (is, some) refl
 
-pub unversioned : {A : Type 0} (version : Option ℕ) (reading : Result A ReadError) → is_some version ≡ false
-    → without_version version reading ≡ reading
-unversioned None reading none = refl
-unversioned (Some version) reading none = absurd cc
+  pub unversioned : is_some hash.version ≡ false → phc_params hash ≡ params_of_pairs hash.params
+  unfolding phc_params
+  unversioned none = rw (is, none) refl
+
+-- they are refused neither as a wrong password nor for memory
+pub params_none : (hash : PasswordHash) → NamesNoPassword (phc_params hash)
+unfolding phc_params
+params_none hash =
+    if_none _ _ _ (err_none Algorithm refl) (if_none _ _ _ (err_none Version refl) (pairs_none 17 8 1 hash.params))
 
 -- a made hash is read as it was made
 pub made_read : (c : Parameters) (password salt : List ℕ) (hash : PasswordHash) → AreAccepted c.log_n c.r c.p
@@ -47,7 +46,7 @@ pub made_read : (c : Parameters) (password salt : List ℕ) (hash : PasswordHash
     → read_phc hash ≡ Ok (record { params = without_len c; salt = salt; key = key_by c password salt (key_len_or_default c) })
 made_read c password salt hash fits made =
     let params : phc_params hash ≡ Ok (without_len c) =
-    of_scrypt hash made.algorithm ∙ ap reported (ap₂ without_version made.version (ap params_of_pairs made.params ∙ written_read c fits)) in
+    unversioned hash made.algorithm (ap is_some made.version) ∙ ap params_of_pairs made.params ∙ written_read c fits in
     rw (params, made.salt_is, made.key_is) refl
 
 -- a made hash has a text

@@ -5,12 +5,13 @@ use Rattle.std.specs.Str.{bytes_eq}
 use Rattle.std.proofs.lemmas.Bool.Decides.{nat_tests}
 use Rattle.std.proofs.lemmas.Slice.Eq.{bytes_eq-Decides}
 use Rattle.password_hash.specs.Decimal.{IsDecimal, decimal_below}
-use Rattle.password_hash.specs.Refusal.{Refusal}
+use Rattle.password_hash.specs.Refusal.{Refusal, ParamInvalid, ParamsInvalid}
 use Rattle.password_hash.proofs.DecimalFacts.{IsDecimal-decimal, decimal_found, decimal_only}
 use Rattle.scrypt.specs.Accepted.{AreAccepted, Parameters, without_len}
-use Rattle.scrypt.specs.Reading.{ReadError, ParamInvalid, ParamsInvalid, checked, reported}
+use Rattle.scrypt.specs.Reading.{◌and_then◌, checked}
 use Rattle.scrypt.proofs.AcceptedFacts.{checked_is, not_true, small_params}
-use Rattle.scrypt.specs.PhcCosts.{number_below, params_of_pairs, read_pairs, with_number, written_pairs}
+use Rattle.scrypt.proofs.ReadingFacts.{NamesNoPassword, checked_none, err_none, if_none, some_none, then_none}
+use Rattle.scrypt.specs.PhcCosts.{params_of_pairs, read_pairs, written_pairs}
 
 -- the number of a value
 
@@ -27,20 +28,17 @@ unfolding decimal_below
 neither limit text fits none = grind (arith, nat_tests)
 
 pub number_taken : (name : List ℕ) (limit : ℕ) (text : List ℕ) (n : ℕ) → IsDecimal text n → n < limit
-    → number_below name limit text ≡ Ok n
-unfolding number_below
+    → ok_or (decimal_below limit text) (ParamInvalid name) ≡ Ok n
 number_taken name limit text n is small =
     ap (λ found. ok_or found (ParamInvalid name)) (smaller limit text n (decimal_only text n is) small)
 
 pub number_large : (name : List ℕ) (limit : ℕ) (text : List ℕ) (n : ℕ) → IsDecimal text n → limit ≤ n
-    → number_below name limit text ≡ Err (ParamInvalid name)
-unfolding number_below
+    → ok_or (decimal_below limit text) (ParamInvalid name) ≡ Err (ParamInvalid name)
 number_large name limit text n is large =
     ap (λ found. ok_or found (ParamInvalid name)) (larger limit text n (decimal_only text n is) large)
 
 pub no_number : (name : List ℕ) (limit : ℕ) (text : List ℕ) → limit ≤ 2 ^ 32 → ((n : ℕ) → ¬ IsDecimal text n)
-    → number_below name limit text ≡ Err (ParamInvalid name)
-unfolding number_below
+    → ok_or (decimal_below limit text) (ParamInvalid name) ≡ Err (ParamInvalid name)
 no_number name limit text fits none =
     ap (λ found. ok_or found (ParamInvalid name)) (neither limit text fits (at (decimal_below (2 ^ 32) text) (decimal_found text)))
   where
@@ -48,33 +46,29 @@ no_number name limit text fits none =
     at None found = refl
     at (Some n) found = absurd (none n found)
 
--- what is read with a number, as it is returned
-step : {number : Result ℕ Refusal} {left : Result Parameters ReadError} {out : Result Parameters Refusal}
-    (read : Result ℕ ReadError) (rest : ℕ → Result Parameters ReadError) → left ≡ with_number read rest → reported left ≡ out
-    → number ≡ reported read → with_number number (λ n. reported (rest n)) ≡ out
-step (Ok n) rest is so_far told = ap (λ z. with_number z (λ n. reported (rest n))) told ∙ sym (ap reported is) ∙ so_far
-step (Err why) rest is so_far told = ap (λ z. with_number z (λ n. reported (rest n))) told ∙ sym (ap reported is) ∙ so_far
-
 -- the first pair
 
 module _ (log_n r p : ℕ) (pair : List ℕ × List ℕ) (rest : List (List ℕ × List ℕ)) where
   pub ln_step : {number : Result ℕ Refusal} {left : List (List ℕ × List ℕ)} {out : Result Parameters Refusal}
-      → left ≡ pair ∷ rest → reported (read_pairs log_n r p left) ≡ out → pair.0 ≡ codes "ln"
-      → number ≡ reported (number_below (codes "ln") 256 pair.1) → with_number number (λ n. reported (read_pairs n r p rest)) ≡ out
+      → left ≡ pair ∷ rest → read_pairs log_n r p left ≡ out → pair.0 ≡ codes "ln"
+      → number ≡ ok_or (decimal_below 256 pair.1) (ParamInvalid (codes "ln")) → (number and_then λ n. read_pairs n r p rest) ≡ out
   unfolding read_pairs
-  ln_step steps so_far is = step _ (λ n. read_pairs n r p rest) (ap (read_pairs log_n r p) steps ∙ rw is refl) so_far
+  ln_step steps so_far is told =
+      ap (λ z. z and_then λ n. read_pairs n r p rest) told ∙ sym (ap (read_pairs log_n r p) steps ∙ rw is refl) ∙ so_far
 
   pub r_step : {number : Result ℕ Refusal} {left : List (List ℕ × List ℕ)} {out : Result Parameters Refusal}
-      → left ≡ pair ∷ rest → reported (read_pairs log_n r p left) ≡ out → pair.0 ≡ codes "r"
-      → number ≡ reported (number_below (codes "r") (2 ^ 32) pair.1) → with_number number (λ n. reported (read_pairs log_n n p rest)) ≡ out
+      → left ≡ pair ∷ rest → read_pairs log_n r p left ≡ out → pair.0 ≡ codes "r"
+      → number ≡ ok_or (decimal_below (2 ^ 32) pair.1) (ParamInvalid (codes "r")) → (number and_then λ n. read_pairs log_n n p rest) ≡ out
   unfolding read_pairs
-  r_step steps so_far is = step _ (λ n. read_pairs log_n n p rest) (ap (read_pairs log_n r p) steps ∙ rw is refl) so_far
+  r_step steps so_far is told =
+      ap (λ z. z and_then λ n. read_pairs log_n n p rest) told ∙ sym (ap (read_pairs log_n r p) steps ∙ rw is refl) ∙ so_far
 
   pub p_step : {number : Result ℕ Refusal} {left : List (List ℕ × List ℕ)} {out : Result Parameters Refusal}
-      → left ≡ pair ∷ rest → reported (read_pairs log_n r p left) ≡ out → pair.0 ≡ codes "p"
-      → number ≡ reported (number_below (codes "p") (2 ^ 32) pair.1) → with_number number (λ n. reported (read_pairs log_n r n rest)) ≡ out
+      → left ≡ pair ∷ rest → read_pairs log_n r p left ≡ out → pair.0 ≡ codes "p"
+      → number ≡ ok_or (decimal_below (2 ^ 32) pair.1) (ParamInvalid (codes "p")) → (number and_then λ n. read_pairs log_n r n rest) ≡ out
   unfolding read_pairs
-  p_step steps so_far is = step _ (λ n. read_pairs log_n r n rest) (ap (read_pairs log_n r p) steps ∙ rw is refl) so_far
+  p_step steps so_far is told =
+      ap (λ z. z and_then λ n. read_pairs log_n r n rest) told ∙ sym (ap (read_pairs log_n r p) steps ∙ rw is refl) ∙ so_far
 
   pub unknown_read : pair.0 ≢ codes "ln" → pair.0 ≢ codes "r" → pair.0 ≢ codes "p" → read_pairs log_n r p (pair ∷ rest) ≡ Err ParamsInvalid
   unfolding read_pairs
@@ -96,3 +90,14 @@ written_read c fits =
     let r = number_taken (codes "r") (2 ^ 32) _ c.r (IsDecimal-decimal c.r (omega (arith, small.1))) (omega (arith, small.1)) in
     let p = number_taken (codes "p") (2 ^ 32) _ c.p (IsDecimal-decimal c.p (omega (arith, small.2))) (omega (arith, small.2)) in
     rw (ln, r, p) (checked_is c.log_n c.r c.p fits)
+
+-- pairs are refused neither as a wrong password nor for memory
+
+pub pairs_none : (log_n r p : ℕ) (pairs : List (List ℕ × List ℕ)) → NamesNoPassword (read_pairs log_n r p pairs)
+unfolding read_pairs
+pairs_none log_n r p [] = checked_none log_n r p
+pairs_none log_n r p (pair ∷ pairs) =
+    if_none _ _ _ (then_none _ _ (some_none (decimal_below 256 pair.1) (ParamInvalid pair.0) refl) (λ n. pairs_none n r p pairs))
+    (if_none _ _ _ (then_none _ _ (some_none (decimal_below (2 ^ 32) pair.1) (ParamInvalid pair.0) refl) (λ n. pairs_none log_n n p pairs))
+    (if_none _ _ _ (then_none _ _ (some_none (decimal_below (2 ^ 32) pair.1) (ParamInvalid pair.0) refl) (λ n. pairs_none log_n r n pairs))
+    (err_none ParamsInvalid refl)))

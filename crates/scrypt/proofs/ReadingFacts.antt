@@ -1,44 +1,79 @@
 -- What follows from the reading of a hash: the verdict, and the memory that is left.
 use Rattle.std.proofs.Common.{◌≡◌, ◌↔◌, ◌≢◌, ◌⊎◌, ◌∙◌, ℕ, ◌≤◌, List, length, Ok, Err, inl, inr, true, false, refl, sym, ap, arith}
-use Rattle.std.specs.Prelude.{Bool, Result, if◌then◌else◌, nat_le, ⊤}
+use Rattle.std.specs.Prelude.{Bool, None, Option, Result, Some, if◌then◌else◌, nat_le, ok_or, ⊤}
 use Rattle.std.specs.Bool.{Decides}
 use Rattle.std.proofs.lemmas.Bool.Decides.{Decides-and, same_from_decides}
 use Rattle.std.proofs.lemmas.Slice.Eq.{bytes_eq-Decides}
-use Rattle.password_hash.specs.Refusal.{Refusal, OutOfMemory, PasswordInvalid}
+use Rattle.password_hash.specs.Refusal.{Refusal, OutOfMemory, ParamsInvalid, PasswordInvalid}
 use Rattle.password_hash.specs.declared.error.Error.{Error}
 use Rattle.password_hash.specs.declared.error.Error.TheVariants as error
-use Rattle.scrypt.specs.Accepted.{Parameters, without_len}
+use Rattle.scrypt.specs.Accepted.{Parameters, are_accepted, without_len}
 use Rattle.scrypt.specs.Cost.{chunks_bytes, scratch_words, table_words}
 use Rattle.scrypt.specs.Hashing.{key_len_or_default}
 use Rattle.scrypt.specs.KeyOfParams.{key_by}
 use Rattle.scrypt.proofs.AcceptedFacts.{leb_decided, not_true, ok_if}
 use Rattle.scrypt.proofs.KeyFacts.{length-key_by}
-use Rattle.std.proofs.lemmas.Bool.{le-ltb}
-use Rattle.scrypt.specs.Reading.{ReadError, Algorithm, Stored, is_below, is_right, mapped, reported, told, verdict, weaker}
+use Rattle.std.proofs.lemmas.Bool.{false≢true, le-ltb}
+use Rattle.scrypt.specs.Reading.{◌and_then◌, Stored, checked, is_below, is_right, mapped, told, verdict, weaker}
 use Rattle.scrypt.specs.InBuffers.{AreEnough}
 use Rattle.scrypt.specs.Limits.{are_within}
 use Rattle.scrypt.specs.WithinLimits.{BoundedRefusal, IsLeftWithin, KeyTooShort, TooCostly, unbounded, verdict_within, within}
 use Rattle.scrypt.specs.declared.limits.Limits.{Limits}
 use Rattle.scrypt.specs.WorkInBuffers.{IsDone, IsLeft, IsVerifying, Work, has_room, verdict_in}
 
+-- what is read in two steps
+
+pub both_read : {A B : Type 0} (reading : Result A Refusal) (rest : A → Result B Refusal) {y : B} → (reading and_then rest) ≡ Ok y
+    → (x : A) × (reading ≡ Ok x) × (rest x ≡ Ok y)
+both_read (Ok x) rest is = (x, refl, is)
+both_read (Err why) rest is = absurd cc
+
+pub refused_first : {A B : Type 0} (reading : Result A Refusal) (rest : A → Result B Refusal) {why : Refusal} → reading ≡ Err why
+    → (reading and_then rest) ≡ Err why
+refused_first (Ok x) rest is = absurd cc
+refused_first (Err other) rest is = cc
+
 -- reading is refused neither as a wrong password nor for memory
 
-pub otherwise : {A : Type 0} (reading : Result A ReadError)
-    → (reported reading ≢ Err PasswordInvalid) × (reported reading ≢ Err OutOfMemory)
-otherwise (Ok x) = (λ is. absurd cc, λ is. absurd cc)
-otherwise (Err Algorithm) = (λ is. absurd cc, λ is. absurd cc)
-otherwise (Err _) = (λ is. absurd cc, λ is. absurd cc)
+abbrev pub NamesNoPassword : {A : Type 0} → Result A Refusal → Type 0
+NamesNoPassword reading = (reading ≢ Err PasswordInvalid) × (reading ≢ Err OutOfMemory)
 
--- nor is a part of what was read
-pub part_otherwise : {A B : Type 0} (f : A → B) (reading : Result A Refusal) → (reading ≢ Err PasswordInvalid) × (reading ≢ Err OutOfMemory)
-    → (mapped f reading ≢ Err PasswordInvalid) × (mapped f reading ≢ Err OutOfMemory)
-part_otherwise f (Ok x) other = (λ is. absurd cc, λ is. absurd cc)
-part_otherwise f (Err why) other = (λ is. other.0 cc, λ is. other.1 cc)
+-- any other refusal
+abbrev is_another : Refusal → Bool
+is_another PasswordInvalid = false
+is_another OutOfMemory = false
+is_another _ = true
 
--- what was read without an error
-pub reported_ok : {A : Type 0} (reading : Result A ReadError) {x : A} → reported reading ≡ Ok x → reading ≡ Ok x
-reported_ok (Ok y) is = ap Ok cc
-reported_ok (Err why) is = absurd cc
+pub err_none : {A : Type 0} (why : Refusal) → is_another why ≡ true → NamesNoPassword {A = A} (Err why)
+err_none why other =
+    let differs = λ (wrong : Refusal) (no : is_another wrong ≡ false) (is : why ≡ wrong).
+    false≢true (sym no ∙ ap is_another (sym is) ∙ other) in
+    (λ is. differs PasswordInvalid refl cc, λ is. differs OutOfMemory refl cc)
+
+pub ok_none : {A : Type 0} (x : A) → NamesNoPassword (Ok x)
+ok_none x = (λ is. absurd cc, λ is. absurd cc)
+
+pub part_none : {A B : Type 0} (f : A → B) (reading : Result A Refusal) → NamesNoPassword reading → NamesNoPassword (mapped f reading)
+part_none f (Ok x) none = ok_none (f x)
+part_none f (Err why) none = (λ is. none.0 cc, λ is. none.1 cc)
+
+pub then_none : {A B : Type 0} (reading : Result A Refusal) (rest : A → Result B Refusal) → NamesNoPassword reading
+    → ((x : A) → NamesNoPassword (rest x)) → NamesNoPassword (reading and_then rest)
+then_none (Ok x) rest none after = after x
+then_none (Err why) rest none after = (λ is. none.0 cc, λ is. none.1 cc)
+
+pub if_none : {A : Type 0} (test : Bool) (first second : Result A Refusal) → NamesNoPassword first → NamesNoPassword second
+    → NamesNoPassword (if test then first else second)
+if_none true first second none other = none
+if_none false first second none other = other
+
+pub some_none : {A : Type 0} (found : Option A) (why : Refusal) → is_another why ≡ true → NamesNoPassword (ok_or found why)
+some_none None why other = err_none why other
+some_none (Some x) why other = ok_none x
+
+pub checked_none : (log_n r p : ℕ) → NamesNoPassword (checked log_n r p)
+unfolding checked
+checked_none log_n r p = if_none (are_accepted log_n r p) _ _ (ok_none _) (err_none ParamsInvalid refl)
 
 -- the password is right exactly if the stored key is its key
 pub right_decided : (password : List ℕ) (s : Stored)

@@ -1,51 +1,96 @@
 -- Facts on stored hashes of either format: a text has one reading.
-use Rattle.std.proofs.Common.{◌≡◌, ◌≢◌, ◌∙◌, List, ℕ, [], ◌∷◌, Bool, true, false, Ok, Err, refl, sym, ap}
-use Rattle.std.specs.Prelude.{◌||◌, Option, Some, None, Result, length}
+use Rattle.std.proofs.Common.{◌≡◌, ◌∙◌, List, ℕ, [], ◌∷◌, Bool, true, false, Ok, Err, refl, sym, ap, arith, lit<}
+use Rattle.std.specs.Prelude.{◌||◌, Option, Some, None, Result, codes, length, ok_or}
 use Rattle.std.proofs.lemmas.Bool.{false≢true}
+use Rattle.std.proofs.lemmas.Bool.Decides.{nat_tests}
+use Rattle.password_hash.proofs.McfFacts.{IsMcfText-from_parts}
 use Rattle.password_hash.proofs.OneReading.{one_reading}
-use Rattle.password_hash.specs.Mcf.{IsMcfText}
+use Rattle.password_hash.specs.Mcf.{IsMcfText, fields_of}
+use Rattle.password_hash.specs.Parts.{parts_of}
 use Rattle.password_hash.specs.Phc.{IsHashText}
-use Rattle.password_hash.specs.Refusal.{Refusal, OutOfMemory, PasswordInvalid, refusal}
+use Rattle.password_hash.specs.Refusal.{Refusal, EncodingInvalid, PasswordInvalid, refusal}
 use Rattle.password_hash.specs.declared.error.Error.{Error}
-use Rattle.password_hash.specs.declared.error.Error.TheVariants.{EncodingInvalid}
+use Rattle.password_hash.specs.declared.error.Error.TheVariants as error
 use Rattle.password_hash.specs.declared.phc.hash.PasswordHash.{PasswordHash}
-use Rattle.scrypt.specs.McfHash.{mcf_id, read_mcf}
-use Rattle.scrypt.specs.PhcHash.{both_there, phc_params, scrypt_id}
+use Rattle.scrypt.specs.McfHash.{mcf_id, read_fields, read_mcf}
+use Rattle.scrypt.specs.PhcHash.{phc_params, read_phc}
 use Rattle.scrypt.specs.Accepted.{Parameters}
-use Rattle.scrypt.specs.Reading.{Stored, mapped, stored_of}
-use Rattle.scrypt.specs.StoredHash.{HasReading, IsStoredText, Reads, StoredText, is_mcf_text, key_len_or_zero, mcf}
-use Rattle.scrypt.specs.StoredHash.{of_hash, of_mcf, of_none, of_phc, phc}
+use Rattle.scrypt.specs.Reading.{◌and_then◌, Stored, mapped}
+use Rattle.scrypt.specs.StoredHash.{HasReading, IsStoredText, Reads, StoredText, by_fields, by_hash, is_mcf_text, key_len_or_zero}
+use Rattle.scrypt.specs.StoredHash.{mcf, of_mcf, of_phc, phc, unread}
 use Rattle.scrypt.specs.StoredRead.{IsHashOf, stored_text}
 use Rattle.scrypt.specs.declared.stored_hash.Format.{Format}
 use Rattle.scrypt.specs.declared.stored_hash.Format.TheVariants.{Mcf, Phc}
-use Rattle.scrypt.proofs.McfHashFacts.{is_mcf}
-use Rattle.scrypt.proofs.ReadingFacts.{otherwise, part_otherwise}
+use Rattle.scrypt.proofs.AcceptedFacts.{not_true}
+use Rattle.scrypt.proofs.McfHashFacts.{is_mcf, mcf_none, read_seven}
+use Rattle.scrypt.proofs.PhcHashFacts.{params_none}
+use Rattle.scrypt.proofs.ReadingFacts.{NamesNoPassword, part_none}
 
 -- the text of a hash that was read is read so
 pub reads_as : (text : List ℕ) (format : Format) → IsHashOf text format → Reads text (stored_text text format)
-reads_as text (Mcf hash) read = mcf read.0 read.1
+reads_as text (Mcf hash) read = mcf read.0
 reads_as text (Phc hash params) read = phc read.0 read.1
 
 pub reads_text : (text : List ℕ) (format : Format) → IsHashOf text format → Reads (stored_text text format).text (stored_text text format)
-reads_text text (Mcf hash) read = mcf read.0 read.1
+reads_text text (Mcf hash) read = mcf read.0
 reads_text text (Phc hash params) read = phc read.0 read.1
 
--- a text has one reading
+-- a text is read as one hash
 pub read_once : (text : List ℕ) (one other : StoredText) → Reads text one → Reads text other → one ≡ other
-read_once text one other (mcf seven modular) (mcf seven' modular') = refl
-read_once text one other (mcf seven modular) (phc differs is) = absurd (false≢true (sym differs ∙ seven))
-read_once text one other (phc differs is) (mcf seven modular) = absurd (false≢true (sym differs ∙ seven))
+read_once text one other (mcf seven) (mcf seven') = refl
+read_once text one other (mcf seven) (phc differs is) = absurd (false≢true (sym differs ∙ seven))
+read_once text one other (phc differs is) (mcf seven) = absurd (false≢true (sym differs ∙ seven))
 read_once text one other (phc {hash = hash} differs is) (phc {hash = again} differs' is') =
     ap (of_phc text) (one_reading text hash again is is')
 
+-- a text that is `$7`, or begins with `$7$`, is a `$7$` text
+pub seven_is_mcf : (text : List ℕ) → is_mcf_text text ≡ true → IsMcfText text mcf_id (fields_of text)
+unfolding is_mcf_text fields_of
+seven_is_mcf text seven = IsMcfText-from_parts text mcf_id (fields_of text) (at text seven) (lit< tt, refl)
+  where
+    at : (text : List ℕ) → is_mcf_text text ≡ true → parts_of text ≡ [] ∷ mcf_id ∷ fields_of text
+    at [] seven = absurd (false≢true seven)
+    at (a ∷ []) seven = absurd (grind (arith, nat_tests))
+    at (a ∷ b ∷ []) seven =
+        let first : a ≡ 36 = grind (arith, nat_tests) in
+        let second : b ≡ 55 = grind (arith, nat_tests) in
+        rw (first, second) refl
+    at (a ∷ b ∷ c ∷ rest) seven =
+        let first : a ≡ 36 = grind (arith, nat_tests) in
+        let second : b ≡ 55 = grind (arith, nat_tests) in
+        let third : c ≡ 36 = grind (arith, nat_tests) in
+        rw (first, second, third) refl
+
+-- and is read as such
+seven_read : (text : List ℕ) → is_mcf_text text ≡ true → read_mcf text ≡ read_fields (fields_of text)
+seven_read text seven = read_seven (seven_is_mcf text seven) refl
+
+-- the reading of a text, by the hash that it is read as
+
+pub of_hash : {text : List ℕ} {hash : StoredText} → Reads text hash → HasReading text hash.whole
+of_hash {text} (mcf seven) = rw (seven_read text seven) (by_fields seven)
+of_hash (phc differs is) = by_hash differs is
+
+pub of_none : {text : List ℕ} → ¬ IsStoredText text → HasReading text (Err EncodingInvalid)
+of_none {text} none =
+    let differs = not_true (is_mcf_text text) (λ seven. none (_, mcf seven)) in
+    unread differs (λ is. none (_, phc differs is.1))
+
+-- a text has one reading
 pub whole_once : (text : List ℕ) (one other : Result Stored Refusal) → HasReading text one → HasReading text other → one ≡ other
-whole_once text one other (of_hash reads) (of_hash reads') = ap (λ read. read.whole) (read_once text _ _ reads reads')
-whole_once text one other (of_hash reads) (of_none none) = absurd (none (_, reads))
-whole_once text one other (of_none none) (of_hash reads) = absurd (none (_, reads))
-whole_once text one other (of_none none) (of_none none') = refl
+whole_once text one other (by_fields seven) (by_fields seven') = refl
+whole_once text one other (by_fields seven) (by_hash differs is) = absurd (false≢true (sym differs ∙ seven))
+whole_once text one other (by_fields seven) (unread differs none) = absurd (false≢true (sym differs ∙ seven))
+whole_once text one other (by_hash differs is) (by_fields seven) = absurd (false≢true (sym differs ∙ seven))
+whole_once text one other (by_hash {hash = hash} differs is) (by_hash {hash = again} differs' is') =
+    ap read_phc (one_reading text hash again is is')
+whole_once text one other (by_hash differs is) (unread differs' none) = absurd (none (_, is))
+whole_once text one other (unread differs none) (by_fields seven) = absurd (false≢true (sym differs ∙ seven))
+whole_once text one other (unread differs none) (by_hash differs' is) = absurd (none (_, is))
+whole_once text one other (unread differs none) (unread differs' none') = refl
 
 -- a text that is not read has the reading of its error
-pub none_read : (text : List ℕ) (e : Error) → ¬ IsStoredText text → e ≡ EncodingInvalid → HasReading text (Err (refusal e))
+pub none_read : (text : List ℕ) (e : Error) → ¬ IsStoredText text → e ≡ error.EncodingInvalid → HasReading text (Err (refusal e))
 none_read text e none is = rw is (of_none none)
 
 -- the parameters and the whole of a hash
@@ -55,7 +100,8 @@ mapped_refused f (Ok x) why is = absurd cc
 mapped_refused f (Err other) why is = let same : other ≡ why = cc in ap Err same
 
 phc_whole : (params : Result Parameters Refusal) (salt key : Option (List ℕ)) (s : Stored)
-    → stored_of params (both_there salt key) ≡ Ok s
+    → (params and_then λ c. ok_or salt PasswordInvalid and_then λ salt. ok_or key PasswordInvalid
+    and_then λ key. Ok (record { params = c; salt = salt; key = key })) ≡ Ok s
     → mapped {B = Parameters × ℕ} (λ c. (c, key_len_or_zero key)) params ≡ Ok (s.params, length s.key)
 phc_whole (Ok c) (Some salt) (Some key) s is =
     let read : Stored = record { params = c; salt = salt; key = key } in
@@ -67,29 +113,20 @@ phc_whole (Err why) salt key s is = absurd cc
 
 pub params_of_whole : (text : List ℕ) (hash : StoredText) (s : Stored) → Reads text hash → hash.whole ≡ Ok s
     → hash.params ≡ Ok (s.params, length s.key)
-params_of_whole text hash s (mcf seven modular) is = ap (mapped (λ z. (z.params, length z.key))) is
+params_of_whole text hash s (mcf seven) is = ap (mapped (λ z. (z.params, length z.key))) is
 params_of_whole text hash s (phc {hash = read} differs written) is = phc_whole (phc_params read) read.salt read.hash s is
 
 pub params_refused : (text : List ℕ) (hash : StoredText) (why : Refusal) → Reads text hash → hash.params ≡ Err why
     → hash.whole ≡ Err why
-params_refused text hash why (mcf seven modular) is = mapped_refused _ (read_mcf text) why is
+params_refused text hash why (mcf seven) is = mapped_refused _ (read_mcf text) why is
 params_refused text hash why (phc {hash = read} differs written) is =
     rw (mapped_refused _ (phc_params read) why is) refl
 
--- reading is refused neither as a wrong password nor for memory
+-- its parameters are refused neither as a wrong password nor for memory
 
-pub mcf_otherwise : (text : List ℕ) → (read_mcf text ≢ Err PasswordInvalid) × (read_mcf text ≢ Err OutOfMemory)
-unfolding read_mcf
-mcf_otherwise text = otherwise _
-
-pub params_otherwise : (hash : PasswordHash) → (phc_params hash ≢ Err PasswordInvalid) × (phc_params hash ≢ Err OutOfMemory)
-unfolding phc_params
-params_otherwise hash = otherwise _
-
-pub stored_otherwise : (text : List ℕ) (read : StoredText) → Reads text read
-    → (read.params ≢ Err PasswordInvalid) × (read.params ≢ Err OutOfMemory)
-stored_otherwise text read (mcf seven is) = part_otherwise _ (read_mcf text) (mcf_otherwise text)
-stored_otherwise text read (phc {hash = hash} differs is) = part_otherwise _ (phc_params hash) (params_otherwise hash)
+pub stored_none : (text : List ℕ) (read : StoredText) → Reads text read → NamesNoPassword read.params
+stored_none text read (mcf seven) = part_none _ (read_mcf text) (mcf_none text)
+stored_none text read (phc {hash = hash} differs is) = part_none _ (phc_params hash) (params_none hash)
 
 or_true : (b : Bool) → (b || true) ≡ true
 or_true true = refl
@@ -102,14 +139,14 @@ mcf_is_seven {fields = []} is = rw is.written refl
 mcf_is_seven {fields = field ∷ fields} is = rw is.written (or_true _)
 
 -- the text of a PHC hash of scrypt is read as a PHC text
-pub scrypt_is_phc : {text : List ℕ} {hash : PasswordHash} → IsHashText text hash → hash.algorithm ≡ scrypt_id → is_mcf_text text ≡ false
+pub scrypt_is_phc : {text : List ℕ} {hash : PasswordHash} → IsHashText text hash → hash.algorithm ≡ codes "scrypt" → is_mcf_text text ≡ false
 unfolding is_mcf_text
 scrypt_is_phc is named = rw (is.whole, named) refl
 
 -- a hash that is read in its format is read so by its text
 
 pub made_mcf : (text : List ℕ) {s : Stored} → read_mcf text ≡ Ok s → Reads text (of_mcf text)
-made_mcf text is = let parts = is_mcf is in mcf (mcf_is_seven parts.1) (mcf_id, parts.0, parts.1)
+made_mcf text is = mcf (mcf_is_seven (is_mcf is).1)
 
-pub made_phc : (text : List ℕ) (hash : PasswordHash) → IsHashText text hash → hash.algorithm ≡ scrypt_id → Reads text (of_phc text hash)
+pub made_phc : (text : List ℕ) (hash : PasswordHash) → IsHashText text hash → hash.algorithm ≡ codes "scrypt" → Reads text (of_phc text hash)
 made_phc text hash is named = phc (scrypt_is_phc is named) is

@@ -23,8 +23,7 @@ AreAccepted log_n r p =
 
 -- the test of that
 unfoldable pub are_accepted : ℕ → ℕ → ℕ → Bool
-are_accepted log_n r p =
-    (nat_lt 0 r && nat_lt 0 p) && (nat_lt (128 * r * 2 ^ log_n) (2 ^ 64) && nat_lt (r * p) (2 ^ 30))
+are_accepted log_n r p = (nat_lt 0 r && nat_lt 0 p) && (nat_lt (128 * r * 2 ^ log_n) (2 ^ 64) && nat_lt (r * p) (2 ^ 30))
 
 -- an output of this many bytes can be derived: dkLen is at least 1 and at most (2 ^ 32 - 1) * 32
 abbrev pub IsOutputLen : ℕ → Type 0

@@ -43,8 +43,6 @@ pub mod PhcHash
 pub mod PhcConversions
 -- five-letter numbers, and the parameters of a `$7$` text
 pub mod McfCosts
--- the bytes that letters of crypt Base64 encode
-pub mod McfKey
 -- `$7$` hashes that are made, and those that are whole
 pub mod McfHash
 -- stored hashes of either format, by their texts

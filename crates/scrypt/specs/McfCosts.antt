@@ -1,9 +1,10 @@
 -- Five-letter numbers, and the parameters with which the first field of a `$7$` text of crypt(5) begins.
 use Rattle.std.specs.Prelude.{ℕ, nat_lt, if◌then◌else◌, List, ◌∷◌, ◌++◌, codes, length, slice_index, take, drop}
-use Rattle.std.specs.Prelude.{Option, None, Some, unwrap_or, Result, Err}
+use Rattle.std.specs.Prelude.{Option, None, ok_or, unwrap_or, Result, Err}
 use Rattle.password_hash.specs.Crypt64.{letter, letter_value, letters_of, number_of}
+use Rattle.password_hash.specs.Refusal.{Refusal, EncodingInvalid}
 use Rattle.scrypt.specs.Accepted.{Parameters}
-use Rattle.scrypt.specs.Reading.{ReadError, EncodingInvalid, checked}
+use Rattle.scrypt.specs.Reading.{◌and_then◌, checked}
 
 -- the five-letter number at the front of a text, the lowest letter first: none if there are fewer
 -- than five bytes, or one of the five is not a letter
@@ -18,16 +19,10 @@ cost_letters log_n r p = letter log_n ∷ (letters_of 5 r ++ letters_of 5 p)
 abbrev pub costs_text : Parameters → List ℕ
 costs_text c = codes "$7$" ++ cost_letters c.log_n c.r c.p
 
--- the parameters of these numbers, if they are there
-abbrev pub params_of : ℕ → Option ℕ → Option ℕ → Result Parameters ReadError
-params_of log_n (Some r) (Some p) = checked log_n r p
-params_of log_n _ _ = Err EncodingInvalid
-
 -- The parameters that the first eleven bytes of a field encode: log_n in one letter, r and p in five letters
 -- each. A first byte below 128 that is not a letter reads as 255. The rest of the field is the salt.
-unfoldable pub field_params : List ℕ → Result Parameters ReadError
-field_params field =
-    let first = slice_index field 0 in
-    if nat_lt first 128
-    then params_of (unwrap_or (letter_value first) 255) (five_letter_number (drop 1 field)) (five_letter_number (drop 6 field))
-    else Err EncodingInvalid
+unfoldable pub field_params : List ℕ → Result Parameters Refusal
+field_params field = if nat_lt (slice_index field 0) 128 then (
+    ok_or (five_letter_number (drop 1 field)) EncodingInvalid and_then λ r.
+    ok_or (five_letter_number (drop 6 field)) EncodingInvalid and_then λ p.
+    checked (unwrap_or (letter_value (slice_index field 0)) 255) r p) else Err EncodingInvalid

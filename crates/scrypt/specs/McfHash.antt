@@ -1,43 +1,39 @@
 -- `$7$` hashes of crypt(5): how their texts are read, and which are made.
-use Rattle.std.specs.Prelude.{◌≡◌, ℕ, ◌+◌, List, [], ◌∷◌, length, drop, codes, if◌then◌else◌, Option, None, Some, Result, Ok, Err, ⊤}
+use Rattle.std.specs.Prelude.{◌≡◌, ℕ, ◌+◌, List, [], ◌∷◌, length, drop, codes, if◌then◌else◌, Option, ok_or, Result, Ok, Err, ⊤}
 use Rattle.std.specs.Str.{bytes_eq}
-use Rattle.password_hash.specs.Crypt64.{crypt64_of, encoded_len}
+use Rattle.password_hash.specs.Crypt64.{crypt64_of, decoded, encoded_len}
 use Rattle.password_hash.specs.Parts.{parts_of}
-use Rattle.password_hash.specs.Refusal.{Refusal}
+use Rattle.password_hash.specs.Refusal.{Refusal, Algorithm, EncodingInvalid, OutputSize}
 use Rattle.scrypt.specs.Accepted.{Parameters, is_output_len, without_len}
 use Rattle.scrypt.specs.KeyOfParams.{key_by}
 use Rattle.scrypt.specs.McfCosts.{field_params}
-use Rattle.scrypt.specs.McfKey.{decoded}
 use Rattle.scrypt.specs.Hashing.{HashingIsRefused, IsNamedOrNone, key_len_or_default}
-use Rattle.scrypt.specs.Reading.{ReadError, Algorithm, EncodingInvalid, OutputSize, Stored, reported, stored_of}
+use Rattle.scrypt.specs.Reading.{◌and_then◌, Stored}
 
 -- the id of `$7$` texts
 abbrev pub mcf_id : List ℕ
 mcf_id = codes "7"
 
--- a salt and a key of an accepted output length
-unfoldable pub with_key : List ℕ → Option (List ℕ) → Result (List ℕ × List ℕ) ReadError
-with_key salt (Some key) = if is_output_len (length key) then Ok (salt, key) else Err OutputSize
-with_key salt None = Err EncodingInvalid
+-- the key in crypt Base64 that one field encodes, of an accepted output length
+abbrev pub read_key : List (List ℕ) → Result (List ℕ) Refusal
+read_key (letters ∷ []) =
+    ok_or (decoded letters) EncodingInvalid and_then λ key. if is_output_len (length key) then Ok key else Err OutputSize
+read_key _ = Err EncodingInvalid
 
--- the salt, and the key in crypt Base64 that one more field encodes
-abbrev pub salt_and_key : List ℕ → List (List ℕ) → Result (List ℕ × List ℕ) ReadError
-salt_and_key salt (letters ∷ []) = with_key salt (decoded letters)
-salt_and_key salt _ = Err EncodingInvalid
-
--- the first field encodes parameters, and after them is the salt
-abbrev pub read_fields : List (List ℕ) → Result Stored ReadError
+-- the first field encodes parameters, and after them is the salt; one more field encodes the key
+abbrev pub read_fields : List (List ℕ) → Result Stored Refusal
+read_fields (field ∷ after) = field_params field and_then λ c. read_key after and_then λ key.
+    Ok (record { params = c; salt = drop 11 field; key = key })
 read_fields [] = Err EncodingInvalid
-read_fields (field ∷ after) = stored_of (field_params field) (salt_and_key (drop 11 field) after)
 
 -- a text whose parts are nothing, the id `7` and fields; any other id is another algorithm
-abbrev pub read_parts : List (List ℕ) → Result Stored ReadError
+abbrev pub read_parts : List (List ℕ) → Result Stored Refusal
 read_parts ([] ∷ id ∷ fields) = if bytes_eq id mcf_id then read_fields fields else Err Algorithm
 read_parts _ = Err EncodingInvalid
 
 -- the reading of a text
 unfoldable pub read_mcf : List ℕ → Result Stored Refusal
-read_mcf text = reported (read_parts (parts_of text))
+read_mcf text = read_parts (parts_of text)
 
 -- the text is the hash that these parameters make of a password and a salt: the salt of the
 -- derivation is the letters of the salt in the text

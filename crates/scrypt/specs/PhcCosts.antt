@@ -1,32 +1,25 @@
 -- Parameters of scrypt, read from the pairs of the PHC string format and written as such.
-use Rattle.std.specs.Prelude.{ℕ, ◌^◌, if◌then◌else◌, List, [], ◌∷◌, codes, decimal, Result, Ok, Err, ok_or}
+use Rattle.std.specs.Prelude.{ℕ, ◌^◌, if◌then◌else◌, List, [], ◌∷◌, codes, decimal, Result, Err, ok_or}
 use Rattle.std.specs.Str.{bytes_eq}
 use Rattle.password_hash.specs.Decimal.{decimal_below}
+use Rattle.password_hash.specs.Refusal.{Refusal, ParamInvalid, ParamsInvalid}
 use Rattle.scrypt.specs.Accepted.{Parameters}
-use Rattle.scrypt.specs.Reading.{ReadError, ParamInvalid, ParamsInvalid, checked}
-
--- the number of a parameter of this name, which has to be a decimal below the limit
-unfoldable pub number_below : List ℕ → ℕ → List ℕ → Result ℕ ReadError
-number_below name limit text = ok_or (decimal_below limit text) (ParamInvalid name)
-
--- what is read with the number, or its error
-abbrev pub with_number : {E : Type 0} → Result ℕ E → (ℕ → Result Parameters E) → Result Parameters E
-with_number (Ok n) rest = rest n
-with_number (Err why) rest = Err why
+use Rattle.scrypt.specs.Reading.{◌and_then◌, checked}
 
 -- The pairs are read in order and replace log_n, r and p, and the first pair that is refused gives
 -- the error. `ln` is a decimal of at most 255, `r` and `p` are decimals, and any other name is
 -- refused. At the end the numbers have to be accepted.
-unfoldable pub read_pairs : ℕ → ℕ → ℕ → List (List ℕ × List ℕ) → Result Parameters ReadError
+unfoldable pub read_pairs : ℕ → ℕ → ℕ → List (List ℕ × List ℕ) → Result Parameters Refusal
 read_pairs log_n r p [] = checked log_n r p
 read_pairs log_n r p (pair ∷ pairs) =
-    if bytes_eq pair.0 (codes "ln") then with_number (number_below (codes "ln") 256 pair.1) (λ n. read_pairs n r p pairs)
-    else if bytes_eq pair.0 (codes "r") then with_number (number_below (codes "r") (2 ^ 32) pair.1) (λ n. read_pairs log_n n p pairs)
-    else if bytes_eq pair.0 (codes "p") then with_number (number_below (codes "p") (2 ^ 32) pair.1) (λ n. read_pairs log_n r n pairs)
+    let below = λ (limit : ℕ). ok_or (decimal_below limit pair.1) (ParamInvalid pair.0) in
+    if bytes_eq pair.0 (codes "ln") then (below 256 and_then λ n. read_pairs n r p pairs)
+    else if bytes_eq pair.0 (codes "r") then (below (2 ^ 32) and_then λ n. read_pairs log_n n p pairs)
+    else if bytes_eq pair.0 (codes "p") then (below (2 ^ 32) and_then λ n. read_pairs log_n r n pairs)
     else Err ParamsInvalid
 
 -- the parameters that the pairs of a hash encode: log_n, r and p begin as 17, 8 and 1
-abbrev pub params_of_pairs : List (List ℕ × List ℕ) → Result Parameters ReadError
+abbrev pub params_of_pairs : List (List ℕ × List ℕ) → Result Parameters Refusal
 params_of_pairs pairs = read_pairs 17 8 1 pairs
 
 -- the pairs that these parameters are written as

@@ -1,18 +1,14 @@
 -- Hashes of scrypt in the PHC string format: which are made, and how they are read.
-use Rattle.std.specs.Prelude.{◌≡◌, ℕ, ◌≤◌, List, length, codes, if◌then◌else◌, Option, None, Some, Result, Ok, Err}
+use Rattle.std.specs.Prelude.{◌≡◌, ℕ, ◌≤◌, List, length, codes, if◌then◌else◌, Option, None, Some, is_some, not, ok_or, Result, Ok, Err}
 use Rattle.std.specs.Str.{bytes_eq}
 use Rattle.password_hash.specs.Phc.{hash_text}
-use Rattle.password_hash.specs.Refusal.{Refusal, PasswordInvalid}
+use Rattle.password_hash.specs.Refusal.{Refusal, Algorithm, PasswordInvalid, Version}
 use Rattle.password_hash.specs.declared.phc.hash.PasswordHash.{PasswordHash}
 use Rattle.scrypt.specs.Accepted.{Parameters}
 use Rattle.scrypt.specs.KeyOfParams.{key_by}
 use Rattle.scrypt.specs.PhcCosts.{params_of_pairs, written_pairs}
 use Rattle.scrypt.specs.Hashing.{HashingIsRefused, IsNamedOrNone, key_len_or_default}
-use Rattle.scrypt.specs.Reading.{ReadError, Algorithm, Version, Stored, reported, stored_of}
-
--- the name of the algorithm
-abbrev pub scrypt_id : List ℕ
-scrypt_id = codes "scrypt"
+use Rattle.scrypt.specs.Reading.{◌and_then◌, Stored}
 
 -- a salt of a PHC hash: 1 to 64 bytes
 abbrev pub IsSaltLen : ℕ → Type 0
@@ -20,7 +16,7 @@ IsSaltLen n = (1 ≤ n) × (n ≤ 64)
 
 -- the hash that these parameters make of a password and a salt
 pub record IsMadeHash (c : Parameters) (password salt : List ℕ) (hash : PasswordHash) : Type 0 where
-  pub algorithm : hash.algorithm ≡ scrypt_id
+  pub algorithm : hash.algorithm ≡ codes "scrypt"
   pub version : hash.version ≡ None
   pub params : hash.params ≡ written_pairs c
   pub salt_len : IsSaltLen (length salt)
@@ -33,27 +29,19 @@ IsMadeText c password salt text = (hash : PasswordHash) × IsMadeHash c password
 
 -- the caller named no algorithm but scrypt
 abbrev pub IsScryptOrNone : Option (List ℕ) → Type 0
-IsScryptOrNone = IsNamedOrNone scrypt_id
+IsScryptOrNone = IsNamedOrNone (codes "scrypt")
 
 -- the errors of hashing
 abbrev pub HashIsRefused : List ℕ → Option (List ℕ) → Option ℕ → Refusal → Type 0
-HashIsRefused salt = HashingIsRefused scrypt_id (IsSaltLen (length salt))
+HashIsRefused salt = HashingIsRefused (codes "scrypt") (IsSaltLen (length salt))
 
--- what is read of a hash that has no version
-abbrev pub without_version : {A : Type 0} → Option ℕ → Result A ReadError → Result A ReadError
-without_version None reading = reading
-without_version (Some version) reading = Err Version
-
--- the parameters of a hash: of scrypt, without a version
+-- the parameters of a hash: of scrypt, and without a version
 unfoldable pub phc_params : PasswordHash → Result Parameters Refusal
-phc_params hash =
-    reported (if bytes_eq hash.algorithm scrypt_id then without_version hash.version (params_of_pairs hash.params) else Err Algorithm)
+phc_params hash = if not (bytes_eq hash.algorithm (codes "scrypt")) then Err Algorithm
+    else if is_some hash.version then Err Version
+    else params_of_pairs hash.params
 
--- a salt and a key, which both have to be there
-abbrev pub both_there : Option (List ℕ) → Option (List ℕ) → Result (List ℕ × List ℕ) Refusal
-both_there (Some salt) (Some key) = Ok (salt, key)
-both_there _ _ = Err PasswordInvalid
-
--- the reading of a hash
+-- the reading of a hash, whose salt and key both have to be there
 abbrev pub read_phc : PasswordHash → Result Stored Refusal
-read_phc hash = stored_of (phc_params hash) (both_there hash.salt hash.hash)
+read_phc hash = phc_params hash and_then λ c. ok_or hash.salt PasswordInvalid and_then λ salt.
+    ok_or hash.hash PasswordInvalid and_then λ key. Ok (record { params = c; salt = salt; key = key })

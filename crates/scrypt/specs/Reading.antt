@@ -2,37 +2,20 @@
 use Rattle.std.specs.Prelude.{◌≡◌, ◌⊎◌, ℕ, Bool, nat_lt, ◌||◌, if◌then◌else◌, List, length, None, Result, Ok, Err, IsOk, ⊤}
 use Rattle.std.specs.Result.{result_map_both}
 use Rattle.std.specs.Str.{bytes_eq}
-use Rattle.password_hash.specs.Refusal as refusals
-use Rattle.password_hash.specs.Refusal.{Refusal, OutOfMemory, PasswordInvalid}
+use Rattle.password_hash.specs.Refusal.{Refusal, OutOfMemory, ParamsInvalid, PasswordInvalid}
 pub use Rattle.password_hash.specs.Refusal.{told}
 use Rattle.scrypt.specs.Accepted.{Parameters, are_accepted}
 use Rattle.scrypt.specs.Hashing.{key_len_or_default}
-use Rattle.scrypt.specs.KeyOfParams.{key_by}
+use Rattle.scrypt.specs.Key.{derived_key}
 
--- the errors of reading parameters, and of reading a `$7$` text
-pub data ReadError : Type 0 where
-  Algorithm : ReadError
-  EncodingInvalid : ReadError
-  OutputSize : ReadError
-  ParamInvalid : List ℕ → ReadError
-  ParamsInvalid : ReadError
-  Version : ReadError
-
--- the same errors, as verifying returns them
-abbrev pub refusal_of : ReadError → Refusal
-refusal_of Algorithm = refusals.Algorithm
-refusal_of EncodingInvalid = refusals.EncodingInvalid
-refusal_of OutputSize = refusals.OutputSize
-refusal_of (ParamInvalid name) = refusals.ParamInvalid name
-refusal_of ParamsInvalid = refusals.ParamsInvalid
-refusal_of Version = refusals.Version
-
--- what was read, or its error as verifying returns it
-abbrev pub reported : {A : Type 0} → Result A ReadError → Result A Refusal
-reported reading = result_map_both (λ x. x) refusal_of reading
+-- the second step, if the first gave a value
+infixl 10 ◌and_then◌
+abbrev pub ◌and_then◌ : {A B E : Type 0} → Result A E → (A → Result B E) → Result B E
+Ok x and_then f = f x
+Err why and_then f = Err why
 
 -- accepted numbers as parameters, without a length
-unfoldable pub checked : ℕ → ℕ → ℕ → Result Parameters ReadError
+unfoldable pub checked : ℕ → ℕ → ℕ → Result Parameters Refusal
 checked log_n r p =
     if are_accepted log_n r p then Ok (record { log_n = log_n; r = r; p = p; output_len = None }) else Err ParamsInvalid
 
@@ -42,21 +25,14 @@ pub record Stored : Type 0 where
   pub salt : List ℕ
   pub key : List ℕ
 
--- the reading of a hash with these parameters, this salt and this key: the error of the parameters is first
-abbrev pub stored_of : {E : Type 0} → Result Parameters E → Result (List ℕ × List ℕ) E → Result Stored E
-stored_of (Ok c) (Ok parts) = Ok (record { params = c; salt = parts.0; key = parts.1 })
-stored_of (Ok c) (Err why) = Err why
-stored_of (Err why) parts = Err why
-
 -- whether the password is that of the hash: the stored key is the derived key of its length, by the parameters
 -- and the salt of the hash
 unfoldable pub is_right : List ℕ → Stored → Bool
-is_right password s = bytes_eq s.key (key_by s.params password s.salt (length s.key))
+is_right password s = bytes_eq s.key (derived_key password s.salt s.params.log_n s.params.r s.params.p (length s.key))
 
 -- the verdict of verifying, if no allocation fails
 abbrev pub verdict : List ℕ → Result Stored Refusal → Result ⊤ Refusal
-verdict password (Ok s) = if is_right password s then Ok tt else Err PasswordInvalid
-verdict password (Err why) = Err why
+verdict password reading = reading and_then λ s. if is_right password s then Ok tt else Err PasswordInvalid
 
 -- the verdict, or, only where keys are compared, that an allocation failed
 abbrev pub IsVerdict : List ℕ → Result Stored Refusal → Result ⊤ Refusal → Type 0

@@ -1,20 +1,18 @@
 -- Stored hashes of either format, by their texts: which text is read in which format, and how.
 use Rattle.std.specs.Prelude.{◌≡◌, ℕ, ◌==◌, ◌&&◌, ◌||◌, Bool, true, false, List, length, slice_index}
-use Rattle.std.specs.Prelude.{Option, option_map, unwrap_or, Result, Ok, Err}
-use Rattle.password_hash.specs.Mcf.{IsMcf}
+use Rattle.std.specs.Prelude.{Option, option_map, unwrap_or, Result, Err}
+use Rattle.password_hash.specs.Mcf.{fields_of}
 use Rattle.password_hash.specs.Phc.{IsHashText}
-use Rattle.password_hash.specs.Refusal.{Refusal, EncodingInvalid, refusal}
-use Rattle.password_hash.specs.declared.error.Error.{Error}
+use Rattle.password_hash.specs.Refusal.{Refusal, EncodingInvalid}
 use Rattle.password_hash.specs.declared.phc.hash.PasswordHash.{PasswordHash}
 use Rattle.scrypt.specs.Accepted.{Parameters}
-use Rattle.scrypt.specs.McfHash.{read_mcf}
+use Rattle.scrypt.specs.McfHash.{read_fields, read_mcf}
 use Rattle.scrypt.specs.PhcHash.{phc_params, read_phc}
 use Rattle.scrypt.specs.Reading.{Stored, mapped}
 
 -- the text is `$7` or begins with `$7$`: it is read as a `$7$` text, and any other as a PHC text
 unfoldable pub is_mcf_text : List ℕ → Bool
-is_mcf_text text = slice_index text 0 == 36 && slice_index text 1 == 55
-    && (length text == 2 || slice_index text 2 == 36)
+is_mcf_text text = slice_index text 0 == 36 && slice_index text 1 == 55 && (length text == 2 || slice_index text 2 == 36)
 
 -- A stored hash: its text, its parameters and the length of its key, and the whole of it. A PHC hash without a
 -- salt or a key has parameters too, and the length 0 if it has no key.
@@ -39,23 +37,19 @@ of_phc text hash =
 
 -- the text is read so; any other text is `EncodingInvalid`
 pub data Reads (text : List ℕ) : StoredText → Type 0 where
-  mcf : is_mcf_text text ≡ true → IsMcf text → Reads text (of_mcf text)
+  mcf : is_mcf_text text ≡ true → Reads text (of_mcf text)
   phc : {hash : PasswordHash} → is_mcf_text text ≡ false → IsHashText text hash → Reads text (of_phc text hash)
 
 -- the text is that of a stored hash
 abbrev pub IsStoredText : List ℕ → Type 0
 IsStoredText text = (hash : StoredText) × Reads text hash
 
--- The reading of any text: that of its stored hash, or `EncodingInvalid` if it is not the text of one.
+-- The reading of any text: of a `$7$` text by its fields, and of a PHC text by its hash.
 pub data HasReading (text : List ℕ) : Result Stored Refusal → Type 0 where
-  of_hash : {hash : StoredText} → Reads text hash → HasReading text hash.whole
-  of_none : ¬ IsStoredText text → HasReading text (Err EncodingInvalid)
+  by_fields : is_mcf_text text ≡ true → HasReading text (read_fields (fields_of text))
+  by_hash : {hash : PasswordHash} → is_mcf_text text ≡ false → IsHashText text hash → HasReading text (read_phc hash)
+  unread : is_mcf_text text ≡ false → ¬ ((hash : PasswordHash) × IsHashText text hash) → HasReading text (Err EncodingInvalid)
 
 -- this is so of the reading of a text
 abbrev pub ByReading : List ℕ → (Result Stored Refusal → Type 0) → Type 0
 ByReading text P = (reading : Result Stored Refusal) × HasReading text reading × P reading
-
--- the reading of a text, by the result of `StoredHash::read`
-abbrev pub reading_of : Result StoredText Error → Result Stored Refusal
-reading_of (Ok hash) = hash.whole
-reading_of (Err e) = Err (refusal e)

@@ -6,7 +6,7 @@ use Rattle.scrypt_kernel.specs.declared.cores.CoreCount.{CoreCount}
 use Rattle.scrypt.specs.Accepted.{Parameters}
 use Rattle.scrypt.specs.Cost.{chunks_bytes, cost, scratch_words, table_words}
 use Rattle.scrypt.specs.InBuffers.{IsWiped}
-use Rattle.scrypt.specs.Reading.{Stored, told, verdict}
+use Rattle.scrypt.specs.Reading.{◌and_then◌, Stored, told, verdict}
 
 -- the buffers and the count
 pub record Work : Type 0 where
@@ -48,8 +48,7 @@ pub record IsDone (c : Parameters) (before after : Work) : Type 0 where
 
 -- the verdict of verifying in this memory: `OutOfMemory` if keys would be compared, and a buffer is too short
 abbrev pub verdict_in : Work → List ℕ → Result Stored Refusal → Result ⊤ Refusal
-verdict_in w password (Ok s) = if has_room s.params w then verdict password (Ok s) else Err OutOfMemory
-verdict_in w password (Err why) = Err why
+verdict_in w password reading = reading and_then λ s. if has_room s.params w then verdict password reading else Err OutOfMemory
 
 -- what verifying leaves: a derivation was done if keys were compared, and nothing changed if not
 abbrev pub IsLeft : Result Stored Refusal → Work → Work → Type 0

@@ -4,8 +4,8 @@ ghost use Rattle.std.specs.Prelude.{◌≡◌, ◌≢◌, ◌↔◌, Err, IfErr,
 ghost use Rattle.password_hash.specs.Refusal.{PasswordInvalid};
 ghost use Rattle.password_hash.specs.declared.error.Error.TheVariants.{EncodingInvalid};
 ghost use Rattle.scrypt.specs.Cost.{chunks_bytes, scratch_words, table_words};
-ghost use Rattle.scrypt.specs.Reading.{IsVerdict, mapped, told, weaker};
-ghost use Rattle.scrypt.specs.StoredHash.{HasReading, IsStoredText, Reads, is_mcf_text, key_len_or_zero, reading_of};
+ghost use Rattle.scrypt.specs.Reading.{◌and_then◌, IsVerdict, mapped, told, weaker};
+ghost use Rattle.scrypt.specs.StoredHash.{HasReading, IsStoredText, Reads, is_mcf_text, key_len_or_zero};
 ghost use Rattle.scrypt.specs.StoredRead.{IsHashOf};
 ghost use Rattle.scrypt.specs.WorkInBuffers.{IsLeft, verdict_in, work_in};
 
@@ -59,7 +59,7 @@ impl<'a> StoredHash<'a> {
         ensures exact { IsOk result ↔ IsStoredText text.now }
         ensures ok { IfOk result (Reads text.now) }
         ensures err { IfErr result (λ e. e ≡ EncodingInvalid) }
-        ensures reading { HasReading text.now (reading_of result) }
+        ensures reading { HasReading text.now (told result and_then λ hash. hash.whole) }
     {
         match read_format(text) {
             Ok(format) => Ok(StoredHash { text, format }),

@@ -11,7 +11,6 @@ use Rattle.scrypt.specs.Hashing.{key_len_or_default}
 use Rattle.scrypt.specs.KeyOfParams.{key_by}
 use Rattle.scrypt.specs.McfCosts.{costs_text}
 use Rattle.scrypt.specs.PhcCosts.{written_pairs}
-use Rattle.scrypt.specs.PhcHash.{scrypt_id}
 use Rattle.scrypt.specs.Reading.{Stored, verdict, weaker}
 use Rattle.scrypt.specs.declared.limits.Limits.{Limits}
 use Rattle.scrypt.specs.StoredHash.{ByReading}
@@ -46,7 +45,7 @@ refusal_of error = record { status = status_of error; line = []; error = error_l
 -- the text of the PHC hash that parameters make of a password and a salt
 unfoldable pub phc_text : Parameters → List ℕ → List ℕ → List ℕ
 phc_text c password salt = hash_text (record {
-  algorithm = scrypt_id;
+  algorithm = codes "scrypt";
   version = None;
   params = written_pairs c;
   salt = Some salt;

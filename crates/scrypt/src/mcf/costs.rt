@@ -3,7 +3,6 @@
 ghost use Rattle.std.specs.Prelude.{◌≡◌, drop, Ok, Err, IfOk, IfErr};
 ghost use Rattle.password_hash.specs.Refusal.{refusal};
 ghost use Rattle.scrypt.specs.McfCosts.{field_params};
-ghost use Rattle.scrypt.specs.Reading.{reported};
 
 use crate::Params;
 use crate::mcf::five_letters::decode64_uint32;
@@ -22,7 +21,7 @@ use password_hash::{Error, Result};
 pub fn decode_params_and_salt(text: &str) -> Result<(Params, &[u8])>
     ensures params { IfOk result (λ read. field_params text.now ≡ Ok read.0) }
     ensures salt { IfOk result (λ read. read.1.now ≡ drop 11 text.now) }
-    ensures err { IfErr result (λ e. reported (field_params text.now) ≡ Err (refusal e)) }
+    ensures err { IfErr result (λ e. field_params text.now ≡ Err (refusal e)) }
 {
     let bytes = text.as_bytes();
     let Some(first) = bytes.first() else {

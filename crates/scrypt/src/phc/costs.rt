@@ -1,11 +1,13 @@
 // Conversions between parameters and the PHC format.
 
-ghost use Rattle.std.specs.Prelude.{◌≡◌, ◌^◌, codes};
+ghost use Rattle.std.specs.Prelude.{◌≡◌, ◌^◌, codes, ok_or};
+ghost use Rattle.password_hash.specs.Decimal.{decimal_below};
+ghost use Rattle.password_hash.specs.Refusal.{ParamInvalid};
 ghost use Rattle.password_hash.specs.Value.{value_text};
 ghost use Rattle.scrypt.specs.Accepted.{IsStoredLen};
 ghost use Rattle.scrypt.specs.PhcConversions.{Writes, output_len_of, params_with_len};
-ghost use Rattle.scrypt.specs.PhcCosts.{number_below, params_of_pairs, written_pairs};
-ghost use Rattle.scrypt.specs.Reading.{reported, told};
+ghost use Rattle.scrypt.specs.PhcCosts.{params_of_pairs, written_pairs};
+ghost use Rattle.scrypt.specs.Reading.{told};
 
 use crate::Params;
 use password_hash::phc::{ParamsString, PasswordHash, Value};
@@ -14,7 +16,7 @@ use password_hash::{Error, Result};
 impl TryFrom<&ParamsString> for Params {
     type Error = Error;
 
-    ghost try_from_gives = { λ text answer. told answer ≡ reported (params_of_pairs text.now) };
+    ghost try_from_gives = { λ text answer. told answer ≡ params_of_pairs text.now };
 
     /// Reads the parameters `ln`, `r` and `p`. A missing one has its recommended value, and the result
     /// has no length of a stored key.
@@ -30,7 +32,7 @@ impl TryFrom<&ParamsString> for Params {
 
 // Reads `ln`, `r` and `p`.
 fn params_of_pairs(text: &ParamsString) -> Result<Params>
-    ensures { told result ≡ reported (params_of_pairs text.now) }
+    ensures { told result ≡ params_of_pairs text.now }
 {
     let mut log_n = Params::RECOMMENDED_LOG_N;
     let mut r = Params::RECOMMENDED_R;
@@ -52,7 +54,7 @@ fn params_of_pairs(text: &ParamsString) -> Result<Params>
 // Returns the value of `ln`, a decimal of at most 255.
 #[tactic(auto, using(crate::proofs::PhcReadingFacts::number_taken, crate::proofs::PhcReadingFacts::number_large, crate::proofs::PhcReadingFacts::no_number))]
 fn log_n_of(value: Value<'_>) -> Result<u8>
-    ensures { told result ≡ reported (number_below (codes "ln") 256 (value_text value.entry)) }
+    ensures { told result ≡ ok_or (decimal_below 256 (value_text value.entry)) (ParamInvalid (codes "ln")) }
 {
     let refused = Err(Error::ParamInvalid { name: "ln" });
     let Ok(number) = value.decimal() else {
@@ -67,7 +69,7 @@ fn log_n_of(value: Value<'_>) -> Result<u8>
 // Returns the value of a parameter, a decimal.
 #[tactic(auto, using(crate::proofs::PhcReadingFacts::number_taken, crate::proofs::PhcReadingFacts::number_large, crate::proofs::PhcReadingFacts::no_number))]
 fn number_of(value: Value<'_>, name: &'static str) -> Result<u32>
-    ensures { told result ≡ reported (number_below name.now (2 ^ 32) (value_text value.entry)) }
+    ensures { told result ≡ ok_or (decimal_below (2 ^ 32) (value_text value.entry)) (ParamInvalid name.now) }
 {
     match value.decimal() {
         Ok(number) => Ok(number),
@@ -78,7 +80,7 @@ fn number_of(value: Value<'_>, name: &'static str) -> Result<u32>
 impl TryFrom<&PasswordHash> for Params {
     type Error = Error;
 
-    ghost try_from_gives = { λ hash answer. told answer ≡ reported (params_with_len hash.now) };
+    ghost try_from_gives = { λ hash answer. told answer ≡ params_with_len hash.now };
 
     /// Reads the parameters of a hash, with the length of its key, or 32 if it has no key. The algorithm
     /// is ignored.

@@ -1,8 +1,8 @@
 // Reading PHC hashes.
 
-ghost use Rattle.std.specs.Prelude.{◌≡◌, ◌↔◌, Ok, Err, IfErr, IfOk, IsTrue};
+ghost use Rattle.std.specs.Prelude.{◌≡◌, ◌↔◌, codes, Ok, Err, IfErr, IfOk, IsTrue};
 ghost use Rattle.password_hash.specs.Refusal.{refusal};
-ghost use Rattle.scrypt.specs.PhcHash.{phc_params, read_phc, scrypt_id};
+ghost use Rattle.scrypt.specs.PhcHash.{phc_params, read_phc};
 ghost use Rattle.scrypt.specs.Reading.{told};
 
 use crate::Params;
@@ -64,7 +64,7 @@ pub(crate) fn read_params(hash: &PasswordHash) -> Result<Params>
 
 // Returns whether `id` is the name of scrypt.
 fn is_scrypt(id: &Ident) -> bool
-    ensures { IsTrue result ↔ (id.now ≡ scrypt_id) }
+    ensures { IsTrue result ↔ (id.now ≡ codes "scrypt") }
 {
     *id == ALG_ID
 }

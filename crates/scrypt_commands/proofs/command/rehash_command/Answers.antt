@@ -1,6 +1,6 @@
 use Rattle.std.proofs.Common.{inr, refl, sym}
 use Rattle.std.proofs.lemmas.Result.{err_from_is_err_and}
-use Rattle.scrypt.specs.StoredHash.{of_hash, of_none}
+use Rattle.scrypt.proofs.StoredHashFacts.{of_hash, of_none}
 use Rattle.scrypt_commands.proofs.CommandFacts.{rehash_asked, rehash_refused}
 use Rattle.scrypt_commands.proofs.OutcomeFacts.{unread_within}
 use Rattle.scrypt_commands.proofs.command.rehash_command.Goals as goal

@@ -1,5 +1,5 @@
 use Rattle.std.proofs.Common.{inr, refl, sym}
-use Rattle.scrypt.specs.StoredHash.{of_hash, of_none}
+use Rattle.scrypt.proofs.StoredHashFacts.{of_hash, of_none}
 use Rattle.scrypt_commands.specs.Command.{command_request}
 use Rattle.scrypt_commands.proofs.OutcomeFacts.{unread_within}
 use Rattle.scrypt_commands.proofs.command.verify_command.Goals as goal

@@ -1,32 +1,35 @@
 use Rattle.std.proofs.Common.{◌≡◌, ◌∙◌, List, ℕ, [], ◌∷◌, Some, None, Ok, true, false, refl, sym, ap, ap₂}
 use Rattle.std.specs.Iterator.{YieldsFirstBy}
-use Rattle.std.specs.Prelude.{Option, Result, drop, is_some}
+use Rattle.std.specs.Prelude.{Option, Result, is_some}
 use Rattle.std.proofs.lemmas.Bool.{false≢true}
 use Rattle.password_hash.specs.McfViews.{fields_left, hash_text, field_text}
 use Rattle.password_hash.specs.declared.mcf.field.Field.{Field}
 use Rattle.password_hash.specs.declared.mcf.fields.Fields.{Fields}
-use Rattle.scrypt.specs.McfHash.{read_fields, read_mcf, salt_and_key}
-use Rattle.scrypt.specs.Reading.{ReadError, reported, stored_of}
-use Rattle.scrypt.proofs.McfHashFacts.{key_read, key_refused, no_key, params_refused, read_other, read_seven}
+use Rattle.scrypt.specs.McfHash.{read_fields, read_key, read_mcf}
+use Rattle.password_hash.specs.Refusal.{Refusal}
+use Rattle.scrypt.specs.Reading.{◌and_then◌}
+use Rattle.scrypt.proofs.McfHashFacts.{key_read, key_refused, no_key, read_other, read_seven}
+use Rattle.scrypt.proofs.ReadingFacts.{refused_first}
 use Rattle.scrypt.proofs.mcf.reading.stored_of_mcf.Goals as goal
 use Rattle.scrypt.proofs.mcf.reading.stored_of_mcf.Goals.{After-next, After-next-2}
 
 -- what is read of the fields
 fields_at : (c : After-next) {fields : List (List ℕ)} → fields_left c.fields-fields.result ≡ fields
-    → read_mcf (hash_text c.args.hash.now) ≡ reported (read_fields fields)
+    → read_mcf (hash_text c.args.hash.now) ≡ read_fields fields
 fields_at c are =
     read_seven c.fields-fields.ensures.reading (sym c.id.ensures.value ∙ c.is_mcf.ensures.0 c.if-not-is_mcf.false)
-    ∙ ap (λ fields. reported (read_fields fields)) are
+    ∙ ap read_fields are
 
 -- and of those after the first, whose parameters are accepted
-rest_at : (c : After-next-2) {after : List (List ℕ)} {parts : Result (List ℕ × List ℕ) ReadError} → fields_left c.next.new.self ≡ after
-    → salt_and_key c.in-Ok.read.1.now after ≡ parts
-    → read_mcf (hash_text c.args.hash.now) ≡ reported (stored_of (Ok c.in-Ok.read.0) parts)
+rest_at : (c : After-next-2) {after : List (List ℕ)} {key : Result (List ℕ) Refusal} → fields_left c.next.new.self ≡ after
+    → read_key after ≡ key
+    → read_mcf (hash_text c.args.hash.now) ≡ key and_then λ key. Ok (record { params = c.in-Ok.read.0; salt = c.in-Ok.read.1.now; key = key })
 rest_at c {after} is read =
     read_seven c.fields-fields.ensures.reading (sym c.id.ensures.value ∙ c.is_mcf.ensures.0 c.if-not-is_mcf.false)
-    ∙ ap (λ fields. reported (read_fields fields)) (c.in-Some.ensures.steps ∙ ap₂ (λ z zs. z ∷ zs) (sym c.as_str.ensures.value) is)
-    ∙ ap₂ (λ params salt. reported (stored_of params (salt_and_key salt after))) c.in-Ok.ensures.params (sym c.in-Ok.ensures.salt)
-    ∙ ap (λ parts. reported (stored_of (Ok c.in-Ok.read.0) parts)) read
+    ∙ ap read_fields (c.in-Some.ensures.steps ∙ ap₂ (λ z zs. z ∷ zs) (sym c.as_str.ensures.value) is)
+    ∙ ap₂ (λ params salt. params and_then λ c. read_key after and_then λ key. Ok (record { params = c; salt = salt; key = key }))
+    c.in-Ok.ensures.params (sym c.in-Ok.ensures.salt)
+    ∙ ap (λ key. key and_then λ key. Ok (record { params = c.in-Ok.read.0; salt = c.in-Ok.read.1.now; key = key })) read
 
 -- whether there is another field
 
@@ -51,7 +54,7 @@ pub returns-in-Err-clause-err : goal.returns-in-Err-clause-err
 returns-in-Err-clause-err c =
     fields_at (goal.at.returns-in-Err-clause-err c).After-next
     (c.in-Some.ensures.steps ∙ ap (λ field. field ∷ fields_left c.next.new.self) (sym c.as_str.ensures.value))
-    ∙ params_refused _ (salt_and_key (drop 11 c.as_str.result.now) (fields_left c.next.new.self)) c.in-Err.ensures.err
+    ∙ refused_first _ _ c.in-Err.ensures.err
 
 pub returns-in_default-next-clause-err : goal.returns-in_default-next-clause-err
 returns-in_default-next-clause-err c =
@@ -60,7 +63,7 @@ returns-in_default-next-clause-err c =
 pub returns-in_default-base64_len-clause-err : goal.returns-in_default-base64_len-clause-err
 returns-in_default-base64_len-clause-err c =
     rest_at (goal.at.returns-in_default-base64_len-clause-err c).After-next-2 c.in-Some-next.ensures.steps
-    (no_key c.in-Ok.read.1.now _ c.in_default-base64_len.ensures.value)
+    (no_key _ c.in_default-base64_len.ensures.value)
 
 pub returns-then-is_some-clause-err : goal.returns-then-is_some-clause-err
 returns-then-is_some-clause-err c =
@@ -76,7 +79,7 @@ returns-then-not-output_len_ok-clause-err c =
     let key = c.in-Some-base64_len.ensures.value in
     rest_at (goal.at.returns-then-not-output_len_ok-clause-err c).After-next-2
     (c.in-Some-next.ensures.steps ∙ ap (λ after. field_text c.in-Some-next.key ∷ after) last)
-    (key_refused c.in-Ok.read.1.now key.1 (λ good. let yes = c.output_len_ok.ensures.exact.1 (rw key.2 at good) in cc))
+    (key_refused key.1 (λ good. let yes = c.output_len_ok.ensures.exact.1 (rw key.2 at good) in cc))
 
 pub returns-clause-ok : goal.returns-clause-ok
 returns-clause-ok c =
@@ -88,5 +91,5 @@ returns-clause-ok c =
       key.2,
       rest_at (goal.at.returns-clause-ok c).After-next-2
           (c.in-Some-next.ensures.steps ∙ ap (λ after. field_text c.in-Some-next.key ∷ after) last)
-          (key_read c.in-Ok.read.1.now key.1 (rw key.2 (c.output_len_ok.ensures.exact.0 c.if-not-output_len_ok.false))),
+          (key_read key.1 (rw key.2 (c.output_len_ok.ensures.exact.0 c.if-not-output_len_ok.false))),
     )

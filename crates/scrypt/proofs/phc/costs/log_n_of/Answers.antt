@@ -1,7 +1,6 @@
-use Rattle.std.proofs.Common.{ap, arith, codes, sym}
-use Rattle.scrypt.specs.Reading.{reported}
+use Rattle.std.proofs.Common.{arith, codes, sym}
 use Rattle.scrypt.proofs.PhcReadingFacts.{number_large}
 use Rattle.scrypt.proofs.phc.costs.log_n_of.Goals as goal
 
 pub returns-in-Err : goal.returns-in-Err
-returns-in-Err c = sym (ap reported (number_large (codes "ln") 256 _ c.in-Ok.number c.in-Ok.ensures.ok (omega (arith, c.in-Err.ensures))))
+returns-in-Err c = sym (number_large (codes "ln") 256 _ c.in-Ok.number c.in-Ok.ensures.ok (omega (arith, c.in-Err.ensures)))

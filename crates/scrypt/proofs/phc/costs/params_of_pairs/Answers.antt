@@ -1,7 +1,6 @@
-use Rattle.std.proofs.Common.{◌∙◌, refl, sym, ap}
+use Rattle.std.proofs.Common.{◌∙◌, refl, sym}
 use Rattle.std.proofs.lemmas.Result.{err_from_is_err_and}
 use Rattle.password_hash.specs.Value.{value_text}
-use Rattle.scrypt.specs.Reading.{reported}
 use Rattle.scrypt.proofs.AcceptedFacts.{checked_is, not_checked}
 use Rattle.scrypt.proofs.PhcReadingFacts.{ln_step, none_left, p_step, r_step, unknown_read}
 use Rattle.scrypt.proofs.phc.costs.params_of_pairs.Goals as goal
@@ -41,19 +40,19 @@ pairs-preserved c =
 
 pub returns-in_default : goal.returns-in_default
 returns-in_default c =
-    sym (ap reported (unknown_read c.pairs.log_n c.pairs.r c.pairs.p (c.in-Some.name, value_text c.in-Some.value) c.next.new.self
+    sym (unknown_read c.pairs.log_n c.pairs.r c.pairs.p (c.in-Some.name, value_text c.in-Some.value) c.next.new.self
     (λ is. c.in_default.not-ln (c.as_str.ensures.value ∙ is)) (λ is. c.in_default.not-r (c.as_str.ensures.value ∙ is))
-    (λ is. c.in_default.not-p (c.as_str.ensures.value ∙ is))))
+    (λ is. c.in_default.not-p (c.as_str.ensures.value ∙ is)))
     ∙ (rw c.in-Some.ensures.steps at c.pairs.invariant)
 
 pub returns-in-Ok : goal.returns-in-Ok
 returns-in-Ok c =
     let all = rw c.in-None.ensures.steps.0 at c.pairs.invariant in
     let made = none_left c.pairs.log_n c.pairs.r c.pairs.p ∙ checked_is _ _ _ (c.in-Ok.ensures.accepted.0 refl) in
-    rw c.in-Ok.ensures.value (sym (ap reported made) ∙ all)
+    rw c.in-Ok.ensures.value (sym made ∙ all)
 
 pub returns-in-Err : goal.returns-in-Err
 returns-in-Err c =
     let all = rw c.in-None.ensures.steps.0 at c.pairs.invariant in
-    sym (ap reported (none_left c.pairs.log_n c.pairs.r c.pairs.p
-    ∙ not_checked c.pairs.log_n c.pairs.r c.pairs.p (λ h. let ok = c.in-Err.ensures.accepted.1 h in cc))) ∙ all
+    sym (none_left c.pairs.log_n c.pairs.r c.pairs.p
+    ∙ not_checked c.pairs.log_n c.pairs.r c.pairs.p (λ h. let ok = c.in-Err.ensures.accepted.1 h in cc)) ∙ all

@@ -1,7 +1,5 @@
-use Rattle.std.proofs.Common.{◌∙◌, ap, sym}
-use Rattle.scrypt.specs.PhcCosts.{params_of_pairs}
-use Rattle.scrypt.specs.Reading.{reported}
-use Rattle.scrypt.proofs.PhcHashFacts.{of_scrypt, other_algorithm, unversioned, versioned}
+use Rattle.std.proofs.Common.{◌∙◌, sym}
+use Rattle.scrypt.proofs.PhcHashFacts.{other_algorithm, unversioned, versioned}
 use Rattle.scrypt.proofs.phc.reading.read_params.Goals as goal
 
 pub returns-then-not-is_scrypt : goal.returns-then-not-is_scrypt
@@ -9,12 +7,9 @@ returns-then-not-is_scrypt c = sym (other_algorithm c.args.hash.now (λ h. let y
 
 pub returns-then-is_some : goal.returns-then-is_some
 returns-then-is_some c =
-    sym (of_scrypt c.args.hash.now (c.is_scrypt.ensures.0 c.if-not-is_scrypt.false)
-    ∙ ap reported (versioned c.args.hash.now.version (params_of_pairs c.args.hash.now.params) (sym c.is_some.ensures ∙ c.if-is_some.true)))
+    sym (versioned c.args.hash.now (c.is_scrypt.ensures.0 c.if-not-is_scrypt.false) (sym c.is_some.ensures ∙ c.if-is_some.true))
 
 pub returns : goal.returns
 returns c =
     c.try_from.ensures
-    ∙ sym (of_scrypt c.args.hash.now (c.is_scrypt.ensures.0 c.if-not-is_scrypt.false)
-    ∙ ap reported (unversioned c.args.hash.now.version (params_of_pairs c.args.hash.now.params) (sym c.is_some.ensures
-    ∙ c.if-is_some.false)))
+    ∙ sym (unversioned c.args.hash.now (c.is_scrypt.ensures.0 c.if-not-is_scrypt.false) (sym c.is_some.ensures ∙ c.if-is_some.false))

@@ -1,6 +1,5 @@
 use Rattle.std.proofs.lemmas.Bool.{false≢true}
-use Rattle.scrypt.specs.StoredHash.{of_hash}
-use Rattle.scrypt.proofs.StoredHashFacts.{none_read, reads_as}
+use Rattle.scrypt.proofs.StoredHashFacts.{none_read, of_hash, reads_as}
 use Rattle.scrypt.proofs.stored_hash.StoredHash.read.Goals as goal
 
 pub returns-in-Ok-clause-ok : goal.returns-in-Ok-clause-ok

@@ -2,7 +2,7 @@ use Rattle.std.proofs.Common.{arith}
 use Rattle.std.specs.Prelude.{IfSome}
 use Rattle.password_hash.specs.Phc.{IsSalt}
 use Rattle.scrypt.specs.Accepted.{IsStoredLen}
-use Rattle.scrypt.specs.StoredHash.{of_hash}
+use Rattle.scrypt.proofs.StoredHashFacts.{of_hash}
 use Rattle.scrypt_examples.proofs.login.Logins.text_of.Goals as goal
 
 pub returns-clause-enrolled : goal.returns-clause-enrolled

@@ -5,11 +5,10 @@ use Rattle.std.specs.Prelude.{Bool, Option, unwrap_or, if◌then◌else◌}
 use Rattle.std.specs.Str.{bytes_eq}
 use Rattle.std.proofs.lemmas.List.Elements.{All-cons, All-head, All-nil, All-tail}
 use Rattle.std.proofs.lemmas.Slice.Eq.{bytes_eq-Decides}
-use Rattle.password_hash.specs.Crypt64.{Crypt64, IsCrypt64, crypt64_of, letters_of, number_of}
+use Rattle.password_hash.specs.Crypt64.{Crypt64, IsCrypt64, bytes_of_number, crypt64_of, decoded, letters_of, number_of}
 use Rattle.password_hash.proofs.AlphabetFacts.{letter_value-letter}
 use Rattle.password_hash.proofs.Crypt64Facts.{AreBytes, number_of-letters_of}
 use Rattle.password_hash.proofs.GroupFacts.{le_number, length-crypt64_of}
-use Rattle.scrypt.specs.McfKey.{bytes_of_number, decoded}
 
 -- the letters of a number, and others after them
 number_of-front : (number above : ℕ) (rest : List ℕ) → number < 64 ^ 4 → number_of rest ≡ Some above
