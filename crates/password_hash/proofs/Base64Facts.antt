@@ -9,7 +9,7 @@ use Rattle.base64.specs.Engines.{standard_no_pad}
 use Rattle.base64.proofs.EngineFacts.{decode_of_strict, decode_of-encode_of}
 use Rattle.base64.proofs.RoundTrip.{length-encode_symbols}
 use Rattle.password_hash.specs.Phc.{base64}
-use Rattle.password_hash.specs.Stored.{AreBytesFromTo}
+use Rattle.password_hash.specs.ShortBytes.{AreBytesFromTo}
 
 pub length-base64 : (bytes : List ℕ) → length (base64 bytes) ≡ (4 * length bytes + 2) / 3
 length-base64 bytes = rw append-nil (length-encode_symbols standard_no_pad.encode_table bytes)

@@ -1,5 +1,5 @@
 -- Bytes in a fixed number of places.
-pub mod StoredFacts
+pub mod ShortBytesFacts
 -- Texts of letters.
 pub mod IdentifierFacts
 -- Pairs and their text.

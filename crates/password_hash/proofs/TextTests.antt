@@ -16,7 +16,7 @@ use Rattle.password_hash.specs.Mcf.{IsId, IsMcf, IsMcfText, id_of}
 use Rattle.password_hash.specs.Pairs.{IsPair, ArePairs, pairs_text}
 use Rattle.password_hash.specs.Parts.{parts_of}
 use Rattle.password_hash.specs.Phc.{hash_text, IsHashText}
-use Rattle.password_hash.specs.Stored.{AreBytesFromTo}
+use Rattle.password_hash.specs.ShortBytes.{AreBytesFromTo}
 use Rattle.password_hash.specs.declared.phc.hash.PasswordHash.{PasswordHash}
 use Rattle.password_hash.proofs.McfFacts.{IsMcfText-from_parts, IsMcfText-one}
 

@@ -3,7 +3,7 @@
 -- the errors, by their values
 pub mod Refusal
 -- bytes whose number has bounds
-pub mod Stored
+pub mod ShortBytes
 -- the letters of identifiers, names and values
 pub mod Letters
 -- numbers in decimal digits

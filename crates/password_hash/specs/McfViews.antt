@@ -6,8 +6,8 @@ use Rattle.password_hash.specs.declared.mcf.hash_ref.PasswordHashRef.{PasswordHa
 use Rattle.password_hash.specs.Parts.{parts_left}
 
 -- the text of a borrowed hash
-abbrev pub hash_text : PasswordHashRef → List ℕ
-hash_text hash = hash.text.now
+abbrev pub borrowed_text : PasswordHashRef → List ℕ
+borrowed_text hash = hash.text.now
 
 -- the text of a field
 abbrev pub field_text : Field → List ℕ

@@ -5,7 +5,7 @@ use Rattle.base64.specs.GeneralPurpose.{encode_of}
 use Rattle.password_hash.specs.Letters.{IsIdentifier}
 use Rattle.password_hash.specs.Pairs.{pairs_text, ArePairs}
 use Rattle.password_hash.specs.Parts.{parts_text}
-use Rattle.password_hash.specs.Stored.{AreBytesFromTo}
+use Rattle.password_hash.specs.ShortBytes.{AreBytesFromTo}
 use Rattle.password_hash.specs.declared.phc.hash.PasswordHash.{PasswordHash}
 
 -- Base64 of RFC 4648, section 4, without padding

@@ -17,13 +17,13 @@ pub mod TwoVerdictsFacts
 -- Facts on two keys that are compared piece by piece.
 pub mod ComparingFacts
 -- Facts on parameters as PHC pairs.
-pub mod PhcCostsFacts
+pub mod PhcParamsFacts
 -- Facts on parameters as they are read from PHC pairs.
 pub mod PhcReadingFacts
 -- Facts on PHC hashes of scrypt.
 pub mod PhcHashFacts
 -- Facts on five-letter numbers and on the parameters with which a field begins.
-pub mod McfCostsFacts
+pub mod McfParamsFacts
 -- Facts on `$7$` hashes: a text says one hash or is refused, and says it as it was written.
 pub mod McfHashFacts
 -- The text that hashing writes is that of the hash.

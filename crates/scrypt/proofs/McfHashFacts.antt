@@ -9,11 +9,11 @@ use Rattle.password_hash.specs.Parts.{parts_of, parts_text}
 use Rattle.password_hash.specs.Refusal.{Algorithm, EncodingInvalid, OutputSize}
 use Rattle.password_hash.proofs.McfFacts.{IsMcfText-from_parts, parts_of-IsMcfText}
 use Rattle.scrypt.specs.Accepted.{IsOutputLen, is_output_len}
-use Rattle.scrypt.specs.McfCosts.{cost_letters, field_params}
+use Rattle.scrypt.specs.McfParams.{params_letters, field_params}
 use Rattle.scrypt.specs.McfHash.{mcf_id, read_fields, read_key, read_mcf, read_parts}
 use Rattle.scrypt.specs.Reading.{Stored}
 use Rattle.scrypt.proofs.AcceptedFacts.{not_true, ok_if, output_len_decided}
-use Rattle.scrypt.proofs.McfCostsFacts.{field_is, field_none}
+use Rattle.scrypt.proofs.McfParamsFacts.{field_is, field_none}
 use Rattle.scrypt.proofs.ReadingFacts.{NamesNoPassword, both_read, err_none, if_none, ok_none, some_none, then_none}
 use Rattle.password_hash.proofs.DecodedFacts.{decoded_is, encoded_is, not_decoded}
 
@@ -98,14 +98,14 @@ is_mcf {text} is = let t = is_text_of is in (_, IsMcfText-from_parts text mcf_id
 
 -- a hash has one text
 pub text_of : {text : List ℕ} {s : Stored} → read_mcf text ≡ Ok s
-    → text ≡ parts_text (mcf_id ∷ (cost_letters s.params.log_n s.params.r s.params.p ++ s.salt) ∷ crypt64_of s.key ∷ [])
+    → text ≡ parts_text (mcf_id ∷ (params_letters s.params.log_n s.params.r s.params.p ++ s.salt) ∷ crypt64_of s.key ∷ [])
 text_of {text} {s} is =
     let t = is_text_of is in
     let written = (IsMcfText-from_parts text mcf_id (t.field ∷ t.letters ∷ []) t.parts (lit< tt, refl)).written in
-    let field : t.field ≡ cost_letters s.params.log_n s.params.r s.params.p ++ s.salt =
-    field_is t.field s.params t.params ∙ ap (λ z. cost_letters s.params.log_n s.params.r s.params.p ++ z) t.salt in
+    let field : t.field ≡ params_letters s.params.log_n s.params.r s.params.p ++ s.salt =
+    field_is t.field s.params t.params ∙ ap (λ z. params_letters s.params.log_n s.params.r s.params.p ++ z) t.salt in
     written ∙ ap (λ z. parts_text (mcf_id ∷ z ∷ t.letters ∷ [])) field
-    ∙ ap (λ z. parts_text (mcf_id ∷ (cost_letters s.params.log_n s.params.r s.params.p ++ s.salt) ∷ z ∷ [])) t.key.encoding
+    ∙ ap (λ z. parts_text (mcf_id ∷ (params_letters s.params.log_n s.params.r s.params.p ++ s.salt) ∷ z ∷ [])) t.key.encoding
 
 -- a text is refused neither as a wrong password nor for memory
 

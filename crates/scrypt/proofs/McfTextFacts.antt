@@ -17,11 +17,11 @@ use Rattle.password_hash.proofs.McfFacts.{IsField-crypt64_of}
 use Rattle.scrypt.specs.Accepted.{AreAccepted, IsOutputLen, IsStoredLen, Parameters, without_len}
 use Rattle.scrypt.specs.KeyOfParams.{key_by}
 use Rattle.scrypt.proofs.KeyFacts.{key_by-are_bytes, length-key_by}
-use Rattle.scrypt.specs.McfCosts.{five_letter_number, cost_letters, costs_text, field_params}
+use Rattle.scrypt.specs.McfParams.{five_letter_number, params_letters, params_text, field_params}
 use Rattle.scrypt.specs.McfHash.{IsMadeHash, made_text_len, mcf_id, read_mcf}
 use Rattle.scrypt.specs.Hashing.{key_len_or_default}
 use Rattle.scrypt.proofs.AcceptedFacts.{checked_is, key_len_or_default_stored, small_params, small_log_n}
-use Rattle.scrypt.proofs.McfCostsFacts.{five_letter_number_letters_of, of_numbers, to_the_end}
+use Rattle.scrypt.proofs.McfParamsFacts.{five_letter_number_letters_of, of_numbers, to_the_end}
 use Rattle.scrypt.proofs.McfHashFacts.{key_read, read_seven, text_of}
 use Rattle.scrypt.proofs.PhcHashFacts.{made_is_text}
 
@@ -67,20 +67,20 @@ ascii_by_index (byte ∷ text) each (suc i) = ascii_by_index text (All-tail (λ 
 
 -- the letters of the numbers
 
-plain_letters : (log_n r p : ℕ) → log_n < 64 → All IsPlain (cost_letters log_n r p)
+plain_letters : (log_n r p : ℕ) → log_n < 64 → All IsPlain (params_letters log_n r p)
 plain_letters log_n r p small =
     All-cons IsPlain (letter log_n) (letters_of 5 r ++ letters_of 5 p) (letter-ascii log_n small)
     (All-append IsPlain (letters_of 5 r) (letters_of 5 p) (letters_of-plain 5 r) (letters_of-plain 5 p))
 
-count_letters : (log_n r p : ℕ) → length (cost_letters log_n r p) ≡ 11
+count_letters : (log_n r p : ℕ) → length (params_letters log_n r p) ≡ 11
 count_letters log_n r p = omega (arith, length-append (letters_of 5 r) (letters_of 5 p), length-letters_of 5 r, length-letters_of 5 p)
 
-pub count_text : (c : Parameters) → length (costs_text c) ≡ 14
+pub count_text : (c : Parameters) → length (params_text c) ≡ 14
 count_text c = omega (arith, count_letters c.log_n c.r c.p)
 
 -- the field that they begin is read as the parameters
 pub field_read : (c : Parameters) (salt : List ℕ) → AreAccepted c.log_n c.r c.p
-    → field_params (cost_letters c.log_n c.r c.p ++ salt) ≡ Ok (without_len c)
+    → field_params (params_letters c.log_n c.r c.p ++ salt) ≡ Ok (without_len c)
 unfolding field_params
 field_read c salt good =
     let small = small_params c.log_n c.r c.p good in
@@ -100,15 +100,15 @@ field_read c salt good =
 -- the text of some parameters, a salt without a dollar, and a key
 pub text_is : (c : Parameters) (salt key : List ℕ) → AreAccepted c.log_n c.r c.p → IsField salt → All (λ byte. byte < 256) key
     → IsOutputLen (length key)
-    → read_mcf (costs_text c ++ (salt ++ dollar ∷ crypt64_of key)) ≡ Ok (record { params = without_len c; salt = salt; key = key })
+    → read_mcf (params_text c ++ (salt ++ dollar ∷ crypt64_of key)) ≡ Ok (record { params = without_len c; salt = salt; key = key })
 text_is c salt key good no_dollar are_bytes allowed =
-    let letters = cost_letters c.log_n c.r c.p in
+    let letters = params_letters c.log_n c.r c.p in
     let field = letters ++ salt in
     let small : c.log_n ≤ 56 = small_log_n c.log_n c.r good.0 good.2 in
     let field_is : IsField field =
     All-append (λ byte. byte ≢ dollar) letters salt
     (All-weaker IsPlain (λ byte. byte ≢ dollar) (λ byte plain. plain.1) letters (plain_letters c.log_n c.r c.p (omega arith))) no_dollar in
-    let parts : IsMcfText (costs_text c ++ (salt ++ dollar ∷ crypt64_of key)) mcf_id (field ∷ crypt64_of key ∷ []) = record {
+    let parts : IsMcfText (params_text c ++ (salt ++ dollar ∷ crypt64_of key)) mcf_id (field ∷ crypt64_of key ∷ []) = record {
       is_id = (lit< tt, refl);
       are_fields = All-cons IsField field (crypt64_of key ∷ []) field_is
           (All-cons IsField (crypt64_of key) [] (IsField-crypt64_of key) (All-nil IsField));
@@ -120,7 +120,7 @@ text_is c salt key good no_dollar are_bytes allowed =
 
 -- the text that hashing makes
 pub stored_text : (c : Parameters) (password salt : List ℕ) → AreAccepted c.log_n c.r c.p → IsStoredLen (key_len_or_default c)
-    → IsMadeHash c password salt (costs_text c ++ (crypt64_of salt
+    → IsMadeHash c password salt (params_text c ++ (crypt64_of salt
     ++ dollar ∷ crypt64_of (key_by c password (crypt64_of salt) (key_len_or_default c))))
 stored_text c password salt good stored =
     let letters = crypt64_of salt in
@@ -131,18 +131,18 @@ stored_text c password salt good stored =
     (omega (arith, long, stored.0), omega (arith, long, stored.1))
 
 pub made_text : (c : Parameters) (password salt : List ℕ) → AreAccepted c.log_n c.r c.p → IfSome c.output_len IsStoredLen
-    → IsMadeHash c password salt (costs_text c ++ (crypt64_of salt
+    → IsMadeHash c password salt (params_text c ++ (crypt64_of salt
     ++ dollar ∷ crypt64_of (key_by c password (crypt64_of salt) (key_len_or_default c))))
 made_text c password salt good fits = stored_text c password salt good (key_len_or_default_stored c fits)
 
 -- every byte of it is ASCII
 pub text_ascii : (c : Parameters) (salt key : List ℕ) → AreAccepted c.log_n c.r c.p
-    → IsAscii (costs_text c ++ (crypt64_of salt ++ dollar ∷ crypt64_of key))
+    → IsAscii (params_text c ++ (crypt64_of salt ++ dollar ∷ crypt64_of key))
 text_ascii c salt key good =
     let small : c.log_n ≤ 56 = small_log_n c.log_n c.r good.0 good.2 in
     let ascii : ℕ → Type 0 = λ byte. byte < 128 in
     let plain = λ (letters : List ℕ) (each : All IsPlain letters). All-weaker IsPlain ascii (λ byte is. is.0) letters each in
-    let letters = cost_letters c.log_n c.r c.p in
+    let letters = params_letters c.log_n c.r c.p in
     let last = dollar ∷ crypt64_of key in
     let of_last = All-cons ascii dollar (crypt64_of key) (lit< tt) (plain (crypt64_of key) (crypt64_of-plain key)) in
     let after = All-append ascii (crypt64_of salt) last (plain (crypt64_of salt) (crypt64_of-plain salt)) of_last in
@@ -154,23 +154,23 @@ text_ascii c salt key good =
 
 -- the text whose key is written at its end, after the parameters and the salt
 
-pub salt_letters : (c : Parameters) (salt rest text : List ℕ) (at : ℕ) → text ≡ costs_text c ++ (salt ++ rest) → at ≡ 14 + length salt
+pub salt_letters : (c : Parameters) (salt rest text : List ℕ) (at : ℕ) → text ≡ params_text c ++ (salt ++ rest) → at ≡ 14 + length salt
     → take (at - 14) (drop 14 text) ≡ salt
 salt_letters c salt rest text at written is =
     ap (λ t. take (at - 14) (drop 14 t)) written
-    ∙ ap (take (at - 14)) (drop_at (costs_text c) (salt ++ rest) 14 (count_text c)) ∙ take_at salt rest (at - 14) (omega arith)
+    ∙ ap (take (at - 14)) (drop_at (params_text c) (salt ++ rest) 14 (count_text c)) ∙ take_at salt rest (at - 14) (omega arith)
 
-pub key_put : (c : Parameters) (salt rest text key : List ℕ) (at : ℕ) → text ≡ costs_text c ++ (salt ++ rest) → at ≡ 14 + length salt
-    → at ≤ length text → put_mid at (length text - at) text key ≡ costs_text c ++ (salt ++ key)
+pub key_put : (c : Parameters) (salt rest text key : List ℕ) (at : ℕ) → text ≡ params_text c ++ (salt ++ rest) → at ≡ 14 + length salt
+    → at ≤ length text → put_mid at (length text - at) text key ≡ params_text c ++ (salt ++ key)
 key_put c salt rest text key at written is inside =
     put_to_the_end at text key inside
-    ∙ ap (λ front. front ++ key) (ap (take at) (written ∙ sym (append_assoc (costs_text c) salt rest))
-    ∙ take_at (costs_text c ++ salt) rest at (omega (arith, length-append (costs_text c) salt, count_text c)))
-    ∙ append_assoc (costs_text c) salt key
+    ∙ ap (λ front. front ++ key) (ap (take at) (written ∙ sym (append_assoc (params_text c) salt rest))
+    ∙ take_at (params_text c ++ salt) rest at (omega (arith, length-append (params_text c) salt, count_text c)))
+    ∙ append_assoc (params_text c) salt key
 
 -- and its length
 pub length-made_text : (c : Parameters) (password salt : List ℕ)
-    → length (costs_text c ++ (crypt64_of salt ++ dollar ∷ crypt64_of (key_by c password (crypt64_of salt) (key_len_or_default c))))
+    → length (params_text c ++ (crypt64_of salt ++ dollar ∷ crypt64_of (key_by c password (crypt64_of salt) (key_len_or_default c))))
     ≡ made_text_len c (length salt)
 length-made_text c password salt =
     let letters = crypt64_of salt in
@@ -178,7 +178,7 @@ length-made_text c password salt =
     omega (
       arith,
       count_text c,
-      length-append (costs_text c) (letters ++ dollar ∷ crypt64_of key),
+      length-append (params_text c) (letters ++ dollar ∷ crypt64_of key),
       length-append letters (dollar ∷ crypt64_of key),
       length-crypt64_of salt,
       length-crypt64_of key ∙ ap encoded_len (length-key_by c password letters (key_len_or_default c)),

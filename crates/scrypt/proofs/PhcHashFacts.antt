@@ -8,12 +8,12 @@ use Rattle.password_hash.specs.Refusal.{Algorithm, Version}
 use Rattle.password_hash.specs.declared.phc.hash.PasswordHash.{PasswordHash}
 use Rattle.scrypt.specs.Accepted.{AreAccepted, IsStoredLen, Parameters, without_len}
 use Rattle.scrypt.specs.KeyOfParams.{key_by}
-use Rattle.scrypt.specs.PhcCosts.{params_of_pairs}
+use Rattle.scrypt.specs.PhcParams.{params_of_pairs}
 use Rattle.scrypt.specs.PhcHash.{IsMadeHash, phc_params, read_phc}
 use Rattle.scrypt.specs.Hashing.{key_len_or_default}
 use Rattle.scrypt.proofs.AcceptedFacts.{key_len_or_default_stored, not_true, small_params}
 use Rattle.scrypt.proofs.KeyFacts.{key_by-are_bytes, length-key_by}
-use Rattle.scrypt.proofs.PhcCostsFacts.{three_pairs}
+use Rattle.scrypt.proofs.PhcParamsFacts.{three_pairs}
 use Rattle.scrypt.proofs.PhcReadingFacts.{pairs_none, written_read}
 use Rattle.scrypt.proofs.ReadingFacts.{NamesNoPassword, err_none, if_none}
 

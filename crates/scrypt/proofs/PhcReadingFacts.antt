@@ -11,7 +11,7 @@ use Rattle.scrypt.specs.Accepted.{AreAccepted, Parameters, without_len}
 use Rattle.scrypt.specs.Reading.{◌and_then◌, checked}
 use Rattle.scrypt.proofs.AcceptedFacts.{checked_is, not_true, small_params}
 use Rattle.scrypt.proofs.ReadingFacts.{NamesNoPassword, checked_none, err_none, if_none, some_none, then_none}
-use Rattle.scrypt.specs.PhcCosts.{params_of_pairs, read_pairs, written_pairs}
+use Rattle.scrypt.specs.PhcParams.{params_of_pairs, read_pairs, written_pairs}
 
 -- the number of a value
 

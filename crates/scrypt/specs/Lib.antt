@@ -36,13 +36,13 @@ pub mod WorkInBuffers
 -- verifying two hashes in the caller's buffers
 pub mod TwoVerdicts
 -- parameters read from a PHC text
-pub mod PhcCosts
+pub mod PhcParams
 -- PHC hashes that are made, and those that are whole
 pub mod PhcHash
 -- the results of the conversions between parameters and PHC values
 pub mod PhcConversions
 -- five-letter numbers, and the parameters of a `$7$` text
-pub mod McfCosts
+pub mod McfParams
 -- `$7$` hashes that are made, and those that are whole
 pub mod McfHash
 -- stored hashes of either format, by their texts

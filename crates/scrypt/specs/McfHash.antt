@@ -6,7 +6,7 @@ use Rattle.password_hash.specs.Parts.{parts_of}
 use Rattle.password_hash.specs.Refusal.{Refusal, Algorithm, EncodingInvalid, OutputSize}
 use Rattle.scrypt.specs.Accepted.{Parameters, is_output_len, without_len}
 use Rattle.scrypt.specs.KeyOfParams.{key_by}
-use Rattle.scrypt.specs.McfCosts.{field_params}
+use Rattle.scrypt.specs.McfParams.{field_params}
 use Rattle.scrypt.specs.Hashing.{HashingIsRefused, IsNamedOrNone, key_len_or_default}
 use Rattle.scrypt.specs.Reading.{◌and_then◌, Stored}
 

@@ -4,7 +4,7 @@ use Rattle.password_hash.specs.Refusal.{Refusal, Version}
 use Rattle.password_hash.specs.declared.error.Error.{Error}
 use Rattle.password_hash.specs.declared.phc.hash.PasswordHash.{PasswordHash}
 use Rattle.scrypt.specs.Accepted.{Parameters}
-use Rattle.scrypt.specs.PhcCosts.{params_of_pairs, written_pairs}
+use Rattle.scrypt.specs.PhcParams.{params_of_pairs, written_pairs}
 use Rattle.scrypt.specs.Reading.{mapped}
 
 -- the length of a hash's key, or 32 if it has no key

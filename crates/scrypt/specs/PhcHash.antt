@@ -6,7 +6,7 @@ use Rattle.password_hash.specs.Refusal.{Refusal, Algorithm, PasswordInvalid, Ver
 use Rattle.password_hash.specs.declared.phc.hash.PasswordHash.{PasswordHash}
 use Rattle.scrypt.specs.Accepted.{Parameters}
 use Rattle.scrypt.specs.KeyOfParams.{key_by}
-use Rattle.scrypt.specs.PhcCosts.{params_of_pairs, written_pairs}
+use Rattle.scrypt.specs.PhcParams.{params_of_pairs, written_pairs}
 use Rattle.scrypt.specs.Hashing.{HashingIsRefused, IsNamedOrNone, key_len_or_default}
 use Rattle.scrypt.specs.Reading.{◌and_then◌, Stored}
 

@@ -1,6 +1,6 @@
 -- Private: what a stored hash holds beside its text.
 use Rattle.std.specs.Prelude.{◌≡◌, ℕ, List, true, false}
-use Rattle.password_hash.specs.McfViews.{hash_text}
+use Rattle.password_hash.specs.McfViews.{borrowed_text}
 use Rattle.password_hash.specs.Phc.{IsHashText}
 use Rattle.scrypt.specs.PhcHash.{phc_params}
 use Rattle.scrypt.specs.Reading.{told}
@@ -10,7 +10,7 @@ use Rattle.scrypt.specs.declared.stored_hash.Format.TheVariants.{Mcf, Phc}
 
 -- the text is that of this hash
 abbrev pub IsHashOf : List ℕ → Format → Type 0
-IsHashOf text (Mcf hash) = (is_mcf_text text ≡ true) × (hash_text hash ≡ text)
+IsHashOf text (Mcf hash) = (is_mcf_text text ≡ true) × (borrowed_text hash ≡ text)
 IsHashOf text (Phc hash params) = (is_mcf_text text ≡ false) × IsHashText text hash × (told params ≡ phc_params hash)
 
 -- it is read so

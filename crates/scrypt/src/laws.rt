@@ -18,11 +18,11 @@ ghost use Rattle.scrypt.specs.Key.{derived_key, mixed_chunks};
 ghost use Rattle.scrypt.specs.ThinKey.{thin_key};
 ghost use Rattle.scrypt.specs.Cost.{cost, thin_cost};
 ghost use Rattle.scrypt_kernel.specs.Table.{extra_rows};
-ghost use Rattle.scrypt.specs.McfCosts.{cost_letters, costs_text, five_letter_number};
+ghost use Rattle.scrypt.specs.McfParams.{params_letters, params_text, five_letter_number};
 ghost use Rattle.scrypt.specs.McfHash.{HashIsRefused as McfHashIsRefused, IsMadeHash as IsMadeMcf, read_mcf};
 ghost use Rattle.scrypt.specs.Hashing.{key_len_or_default};
 ghost use Rattle.scrypt.specs.Accepted.{without_len};
-ghost use Rattle.scrypt.specs.PhcCosts.{params_of_pairs, written_pairs};
+ghost use Rattle.scrypt.specs.PhcParams.{params_of_pairs, written_pairs};
 ghost use Rattle.scrypt.specs.PhcHash.{HashIsRefused, IsMadeHash, phc_params, read_phc};
 ghost use Rattle.scrypt.specs.Reading.{Stored, verdict, weaker};
 ghost use Rattle.scrypt.specs.StoredHash.{HasReading, Reads, StoredText};
@@ -90,7 +90,7 @@ pub fn made_hashes_are_accepted()
     ensures mcf { (c : Parameters) (password salt text : List ℕ) → IsMadeMcf c password salt text
         → verdict password (read_mcf text) ≡ Ok tt }
     ensures mcf_written { (c : Parameters) (password salt : List ℕ) → AreAccepted c.log_n c.r c.p
-        → IfSome c.output_len IsStoredLen → IsMadeMcf c password salt (costs_text c ++ (crypt64_of salt
+        → IfSome c.output_len IsStoredLen → IsMadeMcf c password salt (params_text c ++ (crypt64_of salt
         ++ dollar ∷ crypt64_of (key_by c password (crypt64_of salt) (key_len_or_default c)))) }
 {}
 
@@ -159,7 +159,7 @@ pub fn rehashing_converges()
 
 /// Numbers below 2^30 and their five letters determine each other, any five letters encode a
 /// number, and accepted `r` and `p` are below 2^30.
-#[tactic(auto, using(crate::proofs::McfCostsFacts::five_letters_read_back, crate::proofs::McfCostsFacts::five_letters_said))]
+#[tactic(auto, using(crate::proofs::McfParamsFacts::five_letters_read_back, crate::proofs::McfParamsFacts::five_letters_said))]
 pub fn five_letters_are_inverse()
     ensures read_back { (number : ℕ) → number < 2 ^ 30 → five_letter_number (letters_of 5 number) ≡ Some number }
     ensures written_back { (letters : List ℕ) (number : ℕ) → length letters ≡ 5 → five_letter_number letters ≡ Some number
@@ -171,10 +171,10 @@ pub fn five_letters_are_inverse()
 
 /// The eleven letters that encode accepted parameters in `$7$` texts are equal exactly if `log_n`, `r`
 /// and `p` are.
-#[tactic(auto, using(crate::proofs::McfCostsFacts::cost_letters_once))]
+#[tactic(auto, using(crate::proofs::McfParamsFacts::params_letters_once))]
 pub fn costs_prefix_is_injective()
     ensures injective { (log_n r p other_log_n other_r other_p : ℕ) → AreAccepted log_n r p → AreAccepted other_log_n other_r other_p
-        → (cost_letters log_n r p ≡ cost_letters other_log_n other_r other_p)
+        → (params_letters log_n r p ≡ params_letters other_log_n other_r other_p)
         ↔ ((log_n ≡ other_log_n) × (r ≡ other_r) × (p ≡ other_p)) }
 {}
 

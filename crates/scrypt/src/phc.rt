@@ -1,6 +1,6 @@
 //! Password hashes in the PHC string format.
 
-mod costs;
+mod params;
 mod hashing;
 pub(crate) mod reading;
 mod verifying;

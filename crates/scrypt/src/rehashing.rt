@@ -1,7 +1,7 @@
 // Which stored hashes are weaker than wanted.
 
 ghost use Rattle.std.specs.Prelude.{◌≡◌};
-ghost use Rattle.password_hash.specs.McfViews.{hash_text};
+ghost use Rattle.password_hash.specs.McfViews.{borrowed_text};
 ghost use Rattle.scrypt.specs.McfHash.{read_mcf};
 ghost use Rattle.scrypt.specs.PhcHash.{read_phc};
 ghost use Rattle.scrypt.specs.Reading.{is_below, weaker as weaker_than};
@@ -29,7 +29,7 @@ impl RehashCheck<phc::PasswordHash> for Scrypt {
 }
 
 impl<'a> RehashCheck<mcf::PasswordHashRef<'a>> for Scrypt {
-    ghost weaker = { λ scrypt hash. weaker_than scrypt (read_mcf (hash_text hash)) };
+    ghost weaker = { λ scrypt hash. weaker_than scrypt (read_mcf (borrowed_text hash)) };
 
     /// Returns whether `log_n`, `r`, `p` or the length of the key is below that of this value's
     /// parameters, which ask for a key of 32 bytes if they have no length. One of the four is

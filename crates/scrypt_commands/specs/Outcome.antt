@@ -9,8 +9,8 @@ use Rattle.password_hash.specs.Refusal.{Refusal}
 use Rattle.scrypt.specs.Accepted.{Parameters}
 use Rattle.scrypt.specs.Hashing.{key_len_or_default}
 use Rattle.scrypt.specs.KeyOfParams.{key_by}
-use Rattle.scrypt.specs.McfCosts.{costs_text}
-use Rattle.scrypt.specs.PhcCosts.{written_pairs}
+use Rattle.scrypt.specs.McfParams.{params_text}
+use Rattle.scrypt.specs.PhcParams.{written_pairs}
 use Rattle.scrypt.specs.Reading.{Stored, verdict, weaker}
 use Rattle.scrypt.specs.declared.limits.Limits.{Limits}
 use Rattle.scrypt.specs.StoredHash.{ByReading}
@@ -54,7 +54,7 @@ phc_text c password salt = hash_text (record {
 
 -- the text of the `$7$` hash: the salt of the derivation is the letters of the salt
 abbrev pub mcf_text : Parameters → List ℕ → List ℕ → List ℕ
-mcf_text c password salt = costs_text c ++ (crypt64_of salt
+mcf_text c password salt = params_text c ++ (crypt64_of salt
     ++ dollar ∷ crypt64_of (key_by c password (crypt64_of salt) (key_len_or_default c)))
 
 -- whether a PHC hash can have a salt of this length: 1 to 64 bytes

@@ -16,20 +16,20 @@ use std::alloc::Global;
 
 /// The parameters of a stored text, by which a caller bounds the work of verifying.
 #[derive(Clone, Copy, Debug, PartialEq)]
-pub struct Costs {
+pub struct TextParams {
     /// Its parameters, with no length.
     pub params: Params,
     /// The length of its key in bytes, 0 if it has none.
     pub key_len: usize,
 }
 
-impl Costs {
+impl TextParams {
     /// The parameters of a text of either format. A PHC text without a salt or a key has them too.
     ///
     /// Returns what reading the text refuses.
-    pub fn of(text: &str) -> Result<Costs>
-        ensures ok { IfOk result (λ costs. (hash : StoredText) × Reads text.now hash
-            × (hash.params ≡ Ok (costs.params, costs.key_len))) }
+    pub fn of(text: &str) -> Result<TextParams>
+        ensures ok { IfOk result (λ read. (hash : StoredText) × Reads text.now hash
+            × (hash.params ≡ Ok (read.params, read.key_len))) }
         ensures err { IfErr result (λ e. HasReading text.now (Err (refusal e)) × (refusal e ≢ PasswordInvalid)) }
     {
         parameters_are_those_of_the_reading();
@@ -39,7 +39,7 @@ impl Costs {
             Err(error) => return Err(error),
         };
         match hash.params_and_key_len() {
-            Ok((params, key_len)) => Ok(Costs { params, key_len }),
+            Ok((params, key_len)) => Ok(TextParams { params, key_len }),
             Err(error) => Err(error),
         }
     }

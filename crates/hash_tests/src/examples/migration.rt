@@ -4,7 +4,7 @@ use crate::examples::vectors::{MCF, NEW, NEW_5_1_1, SALT, SHORT_KEY, STORED};
 use password_hash::Error;
 use scrypt::Params;
 use scrypt_examples::login::Logins;
-use scrypt_examples::migration::{Costs, rewrite};
+use scrypt_examples::migration::{TextParams, rewrite};
 use std::test::Fail;
 
 #[test]
@@ -16,7 +16,7 @@ fn costs_of_texts(rt: HostRuntime) -> Result<(), Fail> {
         (MCF, 32, "a `$7$` text"),
     ] {
         assert!(rt;
-            Costs::of(text) == Ok(Costs { params, key_len }),
+            TextParams::of(text) == Ok(TextParams { params, key_len }),
             "{reason}"
         );
     }
@@ -25,7 +25,7 @@ fn costs_of_texts(rt: HostRuntime) -> Result<(), Fail> {
         ("$7$2...../....", Error::ParamsInvalid, "r is 0"),
         ("$argon2id$ln=4$aA", Error::Algorithm, "another algorithm"),
     ] {
-        assert!(rt; Costs::of(text) == Err(refused), "{reason}");
+        assert!(rt; TextParams::of(text) == Err(refused), "{reason}");
     }
     Ok(())
 }

@@ -31,7 +31,7 @@ impl Model for PasswordHash {
 }
 
 impl PasswordHash {
-    ghost use Rattle.password_hash.specs.McfViews.{hash_text, fields_left};
+    ghost use Rattle.password_hash.specs.McfViews.{borrowed_text, fields_left};
 
     /// Takes `text` as an MCF text, or returns it as the error if it is not one. Does not allocate.
     pub fn from_string(text: String) -> std::result::Result<PasswordHash, String>
@@ -146,7 +146,7 @@ impl PasswordHash {
 
     /// Borrows the same text.
     pub fn as_password_hash_ref(&self) -> PasswordHashRef<'_>
-        ensures value { hash_text result ≡ self.now }
+        ensures value { borrowed_text result ≡ self.now }
     {
         PasswordHashRef {
             text: self.text.as_str(),

@@ -16,14 +16,14 @@ pub struct PasswordHashRef<'a> {
 }
 
 impl<'a> PasswordHashRef<'a> {
-    ghost use Rattle.password_hash.specs.McfViews.{hash_text, fields_left};
+    ghost use Rattle.password_hash.specs.McfViews.{borrowed_text, fields_left};
 
     /// Borrows an MCF text. Does not allocate.
     ///
     /// Returns `EncodingInvalid` if `text` is not an MCF text.
     pub fn new(text: &'a str) -> Result<PasswordHashRef<'a>>
         ensures exact { IsOk result ↔ IsMcf text.now }
-        ensures ok { IfOk result (λ hash. hash_text hash ≡ text.now) }
+        ensures ok { IfOk result (λ hash. borrowed_text hash ≡ text.now) }
         ensures err { IfErr result (λ e. e ≡ Error.EncodingInvalid) }
     {
         if !is_mcf(text) {
@@ -34,7 +34,7 @@ impl<'a> PasswordHashRef<'a> {
 
     /// Returns the whole text.
     pub fn as_str(&self) -> &'a str
-        ensures value { result.now ≡ hash_text self.now }
+        ensures value { result.now ≡ borrowed_text self.now }
     {
         self.text
     }
@@ -42,8 +42,8 @@ impl<'a> PasswordHashRef<'a> {
     /// Returns the id: one or more of `a-z0-9-`.
     #[tactic(auto, using(crate::proofs::McfFacts::id_of_parts))]
     pub fn id(&self) -> &'a str
-        ensures value { result.now ≡ id_of (hash_text self.now) }
-        ensures reading { IsMcfText (hash_text self.now) result.now (fields_of (hash_text self.now)) }
+        ensures value { result.now ≡ id_of (borrowed_text self.now) }
+        ensures reading { IsMcfText (borrowed_text self.now) result.now (fields_of (borrowed_text self.now)) }
     {
         split_id(self.text).unwrap().0
     }
@@ -51,8 +51,8 @@ impl<'a> PasswordHashRef<'a> {
     /// Returns an iterator over the fields, in order.
     #[tactic(auto, using(crate::proofs::McfFacts::fields_of_parts))]
     pub fn fields(&self) -> Fields<'a>
-        ensures value { fields_left result ≡ fields_of (hash_text self.now) }
-        ensures reading { IsMcfText (hash_text self.now) (id_of (hash_text self.now)) (fields_left result) }
+        ensures value { fields_left result ≡ fields_of (borrowed_text self.now) }
+        ensures reading { IsMcfText (borrowed_text self.now) (id_of (borrowed_text self.now)) (fields_left result) }
     {
         Fields {
             left: split_id(self.text).unwrap().1,

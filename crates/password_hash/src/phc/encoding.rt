@@ -1,7 +1,7 @@
 //! The encoding of salts and keys: Base64 (RFC 4648, section 4) without padding.
 ghost use Rattle.std.specs.Prelude.{◌≡◌, ℕ, List, Some, IfSome};
 ghost use Rattle.password_hash.specs.Phc.{base64};
-ghost use Rattle.password_hash.specs.Stored.{AreBytesFromTo};
+ghost use Rattle.password_hash.specs.ShortBytes.{AreBytesFromTo};
 
 use crate::phc::short_bytes::ShortBytes;
 use base64::engine::general_purpose::STANDARD_NO_PAD;

@@ -2,7 +2,7 @@
 ghost use Rattle.std.specs.Prelude.{◌≡◌, ◌↔◌, ◌≤◌, true, length, nat_eq, IsSome, IfSome};
 ghost use Rattle.std.specs.Cmp.{partial_equiv_from_equiv};
 ghost use Rattle.std.specs.Cmp.Lexicographic.{pointwise, nat_list_eq_equiv};
-ghost use Rattle.password_hash.specs.Stored.{AreBytesFromTo};
+ghost use Rattle.password_hash.specs.ShortBytes.{AreBytesFromTo};
 
 use std::marker::Model;
 
@@ -15,7 +15,7 @@ pub(crate) struct ShortBytes<const LEAST: usize, const MOST: usize> {
 
 impl<const LEAST: usize, const MOST: usize> Model for ShortBytes<LEAST, MOST> {
     ghost use Rattle.std.specs.Prelude.{ℕ, List, take, length};
-    ghost use Rattle.password_hash.specs.Stored.{AreStored, padded};
+    ghost use Rattle.password_hash.specs.ShortBytes.{AreStored, padded};
     ghost use Rattle.std.proofs.Common.{length-take-le};
 
     ghost Value = { List ℕ };
@@ -72,7 +72,7 @@ impl<const LEAST: usize, const MOST: usize> PartialEq for ShortBytes<LEAST, MOST
 
     ghost laws = { partial_equiv_from_equiv nat_list_eq_equiv };
 
-    #[tactic(auto, using(crate::proofs::StoredFacts::tested))]
+    #[tactic(auto, using(crate::proofs::ShortBytesFacts::tested))]
     fn eq(&self, other: &ShortBytes<LEAST, MOST>) -> bool {
         are_same(self.as_bytes(), other.as_bytes())
     }
@@ -83,7 +83,7 @@ impl<const LEAST: usize, const MOST: usize> Eq for ShortBytes<LEAST, MOST> {
 }
 
 /// Returns whether these are the same bytes. Every byte is compared, also after a difference.
-#[tactic(auto, using(crate::proofs::StoredFacts::same_bytes))]
+#[tactic(auto, using(crate::proofs::ShortBytesFacts::same_bytes))]
 pub(super) fn are_same(a: &[u8], b: &[u8]) -> bool
     ensures { (result ≡ true) ↔ (a.now ≡ b.now) }
 {

@@ -3,7 +3,7 @@
 ghost use Rattle.std.specs.Prelude.{◌≡◌, ◌↔◌, ◌≤◌, ◌%◌, ◌^◌, ◌++◌, None, Some, length, drop, IsOk, IfOk, IfErr, OnErr, OnOk};
 ghost use Rattle.password_hash.specs.Crypt64.{letters_of};
 ghost use Rattle.password_hash.specs.declared.error.Error.TheVariants.{EncodingInvalid};
-ghost use Rattle.scrypt.specs.McfCosts.{five_letter_number};
+ghost use Rattle.scrypt.specs.McfParams.{five_letter_number};
 
 use password_hash::mcf::alphabet::{letter, number};
 use password_hash::{Error, Result};
@@ -31,7 +31,7 @@ pub fn decode64_uint32(letters: &[u8]) -> Result<u32>
 /// after them are unchanged.
 ///
 /// Returns `EncodingInvalid` exactly if `out` has fewer than five bytes, and leaves it unchanged.
-#[tactic(auto, using(crate::proofs::McfCostsFacts::five_letter_number_letters_of))]
+#[tactic(auto, using(crate::proofs::McfParamsFacts::five_letter_number_letters_of))]
 pub fn encode64_uint32(out: &mut [u8], number: u32) -> Result<()>
     ensures exact { IsOk result ↔ (5 ≤ length out.old) }
     ensures written { OnOk result (out.new ≡ letters_of 5 number ++ drop 5 out.old) }

@@ -9,7 +9,7 @@ ghost use Rattle.password_hash.specs.Parts.{dollar};
 ghost use Rattle.password_hash.specs.declared.error.Error.TheVariants.{OutOfMemory};
 ghost use Rattle.scrypt.specs.Accepted.{AreAccepted};
 ghost use Rattle.scrypt.specs.Cost.{chunks_bytes, cost, scratch_words, table_words};
-ghost use Rattle.scrypt.specs.McfCosts.{costs_text};
+ghost use Rattle.scrypt.specs.McfParams.{params_text};
 ghost use Rattle.scrypt.specs.Hashing.{key_len_or_default};
 ghost use Rattle.scrypt.specs.McfHash.{HashIsRefused, IsMadeHash, IsMcfOrNone, made_text_len};
 ghost use Rattle.password_hash.specs.Refusal.{refusal};
@@ -28,7 +28,7 @@ use password_hash::{CustomizedPasswordHasher, Error, PasswordHasher, Result, Ver
 use std::alloc::Global;
 
 // The number of bytes before the salt: `$7$` and the eleven letters of the parameters.
-const COSTS_LEN: usize = 14;
+const PARAMS_LEN: usize = 14;
 
 impl PasswordHasher<PasswordHash> for Scrypt {
     ghost hashes = { λ scrypt password salt hash. IsMadeHash scrypt password salt hash };
@@ -114,7 +114,7 @@ fn key_at(salt: &[u8]) -> usize
     ensures value { result ≡ 14 + length (crypt64_of salt.now) }
     ensures len { result ≡ 14 + encoded_len (length salt.now) }
 {
-    COSTS_LEN + Base64::Crypt.encoded_len(salt.len())
+    PARAMS_LEN + Base64::Crypt.encoded_len(salt.len())
 }
 
 // Writes the text of the hash, which fills `text`, in any memory.
@@ -142,28 +142,28 @@ fn write_text<T: Tables>(
     ensures scratch { scratch.new ≡ replicate (length scratch.old) 0 }
 {
     let key_at = key_at(salt);
-    write_costs_and_salt(text, params, salt);
-    let letters = &text[COSTS_LEN..key_at];
+    write_params_and_salt(text, params, salt);
+    let letters = &text[PARAMS_LEN..key_at];
     let key = stored_key::<T>(password, letters, params, chunks, tables, scratch, cores);
     write_key(&mut text[key_at..], key.as_bytes());
 }
 
 // Writes `$7$`, the letters of the parameters and those of the salt.
-fn write_costs_and_salt(out: &mut [u8], params: &Params, salt: &[u8])
+fn write_params_and_salt(out: &mut [u8], params: &Params, salt: &[u8])
     requires { 14 + length (crypt64_of salt.now) ≤ length out.old }
-    ensures written { out.new ≡ costs_text params.now
+    ensures written { out.new ≡ params_text params.now
         ++ (crypt64_of salt.now ++ drop (14 + length (crypt64_of salt.now)) out.old) }
     ensures accepted { AreAccepted params.now.log_n params.now.r params.now.p }
 {
-    out[..COSTS_LEN].copy_from_slice(&cost_letters(params));
-    let Ok(_) = Base64::Crypt.encode_slice(salt, &mut out[COSTS_LEN..]) else {
+    out[..PARAMS_LEN].copy_from_slice(&params_letters(params));
+    let Ok(_) = Base64::Crypt.encode_slice(salt, &mut out[PARAMS_LEN..]) else {
         unreachable!();
     };
 }
 
 // Returns `$7$` and the eleven letters of the parameters.
-fn cost_letters(params: &Params) -> [u8; COSTS_LEN]
-    ensures value { result ≡ costs_text params.now }
+fn params_letters(params: &Params) -> [u8; PARAMS_LEN]
+    ensures value { result ≡ params_text params.now }
     ensures accepted { AreAccepted params.now.log_n params.now.r params.now.p }
 {
     let mut letters = *b"$7$...........";

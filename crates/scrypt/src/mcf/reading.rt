@@ -2,12 +2,12 @@
 
 ghost use Rattle.std.specs.Prelude.{◌≡◌, ◌↔◌, ℕ, List, length, Ok, Err, IfOk, IfErr, IsTrue};
 ghost use Rattle.password_hash.specs.Crypt64.{Crypt64};
-ghost use Rattle.password_hash.specs.McfViews.{field_text, hash_text};
+ghost use Rattle.password_hash.specs.McfViews.{field_text, borrowed_text};
 ghost use Rattle.password_hash.specs.Refusal.{refusal};
 ghost use Rattle.scrypt.specs.Accepted.{IsOutputLen};
 ghost use Rattle.scrypt.specs.McfHash.{mcf_id, read_mcf};
 
-use crate::mcf::costs::decode_params_and_salt;
+use crate::mcf::params::decode_params_and_salt;
 use crate::{Params, output_len_ok};
 use password_hash::mcf::{Field, PasswordHashRef};
 use password_hash::{Error, Result};
@@ -15,7 +15,7 @@ use password_hash::{Error, Result};
 /// The parameters, the salt and the key of a hash. Nothing is copied: the salt and the key are parts of
 /// the text, and the key is not decoded.
 #[derive(Clone, Copy)]
-pub(crate) struct Stored<'a> {
+pub(crate) struct McfParts<'a> {
     pub(crate) params: Params,
     pub(crate) salt: &'a [u8],
     pub(crate) key: Field<'a>,
@@ -29,11 +29,11 @@ pub(crate) struct Stored<'a> {
 /// first field is missing, the errors of reading the first field, `EncodingInvalid` if the second
 /// field is missing, if it is not crypt Base64 or if a third field follows, and `OutputSize` if a
 /// key of this length cannot be derived.
-pub(crate) fn stored_of_mcf<'a>(hash: &PasswordHashRef<'a>) -> Result<Stored<'a>>
+pub(crate) fn stored_of_mcf<'a>(hash: &PasswordHashRef<'a>) -> Result<McfParts<'a>>
     ensures ok { IfOk result (λ stored. (key : List ℕ) × Crypt64 key (field_text stored.key) × (length key ≡ stored.key_len)
-        × (read_mcf (hash_text hash.now) ≡ Ok (record { params = stored.params; salt = stored.salt.now; key = key }))) }
+        × (read_mcf (borrowed_text hash.now) ≡ Ok (record { params = stored.params; salt = stored.salt.now; key = key }))) }
     ensures len { IfOk result (λ stored. IsOutputLen stored.key_len) }
-    ensures err { IfErr result (λ e. read_mcf (hash_text hash.now) ≡ Err (refusal e)) }
+    ensures err { IfErr result (λ e. read_mcf (borrowed_text hash.now) ≡ Err (refusal e)) }
 {
     if !is_mcf(hash.id()) {
         return Err(Error::Algorithm);
@@ -58,7 +58,7 @@ pub(crate) fn stored_of_mcf<'a>(hash: &PasswordHashRef<'a>) -> Result<Stored<'a>
     if !output_len_ok(key_len) {
         return Err(Error::OutputSize);
     }
-    Ok(Stored {
+    Ok(McfParts {
         params,
         salt,
         key,

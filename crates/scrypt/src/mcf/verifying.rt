@@ -1,7 +1,7 @@
 // Verifying `$7$` hashes.
 
 ghost use Rattle.std.specs.Prelude.{IsOk};
-ghost use Rattle.password_hash.specs.McfViews.{hash_text};
+ghost use Rattle.password_hash.specs.McfViews.{borrowed_text};
 ghost use Rattle.scrypt.specs.McfHash.{read_mcf};
 ghost use Rattle.scrypt.specs.Reading.{verdict as verdict_of};
 
@@ -14,9 +14,9 @@ use password_hash::{PasswordVerifier, Result};
 use std::alloc::Global;
 
 impl<'a> PasswordVerifier<PasswordHashRef<'a>> for Scrypt {
-    ghost verdict = { λ password hash. verdict_of password (read_mcf (hash_text hash)) };
+    ghost verdict = { λ password hash. verdict_of password (read_mcf (borrowed_text hash)) };
 
-    ghost needs_memory = { λ hash. IsOk (read_mcf (hash_text hash)) };
+    ghost needs_memory = { λ hash. IsOk (read_mcf (borrowed_text hash)) };
 
     /// Verifies the password with the parameters, the salt and the length of the key of the hash, and
     /// never with this value's parameters. The salt is passed to the derivation as the bytes of the

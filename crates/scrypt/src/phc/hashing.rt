@@ -13,7 +13,7 @@ use crate::buffers::{Buffers, used_lens};
 use crate::derivation::tables::Tables;
 use crate::hashing::{check_call, stored_key};
 use crate::phc::ALG_ID;
-use crate::phc::costs::written;
+use crate::phc::params::written;
 use crate::{CoreCount, Params, Scrypt};
 use password_hash::phc::{PasswordHash, Salt};
 use password_hash::{CustomizedPasswordHasher, Error, PasswordHasher, Result, Version};

@@ -12,7 +12,7 @@ use password_hash::{Error, Result};
 
 /// The parameters, the salt and the key of a hash. The salt and the key are borrowed from it.
 #[derive(Clone, Copy)]
-pub(crate) struct Stored<'a> {
+pub(crate) struct PhcParts<'a> {
     pub(crate) params: Params,
     pub(crate) salt: &'a [u8],
     pub(crate) key: &'a Output,
@@ -22,7 +22,7 @@ pub(crate) struct Stored<'a> {
 ///
 /// Returns the error of reading the parameters, or `PasswordInvalid` if the salt or the key is
 /// missing.
-pub(crate) fn stored_of<'a>(hash: &'a PasswordHash, params: &Result<Params>) -> Result<Stored<'a>>
+pub(crate) fn stored_of<'a>(hash: &'a PasswordHash, params: &Result<Params>) -> Result<PhcParts<'a>>
     requires { told params.now ≡ phc_params hash.now }
     ensures ok { IfOk result (λ stored. read_phc hash.now
         ≡ Ok (record { params = stored.params; salt = stored.salt.now; key = stored.key.now })) }
@@ -38,7 +38,7 @@ pub(crate) fn stored_of<'a>(hash: &'a PasswordHash, params: &Result<Params>) -> 
     let Some(key) = &hash.hash else {
         return Err(Error::PasswordInvalid);
     };
-    Ok(Stored {
+    Ok(PhcParts {
         params,
         salt: salt.as_bytes(),
         key,

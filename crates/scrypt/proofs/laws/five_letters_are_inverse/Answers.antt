@@ -1,4 +1,4 @@
-use Rattle.scrypt.proofs.McfCostsFacts.{five_letters_written_back}
+use Rattle.scrypt.proofs.McfParamsFacts.{five_letters_written_back}
 use Rattle.scrypt.proofs.laws.five_letters_are_inverse.Goals as goal
 
 pub returns-clause-written_back : goal.returns-clause-written_back

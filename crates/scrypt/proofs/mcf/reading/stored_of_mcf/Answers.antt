@@ -2,7 +2,7 @@ use Rattle.std.proofs.Common.{◌≡◌, ◌∙◌, List, ℕ, [], ◌∷◌, So
 use Rattle.std.specs.Iterator.{YieldsFirstBy}
 use Rattle.std.specs.Prelude.{Option, Result, is_some}
 use Rattle.std.proofs.lemmas.Bool.{false≢true}
-use Rattle.password_hash.specs.McfViews.{fields_left, hash_text, field_text}
+use Rattle.password_hash.specs.McfViews.{fields_left, borrowed_text, field_text}
 use Rattle.password_hash.specs.declared.mcf.field.Field.{Field}
 use Rattle.password_hash.specs.declared.mcf.fields.Fields.{Fields}
 use Rattle.scrypt.specs.McfHash.{read_fields, read_key, read_mcf}
@@ -15,7 +15,7 @@ use Rattle.scrypt.proofs.mcf.reading.stored_of_mcf.Goals.{After-next, After-next
 
 -- what is read of the fields
 fields_at : (c : After-next) {fields : List (List ℕ)} → fields_left c.fields-fields.result ≡ fields
-    → read_mcf (hash_text c.args.hash.now) ≡ read_fields fields
+    → read_mcf (borrowed_text c.args.hash.now) ≡ read_fields fields
 fields_at c are =
     read_seven c.fields-fields.ensures.reading (sym c.id.ensures.value ∙ c.is_mcf.ensures.0 c.if-not-is_mcf.false)
     ∙ ap read_fields are
@@ -23,7 +23,7 @@ fields_at c are =
 -- and of those after the first, whose parameters are accepted
 rest_at : (c : After-next-2) {after : List (List ℕ)} {key : Result (List ℕ) Refusal} → fields_left c.next.new.self ≡ after
     → read_key after ≡ key
-    → read_mcf (hash_text c.args.hash.now) ≡ key and_then λ key. Ok (record { params = c.in-Ok.read.0; salt = c.in-Ok.read.1.now; key = key })
+    → read_mcf (borrowed_text c.args.hash.now) ≡ key and_then λ key. Ok (record { params = c.in-Ok.read.0; salt = c.in-Ok.read.1.now; key = key })
 rest_at c {after} is read =
     read_seven c.fields-fields.ensures.reading (sym c.id.ensures.value ∙ c.is_mcf.ensures.0 c.if-not-is_mcf.false)
     ∙ ap read_fields (c.in-Some.ensures.steps ∙ ap₂ (λ z zs. z ∷ zs) (sym c.as_str.ensures.value) is)

@@ -1,6 +1,6 @@
 use Rattle.std.proofs.Common.{arith}
 use Rattle.std.proofs.lemmas.Grind.{common_steps}
-use Rattle.password_hash.proofs.StoredFacts.{stored}
+use Rattle.password_hash.proofs.ShortBytesFacts.{stored}
 use Rattle.password_hash.proofs.phc.short_bytes.ShortBytes.new.Goals as goal
 
 pub invariant_of-result : goal.invariant_of-result

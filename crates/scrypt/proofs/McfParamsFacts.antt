@@ -1,0 +1,195 @@
+-- Facts on five-letter numbers and on the parameters with which a field begins.
+use Rattle.std.proofs.Common.{◌≡◌, ℕ, ◌-◌, ◌/◌, ◌%◌, ◌^◌, ◌<◌, ◌≤◌, List, [], ◌∷◌, ◌++◌, length, take, drop, Some, None, unwrap_or}
+use Rattle.std.proofs.Common.{refl, sym, ap, ◌∙◌, arith, inl, inr, append_assoc, length-append, length-drop}
+use Rattle.std.specs.List.{slice_get}
+use Rattle.std.proofs.Math.Seq.{take-append_seam}
+use Rattle.std.proofs.lemmas.Bool.{le-ltb, cases_lt, lt-ltb}
+use Rattle.std.specs.Prelude.{All, Err, IsSome, Ok, Option, Result, nat_lt, ok_or, slice_index}
+use Rattle.std.proofs.lemmas.List.{append-nil, take_all, take-append-drop, length-take-le, drop-drop}
+use Rattle.std.proofs.lemmas.List.Elements.{All-head, All-tail}
+use Rattle.password_hash.specs.Crypt64.{letter, letter_value, letters_of, number_of, with_digit}
+use Rattle.password_hash.proofs.Crypt64Facts.{length-letters_of, letters_of-number_of, number_of-letters_of}
+use Rattle.password_hash.proofs.GroupFacts.{append_parts}
+use Rattle.password_hash.proofs.AlphabetFacts.{letter_value-letter, letter-of_value}
+use Rattle.password_hash.specs.Refusal.{Refusal, EncodingInvalid}
+use Rattle.scrypt.specs.Accepted.{AreAccepted, Parameters}
+use Rattle.scrypt.specs.McfParams.{params_letters, field_params, five_letter_number}
+use Rattle.scrypt.specs.Reading.{◌and_then◌, checked}
+use Rattle.scrypt.proofs.AcceptedFacts.{checked_ok, ok_if, small_params}
+use Rattle.scrypt.proofs.ReadingFacts.{NamesNoPassword, checked_none, err_none, if_none, some_none, then_none}
+
+-- where there are five letters, they say the number
+pub five_letter_number-some : (text : List ℕ) → 5 ≤ length text → five_letter_number text ≡ number_of (take 5 text)
+five_letter_number-some text some = rw (le-ltb (length text) 5 some) refl
+
+-- the five letters of a number are those of what is left of it modulo 2^30
+letters_of-modulo : (number : ℕ) → letters_of 5 number ≡ letters_of 5 (number % 2 ^ 30)
+unfolding letters_of
+letters_of-modulo number =
+    let first : number % 2 ^ 30 % 64 ≡ number % 64 = omega arith in
+    let second : number % 2 ^ 30 / 64 % 64 ≡ number / 64 % 64 = omega arith in
+    let third : number % 2 ^ 30 / 64 / 64 % 64 ≡ number / 64 / 64 % 64 = omega arith in
+    let fourth : number % 2 ^ 30 / 64 / 64 / 64 % 64 ≡ number / 64 / 64 / 64 % 64 = omega arith in
+    let fifth : number % 2 ^ 30 / 64 / 64 / 64 / 64 % 64 ≡ number / 64 / 64 / 64 / 64 % 64 = omega arith in
+    rw (first, second, third, fourth, fifth) refl
+
+-- the number modulo 2^30 is read back from a text that begins with its five letters
+pub five_letter_number_letters_of : (number : ℕ) (rest : List ℕ) → five_letter_number (letters_of 5 number ++ rest) ≡ Some (number % 2 ^ 30)
+five_letter_number_letters_of number rest =
+    let count : length (letters_of 5 number) ≡ 5 = length-letters_of 5 number in
+    let some : 5 ≤ length (letters_of 5 number ++ rest) = omega (arith, length-append (letters_of 5 number) rest, count) in
+    let front : take 5 (letters_of 5 number ++ rest) ≡ letters_of 5 number = rw count at (take-append_seam (letters_of 5 number) rest) in
+    five_letter_number-some (letters_of 5 number ++ rest) some ∙ ap number_of (front ∙ letters_of-modulo number)
+    ∙ number_of-letters_of 5 (number % 2 ^ 30) (omega arith)
+
+-- a text from one place to its end
+pub to_the_end : (bytes text : List ℕ) (place : ℕ) → bytes ≡ text → take (length bytes - place) (drop place bytes) ≡ drop place text
+to_the_end bytes text place same =
+    take_all (length bytes - place) (drop place bytes) (omega (arith, length-drop place bytes)) ∙ ap (drop place) same
+
+-- a field without bytes encodes no parameters
+pub empty_says_none : (field : List ℕ) → slice_get field 0 ≡ None → field_params field ≡ Err EncodingInvalid
+unfolding field_params
+empty_says_none [] none = refl
+empty_says_none (first ∷ field) none = absurd (cc)
+
+-- the parameters of these numbers, if they are there
+abbrev pub of_numbers : ℕ → Option ℕ → Option ℕ → Result Parameters Refusal
+of_numbers log_n r p = ok_or r EncodingInvalid and_then λ r. ok_or p EncodingInvalid and_then λ p. checked log_n r p
+
+-- what a field is read as, by the numbers in it
+pub field_says : (field : List ℕ) (first log_n : ℕ) (r p : Option ℕ) → slice_index field 0 ≡ first → first < 128
+    → unwrap_or (letter_value first) 255 ≡ log_n
+    → five_letter_number (drop 1 field) ≡ r → five_letter_number (drop 6 field) ≡ p → field_params field ≡ of_numbers log_n r p
+unfolding field_params
+field_says field first log_n r p is ascii log_n_is r_is p_is = rw (is, lt-ltb first 128 ascii, log_n_is, r_is, p_is) refl
+
+pub not_ascii : (field : List ℕ) (first : ℕ) → slice_index field 0 ≡ first → 128 ≤ first → field_params field ≡ Err EncodingInvalid
+unfolding field_params
+not_ascii field first is large = rw (is, le-ltb first 128 large) refl
+
+-- without r no numbers are there
+pub no_p : (log_n : ℕ) (r : Option ℕ) → of_numbers log_n r None ≡ Err EncodingInvalid
+no_p log_n None = refl
+no_p log_n (Some r) = refl
+
+-- a field is refused neither as a wrong password nor for memory
+
+numbers_none : (log_n : ℕ) (r p : Option ℕ) → NamesNoPassword (of_numbers log_n r p)
+numbers_none log_n r p =
+    then_none _ _ (some_none r EncodingInvalid refl)
+    (λ r. then_none _ _ (some_none p EncodingInvalid refl) (λ p. checked_none log_n r p))
+
+pub field_none : (field : List ℕ) → NamesNoPassword (field_params field)
+unfolding field_params
+field_none field =
+    if_none (nat_lt (slice_index field 0) 128) _ _
+    (numbers_none (unwrap_or (letter_value (slice_index field 0)) 255) (five_letter_number (drop 1 field)) (five_letter_number (drop 6 field)))
+    (err_none EncodingInvalid refl)
+
+-- numbers below 2^30 are read back from their five letters alone
+pub five_letters_read_back : (number : ℕ) → number < 2 ^ 30 → five_letter_number (letters_of 5 number) ≡ Some number
+five_letters_read_back number below =
+    let whole : number % 2 ^ 30 ≡ number = omega arith in
+    ap five_letter_number (sym (append-nil (letters_of 5 number))) ∙ five_letter_number_letters_of number [] ∙ ap Some whole
+
+-- five letters are those of the number that they say
+pub five_letters_written_back : (letters : List ℕ) (number : ℕ) → length letters ≡ 5 → five_letter_number letters ≡ Some number
+    → (letters_of 5 number ≡ letters) × (number < 2 ^ 30)
+five_letters_written_back letters number five says =
+    let read : number_of letters ≡ Some number =
+    ap number_of (sym (take_all 5 letters (omega arith))) ∙ sym (five_letter_number-some letters (omega arith)) ∙ says in
+    let both = letters_of-number_of letters number read in
+    rw five at both
+
+-- letters say a number
+number_said : (letters : List ℕ) → All (λ byte. IsSome (letter_value byte)) letters → IsSome (number_of letters)
+unfolding number_of
+number_said [] each = refl
+number_said (first ∷ letters) each =
+    both (letter_value first) (number_of letters)
+    (All-head (λ byte. IsSome (letter_value byte)) first letters each)
+    (number_said letters (All-tail (λ byte. IsSome (letter_value byte)) first letters each))
+  where
+    both : (value above : Option ℕ) → IsSome value → IsSome above → IsSome (with_digit value above)
+    both None above h k = h
+    both (Some value) None h k = k
+    both (Some value) (Some above) h k = refl
+
+pub five_letters_said : (letters : List ℕ) → length letters ≡ 5 → All (λ byte. IsSome (letter_value byte)) letters
+    → IsSome (five_letter_number letters)
+five_letters_said letters five each =
+    let is : five_letter_number letters ≡ number_of letters =
+    five_letter_number-some letters (omega arith) ∙ ap number_of (take_all 5 letters (omega arith)) in
+    rw is (number_said letters each)
+
+-- letters and five letters are those of one number
+letter-once : (value other : ℕ) → value < 64 → other < 64 → letter value ≡ letter other → value ≡ other
+letter-once value other below other_below same =
+    let values : Some value ≡ Some other =
+    sym (letter_value-letter value below) ∙ ap letter_value same ∙ letter_value-letter other other_below in
+    cc
+
+five_letters_once : (number other : ℕ) → number < 2 ^ 30 → other < 2 ^ 30 → letters_of 5 number ≡ letters_of 5 other → number ≡ other
+five_letters_once number other below other_below same =
+    let numbers : Some number ≡ Some other =
+    sym (five_letters_read_back number below) ∙ ap five_letter_number same ∙ five_letters_read_back other other_below in
+    cc
+
+-- the letters of accepted parameters are those of one log_n, one r and one p
+pub params_letters_once : (log_n r p other_log_n other_r other_p : ℕ) → AreAccepted log_n r p → AreAccepted other_log_n other_r other_p
+    → params_letters log_n r p ≡ params_letters other_log_n other_r other_p → (log_n ≡ other_log_n) × (r ≡ other_r) × (p ≡ other_p)
+params_letters_once log_n r p other_log_n other_r other_p fits other_fits same =
+    let small = small_params log_n r p fits in
+    let other_small = small_params other_log_n other_r other_p other_fits in
+    let first : letter log_n ≡ letter other_log_n = cc in
+    let after : letters_of 5 r ++ letters_of 5 p ≡ letters_of 5 other_r ++ letters_of 5 other_p = cc in
+    let parts = append_parts (letters_of 5 r) (letters_of 5 p) (letters_of 5 other_r) (letters_of 5 other_p)
+    (length-letters_of 5 r ∙ sym (length-letters_of 5 other_r)) after in (
+      letter-once log_n other_log_n (omega (arith, small.0)) (omega (arith, other_small.0)) first,
+      five_letters_once r other_r small.1 other_small.1 parts.0,
+      five_letters_once p other_p small.2 other_small.2 parts.1,
+    )
+
+-- a text that says a number begins with its five letters
+five_in_front : (text : List ℕ) (number : ℕ) → five_letter_number text ≡ Some number → text ≡ letters_of 5 number ++ drop 5 text
+five_in_front text number says = elim (cases_lt (length text) 5) [
+  | inl short ↦ let none : None ≡ Some number = rw (lt-ltb (length text) 5 short) at says in cc
+  | inr some ↦
+      let read : number_of (take 5 text) ≡ Some number = sym (five_letter_number-some text some) ∙ says in
+      let five : length (take 5 text) ≡ 5 = length-take-le 5 text some in
+      let front : letters_of 5 number ≡ take 5 text = rw five at (letters_of-number_of (take 5 text) number read).0 in
+      sym (take-append-drop 5 text) ∙ ap (λ z. z ++ drop 5 text) (sym front)
+]
+
+-- what says a number that is not 255 is a letter
+letter_said : (value : Option ℕ) (number : ℕ) → unwrap_or value 255 ≡ number → number ≤ 56 → value ≡ Some number
+letter_said None number says small = absurd (omega arith)
+letter_said (Some value) number says small = ap Some says
+
+-- the numbers that parameters were made of
+pub made_of : (log_n : ℕ) (r p : Option ℕ) (c : Parameters) → of_numbers log_n r p ≡ Ok c
+    → AreAccepted c.log_n c.r c.p × (log_n ≡ c.log_n) × (r ≡ Some c.r) × (p ≡ Some c.p)
+made_of log_n None p c is = absurd cc
+made_of log_n (Some r) None c is = absurd cc
+made_of log_n (Some r) (Some p) c is =
+    let made = checked_ok log_n r p c is in
+    rw (← made.1) (made.0, refl, refl, refl)
+
+-- a field that encodes accepted parameters begins with their letters
+pub field_is : (field : List ℕ) (c : Parameters) → field_params field ≡ Ok c → field ≡ params_letters c.log_n c.r c.p ++ drop 11 field
+unfolding field_params
+field_is [] c says = absurd cc
+field_is (first ∷ rest) c says =
+    let made = made_of _ _ _ c (ok_if (nat_lt first 128) _ EncodingInvalid says).1 in
+    let small = small_params c.log_n c.r c.p made.0 in
+    let is_letter = letter-of_value first c.log_n (letter_said (letter_value first) c.log_n made.1 small.0) in
+    let of_r : rest ≡ letters_of 5 c.r ++ drop 5 rest = five_in_front rest c.r made.2 in
+    let of_p : drop 5 rest ≡ letters_of 5 c.p ++ drop 5 (drop 5 rest) = five_in_front (drop 5 rest) c.p made.3 in
+    ap (λ byte. byte ∷ rest) (sym is_letter.1)
+    ∙ ap (λ z. letter c.log_n ∷ z)
+    (of_r ∙ ap (λ z. letters_of 5 c.r ++ z) (of_p ∙ ap (λ z. letters_of 5 c.p ++ z) (drop-drop 5 5 rest))
+    ∙ sym (append_assoc (letters_of 5 c.r) (letters_of 5 c.p) (drop 10 rest)))
+
+-- how the parameters and the salt of a field are read
+pub ruleset reading_field = (empty_says_none, to_the_end)

@@ -1,0 +1,143 @@
+// Conversions between parameters and the PHC format.
+
+ghost use Rattle.std.specs.Prelude.{◌≡◌, ◌^◌, codes, ok_or};
+ghost use Rattle.password_hash.specs.Decimal.{decimal_below};
+ghost use Rattle.password_hash.specs.Refusal.{ParamInvalid};
+ghost use Rattle.password_hash.specs.Value.{value_text};
+ghost use Rattle.scrypt.specs.Accepted.{IsStoredLen};
+ghost use Rattle.scrypt.specs.PhcConversions.{Writes, output_len_of, params_with_len};
+ghost use Rattle.scrypt.specs.PhcParams.{params_of_pairs, written_pairs};
+ghost use Rattle.scrypt.specs.Reading.{told};
+
+use crate::Params;
+use password_hash::phc::{ParamsString, PasswordHash, Value};
+use password_hash::{Error, Result};
+
+impl TryFrom<&ParamsString> for Params {
+    type Error = Error;
+
+    ghost try_from_gives = { λ text answer. told answer ≡ params_of_pairs text.now };
+
+    /// Reads the parameters `ln`, `r` and `p`. A missing one has its recommended value, and the result
+    /// has no length of a stored key.
+    ///
+    /// Returns the error of the first pair that has one: `ParamInvalid` with the name, if `ln` is
+    /// not a decimal of at most 255 or `r` or `p` is not a decimal, and `ParamsInvalid` for any
+    /// other name. Otherwise returns `ParamsInvalid` if [`Params::new`] does not accept the
+    /// parameters.
+    fn try_from(text: &ParamsString) -> Result<Params> {
+        params_of_pairs(text)
+    }
+}
+
+// Reads `ln`, `r` and `p`.
+fn params_of_pairs(text: &ParamsString) -> Result<Params>
+    ensures { told result ≡ params_of_pairs text.now }
+{
+    let mut log_n = Params::RECOMMENDED_LOG_N;
+    let mut r = Params::RECOMMENDED_R;
+    let mut p = Params::RECOMMENDED_P;
+    'pairs: for (name, value) in text.iter() {
+        match name.as_str() {
+            "ln" => log_n = log_n_of(value)?,
+            "r" => r = number_of(value, "r")?,
+            "p" => p = number_of(value, "p")?,
+            _ => return Err(Error::ParamsInvalid),
+        }
+    }
+    match Params::new(log_n, r, p) {
+        Ok(params) => Ok(params),
+        Err(_) => Err(Error::ParamsInvalid),
+    }
+}
+
+// Returns the value of `ln`, a decimal of at most 255.
+#[tactic(auto, using(crate::proofs::PhcReadingFacts::number_taken, crate::proofs::PhcReadingFacts::number_large, crate::proofs::PhcReadingFacts::no_number))]
+fn log_n_of(value: Value<'_>) -> Result<u8>
+    ensures { told result ≡ ok_or (decimal_below 256 (value_text value.entry)) (ParamInvalid (codes "ln")) }
+{
+    let refused = Err(Error::ParamInvalid { name: "ln" });
+    let Ok(number) = value.decimal() else {
+        return refused;
+    };
+    match u8::try_from(number) {
+        Ok(log_n) => Ok(log_n),
+        Err(_) => refused,
+    }
+}
+
+// Returns the value of a parameter, a decimal.
+#[tactic(auto, using(crate::proofs::PhcReadingFacts::number_taken, crate::proofs::PhcReadingFacts::number_large, crate::proofs::PhcReadingFacts::no_number))]
+fn number_of(value: Value<'_>, name: &'static str) -> Result<u32>
+    ensures { told result ≡ ok_or (decimal_below (2 ^ 32) (value_text value.entry)) (ParamInvalid name.now) }
+{
+    match value.decimal() {
+        Ok(number) => Ok(number),
+        Err(_) => Err(Error::ParamInvalid { name }),
+    }
+}
+
+impl TryFrom<&PasswordHash> for Params {
+    type Error = Error;
+
+    ghost try_from_gives = { λ hash answer. told answer ≡ params_with_len hash.now };
+
+    /// Reads the parameters of a hash, with the length of its key, or 32 if it has no key. The algorithm
+    /// is ignored.
+    ///
+    /// Returns `Version` if the hash has a version, and otherwise the errors of reading its
+    /// parameters.
+    fn try_from(hash: &PasswordHash) -> Result<Params> {
+        if hash.version.is_some() {
+            return Err(Error::Version);
+        }
+        match params_of_pairs(&hash.params) {
+            Ok(params) => Ok(params.with_output_len(output_len_of(hash))),
+            Err(refused) => Err(refused),
+        }
+    }
+}
+
+// Returns the length of a hash's key in bytes, or 32 if it has no key.
+fn output_len_of(hash: &PasswordHash) -> usize
+    ensures value { result ≡ output_len_of hash.now.hash }
+    ensures stored { IsStoredLen result }
+{
+    match &hash.hash {
+        Some(key) => key.len(),
+        None => Params::RECOMMENDED_LEN,
+    }
+}
+
+impl TryFrom<&Params> for ParamsString {
+    type Error = Error;
+
+    ghost try_from_gives = { λ params answer. Writes params.now answer };
+
+    /// Writes the parameters as `ln=..,r=..,p=..` in decimal digits. Never returns an error.
+    fn try_from(params: &Params) -> Result<ParamsString> {
+        Ok(written(params))
+    }
+}
+
+impl TryFrom<Params> for ParamsString {
+    type Error = Error;
+
+    ghost try_from_gives = { λ params answer. Writes params answer };
+
+    /// Writes the parameters as `ln=..,r=..,p=..` in decimal digits. Never returns an error.
+    fn try_from(params: Params) -> Result<ParamsString> {
+        Ok(written(&params))
+    }
+}
+
+// Writes the parameters of a hash.
+pub(super) fn written(params: &Params) -> ParamsString
+    ensures { result ≡ written_pairs params.now }
+{
+    let mut text = ParamsString::new();
+    text.add_decimal("ln", u32::from(params.log_n())).unwrap();
+    text.add_decimal("r", params.r()).unwrap();
+    text.add_decimal("p", params.p()).unwrap();
+    text
+}
