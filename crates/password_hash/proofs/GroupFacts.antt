@@ -151,27 +151,9 @@ record HasBytes (len : ℕ) : Type 0 where
 
 has_bytes : (len : ℕ) → 0 < len → len ≤ 3 → HasBytes len
 has_bytes = one_to_three HasBytes
-    (record {
-      room = omega arith;
-      shifted_out = λ number none. omega arith;
-      shifted_in =
-          λ number below. omega arith;
-      written = λ number below. omega arith;
-    })
-    (record {
-      room = omega arith;
-      shifted_out = λ number none. omega arith;
-      shifted_in =
-          λ number below. omega arith;
-      written = λ number below. omega arith;
-    })
-    (record {
-      room = omega arith;
-      shifted_out = λ number none. omega arith;
-      shifted_in =
-          λ number below. omega arith;
-      written = λ number below. omega arith;
-    })
+    (record { room = omega arith; shifted_out = λ n is. omega arith; shifted_in = λ n is. omega arith; written = λ n is. omega arith })
+    (record { room = omega arith; shifted_out = λ n is. omega arith; shifted_in = λ n is. omega arith; written = λ n is. omega arith })
+    (record { room = omega arith; shifted_out = λ n is. omega arith; shifted_in = λ n is. omega arith; written = λ n is. omega arith })
 
 -- what a group of letters encodes
 pub record Encodes (group bytes : List ℕ) : Type 0 where
