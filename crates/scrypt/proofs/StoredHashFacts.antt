@@ -67,12 +67,12 @@ seven_read text seven = read_seven (seven_is_mcf text seven) refl
 
 -- the reading of a text, by the hash that it is read as
 
-pub of_hash : {text : List ℕ} {hash : StoredText} → Reads text hash → HasReading text hash.whole
-of_hash {text} (mcf seven) = rw (seven_read text seven) (by_fields seven)
-of_hash (phc differs is) = by_hash differs is
+pub of_hash : (text : List ℕ) (hash : StoredText) → Reads text hash → HasReading text hash.whole
+of_hash text hash (mcf seven) = rw (seven_read text seven) (by_fields seven)
+of_hash text hash (phc differs is) = by_hash differs is
 
-pub of_none : {text : List ℕ} → ¬ IsStoredText text → HasReading text (Err EncodingInvalid)
-of_none {text} none =
+pub of_none : (text : List ℕ) → ¬ IsStoredText text → HasReading text (Err EncodingInvalid)
+of_none text none =
     let differs = not_true (is_mcf_text text) (λ seven. none (_, mcf seven)) in
     unread differs (λ is. none (_, phc differs is.1))
 
@@ -91,7 +91,7 @@ whole_once text one other (unread differs none) (unread differs' none') = refl
 
 -- a text that is not read has the reading of its error
 pub none_read : (text : List ℕ) (e : Error) → ¬ IsStoredText text → e ≡ error.EncodingInvalid → HasReading text (Err (refusal e))
-none_read text e none is = rw is (of_none none)
+none_read text e none is = rw is (of_none text none)
 
 -- the parameters and the whole of a hash
 

@@ -6,7 +6,7 @@ ghost use Rattle.password_hash.specs.Crypt64.{Crypt64, crypt64_of, letter_value,
 ghost use Rattle.password_hash.specs.Mcf.{IsMcfText};
 ghost use Rattle.password_hash.specs.Parts.{dollar};
 ghost use Rattle.password_hash.specs.Phc.{IsHashText, IsSalt, hash_text};
-ghost use Rattle.password_hash.specs.Refusal.{Refusal, OutOfMemory, PasswordInvalid};
+ghost use Rattle.password_hash.specs.Refusal.{Refusal, EncodingInvalid, OutOfMemory, PasswordInvalid};
 ghost use Rattle.password_hash.specs.declared.phc.hash.PasswordHash.{PasswordHash};
 ghost use Rattle.scrypt.specs.Accepted.{AreAccepted, IsStoredLen, Parameters};
 ghost use Rattle.scrypt_kernel.specs.BlockMix.{block_mix};
@@ -25,7 +25,7 @@ ghost use Rattle.scrypt.specs.Accepted.{without_len};
 ghost use Rattle.scrypt.specs.PhcParams.{params_of_pairs, written_pairs};
 ghost use Rattle.scrypt.specs.PhcHash.{HashIsRefused, IsMadeHash, phc_params, read_phc};
 ghost use Rattle.scrypt.specs.Reading.{Stored, verdict, weaker};
-ghost use Rattle.scrypt.specs.StoredHash.{HasReading, Reads, StoredText};
+ghost use Rattle.scrypt.specs.StoredHash.{HasReading, IsStoredText, Reads, StoredText};
 
 /// A shorter key is the beginning of a longer one, for any two lengths.
 #[tactic(auto, using(crate::proofs::KeyFacts::key_prefix))]
@@ -94,11 +94,14 @@ pub fn made_hashes_are_accepted()
         ++ dollar ∷ crypt64_of (key_by c password (crypt64_of salt) (key_len_or_default c)))) }
 {}
 
-/// The text of a stored hash has one reading, and so has any other text.
-#[tactic(auto, using(crate::proofs::StoredHashFacts::read_once, crate::proofs::StoredHashFacts::whole_once))]
+/// The text of a stored hash has one reading, that of the hash, and so has any other text.
+#[tactic(auto, using(crate::proofs::StoredHashFacts::read_once, crate::proofs::StoredHashFacts::whole_once,
+    crate::proofs::StoredHashFacts::of_hash, crate::proofs::StoredHashFacts::of_none))]
 pub fn stored_texts_have_one_reading()
     ensures whole { (text : List ℕ) (one other : Result Stored Refusal) → HasReading text one → HasReading text other → one ≡ other }
     ensures hash { (text : List ℕ) (one other : StoredText) → Reads text one → Reads text other → one ≡ other }
+    ensures of_hash { (text : List ℕ) (hash : StoredText) → Reads text hash → HasReading text hash.whole }
+    ensures of_none { (text : List ℕ) → ¬ IsStoredText text → HasReading text (Err EncodingInvalid) }
 {}
 
 /// The parameters of a stored hash are those of its reading, and so is the length of its key. An error of its
@@ -132,6 +135,7 @@ pub fn hashing_refusals_are_one()
 
 /// A password is accepted exactly if the stored key is the key of its length that the parameters and the salt
 /// of the hash derive from it. It is called wrong only if the stored key is another, or the hash has no key or no salt.
+#[tactic(auto, using(crate::proofs::ReadingFacts::verdict_right, crate::proofs::ReadingFacts::verdict_wrong))]
 pub fn verdicts_compare_keys()
     ensures right { (password : List ℕ) (reading : Result Stored Refusal) → (verdict password reading ≡ Ok tt)
         ↔ ((s : Stored) × (reading ≡ Ok s) × (s.key ≡ key_by s.params password s.salt (length s.key))) }
@@ -142,6 +146,8 @@ pub fn verdicts_compare_keys()
 
 /// No `$7$` text, and no PHC hash with a salt and a key, is refused with `PasswordInvalid` or `OutOfMemory` as it is read.
 /// The parameters of a stored hash, which need no salt and no key, never are.
+#[tactic(auto, using(crate::proofs::McfHashFacts::mcf_none, crate::proofs::PhcHashFacts::params_none,
+    crate::proofs::StoredHashFacts::stored_none))]
 pub fn reading_names_no_password()
     ensures mcf { (text : List ℕ) → (read_mcf text ≢ Err PasswordInvalid) × (read_mcf text ≢ Err OutOfMemory) }
     ensures params { (hash : PasswordHash) → (phc_params hash ≢ Err PasswordInvalid) × (phc_params hash ≢ Err OutOfMemory) }

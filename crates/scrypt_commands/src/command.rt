@@ -1,8 +1,9 @@
 // What the arguments ask for.
 
-ghost use Rattle.std.specs.Prelude.{◌≡◌, ◌↔◌, IfOk, IfErr, IsOk, IsTrue};
+ghost use Rattle.std.specs.Prelude.{◌≡◌, ◌↔◌, Err, IfOk, IfErr, IsOk, IsTrue, MatchResult};
+ghost use Rattle.password_hash.specs.Refusal as refusals;
 ghost use Rattle.hex.specs.Hex.{decode_of};
-ghost use Rattle.scrypt.specs.StoredHash.{IsStoredText, Reads};
+ghost use Rattle.scrypt.specs.StoredHash.{HasReading, IsStoredText, Reads};
 ghost use Rattle.scrypt_commands.specs.Args.{MakeArgs, RehashArgs, VerifyArgs, texts_of};
 ghost use Rattle.scrypt_commands.specs.Command.{command_request, has_allowed_len, params_of, request_of, salt_and_params, salt_of};
 ghost use Rattle.scrypt_commands.specs.Steps.{AreParamsAccepted, Gives, IsCommandFor};
@@ -167,6 +168,8 @@ fn stored_hash(text: &str) -> Result<StoredHash<'_>, CliError>
     ensures ok { IfOk result (Reads text.now) }
     ensures err { IfErr result (λ error.
         (error ≡ HashRefused EncodingInvalid) × (¬ IsStoredText text.now)) }
+    ensures reading { MatchResult result (λ hash. HasReading text.now hash.whole)
+        (λ _. HasReading text.now (Err refusals.EncodingInvalid)) }
 {
     match StoredHash::read(text) {
         Ok(hash) => Ok(hash),

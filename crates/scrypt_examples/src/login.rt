@@ -10,7 +10,7 @@ ghost use Rattle.scrypt.specs.StoredHash.{ByReading};
 ghost use Rattle.scrypt_examples.specs.Login.{AreWanted, IsEnrolled, let_in, lets_in, new_text};
 
 use password_hash::{Error, PasswordHasher, Result};
-use scrypt::laws::made_texts_are_accepted;
+use scrypt::laws::{made_texts_are_accepted, stored_texts_have_one_reading};
 use scrypt::phc::PasswordHash;
 use scrypt::{InvalidParams, Params, Scrypt, StoredHash};
 use std::alloc::Global;
@@ -65,6 +65,7 @@ impl Logins {
         ensures err { IfErr result (λ e. e ≡ OutOfMemory) }
     {
         made_texts_are_accepted();
+        stored_texts_have_one_reading();
         let hasher = Scrypt::new_with_params(self.wanted);
         let hash: PasswordHash = hasher.hash_password_with_salt(alloc, password, salt)?;
         Ok(hash.to_string(alloc)?)

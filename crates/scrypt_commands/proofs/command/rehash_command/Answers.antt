@@ -1,6 +1,5 @@
 use Rattle.std.proofs.Common.{inr, refl, sym}
 use Rattle.std.proofs.lemmas.Result.{err_from_is_err_and}
-use Rattle.scrypt.proofs.StoredHashFacts.{of_hash, of_none}
 use Rattle.scrypt_commands.proofs.CommandFacts.{rehash_asked, rehash_refused}
 use Rattle.scrypt_commands.proofs.OutcomeFacts.{unread_within}
 use Rattle.scrypt_commands.proofs.command.rehash_command.Goals as goal
@@ -13,9 +12,9 @@ returns-in_err-salt c =
 pub returns-in-Ok : goal.returns-in-Ok
 returns-in-Ok c =
     rw (rehash_asked _ _ _ _ _ _ _ c.in_ok-salt.ensures)
-    (λ none. none (_, c.in-Ok.ensures.ok), tt, λ bounds input. (_, of_hash c.in-Ok.ensures.ok, refl))
+    (λ none. none (_, c.in-Ok.ensures.ok), tt, λ bounds input. (_, c.in-Ok.ensures.reading, refl))
 
 pub returns-in-Err : goal.returns-in-Err
 returns-in-Err c =
     rw (c.in-Err.ensures.err.0, rehash_asked _ _ _ _ _ _ _ c.in_ok-salt.ensures)
-    (inr (refl, (c.in-Err.ensures.err.1, λ bounds input. (_, of_none c.in-Err.ensures.err.1, sym (unread_within _ _ _)))))
+    (inr (refl, (c.in-Err.ensures.err.1, λ bounds input. (_, c.in-Err.ensures.reading, sym (unread_within _ _ _)))))

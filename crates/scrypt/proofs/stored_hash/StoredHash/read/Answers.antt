@@ -6,7 +6,7 @@ pub returns-in-Ok-clause-ok : goal.returns-in-Ok-clause-ok
 returns-in-Ok-clause-ok c = reads_as c.args.text.now c.in-Ok.format c.in-Ok.ensures.ok
 
 pub returns-in-Ok-clause-reading : goal.returns-in-Ok-clause-reading
-returns-in-Ok-clause-reading c = of_hash (reads_as c.args.text.now c.in-Ok.format c.in-Ok.ensures.ok)
+returns-in-Ok-clause-reading c = of_hash _ _ (reads_as c.args.text.now c.in-Ok.format c.in-Ok.ensures.ok)
 
 pub returns-in-Err-clause-reading : goal.returns-in-Err-clause-reading
 returns-in-Err-clause-reading c =

@@ -2,7 +2,6 @@ use Rattle.std.proofs.Common.{arith}
 use Rattle.std.specs.Prelude.{IfSome}
 use Rattle.password_hash.specs.Phc.{IsSalt}
 use Rattle.scrypt.specs.Accepted.{IsStoredLen}
-use Rattle.scrypt.proofs.StoredHashFacts.{of_hash}
 use Rattle.scrypt_examples.proofs.login.Logins.text_of.Goals as goal
 
 pub returns-clause-enrolled : goal.returns-clause-enrolled
@@ -20,8 +19,9 @@ returns-clause-enrolled c =
     } in
     let len : IfSome wanted.output_len IsStoredLen = rw are.no_len tt in
     let law = c.made_texts_are_accepted.ensures.phc wanted c.args.password.now c.args.salt.now hash are.accepted len salt made in
+    let reading = c.stored_texts_have_one_reading.ensures.of_hash _ law.0 law.1 in
     record {
       made = (hash, made, printed);
-      accepts = rw printed (law.0.whole, of_hash law.1, law.2);
-      strong = rw printed (law.0.whole, of_hash law.1, law.3);
+      accepts = rw printed (law.0.whole, reading, law.2);
+      strong = rw printed (law.0.whole, reading, law.3);
     }
