@@ -44,7 +44,8 @@ pub data Reads (text : List ℕ) : StoredText → Type 0 where
 abbrev pub IsStoredText : List ℕ → Type 0
 IsStoredText text = (hash : StoredText) × Reads text hash
 
--- The reading of any text: of a `$7$` text by its fields, and of a PHC text by its hash.
+-- The reading of any text: that of the fields of a `$7$` text, that of the hash of a PHC text, and `EncodingInvalid` for
+-- any other.
 pub data HasReading (text : List ℕ) : Result Stored Refusal → Type 0 where
   by_fields : is_mcf_text text ≡ true → HasReading text (read_fields (fields_of text))
   by_hash : {hash : PasswordHash} → is_mcf_text text ≡ false → IsHashText text hash → HasReading text (read_phc hash)
