@@ -95,8 +95,7 @@ pub fn made_hashes_are_accepted()
 {}
 
 /// The text of a stored hash has one reading, that of the hash, and so has any other text.
-#[tactic(auto, using(crate::proofs::StoredHashFacts::read_once, crate::proofs::StoredHashFacts::whole_once,
-    crate::proofs::StoredHashFacts::of_hash, crate::proofs::StoredHashFacts::of_none))]
+#[tactic(auto, using(crate::proofs::StoredHashFacts::read_once, crate::proofs::StoredHashFacts::whole_once, crate::proofs::StoredHashFacts::of_hash, crate::proofs::StoredHashFacts::of_none))]
 pub fn stored_texts_have_one_reading()
     ensures whole { (text : List ℕ) (one other : Result Stored Refusal) → HasReading text one → HasReading text other → one ≡ other }
     ensures hash { (text : List ℕ) (one other : StoredText) → Reads text one → Reads text other → one ≡ other }
@@ -146,8 +145,7 @@ pub fn verdicts_compare_keys()
 
 /// No `$7$` text, and no PHC hash with a salt and a key, is refused with `PasswordInvalid` or `OutOfMemory` as it is read.
 /// The parameters of a stored hash, which need no salt and no key, never are.
-#[tactic(auto, using(crate::proofs::McfHashFacts::mcf_none, crate::proofs::PhcHashFacts::params_none,
-    crate::proofs::StoredHashFacts::stored_none))]
+#[tactic(auto, using(crate::proofs::McfHashFacts::mcf_none, crate::proofs::PhcHashFacts::params_none, crate::proofs::StoredHashFacts::stored_none))]
 pub fn reading_names_no_password()
     ensures mcf { (text : List ℕ) → (read_mcf text ≢ Err PasswordInvalid) × (read_mcf text ≢ Err OutOfMemory) }
     ensures params { (hash : PasswordHash) → (phc_params hash ≢ Err PasswordInvalid) × (phc_params hash ≢ Err OutOfMemory) }
