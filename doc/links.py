@@ -101,9 +101,11 @@ class Links:
 
         def link(at):
             kind, value = tokens[at]
-            if kind is Operator or value in ("if", "[]"):
-                name = {"if": "if◌then◌else◌", "[]": "[]"}.get(value, f"◌{value}◌")
-                found = place.imports.get(name)
+            name = {"if": "if◌then◌else◌", "[]": "[]"}.get(value, f"◌{value}◌")
+            # An operator may be a word.
+            own = place.own is not None and name in place.own.definitions
+            if kind is Operator or value in ("if", "[]") or kind is Name and (own or name in place.imports):
+                found = place.imports.get(name) or ((place.own.name, name) if own else None)
                 target = self.library.find(*found) if found else None
                 return self.cite(place, target) if target else None
             if kind is not Name or value in PLAIN:
