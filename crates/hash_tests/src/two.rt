@@ -151,6 +151,9 @@ fn two_within_limits(rt: HostRuntime) -> Result<(), Fail> {
         &mut scratch,
         &mut CoreCount::new(),
     );
-    assert_eq!(rt; verdicts, (Ok(()), Err(BoundedError::Hash(Error::PasswordInvalid))));
+    assert_eq!(rt;
+        verdicts,
+        (Ok(()), Err(BoundedError::Hash(Error::PasswordInvalid)))
+    );
     Ok(())
 }

@@ -10,8 +10,8 @@ ghost use Rattle.scrypt.specs.Cost.{thin_cost};
 ghost use Rattle.scrypt.specs.Key.{derived_key};
 
 use scrypt::{
-    BoundedError, BufferLens, CoreCount, Limits, Params, StoredHash, mcf, password_hash, scrypt_thin,
-    scrypt_with_buffers,
+    BoundedError, BufferLens, CoreCount, Limits, Params, StoredHash, mcf, password_hash,
+    scrypt_thin, scrypt_with_buffers,
 };
 use std::alloc::{AllocError, Global};
 

@@ -1,7 +1,7 @@
 //! Password hashes in the PHC string format.
 
-mod params;
 mod hashing;
+mod params;
 pub(crate) mod reading;
 mod verifying;
 
