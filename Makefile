@@ -108,6 +108,7 @@ oracle: lib
 	python3 examples/key_files/test_key_files.py crates/scrypt_tool/out/scrypt_tool build/lib/libscrypt_c.so
 	cd crates/test_verdicts && rt run < stdin > /dev/null
 	python3 compare/hostile.py crates/test_verdicts/out/test_verdicts
+	python3 compare/pairs.py build/lib/libscrypt_c.so
 	python3 compare/thin_cost.py
 
 lib: kit
