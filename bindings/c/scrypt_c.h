@@ -92,7 +92,7 @@ enum scrypt_status {
   SCRYPT_HASH_PARAMS_INVALID = 9, /* the parameters in the text are not accepted, or are not scrypt's */
   SCRYPT_SALT_INVALID = 10,       /* the salt has a length that is not allowed */
   SCRYPT_VERSION = 11,            /* the hash names a version, and scrypt has none */
-  SCRYPT_BUFFER_SIZE = 12,        /* a buffer does not have its length, or the text does not fit its capacity */
+  SCRYPT_BUFFER_SIZE = 12,        /* a buffer is too short or, for scrypt_kdf_thin, too long; or the text does not fit */
   SCRYPT_TOO_COSTLY = 13,         /* the parameters need more bytes or more work than the bounds allow */
   SCRYPT_NO_RANDOM_BYTES = 14,    /* the system has no random bytes */
   SCRYPT_KEY_TOO_SHORT = 15,      /* the key in the text is shorter than the bounds allow */
