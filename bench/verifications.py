@@ -3,8 +3,8 @@
 
 usage: verifications.py LIBRARY [NAME=WORKER..] [--runs 20] [--params 14,8,1:17,8,1:20,8,1] [--cpu N]
 
-This library (LIBRARY is libscrypt_c.so) verifies by scrypt_verify_in, in memory that is kept from call to call, and by
-scrypt_verify. libsodium verifies by crypto_pwhash_scryptsalsa208sha256_str_verify, and libxcrypt by crypt_r, whose
+This library (LIBRARY is libscrypt_c.so) verifies by scrypt_verify_in, in memory that is kept from call to call, by
+scrypt_verify, and two at once by scrypt_verify_two_in, of which half the time counts. libsodium verifies by crypto_pwhash_scryptsalsa208sha256_str_verify, and libxcrypt by crypt_r, whose
 answer is compared with the hash. hashlib, libscrypt-kdf and workers, which bench.py describes, have no call for it:
 they derive the key, and it is compared. All verify one $7$ hash, in one process (a worker is one of its own), in turns:
 in each of the runs every one verifies once, in a new random order. Before that each has to accept the password and to
@@ -27,7 +27,7 @@ import tables
 from libraries import DATA, SIZE, crypt64
 from worker import Worker
 
-IN_MEMORY, ALLOCATING = "`scrypt_verify_in`", "`scrypt_verify`"
+IN_MEMORY, ALLOCATING, AT_ONCE = "`scrypt_verify_in`", "`scrypt_verify`", "`scrypt_verify_two_in`, each"
 PASSWORD, OTHER = b"pleaseletmein", b"pleaseletmeIn"
 SALT = b"SodiumChloride.SodiumChloride.SodiumChlorid"  # 43 letters, as those of libsodium
 KEY_LEN = 32
@@ -58,7 +58,9 @@ def ours(path):
     library.scrypt_memory_new.restype = ctypes.c_void_p
     library.scrypt_verify_in.argtypes = [ctypes.c_void_p, DATA, SIZE, DATA, SIZE]
     library.scrypt_verify.argtypes = [DATA, SIZE, DATA, SIZE]
-    memory = library.scrypt_memory_new(UNBOUNDED, UNBOUNDED)
+    status = ctypes.POINTER(ctypes.c_int)
+    library.scrypt_verify_two_in.argtypes = [ctypes.c_void_p, *2 * [DATA, SIZE, DATA, SIZE, status]]
+    memory, room_for_two = (library.scrypt_memory_new(UNBOUNDED, UNBOUNDED) for _ in range(2))
 
     def in_memory(password, text, *_):
         return library.scrypt_verify_in(memory, password, len(password), text, len(text)) == 0
@@ -66,7 +68,17 @@ def ours(path):
     def allocating(password, text, *_):
         return library.scrypt_verify(password, len(password), text, len(text)) == 0
 
-    return {IN_MEMORY: timed(in_memory), ALLOCATING: timed(allocating)}
+    def two(password, text, *_):
+        one, other = ctypes.c_int(-1), ctypes.c_int(-1)
+        login = password, len(password), text, len(text)
+        library.scrypt_verify_two_in(room_for_two, *login, one, *login, other)
+        return one.value == other.value == 0
+
+    def half(password, text, *_):
+        nanoseconds, answer = timed(two)(password, text)
+        return nanoseconds // 2, answer
+
+    return {IN_MEMORY: timed(in_memory), ALLOCATING: timed(allocating), AT_ONCE: half}
 
 
 def libsodium(library):
