@@ -25,7 +25,7 @@ from files import read
 COUNTER = "crates/scrypt_kernel/proofs/cores/CoreCount/"
 BY_HAND = [COUNTER + it + "/Proof.antt" for it in ["after_core", "new"]]
 NEW_COUNTS = {
-    "crates/promises/src/lengths.rt": 2,
+    "crates/promises/src/lengths.rt": 3,
     "crates/scrypt/src/derivation.rt": 1,
     "crates/scrypt/src/mcf/hashing.rt": 1,
     "crates/scrypt/src/phc/hashing.rt": 1,
