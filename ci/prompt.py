@@ -28,6 +28,10 @@ ROWS = [
     (VERIFY, ["\x04"], 4, [*ONCE, "input failed"], "none at all"),
     (VERIFY, ["pass\x03"], -2, ONCE, "Ctrl-C ends it"),
     (HASH, ["password\n", "pass\x03"], -2, TWICE, "Ctrl-C at the second question"),
+    (VERIFY, ["pass\x1a", "password\n"], 0, [*ONCE, *ONCE, "ok"], "after Ctrl-Z it asks again, and not the shell"),
+    (HASH, ["password\n", "pass\x1a", *["password\n"] * 2], 0, [*TWICE, *TWICE, MADE], "Ctrl-Z at the second question"),
+    (VERIFY, ["x" * 4094 + "\n"], 1, [*ONCE, "no"], "the longest one"),
+    (VERIFY, ["x" * 4096 + "\n"], 4, [*ONCE, "The password may have been cut.", "input failed"], "one that Linux cuts"),
     ("verify $8$", [], 2, ["hash refused: EncodingInvalid"], "what is refused without a password asks for none"),
     ("--version", [], 0, [None], "nor does what needs none"),
 ]

@@ -8,10 +8,10 @@
 
 ssize_t read_or_ask(int fd, void *buffer, size_t len);
 
-enum { LINE = 4096 }; /* the longest line that Linux takes from a terminal, with its newline */
+enum { LINE = 4096 }; /* the longest line that Linux takes from a terminal, with its newline; it cuts longer ones to that */
 
 static int is_hash; /* whether the command is `hash`, whose password is asked for twice */
-static const int SIGNALS[] = {SIGINT, SIGQUIT, SIGTERM, SIGHUP, SIGTSTP};
+static const int SIGNALS[] = {SIGINT, SIGQUIT, SIGTERM, SIGHUP, SIGALRM, SIGPIPE, SIGTSTP, SIGTTIN, SIGTTOU};
 enum { SIGNAL_COUNT = sizeof SIGNALS / sizeof *SIGNALS };
 static volatile sig_atomic_t caught;
 
@@ -29,6 +29,9 @@ __attribute__((constructor)) static void find_command(int argc, char **argv) {
 
 static void note(int signal) { caught = signal; }
 
+/* Whether the program goes on after a signal, when it is in the foreground again. */
+static int only_stops(int signal) { return signal == SIGTSTP || signal == SIGTTIN || signal == SIGTTOU; }
+
 /* Writes to the terminal, or, if that was opened for reading alone, to the standard error. */
 static void say(const char *text) {
   size_t len = strlen(text);
@@ -42,7 +45,8 @@ static ssize_t line_of(const char *prompt, char *line) {
   say(prompt);
   ssize_t len = caught ? -1 : read(STDIN_FILENO, line, LINE);
   say("\n");
-  if (len > 0 && line[len - 1] == '\n') return len - 1;
+  if (len == LINE) say("The password may have been cut.\n");
+  if (len > 0 && len < LINE && line[len - 1] == '\n') return len - 1;
   return -1;
 }
 
@@ -58,22 +62,29 @@ static ssize_t password_of(char *line) {
   return same ? len : -1;
 }
 
-/* The same without echo. A signal that ends or stops the program does so only once the echo is back. */
-static ssize_t ask(char *line) {
+/* The same without echo. In the background this can't be turned off, and what the terminal is set to is the shell's. */
+static ssize_t without_echo(char *line) {
   struct termios with_echo, silent;
-  struct sigaction noted, before[SIGNAL_COUNT];
   if (tcgetattr(STDIN_FILENO, &with_echo) != 0) return -1;
+  silent = with_echo;
+  silent.c_lflag &= ~(tcflag_t)(ECHO | ECHOE | ECHOK | ECHONL);
+  if (tcsetattr(STDIN_FILENO, TCSAFLUSH, &silent) != 0) return -1;
+  ssize_t len = password_of(line);
+  tcsetattr(STDIN_FILENO, TCSAFLUSH, &with_echo);
+  return len;
+}
+
+/* A signal that ends or stops the program does so only once the echo is back. */
+static ssize_t ask(char *line) {
+  struct sigaction noted, before[SIGNAL_COUNT];
+  caught = 0;
   memset(&noted, 0, sizeof noted);
   noted.sa_handler = note; /* without SA_RESTART, so that the read ends */
   for (int i = 0; i < SIGNAL_COUNT; i++) {
     sigaction(SIGNALS[i], &noted, &before[i]);
     if (before[i].sa_handler == SIG_IGN) sigaction(SIGNALS[i], &before[i], NULL);
   }
-  silent = with_echo;
-  silent.c_lflag &= ~(tcflag_t)(ECHO | ECHOE | ECHOK | ECHONL);
-  ssize_t len = -1;
-  if (tcsetattr(STDIN_FILENO, TCSAFLUSH, &silent) == 0) len = password_of(line);
-  tcsetattr(STDIN_FILENO, TCSAFLUSH, &with_echo);
+  ssize_t len = without_echo(line);
   for (int i = 0; i < SIGNAL_COUNT; i++) sigaction(SIGNALS[i], &before[i], NULL);
   if (len < 0) explicit_bzero(line, LINE);
   if (caught) raise(caught);
@@ -86,7 +97,10 @@ ssize_t read_or_ask(int fd, void *buffer, size_t len) {
   static ssize_t rest = -2; /* how much of the line is left; -2 before it was asked for, and -1 if that failed */
   static char *next = line;
   if (fd != STDIN_FILENO || (rest == -2 && !isatty(fd))) return read(fd, buffer, len);
-  if (rest == -2) rest = ask(line);
+  if (rest == -2) {
+    do rest = ask(line);
+    while (rest < 0 && only_stops(caught)); /* or the shell would read the password that is typed next */
+  }
   if (rest < 0) {
     errno = EIO; /* not EINTR, which a reader may try again */
     return -1;
