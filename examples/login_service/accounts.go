@@ -20,19 +20,24 @@ type Accounts struct {
 	nobody string // a hash whose password nobody knows, verified if there is no other
 }
 
+// unseen has characters that no table of Unicode names: the blank of Braille, a notehead and a filler.
+const unseen = "\u2800\U0001d159\U00016fe4"
+
 // normal returns a name as the store has it, and whether it is allowed: in NFKC, so that one name can't be typed as two,
 // without spaces around it and more than one within, and with 1 to 64 characters, all of which are seen.
 func normal(name string) (string, bool) {
 	name = strings.TrimSpace(norm.NFKC.String(name))
 	for _, it := range name {
 		// IsGraphic is false for control and bidirectional characters. The two tables have letters and marks that aren't seen.
-		if !unicode.IsGraphic(it) || unicode.In(it, unicode.Other_Default_Ignorable_Code_Point, unicode.Variation_Selector) {
+		if !unicode.IsGraphic(it) || strings.ContainsRune(unseen, it) ||
+			unicode.In(it, unicode.Other_Default_Ignorable_Code_Point, unicode.Variation_Selector) {
 			return "", false
 		}
 	}
 	name = strings.Join(strings.Fields(name), " ")
 	count := utf8.RuneCountInString(name)
-	return name, utf8.ValidString(name) && count >= 1 && count <= 64
+	// The package makes another letter of a few rare ones with a mark, which isn't in NFKC: a session would not have its name.
+	return name, utf8.ValidString(name) && norm.NFKC.IsNormalString(name) && count >= 1 && count <= 64
 }
 
 // SignUp adds a user and returns the text of the hash, or errTaken.
