@@ -79,7 +79,11 @@ class Memories:
                 raise TimeoutError(f"no turn within {self._timeout} seconds: {len(self._turns)} other threads derive")
             yield wait
         finally:
-            self._turns.leave(wait)
+            try:
+                self._turns.leave(wait)
+            except BaseException:  # of a signal
+                self._turns.leave(wait)
+                raise
 
     def _memory_of(self, turn: Turn) -> int:
         self.check_open()

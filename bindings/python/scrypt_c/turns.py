@@ -4,10 +4,11 @@ from __future__ import annotations
 
 import collections
 import contextlib
+import itertools
 import queue
 import threading
 import weakref
-from typing import Generic, Iterable, Optional, TypeVar
+from typing import Any, Generic, Optional, TypeVar
 
 from . import library
 
@@ -20,6 +21,8 @@ class Turn:
     def __init__(self, has_room_for_two: bool) -> None:
         self.has_room_for_two = has_room_for_two
         self.memory: Optional[int] = None
+        self.holder: Optional[Wait[Any]] = None  # whose turn it is
+        self.last_use = 0
 
     def free(self) -> None:
         """Frees its memory."""
@@ -28,9 +31,10 @@ class Turn:
             library.memory_free(memory)
 
 
-def _free_all(turns: Iterable[Turn]) -> None:
+def _free_unused(turns: list[Turn]) -> None:
     for turn in turns:
-        turn.free()
+        if turn.holder is None:
+            turn.free()
 
 
 class Wait(Generic[Work]):
@@ -60,17 +64,20 @@ class Turns(Generic[Work]):
     """A turn for each processor, but at most `at_once`. Where that is more, so many turns have room for two.
 
     threading.Semaphore may give a turn to the thread that has just returned it while others wait, as long as that one
-    goes on; here it goes to the thread that has waited longest."""
+    goes on; here it goes to the thread that has waited longest.
+
+    A signal may raise an exception, as KeyboardInterrupt, after any call. So a turn changes hands by one assignment, to
+    `holder`, and what follows is done by `_end_waits` again."""
 
     def __init__(self, at_once: int, processors: int) -> None:
         count = min(at_once, processors)
         self._all = [Turn(it < at_once - count) for it in range(count)]
-        self._free = list(self._all)  # the last one is next
+        self._uses = itertools.count(1)
         self._waits: set[Wait[Work]] = set()  # from `take` to `leave`
         self._waiting: collections.deque[Wait[Work]] = collections.deque()  # those that nobody has begun with
         self._lock = threading.Lock()
         self.is_closed = False
-        weakref.finalize(self, _free_all, self._free)
+        weakref.finalize(self, _free_unused, self._all)
 
     def __len__(self) -> int:
         return len(self._all)
@@ -78,8 +85,10 @@ class Turns(Generic[Work]):
     def take(self, wait: Wait[Work], timeout: Optional[float] = None) -> bool:
         """Waits, and returns whether anybody has begun with the work within so many seconds. `leave` has to follow."""
         with self._lock:
-            if self._free:
-                wait.turn = self._free.pop()
+            free = self._free
+            if free:
+                wait.turn = free[-1]
+                wait.turn.holder = wait
                 return True
             self._waits.add(wait)
             self._waiting.append(wait)
@@ -92,44 +101,55 @@ class Turns(Generic[Work]):
         return wait.has_ended()  # a turn has come meanwhile, or another thread has begun
 
     def leave(self, wait: Wait[Work]) -> None:
-        """Lets the partner go on, and gives the turn to the next thread. A wait that was interrupted ends."""
+        """Lets the partner go on, and gives the turn to the next thread. A wait that was interrupted ends. If this is
+        interrupted, it has to be called again."""
         if wait.partner is not None:
             wait.partner.end()
         with self._lock:
+            self._end_waits()
             self._waits.discard(wait)
             if wait in self._waiting:
                 self._waiting.remove(wait)
-            turn, wait.turn = wait.turn, None
-            if turn is not None:
-                self._pass_on(turn)
+            if wait.turn is not None and wait.turn.holder is wait:
+                self._pass_on(wait.turn)
+        wait.turn = None
 
     def _pass_on(self, turn: Turn) -> None:
-        """To the thread that has waited longest, with the first that may share it; or back to the free ones."""
+        """To the thread that has waited longest, with the first that may share it; or to nobody."""
         if self.is_closed or turn not in self._all:
             turn.free()
-        if turn not in self._all:
+        if not self._waiting or turn not in self._all:
+            turn.last_use = next(self._uses)
+            turn.holder = None
             return
-        if not self._waiting:
-            self._keep(turn)
-            return
-        first = self._waiting.popleft()
-        first.turn = turn
+        first = self._waiting[0]
+        first.partner = None
         if turn.has_room_for_two and first.like is not None:
-            first.partner = next((it for it in self._waiting if it.like == first.like), None)
-            if first.partner is not None:
-                self._waiting.remove(first.partner)
-        first.end()
+            others = itertools.islice(self._waiting, 1, None)
+            first.partner = next((it for it in others if it.like == first.like), None)
+        first.turn = turn
+        turn.holder = first
+        self._end_waits()
 
-    def _keep(self, *turns: Turn) -> None:
-        """For later. One without room for two is next, if there is any, and else the one that was used last."""
-        self._free.extend(turns)
-        self._free.sort(key=lambda it: it.has_room_for_two, reverse=True)
+    def _end_waits(self) -> None:
+        """Ends the waits that have got a turn, and takes them and their partners from those that nobody has begun with."""
+        for wait in [it for it in self._waiting if it.turn is not None and it.turn.holder is it]:
+            wait.end()
+            if wait.partner is not None and wait.partner in self._waiting:
+                self._waiting.remove(wait.partner)
+            self._waiting.remove(wait)
+
+    @property
+    def _free(self) -> list[Turn]:
+        """The last one is next: one without room for two, if there is any, and else the one that was used last."""
+        free = [it for it in self._all if it.holder is None]
+        return sorted(free, key=lambda it: (not it.has_room_for_two, it.last_use))
 
     def close(self) -> None:
         """Frees what is kept, and from now on what comes back."""
         self.is_closed = True
         with self._lock:
-            _free_all(self._free)
+            _free_unused(self._all)
 
     def reset_in_child(self) -> None:
         """Makes every turn free, after a fork: the threads that hold some do not exist in the child. Their memories may
@@ -137,10 +157,7 @@ class Turns(Generic[Work]):
         a turn, that is one more, whose memory it frees in the end."""
         self._lock = threading.Lock()
         self._waiting.clear()
-        gone = [it for it in self._all if it not in self._free]
-        new = [Turn(it.has_room_for_two) for it in gone]
-        self._all = [it for it in self._all if it in self._free] + new
-        self._keep(*new)
+        self._all[:] = [it if it.holder is None else Turn(it.has_room_for_two) for it in self._all]
         for wait in self._waits:
             wait.end()
         self._waits.clear()

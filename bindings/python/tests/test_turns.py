@@ -5,6 +5,7 @@ import gc
 import os
 import random
 import signal
+import sys
 import threading
 import time
 import unittest
@@ -42,6 +43,42 @@ def turns_taken(hasher, count, seconds=None):
 def processors(count):
     """Lets hashers that are made meanwhile have so many processors."""
     return mock.patch.object(os, "sched_getaffinity", lambda _: set(range(count)))
+
+
+def others_waiting(memory_of, others_wait):
+    """In place of the call: lets others wait before the first one."""
+    calls = []
+
+    def call(turn):
+        if not calls:
+            calls.append(turn)
+            profile = sys.getprofile()
+            sys.setprofile(None)
+            others_wait()
+            sys.setprofile(profile)
+        return memory_of(turn)
+
+    return call
+
+
+def interrupted_after(steps, call, *arguments):
+    """Calls, and raises KeyboardInterrupt at a step of turns.py or memories.py. Whether there were so many steps."""
+    seen = 0
+
+    def profile(frame, event, _):
+        nonlocal seen
+        place, name = os.path.basename(frame.f_code.co_filename), frame.f_code.co_name
+        is_step = event in ("call", "c_return") and name != "<genexpr>"  # whose end hides exceptions
+        seen += is_step and place in ("turns.py", "memories.py")
+        if seen == steps:
+            sys.setprofile(None)
+            raise KeyboardInterrupt
+
+    sys.setprofile(profile)
+    with contextlib.suppress(KeyboardInterrupt):
+        call(*arguments)
+    sys.setprofile(None)
+    return seen >= steps
 
 
 def both(one):
@@ -251,6 +288,31 @@ class Threads(unittest.TestCase):
                 hasher.hash("pw")
         signal.signal(signal.SIGALRM, before)
         hasher.hash("pw")
+
+    def test_interrupted_after_each_call(self):
+        """An exception of a signal comes at the begin of a function of Python, or after one of C. No turn is lost, and no
+        other thread waits for ever."""
+        hasher = PasswordHasher(log_n=4, timeout=5)
+        text, step, was_interrupted = hasher.hash("pw"), 0, True
+        while was_interrupted:
+            step += 1
+            hasher._memories._turns = turns = Turns(2, 1)
+            others = [threading.Thread(target=hasher.verify, args=(text, "pw"), daemon=True) for _ in range(3)]
+
+            def others_wait(*_, waits=turns._waiting, threads=others):
+                for it in threads:
+                    it.start()
+                while len(waits) < len(threads):
+                    time.sleep(0)
+
+            with mock.patch.object(hasher._memories, "_memory_of", others_waiting(hasher._memories._memory_of, others_wait)):
+                was_interrupted = interrupted_after(step, hasher.verify, text, "pw")
+            for it in others:
+                if it.ident is not None:
+                    it.join(5)
+            self.assertFalse(any(it.is_alive() for it in others), f"others wait after step {step}")
+            self.assertEqual((len(turns._free), len(turns._waiting), len(turns._waits)), (1, 0, 0), f"step {step}")
+        self.assertGreater(step, 20)
 
     def test_an_error_gives_its_turn_back(self):
         hasher = PasswordHasher(log_n=4, at_once=1, timeout=5)
