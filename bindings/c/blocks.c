@@ -11,9 +11,9 @@
 #include <string.h>
 #include <sys/mman.h>
 
-/* From this size on the pages of a block are given back to the system: with a table of 16 MiB a key then takes 0.95 of the
- * time that it takes if they are overwritten. With one of 4 MiB it takes as long, and with a smaller one longer. */
-#define LARGE ((size_t)8 << 20)
+/* From this size on the pages of a block are given back to the system, which is faster than to overwrite them. The
+ * usual malloc has such a block mapped, and free unmaps it. */
+#define LARGE ((size_t)32 << 20)
 #define PAGE ((size_t)4096)
 
 /* Writes zeros, which the compiler may not leave out. */
