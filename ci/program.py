@@ -220,11 +220,13 @@ def main():
         if not right:
             print(f"{name}: wrong")
             wrong += 1
-    if shutil.which(os.environ.get("CC", "cc")):
+    if not shutil.which(os.environ.get("CC", "cc")):
+        print("No C compiler is here (package gcc): the program was not run on a terminal.")
+    elif not os.path.exists(f"{sys.argv[1]}.o"):
+        print("rt ci kept the proof of the program, and its object is not here: the program was not run on a terminal.")
+    else:
         wrong_at_terminal, at_terminal = wrong_rows(sys.argv[1])
         wrong, runs = wrong + wrong_at_terminal, runs + at_terminal
-    else:
-        print("No C compiler is here (package gcc): the program was not run on a terminal.")
     print(f"program: {runs - wrong} of {runs} runs ended as they should")
     sys.exit(1 if wrong else 0)
 
