@@ -5,7 +5,8 @@ use Rattle.std.proofs.Math.Seq.{take-add}
 use Rattle.std.proofs.lemmas.List.{take_at, drop_at, drop-take, take-take, take_min}
 use Rattle.std.proofs.lemmas.List.FromFn.{length-map-range_with_len}
 use Rattle.scrypt_kernel.specs.Pbkdf2.{pbkdf2, pbkdf2_byte, pbkdf2_from}
-use Rattle.scrypt.specs.Key.{chunks_of, derived_key}
+use Rattle.scrypt.specs.Cost.{chunks_bytes}
+use Rattle.scrypt.specs.Key.{derived_key, mixed_chunks}
 use Rattle.scrypt.specs.Reading.{Stored, is_right}
 use Rattle.scrypt.specs.StoredParts.{ArePartsOf}
 use Rattle.scrypt.specs.declared.stored_hash.parts.Parts.{Parts}
@@ -29,12 +30,13 @@ piece_of_pbkdf2 password salt at size n inside =
     ∙ take_at piece rest size (length-map-range_with_len (pbkdf2_byte password salt) at size)
 
 -- the password is right exactly if the key by the mixed chunks is that of the hash
-pub right_by_parts : (password mixed : List ℕ) (s : Stored) (parts : Parts) (same : Bool) → ArePartsOf s parts
-    → mixed ≡ chunks_of password parts.salt.now parts.params.log_n parts.params.r parts.params.p
+pub right_by_parts : (password b mixed : List ℕ) (s : Stored) (parts : Parts) (same : Bool) → ArePartsOf s parts
+    → b ≡ pbkdf2 password parts.salt.now (chunks_bytes parts.params.r parts.params.p)
+    → mixed ≡ mixed_chunks b parts.params.log_n parts.params.r parts.params.p
     → (same ≡ true) ↔ (s.key ≡ pbkdf2 password mixed (length s.key)) → same ≡ is_right password s
 unfolding derived_key
-right_by_parts password mixed s parts same are is tells =
-    told_right password s same (rw (is, ← are.salt, ← are.params) at tells)
+right_by_parts password b mixed s parts same are b_is is tells =
+    told_right password s same (rw (is, b_is, ← are.salt, ← are.params) at tells)
 
 -- two lists are the same up to the end of a piece where they are up to its beginning and in the piece
 same_more : (xs ys : List ℕ) (at n : ℕ)

@@ -12,6 +12,7 @@ use Rattle.scrypt_kernel.specs.Pbkdf2.{pbkdf2}
 use Rattle.scrypt.specs.Accepted.{Parameters}
 use Rattle.scrypt.specs.KeyOfParams.{key_by}
 use Rattle.scrypt.specs.Key.{derived_key, mixed_chunk, mixed_chunks}
+use Rattle.scrypt.specs.Mixing.{AreMixed}
 use Rattle.scrypt_kernel.proofs.PartFacts.{part_append_front, part_of_slice, part_put_same, part_put_other, parts_all, parts_apart}
 use Rattle.scrypt_kernel.proofs.Pbkdf2Facts.{length-pbkdf2, padded_digest, padded_zero_byte, pbkdf2-are_bytes, same_pbkdf2}
 
@@ -21,11 +22,6 @@ chunk_inside r p r' a i len r_is at below long =
     let apart = parts_apart (128 * r') i p below in
     let whole : len ≡ p * (128 * r') = long ∙ ap (λ m. p * (128 * m)) (sym r_is) in
     omega (arith, apart, whole, at)
-
--- the first i chunks of x are those of b after scryptROMix, and the others are those of b
-pub record AreMixed (b : List ℕ) (log_n r i : ℕ) (x : List ℕ) : Type 0 where
-  pub done : (k : ℕ) → k < i → part (128 * r) x k ≡ mixed_chunk b log_n r k
-  pub rest : (k : ℕ) → i ≤ k → part (128 * r) x k ≡ part (128 * r) b k
 
 -- one more chunk, mixed in place
 pub mixed_more : (b x ys : List ℕ) (log_n r i a n : ℕ) → a ≡ i * (128 * r) → n ≡ 128 * r
@@ -44,7 +40,7 @@ mixed_more b x ys log_n r i a n at size full room mixed before =
       rest = λ k h. let other : k ≢ i = omega arith in others k other ∙ before.rest k (omega arith);
     }
 
-length-part_at : (a s : ℕ) (x : List ℕ) → a + s ≤ length x → length (take s (drop a x)) ≡ s
+pub length-part_at : (a s : ℕ) (x : List ℕ) → a + s ≤ length x → length (take s (drop a x)) ≡ s
 length-part_at a s x room = length-take-le s (drop a x) (omega (arith, length-drop a x))
 
 -- two more chunks, mixed in place: one ends where front ends, and the other begins where back begins

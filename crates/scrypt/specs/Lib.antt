@@ -49,6 +49,8 @@ pub mod McfHash
 pub mod StoredHash
 -- verifying within limits
 pub mod WithinLimits
+-- private: the chunks of B, mixed one after another
+pub mod Mixing
 -- private: what a stored hash holds, and its key
 pub mod StoredRead
 pub mod StoredParts

@@ -26,15 +26,11 @@ unfoldable pub has_room : Parameters → Work → Bool
 has_room c w = nat_le (chunks_bytes c.r c.p) (length w.chunks)
     && (nat_le (table_words c.log_n c.r) (length w.table) && nat_le (scratch_words c.r) (length w.scratch))
 
--- whether a derivation with these parameters mixes two chunks at a time in this table and this scratch: it has more
--- than one, and each of the two gets a table and a scratch of its own
-unfoldable pub uses_two : Parameters → List ℕ → List ℕ → Bool
-uses_two c table scratch = nat_le 2 c.p
-    && (nat_le (2 * table_words c.log_n c.r) (length table) && nat_le (2 * scratch_words c.r) (length scratch))
-
--- how many tables and scratches it uses of them
+-- how many tables and scratches a derivation with these parameters uses of this table and this scratch: two, for two
+-- chunks at a time, if it has more than one chunk and there is room for both
 unfoldable pub tables_used : Parameters → List ℕ → List ℕ → ℕ
-tables_used c table scratch = if uses_two c table scratch then 2 else 1
+tables_used c table scratch = if nat_le 2 c.p
+    && (nat_le (2 * table_words c.log_n c.r) (length table) && nat_le (2 * scratch_words c.r) (length scratch)) then 2 else 1
 
 -- A derivation with these parameters was counted. What it used of the chunks and the scratch is zeros, and what is
 -- after the tables that it used is unchanged.

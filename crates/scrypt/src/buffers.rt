@@ -1,19 +1,19 @@
 // The three buffers of a derivation: the caller's, and allocated ones.
 
-ghost use Rattle.std.specs.Prelude.{◌≡◌, ◌↔◌, ◌*◌, ◌≤◌, length, IfOk, IfSome, IsSome, IsTrue};
+ghost use Rattle.std.specs.Prelude.{◌≡◌, ◌↔◌, ◌*◌, ◌≤◌, length, if◌then◌else◌, IfOk, IfSome, IsSome, IsTrue};
 ghost use Rattle.std.specs.Vec.{vec_capacity};
 ghost use Rattle.scrypt.specs.Cost.{chunks_bytes, scratch_words, table_words};
 ghost use Rattle.scrypt.specs.InBuffers.{AreEnough};
 ghost use Rattle.scrypt.specs.TwoVerdicts.{hold_two};
-ghost use Rattle.scrypt.specs.WorkInBuffers.{tables_used, uses_two};
+ghost use Rattle.scrypt.specs.WorkInBuffers.{tables_used};
 
 use crate::{BufferLens, Params};
 use std::alloc::{AllocError, Global};
 
 /// Returns whether a derivation in this table and this scratch mixes two chunks at a time.
-#[tactic(auto, unfolding(crate::specs::WorkInBuffers::uses_two))]
+#[tactic(auto, unfolding(crate::specs::WorkInBuffers::tables_used))]
 pub(crate) fn uses_two_tables(params: &Params, table: &[u32], scratch: &[u32]) -> bool
-    ensures exact { result ≡ uses_two params.now table.now scratch.now }
+    ensures exact { tables_used params.now table.now scratch.now ≡ (if result then 2 else 1) }
     ensures room { IsTrue result → 2 * table_words params.now.log_n params.now.r ≤ length table.now }
     ensures spare { IsTrue result → 2 * scratch_words params.now.r ≤ length scratch.now }
 {

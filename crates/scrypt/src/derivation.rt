@@ -1,11 +1,14 @@
 // The derived key (RFC 7914, section 6).
 
-ghost use Rattle.std.specs.Prelude.{◌≡◌, ◌↔◌, ◌+◌, ◌-◌, ◌*◌, ◌^◌, ◌<◌, ◌≤◌, length, IfSome, IsOk, IsSome, IsTrue, IsErrOf, OnOk, OnErr};
+ghost use Rattle.std.specs.Prelude.{◌≡◌, ◌↔◌, ℕ, List, ◌+◌, ◌-◌, ◌*◌, ◌^◌, ◌<◌, ◌≤◌, length, IfSome, IsOk, IsSome, IsTrue, IsErrOf, OnOk, OnErr};
 ghost use Rattle.scrypt_kernel.specs.Pbkdf2.{max_output_len, pbkdf2};
+ghost use Rattle.scrypt_kernel.specs.Table.{thin_ro_mix_cost};
+ghost use Rattle.scrypt_kernel.specs.Words.{part, words_of};
 ghost use Rattle.scrypt.specs.Accepted.{IsOutputLen};
 ghost use Rattle.scrypt.specs.Cost.{chunks_bytes, cost, scratch_words, table_words, thin_cost, thin_scratch_words};
 ghost use Rattle.scrypt.specs.Cost.{thin_chunks_cost};
 ghost use Rattle.scrypt.specs.Key.{derived_key, mixed_chunks};
+ghost use Rattle.scrypt.specs.Mixing.{AreMixed, HasRoom};
 ghost use Rattle.scrypt.specs.TwoVerdicts.{AreAlike, both_chunks_bytes};
 ghost use Rattle.scrypt.specs.declared.errors.DeriveError.TheVariants.{InvalidOutputLen as BadLength, OutOfMemory};
 
@@ -341,22 +344,42 @@ fn mix_chunks<M: Memory>(
     scratch: &mut [u32],
     cores: &mut CoreCount,
 )
-    requires spacing { s ≤ params.now.log_n }
     requires chunks { length chunks.old ≡ chunks_bytes params.now.r params.now.p }
-    requires room { table_words (params.now.log_n - s) params.now.r ≤ M.room rows.old }
-    requires scratch { scratch_words params.now.r ≤ length scratch.old }
-    requires spare { 0 < s → thin_scratch_words params.now.r ≤ length scratch.old }
+    requires memory { HasRoom params.now s (M.room rows.old) (length scratch.old) }
     ensures value { chunks.new ≡ mixed_chunks chunks.old params.now.log_n params.now.r params.now.p }
     ensures all { cores.new.all ≡ cores.old.all
         + thin_chunks_cost chunks.old params.now.log_n params.now.r params.now.p s }
     ensures lanes { cores.new.lanes ≡ cores.old.lanes
         + thin_chunks_cost chunks.old params.now.log_n params.now.r params.now.p s }
 {
-    let chunk_len = 128 * params.r() as usize;
     // Step 2: for i = 0 to p - 1 do B[i] = scryptROMix (r, B[i], N).
     'chunks: for i in 0..params.p() as usize {
-        let at = i * chunk_len;
-        let chunk = &mut chunks[at..at + chunk_len];
-        mix_chunk::<Diagonal, M>(chunk, rows, scratch, params.log_n(), s, cores);
+        mix_one::<M>(params, s, i, chunks, rows, scratch, cores);
     }
+}
+
+/// Step 2 for one `i`: B[i] = scryptROMix (r, B[i], N).
+pub(crate) fn mix_one<M: Memory>(
+    params: &Params,
+    s: u8,
+    i: usize,
+    chunks: &mut [u8],
+    rows: &mut M,
+    scratch: &mut [u32],
+    cores: &mut CoreCount,
+)
+    requires inside { i * (128 * params.now.r) + 128 * params.now.r ≤ length chunks.old }
+    requires memory { HasRoom params.now s (M.room rows.old) (length scratch.old) }
+    ensures mixed { (b : List ℕ) → AreMixed b params.now.log_n params.now.r i chunks.old
+        → AreMixed b params.now.log_n params.now.r (i + 1) chunks.new }
+    ensures room { M.room rows.old ≤ M.room rows.new }
+    ensures all { cores.new.all ≡ cores.old.all
+        + thin_ro_mix_cost (words_of (part (128 * params.now.r) chunks.old i)) params.now.log_n s params.now.r }
+    ensures lanes { cores.new.lanes ≡ cores.old.lanes
+        + thin_ro_mix_cost (words_of (part (128 * params.now.r) chunks.old i)) params.now.log_n s params.now.r }
+{
+    let chunk_len = 128 * params.r() as usize;
+    let at = i * chunk_len;
+    let chunk = &mut chunks[at..at + chunk_len];
+    mix_chunk::<Diagonal, M>(chunk, rows, scratch, params.log_n(), s, cores);
 }

@@ -4,10 +4,9 @@ ghost use Rattle.std.specs.Prelude.{◌≡◌, ◌+◌, ◌*◌, ◌≤◌, leng
 ghost use Rattle.scrypt.specs.Cost.{chunks_bytes, cost, scratch_words, table_words};
 ghost use Rattle.scrypt.specs.Key.{mixed_chunks};
 
+use crate::derivation::mix_one;
 use crate::{BufferLens, CoreCount, Params};
 use scrypt_kernel::memory::Buffer;
-use scrypt_kernel::order::diagonal::Diagonal;
-use scrypt_kernel::romix::mix_chunk;
 use scrypt_kernel::romix::pair::mix_two_chunks;
 
 /// Each of `count` chunks becomes its scryptROMix, two at a time and the last alone if their number is
@@ -46,9 +45,7 @@ pub(crate) fn mix_pairs(
         );
     }
     if count % 2 == 1 {
-        let at = (count - 1) * chunk_len;
-        let chunk = &mut chunks[at..at + chunk_len];
         let mut rows = Buffer::new(table);
-        mix_chunk::<Diagonal, Buffer<'_>>(chunk, &mut rows, scratch, params.log_n(), 0, cores);
+        mix_one::<Buffer<'_>>(params, 0, count - 1, chunks, &mut rows, scratch, cores);
     }
 }

@@ -1,6 +1,6 @@
 use Rattle.std.proofs.Common.{◌≡◌, ◌≤◌, ◌+◌, ◌*◌}
 use Rattle.scrypt.specs.Cost.{extra_rows_of_chunks, ro_mix_cost}
-use Rattle.scrypt.proofs.KeyFacts.{AreMixed}
+use Rattle.scrypt.specs.Mixing.{AreMixed}
 use Rattle.scrypt.proofs.derivation.mix_chunks.Given as goal
 
 abbrev pub invariant-chunks : goal.invariant-chunks

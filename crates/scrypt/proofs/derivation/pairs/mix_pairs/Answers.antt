@@ -1,11 +1,11 @@
 use Rattle.std.proofs.Common.{◌≡◌, ◌≤◌, ◌<◌, ◌+◌, ◌-◌, ◌*◌, ◌/◌, ℕ, List, length, take, drop, refl, sym, ap, ap₂, ◌∙◌, arith}
 use Rattle.std.proofs.lemmas.List.{length-drop, length-take-le}
-use borrow.Rule.Slice.PartMut.{same_len_mid}
 use Rattle.scrypt_kernel.specs.Words.{bytes_of, words_of}
 use Rattle.scrypt_kernel.specs.RoMix.{ro_mix}
 use Rattle.scrypt.specs.Cost.{ro_mix_cost}
 use Rattle.scrypt_kernel.proofs.WalkFacts.{whole_cost}
-use Rattle.scrypt.proofs.KeyFacts.{chunk_inside, chunks_are, mixed_more, mixed_pair}
+use Rattle.scrypt_kernel.proofs.PartFacts.{parts_apart}
+use Rattle.scrypt.proofs.KeyFacts.{chunk_inside, chunks_are, mixed_pair}
 use Rattle.scrypt.proofs.derivation.pairs.mix_pairs.Goals as goal
 
 -- the second chunk of a pair is in what is left after the first
@@ -90,65 +90,23 @@ one_more : (first before m i p : ℕ) → before ≡ first + m * i → i + 1 ≡
 one_more first before m i p until all = ap (λ n. n + m) until ∙ rw (← all) (omega arith)
 
 -- the last chunk, alone
-pub returns-then-count-eq1-clause-value : goal.returns-then-count-eq1-clause-value
-returns-then-count-eq1-clause-value c =
-    let r = c.args.params.now.r in
-    let p = c.args.count in
-    let log_n = c.args.params.now.log_n in
-    let a : ℕ = (c.args.count - 1) * (128 * c.r.result) in
-    let n : ℕ = a + 128 * c.r.result - a in
-    let x = c.pairs.chunks in
-    let last : 2 * c.pairs.k + 1 ≡ p = omega arith in
-    let place : c.args.count - 1 ≡ 2 * c.pairs.k = omega arith in
-    let m_is : 128 * c.r.result ≡ 128 * r = ap (λ i. 128 * i) c.r.ensures.value in
-    let n_is : n ≡ 128 * r = omega (arith, m_is) in
-    let a_is : a ≡ 2 * c.pairs.k * (128 * r) = ap₂ (λ i j. i * j) place m_is in
-    let long : length x ≡ p * (128 * r) = c.pairs.auto.chunks ∙ omega arith in
-    let room : a + 128 * c.r.result ≤ length x =
-    chunk_inside r p c.r.result a (2 * c.pairs.k) _ c.r.ensures.value (ap (λ i. i * (128 * c.r.result)) place) (omega arith) long in
-    let one : length (take n (drop a x)) ≡ 128 * r = length-take-le n (drop a x) (omega (arith, length-drop a x, room)) ∙ n_is in
-    chunks_are c.args.chunks.now _ log_n r p (2 * c.pairs.k + 1) last
-    (same_len_mid a n x c.mix_chunk.new.b c.mix_chunk.auto.b ∙ long)
-    (mixed_more c.args.chunks.now x c.mix_chunk.new.b log_n r (2 * c.pairs.k) a n a_is n_is (c.mix_chunk.auto.b ∙ one)
-    (omega (arith, room, m_is))
-    (c.mix_chunk.ensures.value ∙ ap (λ i. bytes_of (ro_mix (words_of (take n (drop a x))) i)) c.log_n-then-count-eq1.ensures.value)
-    c.pairs.invariant.mixed)
+pub mix_one-requires-clause-inside : goal.mix_one-requires-clause-inside
+mix_one-requires-clause-inside c =
+    omega (arith, c.pairs.auto.chunks, c.requires.chunks, parts_apart (128 * c.args.params.now.r) (c.args.count - 1) c.args.count (omega arith))
 
-pub returns-then-count-eq1-clause-all : goal.returns-then-count-eq1-clause-all
-returns-then-count-eq1-clause-all c =
+pub returns-then-count-eq1 : goal.returns-then-count-eq1
+returns-then-count-eq1 c =
     let r = c.args.params.now.r in
-    let p = c.args.count in
     let log_n = c.args.params.now.log_n in
-    let a : ℕ = (c.args.count - 1) * (128 * c.r.result) in
-    let n : ℕ = a + 128 * c.r.result - a in
-    let old : List ℕ = take n (drop a c.pairs.chunks) in
+    let before = c.pairs.invariant in
+    let mixed = c.mix_one in
     let place : c.args.count - 1 ≡ 2 * c.pairs.k = omega arith in
-    let room : a + 128 * c.r.result ≤ length c.pairs.chunks =
-    chunk_inside r p c.r.result a (2 * c.pairs.k) _ c.r.ensures.value (ap (λ i. i * (128 * c.r.result)) place) (omega arith)
-    (c.pairs.auto.chunks ∙ omega arith) in
-    let long : length old ≡ n = length-take-le n (drop a c.pairs.chunks) (omega (arith, length-drop a c.pairs.chunks, room)) in
-    let r_of_old : length old / 128 ≡ r = omega (arith, long, c.r.ensures.value) in
-    c.mix_chunk.ensures.all ∙ ap (λ i. c.pairs.cores.all + i) (whole_cost _ _ _ ∙ ap₂ ro_mix_cost c.log_n-then-count-eq1.ensures.value r_of_old)
-    ∙ one_more _ _ (ro_mix_cost log_n r) (2 * c.pairs.k) p c.pairs.invariant.all (omega arith)
-
-once : (n : ℕ) → 1 * n ≡ n
-once n = omega arith
-
-pub returns-then-count-eq1-clause-lanes : goal.returns-then-count-eq1-clause-lanes
-returns-then-count-eq1-clause-lanes c =
-    let r = c.args.params.now.r in
-    let p = c.args.count in
-    let log_n = c.args.params.now.log_n in
-    let a : ℕ = (c.args.count - 1) * (128 * c.r.result) in
-    let n : ℕ = a + 128 * c.r.result - a in
-    let old : List ℕ = take n (drop a c.pairs.chunks) in
-    let place : c.args.count - 1 ≡ 2 * c.pairs.k = omega arith in
-    let room : a + 128 * c.r.result ≤ length c.pairs.chunks =
-    chunk_inside r p c.r.result a (2 * c.pairs.k) _ c.r.ensures.value (ap (λ i. i * (128 * c.r.result)) place) (omega arith)
-    (c.pairs.auto.chunks ∙ omega arith) in
-    let long : length old ≡ n = length-take-le n (drop a c.pairs.chunks) (omega (arith, length-drop a c.pairs.chunks, room)) in
-    let r_of_old : length old / 128 ≡ r = omega (arith, long, c.r.ensures.value) in
-    let cost_is = whole_cost _ _ _ ∙ ap₂ ro_mix_cost c.log_n-then-count-eq1.ensures.value r_of_old in
-    c.mix_chunk.ensures.lanes ∙ ap (λ i. c.pairs.cores.lanes + 1 * i) cost_is
-    ∙ ap (λ i. c.pairs.cores.lanes + i) (once (ro_mix_cost log_n r))
-    ∙ one_more _ _ (ro_mix_cost log_n r) (2 * c.pairs.k) p c.pairs.invariant.lanes (omega arith)
+    let last : 2 * c.pairs.k + 1 ≡ c.args.count = omega arith in
+    record {
+      value = chunks_are c.args.chunks.now _ log_n r c.args.count (c.args.count - 1 + 1) (omega arith)
+          (omega (arith, mixed.auto.chunks, c.pairs.auto.chunks, c.requires.chunks))
+          (mixed.ensures.mixed c.args.chunks.now (rw place before.mixed));
+      all = mixed.ensures.all ∙ ap (λ n. c.pairs.cores.all + n) (whole_cost _ _ _) ∙ one_more _ _ (ro_mix_cost log_n r) _ _ before.all last;
+      lanes = mixed.ensures.lanes ∙ ap (λ n. c.pairs.cores.lanes + n) (whole_cost _ _ _)
+          ∙ one_more _ _ (ro_mix_cost log_n r) _ _ before.lanes last;
+    }

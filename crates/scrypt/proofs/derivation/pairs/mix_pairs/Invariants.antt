@@ -1,6 +1,6 @@
 use Rattle.std.proofs.Common.{◌≡◌, ◌+◌, ◌*◌}
 use Rattle.scrypt.specs.Cost.{ro_mix_cost}
-use Rattle.scrypt.proofs.KeyFacts.{AreMixed}
+use Rattle.scrypt.specs.Mixing.{AreMixed}
 use Rattle.scrypt.proofs.derivation.pairs.mix_pairs.Given as goal
 
 abbrev pub invariant-pairs : goal.invariant-pairs

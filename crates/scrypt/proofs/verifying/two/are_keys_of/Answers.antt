@@ -1,38 +1,31 @@
 use Rattle.std.proofs.Common.{◌≡◌, ◌∙◌, ◌+◌, ◌++◌, ap, ap₂, arith}
 use Rattle.std.proofs.lemmas.List.{take-append-drop}
-use Rattle.scrypt.specs.Key.{chunks_of, mixed_chunks}
+use Rattle.scrypt.specs.Key.{mixed_chunks}
 use Rattle.scrypt.proofs.ComparingFacts.{right_by_parts}
 use Rattle.scrypt.proofs.TwoVerdictsFacts.{both_mixed}
 use Rattle.scrypt.proofs.verifying.two.are_keys_of.Goals as goal
 use Rattle.scrypt.proofs.verifying.two.are_keys_of.Goals.{After-split_at}
 
 -- the chunks of each, mixed
-mixed_at : (c : After-split_at) → let parts = c.args.parts.now in let others = c.args.others.now in
-    (c.split_at.result.0.now ≡ chunks_of c.args.password.now parts.salt.now parts.params.log_n parts.params.r parts.params.p)
-    × (c.split_at.result.1.now ≡ chunks_of c.args.other_password.now others.salt.now others.params.log_n others.params.r others.params.p)
+mixed_at : (c : After-split_at) → let params = c.args.parts.now.params in let others = c.args.others.now.params in
+    (c.split_at.result.0.now ≡ mixed_chunks c.derive_chunks.new.chunks params.log_n params.r params.p)
+    × (c.split_at.result.1.now ≡ mixed_chunks c.derive_chunks-2.new.chunks others.log_n others.r others.p)
 mixed_at c =
     let params = c.args.parts.now.params in
     let others = c.args.others.now.params in
     let b = c.derive_chunks.new.chunks in
     let w = c.derive_chunks-2.new.chunks in
-    let front = c.split_at.result.0.now in
-    let back = c.split_at.result.1.now in
     let count : c.p.result + c.p-2.result ≡ params.p + others.p = ap₂ (λ i j. i + j) c.p.ensures.value c.p-2.ensures.value in
-    let whole : front ++ back ≡ mixed_chunks (b ++ w) params.log_n params.r (params.p + others.p) =
-    ap₂ (λ i j. i ++ j) c.split_at.ensures.front c.split_at.ensures.back ∙ take-append-drop c.of-len.result.chunks c.mix_pairs.new.chunks
-    ∙ c.mix_pairs.ensures.value ∙ ap (mixed_chunks (b ++ w) params.log_n params.r) count in
-    let both = both_mixed b w front back params others c.known.ensures.0 c.requires.alike
-    (omega arith) (omega arith) (omega arith) (omega arith) whole in (
-      both.0 ∙ ap (λ z. mixed_chunks z params.log_n params.r params.p) c.derive_chunks.ensures.value,
-      both.1 ∙ ap (λ z. mixed_chunks z others.log_n others.r others.p) c.derive_chunks-2.ensures.value,
-    )
+    both_mixed b w _ _ params others c.known.ensures.0 c.requires.alike (omega arith) (omega arith) (omega arith) (omega arith)
+    (ap₂ (λ i j. i ++ j) c.split_at.ensures.front c.split_at.ensures.back ∙ take-append-drop c.of-len.result.chunks c.mix_pairs.new.chunks
+    ∙ c.mix_pairs.ensures.value ∙ ap (mixed_chunks (b ++ w) params.log_n params.r) count)
 
 pub returns-clause-exact : goal.returns-clause-exact
 returns-clause-exact c s are =
-    right_by_parts c.args.password.now _ s c.args.parts.now c.is_derived_key-same.result are
+    right_by_parts c.args.password.now _ _ s c.args.parts.now c.is_derived_key-same.result are c.derive_chunks.ensures.value
     (mixed_at (goal.at.returns-clause-exact c).After-split_at).0 (c.is_derived_key-same.ensures.exact s are)
 
 pub returns-clause-other_exact : goal.returns-clause-other_exact
 returns-clause-other_exact c s are =
-    right_by_parts c.args.other_password.now _ s c.args.others.now c.is_derived_key-other_same.result are
+    right_by_parts c.args.other_password.now _ _ s c.args.others.now c.is_derived_key-other_same.result are c.derive_chunks-2.ensures.value
     (mixed_at (goal.at.returns-clause-other_exact c).After-split_at).1 (c.is_derived_key-other_same.ensures.exact s are)
