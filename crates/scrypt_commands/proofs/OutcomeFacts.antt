@@ -27,8 +27,7 @@ use Rattle.scrypt_commands.specs.declared.answer.Answer.{Answer}
 use Rattle.scrypt_commands.specs.declared.answer.Answer.TheVariants.{Verdict}
 use Rattle.scrypt_commands.specs.declared.args.Format.TheVariants.{Phc}
 use Rattle.scrypt_commands.specs.declared.error.CliError.{CliError}
-use Rattle.scrypt_commands.specs.declared.error.CliError.TheVariants.{HashRefused, InputFailed, OutOfMemory, OutputFailed}
-use Rattle.scrypt_commands.specs.declared.error.HashError.TheVariants.{SaltInvalid}
+use Rattle.scrypt_commands.specs.declared.error.CliError.TheVariants.{InputFailed, OutOfMemory, OutputFailed, SaltInvalid}
 
 salt_len_decided : (n : ℕ) → Decides (is_salt_len n) (IsSaltLen n)
 unfolding is_salt_len
@@ -48,7 +47,7 @@ phc_refused c password salt error why (by_algorithm h) is = absurd (h tt)
 phc_refused c password salt error why (by_version h i) is = absurd cc
 phc_refused c password salt error why (by_memory h i j) is = inl cc
 phc_refused c password salt error why (by_salt h i none) is =
-    let same : HashRefused SaltInvalid ≡ error = cc in
+    let same : SaltInvalid ≡ error = cc in
     rw (← same) (inr (refl, rw (fails _ (salt_len_decided (length salt)) none) refl))
 
 -- what holds of every input holds of that of a reader

@@ -47,21 +47,19 @@ format_of arg =
     else if bytes_eq arg (codes "mcf") then Some Mcf
     else None
 
--- the hash of the format that an argument names
-unfoldable pub named_hash_args : List ℕ → UncheckedParams → List ℕ → Option ℕ → Option CommandArgs
-named_hash_args format unchecked salt_hex len = do
+-- the hash of the format that the first argument names, with a key of this length, if one is named
+unfoldable pub named_hash_args : (format log_n r p salt_hex : List ℕ) → Option ℕ → Option CommandArgs
+named_hash_args format log_n r p salt_hex len = do
   format ← format_of format
+  unchecked ← unchecked_params log_n r p
   Some (MakeArgs (Hash format len) unchecked salt_hex)
 
 -- after `hash`: phc|mcf LOG_N R P SALT_HEX [LEN], with LEN below 2 ^ 64
 unfoldable pub hash_args : List (List ℕ) → Option CommandArgs
-hash_args (format ∷ log_n ∷ r ∷ p ∷ salt_hex ∷ []) = do
-  unchecked ← unchecked_params log_n r p
-  named_hash_args format unchecked salt_hex None
+hash_args (format ∷ log_n ∷ r ∷ p ∷ salt_hex ∷ []) = named_hash_args format log_n r p salt_hex None
 hash_args (format ∷ log_n ∷ r ∷ p ∷ salt_hex ∷ len ∷ []) = do
-  unchecked ← unchecked_params log_n r p
   len ← decimal_below (2 ^ 64) len
-  named_hash_args format unchecked salt_hex (Some len)
+  named_hash_args format log_n r p salt_hex (Some len)
 hash_args args = None
 
 -- after `verify`: HASH

@@ -25,8 +25,7 @@ use Rattle.scrypt_commands.specs.declared.args.Format.TheVariants.{Phc, Mcf}
 use Rattle.scrypt_commands.specs.declared.args.Target.{Target}
 use Rattle.scrypt_commands.specs.declared.args.Target.TheVariants.{Key, Hash}
 use Rattle.scrypt_commands.specs.declared.error.CliError.{CliError}
-use Rattle.scrypt_commands.specs.declared.error.CliError.TheVariants.{HashRefused}
-use Rattle.scrypt_commands.specs.declared.error.HashError.TheVariants.{KeyTooShort, SaltInvalid, TooCostly}
+use Rattle.scrypt_commands.specs.declared.error.CliError.TheVariants.{KeyTooShort, SaltInvalid, TooCostly}
 
 -- the status, the line for the output and the line for the errors
 pub record Outcome : Type 0 where
@@ -64,7 +63,7 @@ is_salt_len n = nat_le 1 n && nat_le n 64
 -- the text of a new hash of this format; a `$7$` hash takes any salt
 abbrev pub new_hash : Format → Parameters → List ℕ → List ℕ → Result (List ℕ) CliError
 new_hash Phc c password salt =
-    if is_salt_len (length salt) then Ok (phc_text c password salt) else Err (HashRefused SaltInvalid)
+    if is_salt_len (length salt) then Ok (phc_text c password salt) else Err SaltInvalid
 new_hash Mcf c password salt = Ok (mcf_text c password salt)
 
 -- the text of what is made of a password and a salt: a derived key in hexadecimal, or a hash
@@ -98,8 +97,8 @@ rehash_outcome (Err why) is_weaker new = verdict_outcome (Err why)
 abbrev pub limit_error : {A : Type 0} → Result A BoundedRefusal → Option CliError
 limit_error (Ok s) = None
 limit_error (Err (bounded.Hash why)) = None
-limit_error (Err bounded.TooCostly) = Some (HashRefused TooCostly)
-limit_error (Err bounded.KeyTooShort) = Some (HashRefused KeyTooShort)
+limit_error (Err bounded.TooCostly) = Some TooCostly
+limit_error (Err bounded.KeyTooShort) = Some KeyTooShort
 
 -- the same, if there are limits
 abbrev pub excess : Option Limits → Result Stored Refusal → Option CliError

@@ -16,7 +16,7 @@ ghost use Rattle.scrypt_commands.specs.declared.error.CliError.TheVariants.{OutO
 use crate::args::{Format, Target};
 use crate::bounds::Bounds;
 use crate::command::Command;
-use crate::error::{CliError, HashError};
+use crate::error::CliError;
 use password_hash::{PasswordHasher, mcf, phc};
 use scrypt::laws::{hashers_are_accepted, made_hashes_are_accepted, texts_have_one_reading};
 use scrypt::{BoundedError, Limits, Params, Scrypt, StoredHash, scrypt};
@@ -60,8 +60,8 @@ impl<'a> Command<'a> {
     /// Carries out the command on this input, which is the password. A hash is verified only
     /// within the bounds, if there are any.
     ///
-    /// Returns `HashRefused` if hashing or verifying refuses, or if a hash exceeds the bounds, and
-    /// `OutOfMemory` if an allocation fails.
+    /// Returns the error of hashing or verifying, also `TooCostly` or `KeyTooShort` if a hash exceeds
+    /// the bounds, and `OutOfMemory` if an allocation fails.
     pub fn answer(
         &self,
         alloc: Global,
@@ -120,8 +120,8 @@ fn excess(hash: &StoredHash<'_>, limits: Option<Limits>) -> Option<CliError>
     ensures { result ≡ excess limits hash.now.whole }
 {
     match hash.buffer_lens_within(&limits?) {
-        Err(BoundedError::TooCostly) => Some(CliError::HashRefused(HashError::TooCostly)),
-        Err(BoundedError::KeyTooShort) => Some(CliError::HashRefused(HashError::KeyTooShort)),
+        Err(BoundedError::TooCostly) => Some(CliError::TooCostly),
+        Err(BoundedError::KeyTooShort) => Some(CliError::KeyTooShort),
         Ok(_) | Err(BoundedError::Hash(_)) => None,
     }
 }

@@ -1,6 +1,6 @@
 // The arguments of a command, with their decimals read.
 
-ghost use Rattle.std.specs.Prelude.{◌≡◌, ◌^◌, map, option_map, string_bytes};
+ghost use Rattle.std.specs.Prelude.{◌≡◌, ◌^◌, ◌∷◌, [], map, option_map, string_bytes};
 ghost use Rattle.password_hash.specs.Decimal.{decimal_below};
 ghost use Rattle.scrypt_commands.specs.Args.{args_of, format_of, hash_args, key_args, named_hash_args, rehash_args, unchecked_params, verify_args};
 ghost use Rattle.scrypt_commands.specs.Steps.{args_view};
@@ -76,50 +76,81 @@ impl<'a> Args<'a> {
 }
 
 // Parses LOG_N R P LEN SALT_HEX.
+#[tactic(auto, using(crate::proofs::ArgsFacts::are_five, crate::proofs::ArgsFacts::not_key_args))]
 fn parse_key<'a>(args: &'a [String]) -> Option<Args<'a>>
     ensures { option_map args_view result ≡ key_args (map string_bytes args.now) }
 {
-    let [log_n, r, p, len, salt_hex] = args else {
-        return None;
-    };
-    let unchecked = parse_params(log_n.as_str(), r.as_str(), p.as_str())?;
-    let len = parse_len(len.as_str())?;
+    match args {
+        [log_n, r, p, len, salt_hex] => key_of_words(
+            log_n.as_str(),
+            r.as_str(),
+            p.as_str(),
+            len.as_str(),
+            salt_hex.as_str(),
+        ),
+        _ => None,
+    }
+}
+
+// Returns the arguments of a key.
+#[tactic(auto, unfolding(crate::specs::Args::key_args))]
+fn key_of_words<'a>(log_n: &str, r: &str, p: &str, len: &str, salt_hex: &'a str) -> Option<Args<'a>>
+    ensures { option_map args_view result
+        ≡ key_args (log_n.now ∷ r.now ∷ p.now ∷ len.now ∷ salt_hex.now ∷ []) }
+{
+    let unchecked = parse_params(log_n, r, p)?;
+    let len = parse_len(len)?;
     Some(Args::Make {
         target: Target::Key { len },
         unchecked,
-        salt_hex: salt_hex.as_str(),
+        salt_hex,
     })
 }
 
 // Parses phc|mcf LOG_N R P SALT_HEX [LEN].
+#[tactic(auto, using(crate::proofs::ArgsFacts::are_five, crate::proofs::ArgsFacts::are_six, crate::proofs::ArgsFacts::not_hash_args), unfolding(crate::specs::Args::hash_args))]
 fn parse_hash<'a>(args: &'a [String]) -> Option<Args<'a>>
     ensures { option_map args_view result ≡ hash_args (map string_bytes args.now) }
 {
     match args {
-        [format, log_n, r, p, salt_hex] => {
-            let unchecked = parse_params(log_n.as_str(), r.as_str(), p.as_str())?;
-            parse_named_hash(format.as_str(), unchecked, salt_hex.as_str(), None)
-        }
+        [format, log_n, r, p, salt_hex] => hash_of_words(
+            format.as_str(),
+            log_n.as_str(),
+            r.as_str(),
+            p.as_str(),
+            salt_hex.as_str(),
+            None,
+        ),
         [format, log_n, r, p, salt_hex, len] => {
-            let unchecked = parse_params(log_n.as_str(), r.as_str(), p.as_str())?;
             let len = parse_len(len.as_str())?;
-            parse_named_hash(format.as_str(), unchecked, salt_hex.as_str(), Some(len))
+            hash_of_words(
+                format.as_str(),
+                log_n.as_str(),
+                r.as_str(),
+                p.as_str(),
+                salt_hex.as_str(),
+                Some(len),
+            )
         }
         _ => None,
     }
 }
 
-// Returns the arguments of a hash of this format, phc or mcf.
+// Returns the arguments of a hash with this length, if one is named.
 #[tactic(auto, unfolding(crate::specs::Args::named_hash_args))]
-fn parse_named_hash<'a>(
+fn hash_of_words<'a>(
     format: &str,
-    unchecked: UncheckedParams,
+    log_n: &str,
+    r: &str,
+    p: &str,
     salt_hex: &'a str,
     len: Option<usize>,
 ) -> Option<Args<'a>>
-    ensures { option_map args_view result ≡ named_hash_args format.now unchecked salt_hex.now len }
+    ensures { option_map args_view result
+        ≡ named_hash_args format.now log_n.now r.now p.now salt_hex.now len }
 {
     let format = parse_format(format)?;
+    let unchecked = parse_params(log_n, r, p)?;
     Some(Args::Make {
         target: Target::Hash { format, len },
         unchecked,
@@ -141,21 +172,47 @@ fn parse_verify<'a>(args: &'a [String]) -> Option<Args<'a>>
 }
 
 // Parses phc|mcf LOG_N R P LEN SALT_HEX HASH.
+#[tactic(auto, using(crate::proofs::ArgsFacts::are_seven, crate::proofs::ArgsFacts::not_rehash_args))]
 fn parse_rehash<'a>(args: &'a [String]) -> Option<Args<'a>>
     ensures { option_map args_view result ≡ rehash_args (map string_bytes args.now) }
 {
-    let [format, log_n, r, p, len, salt_hex, text] = args else {
-        return None;
-    };
-    let format = parse_format(format.as_str())?;
-    let unchecked = parse_params(log_n.as_str(), r.as_str(), p.as_str())?;
-    let len = parse_len(len.as_str())?;
+    match args {
+        [format, log_n, r, p, len, salt_hex, text] => rehash_of_words(
+            format.as_str(),
+            log_n.as_str(),
+            r.as_str(),
+            p.as_str(),
+            len.as_str(),
+            salt_hex.as_str(),
+            text.as_str(),
+        ),
+        _ => None,
+    }
+}
+
+// Returns the arguments of a new hash.
+#[tactic(auto, unfolding(crate::specs::Args::rehash_args))]
+fn rehash_of_words<'a>(
+    format: &str,
+    log_n: &str,
+    r: &str,
+    p: &str,
+    len: &str,
+    salt_hex: &'a str,
+    text: &'a str,
+) -> Option<Args<'a>>
+    ensures { option_map args_view result ≡ rehash_args
+        (format.now ∷ log_n.now ∷ r.now ∷ p.now ∷ len.now ∷ salt_hex.now ∷ text.now ∷ []) }
+{
+    let format = parse_format(format)?;
+    let unchecked = parse_params(log_n, r, p)?;
+    let len = parse_len(len)?;
     Some(Args::Rehash {
         format,
         unchecked,
         len,
-        salt_hex: salt_hex.as_str(),
-        text: text.as_str(),
+        salt_hex,
+        text,
     })
 }
 
@@ -167,15 +224,31 @@ pub fn parse_len(arg: &str) -> Option<usize>
     read_decimal(arg)
 }
 
+// Parses R or P.
+fn parse_word(arg: &str) -> Option<u32>
+    ensures { result ≡ decimal_below (2 ^ 32) arg.now }
+{
+    decimals_are_read();
+    read_decimal(arg)
+}
+
+// Parses LOG_N.
+fn parse_byte(arg: &str) -> Option<u8>
+    ensures { result ≡ decimal_below (2 ^ 8) arg.now }
+{
+    decimals_are_read();
+    read_decimal(arg)
+}
+
 // Parses LOG_N, R and P.
+#[tactic(auto, unfolding(crate::specs::Args::unchecked_params))]
 fn parse_params(log_n: &str, r: &str, p: &str) -> Option<UncheckedParams>
     ensures { result ≡ unchecked_params log_n.now r.now p.now }
 {
-    decimals_are_read();
     Some(UncheckedParams {
-        log_n: read_decimal(log_n)?,
-        r: read_decimal(r)?,
-        p: read_decimal(p)?,
+        log_n: parse_byte(log_n)?,
+        r: parse_word(r)?,
+        p: parse_word(p)?,
     })
 }
 

@@ -7,11 +7,10 @@ ghost use Rattle.scrypt.specs.StoredHash.{HasReading, IsStoredText, Reads};
 ghost use Rattle.scrypt_commands.specs.Args.{MakeArgs, RehashArgs, VerifyArgs, texts_of};
 ghost use Rattle.scrypt_commands.specs.Command.{command_request, has_allowed_len, params_of, request_of, salt_and_params, salt_of};
 ghost use Rattle.scrypt_commands.specs.Steps.{AreParamsAccepted, Gives, IsCommandFor};
-ghost use Rattle.scrypt_commands.specs.declared.error.CliError.TheVariants.{HashRefused};
-ghost use Rattle.scrypt_commands.specs.declared.error.HashError.TheVariants.{EncodingInvalid};
+ghost use Rattle.scrypt_commands.specs.declared.error.CliError.TheVariants.{EncodingInvalid};
 
 use crate::args::{Args, Format, Target, UncheckedParams};
-use crate::error::{CliError, HashError};
+use crate::error::CliError;
 use hex::FromHexError;
 use scrypt::{InvalidParams, Params, StoredHash, output_len_ok};
 use std::alloc::Global;
@@ -43,8 +42,7 @@ impl<'a> Command<'a> {
     /// Constructs the command of the arguments after the options.
     ///
     /// Returns the error of the first of these that is wrong: `Usage`, `SaltNotHex`,
-    /// `InvalidParams`, `InvalidOutputLen`, and `HashRefused` with `EncodingInvalid`. Returns
-    /// `OutOfMemory` if the allocation of the salt fails.
+    /// `InvalidParams`, `InvalidOutputLen`, and `EncodingInvalid`. Returns `OutOfMemory` if the allocation of the salt fails.
     pub fn from_args(alloc: Global, args: &'a [String]) -> Result<Command<'a>, CliError>
         ensures command { IsCommandFor (request_of (texts_of args.now)) result }
     {
@@ -166,14 +164,13 @@ fn rehash_command<'a>(
 // Returns the hash of a text.
 fn stored_hash(text: &str) -> Result<StoredHash<'_>, CliError>
     ensures ok { IfOk result (Reads text.now) }
-    ensures err { IfErr result (λ error.
-        (error ≡ HashRefused EncodingInvalid) × (¬ IsStoredText text.now)) }
+    ensures err { IfErr result (λ error. (error ≡ EncodingInvalid) × (¬ IsStoredText text.now)) }
     ensures reading { MatchResult result (λ hash. HasReading text.now hash.whole)
         (λ _. HasReading text.now (Err refusals.EncodingInvalid)) }
 {
     match StoredHash::read(text) {
         Ok(hash) => Ok(hash),
-        Err(_) => Err(CliError::HashRefused(HashError::EncodingInvalid)),
+        Err(_) => Err(CliError::EncodingInvalid),
     }
 }
 
