@@ -66,9 +66,9 @@ def pages(header):
     """The name and the text of each page."""
     version = re.search(r'SCRYPT_VERSION_STRING "(.*)"', header).group(1)
     statuses = re.findall(r"^  (SCRYPT_\w+) = \d+,? +/\* (.*?) \*/", header, re.M)
-    first, rest = plain(re.match(r"/\*.*?\*/", header, re.S).group()).split("\n", 1)
+    first, rest = plain(re.match(r"/\*.*?\*/", header, re.S).group()).split("\n\n", 1)
     yield "scrypt_c", page("scrypt_c", version, ("NAME", f"scrypt_c \\- {quoted(first.rstrip('.'))}"),
-                           ("DESCRIPTION", f".nf\n{quoted(rest.strip())}\n.fi"))
+                           ("DESCRIPTION", f".nf\n{quoted(rest)}\n.fi"))
     parts = re.split(r"^/\* ---- (.*?) ---- \*/$", header, flags=re.M)
     for heading, part in zip(parts[1::2], parts[2::2]):
         yield from of_part(heading, part, version, statuses)
