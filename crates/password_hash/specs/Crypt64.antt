@@ -15,23 +15,23 @@ letter value = slice_index alphabet value
 unfoldable pub letter_value : ℕ → Option ℕ
 letter_value byte = position (λ other. other == byte) alphabet
 
--- so many letters of a number: its lowest digits in base 64, the lowest first; higher ones are
--- dropped
+-- the letters of the `count` least significant digits of a number in base 64, the least significant
+-- first
 unfoldable pub letters_of : ℕ → ℕ → List ℕ
 letters_of zero number = []
 letters_of (suc count) number = letter (number % 64) ∷ letters_of count (number / 64)
 
--- a lowest digit, and the number of the digits above it
+-- the number with this least significant digit and these digits above it, if both are there
 abbrev pub with_digit : Option ℕ → Option ℕ → Option ℕ
 with_digit (Some value) (Some above) = Some (value + 64 * above)
 with_digit value above = None
 
--- the number that letters encode: their values are its digits in base 64, the lowest first
+-- the number that letters encode: their values are its digits in base 64, the least significant first
 unfoldable pub number_of : List ℕ → Option ℕ
 number_of [] = Some 0
 number_of (first ∷ letters) = with_digit (letter_value first) (number_of letters)
 
--- the letters of bytes: two of one byte, three of two, four of three, and then the rest's
+-- the encoding of bytes: four letters for each three bytes, and at the end three for two or two for one
 unfoldable pub crypt64_of : List ℕ → List ℕ
 crypt64_of [] = []
 crypt64_of (a ∷ []) = letters_of 2 a
@@ -47,12 +47,12 @@ pub record Crypt64 (bytes letters : List ℕ) : Type 0 where
 abbrev pub IsCrypt64 : List ℕ → Type 0
 IsCrypt64 letters = (bytes : List ℕ) × Crypt64 bytes letters
 
--- so many bytes of a number: its lowest digits in base 256, the lowest first
+-- the `count` least significant bytes of a number, in little-endian order
 unfoldable pub bytes_of_number : ℕ → ℕ → List ℕ
 bytes_of_number zero number = []
 bytes_of_number (suc count) number = (number % 256) ∷ bytes_of_number count (number / 256)
 
--- the bytes whose encoding the letters are, if they are one
+-- the bytes that the letters encode, or `None` if they are not an encoding
 unfoldable pub decoded : List ℕ → Option (List ℕ)
 decoded letters =
     let bytes = bytes_of_number (3 * length letters / 4) (unwrap_or (number_of letters) 0) in
@@ -62,8 +62,8 @@ decoded letters =
 abbrev pub encoded_len : ℕ → ℕ
 encoded_len n = (4 * n + 2) / 3
 
--- n bytes from byte `at` on, of so many bytes in all, have letters of their own: they are whole
--- groups of three, or reach the end
+-- n bytes from index `at` of `all` bytes have letters of their own: they begin at a group of three,
+-- and end after one or at the end
 pub record IsPiece (at n all : ℕ) : Type 0 where
   pub begins : at % 3 ≡ 0
   pub inside : at + n ≤ all

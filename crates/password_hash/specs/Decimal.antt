@@ -23,18 +23,18 @@ has_plus_or_leading_zero text =
 abbrev pub is_decimal : List ℕ → Bool
 is_decimal text = nat_lt 0 (length text) && all_ascii_digits text && not (has_plus_or_leading_zero text)
 
--- the number of a decimal text, if it is below the limit
+-- the value of a decimal text, or `None` if the text is not a decimal below the limit
 unfoldable pub decimal_below : ℕ → List ℕ → Option ℕ
 decimal_below limit text =
     if is_decimal text && nat_lt (digits_value 10 text) limit then Some (digits_value 10 text)
     else None
 
--- what `parse` gives, but `None` for a text that begins with a plus or a leading zero
+-- `answer` is what `parse` returns, as an option, but `None` if the text begins with a plus or a leading zero
 abbrev pub DecimalGives : {N E : Type 0} → (List ℕ → Result N E → Type 0) → List ℕ → Option N → Type 0
 DecimalGives {N} {E} parse_gives text answer = MatchBool (has_plus_or_leading_zero text) (answer ≡ None)
     ((parsed : Result N E) × parse_gives text parsed × (answer ≡ result_ok parsed))
 
--- what `from_str` of an unsigned integer type of k bits gives
+-- r is what `from_str` of an unsigned integer type of k bits returns
 abbrev pub UnsignedGives : ℕ → List ℕ → Result ℕ ParseIntError → Type 0
 UnsignedGives k text r =
     ParsesUnsigned k 10 text r × ExplainsUnsignedError 10 text r × HasUnsignedDigitsIfOk text r

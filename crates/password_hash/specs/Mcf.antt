@@ -9,7 +9,7 @@ use Rattle.password_hash.specs.Parts.{dollar, parts_of, parts_text}
 abbrev pub IsId : List ℕ → Type 0
 IsId id = (0 < length id) × IsTrue (list_all is_identifier_letter id)
 
--- any text without a dollar
+-- a field: any text without a dollar
 abbrev pub IsField : List ℕ → Type 0
 IsField field = All (λ byte. byte ≢ dollar) field
 

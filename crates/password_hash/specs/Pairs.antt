@@ -14,7 +14,7 @@ pub record IsPair (pair : List ℕ × List ℕ) : Type 0 where
 abbrev pub pair_text : List ℕ × List ℕ → List ℕ
 pair_text pair = pair.0 ++ (codes "=" ++ pair.1)
 
--- the pairs in a row, with `,` between each two
+-- the pairs, separated by `,`
 abbrev pub pairs_text : List (List ℕ × List ℕ) → List ℕ
 pairs_text pairs = join_with_byte 44 (map pair_text pairs)
 
@@ -42,7 +42,7 @@ abbrev pub pairs_of : List ℕ → List (List ℕ × List ℕ)
 pairs_of [] = []
 pairs_of (byte ∷ text) = map pair_of (slice_split (λ b. b == 44) (byte ∷ text))
 
--- the text is that of its pairs
+-- the text is exactly the text of the pairs that it encodes
 pub record IsPairsText (text : List ℕ) : Type 0 where
   pub pairs : ArePairs (pairs_of text)
   pub whole : pairs_text (pairs_of text) ≡ text

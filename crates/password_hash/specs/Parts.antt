@@ -1,4 +1,4 @@
--- Texts of parts, each after a `$`, in PHC and MCF texts alike.
+-- Texts that consist of parts, each after a `$`, as PHC and MCF texts do.
 use Rattle.std.specs.Prelude.{ℕ, ◌==◌, List, [], ◌∷◌, Option, None, Some}
 use Rattle.std.specs.Borrow.{Bor}
 use Rattle.std.specs.List.{flat_map, slice_split}
@@ -7,11 +7,11 @@ use Rattle.std.specs.List.{flat_map, slice_split}
 abbrev pub dollar : ℕ
 dollar = 36
 
--- the parts in turn, each after a `$`
+-- the text of these parts, each after a `$`
 abbrev pub parts_text : List (List ℕ) → List ℕ
 parts_text parts = flat_map (λ part. dollar ∷ part) parts
 
--- what is before the first `$` of a text, between each two and after the last
+-- the parts of a text, split at each `$`; the first is what comes before the first `$`
 abbrev pub parts_of : List ℕ → List (List ℕ)
 parts_of text = slice_split (λ byte. byte == dollar) text
 

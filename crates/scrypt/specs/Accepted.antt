@@ -1,6 +1,6 @@
--- Which parameters and which output lengths are accepted, computed in unbounded integers. The bound
--- on p of RFC 7914, section 2, is that on r * p. Of its bounds on N, above 1 and below
--- 2 ^ (128 * r / 8), neither is required; instead 128 * r * N is below 2 ^ 64.
+-- Which parameters and which output lengths are accepted, computed in unbounded integers. RFC 7914,
+-- section 2, bounds p by (2 ^ 32 - 1) * 32 / (128 * r), which is the same as r * p < 2 ^ 30. It requires
+-- 1 < N < 2 ^ (128 * r / 8), which is not required here; instead 128 * r * N is below 2 ^ 64.
 use Rattle.std.specs.Prelude.{ℕ, ◌<◌, ◌≤◌, ◌*◌, ◌^◌, ◌&&◌, Bool, nat_eq, nat_le, nat_lt, Option, None}
 use Rattle.std.specs.Option.{option_eq}
 use Rattle.scrypt_kernel.specs.Pbkdf2.{max_output_len}
@@ -21,7 +21,7 @@ abbrev pub AreAccepted : ℕ → ℕ → ℕ → Type 0
 AreAccepted log_n r p =
     (0 < r) × (0 < p) × (128 * r * 2 ^ log_n < 2 ^ 64) × (r * p < 2 ^ 30)
 
--- the test of that
+-- decides `AreAccepted`
 unfoldable pub are_accepted : ℕ → ℕ → ℕ → Bool
 are_accepted log_n r p = (nat_lt 0 r && nat_lt 0 p) && (nat_lt (128 * r * 2 ^ log_n) (2 ^ 64) && nat_lt (r * p) (2 ^ 30))
 
@@ -29,7 +29,7 @@ are_accepted log_n r p = (nat_lt 0 r && nat_lt 0 p) && (nat_lt (128 * r * 2 ^ lo
 abbrev pub IsOutputLen : ℕ → Type 0
 IsOutputLen n = (1 ≤ n) × (n ≤ max_output_len)
 
--- the test of that
+-- decides `IsOutputLen`
 unfoldable pub is_output_len : ℕ → Bool
 is_output_len n = nat_le 1 n && nat_le n max_output_len
 
@@ -37,11 +37,11 @@ is_output_len n = nat_le 1 n && nat_le n max_output_len
 abbrev pub IsStoredLen : ℕ → Type 0
 IsStoredLen n = (10 ≤ n) × (n ≤ 64)
 
--- the default parameters: N of 2 ^ 17, r of 8, p of 1, and no length
+-- the recommended parameters: N = 2 ^ 17, r = 8, p = 1, and no length
 abbrev pub recommended_parameters : Parameters
 recommended_parameters = record { log_n = 17; r = 8; p = 1; output_len = None }
 
--- whether two parameters are equal: the optional length, log_n, r and p
+-- whether all four fields are equal: the optional length, log_n, r and p
 abbrev pub parameters_eq : Parameters → Parameters → Bool
 parameters_eq a b =
     (option_eq nat_eq a.output_len b.output_len && nat_eq a.log_n b.log_n)

@@ -1,16 +1,17 @@
--- What a derivation costs: calls of the Salsa20/8 core, and memory. One table and one scratch serve all
--- p chunks.
+-- The cost of a derivation: calls of the Salsa20/8 core, *cores* for short, and memory. One table and one scratch
+-- are enough for all p chunks, which are mixed one after another. With two of each, two chunks are mixed at a time,
+-- by as many cores.
 use Rattle.std.specs.Prelude.{ℕ, zero, suc, ◌+◌, ◌*◌, ◌^◌, List}
 use Rattle.scrypt_kernel.specs.Words.{part, words_of}
 use Rattle.scrypt_kernel.specs.Pbkdf2.{pbkdf2}
 use Rattle.scrypt_kernel.specs.Table.{extra_rows}
 pub use Rattle.scrypt_kernel.specs.RoMixCost.{ro_mix_cost, scratch_words, table_words, thin_scratch_words}
 
--- the cores of a derivation, of p chunks
+-- the cores of a derivation, which mixes p chunks
 abbrev pub cost : ℕ → ℕ → ℕ → ℕ
 cost log_n r p = ro_mix_cost log_n r * p
 
--- the bytes of B, which is p chunks of 128 * r bytes
+-- the length of B in bytes: p chunks of 128 * r bytes
 abbrev pub chunks_bytes : ℕ → ℕ → ℕ
 chunks_bytes r p = p * (128 * r)
 

@@ -1,4 +1,4 @@
--- What reading a stored hash gives, in every format, and what follows from it.
+-- The result of reading a stored hash, in either format, and what is computed from it.
 use Rattle.std.specs.Prelude.{◌≡◌, ◌⊎◌, ℕ, Bool, nat_lt, ◌||◌, if◌then◌else◌, List, length, None, Result, Ok, Err, IsOk, ⊤}
 use Rattle.std.specs.Result.{result_map_both}
 use Rattle.std.specs.Str.{bytes_eq}
@@ -8,25 +8,25 @@ use Rattle.scrypt.specs.Accepted.{Parameters, are_accepted}
 use Rattle.scrypt.specs.Hashing.{key_len_or_default}
 use Rattle.scrypt.specs.Key.{derived_key}
 
--- the second step, if the first gave a value
+-- f of the value, or the same error, as `Result::and_then`
 infixl 10 ◌and_then◌
 abbrev pub ◌and_then◌ : {A B E : Type 0} → Result A E → (A → Result B E) → Result B E
 Ok x and_then f = f x
 Err why and_then f = Err why
 
--- accepted numbers as parameters, without a length
+-- these three as parameters without a length, or `ParamsInvalid` if they are not accepted
 unfoldable pub checked : ℕ → ℕ → ℕ → Result Parameters Refusal
 checked log_n r p =
     if are_accepted log_n r p then Ok (record { log_n = log_n; r = r; p = p; output_len = None }) else Err ParamsInvalid
 
--- What a hash holds. A reading is this, or the first error: a `Result Stored Refusal`.
+-- The parts of a stored hash. A *reading* is these parts or the first error: a `Result Stored Refusal`.
 pub record Stored : Type 0 where
   pub params : Parameters
   pub salt : List ℕ
   pub key : List ℕ
 
--- whether the password is that of the hash: the stored key is the derived key of its length, by the parameters
--- and the salt of the hash
+-- whether the hash accepts the password: the stored key is the key of its length that the parameters and the salt
+-- of the hash derive from the password
 unfoldable pub is_right : List ℕ → Stored → Bool
 is_right password s = bytes_eq s.key (derived_key password s.salt s.params.log_n s.params.r s.params.p (length s.key))
 
@@ -34,11 +34,11 @@ is_right password s = bytes_eq s.key (derived_key password s.salt s.params.log_n
 abbrev pub verdict : List ℕ → Result Stored Refusal → Result ⊤ Refusal
 verdict password reading = reading and_then λ s. if is_right password s then Ok tt else Err PasswordInvalid
 
--- the verdict, or, only where keys are compared, that an allocation failed
+-- `out` is the verdict, or `OutOfMemory`, which only a readable hash can give
 abbrev pub IsVerdict : List ℕ → Result Stored Refusal → Result ⊤ Refusal → Type 0
 IsVerdict password reading out = (out ≡ verdict password reading) ⊎ (IsOk reading × (out ≡ Err OutOfMemory))
 
--- a part of what was read
+-- f of the value, or the same error, as `Result::map`
 abbrev pub mapped : {A B E : Type 0} → (A → B) → Result A E → Result B E
 mapped f reading = result_map_both f (λ why. why) reading
 
@@ -47,6 +47,6 @@ unfoldable pub is_below : Parameters → Parameters → ℕ → Bool
 is_below wanted c len =
     nat_lt c.log_n wanted.log_n || nat_lt c.r wanted.r || nat_lt c.p wanted.p || nat_lt len (key_len_or_default wanted)
 
--- whether a hash is weaker than wanted
+-- whether a hash is weaker than wanted, or the error of reading it
 abbrev pub weaker : Parameters → Result Stored Refusal → Result Bool Refusal
 weaker wanted reading = mapped (λ s. is_below wanted s.params (length s.key)) reading

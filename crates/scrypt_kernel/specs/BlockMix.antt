@@ -6,12 +6,12 @@ use Rattle.scrypt_kernel.specs.Salsa.{salsa20_8}
 
 -- step 1: X = B[2 * r - 1]
 -- step 2: for i = 0 to 2 * r - 1 do T = X xor B[i], X = Salsa (T), Y[i] = X
--- X before the turn i
+-- X before iteration i of step 2
 unfoldable pub chain : List ℕ → ℕ → List ℕ
 chain b zero = last_block b
 chain b (suc i) = salsa20_8 (xor_words (chain b i) (block b i))
 
--- Y[i], which is X after that turn
+-- Y[i], which is X after iteration i
 abbrev pub y : List ℕ → ℕ → List ℕ
 y b i = chain b (i + 1)
 

@@ -12,7 +12,7 @@ quarter_round a b c d =
     let a' = bit_xor a (rotate_left w32 (add32 d' c') 18) in
     (a', b', c', d')
 
--- x after the quarter round of the words at these places
+-- x after a quarter round of the words at indices a, b, c and d
 abbrev pub quarter_round_at : ℕ → ℕ → ℕ → ℕ → List ℕ → List ℕ
 quarter_round_at a b c d x =
     let q = quarter_round (slice_index x a) (slice_index x b) (slice_index x c) (slice_index x d) in
@@ -30,6 +30,6 @@ double_round x =
     let x7 = quarter_round_at 10 11 8 9 x6 in
     quarter_round_at 15 12 13 14 x7
 
--- Salsa20/8: four double rounds, and then the sum of each word with the word that it was before them
+-- Salsa20/8: the input, and the input after four double rounds, added word by word
 unfoldable pub salsa20_8 : List ℕ → List ℕ
 salsa20_8 x = add_words x (double_round (double_round (double_round (double_round x))))

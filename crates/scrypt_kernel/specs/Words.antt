@@ -10,11 +10,11 @@ use Rattle.std.specs.Simd.Lanes.{zip2}
 abbrev pub add32 : ℕ → ℕ → ℕ
 add32 x y = (x + y) % 2 ^ 32
 
--- the sums of two lists of words, place by place
+-- the sums of two lists of words, word by word
 abbrev pub add_words : List ℕ → List ℕ → List ℕ
 add_words x y = zip2 add32 x y
 
--- the exclusive or of two lists, place by place
+-- the exclusive or of two lists, element by element
 abbrev pub xor_words : List ℕ → List ℕ → List ℕ
 xor_words x y = zip2 bit_xor x y
 
@@ -31,7 +31,7 @@ part s x k = take s (drop (k * s) x)
 abbrev pub words_of : List ℕ → List ℕ
 words_of b = map (λ i. le_number (part 4 b i)) (range_with_len 0 (length b / 4))
 
--- the bytes of some words, four each in little-endian order
+-- the bytes of words, four for each word in little-endian order
 abbrev pub bytes_of : List ℕ → List ℕ
 bytes_of x = flat_map (to_le_bytes w32) x
 
