@@ -20,11 +20,11 @@ type Accounts struct {
 	nobody string // a hash whose password nobody knows, verified if there is no other
 }
 
-// unseen has characters that no table of Unicode names: the blank of Braille, a notehead and a filler.
+// unseen has invisible characters that are in none of Unicode's tables: a blank of Braille, a notehead and a filler.
 const unseen = "\u2800\U0001d159\U00016fe4"
 
-// normal returns a name as the store has it, and whether it is allowed: in NFKC, so that one name can't be typed as two,
-// without spaces around it and more than one within, and with 1 to 64 characters, all of which are seen.
+// normal returns a name as it is stored, and whether it is allowed: in NFKC, so that one name is not stored as two, without
+// surrounding or repeated spaces, and with 1 to 64 characters, all of them visible.
 func normal(name string) (string, bool) {
 	name = strings.TrimSpace(norm.NFKC.String(name))
 	for _, it := range name {
@@ -45,8 +45,8 @@ func (a *Accounts) SignUp(ctx context.Context, name, password string) (string, e
 	return a.put(ctx, password, errTaken, `INSERT INTO users VALUES ($1, $2) ON CONFLICT DO NOTHING RETURNING hash`, name)
 }
 
-// LogIn returns the text of the user's hash, or errWrong. If the wanted password is another one, or the hash is weaker
-// than new ones, it is replaced first, by one statement: if the process dies, the store has one text or the other.
+// LogIn returns the text of the user's hash, or errWrong. If the wanted password differs, or the hash is weaker than new
+// ones, the hash is replaced first, by one statement: if the process dies, the store has one text or the other.
 func (a *Accounts) LogIn(ctx context.Context, name, password, wanted string) (string, error) {
 	text, err := a.verify(ctx, name, password)
 	if err != nil {
@@ -57,7 +57,7 @@ func (a *Accounts) LogIn(ctx context.Context, name, password, wanted string) (st
 	}
 	stronger, err := a.put(ctx, wanted, errChanged,
 		`UPDATE users SET hash = $3 WHERE name = $1 AND hash = $2 RETURNING hash`, name, text)
-	if err == errChanged && wanted == password { // another log-in may have replaced it
+	if err == errChanged && wanted == password { // another login may have replaced it
 		return a.verify(ctx, name, password)
 	}
 	return stronger, err
@@ -68,8 +68,8 @@ func (a *Accounts) hash(ctx context.Context, name string) (string, error) {
 	return a.ask(ctx, errWrong, `SELECT hash FROM users WHERE name = $1`, name)
 }
 
-// verify returns the text of the user's hash if the password is right. An unknown user and a hash that is refused are
-// errWrong after the work of a derivation, as a wrong password is.
+// verify returns the text of the user's hash if the password is correct. For an unknown user, and for a hash that is
+// refused, it returns errWrong after the work of one derivation, as for a wrong password.
 func (a *Accounts) verify(ctx context.Context, name, password string) (string, error) {
 	text, err := a.hash(ctx, name)
 	known := err == nil

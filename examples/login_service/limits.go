@@ -11,17 +11,17 @@ import (
 	"time"
 )
 
-// A crowd counts what there is of each network and of all.
+// A crowd counts connections, or forms, per network and in total, and bounds both.
 type crowd struct {
 	sync.Mutex
-	each, all, sum int // the bounds, and how many there are
+	each, all, sum int // the bounds per network and in total, and the total
 	of             map[netip.Prefix]int
 }
 
 func newCrowd(each, all int) *crowd { return &crowd{each: each, all: all, of: map[netip.Prefix]int{}} }
 
-// enter counts one more, which has to leave, and reports whether it is within the bounds. The bound on each does not apply
-// to what has no network.
+// enter counts one more, for which leave has to be called, and reports whether it is within the bounds. The bound per
+// network does not apply if there is none.
 func (c *crowd) enter(from netip.Prefix) bool {
 	c.Lock()
 	defer c.Unlock()
@@ -52,7 +52,7 @@ func (c *crowd) watch(connection net.Conn, state http.ConnState) {
 	}
 }
 
-// connections returns how many may be open: fewer than descriptors, some of which the store and the log need.
+// connections returns how many connections may be open: the file descriptors, less those for the store and the log.
 func connections() int {
 	const most, kept = 2048, 64
 	var limit syscall.Rlimit
@@ -64,8 +64,8 @@ func connections() int {
 	return int(limit.Cur) - kept
 }
 
-// A limiter lets each key try a number of times at once, and then once in each pause. A hash with a secret seed maps keys
-// to a fixed number of slots, so more keys need no more memory; two keys of one slot share their tries.
+// A limiter allows each key a number of tries in a row, and then one in each pause. A hash with a secret seed maps keys
+// to a fixed number of slots, so more keys use no more memory; two keys of one slot share their tries.
 type limiter struct {
 	sync.Mutex
 	seed  maphash.Seed
@@ -108,7 +108,7 @@ func (l *limiter) give(keys ...string) {
 	}
 }
 
-// network returns what one client has of addresses: one of IPv4, or the first 64 bits of one of IPv6.
+// network returns the addresses that count as one client: an IPv4 address, or an IPv6 /64.
 func network(address netip.Addr) netip.Prefix {
 	if address.Is4() {
 		return netip.PrefixFrom(address, 32)

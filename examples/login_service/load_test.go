@@ -17,7 +17,7 @@ import (
 )
 
 // columns are those of the table in README.md.
-const columns = "| parameters | clients | log-ins a second | the library alone | ratio | median, ms | 99 %, ms | told 503 | at most, ms | peak, MiB |"
+const columns = "| parameters | clients | logins per second | the library alone | ratio | median, ms | 99 %, ms | answered 503 | at most, ms | peak, MiB |"
 
 // A row is measured in slices, between those of the library by itself, so that both meet the same load by others.
 const (

@@ -1,4 +1,4 @@
-// A login service: a page with sign-up, log-in, change of the password and log-out, over hashes of scrypt in PostgreSQL.
+// A login service: a page with sign-up, login, password change and logout, with scrypt hashes in PostgreSQL.
 package main
 
 import (
@@ -25,11 +25,11 @@ var (
 	logN       = flag.Int("log-n", 17, "log_n of new hashes, 10 to 24; r is 8 and p is 1")
 	most       = flag.Int("most-mib", 256, "the memory of a derivation, in MiB, above which a hash is refused")
 	waiting    = flag.Int("waiting", 32, "how many forms may wait for a processor")
-	patience   = flag.Duration("patience", 20*time.Second, "how long a request may be sent, and be answered")
+	patience   = flag.Duration("patience", 20*time.Second, "how long sending a request, and how long answering it, may take")
 	perAddress = flag.Int("per-address", 64, "how many connections an address, or 64 bits of an IPv6 address, may have")
-	tries      = flag.Int("tries", 20, "how often a name or an address may be wrong at once")
-	pause      = flag.Duration("pause", 30*time.Second, "after that, how long until it may be wrong once more")
-	https      = flag.Bool("https", false, "the page is at https, which a proxy before the service ends")
+	tries      = flag.Int("tries", 20, "how many wrong passwords a name, or an address, may have in a row")
+	pause      = flag.Duration("pause", 30*time.Second, "after that, the time until one more is allowed")
+	https      = flag.Bool("https", false, "the page is served over https, by a proxy that terminates TLS")
 
 	// The address of a proxy whose X-Forwarded-For and -Proto are trusted; it is not valid without the flag.
 	proxy netip.Addr
@@ -44,7 +44,7 @@ func main() {
 	within("-per-address", *perAddress, 1, 10_000)
 	within("-tries", *tries, 1, 1_000_000)
 	within("-patience", *patience, time.Second, 10*time.Minute)
-	within("-pause", *pause, *patience, time.Hour) // a try is given back earlier than it would be back
+	within("-pause", *pause, *patience, time.Hour) // a try is credited back for a correct password before its pause is over
 	if os.Geteuid() == 0 {
 		log.Fatal("the service does not run as root: run.sh starts it as another user")
 	}
@@ -65,7 +65,7 @@ func main() {
 	log.Fatal(server.ListenAndServe())
 }
 
-// within ends the program if a flag is outside its range. No number is cut to a smaller type without that.
+// within exits if a flag is out of range. Every number is checked before it is converted to a smaller type.
 func within[T int | time.Duration](name string, value, least, most T) {
 	if value < least || value > most {
 		log.Fatalf("%s is %v, and %v to %v are allowed", name, value, least, most)

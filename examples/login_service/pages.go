@@ -86,8 +86,8 @@ func (s *Service) ServeHTTP(w http.ResponseWriter, r *http.Request) {
 	}
 }
 
-// act does what a form asks for. All but a log-out need one of the places, and before that nothing of the store: errFull is
-// returned at once if none is free.
+// act does what a form asks for. Every form but log-out needs one of the places: if none is free, errFull is returned
+// immediately, without a query.
 func (s *Service) act(w http.ResponseWriter, r *http.Request, action string) error {
 	r.Body = http.MaxBytesReader(w, r.Body, mostForm)
 	if r.ParseForm() != nil {
@@ -134,9 +134,9 @@ func (s *Service) derive(w http.ResponseWriter, r *http.Request, action, name st
 	return err
 }
 
-// try returns the text of the hash if the accounts allow what a form asks for. A wrong password takes a try of the name
-// and of the address, and a sign-up one of the address. The try is taken before the derivation, so that tries at the same
-// time are counted, and given back if the password was not wrong. The lines in the log are those that fail2ban.conf finds.
+// try returns the text of the hash if the accounts allow what a form asks for. A wrong password uses up a try of the name
+// and of the address, and a sign-up one of the address. The try is taken before the derivation, so that parallel tries are
+// counted, and given back unless the password was wrong. fail2ban.conf matches the lines in the log.
 func (s *Service) try(r *http.Request, action, name, password, wanted string) (text string, err error) {
 	from := client(r)
 	keys := []string{"address " + network(from).String(), action + " " + name}
@@ -164,8 +164,8 @@ func (s *Service) try(r *http.Request, action, name, password, wanted string) (t
 	return text, err
 }
 
-// show writes the page with a message. If nothing is possible now, it has no form, takes nothing from the store, and asks
-// the browser to come back.
+// show writes the page with a message. With status 503 the page has no form, needs no query, and asks the browser to retry
+// later.
 func (s *Service) show(w http.ResponseWriter, r *http.Request, message Refusal) {
 	name, err := "", error(nil)
 	if message.Status != http.StatusServiceUnavailable {

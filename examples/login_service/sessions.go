@@ -18,13 +18,12 @@ func (s *Service) tag(parts ...string) string {
 	return fmt.Sprintf("%x", mac.Sum(nil))
 }
 
-// secure reports whether the browser uses https, as the flag or the trusted proxy says.
+// secure reports whether the browser uses https, according to the flag or the trusted proxy.
 func secure(r *http.Request) bool {
 	return *https || isProxy(addressOf(r.RemoteAddr)) && r.Header.Get("X-Forwarded-Proto") == "https"
 }
 
-// cookieName returns the name of a cookie. Over https a browser takes one with this prefix from this host alone, and not
-// from a page without https.
+// cookieName returns the name of a cookie. A browser accepts one with this prefix only from this host, over https.
 func cookieName(r *http.Request, name string) string {
 	if secure(r) {
 		return "__Host-" + name
@@ -37,8 +36,8 @@ func setCookie(w http.ResponseWriter, r *http.Request, name, value string, secon
 		Secure: secure(r), SameSite: http.SameSiteStrictMode})
 }
 
-// begin begins a session. The text of the hash is signed in its cookie, so another password ends it. No cookie of the
-// time before is kept, because somebody else may have set it and know it.
+// begin begins a session. The text of the hash is signed in its cookie, so a password change ends it. The cookies from
+// before are replaced, because somebody else may have set them and know them.
 func (s *Service) begin(w http.ResponseWriter, r *http.Request, name, text string) {
 	id, end := drawnText(), time.Now().Add(sessionSeconds*time.Second).UTC().Format(time.RFC3339)
 	session := url.Values{"id": {id}, "name": {name}, "end": {end}, "tag": {s.tag("session", id, name, end, text)}}
@@ -66,8 +65,8 @@ func (s *Service) user(r *http.Request) (string, error) {
 	return name, err
 }
 
-// token returns what a form of this browser and user has to send, so that it is from a page of this service. The
-// browser's own cookie is drawn if it is not there.
+// token returns the CSRF token that a form of this browser and user has to send. If the browser's own cookie is missing,
+// it is set.
 func (s *Service) token(w http.ResponseWriter, r *http.Request, name string) string {
 	cookie, err := r.Cookie(cookieName(r, "visitor"))
 	if err != nil {
