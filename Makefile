@@ -31,7 +31,7 @@
 #   make promises writes docs/PROMISES.md from the sources: each public function with its clauses, and the definitions
 #   make doc    makes pages for reading the proof, build/doc/index.html, without the kit or a network; it needs Debian's
 #               python3-jinja2 and python3-pygments
-#   make doc-test tests these pages, in a headless Chromium if that is installed
+#   make doc-test reads these pages in a headless Chromium, if that is installed
 #   make axioms writes doc/axioms.txt, what the check of the program assumes, which those pages print
 #   make login-service  runs a small login service on 127.0.0.1:8080 with a PostgreSQL of its own (examples/login_service);
 #               make login-test tests it and its faults, and make login-load prints its table of logins a second
@@ -87,7 +87,7 @@ documents:
 	python3 -B -m unittest discover -q -s ci
 	python3 ci/wrong_bodies.py fit
 	python3 ci/docs.py
-	python3 doc/test_promises.py
+	python3 -B -m unittest discover -q -s doc
 	python3 doc/promises.py check
 	python3 -B -m unittest discover -q -s compare
 	python3 -B release/test_proved.py
@@ -175,8 +175,7 @@ doc:
 	python3 doc/make.py
 
 doc-test: doc
-	python3 doc/test_doc.py
-	python3 doc/test_browser.py build/doc
+	python3 doc/browser_test.py build/doc
 
 .PHONY: axioms
 axioms: proved-scrypt_commands

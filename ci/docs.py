@@ -1,10 +1,10 @@
 #!/usr/bin/env python3
 """Compares the documents with the sources, and refuses what does not fit.
 
-Refused are: a name in a document that no source has; a link that leads nowhere, or whose words name a definition that its
-file doesn't have; an example in Rust that is not a part of the file that it names; a module of proofs without a comment in
-its crate's proofs/Lib.antt; and a proof of a caller that names a proof of a library, since callers are proved from public
-clauses alone. doc/promises.py compares docs/PROMISES.md with the sources.
+Refused are: a name in a document that no source has; a link that leads nowhere, or whose words name a definition that
+its file doesn't have; an example in Rust that is not a part of the file that it names; a module of proofs without a
+comment in its crate's proofs/Lib.antt; and a proof of a caller that names a proof of a library, since callers are
+proved from public clauses alone. docs/PROMISES.md is compared by doc/promises.py.
 
 A name is what is between backquotes and is a path (`mcf::Base64`, `Params::{log_n, n}`), a word with an underscore
 (`scrypt_ro_mix`), a call (`new()`), or a file of the repository. What belongs to others is listed below.
@@ -14,11 +14,15 @@ import glob
 import os
 import re
 import sys
+from pathlib import Path
 
-from files import read
+sys.path.append(str(Path(__file__).parent.parent / "doc"))
+import specs
+from sources import read
 
-DOCS = [it for pattern in ("*.md", "docs/*.md", "bindings/**/*.md", "release/*.md", "examples/**/*.md")
-        for it in sorted(glob.glob(pattern, recursive=True))]
+DOCS = ["*.md", "docs/*.md", "bindings/**/*.md", "release/*.md", "examples/**/*.md"]
+SOURCES = ["crates/**/*.rt", "crates/**/*.antt", "examples/**/*.py"]
+SOURCES += [f"bindings/**/*.{suffix}" for suffix in ("c", "h", "py", "go", "rs")]
 
 # Names of other programs and libraries.
 OTHERS = {"check_password", "maxmem_bytes", "must_use", "needs_update"}
@@ -30,30 +34,20 @@ LIBRARY_PROOF = re.compile(r"Rattle\.(?:scrypt|scrypt_kernel|password_hash)\.pro
 
 def known_names():
     """Every word that the sources and the bindings have, which is what a name may consist of."""
-    names, paths = set(re.findall(r"^([\w-]+):", read("Makefile"), re.M)), []
-    for folder, suffixes in (("crates/*", ("rt", "antt")), ("bindings", ("c", "h", "py", "go", "rs")), ("examples", ("py",))):
-        for suffix in suffixes:
-            paths += glob.glob(f"{folder}/**/*.{suffix}", recursive=True)
-    for path in paths:
+    names = set(re.findall(r"^([\w-]+):", read("Makefile"), re.M))
+    for path in (it for pattern in SOURCES for it in glob.glob(pattern, recursive=True)):
         if "/out/" not in path and (path.startswith("crates/") or "test" not in path):
             names.update(re.findall(r"[A-Za-z_][A-Za-z0-9_']*", read(path)))
             names.update(re.split(r"[/.]", path))
     return names
 
 
-def expanded(name):
-    """The paths of `a::{b, c}`."""
-    found = re.fullmatch(r"(.*)\{(.*)\}(.*)", name)
-    return [found[1] + it.strip() + found[3] for it in found[2].split(",")] if found else [name]
-
-
 def words_of(name):
     """The words of a name, or none if it isn't one."""
     bare = re.sub(r"\(\)$|<[^<>]*>", "", name)
-    if re.fullmatch(r"[A-Za-z_][\w']*(::(\{[\w, :]*\}|[\w']+))+", bare):
-        return [word for path in expanded(bare) for word in path.split("::")]
-    if re.fullmatch(r"[a-z0-9]+(_[a-z0-9]+)+", bare) or re.fullmatch(r"[a-z_]+\(\)", name):
-        return [bare]
+    is_path = re.fullmatch(r"[A-Za-z_][\w']*(::(\{[\w, :]*\}|[\w']+))+", bare)
+    if is_path or re.fullmatch(r"[a-z0-9]+(_[a-z0-9]+)+", bare) or re.fullmatch(r"[a-z_]+\(\)", name):
+        return re.findall(r"[\w']+", bare)
     return []
 
 
@@ -84,20 +78,20 @@ def broken_links(path, text):
         if not os.path.exists(file) or place and place not in headings(read(file)):
             yield f"{path}: the link {target}#{place} leads nowhere".replace("# ", " ")
         elif file.endswith(".antt") and "/specs/" in file:
+            found = specs.read_module("", file, read(file)).definitions
             for name in re.findall(r"`(\w+)`", words):
-                if not re.search(rf"^(?:(?:abbrev|unfoldable) )?pub (?:(?:record|data) )?{name}\b", read(file), re.M):
+                if name not in found or not found[name].public:
                     yield f"{path}: {file} has no definition {name}"
 
 
 def stripped(text):
-    return [it.strip() for it in text.strip().splitlines()]
+    return "\n" + "\n".join(it.strip() for it in text.strip().splitlines()) + "\n"
 
 
 def other_examples(path, text):
     """Examples in Rust whose lines don't follow each other in the file that is named after the word `rust`."""
     for file, example in re.findall(r"^```rust +(\S+)\n(.*?)^```$", text, re.M | re.S):
-        part, whole = stripped(example), stripped(read(file))
-        if not any(whole[at : at + len(part)] == part for at in range(len(whole))):
+        if stripped(example) not in stripped(read(file)):
             yield f"{path}: the example is not a part of {file}"
 
 
@@ -119,22 +113,16 @@ def inner_proofs(path, text):
     return [f"{path}: a proof of a library, {it}" for it in LIBRARY_PROOF.findall(text)]
 
 
-def lines_to_read():
-    """The lines of definitions for the key, as README has them and not docs/PROMISES.md."""
-    lines = re.search(r"For the key: \d+ definitions of (\d+) lines", read("docs/PROMISES.md"))[1]
-    return [] if f"{lines} lines for the key" in read("README.md") else [f"README.md: the key has {lines} lines to read"]
-
-
 def main():
     names = known_names()
-    found = [it for path in DOCS for it in complaints(path, read(path), names)] + lines_to_read()
+    documents = sorted(path for pattern in DOCS for path in glob.glob(pattern, recursive=True))
+    found = [it for path in documents for it in complaints(path, read(path), names)]
     for path in glob.glob("crates/*/proofs/Lib.antt"):
         found += unexplained_modules(path, read(path))
     for name in CALLERS:
         for path in glob.glob(f"crates/{name}/proofs/**/*.antt", recursive=True):
             found += inner_proofs(path, read(path))
-    print("\n".join(found) or "docs: names are in the sources, links lead somewhere, callers are proved from public clauses")
-    sys.exit(1 if found else 0)
+    sys.exit("\n".join(found) or 0)
 
 
 if __name__ == "__main__":

@@ -1,7 +1,7 @@
 """Copies of the repository, and edits that are applied to a copy and taken back.
 
-An edit is a file with a line `file: PATH`, from the crate's folder, and then pairs of lines `old: TEXT` and `new: TEXT`.
-Each old text occurs once in that file. Four folders of a crate have edits:
+An edit is a file with a line `file: PATH`, from the crate's folder, and then pairs of lines `old: TEXT` and
+`new: TEXT`. Each old text occurs once in that file. Four folders of a crate have edits:
 
 wrong-bodies/       wrong bodies of different functions that the prover has to refuse; the gate tries them
 more-wrong-bodies/  more of these, which `make wrong-bodies` tries
@@ -15,8 +15,7 @@ import glob
 import os
 import shutil
 import tempfile
-
-from files import read, write
+from pathlib import Path
 
 FOLDERS = ["wrong-bodies", "more-wrong-bodies", "refused-by-tests", "must-not-compile"]
 
@@ -47,7 +46,7 @@ def edits_of(name, *folders):
 def pairs(edit):
     """What an edit replaces in which file by what."""
     path, old = None, None
-    for line in read(edit).splitlines():
+    for line in Path(edit).read_text("utf-8").splitlines():
         word, _, rest = line.partition(": ")
         if word == "file":
             path = rest
@@ -62,7 +61,7 @@ def texts_after(edit, crate, others=()):
     after = dict(others)
     for name, old, new in pairs(edit):
         path = os.path.join(crate, name)
-        text = after.get(path) or read(path)
+        text = after.get(path) or Path(path).read_text("utf-8")
         if text.count(old) != 1:
             raise BadEdit(f"{edit}: the old text doesn't occur there once: {old}")
         after[path] = text.replace(old, new)
@@ -81,11 +80,15 @@ def texts_after_all(tried, crate):
 def applied(edit, crate):
     """Applies an edit to a crate, and takes it back at the end."""
     after = texts_after(edit, crate)
-    before = {path: read(path) for path in after}
+    before = {path: Path(path).read_text("utf-8") for path in after}
     try:
-        for path, text in after.items():
-            write(path, text)
+        write(after)
         yield
     finally:
-        for path, text in before.items():
-            write(path, text)
+        write(before)
+
+
+def write(texts):
+    """Writes texts to files, by their paths."""
+    for path, text in texts.items():
+        Path(path).write_text(text, "utf-8")

@@ -18,9 +18,12 @@ import os
 import re
 import subprocess
 import sys
+from pathlib import Path
 
 import edits
-from files import read
+
+sys.path.append(str(Path(__file__).parent.parent / "doc"))
+import sources
 
 COUNTER = "crates/scrypt_kernel/proofs/cores/CoreCount/"
 BY_HAND = [COUNTER + it + "/Proof.antt" for it in ["after_core", "new"]]
@@ -43,10 +46,7 @@ OTHER_NAMES = re.compile(r"\bCoreCount\s+as\b|\btype\s+\w+[^=;]*=[^;]*\bCoreCoun
 
 # The counter's own file, and the only impls for it.
 COUNTER_SOURCE = "crates/scrypt_kernel/src/cores.rt"
-COUNTER_IMPLS = {"CoreCount", "Model for CoreCount"}
-
-COMMENT = re.compile(r"//[^\n]*|/\*.*?\*/", re.S)
-IMPL = re.compile(r"^\s*impl\b\s*(?:<[^{;]*?>\s)?([^{;]*?)\s*\{(.*?)^\}", re.M | re.S)
+COUNTER_IMPLS = {"impl CoreCount", "impl Model for CoreCount"}
 
 # How an impl of `PartialEq` says that the whole values are compared.
 WHOLE = [
@@ -72,73 +72,64 @@ def refused_as(crate):
     return kind_of(ran.stdout + ran.stderr) if ran.returncode != 0 else None
 
 
+def bare(path, text):
+    """A source without its comments."""
+    text = re.sub(r" *//.*", "", re.sub(r"/\*.*?\*/", " ", text, flags=re.S))
+    return sources.read_source(path.split("/")[1], path, text)
+
+
 def own_sources():
     """The sources outside the test crates."""
     found = glob.glob("crates/*/src/**/*.rt", recursive=True)
-    return {it: read(it) for it in found if not it.split("/")[1].endswith("_tests")}
+    return [bare(it, sources.read(it)) for it in found if not it.split("/")[1].endswith("_tests")]
 
 
-def count_complaints(sources):
-    """What is refused in these sources, which are texts by their paths, of new counts and their names."""
-    counts = {path: len(NEW.findall(text)) for path, text in sources.items() if NEW.search(text)}
+def count_complaints(those):
+    """What is refused of new counts and their names."""
+    counts = {it.path: len(NEW.findall(it.text)) for it in those if NEW.search(it.text)}
     if counts != NEW_COUNTS:
         yield f"new counts of cores: {counts}, where only {NEW_COUNTS} may be"
-    for path, text in sources.items():
-        for found in OTHER_NAMES.findall(text):
-            yield f"{path}: another name for the counter of cores: {found}"
-
-
-def impls_of(source):
-    """The headers of the impls of a source, each with its body."""
-    return [(" ".join(header.split()), body) for header, body in IMPL.findall(source)]
-
-
-def counter_complaints(sources):
-    """What is refused of impls for the counter, and of derives above it."""
-    for path, text in sources.items():
-        for header, _ in impls_of(text):
-            if re.search(r"\bCoreCount\b", header.partition(" where ")[0]) and header not in COUNTER_IMPLS:
-                yield f"{path}: an impl for the counter of cores: {header}"
-    text = sources.get(COUNTER_SOURCE, "")
+    for it in those:
+        for found in OTHER_NAMES.findall(it.text):
+            yield f"{it.path}: another name for the counter of cores: {found}"
+    [text] = [it.text for it in those if it.path == COUNTER_SOURCE]
     if re.search(r"\bSelf\s*::\s*new\b", text):
         yield f"{COUNTER_SOURCE}: a new count by `Self::new`"
-    for derived in re.findall(r"#\[derive\(([^)]*)\)\]\s*pub struct CoreCount\b", text):
-        if derived != "Drop":
-            yield f"{COUNTER_SOURCE}: the counter derives {derived}"
+    if re.findall(r"#\[derive\(([^)]*)\)\]\s*pub struct CoreCount\b", text) != ["Drop"]:
+        yield f"{COUNTER_SOURCE}: the counter derives more than `Drop`"
 
 
-def derive_complaints(sources):
-    """What is refused of impls of `Clone` and `PartialEq`."""
-    for path, text in sources.items():
-        for header, body in impls_of(text):
-            trait = re.search(r"\b(Clone|PartialEq)\b(?:<[^>]*>)? for ", header)
-            if trait and (trait[1] == "Clone" or not any(it in body for it in WHOLE)):
-                yield f"{path}: an impl that need not copy or compare the whole value: {header}"
+def impl_complaints(source):
+    """What is refused of the implementations of a source: for the counter, and of `Clone` and `PartialEq`."""
+    for it in (it for it in source.items if it.kind == "impl"):
+        if re.search(r"\bCoreCount\b", it.text.partition(" where ")[0]) and it.text not in COUNTER_IMPLS:
+            yield f"{source.path}: an impl for the counter of cores: {it.text}"
+        trait = re.search(r"\b(Clone|PartialEq)\b(?:<[^>]*>)? for ", it.name)
+        body = "\n".join(source.text.splitlines()[it.line : it.last])
+        if trait and (trait[1] == "Clone" or not any(whole in body for whole in WHOLE)):
+            yield f"{source.path}: an impl that need not copy or compare the whole value: {it.text}"
+    for line in source.unread():
+        yield f"{source.path}: not read, since it isn't formatted: {source.text.splitlines()[line - 1]}"
 
 
-def complaints(sources):
-    """What is refused in these sources, which are texts by their paths, whatever their comments say."""
-    bare = {path: COMMENT.sub(" ", text) for path, text in sources.items()}
-    return [*count_complaints(bare), *counter_complaints(bare), *derive_complaints(bare)]
+def complaints(those):
+    """What is refused in these sources."""
+    return [*count_complaints(those), *(found for it in those for found in impl_complaints(it))]
 
 
 def main():
-    failed = 0
+    wrong = complaints(own_sources())
+    if sorted(glob.glob("crates/*/proofs/**/Proof.antt", recursive=True)) != BY_HAND:
+        wrong.append(f"proofs by hand other than {', '.join(BY_HAND)}")
     with edits.copied("out") as copy:
         for name in edits.crates_with("must-not-compile"):
             crate = os.path.join(copy, "crates", name)
             for edit in edits.edits_of(name, "must-not-compile"):
                 with edits.applied(edit, crate):
                     kind = refused_as(crate)
-                print(f"must-not-compile {edit}: {f'refused, as {kind}' if kind else 'NOT REFUSED'}")
-                failed += kind is None
-    if sorted(glob.glob("crates/*/proofs/**/Proof.antt", recursive=True)) != BY_HAND:
-        print(f"proofs by hand other than {', '.join(BY_HAND)}")
-        failed += 1
-    for complaint in complaints(own_sources()):
-        print(complaint)
-        failed += 1
-    sys.exit(1 if failed else 0)
+                print(f"must-not-compile {edit}: {f'refused, as {kind}' if kind else 'NOT REFUSED'}", flush=True)
+                wrong += [] if kind else [f"{edit} was not refused"]
+    sys.exit("\n".join(wrong) or 0)
 
 
 if __name__ == "__main__":

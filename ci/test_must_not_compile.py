@@ -5,7 +5,9 @@ import unittest
 
 import must_not_compile
 
+COUNTER = "#[derive(Drop)]\npub struct CoreCount {\n}\n"
 RIGHT = {path: "let mut cores = CoreCount::new();\n" * times for path, times in must_not_compile.NEW_COUNTS.items()}
+RIGHT[must_not_compile.COUNTER_SOURCE] = COUNTER
 
 # A source that is added, whether it is refused, and the reason for the row.
 ROWS = [
@@ -25,6 +27,7 @@ ROWS = [
     ("impl CoreCount {\n}\n", False, "the counter's own functions"),
     ("impl Key {\n    fn f(cores: &mut CoreCount) {}\n}\n", False, "functions that are given a count"),
     ("impl Clone for Limits {\n}\n", True, "a copy that is not derived"),
+    ("mod x {\n    impl Clone for Limits {\n    }\n}\n", True, "the same, in a module inside the file"),
     ("impl<const N: usize> Clone\n    for Bytes<N> {\n}\n", True, "the same, with parameters"),
     ("#[derive(Clone, PartialEq)]\npub struct Limits {\n}\n", False, "what is derived"),
     ("impl PartialEq for Output {\n    ghost eq = { first_ten };\n}\n", True, "a part that is compared"),
@@ -34,9 +37,9 @@ ROWS = [
 
 # What the counter's own file may not hold besides.
 IN_COUNTER = [
-    ("impl CoreCount {\n    fn f() -> CoreCount { Self::new() }\n}\n", True, "a new count by the type's other name"),
-    ("#[derive(Drop, Clone)]\npub struct CoreCount {\n}\n", True, "a count that can be copied"),
-    ("#[derive(Drop)]\npub struct CoreCount {\n}\n", False, "the counter as it is"),
+    (COUNTER + "impl CoreCount {\n    fn f() -> CoreCount { Self::new() }\n}\n", True, "a new count by `Self`"),
+    (COUNTER.replace("Drop", "Drop, Clone"), True, "a count that can be copied"),
+    (COUNTER, False, "the counter as it is"),
 ]
 
 PRIVATE = "src/lib.rt:3:5: error[private-field]: `seal` is private\n"
@@ -57,8 +60,9 @@ class MustNotCompile(unittest.TestCase):
         placed = [("crates/a/src/lib.rt", *row) for row in ROWS]
         placed += [(must_not_compile.COUNTER_SOURCE, *row) for row in IN_COUNTER]
         for path, source, refused, reason in placed:
+            those = [must_not_compile.bare(*it) for it in (RIGHT | {path: source}).items()]
             with self.subTest(reason):
-                self.assertEqual(bool(must_not_compile.complaints(RIGHT | {path: source})), refused)
+                self.assertEqual(bool(must_not_compile.complaints(those)), refused)
 
     def test_printed(self):
         for printed, kind, reason in PRINTED:

@@ -1,21 +1,17 @@
 """The words of a `rattle` command on one crate, over the libraries below it that are built."""
 
 import os
-import re
 import shutil
+import sys
+from pathlib import Path
 
-from files import read
+sys.path.append(str(Path(__file__).parent.parent / "doc"))
+from sources import crates
 
 
 def kit():
     """The folder of the kit, which has bin/rt."""
     return os.path.dirname(os.path.dirname(os.path.realpath(shutil.which("rt"))))
-
-
-def crates():
-    """The crates, each with its kind if it is a static library, and the libraries that it uses."""
-    lines = re.findall(r"^(\w+)( staticlib)?: *(.*)$", read("crates.txt"), re.M)
-    return {name: (kind.strip(), used.split()) for name, kind, used in lines}
 
 
 def below(name):

@@ -20,11 +20,14 @@ import shutil
 import subprocess
 import sys
 import tempfile
+from pathlib import Path
 
 import edits
-import functions
+import verdicts
 import words
-from files import read, write
+
+sys.path.append(str(Path(__file__).parent.parent / "doc"))
+import sources
 
 FIRST, MORE = "wrong-bodies", "more-wrong-bodies"
 
@@ -32,24 +35,26 @@ FIRST, MORE = "wrong-bodies", "more-wrong-bodies"
 AT_ONCE = min(4, len(os.sched_getaffinity(0)))
 
 
-def changed(edit, crate):
-    """The functions that an edit changes, or none if it changes what stands outside of them."""
-    found, types = set(), functions.homes(crate)
+def changed(edit, name, crate):
+    """The paths of the functions that an edit changes, or none if it changes what is outside of them."""
+    edits.texts_after(edit, f"crates/{name}")
+    found, files = set(), {it.path: it for it in crate.values()}
     for path, old, _ in edits.pairs(edit):
-        text = read(os.path.join(crate, path))
-        if text.count(old) != 1:
-            raise edits.BadEdit(f"{edit}: the old text doesn't occur there once: {old}")
-        at = text.index(old) + len(old) - len(old.lstrip())
-        found.add(functions.function_at(path, text, at, types))
-    return set() if None in found else found
+        source = files[f"crates/{name}/{path}"]
+        at = source.text.index(old) + len(old) - len(old.lstrip())
+        function = source.function_at(source.text.count("\n", 0, at) + 1)
+        if function is None:
+            return set()
+        found.add(sources.checked_path(crate, source, function))
+    return found
 
 
-def takes(tried, edit, its, crate):
+def takes(tried, edit, its, folder):
     """Whether a round takes an edit: it changes other functions, and its old texts still occur once."""
     if any(its & other for other in tried.values()):
         return False
     try:
-        edits.texts_after_all([*tried, edit], crate)
+        edits.texts_after_all([*tried, edit], folder)
     except edits.BadEdit:
         return False
     return True
@@ -57,16 +62,15 @@ def takes(tried, edit, its, crate):
 
 def rounds(name, *folders):
     """The edits of a crate with what they change, so that those of a round change different functions."""
-    made, alone, crate = [], [], f"crates/{name}"
+    made, alone, folder = [], [], f"crates/{name}"
+    crate = sources.read_crate(name, folder)
     for edit in edits.edits_of(name, *folders):
-        its = changed(edit, crate)
-        if not its:
-            alone.append({edit: its})
-            continue
-        tried = next((it for it in made if takes(it, edit, its, crate)), None)
-        if tried is None:
-            made.append(tried := {})
-        tried[edit] = its
+        its = changed(edit, name, crate)
+        tried = next((it for it in made if takes(it, edit, its, folder)), None)
+        if its and tried is not None:
+            tried[edit] = its
+        else:
+            (made if its else alone).append({edit: its})
     return made + alone
 
 
@@ -76,19 +80,19 @@ def check(name, tried):
         for part in ("src", "specs", "proofs"):
             if os.path.isdir(f"crates/{name}/{part}"):
                 shutil.copytree(f"crates/{name}/{part}", f"{crate}/{part}")
-        for path, text in edits.texts_after_all(tried, crate).items():
-            write(path, text)
-        only = [it for its in tried.values() for function in its for it in ("--only", function.path())]
-        ran = subprocess.run([*words.of("check", name), *only], cwd=crate, capture_output=True, text=True, errors="replace")
+        edits.write(edits.texts_after_all(tried, crate))
+        only = [word for its in tried.values() for path in its for word in ("--only", path)]
+        command = [*words.of("check", name), *only]
+        ran = subprocess.run(command, cwd=crate, capture_output=True, text=True, errors="replace")
     return ran.stdout + ran.stderr
 
 
-def verdicts(name, tried):
+def judged(name, tried):
     """Each edit of a round with its verdict."""
     printed = check(name, tried)
-    if not functions.statuses(printed):
+    if not verdicts.statuses(printed):
         return {edit: "BAD EDIT: " + printed.strip()[:300] for edit in tried}
-    return {edit: functions.verdict(printed, its) for edit, its in tried.items()}
+    return {edit: verdicts.verdict(printed, its) for edit, its in tried.items()}
 
 
 def try_all(names, folders):
@@ -97,12 +101,13 @@ def try_all(names, folders):
     # The longest begin first.
     all_rounds = sorted(((name, it) for name in names for it in rounds(name, *folders)), key=lambda it: -len(it[1]))
     with concurrent.futures.ThreadPoolExecutor(AT_ONCE) as lanes:
-        running = [lanes.submit(verdicts, *it) for it in all_rounds]
+        running = [lanes.submit(judged, *it) for it in all_rounds]
         for done in concurrent.futures.as_completed(running):
-            said = done.result()
-            bad = {edit: verdict for edit, verdict in said.items() if verdict != "refused"}
-            print("".join(f"{edit}: {verdict}\n" for edit, verdict in bad.items()), end="", flush=True)
-            tried, wrong = tried + len(said), wrong + len(bad)
+            for edit, verdict in done.result().items():
+                tried += 1
+                if verdict != "refused":
+                    wrong += 1
+                    print(f"{edit}: {verdict}", flush=True)
     print(f"wrong bodies: {tried - wrong} of {tried} refused, each with a goal of its own that isn't shown")
     return wrong
 
@@ -110,14 +115,13 @@ def try_all(names, folders):
 def unfit():
     """What is wrong with the edits, without trying them."""
     for name in edits.crates_with(*edits.FOLDERS):
-        for edit in edits.edits_of(name, *edits.FOLDERS):
-            try:
+        try:
+            for edit in edits.edits_of(name, *edits.FOLDERS):
                 edits.texts_after(edit, f"crates/{name}")
-            except edits.BadEdit as error:
-                yield str(error)
-    for name in edits.crates_with(FIRST):
-        if len(rounds(name, FIRST)) > 1:
-            yield f"crates/{name}/{FIRST}: two edits change one function or one text, or one changes none: move it to {MORE}"
+            if len(rounds(name, FIRST)) > 1:
+                yield f"crates/{name}/{FIRST}: two edits change one function, or one changes none: move it to {MORE}"
+        except edits.BadEdit as error:
+            yield str(error)
 
 
 def main():

@@ -2,6 +2,7 @@
 
 import html
 import re
+from collections import Counter
 
 LINK = re.compile(r'<a\b[^>]*?\bhref="([^"]*)"')
 TARGET = re.compile(r'\bid="([^"]*)"')
@@ -9,29 +10,25 @@ TARGET = re.compile(r'\bid="([^"]*)"')
 
 def links(pages):
     """How many links the pages have, and what is wrong with them and with their targets."""
-    targets = {name: [html.unescape(it) for it in TARGET.findall(text)] for name, text in pages.items()}
-    found, wrong = 0, []
-    for name, those in targets.items():
-        wrong += [f"{name}: two targets are named {it}" for it in sorted({it for it in those if those.count(it) > 1})]
-    known = {name: set(those) for name, those in targets.items()}
+    targets = {name: Counter(map(html.unescape, TARGET.findall(text))) for name, text in pages.items()}
+    count = 0
+    wrong = [f"{name}: two targets are named {it}" for name, those in targets.items() for it in those if those[it] > 1]
     for name, text in pages.items():
         for href in LINK.findall(text) if name.endswith(".html") else ():
-            found += 1
+            count += 1
             page, _, place = html.unescape(href).partition("#")
             page = page or name
-            if not re.match(r"https?:", href) and (page not in known or (place and place not in known[page])):
+            if not re.match(r"https?:", href) and (page not in targets or place and place not in targets[page]):
                 wrong.append(f"{name}: the link {href} leads nowhere")
-    return found, list(dict.fromkeys(wrong))
+    return count, wrong
 
 
 def plain(text):
     """The words of a text, without the marks of a quotation, of links and of code."""
-    text = re.sub(r"^>", "", text, flags=re.M)
-    text = re.sub(r"\[([^\]]*)\]\([^)]*\)", r"\1", text)
+    text = re.sub(r"\[([^\]]*)\]\([^)]*\)", r"\1", re.sub(r"^>", "", text, flags=re.M))
     return " ".join(re.sub(r"[`*]", "", text).split())
 
 
 def headline(text, readme):
     """A complaint if README has another headline."""
-    with open(readme, encoding="utf-8") as file:
-        return [] if plain(text) in plain(file.read()) else ["headline.json: README has another headline"]
+    return [] if plain(text) in plain(readme) else ["headline.json: README has another headline"]

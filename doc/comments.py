@@ -3,11 +3,14 @@
 import re
 from html import escape
 
-from pygments.lexers import TextLexer
-
 import lexers
 
+FIRST_SENTENCE = re.compile(r"\n\s*\n|(?<=\.)\s")
 CODE = re.compile(r"\[?`([^`]+)`\]?(?:\(([^)]*)\))?")
+
+
+def first_sentence(text):
+    return FIRST_SENTENCE.split(text.strip(), maxsplit=1)[0]
 
 
 def inline(text, link=lambda name: None):
@@ -41,8 +44,9 @@ def html(text, link=lambda name: None):
         if place % 3 == 0:
             out += [block(it, link) for it in re.split(r"\n\s*\n", part) if it.strip()]
         elif place % 3 == 1:
-            lexer = lexers.RUST if part in ("rust", "") else TextLexer()
+            language = part
         else:
-            tokens = lexers.pieces(lexer, part.rstrip("\n"))
-            out.append(f"<pre><code>{lexers.marked_up(tokens, lambda at: None)}</code></pre>")
+            code = part.rstrip("\n")
+            tokens = lexers.rust(code) if language in ("rust", "") else [("", code)]
+            out.append(f"<pre><code>{lexers.marked_up(tokens)}</code></pre>")
     return "\n".join(out)

@@ -71,8 +71,7 @@ class Kit:
         path = os.path.join(os.path.dirname(self.folder or ""), "KIT-ID")
         if not self.folder or not os.path.exists(path):
             return None
-        with open(path, encoding="utf-8") as file:
-            return file.read().strip()
+        return sources.read(path).strip()
 
     @functools.lru_cache(maxsize=None)
     def module(self, name):
@@ -85,8 +84,7 @@ class Kit:
             return None
         path = f"{self.folder}/{place.replace('.', '/')}.antt"
         if os.path.exists(path):
-            with open(path, encoding="utf-8") as file:
-                return read_module(name, path, file.read())
+            return read_module(name, path, sources.read(path))
         return self.alias(name)
 
     def alias(self, name):
@@ -112,15 +110,19 @@ class Kit:
             return self.declared(module, name)
         return self.in_module(self.module(module), name) or KitName(module, name, missing=NO_TEXT)
 
+    def meant(self, module, word):
+        """What a word in a text of a module means, if the module declares or imports it."""
+        if word in module.definitions:
+            return self.find(module.name, word)
+        return self.find(*module.imports[word]) if module.imports.get(word, ("", None))[1] else None
+
     def in_module(self, module, name):
         if module is None:
             return None
-        if name in module.definitions:
-            it = module.definitions[name]
-            return KitName(module.name, name, it.text, it.comment)
-        for it in module.definitions.values():
-            if name in it.members:
-                return KitName(module.name, it.name, it.text, it.comment)
+        having = (it for it in module.definitions.values() if name in it.members)
+        declared = module.definitions.get(name) or next(having, None)
+        if declared:
+            return KitName(module.name, declared.name, declared.text, declared.comment)
         if module.imports.get(name, ("", None))[1]:
             return self.find(*module.imports[name])
         for whole in module.whole:
@@ -135,21 +137,22 @@ class Kit:
         words = path.removesuffix(".TheVariants").split(".")
         for file in ("/".join(words[:-1]) or "lib", "/".join(words[:-2])):
             source = f"{self.folder}/{package}/src/{file}.rt"
-            if os.path.exists(source):
-                with open(source, encoding="utf-8") as text:
-                    text = text.read()
-                found = re.search(rf"^pub (?:struct|enum|union) {words[-1]}\b.*?^\}}", text, re.M | re.S)
-                if found:
-                    return KitName("::".join([package, *words[:-1]]), words[-1], found.group())
+            text = sources.read(source) if os.path.exists(source) else ""
+            found = re.search(rf"^pub (?:struct|enum|union) {words[-1]}\b.*?^\}}", text, re.M | re.S)
+            if found:
+                return KitName("::".join([package, *words[:-1]]), words[-1], found.group())
         return KitName(module, name, missing=NO_TEXT)
+
+    def texts(self, package):
+        """The sources of a library of the kit."""
+        paths = sorted(glob.glob(f"{self.folder}/{package}/src/**/*.rt", recursive=True)) if self.folder else []
+        return (sources.read(it) for it in paths)
 
     @functools.lru_cache(maxsize=None)
     def relation(self, trait, name):
         """A relation of a trait of the kit."""
-        for package in ("core", "std", "std_io", "std_alloc") if self.folder else ():
-            for path in sorted(glob.glob(f"{self.folder}/{package}/src/**/*.rt", recursive=True)):
-                with open(path, encoding="utf-8") as file:
-                    text = file.read()
+        for package in ("core", "std", "std_io", "std_alloc"):
+            for text in self.texts(package):
                 found = re.search(rf"^pub trait {trait}\b.*?^\}}", text, re.M | re.S)
                 relation = found and re.search(rf"^    ghost {name}(?:\(.*?\))?:.*?;", found.group(), re.M | re.S)
                 if relation:
@@ -159,9 +162,6 @@ class Kit:
     def c_function(self, name):
         """The contract of a function of C that the kit assumes, by its path."""
         package, *_, word = name.split("::")
-        for path in sorted(glob.glob(f"{self.folder}/{package}/src/**/*.rt", recursive=True)) if self.folder else ():
-            with open(path, encoding="utf-8") as file:
-                found = re.search(rf"(?:^ *//[^\n]*\n)*^ *pub (?:safe |unsafe )?fn {word}\b(?:[^;]|;(?!\n))*;$", file.read(), re.M)
-            if found:
-                return sources.dedented(found.group().splitlines())
-        return ""
+        contract = re.compile(rf"(?:^ *//[^\n]*\n)*^ *pub (?:safe |unsafe )?fn {word}\b(?:[^;]|;(?!\n))*;$", re.M)
+        found = next(filter(None, map(contract.search, self.texts(package))), None)
+        return sources.dedented(found.group().splitlines()) if found else ""

@@ -2,8 +2,6 @@
 
 import re
 
-from pygments.token import Name
-
 import comments
 import lexers
 
@@ -27,13 +25,8 @@ def cited_by(library, it):
     module = library.kit.module(it.module) if it.text and "::" not in it.module else None
     if module is None:
         return
-    for kind, value in lexers.pieces(lexers.ANTT, it.text):
-        if kind is not Name:
-            continue
-        if value in module.definitions:
-            yield library.kit.find(module.name, value)
-        elif module.imports.get(value, ("", None))[1]:
-            yield library.kit.find(*module.imports[value])
+    found = (library.kit.meant(module, value) for style, value in lexers.antt(it.text) if style == "n")
+    yield from filter(None, found)
 
 
 def close(library):
@@ -48,9 +41,9 @@ def close(library):
 
 def shown(pages, it, direct):
     """What a page prints of a name of the kit; `direct` are those that this repository cites itself."""
-    code = pages.views.links.kit_text(it) if it.text else ""
-    return {"name": it.name, "anchor": f"{it.module}.{it.name}", "words": comments.inline(it.comment), "missing": it.missing,
-            "code": code, "direct": (it.module, it.name) in direct}
+    return {"name": it.name, "anchor": f"{it.module}.{it.name}", "words": comments.inline(it.comment),
+            "missing": it.missing, "code": pages.views.links.kit_text(it) if it.text else "",
+            "direct": (it.module, it.name) in direct}
 
 
 def write(pages):

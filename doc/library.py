@@ -5,7 +5,6 @@ import os
 import re
 from dataclasses import dataclass
 
-import kit
 import sources
 import specs
 
@@ -22,11 +21,10 @@ class Target:
 
 
 class Library:
-    def __init__(self, folder=".", the_kit=None):
-        self.folder = folder
-        self.kit = the_kit or kit.Kit(kit.located())
-        self.uses = read_crates(f"{folder}/crates.txt")
-        self.sources, self.modules, self.vectors = {}, {}, []
+    def __init__(self, folder, the_kit):
+        self.folder, self.kit = folder, the_kit
+        self.uses = {name: used for name, (_, used) in sources.crates(folder).items()}
+        self.sources, self.modules = {}, {}
         for crate in self.uses:
             self.read(crate, f"{folder}/crates/{crate}")
         self.names_of_kit = {}
@@ -36,8 +34,7 @@ class Library:
         for part in ("specs", "proofs"):
             for path in sorted(glob.glob(f"{folder}/{part}/*.antt")):
                 name = f"Rattle.{crate}.{part}.{os.path.basename(path)[:-5]}"
-                with open(path, encoding="utf-8") as file:
-                    self.modules[name] = specs.read_module(name, os.path.relpath(path, self.folder), file.read())
+                self.modules[name] = specs.read_module(name, os.path.relpath(path, self.folder), sources.read(path))
 
     def crates(self):
         """The crates that are promised: libraries, but for those that only tests use."""
@@ -170,13 +167,6 @@ class Library:
             if parent is None or not parent.modules.get(parts[count]):
                 return False
         return True
-
-
-def read_crates(path):
-    """The crates of a repository, each with what it uses."""
-    with open(path, encoding="utf-8") as file:
-        lines = [it.split("#")[0].strip() for it in file]
-    return {it.split(":")[0].split()[0]: it.split(":")[1].split() for it in lines if ":" in it}
 
 
 def text_page(path):

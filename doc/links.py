@@ -3,8 +3,6 @@
 import re
 from dataclasses import dataclass, field
 
-from pygments.token import Name, Operator
-
 import lexers
 from library import Target, page_of
 
@@ -15,7 +13,8 @@ BINDERS = (
     re.compile(r"[{;]\s+([\w']+) = "),
 )
 LAMBDA = re.compile(r"λ ((?:\([^)]*\)|\{[^}]*\}|[^.(){}])*)\.")
-PLAIN = lexers.LOGIC | {"self", "Self", "result", "_"}
+# Words that have no definition: those of the logic itself, and those of clauses.
+PLAIN = {"tt", "absurd", "refl", "omega", "rw", "Unit", "self", "Self", "result", "_"}
 
 
 @dataclass
@@ -82,7 +81,7 @@ class Links:
         return target.href
 
     def projected(self, place, head, name):
-        """The address of a name after a dot: one of a module, or a relation of the trait that bounds a type parameter."""
+        """The address of a name after a dot: that of a module, or of the trait that bounds a type parameter."""
         module, whole = place.imports.get(head, (None, ""))
         if whole is None:
             found = self.library.find(module, name)
@@ -96,19 +95,19 @@ class Links:
 
     def antt(self, text, place):
         """HTML of a clause or of a definition. A name that is not bound in it and leads nowhere is lost."""
-        tokens = lexers.pieces(lexers.ANTT, text)
+        tokens = lexers.antt(text)
         bound = place.bound | bound_in(text)
 
         def link(at):
-            kind, value = tokens[at]
+            style, value = tokens[at]
             name = {"if": "if◌then◌else◌", "[]": "[]"}.get(value, f"◌{value}◌")
             # An operator may be a word.
             own = place.own is not None and name in place.own.definitions
-            if kind is Operator or value in ("if", "[]") or kind is Name and (own or name in place.imports):
+            if style == "o" or value == "if" or style == "n" and (own or name in place.imports):
                 found = place.imports.get(name) or ((place.own.name, name) if own else None)
                 target = self.library.find(*found) if found else None
                 return self.cite(place, target) if target else None
-            if kind is not Name or value in PLAIN:
+            if style != "n" or value in PLAIN:
                 return None
             if at > 1 and tokens[at - 1][1] == "." and tokens[at - 2][1] != "_" and not tokens[at - 2][1].isspace():
                 return self.projected(place, tokens[at - 2][1], value)
@@ -141,51 +140,29 @@ class Links:
 
     def rust(self, text, source):
         """HTML of a signature or of a type; its names are linked if they are declared in these crates."""
-        tokens = lexers.pieces(lexers.RUST, text)
+        tokens = lexers.rust(text)
 
         def link(at):
-            kind, value = tokens[at]
-            if kind not in Name or not re.match(r"[A-Za-z_]\w+$", value) or (at > 1 and tokens[at - 1][1].strip() == "fn"):
-                return None
-            if at > 1 and tokens[at - 2][1] in ("fn", "struct", "enum", "trait", "const", "type"):
-                return None
-            found = self.library.rust_name(source, value)
-            return found.href if found else None
+            style, value = tokens[at]
+            declared = at > 1 and tokens[at - 2][1] in ("fn", "struct", "enum", "trait", "const", "type")
+            found = None if declared or not style.startswith("n") else self.library.rust_name(source, value)
+            return found and found.href
 
         return lexers.marked_up(tokens, link)
 
     def kit_text(self, it):
         """HTML of a text of the kit; its names lead to the kit's pages where they are printed there, and a name
         that isn't found is not linked."""
-        module = self.library.kit.module(it.module) if not re.search("::", it.module) else None
-        tokens = lexers.pieces(lexers.ANTT if module else lexers.RUST, it.text)
+        module = self.library.kit.module(it.module) if "::" not in it.module else None
+        if module is None:
+            return lexers.marked_up(lexers.rust(it.text))
+        tokens = lexers.antt(it.text)
 
         def link(at):
-            kind, value = tokens[at]
-            if module is None or kind is not Name or value == it.name or (at and tokens[at - 1][1] == "."):
+            style, value = tokens[at]
+            if style != "n" or value == it.name or (at and tokens[at - 1][1] == "."):
                 return None
-            found = None
-            if value in module.definitions:
-                found = self.library.kit.find(module.name, value)
-            elif module.imports.get(value, ("", None))[1]:
-                found = self.library.kit.find(*module.imports[value])
-            known = found and (found.module, found.name) in self.library.names_of_kit
-            return found.href if known else None
+            found = self.library.kit.meant(module, value)
+            return found.href if found and (found.module, found.name) in self.library.names_of_kit else None
 
         return lexers.marked_up(tokens, link)
-
-
-def closure(library, cites, roots):
-    """The definitions that these rest on, with themselves, in reading order: crate by crate, module by module."""
-    found, todo = set(), list(roots)
-    while todo:
-        key = todo.pop()
-        if key not in found and key[0] == "definition":
-            found.add(key)
-            todo += cites.get(key, ())
-    order = {}
-    for crate in library.uses:
-        for module in library.specs_of(crate):
-            for name in module.definitions:
-                order[("definition", module.name, name)] = len(order)
-    return sorted(found & order.keys(), key=order.get)

@@ -1,10 +1,10 @@
 #!/usr/bin/env python3
 """Makes the reader for the proof: build/doc/index.html and the pages that it leads to.
 
-It reads the sources, the specs, crates.txt and headline.json, and needs Debian's python3-jinja2 and
-python3-pygments. It fails if a name in a clause or in a definition leads nowhere, if a clause of a public function has
-no name, if a definition has no comment, if a link has no target, if two targets of a page have the same name, or if the
-headline isn't README's or names a clause that is gone.
+It reads the sources, the specs, crates.txt and headline.json, and needs Debian's python3-jinja2 and python3-pygments.
+It fails if a name in a clause or in a definition leads nowhere, if a public function, a clause of it or a definition
+has no words, if a link has no target, if two targets of a page have the same name, or if the headline isn't README's or
+names a clause that is gone.
 
 usage: make.py [FOLDER]    the folder of the pages, which is replaced: build/doc
 """
@@ -19,34 +19,34 @@ import time
 sys.path.append("/usr/lib/python3/dist-packages")  # where Debian puts packages, also if python3 is another one
 try:
     import jinja2
-
-    import checks
-    import comments
-    import kit_pages
-    import lexers
-    import picture
-    from library import Library, module_page, page_of, text_page
-    from views import Views
 except ImportError as missing:
     sys.exit(f"make doc needs Debian's python3-jinja2 and python3-pygments: {missing}")
 
+import checks
+import comments
+import kit
+import kit_pages
+import lexers
+import picture
+from library import Library, module_page, page_of, text_page
+from sources import read
+from views import Views
+
 TAG = re.compile(r"<[^>]+>")
-FIRST_SENTENCE = re.compile(r"\n\s*\n|(?<=\.)\s")
 HERE = os.path.dirname(os.path.abspath(__file__))
 
 
 def first_sentence(text):
-    return comments.inline(FIRST_SENTENCE.split(text.strip(), maxsplit=1)[0])
+    return comments.inline(comments.first_sentence(text))
 
 
 class Pages:
-    """Writes the pages of a repository."""
+    """The pages of a repository by their names, and the list of all names."""
 
-    def __init__(self, views, folder):
-        self.views, self.library, self.folder = views, views.library, folder
-        loader = jinja2.FileSystemLoader(f"{HERE}/templates")
-        self.env = jinja2.Environment(loader=loader, trim_blocks=True, lstrip_blocks=True, autoescape=True,
-                                      undefined=jinja2.StrictUndefined)
+    def __init__(self, views):
+        self.views, self.library = views, views.library
+        self.env = jinja2.Environment(loader=jinja2.FileSystemLoader(f"{HERE}/templates"), trim_blocks=True,
+                                      lstrip_blocks=True, autoescape=True, undefined=jinja2.StrictUndefined)
         self.env.filters["words"] = lambda text: jinja2.utils.markupsafe.Markup(comments.inline(text))
         self.env.globals.update(crates=views.crates, crate_page=lambda crate: f"{crate}.html", count=len)
         self.written, self.named = {}, []
@@ -64,30 +64,30 @@ class Pages:
         if name:
             self.named.append((name, kind, href, of, standards, said))
 
-    def facts_on(self, shown):
-        """What a definition's place on a page says beside its text."""
-        named, within = (it.get(shown.key, []) for it in self.tested)
-        return {"citers": self.views.citers(shown.key), "rests_on": self.views.rests_on(shown.key),
-                "named": named, "within": within}
+    def with_facts(self, shown):
+        """Definitions, each with what its place on a page says beside its text."""
+        for it in shown:
+            named, within = (by_key.get(it.key, []) for by_key in self.tested)
+            yield it, {"citers": self.views.citers(it.key), "rests_on": self.views.rests_on(it.key),
+                       "named": named, "within": within}
 
     def definitions(self):
-        listed = {}
-        for crate, modules in self.views.definitions.items():
+        listed = {crate: [(module, list(self.with_facts(shown))) for module, shown in modules]
+                  for crate, modules in self.views.definitions.items()}
+        for crate, modules in listed.items():
             for module, shown in modules:
-                for it in shown:
-                    self.name(it.name, it.kind, it.href, module.short, it)
-                those = [(it, self.facts_on(it)) for it in shown]
-                listed.setdefault(crate, []).append((module, those))
-                self.write(module_page(module.name), "definitions.html", title=module.short, crate=crate, module=module,
-                           shown=those, vectors=False)
+                self.module(crate, module, shown, module.short, module.short, vectors=False)
         self.write("all_definitions.html", "all_definitions.html", title="All definitions", definitions=listed)
         for crate, found in self.views.vectors.items():
             if found:
                 module, shown = found
-                for it in shown:
-                    self.name(it.name, it.kind, it.href, crate, it)
-                self.write(module_page(module.name), "definitions.html", title=f"The vectors of {crate}", crate=crate,
-                           module=module, shown=[(it, None) for it in shown], vectors=True)
+                self.module(crate, module, [(it, None) for it in shown], f"The vectors of {crate}", crate, vectors=True)
+
+    def module(self, crate, module, shown, title, of, vectors):
+        for it, _ in shown:
+            self.name(it.name, it.kind, it.href, of, it)
+        self.write(module_page(module.name), "definitions.html", title=title, crate=crate, module=module, shown=shown,
+                   vectors=vectors)
 
     def sources(self):
         for crate, sources in self.views.sources.items():
@@ -107,107 +107,76 @@ class Pages:
                 "sources": [it for it in sources if it[0].module], "vectors": self.views.vectors[crate],
                 "first_line": first_sentence}
 
-    def headline(self):
-        """The phrases of the headline with their clauses, the definitions that these rest on in reading order, the phrases
-        on verifying, and what is wrong with them."""
-        with open(f"{HERE}/headline.json", encoding="utf-8") as file:
-            data = json.load(file)
-        (phrases, lost), (verifying, more) = (self.phrases(data[it]) for it in ("headline", "verifying"))
-        roots = [key for it in phrases for clause in it["clauses"] for key in self.views.cites.get(clause["key"], ())]
-        lost += more + checks.headline("".join(it["text"] for it in phrases), f"{self.library.folder}/README.md")
-        return phrases, roots, verifying, lost
-
     def phrases(self, rows):
-        """Phrases with their clauses, and the clauses that are gone."""
-        phrases, lost = [], []
-        for text, names, note in ((*row, [], "")[:3] if len(row) > 1 else (row[0], [], "") for row in rows):
-            found = [self.views.by_name.get(it) for it in names]
-            lost += [f"headline.json: no clause {name}" for name, it in zip(names, found) if it is None]
-            phrases.append({"text": text, "clauses": [it for it in found if it], "note": note})
-        return phrases, lost
+        """Phrases with their clauses and a note, which a row may lack."""
+        rows = (row + [None, [], ""][len(row) :] for row in rows)
+        return [{"text": text, "clauses": self.views.clauses(names), "note": note} for text, names, note in rows]
 
-    def reading(self, roots):
-        """The definitions that the headline rests on, module by module."""
-        from links import closure
-        keys = set(closure(self.library, self.views.cites, roots))
-        found = []
-        for modules in self.views.definitions.values():
-            for module, shown in modules:
-                those = [it for it in shown if it.key in keys]
-                if those:
-                    found.append((module, [(it, self.facts_on(it)) for it in those]))
-        lines = sum(it.lines for _, those in found for it, _ in those)
+    def front(self):
+        """The first page, and the definitions that the headline rests on; returns a complaint if README has another."""
+        rows = json.loads(read(f"{HERE}/headline.json"))
+        phrases, verifying = self.phrases(rows["headline"]), self.phrases(rows["verifying"])
+        found = self.views.reading(clause for it in phrases for clause in it["clauses"])
+        found = [(module, list(self.with_facts(shown))) for module, shown in found]
+        lines = sum(it.lines for _, shown in found for it, _ in shown)
         self.write("reading.html", "reading.html", title="The definitions of the headline", modules=found, lines=lines)
-        return len([it for _, those in found for it in those]), lines
 
-    def front(self, phrases, verifying, read):
-        uses = {it: self.library.uses[it] for it in self.views.crates}
-        counted = {it: sum(1 for _, shown in self.views.sources[it] for x in shown if x.kind == "fn") for it in uses}
-        notes = {it: f"{count} public function{'s' * (count != 1)}" for it, count in counted.items()}
-        drawn = picture.drawn(uses, notes)
-        vectors = sum(1 for it in filter(None, self.views.vectors.values()) for x in it[1] if x.kind == "vector")
-        clauses = sum(1 for those in self.views.sources.values() for _, shown in those for it in shown for x in it.parts)
-        definitions = sum(len(shown) for those in self.views.definitions.values() for _, shown in those)
-        numbers = {"functions": sum(counted.values()), "clauses": clauses, "definitions": definitions, "vectors": vectors}
-        self.write("index.html", "index.html", title="scrypt, proved", phrases=phrases,
-                   verifying=verifying, drawn=drawn, numbers=numbers, read=read,
+        items = {crate: [it for _, shown in those for it in shown] for crate, those in self.views.sources.items()}
+        functions = {crate: sum(it.kind == "fn" for it in those) for crate, those in items.items()}
+        uses = {crate: self.library.uses[crate] for crate in self.views.crates}
+        numbers = {
+            "functions": sum(functions.values()),
+            "clauses": sum(len(it.parts) for those in items.values() for it in those),
+            "definitions": sum(len(shown) for those in self.views.definitions.values() for _, shown in those),
+            "vectors": sum(it.kind == "vector" for those in self.views.vectors.values() if those for it in those[1]),
+        }
+        notes = {crate: f"{count} public function{'s' * (count != 1)}" for crate, count in functions.items()}
+        self.write("index.html", "index.html", title="scrypt, proved", phrases=phrases, verifying=verifying,
+                   drawn=picture.drawn(uses, notes), numbers=numbers, lines=lines,
+                   definitions=sum(len(shown) for _, shown in found),
                    about=[(it, first_sentence(self.library.sources[it][""].doc)) for it in uses])
+        return checks.headline("".join(it["text"] for it in phrases), read(f"{self.library.folder}/README.md"))
 
     def rest(self):
         kit_pages.write(self)
-        with open(f"{self.library.folder}/HANDLES", encoding="utf-8") as file:
-            handles = file.read().strip()
-        with open(f"{HERE}/axioms.txt", encoding="utf-8") as file:
-            axioms = [(it, self.library.kit.c_function(it)) for it in file.read().split()]
-        self.write("trust.html", "trust.html", title="What is trusted", axioms=axioms, handles=handles,
-                   kit=self.library.kit.identity, libraries=self.kit_libraries())
+        own = self.library.uses
+        libraries = sorted({it for crate in self.views.crates for it in own[crate] if it not in own})
+        axioms = [(it, self.library.kit.c_function(it)) for it in read(f"{HERE}/axioms.txt").split()]
+        self.write("trust.html", "trust.html", title="What is trusted", libraries=libraries, axioms=axioms,
+                   kit=self.library.kit.identity, handles=read(f"{self.library.folder}/HANDLES").strip())
         named = sorted(set(self.named), key=lambda it: (it[0].lower(), it))
         self.write("names.html", "names.html", title="All names", named=named)
         self.written["names.js"] = "const NAMES = " + json.dumps(named, ensure_ascii=False) + ";\n"
-        for path in sorted(self.views.paths):
-            self.text(path)
+        for path in self.views.paths():
+            text = read(f"{self.library.folder}/{path}")
+            tokens = lexers.antt(text) if path.endswith(".antt") else lexers.rust(text)
+            lines = [lexers.marked_up(it) for it in lexers.by_lines(tokens)]
+            self.write(text_page(path), "text.html", title=path, crate=path.split("/")[1], lines=lines)
 
-    def text(self, path):
-        """A page of a file as it is, with a place for each line."""
-        with open(f"{self.library.folder}/{path}", encoding="utf-8") as file:
-            tokens = lexers.pieces(lexers.ANTT if path.endswith(".antt") else lexers.RUST, file.read())
-        lines = [lexers.marked_up(it, lambda at: None) for it in lexers.by_lines(tokens)]
-        self.write(text_page(path), "text.html", title=path, crate=path.split("/")[1], lines=lines)
-
-    def kit_libraries(self):
-        own = set(self.library.uses)
-        return sorted({it for crate in self.views.crates for it in self.library.uses[crate] if it not in own})
-
-    def save(self):
-        shutil.rmtree(self.folder, ignore_errors=True)
-        os.makedirs(self.folder)
+    def save(self, folder):
+        shutil.rmtree(folder, ignore_errors=True)
+        os.makedirs(folder)
         for name, text in self.written.items():
-            with open(f"{self.folder}/{name}", "w", encoding="utf-8") as file:
+            with open(f"{folder}/{name}", "w", encoding="utf-8") as file:
                 file.write(text)
         for name in ("style.css", "search.js"):
-            shutil.copy(f"{HERE}/{name}", f"{self.folder}/{name}")
-
-
-def make(folder, library):
-    """Writes the pages to a folder, and returns everything that is wrong with them, and what they are."""
-    pages = Pages(Views(library), folder)
-    phrases, roots, verifying, lost = pages.headline()
-    pages.definitions()
-    pages.sources()
-    pages.front(phrases, verifying, pages.reading(roots))
-    pages.rest()
-    lost += pages.views.links.lost + pages.views.silent()
-    links, broken = checks.links(pages.written)
-    pages.save()
-    return lost + broken, f"{sum(it.endswith('.html') for it in pages.written)} pages, {links} links"
+            shutil.copy(f"{HERE}/{name}", f"{folder}/{name}")
 
 
 def main():
     begun = time.monotonic()
     folder = sys.argv[1] if len(sys.argv) > 1 else "build/doc"
-    wrong, made = make(folder, Library("."))
-    print("\n".join(wrong) or f"doc: {folder}/index.html: {made}, each leads somewhere; {time.monotonic() - begun:.1f} seconds")
-    sys.exit(1 if wrong else 0)
+    pages = Pages(Views(Library(".", kit.Kit(kit.located()))))
+    pages.definitions()
+    pages.sources()
+    wrong = pages.front()
+    pages.rest()
+    wrong += pages.views.wrong()
+    links, broken = checks.links(pages.written)
+    pages.save(folder)
+    made = f"{sum(it.endswith('.html') for it in pages.written)} pages, {links} links"
+    print(f"doc: {folder}/index.html: {made}, in {time.monotonic() - begun:.1f} seconds")
+    sys.exit("\n".join(wrong + broken) or 0)
 
 
 if __name__ == "__main__":

@@ -56,5 +56,6 @@ def drawn(uses, notes):
             top = 2 + place * (HEIGHT + RISE)
             boxes[crate] = Box(crate, f"{crate}.html", notes[crate], left + at * (WIDTH + GAP), top)
     lines = [(boxes[a].middle, boxes[a].top + HEIGHT, boxes[b].middle, boxes[b].top) for a, b in direct(uses)]
-    return {"boxes": list(boxes.values()), "lines": lines, "width": width, "height": len(layers) * (HEIGHT + RISE) - RISE + 4,
-            "box_width": WIDTH, "box_height": HEIGHT}
+    height = len(layers) * (HEIGHT + RISE) - RISE + 4
+    return {"boxes": list(boxes.values()), "lines": lines, "width": width, "height": height, "box_width": WIDTH,
+            "box_height": HEIGHT}

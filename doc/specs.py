@@ -8,7 +8,9 @@ HEAD = re.compile(
     r"(?P<name>◌\S+|[^\s(){}:=]+)(?=[\s:])(?!\s*=)"
 )
 NOT_HEADS = {"use", "mod", "infixl", "infixr", "infix", "unfolding", "mutual", "open", "syntax", "let", "module"}
-IMPORT = re.compile(r"^\s*(?P<pub>pub )?(?:ghost )?use (?P<module>[\w.]+?)(?:\.\{(?P<names>[^}]*)\}| as (?P<other>\w+))?;?$", re.M)
+IMPORT = re.compile(
+    r"^\s*(?P<pub>pub )?(?:ghost )?use (?P<module>[\w.]+?)(?:\.\{(?P<names>[^}]*)\}| as (?P<other>\w+))?;?$", re.M
+)
 MEMBERS = re.compile(r"^ +(?:pub )?([^\s:→({][^:→({]*?) :(?: |$)", re.M)
 STANDARD = re.compile(
     r"(?P<name>RFC (?P<number>\d+)|FIPS 180-4|crypt\(5\)|PHC string format)"
@@ -66,7 +68,7 @@ def imports_of(text):
 
 
 def comment_text(lines):
-    """The text of a comment. A step of a standard ends its line, but for a full line and for what is in parentheses."""
+    """The text of a comment. A step of a standard ends its line, unless the line is full or parentheses follow."""
     text = ""
     for line in lines:
         words = line[2:].strip()

@@ -1,25 +1,17 @@
-#!/usr/bin/env python3
-"""Tests of the parser of the reader, and that the pages are refused for what they have to be refused for."""
+"""The readers find each definition, function and clause, and the pages are refused for what is wrong with them."""
 
-import os
-import re
-import sys
 import tempfile
 import unittest
-
-sys.path.append("/usr/lib/python3/dist-packages")
+from pathlib import Path
 
 import checks
 import comments
 import kit
 import library
 import links
-import picture
 import sources
 import specs
 import views
-
-HERE = os.path.dirname(os.path.abspath(__file__))
 
 SPEC = """-- Keys (RFC 7914, section 6).
 use Rattle.std.specs.Prelude.{ℕ, ◌+◌, ◌≡◌, List, suc, zero}
@@ -38,10 +30,16 @@ pub record IsKey (k : ℕ) : Type 0 where
 
   pub more : ℕ
 
+-- one of two
 pub data Outcome : Type 0 where
   good bad : Outcome
+-- two
 abbrev pub twice : ℕ → ℕ
 twice x = let y = lows.low x in y + y
+
+-- both
+abbrev pub ◌>>=◌ : ℕ → ℕ → ℕ
+o >>= n = o + n
 """
 
 SOURCE = """//! Keys.
@@ -51,8 +49,6 @@ ghost use Rattle.std.specs.Prelude.{ℕ, ◌≡◌};
 use crate::low::Table;
 
 /// Makes a key, as [`Key::len`] says.
-///
-/// A second paragraph.
 #[inline]
 pub fn make<T: Table, const N: usize>(
     bytes: &[u8],
@@ -88,7 +84,7 @@ impl Key {
     fn inner(&self) {}
 }
 
-impl From<&Key> for u8 {
+impl<'a, const N: usize> From<low::Bits<'a>, N> for &[Key] {
     ghost from_gives = { λ key n. IsKey n };
 
     fn from(key: &Key) -> u8 {
@@ -97,7 +93,7 @@ impl From<&Key> for u8 {
 }
 """
 
-LOW_SPEC = "-- Low things.\n\nabbrev pub low : ℕ → ℕ\nlow x = x\n"
+LOW_SPEC = "-- Low things.\nuse Rattle.std.specs.Prelude.{ℕ}\n\n-- itself\nabbrev pub low : ℕ → ℕ\nlow x = x\n"
 LOW_SOURCE = """//! Tables.
 pub trait Table {
     // the room
@@ -110,12 +106,12 @@ pub trait Table {
 }
 """
 
-
 # A method in another source than its type, and a function that can't be named from outside.
 MORE_SOURCE = """use crate::key::Key;
 ghost use Rattle.one.specs.Key.{IsKey};
 
 impl Key {
+    /// Half of it.
     pub fn half(&self) -> u8
         ensures value { IsKey self.now }
     {
@@ -129,74 +125,85 @@ pub fn alone()
 }
 """
 
+FILES = {
+    "crates.txt": "one:\n",
+    "crates/one/src/lib.rt": "//! One.\npub mod key;\npub mod low;\nmod more;\n",
+    "crates/one/src/more.rt": MORE_SOURCE,
+    "crates/one/src/key.rt": SOURCE,
+    "crates/one/src/low.rt": LOW_SOURCE,
+    "crates/one/specs/Lib.antt": "-- keys\npub mod Low\npub mod Key\n",
+    "crates/one/specs/Key.antt": SPEC,
+    "crates/one/specs/Low.antt": LOW_SPEC,
+}
 
-class Specs(unittest.TestCase):
-    def setUp(self):
-        self.module = specs.read_module("Rattle.one.specs.Key", "Key.antt", SPEC)
-
-    def test_each_definition_is_found_once_with_its_text_and_comment(self):
-        self.assertEqual(list(self.module.definitions), ["key", "IsKey", "Outcome", "twice"])
-        key = self.module.definitions["key"]
-        self.assertEqual(key.text.count("\n"), 2)
-        self.assertEqual(key.comment, "step 1: the first key (RFC 8018, section 5.2)")
-        self.assertEqual((key.kind, key.line), ("unfoldable", 8))
-
-    def test_steps_of_a_standard_are_lines(self):
-        full = "-- step 1: " + "x" * 95
-        rows = [
-            (["-- step 1: X = B", "-- step 2: V[i] = X", "-- X after it"], "step 1: X = B\nstep 2: V[i] = X\nX after it"),
-            ([full, "-- and more"], f"{full[3:]} and more"),
-            (["-- the sum of", "-- two words"], "the sum of two words"),
-        ]
-        for lines, wanted in rows:
-            self.assertEqual(specs.comment_text(lines), wanted)
-
-    def test_a_blank_line_inside_a_record_does_not_end_it(self):
-        self.assertEqual(self.module.definitions["IsKey"].members, ["some", "more"])
-
-    def test_constructors_on_one_line_are_members_each(self):
-        self.assertEqual(self.module.definitions["Outcome"].members, ["good", "bad"])
-
-    def test_imports_have_the_name_that_the_file_uses(self):
-        self.assertEqual(self.module.imports["lowest"], ("Rattle.one.specs.Low", "low"))
-
-    def test_standards_have_their_addresses(self):
-        found = specs.standards(self.module.definitions["key"].comment, self.module.comment)
-        self.assertEqual(found[0], ("RFC 8018, section 5.2", "https://www.rfc-editor.org/rfc/rfc8018.html#section-5.2"))
-        self.assertEqual(found[1][0], "RFC 7914, section 6")
-
-    def test_operators_are_definitions(self):
-        module = specs.read_module("M", "M.antt", "-- then\ninfixl 10 ◌>>=◌\nabbrev pub ◌>>=◌ : A → B\no >>= f = f o\n")
-        self.assertEqual(list(module.definitions), ["◌>>=◌"])
+# A file of the small repository, a text in it and what becomes of it, and what the pages are refused for, if anything.
+CHANGES = [
+    ("src/key.rt", "IsKey self.now", "IsLock self.now", "IsLock leads nowhere"),
+    ("src/key.rt", "IsKey n", "IsLock n", "IsLock leads nowhere"),
+    ("src/key.rt", "ensures value {", "ensures {", "the public function len has a clause without a name"),
+    ("src/key.rt", "    /// Its length.\n", "", "the public function len has no doc comment"),
+    ("src/key.rt", "impl Key {", " impl Key {", "src/key.rt:35: not read"),
+    ("src/more.rt", "\n    ensures", "\nensures", "src/more.rt:14: not read"),
+    ("src/more.rt", "self.len", "2", None),
+    ("specs/Key.antt", "lowest (key", "highest (key", "highest leads nowhere"),
+    ("specs/Key.antt", "lows.low", "lows.lower", "lows.lower leads nowhere"),
+    ("specs/Key.antt", "low as lowest", "lower as lowest", "lowest leads nowhere"),
+    ("specs/Key.antt", "-- two\n", "", "no comment says what twice is"),
+    ("specs/Low.antt", "-- Low things.\n", "", "no comment says what it has"),
+]
 
 
-class Sources(unittest.TestCase):
-    def setUp(self):
-        self.source = sources.read_source("one", "crates/one/src/key.rt", SOURCE)
-        self.items = {it.anchor: it for it in self.source.items}
+def small_repository(files):
+    with tempfile.TemporaryDirectory() as folder:
+        for path, text in files.items():
+            Path(folder, path).parent.mkdir(parents=True, exist_ok=True)
+            Path(folder, path).write_text(text, "utf-8")
+        return views.Views(library.Library(folder, kit.Kit(None)))
 
-    def test_items(self):
-        self.assertEqual(set(self.items), {"make", "hidden", "Key", "Key.len", "Key.inner", "From-ref-Key-for-u8"})
-        self.assertFalse(self.items["hidden"].public or self.items["Key.inner"].public)
 
-    def test_a_function_has_its_signature_doc_and_clauses(self):
-        make = self.items["make"]
+class Readers(unittest.TestCase):
+    def test_definitions(self):
+        module = specs.read_module("Rattle.one.specs.Key", "Key.antt", SPEC)
+        found = module.definitions
+        self.assertEqual(list(found), ["key", "IsKey", "Outcome", "twice", "◌>>=◌"])
+        self.assertEqual([found[it].text.count("\n") for it in ("key", "IsKey", "twice")], [2, 3, 1])
+        self.assertEqual([found[it].members for it in ("IsKey", "Outcome")], [["some", "more"], ["good", "bad"]])
+        self.assertEqual((found["key"].kind, found["key"].line), ("unfoldable", 8))
+        self.assertEqual(found["key"].comment, "step 1: the first key (RFC 8018, section 5.2)")
+        self.assertEqual(module.imports["lowest"], ("Rattle.one.specs.Low", "low"))
+        rfc = "https://www.rfc-editor.org/rfc/rfc8018.html#section-5.2"
+        self.assertIn(("RFC 8018, section 5.2", rfc), specs.standards(found["key"].comment, module.comment))
+
+    def test_sources(self):
+        source = sources.read_source("one", "crates/one/src/key.rt", SOURCE)
+        items = {it.anchor: it for it in source.items}
+        make, given = items["make"], items["From-low-Bits-a-N-for-ref-Key"]
+        self.assertEqual([it.anchor for it in source.items if it.public], ["make", "Key", "Key.len", given.anchor])
         self.assertTrue(make.text.endswith("-> Result<Key, Error>"))
-        self.assertEqual(make.doc.splitlines()[-1], "A second paragraph.")
+        self.assertEqual(make.doc, "Makes a key, as [`Key::len`] says.")
         self.assertEqual([it.place for it in make.clauses], ["requires-room", "ok", "room"])
         self.assertEqual(make.clauses[1].text, "IsKey\n    result")
         self.assertEqual(make.generics, {"T": "Table", "N": ""})
+        self.assertEqual([it.name for it in given.clauses], ["from_gives"])
+        self.assertEqual(sources.use_paths("pub use a::{\n    b,\n    c as d,\n};\nuse f::g;\n"),
+                         {"b": ("a::b", True), "d": ("a::c", True), "g": ("f::g", False)})
 
-    def test_relations_of_an_implementation_are_its_clauses(self):
-        self.assertEqual([it.name for it in self.items["From-ref-Key-for-u8"].clauses], ["from_gives"])
+    def test_functions_of_places(self):
+        paths = {name: f"crates/one/src/{name}.rt" for name in ("key", "more")}
+        crate = {name: sources.read_source("one", path, FILES[path]) for name, path in paths.items()}
+        rows = [
+            ("key", "let braces", "key::make", "a function outside of blocks"),
+            ("key", "T.room", None, "a clause"),
+            ("key", "len: u8", None, "a type"),
+            ("key", "key.len", "key::RefSliceKeyFromLowBits::from", "an implementation of a trait"),
+            ("more", "self.len", "key::Key::half", "a method in another file than its type"),
+        ]
+        for module, text, wanted, reason in rows:
+            source = crate[module]
+            it = source.function_at(source.text[: source.text.index(text)].count("\n") + 1)
+            self.assertEqual(it and sources.checked_path(crate, source, it), wanted, reason)
 
-    def test_paths_of_use(self):
-        self.assertEqual(dict(sources.use_paths("pub use a::{b, c::{d as e}};\nuse f;\n")),
-                         {"b": ("a::b", True), "e": ("a::c::d", True), "f": ("f", False)})
-
-
-class Bound(unittest.TestCase):
-    def test_variables(self):
+    def test_bound_variables(self):
         rows = [
             ("λ x y. x", {"x", "y"}),
             ("λ (pair : List ℕ). pair.0", {"pair"}),
@@ -210,107 +217,40 @@ class Bound(unittest.TestCase):
             self.assertEqual(links.bound_in(text), wanted, text)
 
 
-def small_repository(folder, changed=None):
-    """A repository of one crate, with some files changed."""
-    files = {
-        "crates.txt": "one:\n",
-        "crates/one/src/lib.rt": "//! One.\npub mod key;\npub mod low;\nmod more;\n",
-        "crates/one/src/more.rt": MORE_SOURCE,
-        "crates/one/src/key.rt": SOURCE,
-        "crates/one/src/low.rt": LOW_SOURCE,
-        "crates/one/specs/Lib.antt": "-- keys\npub mod Low\npub mod Key\n",
-        "crates/one/specs/Key.antt": SPEC,
-        "crates/one/specs/Low.antt": LOW_SPEC.replace("-- Low", "use Rattle.std.specs.Prelude.{ℕ}\n-- Low"),
-        **(changed or {}),
-    }
-    for path, text in files.items():
-        os.makedirs(os.path.dirname(f"{folder}/{path}"), exist_ok=True)
-        with open(f"{folder}/{path}", "w", encoding="utf-8") as file:
-            file.write(text)
-    return views.Views(library.Library(folder, kit.Kit(None)))
+class Pages(unittest.TestCase):
+    def test_what_is_refused(self):
+        for path, old, new, wanted in CHANGES:
+            path = f"crates/one/{path}"
+            self.assertEqual(FILES[path].count(old), 1, old)
+            found = list(small_repository(FILES | {path: FILES[path].replace(old, new)}).wrong())
+            self.assertEqual(bool(found), wanted is not None, found)
+            self.assertIn(wanted or "", "".join(found))
 
-
-class Names(unittest.TestCase):
-    def lost(self, changed=None):
-        with tempfile.TemporaryDirectory() as folder:
-            return small_repository(folder, changed).links.lost
-
-    def test_every_name_leads_somewhere(self):
-        self.assertEqual(self.lost(), [])
-
-    def test_a_name_that_leads_nowhere_is_lost(self):
-        rows = [
-            ("a clause", "crates/one/src/key.rt", SOURCE.replace("IsKey self.now", "IsLock self.now"), "IsLock"),
-            ("a relation", "crates/one/src/key.rt", SOURCE.replace("IsKey n", "IsLock n"), "IsLock"),
-            ("a definition", "crates/one/specs/Key.antt", SPEC.replace("lowest (key", "highest (key"), "highest"),
-            ("a module's name", "crates/one/specs/Key.antt", SPEC.replace("lows.low", "lows.lower"), "lows.lower"),
-            ("an import", "crates/one/specs/Key.antt", SPEC.replace("low as lowest", "lower as lowest"), "lowest"),
-        ]
-        for reason, path, text, name in rows:
-            found = self.lost({path: text})
-            self.assertTrue(len(found) == 1 and f": {name} leads nowhere" in found[0], f"{reason}: {found}")
-
-    def test_a_clause_without_a_name(self):
-        found = self.lost({"crates/one/src/key.rt": SOURCE.replace("ensures value {", "ensures {")})
-        self.assertEqual([it.split(": ")[1] for it in found], ["a clause of the public function len has no name"])
-
-    def test_definitions_without_a_comment(self):
-        with tempfile.TemporaryDirectory() as folder:
-            found = small_repository(folder).silent()
-        self.assertEqual([it.split()[-2] for it in found], ["low", "Outcome", "twice"])
-
-    def test_what_is_public(self):
-        with tempfile.TemporaryDirectory() as folder:
-            names = {it["of"] for it in small_repository(folder).by_name.values()}
+    def test_what_is_public_and_cited(self):
+        found = small_repository(FILES)
+        names = {it["of"] for it in found.by_name.values()}
         self.assertIn("one::key::Key::half", names)
         self.assertFalse({"alone", "one::more::alone", "hidden"} & names)
-
-    def test_who_cites_what(self):
-        with tempfile.TemporaryDirectory() as folder:
-            found = small_repository(folder)
         key = ("definition", "Rattle.one.specs.Key", "IsKey")
-        clauses = [it[:2] for it in found.citers(key)["clauses"]]
-        self.assertIn(("one::key::make", "ok"), clauses)
+        self.assertIn(("one::key::make", "ok"), [it[:2] for it in found.citers(key)["clauses"]])
         self.assertEqual([it[0] for it in found.rests_on(key)], ["low", "key"])
 
-
-class Repository(unittest.TestCase):
-    """The sources of this repository, read once more in a plainer way."""
-
-    FUNCTION = re.compile(r'^( *)pub (?:const |unsafe |extern "C" )*fn (\w+)(.*?)^\1[{}]', re.M | re.S)
-
-    def test_every_clause_of_every_public_function_is_shown(self):
-        found = views.Views(library.Library(os.path.dirname(HERE), kit.Kit(None)))
-        for sources_of in found.sources.values():
-            for source, shown in sources_of:
-                counts = {}
-                for it in shown:
-                    counts.setdefault(it.anchor.split(".")[-1], []).append(len(it.parts))
-                for _, name, head in self.FUNCTION.findall(source.text):
-                    clauses = len(re.findall(r"^\s*(?:ensures|requires)(?: \w+)? \{", head, re.M))
-                    if found.library.module_is_public(source.crate, source.module):
-                        self.assertIn(clauses, counts.get(name, []), f"{source.path}: {name}")
-
-
-class Pages(unittest.TestCase):
     def test_links_and_targets(self):
         page = '<a href="b.html#x">x</a><p id="x"></p>'
         rows = [
-            ("every link has its target", {"a.html": page, "b.html": page}, []),
-            ("no page", {"a.html": page}, ["a.html: the link b.html#x leads nowhere"]),
-            ("no target", {"a.html": page, "b.html": ""}, ["a.html: the link b.html#x leads nowhere"]),
-            ("two targets", {"b.html": page + '<p id="x"></p>'}, ["b.html: two targets are named x"]),
-            ("a link to another site", {"a.html": '<a href="https://example.org/x">x</a>'}, []),
+            ({"a.html": page, "b.html": page}, [], "every link has its target"),
+            ({"a.html": page}, ["a.html: the link b.html#x leads nowhere"], "no page"),
+            ({"a.html": page, "b.html": ""}, ["a.html: the link b.html#x leads nowhere"], "no target"),
+            ({"b.html": page + '<p id="x"></p>'}, ["b.html: two targets are named x"], "two targets"),
+            ({"a.html": '<a href="https://example.org/x">x</a>'}, [], "a link to another site"),
         ]
-        for reason, pages, wanted in rows:
+        for pages, wanted, reason in rows:
             self.assertEqual(checks.links(pages)[1], wanted, reason)
 
-    def test_the_headline_is_that_of_the_readme(self):
-        with tempfile.NamedTemporaryFile("w", suffix=".md") as file:
-            file.write("> For [keys](a.md#b), `scrypt`\n> writes *one*.\n")
-            file.flush()
-            self.assertEqual(checks.headline("For keys, `scrypt` writes one.", file.name), [])
-            self.assertEqual(len(checks.headline("For keys, it writes two.", file.name)), 1)
+    def test_the_headline(self):
+        readme = "> For [keys](a.md#b), `scrypt`\n> writes *one*.\n"
+        self.assertEqual(checks.headline("For keys, `scrypt` writes one.", readme), [])
+        self.assertEqual(len(checks.headline("For keys, it writes two.", readme)), 1)
 
     def test_comments(self):
         text = "One [`Key`] and `a < b`.\n\n```rust\nlet x = 1;\n```\n\n- first\n- second\n"
@@ -318,12 +258,3 @@ class Pages(unittest.TestCase):
         self.assertIn('<a href="key.html"><code>Key</code></a> and <code>a &lt; b</code>', html)
         self.assertIn("<li>second</li>", html)
         self.assertIn("<pre><code>", html)
-
-    def test_the_picture_leaves_out_what_follows(self):
-        uses = {"low": [], "mid": ["low"], "top": ["low", "mid"]}
-        self.assertEqual(sorted(picture.direct(uses)), [("mid", "low"), ("top", "mid")])
-        self.assertEqual(picture.layers_of(uses), [["low"], ["mid"], ["top"]])
-
-
-if __name__ == "__main__":
-    unittest.main()

@@ -1,5 +1,6 @@
 """What the templates print: each item, clause and definition with its HTML, and who cites it."""
 
+import itertools
 import re
 from dataclasses import dataclass, field
 
@@ -25,56 +26,49 @@ class Shown:
     href: str
     words: str
     code: str
-    where: str
-    parts: list = field(default_factory=list)
-    standards: list = field(default_factory=list)
+    path: str
+    line: int
+    standards: list
     lines: int = 0
-    members: list = field(default_factory=list)
+    parts: list = field(default_factory=list)
 
     @property
-    def path(self):
-        return self.where.rsplit(":", 1)[0]
+    def where(self):
+        return f"{self.path}:{self.line}"
 
     @property
     def text_href(self):
         """The line of the file as it is."""
-        path, line = self.where.rsplit(":", 1)
-        return f"{text_page(path)}#L{line}"
+        return f"{text_page(self.path)}#L{self.line}"
 
 
 def statement(definition):
     """A theorem without its proof."""
     lines = definition.text.splitlines()
-    for at, line in enumerate(lines[1:], 1):
-        if re.match(rf"unfolding\b|{re.escape(definition.name)}\b[^:]*=", line):
-            return "\n".join(lines[:at])
-    return definition.text
-
-
-def is_proof(item, clause):
-    return item.kind == "impl" and clause.name in PROOFS
+    is_proof = re.compile(rf"unfolding\b|{re.escape(definition.name)}\b[^:]*=")
+    return "\n".join(lines[:1] + list(itertools.takewhile(lambda it: not is_proof.match(it), lines[1:])))
 
 
 class Views:
     def __init__(self, library):
-        self.library = library
-        self.links = links.Links(library)
-        self.by_name = {}
+        self.library, self.links, self.by_name = library, links.Links(library), {}
         self.crates = library.crates()
-        self.definitions = {crate: [(it, self.of_module(it)) for it in library.specs_of(crate)] for crate in self.crates}
-        self.definitions = {crate: [it for it in those if it[1]] for crate, those in self.definitions.items()}
+        specs_of = {crate: [it for it in library.specs_of(crate) if it.definitions] for crate in library.uses}
+        modules = itertools.chain(*specs_of.values())
+        keys = (("definition", it.name, name) for it in modules for name in it.definitions)
+        self.order = {key: at for at, key in enumerate(keys)}
+        self.definitions = {crate: [(it, self.of_module(it)) for it in specs_of[crate]] for crate in self.crates}
         self.vectors = {crate: self.of_vectors(crate) for crate in self.crates}
         self.sources = {crate: self.of_crate(crate) for crate in self.crates}
-        self.paths = {it.path for shown in self.all() for it in shown}
         self.cites = {}
         for target, citers in self.links.cited.items():
             for citer in citers:
                 self.cites.setdefault(citer, []).append(target)
 
-    def all(self):
-        """Everything that has a place on a page, with its file."""
-        for those in (*self.definitions.values(), *self.sources.values(), filter(None, self.vectors.values())):
-            yield from (shown for _, shown in those)
+    def paths(self):
+        """The files of all that has a place on a page."""
+        every = (*self.definitions.values(), *self.sources.values(), filter(None, self.vectors.values()))
+        return sorted({it.path for those in every for _, shown in those for it in shown})
 
     def of_module(self, module):
         return [self.of_definition(module, it) for it in module.definitions.values()]
@@ -82,13 +76,8 @@ class Views:
     def of_definition(self, module, it):
         target = definition_target(module.name, it.name)
         return Shown(target.key, it.kind, it.name, it.name, target.href, comments.inline(it.comment),
-                     self.links.definition(module, it), f"{module.path}:{it.line}",
-                     standards=specs.standards(it.comment, module.comment), lines=it.text.count("\n") + 1, members=it.members)
-
-    def silent(self):
-        """The definitions that no comment is on; an operator needs none."""
-        return [f"{it.where}: no comment says what {it.name} is" for those in self.definitions.values() for _, shown in those
-                for it in shown if not it.words and it.name.isidentifier()]
+                     self.links.definition(module, it), module.path, it.line,
+                     specs.standards(it.comment, module.comment), it.text.count("\n") + 1)
 
     def of_vectors(self, crate):
         """The standards' vectors of a crate, and the texts that they compute."""
@@ -108,7 +97,8 @@ class Views:
         """The sources of a crate that have something public, with what it is."""
         found = []
         for source in self.library.sources[crate].values():
-            shown = [self.of_item(source, it) for it in source.items if it.kind in TYPES or self.library.is_public(source, it)]
+            items = (it for it in source.items if it.kind in TYPES or self.library.is_public(source, it))
+            shown = [self.of_item(source, it) for it in items]
             if shown or not source.module:
                 found.append((source, shown))
         return found
@@ -129,28 +119,25 @@ class Views:
         return link
 
     def of_item(self, source, it):
-        page = page_of(source)
-        trait = it if it.kind == "trait" else next(
-            (other for other in source.items if other.kind == "trait" and other.name == it.owner), None)
-        parts = [self.of_clause(source, it, clause, trait, page) for clause in it.clauses if not is_proof(it, clause)]
+        traits = (other for other in source.items if other.kind == "trait" and other.name == it.owner)
+        trait = it if it.kind == "trait" else next(traits, None)
         name = self.name_of(source, it)
+        left_out = PROOFS if it.kind == "impl" else ()
+        clauses = (clause for clause in it.clauses if clause.name not in left_out)
+        parts = [self.of_clause(source, it, clause, trait, name) for clause in clauses]
         kind = it.kind if it.kind not in TYPES or self.library.is_public(source, it) else f"private {it.kind}"
-        shown = Shown(("rust", source.crate, source.module, it.anchor), kind, name, it.anchor, f"{page}#{it.anchor}",
-                      comments.html(it.doc, self.doc_link(source)), self.links.rust(it.text, source),
-                      f"{source.path}:{it.line}".removeprefix("./"), parts)
-        shown.standards = specs.standards(it.doc)
-        for part in parts:
-            self.by_name[f"{name} {part['name']}"] = part
-        return shown
+        self.by_name.update((f"{name} {part['name']}", part) for part in parts)
+        href = f"{page_of(source)}#{it.anchor}"
+        return Shown(("rust", source.crate, source.module, it.anchor), kind, name, it.anchor, href,
+                     comments.html(it.doc, self.doc_link(source)), self.links.rust(it.text, source),
+                     source.path.removeprefix("./"), it.line, specs.standards(it.doc), parts=parts)
 
-    def of_clause(self, source, it, clause, trait, page):
+    def of_clause(self, source, it, clause, trait, name):
         anchor = f"{it.anchor}.{clause.place}"
-        if it.text.startswith("pub ") and it.kind == "fn" and not clause.name:
-            self.links.lost.append(f"{source.path}:{clause.line}: a clause of the public function {it.name} has no name")
-        html = self.links.clause(source, it, clause, trait)
         kind = {"ghost": "gives" if it.kind == "impl" else "relation"}.get(clause.kind, clause.kind)
-        return {"kind": kind, "name": clause.name, "anchor": anchor, "href": f"{page}#{anchor}", "html": html,
-                "key": ("rust", source.crate, source.module, it.anchor, clause.place), "of": self.name_of(source, it)}
+        return {"kind": kind, "name": clause.name, "anchor": anchor, "href": f"{page_of(source)}#{anchor}",
+                "html": self.links.clause(source, it, clause, trait), "of": name,
+                "key": ("rust", source.crate, source.module, it.anchor, clause.place)}
 
     def name_of(self, source, it):
         """The path by which users know an item."""
@@ -159,6 +146,32 @@ class Views:
         if " for " in it.owner:
             return f"{it.owner}: {it.name}"
         return self.library.path_of(source, it) or "::".join(filter(None, (it.owner, it.name)))
+
+    def clauses(self, names):
+        """The clauses of these names. One that is gone is lost."""
+        self.links.lost += [f"no clause is named {it}" for it in names if it not in self.by_name]
+        return [self.by_name[it] for it in names if it in self.by_name]
+
+    def wrong(self):
+        """What leads nowhere, what is not read, and what has no words."""
+        yield from self.links.lost
+        for crate in self.crates:
+            for module, shown in self.definitions[crate]:
+                if not module.comment:
+                    yield f"{module.path}: no comment says what it has"
+                # An operator needs no comment.
+                yield from (f"{it.where}: no comment says what {it.name} is" for it in shown
+                            if not it.words and it.name.isidentifier())
+            for source in self.library.sources[crate].values():
+                yield from (f"{source.path}:{it}: not read, since it isn't formatted" for it in source.unread())
+                for it in source.items:
+                    if it.kind == "fn" and self.library.is_public(source, it):
+                        where = f"{source.path}:{it.line}: the public function {it.name} has"
+                        if not it.doc and " for " not in it.owner:
+                            yield f"{where} no doc comment"
+                        of_users = (has for has in it.clauses if has.kind == "ensures" or it.text.startswith("pub "))
+                        if not all(has.name for has in of_users):
+                            yield f"{where} a clause without a name"
 
     # Who cites what.
 
@@ -175,10 +188,26 @@ class Views:
                 definitions.append((citer[2], citer[1].rsplit(".", 1)[-1], definition_target(*citer[1:]).href))
         return {"clauses": clauses, "definitions": definitions}
 
+    def closure(self, roots):
+        """The definitions that these rest on, with themselves, in reading order."""
+        found, todo = set(), list(roots)
+        while todo:
+            key = todo.pop()
+            if key not in found and key[0] == "definition":
+                found.add(key)
+                todo += self.cites.get(key, ())
+        return sorted(found & self.order.keys(), key=self.order.get)
+
     def rests_on(self, key):
         """The definitions that one rests on, in reading order."""
-        found = links.closure(self.library, self.cites, [key])
-        return [(it[2], definition_target(*it[1:]).href) for it in found if it != key]
+        return [(it[2], definition_target(*it[1:]).href) for it in self.closure([key]) if it != key]
+
+    def reading(self, clauses):
+        """The definitions that clauses rest on, module by module, in reading order."""
+        keys = set(self.closure(key for it in clauses for key in self.cites.get(it["key"], ())))
+        modules = itertools.chain(*self.definitions.values())
+        found = ((module, [it for it in shown if it.key in keys]) for module, shown in modules)
+        return [(module, shown) for module, shown in found if shown]
 
     def tested(self):
         """For each definition the vectors that name it, and those that compute it as a part of another."""
@@ -188,7 +217,7 @@ class Views:
                 roots = self.statement_roots(shown.key)
                 for key in roots:
                     named.setdefault(key, []).append(shown)
-                for key in links.closure(self.library, self.cites, roots):
+                for key in self.closure(roots):
                     if key not in roots:
                         within.setdefault(key, []).append(shown)
         return named, within
@@ -198,8 +227,6 @@ class Views:
         found, todo = [], [key]
         while todo:
             for it in self.cites.get(todo.pop(), ()):
-                if it[0] == "definition" and STANDARD_FACTS in it[1]:
-                    todo.append(it)
-                elif it[0] == "definition":
-                    found.append(it)
+                if it[0] == "definition":
+                    (todo if STANDARD_FACTS in it[1] else found).append(it)
         return list(dict.fromkeys(found))

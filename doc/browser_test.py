@@ -1,7 +1,7 @@
 #!/usr/bin/env python3
 """Reads the pages in a headless Chromium, as a reader does: by clicks, by keys, wide and narrow, light and dark.
 
-usage: test_browser.py [FOLDER] [PICTURES]    the folder of the pages, and one for pictures of them
+usage: browser_test.py [FOLDER] [PICTURES]    the folder of the pages, and one for pictures of them
 """
 
 import json

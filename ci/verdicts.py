@@ -1,0 +1,73 @@
+"""What a check prints of the functions of a crate, and whether it refuses some of them.
+
+A check prints a function by its path, a closure in it below that, and its proof lies below proofs/PATH/.
+"""
+
+import re
+
+# Refused for its own sake, and not since a function that it calls is.
+REFUSED = re.compile(r"not proved(?:;|$)|no proof: expected answers")
+
+# A reason that shows nothing of the body: a search that ended, and names that are gone.
+WEAK = re.compile(
+    r"gave up at one of its limits|can be named (?:from )?here|has no field|has no `|is not in scope"
+    r"|was not admitted|depend[s]? on `|declarations? that depend"
+)
+
+# A reason that names a goal which isn't shown.
+STRONG = re.compile(r"it is not proved that|error: `[^`]+`: |error: .*(differ|does not follow|no proof of)")
+
+
+def statuses(printed):
+    """What a check says of each function."""
+    return dict(re.findall(r"^fn (\S+): (.*)$", printed, re.M))
+
+
+def unshown_goals(printed):
+    """The reasons in what a check prints that name a goal which isn't shown."""
+    return [it for it in reasons(printed) if STRONG.search(it) and not WEAK.search(it) and not it.startswith("so far")]
+
+
+def reasons(printed):
+    """What a check prints, where a reason goes on in the indented lines after it."""
+    told = []
+    for line in printed.splitlines():
+        if told and line.startswith("  "):
+            told[-1] += line
+        else:
+            told.append(line)
+    return told
+
+
+def own_reasons(printed, path):
+    """The reasons that a check gives for one function: of its proof files, and right before its own line."""
+    folder = "proofs/" + path.partition("::")[2].replace("::", "/") + "/"
+    before, own = [], []
+    for it in reasons(printed):
+        if it.removeprefix("./").startswith(folder):
+            own.append(it)
+        elif re.match(r"(fn|impl|enum|struct|trait) ", it):
+            own += before if it.startswith(f"fn {path}: ") else []
+            before = []
+        elif it.startswith("note: src/"):
+            before.append(it)
+    return own
+
+
+def verdict(printed, changed):
+    """Whether a check refuses one of these functions, or the crate if there are none, or what is missing."""
+    if not changed:
+        refused = not re.search(r"^logic=proved", printed, re.M)
+        return word_for(refused, unshown_goals(printed))
+    inside = tuple(f"{it}::" for it in changed)
+    found = {it: said for it, said in statuses(printed).items() if f"{it.partition('::')[2]}::".startswith(inside)}
+    if not found:
+        return "BAD EDIT: no such function was checked"
+    refused = [path for path, said in found.items() if REFUSED.match(said)]
+    return word_for(refused, any(unshown_goals("\n".join(own_reasons(printed, path))) for path in refused))
+
+
+def word_for(is_refused, has_goal):
+    if not is_refused:
+        return "NOT REFUSED"
+    return "refused" if has_goal else "REFUSED, BUT NO GOAL IS NAMED"
