@@ -128,3 +128,9 @@ pub no_args : {A : Type 0} (text : A → List ℕ) (args : List A) → length ar
 unfolding args_of
 no_args text [] n = refl
 no_args text (x ∷ args) n = absurd (omega arith)
+
+-- the words of a command, by how many there are
+pub ruleset words = (is_one, are_five, are_six, are_seven, not_key_args, not_hash_args, not_verify_args, not_rehash_args)
+
+-- the commands, by their names
+pub ruleset commands = (args_by_command, no_name, no_args)

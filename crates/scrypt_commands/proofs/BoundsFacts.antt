@@ -5,7 +5,7 @@ use Rattle.std.specs.Borrow.{Bor}
 use Rattle.std.specs.Global.{Global}
 use Rattle.std.specs.Prelude.{IfOk, Result, Ok, Err, if◌then◌else◌, MatchOption, codes, option_map, unwrap_or}
 use Rattle.std.specs.Str.Pattern.{FindsTextPrefix, StripsPrefix}
-use Rattle.std.proofs.lemmas.List.{take-append-drop, take_at}
+use Rattle.std.proofs.lemmas.List.{nil_from_length, take-append-drop, take_at}
 use Rattle.std.proofs.lemmas.Slice.Eq.{bytes_eq-Decides}
 use Rattle.scrypt_commands.specs.Bounds.{after_prefix, command_of, completed, lacks_salt, options_of}
 use Rattle.scrypt_commands.specs.Bounds.{usual, with_number, with_option}
@@ -36,16 +36,14 @@ no_other_option bounds word h i = rw (other word (codes "--usual-limits") h, oth
 
 -- no arguments have no texts
 pub no_words : (args : List (String Global)) → length args ≡ 0 → map string_bytes args ≡ []
-no_words [] n = refl
-no_words (x ∷ xs) n = absurd (omega arith)
+no_words args n = ap (map string_bytes) (nil_from_length args n)
 
 -- the options that are left
 
 pub none_left : (bounds : Option Bounds) (args : List (String Global)) → length args ≡ 0
     → options_of bounds (map string_bytes args) ≡ (bounds, map string_bytes args)
 unfolding options_of
-none_left bounds [] n = refl
-none_left bounds (x ∷ xs) n = absurd (omega arith)
+none_left bounds args n = rw (nil_from_length args n) refl
 
 pub one_left : (bounds next : Option Bounds) (args rest : List (String Global)) (word : String Global) → args ≡ word ∷ rest
     → with_option bounds (string_bytes word) ≡ Some next
@@ -92,3 +90,6 @@ pub all_completed : {A E : Type 0} (texts : A → List (List ℕ)) (args words :
     → IfOk out (λ made. (salt : List ℕ) × (length salt ≡ 16) × (texts made ≡ completed args salt))
 all_completed texts args words salt (Ok made) is len same = (salt, len, is ∙ ap (λ words. codes "--usual-limits" ∷ words) same)
 all_completed texts args words salt (Err e) is len same = tt
+
+-- the options that are left, by the first word
+pub ruleset options = (none_left, one_left, command_left)

@@ -111,3 +111,8 @@ pub rehash_asked : (format : Format) (unchecked : UncheckedParams) (len : ℕ) (
     → command_request (RehashArgs format unchecked len salt_hex text) ≡ Ok (ToRehash format params salt text)
 unfolding command_request
 rehash_asked format unchecked len salt_hex text salt params read = rw read refl
+
+-- what the arguments of `key` and `hash` ask for, and their salt and parameters
+pub ruleset made = (make_asked, make_refused, make_too_long)
+
+pub ruleset salts = (both_read, params_failed, salt_failed)

@@ -15,7 +15,7 @@ status_of InputFailed = 4
 status_of OutputFailed = 4
 status_of refused = 2
 
--- the line of an error, with its newline: that of a refused hash has the name of the library's error, and that of its parameter
+-- the line of an error, with its newline: that of a refused hash has the name of the library's error, and of its parameter
 abbrev pub error_line : CliError → List ℕ
 error_line Usage =
     codes "usage: key LOG_N R P LEN SALT_HEX | hash phc|mcf LOG_N R P SALT_HEX [LEN] | verify HASH | rehash phc|mcf LOG_N R P LEN SALT_HEX HASH\n"

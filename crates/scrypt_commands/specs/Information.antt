@@ -2,11 +2,11 @@
 use Rattle.std.specs.Prelude.{ℕ, ◌++◌, bytes_eq, codes, if◌then◌else◌, List, [], ◌∷◌, Option, None, Some}
 
 -- the line that `--version` prints
-unfoldable pub version_text : List ℕ
+abbrev pub version_text : List ℕ
 version_text = codes "scrypt_tool 0.12.0+proved.1\n"
 
 -- what `--help` prints: the commands, the options, and the statuses
-unfoldable pub help_text : List ℕ
+abbrev pub help_text : List ℕ
 help_text = codes "scrypt_tool: scrypt keys (RFC 7914) and password hashes\n"
     ++ codes "\n"
     ++ codes "usage: scrypt_tool [OPTION..] COMMAND ..\n"

@@ -62,6 +62,7 @@ impl<'a> Command<'a> {
     ///
     /// Returns the error of hashing or verifying, also `TooCostly` or `KeyTooShort` if a hash exceeds
     /// the bounds, and `OutOfMemory` if an allocation fails.
+    #[tactic(auto, using(crate::proofs::OutcomeFacts::answers))]
     pub fn answer(
         &self,
         alloc: Global,
@@ -158,6 +159,7 @@ fn is_weaker(hash: &StoredHash<'_>, wanted: &Params) -> bool
 }
 
 // Returns the text of what is made of the password.
+#[tactic(auto, using(crate::proofs::CommandFacts::output_len_decided))]
 fn make(
     alloc: Global,
     password: &[u8],
@@ -175,6 +177,7 @@ fn make(
 }
 
 // Returns the text of the hash of this format.
+#[tactic(auto, using(crate::proofs::OutcomeFacts::phc_refused))]
 fn make_hash(
     alloc: Global,
     password: &[u8],
@@ -184,9 +187,29 @@ fn make_hash(
 ) -> Result<String, CliError>
     ensures { Gives string_bytes (new_hash format params.now password.now salt.now) result }
 {
+    let hasher = Scrypt::new_with_params(*params);
+    hashers_are_accepted(&hasher);
+    made_hashes_are_accepted();
+    texts_have_one_reading();
     match format {
-        Format::Phc => phc_hash(alloc, password, salt, params),
-        Format::Mcf => mcf_hash(alloc, password, salt, params),
+        Format::Phc => {
+            let made: password_hash::Result<phc::PasswordHash> = hasher.hash_password_with_salt(
+                alloc, password, salt,
+            );
+            match made {
+                Ok(hash) => Ok(hash.to_string(alloc)?),
+                Err(refused) => Err(CliError::of(refused).unwrap()),
+            }
+        }
+        Format::Mcf => {
+            let made: password_hash::Result<mcf::PasswordHash> = hasher.hash_password_with_salt(
+                alloc, password, salt,
+            );
+            match made {
+                Ok(hash) => Ok(hash.into_string()),
+                Err(refused) => Err(CliError::of(refused).unwrap()),
+            }
+        }
     }
 }
 
@@ -204,47 +227,6 @@ fn key(
     let mut key = vec![in alloc; 0u8; len]?;
     scrypt(alloc, password, salt, params, &mut key)?;
     Ok(hex::encode(alloc, key.as_slice())?)
-}
-
-// Returns the text of the PHC hash.
-fn phc_hash(
-    alloc: Global,
-    password: &[u8],
-    salt: &[u8],
-    params: &Params,
-) -> Result<String, CliError>
-    ensures { Gives string_bytes (new_hash Phc params.now password.now salt.now) result }
-{
-    let hasher = Scrypt::new_with_params(*params);
-    let made: password_hash::Result<phc::PasswordHash> = hasher.hash_password_with_salt(
-        alloc, password, salt,
-    );
-    match made {
-        Ok(hash) => Ok(hash.to_string(alloc)?),
-        Err(refused) => Err(CliError::of(refused).unwrap()),
-    }
-}
-
-// Returns the text of the `$7$` hash.
-fn mcf_hash(
-    alloc: Global,
-    password: &[u8],
-    salt: &[u8],
-    params: &Params,
-) -> Result<String, CliError>
-    ensures { Gives string_bytes (new_hash Mcf params.now password.now salt.now) result }
-{
-    let hasher = Scrypt::new_with_params(*params);
-    hashers_are_accepted(&hasher);
-    made_hashes_are_accepted();
-    texts_have_one_reading();
-    let made: password_hash::Result<mcf::PasswordHash> = hasher.hash_password_with_salt(
-        alloc, password, salt,
-    );
-    match made {
-        Ok(hash) => Ok(hash.into_string()),
-        Err(refused) => Err(CliError::of(refused).unwrap()),
-    }
 }
 
 // Appends a newline.

@@ -61,6 +61,7 @@ impl<'a> Args<'a> {
     /// Parses the arguments after the program's name.
     ///
     /// Returns `None` if they are not those of a command, or if one is not a decimal below its bound.
+    #[tactic(auto, using(crate::proofs::ArgsFacts::commands), unfolding(crate::specs::Args::args_of))]
     pub fn parse(args: &'a [String]) -> Option<Args<'a>>
         ensures value { option_map args_view result ≡ args_of (map string_bytes args.now) }
     {
@@ -76,7 +77,7 @@ impl<'a> Args<'a> {
 }
 
 // Parses LOG_N R P LEN SALT_HEX.
-#[tactic(auto, using(crate::proofs::ArgsFacts::are_five, crate::proofs::ArgsFacts::not_key_args))]
+#[tactic(auto, using(crate::proofs::ArgsFacts::words))]
 fn parse_key<'a>(args: &'a [String]) -> Option<Args<'a>>
     ensures { option_map args_view result ≡ key_args (map string_bytes args.now) }
 {
@@ -108,7 +109,7 @@ fn key_of_words<'a>(log_n: &str, r: &str, p: &str, len: &str, salt_hex: &'a str)
 }
 
 // Parses phc|mcf LOG_N R P SALT_HEX [LEN].
-#[tactic(auto, using(crate::proofs::ArgsFacts::are_five, crate::proofs::ArgsFacts::are_six, crate::proofs::ArgsFacts::not_hash_args), unfolding(crate::specs::Args::hash_args))]
+#[tactic(auto, using(crate::proofs::ArgsFacts::words), unfolding(crate::specs::Args::hash_args))]
 fn parse_hash<'a>(args: &'a [String]) -> Option<Args<'a>>
     ensures { option_map args_view result ≡ hash_args (map string_bytes args.now) }
 {
@@ -159,7 +160,7 @@ fn hash_of_words<'a>(
 }
 
 // Parses HASH.
-#[tactic(auto, using(crate::proofs::ArgsFacts::is_one, crate::proofs::ArgsFacts::not_verify_args), unfolding(crate::specs::Args::verify_args))]
+#[tactic(auto, using(crate::proofs::ArgsFacts::words), unfolding(crate::specs::Args::verify_args))]
 fn parse_verify<'a>(args: &'a [String]) -> Option<Args<'a>>
     ensures { option_map args_view result ≡ verify_args (map string_bytes args.now) }
 {
@@ -172,7 +173,7 @@ fn parse_verify<'a>(args: &'a [String]) -> Option<Args<'a>>
 }
 
 // Parses phc|mcf LOG_N R P LEN SALT_HEX HASH.
-#[tactic(auto, using(crate::proofs::ArgsFacts::are_seven, crate::proofs::ArgsFacts::not_rehash_args))]
+#[tactic(auto, using(crate::proofs::ArgsFacts::words))]
 fn parse_rehash<'a>(args: &'a [String]) -> Option<Args<'a>>
     ensures { option_map args_view result ≡ rehash_args (map string_bytes args.now) }
 {

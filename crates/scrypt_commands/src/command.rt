@@ -68,6 +68,7 @@ impl<'a> Command<'a> {
 }
 
 // Returns the command that makes this target, with these parameters and the salt of these digits.
+#[tactic(auto, using(crate::proofs::CommandFacts::made))]
 fn make_command<'a>(
     alloc: Global,
     target: Target,
@@ -88,6 +89,7 @@ fn make_command<'a>(
 }
 
 // Decodes the salt, and then checks the parameters of the target.
+#[tactic(auto, using(crate::proofs::CommandFacts::salts))]
 fn salt_and_params(
     alloc: Global,
     target: Target,
@@ -114,6 +116,7 @@ fn checked_params(target: Target, unchecked: UncheckedParams) -> Result<Params, 
 }
 
 // Returns whether a key of that length can be derived. A hash has an allowed length of its own.
+#[tactic(auto, using(crate::proofs::CommandFacts::output_len_decided))]
 fn has_allowed_len(target: Target) -> bool
     ensures { result ≡ has_allowed_len target }
 {
@@ -124,6 +127,7 @@ fn has_allowed_len(target: Target) -> bool
 }
 
 // Returns the command that verifies against the hash of this text.
+#[tactic(auto, using(crate::proofs::OutcomeFacts::unread_within), unfolding(crate::specs::Command::command_request))]
 fn verify_command<'a>(text: &'a str) -> Result<Command<'a>, CliError>
     ensures { IsCommandFor (command_request (VerifyArgs text.now)) result }
 {
@@ -135,6 +139,7 @@ fn verify_command<'a>(text: &'a str) -> Result<Command<'a>, CliError>
 
 // Returns the command that makes the hash of this text again, with these parameters, this length and
 // the salt of these digits.
+#[tactic(auto, using(crate::proofs::OutcomeFacts::rehashed))]
 fn rehash_command<'a>(
     alloc: Global,
     format: Format,

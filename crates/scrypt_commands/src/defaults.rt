@@ -29,6 +29,7 @@ pub fn complete<S: RandomSource>(
 }
 
 // Returns whether the command is `hash phc|mcf LOG_N R P`, without a salt.
+#[tactic(auto, using(crate::proofs::BoundsFacts::other_command))]
 fn lacks_salt(args: &[String]) -> bool
     ensures { result ≡ lacks_salt (command_of (texts_of args.now)) }
 {

@@ -39,6 +39,7 @@ Statuses: 0 done or ok, 1 no, 2 refused, 3 out of memory, 4 input or output fail
 ";
 
 /// Returns the text that the first argument asks for, if that is `--help` or `--version`.
+#[tactic(auto, using(crate::proofs::BoundsFacts::no_words))]
 pub fn information(args: &[String]) -> Option<&'static str>
     ensures value { option_map (λ text. text.now) result ≡ information_of (texts_of args.now) }
 {
@@ -47,6 +48,7 @@ pub fn information(args: &[String]) -> Option<&'static str>
 }
 
 // Returns the text that a word asks for.
+#[tactic(auto, using(crate::proofs::ArgsFacts::other), unfolding(crate::specs::Information::text_for))]
 fn text_for(word: &str) -> Option<&'static str>
     ensures { option_map (λ text. text.now) result ≡ text_for word.now }
 {

@@ -37,6 +37,7 @@ pub struct Exit {
 ///
 /// Options before the command limit what the hash of `verify` and `rehash` may need; without one
 /// there are no limits.
+#[tactic(auto, using(crate::proofs::OutcomeFacts::read_before_refusal))]
 pub fn run<R: Read, W: Write, F: Write>(
     alloc: Global,
     args: &[String],
@@ -70,6 +71,7 @@ pub fn run<R: Read, W: Write, F: Write>(
 }
 
 // Does the work in its order, up to the line of the outcome, and returns the status.
+#[tactic(auto, using(crate::proofs::OutcomeFacts::endings))]
 fn execute<R: Read, W: Write>(
     alloc: Global,
     args: &[String],

@@ -1,5 +1,5 @@
 use Rattle.std.proofs.Common.{◌∙◌, ap, sym}
-use Rattle.scrypt_commands.proofs.BoundsFacts.{command_left, none_left, one_left}
+use Rattle.scrypt_commands.proofs.BoundsFacts.{command_left}
 use Rattle.scrypt_commands.proofs.bounds.parse_options.Goals as goal
 
 pub returns-in_default-with_option-clause-bounds : goal.returns-in_default-with_option-clause-bounds
@@ -13,14 +13,3 @@ returns-in_default-with_option-clause-command c =
     let read = rw c.as_str.ensures.value at c.with_option.ensures in
     let left = command_left _ _ _ _ c.in-Some.ensures.cases.0 (sym read ∙ c.in_default-with_option.is) in
     ap (λ left. left.1) (sym left ∙ c.loop-word.invariant)
-
-pub loop-word-preserved : goal.loop-word-preserved
-loop-word-preserved c =
-    let read = rw c.as_str.ensures.value at c.with_option.ensures in
-    sym (one_left _ _ _ _ _ c.in-Some.ensures.cases.0 (sym read ∙ c.in-Some-with_option.is)) ∙ c.loop-word.invariant
-
-pub returns-clause-bounds : goal.returns-clause-bounds
-returns-clause-bounds c = ap (λ left. left.0) (sym (none_left _ _ c.in_default.ensures.cases) ∙ c.loop-word.invariant)
-
-pub returns-clause-command : goal.returns-clause-command
-returns-clause-command c = ap (λ left. left.1) (sym (none_left _ _ c.in_default.ensures.cases) ∙ c.loop-word.invariant)

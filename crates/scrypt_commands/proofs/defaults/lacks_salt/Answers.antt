@@ -1,13 +1,7 @@
 use Rattle.std.proofs.Common.{◌∙◌, ap, arith, bytes_eq, codes, string_bytes, sym}
 use Rattle.scrypt_commands.specs.Bounds.{lacks_salt}
-use Rattle.scrypt_commands.proofs.BoundsFacts.{named_hash, other_command}
+use Rattle.scrypt_commands.proofs.BoundsFacts.{named_hash}
 use Rattle.scrypt_commands.proofs.defaults.lacks_salt.Goals as goal
-
-pub returns-in_default : goal.returns-in_default
-returns-in_default c = other_command _ _ c.parse_options.ensures.command (grind arith)
-
-pub returns-in_default-2 : goal.returns-in_default-2
-returns-in_default-2 c = other_command _ _ c.parse_options.ensures.command (grind arith)
 
 pub returns : goal.returns
 returns c =
