@@ -49,7 +49,7 @@ def derived(implementation, params):
 
 
 def times(implementations, params, runs):
-    """The times of each implementation, or none if one of its calls failed or returned another key than OpenSSL."""
+    """The times of each implementation, or none if one of its calls failed or its key differs from OpenSSL's."""
     calls = {it.name: [] for it in implementations}
     for _ in range(runs):
         for it in random.sample(implementations, len(implementations)):

@@ -1,5 +1,5 @@
 #!/usr/bin/env python3
-"""Measures what the dearest text within the default bounds takes, for each log_n and some r.
+"""Measures how long the most expensive hash within the default bounds takes, for each log_n and some r.
 
 usage: bounds.py LIBRARY
 
@@ -41,12 +41,12 @@ class Library:
         return below
 
     def seconds(self, log_n, r, p):
-        """The processor's seconds of one verification with another password."""
+        """The CPU seconds of one verification with a wrong password."""
         text = f"$scrypt$ln={log_n},r={r},p={p}{SALT_AND_KEY}".encode()
         lengths = ctypes.c_size_t(len(PASSWORD)), ctypes.c_size_t(len(text))
         start = time.process_time()
         if self.calls.scrypt_verify_in(self.memory, PASSWORD, lengths[0], text, lengths[1]) != 1:
-            sys.exit(f"not the verdict of another password: {text}")
+            sys.exit(f"not refused as a wrong password: {text}")
         return time.process_time() - start
 
 

@@ -1,5 +1,5 @@
 #!/usr/bin/env python3
-"""Measures logins for docs/PARAMETERS.md: seconds and memory of one, and how many a second at once.
+"""Measures logins for docs/PARAMETERS.md: seconds and memory of one, and logins per second of several at once.
 
 usage: parameters.py LIBRARY [RUNS [PICTURE]]
 
@@ -46,18 +46,18 @@ class Library:
         """The seconds of one login."""
         start = time.process_time()
         if self.verify(PASSWORD, len(PASSWORD), stored, len(stored)):
-            sys.exit(f"another password than that of {stored}")
+            sys.exit(f"the password was refused for {stored}")
         return time.process_time() - start
 
 
 def in_process(work, *args):
-    """What a function returns in a process of its own."""
+    """The result of a function, run in a separate process."""
     with multiprocessing.get_context("fork").Pool(1) as pool:
         return pool.apply(work, args)
 
 
 def one_login(path, log_n, runs):
-    """The least seconds, and the mebibytes that the process holds at its most beyond those before."""
+    """The least seconds, and by how many MiB the peak memory of the process exceeds what it had before."""
     library, before = Library(path), resource.getrusage(resource.RUSAGE_SELF).ru_maxrss
     stored = library.stored(log_n)
     least = min(library.log_in(stored) for _ in range(runs))
@@ -65,7 +65,7 @@ def one_login(path, log_n, runs):
 
 
 def count_logins(path, stored, start, counts):
-    """Logs in from one time on, for some seconds, and counts the logins of each second of this processor."""
+    """Logs in repeatedly from a given time, for some seconds, and counts the logins per CPU second."""
     library, count = Library(path), 0
     library.log_in(stored)
     start.wait()
@@ -77,7 +77,7 @@ def count_logins(path, stored, start, counts):
 
 
 def logins_at_once(path, stored, processes):
-    """How many logins a second so many processes carry, if each has a processor."""
+    """The logins per second of this number of processes, if each has a processor."""
     context = multiprocessing.get_context("fork")
     start, counts = context.Barrier(processes), context.SimpleQueue()
     workers = [context.Process(target=count_logins, args=(path, stored, start, counts)) for _ in range(processes)]

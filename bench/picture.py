@@ -10,7 +10,7 @@ COLOURS = [("#c00000", "#ff7b72"), ("#8a4b00", "#e3a04f"), ("#0b5cad", "#79b8ff"
 
 
 def style():
-    """Colours for light pages, and others if the reader prefers dark ones."""
+    """Colours for light pages, and for dark ones if the reader prefers them."""
 
     def rules(dark):
         ground, text, grid = ("#0d1117", "#e6edf3", "#3d444d") if dark else ("#fff", "#1f2328", "#d0d7de")
@@ -26,7 +26,7 @@ def text(x, y, words, more=""):
 
 
 def drawn(title, below, lines, levels, scale=float):
-    """The picture of some lines, by their names: points (x, y, label) over a grid at these levels, both axes by `scale`."""
+    """The picture of named lines: points (x, y, label) over a grid at these levels, with both axes mapped by `scale`."""
     points = [point for line in lines.values() for point in line]
     xs = sorted({scale(x) for x, _, _ in points})
     low, high = scale(levels[0]), max(scale(levels[-1]), *(scale(y) for _, y, _ in points))

@@ -17,7 +17,7 @@ def numbers(params):
 
 
 def cores(params):
-    """How many Salsa20/8 cores a key takes."""
+    """The number of Salsa20/8 cores of a derivation."""
     log_n, r, p = numbers(params)
     return 4 * (1 << log_n) * r * p
 
@@ -35,7 +35,7 @@ def head(cells):
 
 
 def relative(times, unit):
-    """Each time in a unit, and in parentheses the first relative to it; None is no figure."""
+    """Each time in a unit, with the ratio of the first to it in parentheses; None is printed as "no figure"."""
     first = times[0]
     return [f"{time / unit:.1f}" + (f" ({first / time:.2f})" if at and first else "") if time else "no figure"
             for at, time in enumerate(times)]

@@ -52,7 +52,7 @@ def expected_cores(log_n, r, p, s):
 
 
 def measured(call, params, runs):
-    """Rows of s, the table in MiB, the expected cores, and the least time."""
+    """For each s: the size of the table in MiB, the expected cores, and the least time."""
     log_n, r, p = params
     wanted = hashlib.scrypt(
         PASSWORD, salt=SALT, n=1 << log_n, r=r, p=p, dklen=LENGTH, maxmem=(1 << 31) - 1

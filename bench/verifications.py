@@ -1,5 +1,5 @@
 #!/usr/bin/env python3
-"""Measures verifications in a row, by each implementation as its users call it, and prints a table in Markdown.
+"""Measures consecutive verifications, by each implementation as its users call it, and prints a table in Markdown.
 
 usage: verifications.py LIBRARY [NAME=WORKER..] [--runs 20] [--params 14,8,1:17,8,1:20,8,1] [--cpu N]
 
@@ -96,7 +96,7 @@ def libxcrypt(library):
 
 
 def deriving(implementation):
-    """Of an implementation that derives keys; a worker measures its own time."""
+    """A verification by an implementation that derives keys; a worker measures its own time."""
 
     def verified(password, _text, params, key):
         nanoseconds, derived = implementation.derive(password, SALT, params, KEY_LEN)

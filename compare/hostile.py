@@ -175,7 +175,7 @@ def printed(verdict):
 
 
 def printed_within(verdict):
-    """The same within the limits, where a wrong password is no error."""
+    """The same within limits, where a wrong password is not an error."""
     if verdict in ("Ok", "PasswordInvalid"):
         return "Ok(true)" if verdict == "Ok" else "Ok(false)"
     if verdict in ("TooCostly", "KeyTooShort"):

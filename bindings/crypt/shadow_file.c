@@ -196,7 +196,7 @@ static int replace(const char *user, const char *old, const char *hash) {
   if (error == 0) error = write_next(from, user, old, hash);
   if (error == 0 && rename(NEXT, SHADOW) != 0) error = errno;
   if (error != 0) (void)unlink(NEXT);
-  /* From the rename on the new password is the user's, so this is no error. */
+  /* The new password is in place since the rename, so a failure here is not reported. */
   if (error == 0) (void)fsync(folder);
   if (folder >= 0) (void)close(folder);
   if (from != NULL) (void)fclose(from);
@@ -209,9 +209,9 @@ struct caller {
   sigset_t signals;
 };
 
-/* Whoever runs passwd could stop it while it has the lock, or kill it and then have another process with its number:
- * nobody else could change a password. So signals wait, also that of a limit on the size of files, and the real user is
- * root, to whose processes others can't send any, as in the programs of shadow-utils. */
+/* The user who runs passwd could stop it while it holds the lock, or kill it and get its process number for another
+ * process, so that nobody else could change a password. So signals are blocked, including that of a limit on file sizes,
+ * and the real user is root, to whose processes other users can't send signals, as in the programs of shadow-utils. */
 static struct caller protect(void) {
   struct caller it = {.user = getuid()};
   sigset_t all;

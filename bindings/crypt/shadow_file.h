@@ -2,17 +2,17 @@
 #ifndef SHADOW_FILE_H
 #define SHADOW_FILE_H
 
-/* Stores a hash as the password of a user, and today as the day of the last change. With old, the user must still have
- * that hash. Returns 0, or the error, and then /etc/shadow is unchanged:
+/* Stores a hash as the password of a user, and today as the date of the last change. If old is not NULL, the user must
+ * still have that hash. Returns 0, or one of these errors, and then /etc/shadow is unchanged:
  *
- *   ESRCH      no line is the user's, as the C library reads the file
- *   ENOTUNIQ   two lines are
- *   ESTALE     the user has another hash than old
- *   EBUSY      another process changes the file
- *   ELOOP      /etc/shadow is a link
- *   EINVAL     it is no file, or the hash can't be in a line
+ *   ESRCH      the user has no line, as the C library reads the file
+ *   ENOTUNIQ   the user has two lines
+ *   ESTALE     the user's hash is not old
+ *   EBUSY      another process is changing the file
+ *   ELOOP      /etc/shadow is a symbolic link
+ *   EINVAL     it is not a regular file, or the hash cannot be part of a line
  *
- * or any other of a system call. */
+ * or the error of a system call. */
 int store_hash(const char *user, const char *old, const char *hash);
 
 #endif

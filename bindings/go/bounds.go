@@ -10,8 +10,8 @@ type bounds struct {
 	leastKeyLen         int
 }
 
-// boundsOf returns the bounds of options with parameters: by default the usual ones, or what new hashes have if that is
-// more, and a shorter key.
+// boundsOf returns the bounds of these options and parameters: by default the usual ones, or what new hashes need if that
+// is more; and the least key length, or that of new hashes if it is less.
 func boundsOf(options Options, memory uint64) bounds {
 	of := bounds{options.MostBytes, options.MostWork, LeastKeyLen}
 	if of.mostBytes == 0 {
@@ -45,7 +45,7 @@ func (b bounds) checkParams(params Params) error {
 	return err
 }
 
-// checkText returns what verifying by this text returns before any work: an error that is ErrInvalidHash to errors.Is,
+// checkText returns the error that verifying against this text returns before any work: one that matches ErrInvalidHash,
 // ErrMismatch without a salt or a key, then ErrTooCostly, then ErrKeyTooShort.
 func (b bounds) checkText(text []byte) (likeness, error) {
 	like, err := hashNeeds(text, b)

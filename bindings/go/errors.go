@@ -2,17 +2,17 @@
 
 package scrypt
 
-// Error is why a call failed: a status of scrypt_c.h, or one of the negative ones, which C does not have.
+// Error is the reason why a call failed: a status of scrypt_c.h, or a negative number that C does not have.
 type Error int
 
-// The errors. Those from ErrAlgorithm to ErrVersion, except ErrSaltInvalid, are also ErrInvalidHash to errors.Is.
+// The errors. Those from ErrAlgorithm to ErrVersion, except ErrSaltInvalid, also match ErrInvalidHash (errors.Is).
 const (
 	ErrClosed            Error = -3 // the Hasher is closed, or was not made by NewHasher
-	ErrInvalidOption     Error = -2 // an option of a Hasher is not in its range
+	ErrInvalidOption     Error = -2 // an option of a Hasher is out of range
 	ErrInvalidHash       Error = -1 // the text is not a hash that this package reads
 	ErrMismatch          Error = 1  // the password is not that of the hash
 	ErrInvalidParams     Error = 2  // N, r and p, or the length of a hash's key, are not accepted
-	ErrInvalidOutputLen  Error = 3  // a key of no byte, or of more than scrypt allows
+	ErrInvalidOutputLen  Error = 3  // the key is empty, or longer than scrypt allows
 	ErrOutOfMemory       Error = 4  // the memory is not available
 	ErrAlgorithm         Error = 5  // the hash names another algorithm
 	ErrEncodingInvalid   Error = 6  // the text does not have the grammar of its format
@@ -42,7 +42,7 @@ func (e Error) Error() string {
 	}
 }
 
-// Is reports whether target is this error, or ErrInvalidHash if this one says why a text is no hash.
+// Is reports whether target is this error, or is ErrInvalidHash and this error is one of a text that is not a hash.
 func (e Error) Is(target error) bool {
 	if target == ErrInvalidHash {
 		return e >= ErrAlgorithm && e <= ErrVersion && e != ErrSaltInvalid

@@ -8,18 +8,18 @@ import (
 	"runtime"
 )
 
-// Options are those of a Hasher. The zero value of each, and of each field of Params, means the default that its
-// comment names.
+// Options are the options of a Hasher. For an option that is zero, and for each zero field of Params, the default is used
+// that its comment names.
 type Options struct {
-	Params       // the parameters of new hashes: each that of Recommended()
-	MCF     bool // whether new hashes are $7$ texts of crypt(3) and not PHC texts
-	SaltLen int  // the length of a new hash's salt, 1 to 64 bytes: 16
+	Params       // the parameters of new hashes: by default those of Recommended()
+	MCF     bool // whether new hashes are $7$ texts of crypt(3), by default PHC texts
+	SaltLen int  // the length of a new hash's salt, 1 to 64 bytes: by default 16
 
-	// How many verifications and new hashes may have memory at the same time: two for each processor, as many as
-	// runtime.GOMAXPROCS(0) says, so that two that wait are done at once. More change nothing.
+	// How many verifications and new hashes may have memory at the same time: by default two for each processor
+	// (runtime.GOMAXPROCS(0)), so that two that wait are derived at once. A higher number has no effect.
 	AtOnce int
 
-	// What a hash may need before it is refused with ErrTooCostly, its Params.Memory and Params.Work: by default the
+	// The greatest Params.Memory and Params.Work of a hash that is not refused with ErrTooCostly: by default the
 	// constants of the same names, or what new hashes need if that is more.
 	MostBytes, MostWork uint64
 
@@ -29,28 +29,28 @@ type Options struct {
 	MostCores uint64
 }
 
-// A Hasher makes password hashes, and verifies passwords by hashes of either format. Any number of goroutines may use
-// it; as many derive at the same time as there are processors, and the others wait.
+// A Hasher makes password hashes, and verifies passwords against hashes of either format. Any number of goroutines may
+// use it; at most one for each processor derives at a time, and the others wait.
 //
 // Of those that wait, two verifications with the same N and R are done at once, in twice the memory of one and little
-// more than its time. Nobody waits for a second one, and neither of two is touched by what becomes of the other. By
-// default four processors take 1 GiB with the recommended parameters. With an AtOnce of one for each processor, or
-// less, there are no two at once: that takes half the memory, and carries fewer log-ins.
+// more than its time. Nobody waits for a partner, and no error or context of one affects the other. With the defaults,
+// four processors and the recommended parameters that takes 1 GiB. If AtOnce is the number of processors or less, there
+// are no pairs: that takes half the memory, and serves fewer logins.
 //
-// It keeps the memory in which it verifies for the next time, at most AtOnce times MostBytes, until Close. NewHasher
-// makes one: with the zero value each method returns ErrClosed.
+// It keeps the memory in which it verifies for later calls, at most AtOnce times MostBytes, until Close. Create one with
+// NewHasher: on the zero value every method but Close returns ErrClosed.
 type Hasher struct {
 	options Options
 	turns   *turns
 }
 
-// NewHasher returns a Hasher. The errors, which name the option, are to errors.Is ErrInvalidParams, ErrSaltInvalid,
-// ErrInvalidOption, and ErrTooCostly if new hashes need more than the bounds.
+// NewHasher returns a Hasher. Its errors name the option, and match (errors.Is) ErrInvalidParams, ErrSaltInvalid,
+// ErrInvalidOption, or ErrTooCostly if new hashes need more than the bounds.
 func NewHasher(options Options) (*Hasher, error) {
 	return newHasherOn(runtime.GOMAXPROCS(0), options)
 }
 
-// newHasherOn returns a Hasher for so many processors.
+// newHasherOn returns a Hasher for this number of processors.
 func newHasherOn(processors int, options Options) (*Hasher, error) {
 	options = options.withDefaults(processors)
 	memory, err := options.Params.Memory()
@@ -94,8 +94,8 @@ func (options Options) withDefaults(processors int) Options {
 	return options
 }
 
-// Close frees the memory that the Hasher keeps; that of a derivation which is running is freed when it ends. Calls of
-// Hash and Verify that wait, and later ones, return ErrClosed. Close returns nil.
+// Close frees the memory that the Hasher keeps; the memory of a running derivation is freed when it ends. Calls of Hash
+// and Verify that wait, and later ones, return ErrClosed. Close returns nil.
 func (h *Hasher) Close() error {
 	if h.turns != nil {
 		h.turns.close()
@@ -103,8 +103,8 @@ func (h *Hasher) Close() error {
 	return nil
 }
 
-// Hash returns the text of a new hash, with a salt that the system draws. The errors are that of the context, if it
-// ends before the derivation begins, ErrOutOfMemory, ErrNoRandomBytes and ErrClosed.
+// Hash returns the text of a new hash, with a random salt from the system. The errors are the context's, if it ends
+// before the derivation begins, ErrOutOfMemory, ErrNoRandomBytes and ErrClosed.
 func (h *Hasher) Hash(ctx context.Context, password []byte) (string, error) {
 	salt := make([]byte, h.options.SaltLen)
 	if err := drawSalt(salt); err != nil {
@@ -113,8 +113,8 @@ func (h *Hasher) Hash(ctx context.Context, password []byte) (string, error) {
 	return h.HashWithSalt(ctx, password, salt)
 }
 
-// HashWithSalt is Hash with a salt of the caller's, which a PHC hash takes with 1 to 64 bytes: else it returns
-// ErrSaltInvalid.
+// HashWithSalt does what Hash does, with the caller's salt. It returns ErrSaltInvalid if the salt of a PHC hash does not
+// have 1 to 64 bytes.
 func (h *Hasher) HashWithSalt(ctx context.Context, password, salt []byte) (string, error) {
 	if err := h.ready(ctx); err != nil {
 		return "", err
@@ -128,9 +128,9 @@ func (h *Hasher) HashWithSalt(ctx context.Context, password, salt []byte) (strin
 }
 
 // Verify returns nil if the password is that of the hash, and ErrMismatch if it is not, or if the hash has no salt or
-// no key. To errors.Is the other errors are that of the context, if it ends before the derivation begins, ErrClosed,
+// no key. Other errors match (errors.Is) the context's, if it ends before the derivation begins, ErrClosed,
 // ErrInvalidHash, ErrTooCostly if the hash needs more than the bounds, ErrKeyTooShort if its key has fewer than 16
-// bytes, or than new keys if that is less, and ErrOutOfMemory. What the text alone decides is returned without waiting.
+// bytes, or than new keys if that is less, or ErrOutOfMemory. An error of the text alone is returned without waiting.
 func (h *Hasher) Verify(ctx context.Context, text string, password []byte) error {
 	if err := h.ready(ctx); err != nil {
 		return err
@@ -153,8 +153,8 @@ func (h *Hasher) Verify(ctx context.Context, text string, password []byte) error
 	return err
 }
 
-// NeedsRehash reports whether one of the parameters of the hash, or its key's length, is below that of new hashes. The
-// errors are those that are ErrInvalidHash to errors.Is. It needs no memory, so a closed Hasher answers too.
+// NeedsRehash reports whether one of the parameters of the hash, or its key's length, is below that of new hashes. Its
+// errors match ErrInvalidHash (errors.Is). It needs no memory, so it also works on a closed Hasher.
 func (h *Hasher) NeedsRehash(text string) (bool, error) {
 	if h.turns == nil {
 		return false, ErrClosed

@@ -19,15 +19,15 @@ import (
 
 const maxOutputLen = C.SCRYPT_MAX_OUTPUT_LEN
 
-// What a hash may cost, unless the caller says otherwise: 256 MiB, and four times the work of the recommended
-// parameters; and the least length of its key, or that of new keys if that is less.
+// The default bounds on a hash: 256 MiB, four times the work of the recommended parameters, and the least length of its
+// key, or that of new keys if that is less.
 const (
 	MostBytes   uint64 = C.SCRYPT_MOST_BYTES
 	MostWork    uint64 = C.SCRYPT_MOST_WORK
 	LeastKeyLen        = C.SCRYPT_LEAST_KEY_LEN
 )
 
-// MostCores is the name of MostWork before.
+// MostCores is the old name of MostWork.
 //
 // Deprecated: use MostWork.
 const MostCores = MostWork
@@ -48,7 +48,7 @@ type cost struct {
 	r, p C.uint32_t
 }
 
-// cost returns ErrInvalidParams for numbers that C's types would cut off.
+// cost returns ErrInvalidParams for numbers that C's types would truncate.
 func (params Params) cost() (cost, error) {
 	if params.LogN < 0 || params.LogN > math.MaxUint8 || params.R < 0 || params.R > math.MaxUint32 || params.P < 0 ||
 		params.P > math.MaxUint32 {
@@ -57,8 +57,8 @@ func (params Params) cost() (cost, error) {
 	return cost{C.uint8_t(params.LogN), C.uint32_t(params.R), C.uint32_t(params.P)}, nil
 }
 
-// Memory returns how many bytes the buffers of a derivation have, at most math.MaxUint64, or ErrInvalidParams unless
-// LogN, R and P are accepted.
+// Memory returns the number of bytes of a derivation's buffers, at most math.MaxUint64, or ErrInvalidParams if LogN, R
+// and P are not accepted.
 func (params Params) Memory() (uint64, error) {
 	of, err := params.cost()
 	if err != nil {
@@ -79,8 +79,8 @@ func (params Params) Memory() (uint64, error) {
 // parameter is out of range.
 func (params Params) Cores() uint64 { return params.rows(0) }
 
-// Work returns the work of a derivation, which bounds are on: 4 * (N + 32) * R * P, where 32 is for PBKDF2, in Salsa20/8
-// cores. It is math.MaxUint64 if there is more or a parameter is out of range.
+// Work returns the work of a derivation, which Options.MostWork bounds: 4 * (N + 32) * R * P Salsa20/8 cores, where 32
+// stands for PBKDF2. It is math.MaxUint64 if it would be more, or if a parameter is out of range.
 func (params Params) Work() uint64 { return params.rows(32) }
 
 // rows returns 4 * (N + more) * R * P, at most math.MaxUint64.
@@ -193,8 +193,8 @@ func (m *memory) verifyTwo(it, other *login) (error, error) {
 	return failed(status), failed(others)
 }
 
-// ParamsOf returns the parameters of a hash, with a KeyLen of 0 if it has no key. The errors are those that are
-// ErrInvalidHash to errors.Is.
+// ParamsOf returns the parameters of a hash, with a KeyLen of 0 if it has no key. Its errors match ErrInvalidHash
+// (errors.Is).
 func ParamsOf(text string) (Params, error) {
 	raw := []byte(text)
 	var logN C.uint8_t

@@ -1,7 +1,7 @@
 //go:build cgo && linux && amd64
 
-// Package scrypt derives keys by scrypt (RFC 7914), and makes and verifies its password hashes, by the library
-// libscrypt_c, whose calls are proved. The package, which calls it by cgo, is tested and not proved.
+// Package scrypt derives keys with scrypt (RFC 7914), and makes and verifies scrypt password hashes, on top of the library
+// libscrypt_c, whose calls are proved. The package calls it through cgo, and is tested, not proved.
 //
 //	hasher, err := scrypt.NewHasher(scrypt.Options{})
 //	..
@@ -11,8 +11,8 @@
 //
 // Key has the arguments of golang.org/x/crypto/scrypt.
 //
-// The static library and its header lie in the folder of the package, where make lib puts them. With the build tag
-// scrypt_system the installed library is linked instead, which pkg-config finds.
+// The static library and its header are in the folder of the package, where make lib puts them. With the build tag
+// scrypt_system, the installed library that pkg-config finds is linked instead.
 package scrypt
 
 import (
@@ -21,13 +21,13 @@ import (
 )
 
 // Params are the parameters of a hash: N = 2^LogN, the block size R, the parallelization P, and the length of the
-// hash's key, 10 to 64 bytes. They are of type int so that no conversion cuts off a number from elsewhere: one that is
-// out of range is ErrInvalidParams.
+// hash's key, 10 to 64 bytes. They are of type int so that no conversion truncates a number from elsewhere: one that is
+// out of range gives ErrInvalidParams.
 type Params struct {
 	LogN, R, P, KeyLen int
 }
 
-// Recommended returns the parameters to begin with: 128 MiB, and a key of 32 bytes.
+// Recommended returns the recommended parameters, which take 128 MiB, with a key of 32 bytes.
 func Recommended() Params {
 	return Params{LogN: 17, R: 8, P: 1, KeyLen: 32}
 }
@@ -55,7 +55,7 @@ func Key(password, salt []byte, N, r, p, keyLen int) ([]byte, error) {
 	return key, nil
 }
 
-// newKey returns n bytes, or ErrOutOfMemory. For memory that is not there make ends the process, and mmap does not.
+// newKey returns n bytes, or ErrOutOfMemory. It uses mmap because make crashes the process if memory runs out.
 func newKey(n int) ([]byte, error) {
 	if n > 1<<20 {
 		tried, err := syscall.Mmap(-1, 0, n, syscall.PROT_READ|syscall.PROT_WRITE, syscall.MAP_ANON|syscall.MAP_PRIVATE)

@@ -31,14 +31,14 @@ type wait struct {
 
 func newWait(login *login) *wait { return &wait{login: login, ended: make(chan struct{})} }
 
-// turns are those of a Hasher: one for each processor, but at most atOnce. Where that is more, so many have room for
-// two.
+// turns are the turns of a Hasher: one for each processor, but at most atOnce. If atOnce is more, as many of them as the
+// difference have room for two.
 type turns struct {
 	bounds bounds
 
 	mutex   sync.Mutex
 	free    []*turn // the last one is next
-	waiting []*wait // those that nobody has begun with
+	waiting []*wait // not yet begun
 	pairs   int     // how many there have been, for the tests
 	closed  bool
 }

@@ -1,4 +1,4 @@
-"""Opens key files of other programs by keys that scrypt derives from their passwords. docs/KEY_FILES.md describes them.
+"""Opens key files of other programs with keys that scrypt derives from a password. docs/KEY_FILES.md describes them.
 
 Each function takes the file and the password, and raises ValueError if the password is wrong, or the file is damaged or asks
 for more than is allowed. It needs the package scrypt_c, and python3-cryptography for the ciphers.
@@ -25,10 +25,10 @@ ORDER = 0xFFFFFFFFFFFFFFFFFFFFFFFFFFFFFFFEBAAEDCE6AF48A03BBFD25E8CD0364141  # of
 
 
 def key_of(password, salt, n, r, p, length, most_memory=MOST_MEMORY, most_work=MOST_WORK):
-    """The key. The parameters are bounded here, before anything is derived, and nowhere else."""
+    """The derived key. The parameters are checked against the bounds here, before the derivation, and nowhere else."""
     work = scrypt_c.Params(n.bit_length() - 1, r, p).work
     if 128 * r * max(n, p) > most_memory or work > most_work:
-        raise ValueError("the file asks for more than is allowed")
+        raise ValueError("the file needs more memory or work than is allowed")
     return scrypt_c.scrypt(password, salt=salt, n=n, r=r, p=p, dklen=length)
 
 
@@ -43,7 +43,7 @@ def age_file_key(file, password, **limits):
     try:
         return ChaCha20Poly1305(key).decrypt(bytes(12), from_base64(body), None)
     except InvalidTag:
-        raise ValueError("another password") from None
+        raise ValueError("wrong password") from None
 
 
 def tarsnap_keys(file, password, **limits):
@@ -53,7 +53,7 @@ def tarsnap_keys(file, password, **limits):
     log_n, r, p = file[7], int.from_bytes(file[8:12], "big"), int.from_bytes(file[12:16], "big")
     key = key_of(password, file[16:48], 1 << log_n, r, p, 64, **limits)
     if not hmac.compare_digest(hmac.digest(key[32:], file[:64], "sha256"), file[64:96]):
-        raise ValueError("another password")
+        raise ValueError("wrong password")
     return key[:32], key[32:]
 
 
@@ -61,11 +61,11 @@ def ethereum_secret(text, password, **limits):
     """The private key in a file of Ethereum's secret storage, version 3."""
     crypto = json.loads(text)["crypto"]
     if (crypto["cipher"], crypto["kdf"]) != ("aes-128-ctr", "scrypt"):
-        raise ValueError("another method")
+        raise ValueError("unsupported method")
     params, encrypted = crypto["kdfparams"], bytes.fromhex(crypto["ciphertext"])
     key = key_of(password, bytes.fromhex(params["salt"]), params["n"], params["r"], params["p"], 32, **limits)
     if keccak_256(key[16:] + encrypted).hex() != crypto["mac"]:
-        raise ValueError("another password")
+        raise ValueError("wrong password")
     counter = modes.CTR(bytes.fromhex(crypto["cipherparams"]["iv"]))
     return Cipher(algorithms.AES(key[:16]), counter).decryptor().update(encrypted)
 
@@ -75,14 +75,14 @@ def pkcs8_key(pem, password, **limits):
     letters = "".join(pem.split("-----")[2].split())
     [[[_, [[kdf, params], [cipher, iv]]], encrypted]] = from_der(from_base64(letters.rstrip("=")))
     if (kdf, cipher) != (SCRYPT_ID, AES_256_CBC_ID):
-        raise ValueError("another method")
+        raise ValueError("unsupported method")
     key = key_of(password, *params[:4], 32, **limits)
     plain = Cipher(algorithms.AES(key), modes.CBC(iv)).decryptor().update(encrypted)
     return load_der_private_key(plain[: -plain[-1]], None)
 
 
 def minisign_params(work, memory):
-    """log_n and p, for r = 8, that libsodium chooses by a limit on work and one on memory."""
+    """log_n and p, for r = 8, that libsodium chooses from a limit on work and one on memory."""
     work = max(work, 32768)
     most = work // 32 if work < memory // 32 else memory // 1024
     log_n = max(min(most.bit_length() - 1, 63), 1)
@@ -98,7 +98,7 @@ def minisign_secret(text, password, **limits):
     plain = xor(data[54:], key_of(password, data[6:38], 1 << log_n, 8, p, 104, **limits))
     number, secret, digest = plain[:8], plain[8:72], plain[72:]
     if hashlib.blake2b(data[:2] + number + secret, digest_size=32).digest() != digest:
-        raise ValueError("another password")
+        raise ValueError("wrong password")
     return number, secret
 
 

@@ -1,4 +1,4 @@
-"""scrypt (RFC 7914) and its password hashes, by the library libscrypt_c, whose calls are proved.
+"""scrypt (RFC 7914) and its password hashes, on top of the library libscrypt_c, whose calls are proved.
 
     from scrypt_c import PasswordHasher, VerifyMismatchError
 
@@ -7,18 +7,18 @@
     try:
         hasher.verify(text, "correct horse")
     except VerifyMismatchError:
-        ...                                   # another password
+        ...                                   # wrong password
     if hasher.check_needs_rehash(text):
         ...                                   # store hasher.hash(password) in its place
 
-An untrusted hash chooses its own cost: one that needs more than 256 MiB, or than four times the recommended work, is a
-TooCostlyError at once. Both bounds are arguments of PasswordHasher. A hash with a key of fewer than 16 bytes is a
-KeyTooShortError.
+An untrusted hash chooses its own cost: one that needs more than 256 MiB, or more than four times the recommended work,
+raises TooCostlyError before any work. Both bounds are arguments of PasswordHasher. A hash with a key of fewer than 16
+bytes raises KeyTooShortError.
 
-`scrypt` is hashlib.scrypt by this library. While a key is derived the interpreter's lock is released.
+`scrypt` has the signature of hashlib.scrypt. The GIL is released while a key is derived.
 
-The library is the file that the environment's SCRYPT_C_LIBRARY names, or that of this name in the folder that it names;
-or else the one inside this package, or else the one that the system's loader finds.
+The environment variable SCRYPT_C_LIBRARY names the file of the library, or its folder. Without it, the library inside
+this package is used, or else the one that the system's loader finds.
 """
 
 from .arguments import Bytes, Password

@@ -1,4 +1,4 @@
-"""What callers pass, as the library takes it."""
+"""Converts the arguments of callers to those of the library."""
 
 from __future__ import annotations
 
@@ -33,7 +33,7 @@ def raw_password(password: Password) -> bytes:
 
 
 def raw_text(text: Union[str, bytes]) -> bytes:
-    """The bytes of a hash's text. Letters that ASCII lacks are refused by the library."""
+    """The bytes of a hash's text. The library refuses characters outside ASCII where the format does."""
     if isinstance(text, str):
         return text.encode(errors="surrogatepass")
     if isinstance(text, bytes):
@@ -42,7 +42,7 @@ def raw_text(text: Union[str, bytes]) -> bytes:
 
 
 def number(value: int, what: str) -> int:
-    """A whole number: 1.0 and "1" are none."""
+    """An integer; 1.0 and "1" are not."""
     try:
         return operator.index(value)
     except TypeError:
@@ -50,7 +50,7 @@ def number(value: int, what: str) -> int:
 
 
 def seconds(value: Optional[float], what: str) -> Optional[float]:
-    """A time to wait, at most the longest that threading takes; None is without end."""
+    """A time to wait, at most the longest that threading accepts; None means forever."""
     if value is None:
         return None
     if not isinstance(value, (int, float)):

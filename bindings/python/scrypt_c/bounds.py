@@ -1,4 +1,4 @@
-"""What a hash may cost, and how long its key is at least. The library compares; the numbers here are for the errors."""
+"""Bounds on the cost of a hash and the length of its key. The library checks them; these numbers are for messages."""
 
 from __future__ import annotations
 
@@ -11,12 +11,12 @@ from .arguments import number
 from .errors import KEY_TOO_SHORT, TOO_COSTLY, check
 from .params import RECOMMENDED, Params, accepted, params_of
 
-# What a hash may cost, and the least length of its key, unless the caller says otherwise.
+# The default bounds on the cost of a hash, and on the length of its key.
 MOST_BYTES = 256 << 20
 MOST_WORK = 4 * RECOMMENDED.work
 LEAST_KEY_LEN = 16
 
-MOST_CORES = MOST_WORK  # deprecated: its name before
+MOST_CORES = MOST_WORK  # deprecated: its old name
 
 
 def named_work(most_work: Optional[int], most_cores: Optional[int]) -> Optional[int]:
@@ -38,7 +38,7 @@ class Bounds(NamedTuple):
 
     @classmethod
     def of_hasher(cls, params: Params, most_bytes: Optional[int], most_work: Optional[int]) -> Bounds:
-        """These bounds, or by default the usual ones, or what new hashes have if that is more, and a shorter key."""
+        """These bounds; by default the usual ones, or what new hashes need if that is more, and have if that is less."""
         memory, work = max(MOST_BYTES, params.memory), max(MOST_WORK, params.work)
         return cls(
             memory if most_bytes is None else number(most_bytes, "most_bytes"),
@@ -59,8 +59,8 @@ class Bounds(NamedTuple):
         check(status, self._costs(params) if status == TOO_COSTLY else f"log_n={log_n}, r={r}, p={p}")
 
     def check_text(self, raw: bytes) -> tuple[int, int]:
-        """Raises what verifying with this text does before any work: InvalidHashError, VerifyMismatchError without a
-        salt or a key, then TooCostlyError, then KeyTooShortError. Returns the lengths of the table and of the scratch,
+        """Raises the errors of verifying that come before any work: InvalidHashError, VerifyMismatchError without a salt
+        or a key, then TooCostlyError, then KeyTooShortError. Returns the lengths of the table and of the scratch,
         which are equal for two texts if and only if N and r are."""
         lens = _lens()
         status = library.hash_needs(raw, len(raw), *self.in_c, self.least_key_len, *map(ctypes.byref, lens))

@@ -1,4 +1,4 @@
-"""Which parameters take how long here."""
+"""Chooses parameters by measuring how long they take on this machine."""
 
 from __future__ import annotations
 

@@ -6,7 +6,7 @@
         ...
     ]
 
-The first of the list makes new hashes, and one that another made is replaced at the next login.
+The first in the list makes new hashes; a hash that another one made is replaced at the next login.
 """
 
 from __future__ import annotations

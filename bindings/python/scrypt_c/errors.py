@@ -1,10 +1,10 @@
-"""What is raised. If memory is not available that is MemoryError, and a wrong type is TypeError."""
+"""The exceptions of this package. If memory is not available, MemoryError is raised, and for a wrong type TypeError."""
 
 from __future__ import annotations
 
 
 class ScryptError(Exception):
-    """An error of this package; `name` is that of the status in scrypt_c.h."""
+    """An error of this package; `name` is the name of the status in scrypt_c.h."""
 
     def __init__(self, name: str, words: str) -> None:
         super().__init__(words)
@@ -19,7 +19,7 @@ class VerifyMismatchError(ScryptError):
 
 
 class InvalidHashError(ScryptError, ValueError):
-    """The text is not a hash that this package reads; `name` and the words say why."""
+    """The text is not a hash that this package can read; `name` and the message give the reason."""
 
 
 class InvalidParamsError(ScryptError, ValueError):
@@ -31,7 +31,7 @@ class TooCostlyError(ScryptError):
 
 
 class KeyTooShortError(ScryptError):
-    """The key in the hash is shorter than the hasher allows: wrong passwords match it too often. Nothing was derived."""
+    """The key in the hash is shorter than the hasher allows: too many wrong passwords match it. Nothing was derived."""
 
 
 class InvalidSaltError(ScryptError, ValueError):
@@ -39,7 +39,7 @@ class InvalidSaltError(ScryptError, ValueError):
 
 
 class InvalidOutputLenError(ScryptError, ValueError):
-    """The key has no byte, or more than scrypt allows."""
+    """The key is empty, or longer than scrypt allows."""
 
 
 # The statuses of scrypt_c.h that are errors: the exception of each, its name and its words.

@@ -16,24 +16,23 @@ from .params import Params, accepted, check_derived, params_of
 
 
 class PasswordHasher:
-    """Makes password hashes with these parameters, and verifies passwords by hashes with any.
+    """Makes password hashes with these parameters, and verifies passwords against hashes with any parameters.
 
-    `mcf` makes `$7$` hashes of crypt(3) instead of PHC hashes. Any number of threads may use a hasher. As many derive
-    at the same time as there are processors; others wait for their turn, and after `timeout` seconds raise
-    TimeoutError. Of those that wait, two verifications with the same N and r are done at once, in twice the memory of
-    one and little more than its time. Nobody waits for a second one, and neither of two is touched by what becomes of
-    the other.
+    `mcf` makes `$7$` hashes of crypt(3) instead of PHC hashes. Any number of threads may use a hasher. At most one for
+    each processor derives at a time; the others wait in line, and raise TimeoutError after `timeout` seconds. Of those
+    that wait, two verifications with the same N and r are done at once, in twice the memory of one and little more than
+    its time. Nobody waits for a partner, and no error, timeout or exception of one affects the other.
 
-    `at_once` is how many verifications and new hashes may have memory at the same time: by default two for each
-    processor, which is 1 GiB for four processors and the recommended parameters. With one for each processor, or less,
-    there are no two at once: that takes half the memory, and carries fewer log-ins. More than two change nothing.
+    `at_once` limits how many verifications and new hashes may have memory at the same time. The default is two for each
+    processor, which takes 1 GiB with four processors and the recommended parameters. With the number of processors, or
+    less, there are no pairs: that takes half the memory, and serves fewer logins. A higher number has no effect.
 
     A hash that needs more than `most_bytes` of memory, or whose `Params.work` is above `most_work`, is refused without
     waiting. By default these are 256 MiB and four times the work of the recommended parameters, or what new hashes need
     if that is more. A hash whose key has fewer than 16 bytes, or than `key_len` if that is less, is refused too.
     `most_cores` is the deprecated name of `most_work`.
 
-    The hasher keeps the memory in which it verifies for the next time, at most `at_once` times `most_bytes`, until
+    The hasher keeps the memory in which it verifies for later calls, at most `at_once` times `most_bytes`, until
     `close` or the end of a `with` block.
     """
 
@@ -94,7 +93,7 @@ class PasswordHasher:
         self.close()
 
     def hash(self, password: Password, *, salt: Optional[Bytes] = None) -> str:
-        """The text of a new hash. A salt is drawn by the system, unless the caller passes one."""
+        """The text of a new hash, with this salt, or else with a random one from the system."""
         secret = raw_password(password)
         drawn = os.urandom(self._salt_len) if salt is None else raw_bytes(salt, "a salt")
         call = library.hash_mcf if self._mcf else library.hash_phc
@@ -107,9 +106,10 @@ class PasswordHasher:
         return text.raw[: text_len.value].decode("ascii")
 
     def verify(self, text: Union[str, bytes], password: Password) -> Literal[True]:
-        """True if the password is that of the hash, in either format, and else VerifyMismatchError, also for a hash
-        without salt or key; InvalidHashError if the text is no hash of scrypt, TooCostlyError if the hash needs more
-        than the bounds allow, and KeyTooShortError if its key is shorter than they allow: each before it waits."""
+        """Returns True if the password is that of the hash, in either format. Otherwise raises VerifyMismatchError, also
+        for a hash without salt or key; InvalidHashError if the text is not a scrypt hash, TooCostlyError if the hash
+        needs more than the bounds allow, and KeyTooShortError if its key is shorter than they allow. The errors of the
+        text alone are raised without waiting."""
         raw, secret = raw_text(text), raw_password(password)
         self._memories.check_open()
         status = self._memories.verify(secret, raw, self._bounds.check_text(raw))

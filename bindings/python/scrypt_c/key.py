@@ -1,4 +1,4 @@
-"""Keys, by the signature of hashlib.scrypt."""
+"""Keys, with the signature of hashlib.scrypt."""
 
 from __future__ import annotations
 
@@ -11,10 +11,10 @@ from .params import Params, accepted
 
 
 def scrypt(password: Bytes, *, salt: Bytes, n: int, r: int, p: int, maxmem: int = 0, dklen: int = 64) -> bytes:
-    """The key of `dklen` bytes, as hashlib.scrypt gives it; `n` is a power of two.
+    """The key of `dklen` bytes, like hashlib.scrypt; `n` is a power of two.
 
-    With a `maxmem` above 0 a derivation that needs more bytes is refused, as hashlib does. Without, no bound is set,
-    where hashlib's is 32 MiB.
+    With a `maxmem` above 0, a derivation that needs more bytes raises ValueError, as in hashlib. With 0 there is no
+    bound; hashlib's default is 32 MiB.
     """
     password, salt = raw_bytes(password, "a password"), raw_bytes(salt, "a salt")
     n, maxmem, dklen = number(n, "n"), number(maxmem, "maxmem"), number(dklen, "dklen")

@@ -1,4 +1,4 @@
-"""Derivations in memories of the library, each by a thread that has a turn."""
+"""Runs derivations in memory of the library, each in a thread whose turn it is."""
 
 from __future__ import annotations
 

@@ -11,7 +11,7 @@ from .errors import OUT_OF_MEMORY, check, invalid_params
 
 
 def accepted(log_n: int, r: int, p: int) -> tuple[int, int, int]:
-    """The three, if C's types hold them: ctypes would cut them off."""
+    """The three, if they fit C's types: ctypes would truncate them."""
     log_n, r, p = number(log_n, "log_n"), number(r, "r"), number(p, "p")
     if not (0 <= log_n < 1 << 8 and 0 <= r < 1 << 32 and 0 <= p < 1 << 32):
         raise invalid_params(f"invalid scrypt parameters: log_n={log_n}, r={r}, p={p}")
@@ -28,19 +28,19 @@ class Params(NamedTuple):
 
     @property
     def cores(self) -> int:
-        """How many Salsa20/8 cores a derivation runs."""
+        """The number of Salsa20/8 cores of a derivation."""
         log_n, r, p = accepted(self.log_n, self.r, self.p)
         return 4 * (r * p << log_n)
 
     @property
     def work(self) -> int:
-        """The work, which bounds are on: the Salsa20/8 cores, and for PBKDF2 the time of 32 more rows for each chunk."""
+        """The work that `most_work` bounds: the Salsa20/8 cores, and for PBKDF2 those of 32 more rows in each chunk."""
         log_n, r, p = accepted(self.log_n, self.r, self.p)
         return 4 * ((1 << log_n) + 32) * r * p
 
     @property
     def memory(self) -> int:
-        """The memory: how many bytes the buffers of a derivation have."""
+        """The number of bytes of the buffers of a derivation."""
         log_n, r, p = accepted(self.log_n, self.r, self.p)
         lens = [ctypes.c_size_t() for _ in range(3)]
         check(library.buffer_lens(log_n, r, p, 0, *map(ctypes.byref, lens)), f"log_n={log_n}, r={r}, p={p}")
@@ -58,7 +58,7 @@ def check_derived(status: int, params: Params) -> None:
 
 
 def params_of(text: Union[str, bytes]) -> Params:
-    """The parameters of a hash; `key_len` is 0 if it has no key. InvalidHashError if the text is no hash of scrypt."""
+    """The parameters of a hash; `key_len` is 0 if it has no key. Raises InvalidHashError if it is not a scrypt hash."""
     raw = raw_text(text)
     log_n, r, p, key_len = ctypes.c_uint8(), ctypes.c_uint32(), ctypes.c_uint32(), ctypes.c_size_t()
     check(library.hash_params(raw, len(raw), *map(ctypes.byref, (log_n, r, p, key_len))))

@@ -61,7 +61,7 @@ class Wait(Generic[Work]):
 
 
 class Turns(Generic[Work]):
-    """A turn for each processor, but at most `at_once`. Where that is more, so many turns have room for two.
+    """A turn for each processor, but at most `at_once`. As many turns as `at_once` exceeds them have room for two.
 
     threading.Semaphore may give a turn to the thread that has just returned it while others wait, as long as that one
     goes on; here it goes to the thread that has waited longest.
@@ -74,7 +74,7 @@ class Turns(Generic[Work]):
         self._all = [Turn(it < at_once - count) for it in range(count)]
         self._uses = itertools.count(1)
         self._waits: set[Wait[Work]] = set()  # from `take` to `leave`
-        self._waiting: collections.deque[Wait[Work]] = collections.deque()  # those that nobody has begun with
+        self._waiting: collections.deque[Wait[Work]] = collections.deque()  # not yet begun
         self._lock = threading.Lock()
         self.is_closed = False
         weakref.finalize(self, _free_unused, self._all)

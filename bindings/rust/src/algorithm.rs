@@ -1,4 +1,4 @@
-//! scrypt as a value, by the traits of this crate.
+//! scrypt as a value, with the traits of this crate.
 
 use crate::kdf::{Kdf, Pbkdf};
 use crate::password_hash::{
@@ -6,7 +6,7 @@ use crate::password_hash::{
 };
 use crate::{mcf, phc, scrypt, Bounds, Error, Format, Hasher, Options, Params};
 
-/// scrypt with the parameters of new keys and hashes, by the names of the crate `scrypt`: `use scrypt_c::Scrypt` is for
+/// scrypt with the parameters of new keys and hashes, with the names of the crate `scrypt`: `use scrypt_c::Scrypt` replaces
 /// `use scrypt::Scrypt`.
 ///
 /// ```
@@ -22,14 +22,14 @@ use crate::{mcf, phc, scrypt, Bounds, Error, Format, Hasher, Options, Params};
 /// # }
 /// ```
 ///
-/// It maps memory for each derivation. A [`Hasher`] keeps it, bounds how many derivations run at the same time, and has
-/// bounds of the caller's.
+/// It maps memory for each derivation. A [`Hasher`] keeps its memory, limits how many derivations run at the same time,
+/// and has bounds that the caller sets.
 #[derive(Clone, Copy, Debug, Default, PartialEq, Eq)]
 pub struct Scrypt {
     pub(crate) params: Params,
 }
 
-/// scrypt with the recommended parameters, as the crate `scrypt` 0.10 has it: a value by the name of its type.
+/// scrypt with the recommended parameters: a constant with the name of its type, like the value of the crate `scrypt` 0.10.
 ///
 /// ```
 /// use scrypt_c::password_hash_0_4::{PasswordHash, PasswordHasher, PasswordVerifier, SaltString};

@@ -1,14 +1,14 @@
-//! What a hash may cost.
+//! Bounds on the cost of a hash.
 
 use crate::calls::{scrypt_hash_needs, scrypt_hash_params, scrypt_params_need, OK};
 use crate::{Error, Params};
 
-/// What a derivation may need before it is refused: an untrusted hash chooses its own cost, and may ask for days.
+/// The bounds above which a derivation is refused: an untrusted hash chooses its own cost, which may be days of work.
 #[derive(Clone, Copy, Debug, PartialEq, Eq)]
 pub struct Bounds {
-    /// How many bytes its buffers have at most.
+    /// The most bytes of its buffers.
     pub most_bytes: usize,
-    /// How much work it is at most, as [`Params::work`] counts it.
+    /// The most work, as [`Params::work`] counts it.
     pub most_work: u64,
 }
 
@@ -38,13 +38,13 @@ impl Bounds {
         status == OK
     }
 
-    /// `most_work`, whose name was `most_cores`.
+    /// `most_work`, by its old name.
     #[deprecated(note = "it is the field `most_work` now")]
     pub const fn most_cores(&self) -> u64 {
         self.most_work
     }
 
-    /// These bounds with another `most_work`, whose name was `most_cores`.
+    /// These bounds with another `most_work`, by its old name.
     #[deprecated(note = "it is the field `most_work` now")]
     #[must_use]
     pub const fn with_most_cores(self, most_cores: u64) -> Bounds {

@@ -3,15 +3,15 @@
 use crate::calls::*;
 use std::fmt;
 
-/// The numbers are not accepted parameters.
+/// The parameters are not accepted.
 #[derive(Clone, Copy, Debug, PartialEq, Eq)]
 pub struct InvalidParams;
 
-/// Why no key is derived.
+/// The errors of deriving a key.
 #[derive(Clone, Copy, Debug, PartialEq, Eq)]
 #[non_exhaustive]
 pub enum DeriveError {
-    /// The output has no byte, or more than 137438953440 bytes.
+    /// The output is empty, or longer than 137438953440 bytes.
     InvalidOutputLen,
     /// The memory is not available.
     OutOfMemory,
@@ -19,7 +19,7 @@ pub enum DeriveError {
     Status(i32),
 }
 
-/// Why no hash is made, or a password is not verified.
+/// The errors of making hashes and of verifying passwords.
 #[derive(Clone, Copy, Debug, PartialEq, Eq)]
 #[non_exhaustive]
 pub enum Error {
@@ -47,7 +47,7 @@ pub enum Error {
     Version,
     /// The parameters need more memory or more work than is allowed. Nothing was derived.
     TooCostly,
-    /// The key in the hash is shorter than is allowed: wrong passwords match it too often. Nothing was derived.
+    /// The key in the hash is shorter than is allowed: too many wrong passwords match it. Nothing was derived.
     KeyTooShort,
     /// The system has no random bytes for a salt.
     NoRandomBytes,
@@ -88,7 +88,7 @@ impl Error {
         }
     }
 
-    /// Whether the text is no hash that this crate reads: it is at fault, and not the password or the memory.
+    /// Whether the text is not a hash that this crate can read, so that neither the password nor the memory is at fault.
     pub fn is_invalid_hash(&self) -> bool {
         use Error::*;
         matches!(

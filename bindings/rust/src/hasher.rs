@@ -15,20 +15,19 @@ pub enum Format {
     Mcf,
 }
 
-/// What a [`Hasher`] does. The default is the recommended one of each.
+/// The options of a [`Hasher`], with recommended defaults.
 #[derive(Clone, Copy, Debug, PartialEq, Eq)]
 pub struct Options {
     /// The parameters of new hashes.
     pub params: Params,
     /// The format of new hashes.
     pub format: Format,
-    /// How long the salt of a new hash is: 1 to 64 bytes.
+    /// The length of the salt of a new hash, 1 to 64 bytes.
     pub salt_len: usize,
     /// How many verifications and new hashes may have memory at the same time: by default two for each processor, so
-    /// that two that wait are done at once. More change nothing.
+    /// that two that wait are derived at once. A higher number has no effect.
     pub at_once: usize,
-    /// What a hash may need before it is refused: by default [`Bounds::USUAL`], or what new hashes need if that is
-    /// more.
+    /// The bounds above which a hash is refused: by default [`Bounds::USUAL`], or what new hashes need if that is more.
     pub bounds: Option<Bounds>,
 }
 
@@ -55,17 +54,17 @@ impl Default for Options {
     }
 }
 
-/// Makes password hashes, and verifies passwords by hashes of either format.
+/// Makes password hashes, and verifies passwords against hashes of either format.
 ///
-/// Any number of threads may use it; as many derive at the same time as there are processors, and the others wait. Of
-/// those that wait, two verifications with the same N and r are done at once, in twice the memory of one and little
-/// more than its time. Nobody waits for a second one, and no error of one touches the other. By default four processors
-/// take 1 GiB with the recommended parameters; with [`Options::at_once`] of one for each processor, or less, there are
-/// no two at once, which takes half the memory, and carries fewer log-ins.
+/// Any number of threads may use it; at most one for each processor derives at a time, and the others wait. Of those
+/// that wait, two verifications with the same N and r are done at once, in twice the memory of one and little more than
+/// its time. Nobody waits for a partner, and no error of one affects the other. With the defaults, four processors and
+/// the recommended parameters that takes 1 GiB. If [`Options::at_once`] is the number of processors or less, there are
+/// no pairs: that takes half the memory, and serves fewer logins.
 ///
 /// A hash that needs more than the bounds is refused without waiting, and so is one whose key has fewer than
 /// [`Bounds::LEAST_KEY_LEN`] bytes, or than new keys if that is less. The hasher keeps the memory in which it verifies
-/// for the next time, at most `at_once` times `most_bytes`.
+/// for later calls, at most `at_once` times `most_bytes`.
 #[derive(Debug)]
 pub struct Hasher {
     options: Options,
@@ -111,7 +110,7 @@ impl Hasher {
         Hasher { options, within, turns }
     }
 
-    /// The text of a new hash, with a salt that the system draws.
+    /// The text of a new hash, with a random salt from the system.
     ///
     /// # Errors
     ///
@@ -123,7 +122,7 @@ impl Hasher {
         self.hash_with_salt(password, salt)
     }
 
-    /// The text of a new hash, with a salt of the caller's.
+    /// The text of a new hash, with the caller's salt.
     ///
     /// # Errors
     ///
@@ -169,9 +168,9 @@ impl Hasher {
     ///
     /// # Errors
     ///
-    /// Those of [`Error::is_invalid_hash`]; `PasswordInvalid` for another password, and for a hash without salt or key;
+    /// Those of [`Error::is_invalid_hash`]; `PasswordInvalid` for a wrong password, and for a hash without salt or key;
     /// `TooCostly` if the hash needs more than the bounds; `KeyTooShort` if its key is shorter than they allow; and
-    /// `OutOfMemory`. What the text alone decides is returned without waiting.
+    /// `OutOfMemory`. An error of the text alone is returned without waiting.
     pub fn verify(&self, text: &str, password: impl AsRef<[u8]>) -> Result<(), Error> {
         let like = self.within.check(text)?;
         match self.turns.verify(password.as_ref(), text, like)? {

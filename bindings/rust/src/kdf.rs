@@ -1,4 +1,4 @@
-//! Traits of key derivation: this crate's own, by the names of those in the crate `kdf`, which Debian 12 lacks.
+//! Traits for key derivation: this crate's own, with the names of those in the crate `kdf`, which Debian 12 lacks.
 
 pub use crate::DeriveError as Error;
 
@@ -15,5 +15,5 @@ pub trait Kdf {
     fn derive_key(&self, password: &[u8], salt: &[u8], out: &mut [u8]) -> Result<()>;
 }
 
-/// Derives keys at a cost that makes a guess of the password slow.
+/// Derives keys at a cost that makes guessing the password slow.
 pub trait Pbkdf: Kdf {}

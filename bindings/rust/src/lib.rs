@@ -1,5 +1,5 @@
-//! scrypt (RFC 7914) and its password hashes, by the library libscrypt_c, whose calls are proved. This crate, which
-//! calls it, is tested and not proved.
+//! scrypt (RFC 7914) and its password hashes, on top of the library libscrypt_c, whose calls are proved. This crate is
+//! tested, not proved.
 //!
 //! ```
 //! use scrypt_c::{Error, Hasher};
@@ -14,9 +14,9 @@
 //! # }
 //! ```
 //!
-//! [`scrypt()`], [`Params`] and [`Scrypt`](struct@Scrypt) have the names of the crate `scrypt` 0.12, with traits of this
-//! crate's own in [`password_hash`] and [`kdf`]. With the feature `password-hash` `Scrypt` has those of the crate
-//! `password-hash` 0.4 too.
+//! [`scrypt()`], [`Params`] and [`Scrypt`](struct@Scrypt) have the names of the crate `scrypt` 0.12; the traits in
+//! [`password_hash`] and [`kdf`] are this crate's own. With the feature `password-hash`, `Scrypt` also implements the
+//! traits of the crate `password-hash` 0.4.
 #![warn(missing_docs)]
 
 // README's examples are tested as those above.
@@ -53,7 +53,7 @@ pub use traits_0_4::ALG_ID;
 
 use calls::{scrypt_draw_salt, scrypt_kdf_mapped, OK};
 
-/// Writes the scrypt key of `password` and `salt` to `output`. The length in `params` does not matter.
+/// Writes the scrypt key of `password` and `salt` to `output`. The length in `params` is ignored.
 ///
 /// ```
 /// # fn main() -> Result<(), Box<dyn std::error::Error>> {
@@ -68,7 +68,7 @@ use calls::{scrypt_draw_salt, scrypt_kdf_mapped, OK};
 /// # Errors
 ///
 /// `InvalidOutputLen` unless the output has 1 to 137438953440 bytes, and `OutOfMemory` if the memory is not
-/// available. Both leave the output as it was.
+/// available. Both leave the output unchanged.
 pub fn scrypt(
     password: &[u8],
     salt: &[u8],
@@ -96,11 +96,11 @@ pub fn scrypt(
     }
 }
 
-/// Fills `salt` with random bytes of the system; 16 are enough for a key or a hash.
+/// Fills `salt` with random bytes from the system; 16 are enough for a key or a hash.
 ///
 /// # Errors
 ///
-/// `NoRandomBytes`, if the system has none: do not use the salt then.
+/// `NoRandomBytes` if the system has none; do not use the salt then.
 pub fn draw_salt(salt: &mut [u8]) -> Result<(), Error> {
     // SAFETY: the pointer is that of a slice of this length.
     match unsafe { scrypt_draw_salt(salt.as_mut_ptr(), salt.len()) } {

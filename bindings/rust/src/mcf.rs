@@ -11,11 +11,11 @@ pub(crate) fn is_mcf(text: &str) -> bool {
     text == "$7" || text.starts_with("$7$")
 }
 
-/// The text of a hash, whose grammar and parameters have been read.
+/// The text of a hash, whose grammar and parameters have been checked.
 #[derive(Clone, Debug, PartialEq, Eq, Hash)]
 pub struct PasswordHash(String);
 
-/// A [`PasswordHash`] that is borrowed, as a `str` is a `String` that is.
+/// A borrowed [`PasswordHash`], as `str` is a borrowed `String`.
 #[derive(Debug, PartialEq, Eq, Hash)]
 #[repr(transparent)]
 pub struct PasswordHashRef(str);

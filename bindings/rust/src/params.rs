@@ -22,10 +22,10 @@ impl Params {
     /// The recommended length of a hash's key in bytes.
     pub const RECOMMENDED_LEN: usize = 32;
 
-    /// The parameters to begin with, which take 128 MiB.
+    /// The recommended parameters, which take 128 MiB.
     pub const RECOMMENDED: Params = Params { log_n: 17, r: 8, p: 1, len: None };
 
-    /// N is `2^log_n`.
+    /// Creates parameters, with N = `2^log_n`.
     ///
     /// # Errors
     ///
@@ -81,7 +81,7 @@ impl Params {
         self.p
     }
 
-    /// The memory: how many bytes the buffers of a derivation have.
+    /// The number of bytes of the buffers of a derivation.
     pub fn memory(&self) -> u128 {
         let (mut chunks, mut table, mut scratch) = (0, 0, 0);
         // SAFETY: the three places are this function's own. The parameters are accepted, so they are written.
@@ -91,12 +91,12 @@ impl Params {
         chunks as u128 + 4 * (table as u128 + scratch as u128)
     }
 
-    /// How many Salsa20/8 cores a derivation runs.
+    /// The number of Salsa20/8 cores of a derivation.
     pub fn cores(&self) -> u128 {
         (4 * u128::from(self.r) * u128::from(self.p)) << self.log_n
     }
 
-    /// The work, which [`Bounds`](crate::Bounds) are on: `4 * (N + 32) * r * p`, where 32 is for PBKDF2, in Salsa20/8 cores.
+    /// The work, which [`Bounds`](crate::Bounds) limit: `4 * (N + 32) * r * p` Salsa20/8 cores, where 32 stands for PBKDF2.
     pub fn work(&self) -> u128 {
         self.cores() + 128 * u128::from(self.r) * u128::from(self.p)
     }

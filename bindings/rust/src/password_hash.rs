@@ -1,9 +1,9 @@
-//! Traits of password hashing: this crate's own, by the names of those in the crate `password-hash` 0.6, which the crate
-//! `scrypt` 0.12 has.
+//! Traits for password hashing: this crate's own, with the names of those in the crate `password-hash` 0.6, which the crate
+//! `scrypt` 0.12 implements.
 //!
-//! Debian 12 has `password-hash` 0.4, whose traits are others. So code that calls these by their names compiles as it is,
-//! but [`Scrypt`](struct@crate::Scrypt) is no `PasswordHasher` to a library that is generic over the traits of `password-hash`
-//! 0.6. To one that is generic over those of 0.4 it is one, with this crate's feature `password-hash`.
+//! Debian 12 has `password-hash` 0.4, whose traits differ. So code that calls these traits by name compiles unchanged, but
+//! a library that is generic over the traits of `password-hash` 0.6 does not accept [`Scrypt`](struct@crate::Scrypt). One
+//! that is generic over those of 0.4 does, with this crate's feature `password-hash`.
 
 pub use crate::{mcf, phc, Error};
 
@@ -24,7 +24,7 @@ pub trait PasswordHasher<H> {
     /// `SaltInvalid` unless a PHC hash has a salt of 1 to 64 bytes, and `OutOfMemory`.
     fn hash_password_with_salt(&self, password: &[u8], salt: &[u8]) -> Result<H>;
 
-    /// The hash of `password` with a salt of 16 bytes that the system draws.
+    /// The hash of `password` with a random salt of 16 bytes from the system.
     ///
     /// # Errors
     ///
@@ -36,7 +36,7 @@ pub trait PasswordHasher<H> {
     }
 }
 
-/// Makes hashes of type `H` with parameters of the caller's.
+/// Makes hashes of type `H` with parameters that the caller passes.
 pub trait CustomizedPasswordHasher<H> {
     /// The parameters.
     type Params;
@@ -71,13 +71,13 @@ pub trait CustomizedPasswordHasher<H> {
     }
 }
 
-/// Verifies passwords by hashes of type `H`.
+/// Verifies passwords against hashes of type `H`.
 pub trait PasswordVerifier<H: ?Sized> {
     /// Ok if the password is that of the hash.
     ///
     /// # Errors
     ///
-    /// Those of [`Hasher::verify`](crate::Hasher::verify): `PasswordInvalid` for another password, `TooCostly` for a
+    /// Those of [`Hasher::verify`](crate::Hasher::verify): `PasswordInvalid` for a wrong password, `TooCostly` for a
     /// hash that needs more than [`Bounds::USUAL`](crate::Bounds::USUAL), and more than the parameters of this value, and
     /// `KeyTooShort`.
     fn verify_password(&self, password: &[u8], hash: &H) -> Result<()>;

@@ -4,7 +4,7 @@ use crate::{params_of, Error, Params};
 use std::fmt;
 use std::str::FromStr;
 
-/// The text of a hash of scrypt, whose grammar and parameters have been read.
+/// The text of a scrypt hash, whose grammar and parameters have been checked.
 #[derive(Clone, Debug, PartialEq, Eq, Hash)]
 pub struct PasswordHash(String);
 

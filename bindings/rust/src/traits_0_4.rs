@@ -52,7 +52,7 @@ impl PasswordHasher for Scrypt {
 }
 
 /// The parameters of a hash, which verifying reads: `ParamValueInvalid(TooLong)` if they need more than
-/// [`Bounds::USUAL`]. The key may have 10 bytes, as in the format: a hash alone does not say how long new keys are.
+/// [`Bounds::USUAL`]. The key may have 10 bytes, as in the format, since the length of new keys is not known here.
 impl TryFrom<&PasswordHash<'_>> for Params {
     type Error = Error;
 

@@ -127,7 +127,7 @@ impl Wait {
     }
 }
 
-/// The turns that are free, and the waits that nobody has begun with: one of both is empty.
+/// The free turns, and the waits that have not begun: at least one of the two is empty.
 #[derive(Debug)]
 pub(crate) struct State {
     free: Vec<Turn>, // the last one is next
@@ -160,7 +160,7 @@ impl State {
     }
 }
 
-/// A turn for each processor, but at most `at_once`. Where that is more, so many turns have room for two.
+/// A turn for each processor, but at most `at_once`. If that is more, as many turns as the difference have room for two.
 #[derive(Debug)]
 pub(crate) struct Turns {
     within: TextBounds,

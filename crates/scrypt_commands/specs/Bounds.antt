@@ -33,7 +33,7 @@ with_number b word =
     (option_map (λ n. record { most_bytes = b.most_bytes; most_work = b.most_work; least_key_len = Some n })
     (number_of (codes "--least-key-len=") word)))
 
--- the bounds after an option, if the word is one; `None` is no bounds
+-- the bounds after this option, of which `None` means unbounded; or `None` if the word is not an option
 unfoldable pub with_option : Option Bounds → List ℕ → Option (Option Bounds)
 with_option bounds word =
     if bytes_eq word (codes "--usual-limits") then Some (Some usual)

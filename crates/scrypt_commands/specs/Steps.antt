@@ -50,7 +50,7 @@ abbrev pub Gives : {A B : Type 0} → (A → B) → Result B CliError → Result
 Gives view expected (Ok x) = expected ≡ Ok (view x)
 Gives view expected (Err error) = FailsWith (λ error. expected ≡ Err error) error
 
--- a password is wrong if its refusal is no error
+-- the password is wrong if verifying it failed without an error to report; otherwise that error
 abbrev pub wrong_or_error : Option CliError → Result Bool CliError
 wrong_or_error None = Ok false
 wrong_or_error (Some error) = Err error

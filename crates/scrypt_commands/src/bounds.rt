@@ -55,7 +55,7 @@ impl Bounds {
 }
 
 /// Returns the bounds that the options before the command name, if any, and the command with its
-/// arguments. A word that is no option begins the command.
+/// arguments. The command begins at the first word that is not an option.
 #[tactic(auto, using(crate::proofs::BoundsFacts::options))]
 pub fn parse_options<'a>(args: &'a [String]) -> (Option<Bounds>, &'a [String])
     ensures bounds { result.0 ≡ bounds_of (texts_of args.now) }
