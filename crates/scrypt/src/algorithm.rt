@@ -9,7 +9,7 @@ use password_hash::kdf::{self, Kdf, Pbkdf};
 use std::alloc::Global;
 use std::marker::Model;
 
-/// scrypt as a password hashing function, with parameters of its own.
+/// scrypt as a password hashing function, with parameters for new keys and hashes.
 ///
 /// It derives keys and makes hashes with these parameters. Verifying never uses them: it takes the
 /// parameters of the hash.

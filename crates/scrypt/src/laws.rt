@@ -94,7 +94,7 @@ pub fn made_hashes_are_accepted()
         ++ dollar ∷ crypt64_of (key_by c password (crypt64_of salt) (key_len_or_default c)))) }
 {}
 
-/// The text of a stored hash has one reading, that of the hash, and so has any other text.
+/// Every text has at most one reading: the text of a stored hash that of the hash, and any other text `EncodingInvalid`.
 #[tactic(auto, using(crate::proofs::StoredHashFacts::read_once, crate::proofs::StoredHashFacts::whole_once, crate::proofs::StoredHashFacts::of_hash, crate::proofs::StoredHashFacts::of_none))]
 pub fn stored_texts_have_one_reading()
     ensures whole { (text : List ℕ) (one other : Result Stored Refusal) → HasReading text one → HasReading text other → one ≡ other }
@@ -123,7 +123,7 @@ pub fn made_texts_are_accepted()
         → (read : StoredText) × Reads text read × (verdict password read.whole ≡ Ok tt) × (weaker c read.whole ≡ Ok false) }
 {}
 
-/// Hashing with refused arguments has only one error.
+/// For refused arguments, hashing has only one possible error.
 #[tactic(auto, using(crate::proofs::HashingFacts::refused_once))]
 pub fn hashing_refusals_are_one()
     ensures phc { (salt : List ℕ) (alg_id : Option (List ℕ)) (version : Option ℕ) (one other : Refusal)
@@ -132,8 +132,8 @@ pub fn hashing_refusals_are_one()
         → McfHashIsRefused alg_id version one → McfHashIsRefused alg_id version other → one ≡ other }
 {}
 
-/// A password is accepted exactly if the stored key is the key of its length that the parameters and the salt
-/// of the hash derive from it. It is called wrong only if the stored key is another, or the hash has no key or no salt.
+/// A password is accepted if and only if the stored key is the key of its length that the parameters and the salt of
+/// the hash derive from the password. `PasswordInvalid` means that the keys differ, or that the hash has no key or salt.
 #[tactic(auto, using(crate::proofs::ReadingFacts::verdict_right, crate::proofs::ReadingFacts::verdict_wrong))]
 pub fn verdicts_compare_keys()
     ensures right { (password : List ℕ) (reading : Result Stored Refusal) → (verdict password reading ≡ Ok tt)
@@ -143,8 +143,8 @@ pub fn verdicts_compare_keys()
         ⊎ (reading ≡ Err PasswordInvalid) }
 {}
 
-/// No `$7$` text, and no PHC hash with a salt and a key, is refused with `PasswordInvalid` or `OutOfMemory` as it is read.
-/// The parameters of a stored hash, which need no salt and no key, never are.
+/// Reading a `$7$` text, or the parameters of a PHC hash or of a stored hash, never gives `PasswordInvalid` or
+/// `OutOfMemory`.
 #[tactic(auto, using(crate::proofs::McfHashFacts::mcf_none, crate::proofs::PhcHashFacts::params_none, crate::proofs::StoredHashFacts::stored_none))]
 pub fn reading_names_no_password()
     ensures mcf { (text : List ℕ) → (read_mcf text ≢ Err PasswordInvalid) × (read_mcf text ≢ Err OutOfMemory) }

@@ -1,6 +1,6 @@
 //! The scrypt key derivation function (RFC 7914) and its password hashes, proved against their definitions.
 //!
-//! It draws no salts, starts no threads and bounds no parameters of a stored hash: its callers do.
+//! It draws no salts and starts no threads. Only calls with [`Limits`] bound the cost of a stored hash.
 //!
 //! ```rust
 //! use scrypt::{Params, scrypt};

@@ -5,16 +5,16 @@ ghost use Rattle.scrypt.specs.Limits.{are_within};
 
 use crate::{BufferLens, Params};
 
-/// What verifying a stored hash may need, and the least length of its key: a stored hash names its
-/// own parameters, and may ask for days.
+/// Limits on the memory and the work of verifying a stored hash, and on the length of its key: an
+/// untrusted hash sets its own cost, which may be days of work.
 #[derive(Clone, Copy, Debug, PartialEq, Eq)]
 pub struct Limits {
     /// The most bytes of the three buffers together, as [`BufferLens::of`] returns their lengths.
     pub most_bytes: usize,
     /// The most work, as [`Params::work`] returns it.
     pub most_work: u64,
-    /// The least length of the key in bytes. A shorter key accepts one wrong password in `256^n`
-    /// if it has `n` bytes.
+    /// The least length of the key in bytes. A key of `n` bytes accepts about one wrong password in
+    /// `256^n`.
     pub least_key_len: usize,
 }
 
@@ -30,7 +30,7 @@ impl Limits {
         least_key_len: 16,
     };
 
-    /// Returns whether a derivation with these parameters needs no more than either limit.
+    /// Returns whether a derivation with these parameters is within both limits, on memory and on work.
     #[tactic(auto, unfolding(crate::specs::Limits::are_within))]
     pub fn allow(&self, params: &Params) -> bool
         ensures exact { result ≡ are_within self.now params.now }

@@ -131,7 +131,7 @@ impl Params {
         }
     }
 
-    /// Every value has accepted parameters. Does nothing.
+    /// Proof hint: exposes the invariant that the parameters are accepted.
     pub(crate) fn known(&self)
         ensures { AreAccepted self.now.log_n self.now.r self.now.p }
     {

@@ -4,8 +4,8 @@ ghost use Rattle.std.specs.Prelude.{◌≡◌, length, replicate};
 
 /// Writes zeros to the buffers of a derivation.
 ///
-/// A padded password, the derived key and blocks from which a password can be tested without the
-/// cost of scrypt may be in them.
+/// They may hold a padded password, the derived key, and blocks with which passwords can be tested
+/// without the cost of scrypt.
 pub fn wipe(chunks: &mut [u8], table: &mut [u32], scratch: &mut [u32])
     ensures chunks { chunks.new ≡ replicate (length chunks.old) 0 }
     ensures table { table.new ≡ replicate (length table.old) 0 }

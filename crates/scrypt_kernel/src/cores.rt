@@ -1,5 +1,5 @@
 //! The Salsa20/8 cores, and the count of how many were run. Nothing outside this module and those
-//! below it raises a count.
+//! below it can increment a count.
 
 ghost use Rattle.std.specs.Prelude.{◌≡◌, ℕ, ◌+◌, Bool, if◌then◌else◌};
 ghost use Rattle.std.specs.Borrow.{ftrue};
