@@ -28,7 +28,7 @@ def key_of(password, salt, n, r, p, length, most_memory=MOST_MEMORY, most_work=M
     """The derived key. The parameters are checked against the bounds here, before the derivation, and nowhere else."""
     work = scrypt_c.Params(n.bit_length() - 1, r, p).work
     if 128 * r * max(n, p) > most_memory or work > most_work:
-        raise ValueError("the file needs more memory or work than is allowed")
+        raise ValueError("the file's parameters need more than is allowed")
     return scrypt_c.scrypt(password, salt=salt, n=n, r=r, p=p, dklen=length)
 
 
