@@ -1,7 +1,8 @@
 #!/bin/sh
 # Builds the libraries for C into build/lib, of the crate scrypt_c, which the kit proves for x86-64-v2 and for x86-64-v3:
-# the static one and the shared one with its links for x86-64-v2; the shared one for x86-64-v3 in the folder where the
-# dynamic linker of glibc 2.33 and later looks first on such a processor; the header, and files for pkg-config and CMake.
+# the static one, which has both and chooses when a program starts; the shared one with its links for x86-64-v2; the
+# shared one for x86-64-v3 in the folder where the dynamic linker of glibc 2.33 and later looks first on such a
+# processor; the header, and files for pkg-config and CMake.
 # Needs the kit and a C compiler with its binutils. With the word built, the crate's own libraries are there already.
 set -eu
 cd "$(dirname "$0")/.."
@@ -59,26 +60,46 @@ make_objects() {
     "$parts/blocks.o" "$parts/memory.o" "$parts/salt.o" "$parts/version.o"
   "$parts/stack_lens" small > "$parts/stack_lens.h"
   $CC -std=c99 -pedantic $flags -c -o "$parts/clearing.o" bindings/c/clearing.c
-  # The test of the processor is in it, so that each program that calls anything has it, also by the static library.
-  ld -r -o "$parts/all.o" "$parts"/*/*.o "$parts"/clearing.o "$parts"/blocks.o "$parts"/registers.o "$parts"/cpu.o
-  objcopy --keep-global-symbols="$common/symbols" "$parts/all.o" "$parts/scrypt_c.o"
-  # The calls that are written in C and not proved are beside it.
-  objects="$parts/scrypt_c.o $parts/memory.o $parts/salt.o $parts/version.o"
+  # The calls, of which memory.c and salt.c call some.
+  join "$parts/calls.o" "$common/symbols" "$parts"/*/*.o "$parts"/clearing.o "$parts"/blocks.o "$parts"/registers.o \
+    "$parts"/version.o
+}
+# join OBJECT NAMES OBJECTS.. makes one object of several, of which only the names of a list are seen from outside.
+join() {
+  joined=$1 names=$2
+  shift 2
+  ld -r -o "$joined" "$@"
+  objcopy --keep-global-symbols="$names" "$joined"
 }
 link_shared() {
-  $CC -shared -Wl,-soname,$soname -Wl,--version-script="$common/versions" -Wl,-z,defs -Wl,-z,relro -Wl,-z,now -o "$1" $objects
+  $CC -shared -Wl,-soname,$soname -Wl,--version-script="$common/versions" -Wl,-z,defs -Wl,-z,relro -Wl,-z,now -o "$1" \
+    "$parts/calls.o" "$parts/cpu.o" "$parts/memory.o" "$parts/salt.o"
+}
+# Gives the calls that are read from a list the names that dispatch.c calls.
+rename_calls() {
+  sed "s/.*/& v${level}_&/" > "$parts/renames"
+  objcopy --redefine-syms="$parts/renames" "$parts/calls.o"
 }
 make_objects 2 "$PWD/crates/scrypt_c/out/libscrypt_c.a"
-ar rcs "$out/libscrypt_c.a" $objects
 link_shared "$out/$shared"
 ln -s "$shared" "$out/$soname"
 ln -s "$soname" "$out/libscrypt_c.so"
+calls=$parts/calls.o
 # Its stack can be measured only where it runs.
 if /lib64/ld-linux-x86-64.so.2 --help | grep -q 'x86-64-v3 (supported'; then
+  # Those that see no password or key are of x86-64-v2 alone.
+  { cut -d " " -f 1 "$parts/proved"; echo scrypt_version; } | rename_calls
   make_objects 3 "$PWD/crates/scrypt_c/out/x86-64-v3/libscrypt_c.a"
   mkdir -p "$out/${newer%/*}"
   link_shared "$out/$newer"
+  rename_calls < "$common/symbols"
+  $CC -std=c99 -pedantic $flags -c -o "$parts/dispatch.o" bindings/c/dispatch.c
+  calls="$calls $parts/calls.o $parts/dispatch.o"
 fi
+# The test of the processor is among the calls, so that each program that calls anything has it.
+parts=$common/v2
+join "$common/scrypt_c.o" "$common/symbols" $calls "$parts/cpu.o"
+ar rcs "$out/libscrypt_c.a" "$common/scrypt_c.o" "$parts/memory.o" "$parts/salt.o"
 cp bindings/c/scrypt_c.h "$out/"
 # The names of other libraries, in a library of their own. It isn't unloaded while threads have memory of it.
 $CC -O2 -Wall -Wextra -fPIC -shared -fvisibility=hidden -Wl,--exclude-libs,ALL -Wl,-z,nodelete -Wl,-z,now \
@@ -87,9 +108,9 @@ bindings/c/found.sh "$PWD/$out" "$PWD/$out" "$out" "$out"
 # The Go module is whole with the header and the static library in its folder.
 cp "$out/libscrypt_c.a" "$out/scrypt_c.h" bindings/go/
 rm -r "$common"
-echo "$out: libscrypt_c.a, $shared and libscrypt_drop_in.so for x86-64-v2"
+echo "$out: $shared for x86-64-v2"
 if [ -e "$out/$newer" ]; then
-  echo "$out: $newer for x86-64-v3"
+  echo "$out: $newer for x86-64-v3; libscrypt_c.a and libscrypt_drop_in.so for both"
 else
   echo "This processor is older than x86-64-v3, so the library for that one was not built."
 fi

@@ -119,6 +119,8 @@ inside sh -c "$build"
 expect "$(inside /tmp/check)" "$key $newest" "a C program by pkg-config prints it, with the package"
 masked="/lib64/ld-linux-x86-64.so.2 --glibc-hwcaps-mask x86-64-v2"
 expect "$(inside $masked /tmp/check)" "$key x86-64-v2" "and by the library for x86-64-v2, if the other is masked"
+inside sh -c 'cc -static /tmp/check.c -o /tmp/check $(pkg-config --static --cflags --libs scrypt_c)'
+expect "$(inside /tmp/check)" "$key $newest" "and by the static library, which chooses itself"
 as_user sh -c 'cd /home/user && tar xzf /tmp/*-linux-*.tar.gz && scrypt-proved-*/install.sh /home/user/prefix' > /dev/null
 build='cd; export PKG_CONFIG_PATH=$HOME/prefix/lib/pkgconfig LD_LIBRARY_PATH=$HOME/prefix/lib
   cc /tmp/check.c -o check $(pkg-config --cflags --libs scrypt_c) && ldd check | grep -q "$HOME/prefix" && ./check'

@@ -25,7 +25,7 @@ __asm__(
     ".size clear_stack, .-clear_stack\n");
 
 /* A call of the header: the proved one, after which what it left is overwritten. */
-#define CLEARING(name, parameters, arguments) \
+#define PROVED_CALL(name, parameters, arguments) \
   int proved_##name parameters;               \
   int name parameters {                       \
     int status = proved_##name arguments;     \

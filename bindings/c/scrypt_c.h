@@ -331,8 +331,9 @@ void scrypt_verify_two_in(scrypt_memory *memory, const uint8_t *password, size_t
 SCRYPT_CHECKED
 int scrypt_draw_salt(uint8_t *salt, size_t len);
 
-/* The version of the linked library, and the processor that it was built for, as in "0.13.0 x86-64-v2". The version of
- * this header is SCRYPT_VERSION_STRING. */
+/* The version of the linked library, and the processor that its proved code was built for, as in "0.13.0 x86-64-v2". The
+ * static library has code for two, and chooses the newer one that the processor can run. The version of this header is
+ * SCRYPT_VERSION_STRING. */
 const char *scrypt_version(void);
 
 /* ---- Helpers, which are not calls of the library: inline functions of this header, not proved ---- */

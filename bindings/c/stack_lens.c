@@ -31,7 +31,7 @@ static void keep_most(size_t *most, size_t len) {
   if (len > *most) *most = len;
 }
 
-#define CLEARING(name, parameters, arguments) \
+#define PROVED_CALL(name, parameters, arguments) \
   static size_t most_##name = 0;              \
   int proved_##name parameters;               \
   int name parameters {                       \
@@ -55,8 +55,8 @@ static void print_one(const char *name, size_t most) {
   printf("#define STACK_%s %zu\n", name, len);
 }
 
-#undef CLEARING
-#define CLEARING(name, parameters, arguments) print_one(#name, most_##name);
+#undef PROVED_CALL
+#define PROVED_CALL(name, parameters, arguments) print_one(#name, most_##name);
 
 __attribute__((destructor)) static void print(void) {
 #include "proved_calls.h"

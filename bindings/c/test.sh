@@ -4,25 +4,25 @@
 # short: the exports, the version and one run of each.
 cd "$(dirname "$0")/../.."
 . bindings/common.sh
-newer=$lib/glibc-hwcaps/x86-64-v3
+newer=$lib/glibc-hwcaps/x86-64-v3 newest=x86-64-v3
 if [ ! -e "$newer/libscrypt_c.so.0" ]; then
   echo "no library for x86-64-v3, which an older processor does not build: only that for x86-64-v2 is tested"
-  newer=
+  newer= newest=x86-64-v2
 fi
 # The shared library for x86-64-v2 in a folder that has no other.
 older=$room/x86-64-v2
 mkdir "$older"
 cp -P "$lib"/libscrypt_c.so.0* "$older"
-# each NAMES COMMAND.. runs a command with each of these libraries, and the processor that it is for.
+# each NAMES COMMAND.. runs a command with each of these libraries, and the processor whose code it calls.
 each() {
   libraries=$1
   shift
   for library in $libraries; do
-    case $library in */x86-64-v3/*) processor=x86-64-v3 ;; *) processor=x86-64-v2 ;; esac
+    case $library in */x86-64-v2/*) processor=x86-64-v2 ;; *) processor=$newest ;; esac
     LD_LIBRARY_PATH=${library%/*} "$@" "$library" $processor
   done
 }
-built="$lib/libscrypt_c.a ${newer:+"$newer/libscrypt_c.so.0"}"
+built="$lib/libscrypt_c.a $older/libscrypt_c.so.0"
 shared="$older/libscrypt_c.so.0 ${newer:+"$newer/libscrypt_c.so.0"}"
 # Builds and runs tests with a library that is for a processor. Its calls are bound before: that uses the stack too.
 short_tests() {
@@ -109,23 +109,31 @@ if has clang clang; then calls clang -std=c99; fi
 if has g++ g++; then calls g++ "-std=c++11 -x c++"; fi
 if has clang++ clang; then calls clang++ "-std=c++11 -x c++"; fi
 
-# Older processors than a library is for are refused by name, and these are not. Debian's emulator has both.
-if has gcc gcc && has qemu-x86_64-static qemu-user-static; then
-  gcc -O2 -I"$lib" bindings/c/test.c -o "$room/processor" "$lib/libscrypt_c.a"
-  qemu-x86_64-static -cpu Nehalem "$room/processor" small
-  if qemu-x86_64-static -cpu qemu64 "$room/processor" small 2> "$room/refused"; then
-    echo "a processor without SSSE3 was not refused" >&2
+# on CPU PROCESSOR OPTIONS.. builds the test for the code of a processor, and runs it on one that Debian's emulator has.
+on() {
+  cpu=$1 processor=$2
+  shift 2
+  gcc -O2 -I"$lib" -DPROCESSOR="\"$processor\"" bindings/c/test.c -o "$room/on" "$@"
+  qemu-x86_64-static -cpu $cpu -E LD_LIBRARY_PATH="$newer" "$room/on" small
+}
+refused() {
+  if on "$@" 2> "$room/refused"; then
+    echo "$1 was not refused" >&2
     exit 1
   fi
-  grep "lacks a feature of x86-64-v2" "$room/refused"
+  grep "lacks a feature of $2" "$room/refused"
+}
+# The static library chooses when a program starts, however it is linked, and none is refused that can run it.
+if has gcc gcc && has qemu-x86_64-static qemu-user-static; then
+  for linked in -static -static-pie -pie -no-pie; do
+    on Nehalem x86-64-v2 $linked "$lib/libscrypt_c.a"
+    on max $newest $linked "$lib/libscrypt_c.a"
+  done
+  echo "chosen by the static library, on emulated processors: x86-64-v2, and $newest"
+  refused qemu64 x86-64-v2 "$lib/libscrypt_c.a"
   if [ -n "$newer" ]; then
-    gcc -O2 -I"$lib" -DPROCESSOR='"x86-64-v3"' bindings/c/test.c -o "$room/processor" "$newer/libscrypt_c.so.0"
-    qemu-x86_64-static -cpu max -E LD_LIBRARY_PATH="$newer" "$room/processor" small
-    if qemu-x86_64-static -cpu Nehalem -E LD_LIBRARY_PATH="$newer" "$room/processor" small 2> "$room/refused"; then
-      echo "a processor without AVX2 was not refused" >&2
-      exit 1
-    fi
-    grep "lacks a feature of x86-64-v3" "$room/refused"
+    on max x86-64-v3 "$newer/libscrypt_c.so.0"
+    refused Nehalem x86-64-v3 "$newer/libscrypt_c.so.0"
   fi
 fi
 
@@ -176,7 +184,7 @@ if has gcc gcc; then
   python3 -B bindings/c/traces.py "$lib/libscrypt_c.so" > "$room/secrets"
   others=$lib/libscrypt_drop_in.so
   if [ -e "$lib/libscrypt_crypt.so" ]; then others="$others $lib/libscrypt_crypt.so"; fi
-  "$room/test_traces-x86-64-v2" "$room/secrets" $others > /dev/null
+  "$room/test_traces-$newest" "$room/secrets" $others > /dev/null
   head -n 1 "$room/secrets" > "$room/first"
   no_trace() {
     gcc -O2 -Wl,-z,now bindings/c/test_traces.c -o "$room/traces_shared" -I"$lib" "$1" -lpthread
@@ -188,7 +196,7 @@ if has gcc gcc; then
     gcc -O2 -Ibindings/c bindings/c/test_traces.c bindings/c/memory.c bindings/c/salt.c -o "$room/not_cleared" \
       crates/scrypt_c/out/libscrypt_c.a "$(dirname "$(rt doc)")/c/liblibc_c.a" -lpthread
     if "$room/not_cleared" "$room/first" > /dev/null 2> "$room/traces"; then exit 1; fi
-    for call in $(sed -n 's/^CLEARING(\([a-z_]*\),.*/\1/p' bindings/c/proved_calls.h); do
+    for call in $(sed -n 's/^PROVED_CALL(\([a-z_]*\),.*/\1/p' bindings/c/proved_calls.h); do
       grep -q "traces of $call\b" "$room/traces" || { echo "no trace of $call without clearing.c" >&2; exit 1; }
     done
     echo "traces of each of them without clearing.c"

@@ -9,7 +9,7 @@ mkdir "$room/client"
 cp -r bindings/c/test.c bindings/c/check.h bindings/c/cmake_client "$room/client"
 
 # Builds and runs the client by what is installed below a prefix, with the shared libraries, of which the dynamic linker takes
-# the one for x86-64-v3 if it was built here and is not masked, and with the static one.
+# the one for x86-64-v3 if it was built here and is not masked, and with the static one, which takes that if it was.
 newest=x86-64-v2
 if [ -d "$lib/glibc-hwcaps" ]; then newest=x86-64-v3; fi
 by_pkg_config() {
@@ -19,7 +19,7 @@ by_pkg_config() {
   LD_LIBRARY_PATH=$1/lib "$room/by_pkg_config" small
   built "$1" x86-64-v2 "" ""
   /lib64/ld-linux-x86-64.so.2 --glibc-hwcaps-mask x86-64-v2 --library-path "$1/lib" "$room/by_pkg_config" small
-  built "$1" x86-64-v2 -static --static
+  built "$1" $newest -static --static
   "$room/by_pkg_config" small
 }
 by_cmake() {

@@ -1,0 +1,19 @@
+/* The calls of the static library, which has the proved ones for x86-64-v2 and for x86-64-v3: not proved. lib.sh gives
+ * those the names v2_.. and v3_... Both return the same. */
+#include "cpu.h"
+#include "scrypt_c.h"
+
+static int is_v3 = 0;
+
+/* Before this, calls are those for x86-64-v2. */
+__attribute__((constructor)) static void choose(void) { is_v3 = has_v3(); }
+
+#define PROVED_CALL(name, parameters, arguments) \
+  int v2_##name parameters;                      \
+  int v3_##name parameters;                      \
+  int name parameters { return is_v3 ? v3_##name arguments : v2_##name arguments; }
+#include "proved_calls.h"
+
+const char *v2_scrypt_version(void);
+const char *v3_scrypt_version(void);
+const char *scrypt_version(void) { return is_v3 ? v3_scrypt_version() : v2_scrypt_version(); }
