@@ -1,6 +1,7 @@
 """Runs the program that is installed on a terminal, where it asks for the password without echo."""
 
 import os
+import signal
 import subprocess
 import sys
 import tempfile
@@ -14,8 +15,12 @@ VERIFY = "verify $scrypt$ln=4,r=1,p=1$TmFDbA$rsa3SD7SbgiAK0H0AyCGoOiGvnrEj8/ZL/D
 MADE = "$scrypt$ln=4,r=1,p=1$TmFDbA$rsa3SD7SbgiAK0H0AyCGoOiGvnrEj8/ZL/DO+BCXUvQ"
 ONCE, TWICE = ["Password: "], ["Password: ", "The same again: "]
 
-# The words, what is typed at each question, the status (below 0 for a signal), the lines on the terminal, and the
-# reason.
+# All but those that can't be handled, that only stop a program, that do nothing, and that this program ignores.
+OTHERS = "KILL", "STOP", "TSTP", "TTIN", "TTOU", "CONT", "CHLD", "URG", "WINCH", "PIPE"
+ENDING = signal.valid_signals() - {getattr(signal, f"SIG{it}") for it in OTHERS}
+
+# The words, what is typed at each question or which signal comes, the status (below 0 for a signal), the lines on the
+# terminal, and the reason.
 ROWS = [
     (KEY, ["password\n"], 0, [*ONCE, "d33c6ec1818daaf728f55afadfeaa558"], "a key is asked for once"),
     (HASH, ["password\n"] * 2, 0, [*TWICE, MADE], "a hash twice"),
@@ -32,6 +37,9 @@ ROWS = [
     (HASH, ["password\n", "pass\x1a", *["password\n"] * 2], 0, [*TWICE, *TWICE, MADE], "Ctrl-Z at the second question"),
     (VERIFY, ["x" * 4094 + "\n"], 1, [*ONCE, "no"], "the longest one"),
     (VERIFY, ["x" * 4096 + "\n"], 4, [*ONCE, "The password may have been cut.", "input failed"], "one that Linux cuts"),
+    *((words, [*typed, it], -it, questions, f"signal {it}: echo is on again before it ends the program")
+      for it in ENDING for words, typed, questions in [(VERIFY, [], ONCE), (HASH, ["password\n"], TWICE)]),
+    (VERIFY, [signal.SIGCONT, "password\n"], 0, [*ONCE, *ONCE, "ok"], "it asks again when it goes on"),
     ("verify $8$", [], 2, ["hash refused: EncodingInvalid"], "what is refused without a password asks for none"),
     ("--version", [], 0, [None], "nor does what needs none"),
 ]
@@ -46,7 +54,7 @@ def wrong_rows(program):
 
 
 def is_wrong(program, words, typed, status, lines, reason):
-    got, told, echo = session([program, *words.split(" ")], [it.encode() for it in typed])
+    got, told, echo = session([program, *words.split(" ")], [it if isinstance(it, int) else it.encode() for it in typed])
     written = told.decode().removesuffix("\r\n").split("\r\n")
     same = len(written) == len(lines) and all(line in (None, it) for line, it in zip(lines, written))
     if got == status and same and echo == [False] * len(typed) + [True]:

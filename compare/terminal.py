@@ -2,6 +2,7 @@
 
 import os
 import pty
+import signal
 import termios
 
 
@@ -11,10 +12,11 @@ def has_echo(terminal):
 
 
 def session(words, answers):
-    """The status of a program that is given an answer to each line of its terminal that ends in a colon, what it wrote,
-    and whether what was typed was shown, at each answer and at the end."""
+    """The status of a program that is given an answer, or a signal, to each line of its terminal that ends in a colon,
+    what it wrote, and whether what was typed was shown, at each answer and at the end."""
     pid, terminal = pty.fork()
     if pid == 0:
+        signal.signal(signal.SIGXFSZ, signal.SIG_DFL)  # which Python ignores
         os.execvp(words[0], words)
     told, line, answers, echo = b"", b"", list(answers), []
     while True:
@@ -27,7 +29,11 @@ def session(words, answers):
         told, line = told + part, line + part
         if line.rstrip().endswith(b":") and answers:
             echo.append(has_echo(terminal))
-            os.write(terminal, answers.pop(0))
+            answer = answers.pop(0)
+            if isinstance(answer, int):
+                os.kill(pid, answer)
+            else:
+                os.write(terminal, answer)
             line = b""
     status = os.waitstatus_to_exitcode(os.waitpid(pid, 0)[1])
     echo.append(has_echo(terminal))

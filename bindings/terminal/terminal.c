@@ -1,6 +1,7 @@
 /* Asks for the password of scrypt_tool at a terminal, without echo. The proved program reads its standard input by a
    function of this name: build.sh renames it. This file is tested and not proved. */
 #include <errno.h>
+#include <setjmp.h>
 #include <signal.h>
 #include <string.h>
 #include <termios.h>
@@ -11,9 +12,9 @@ ssize_t read_or_ask(int fd, void *buffer, size_t len);
 enum { LINE = 4096 }; /* the longest line that Linux takes from a terminal, with its newline; it cuts longer ones to that */
 
 static int is_hash; /* whether the command is `hash`, whose password is asked for twice */
-static const int SIGNALS[] = {SIGINT, SIGQUIT, SIGTERM, SIGHUP, SIGALRM, SIGPIPE, SIGTSTP, SIGTTIN, SIGTTOU};
-enum { SIGNAL_COUNT = sizeof SIGNALS / sizeof *SIGNALS };
 static volatile sig_atomic_t caught;
+static sigset_t callers; /* the signals that are blocked but for the time of a question, when all are */
+static sigjmp_buf without_line;
 
 /* glibc hands a constructor the arguments of main. The first word that names a command is the command. */
 __attribute__((constructor)) static void find_command(int argc, char **argv) {
@@ -27,10 +28,29 @@ __attribute__((constructor)) static void find_command(int argc, char **argv) {
   }
 }
 
-static void note(int signal) { caught = signal; }
+/* Ends a read that has begun, or is about to begin. SIGTTOU comes from a change of the terminal too. */
+static void note(int signal) {
+  caught = signal;
+  if (signal != SIGTTOU) siglongjmp(without_line, 1);
+}
 
 /* Whether the program goes on after a signal, when it is in the foreground again. */
-static int only_stops(int signal) { return signal == SIGTSTP || signal == SIGTTIN || signal == SIGTTOU; }
+static int only_stops(int signal) {
+  return signal == SIGTSTP || signal == SIGTTIN || signal == SIGTTOU || signal == SIGCONT;
+}
+
+/* Whether a signal does nothing to a program that doesn't handle it. */
+static int does_nothing(int signal) { return signal == SIGCHLD || signal == SIGURG || signal == SIGWINCH; }
+
+/* As read(2) of a line, or -1 on a signal, which is handled nowhere else. */
+static ssize_t read_line(char *line) {
+  sigset_t blocked;
+  if (caught || sigsetjmp(without_line, 1) != 0) return -1;
+  sigprocmask(SIG_SETMASK, &callers, &blocked);
+  ssize_t len = read(STDIN_FILENO, line, LINE);
+  sigprocmask(SIG_SETMASK, &blocked, NULL);
+  return len;
+}
 
 /* Writes to the terminal, or, if that was opened for reading alone, to the standard error. */
 static void say(const char *text) {
@@ -43,7 +63,7 @@ static void say(const char *text) {
 /* Reads a line without its newline, and returns its length, or -1 at the end of the input, on an error or a signal. */
 static ssize_t line_of(const char *prompt, char *line) {
   say(prompt);
-  ssize_t len = caught ? -1 : read(STDIN_FILENO, line, LINE);
+  ssize_t len = read_line(line);
   say("\n");
   if (len == LINE) say("The password may have been cut.\n");
   if (len > 0 && len < LINE && line[len - 1] == '\n') return len - 1;
@@ -74,20 +94,27 @@ static ssize_t without_echo(char *line) {
   return len;
 }
 
-/* A signal that ends or stops the program does so only once the echo is back. */
+/* A signal that ends or stops the program does so only once the echo is back. All but SIGTTOU, without which a program in
+   the background would change the terminal, wait while it is turned off and on. After SIGSTOP, which can't be handled,
+   SIGCONT asks again, as the shell may have turned it on. */
 static ssize_t ask(char *line) {
-  struct sigaction noted, before[SIGNAL_COUNT];
+  struct sigaction noted, before[NSIG];
   caught = 0;
   memset(&noted, 0, sizeof noted);
-  noted.sa_handler = note; /* without SA_RESTART, so that the read ends */
-  for (int i = 0; i < SIGNAL_COUNT; i++) {
-    sigaction(SIGNALS[i], &noted, &before[i]);
-    if (before[i].sa_handler == SIG_IGN) sigaction(SIGNALS[i], &before[i], NULL);
+  noted.sa_handler = note; /* without SA_RESTART, so that SIGTTOU ends a change of the terminal */
+  sigfillset(&noted.sa_mask);
+  sigset_t all = noted.sa_mask;
+  sigdelset(&all, SIGTTOU);
+  sigprocmask(SIG_BLOCK, &all, &callers);
+  for (int i = 1; i < NSIG; i++) {
+    if (sigaction(i, NULL, &before[i]) == 0 && before[i].sa_handler == SIG_DFL && !does_nothing(i))
+      sigaction(i, &noted, NULL);
   }
   ssize_t len = without_echo(line);
-  for (int i = 0; i < SIGNAL_COUNT; i++) sigaction(SIGNALS[i], &before[i], NULL);
+  for (int i = 1; i < NSIG; i++) sigaction(i, &before[i], NULL);
   if (len < 0) explicit_bzero(line, LINE);
   if (caught) raise(caught);
+  sigprocmask(SIG_SETMASK, &callers, NULL);
   return len;
 }
 
