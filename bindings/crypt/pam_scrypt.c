@@ -81,7 +81,20 @@ static char *hash_to_replace(pam_handle_t *pamh, const char *user, const char *p
   return NULL;
 }
 
-static int store(pam_handle_t *pamh, const char *user, const char *replaced, const char *password) {
+/* What store_hash returned, in words: those of the C library are about other things. */
+static const char *reason_of(int error) {
+  switch (error) {
+    case ESRCH: return "no line of " SHADOW " is the user's";
+    case ENOTUNIQ: return "two lines of " SHADOW " are the user's";
+    case ESTALE: return "another process changed it";
+    case EBUSY: return "another process changes " SHADOW;
+    case ELOOP: return SHADOW " is a symbolic link";
+    case EXDEV: return SHADOW " is a mount of its own, which can't be replaced";
+    default: return strerror(error);
+  }
+}
+
+static int store(pam_handle_t *pamh, int flags, const char *user, const char *replaced, const char *password) {
   char setting[CRYPT_GENSALT_OUTPUT_SIZE];
   char *hash = NULL;
   int error = EINVAL;
@@ -93,7 +106,8 @@ static int store(pam_handle_t *pamh, const char *user, const char *replaced, con
     error = errno;
   free(hash);
   if (error == 0) return PAM_SUCCESS;
-  pam_syslog(pamh, LOG_ERR, "no new password of %s: %s", user, strerror(error));
+  pam_syslog(pamh, LOG_ERR, "no new password of %s: %s", user, reason_of(error));
+  print(pamh, flags, reason_of(error));
   return error == EBUSY ? PAM_AUTHTOK_LOCK_BUSY : PAM_AUTHTOK_ERR;
 }
 
@@ -113,7 +127,7 @@ static int change(pam_handle_t *pamh, int flags, const char *user) {
       return PAM_AUTH_ERR;
     }
   }
-  status = store(pamh, user, replaced, password);
+  status = store(pamh, flags, user, replaced, password);
   free(replaced);
   return status;
 }

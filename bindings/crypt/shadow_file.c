@@ -194,7 +194,7 @@ static int replace(const char *user, const char *old, const char *hash) {
   int folder = open(FOLDER, O_RDONLY | O_DIRECTORY | O_CLOEXEC);
   if (error == 0 && folder < 0) error = errno;
   if (error == 0) error = write_next(from, user, old, hash);
-  if (error == 0 && rename(NEXT, SHADOW) != 0) error = errno;
+  if (error == 0 && rename(NEXT, SHADOW) != 0) error = errno == EBUSY ? EXDEV : errno;
   if (error != 0) (void)unlink(NEXT);
   /* The new password is in place since the rename, so a failure here is not reported. */
   if (error == 0) (void)fsync(folder);

@@ -10,6 +10,7 @@
  *   ESTALE     the user's hash is not old
  *   EBUSY      another process is changing the file
  *   ELOOP      /etc/shadow is a symbolic link
+ *   EXDEV      it is a mount, as containers have, which a rename cannot replace
  *   EINVAL     it is not a regular file, or the hash cannot be part of a line
  *
  * or the error of a system call. */

@@ -155,6 +155,16 @@ expect yes 'it is that other change that holds' test "$old" = "$(hash_of scrypt)
 expect yes 'passwd by root' by_root scrypt 'Third 3 password'
 expect yes 'the password that root chose' by_pamtester scrypt 'Third 3 password'
 
+# As in a container that has the file from its host.
+mount --bind /etc/shadow /etc/shadow
+by_root_mounted() {
+  if by_root scrypt 'Fourth 4 password' > /run/said 2>&1; then return 1; fi
+  grep -q '/etc/shadow is a mount of its own' /run/said
+}
+expect yes 'passwd with a mount in place of the file, which it names' by_root_mounted
+umount /etc/shadow
+expect yes 'the password from before' by_pamtester scrypt 'Third 3 password'
+
 # After pam_unix, which stores its own hash between the two.
 sed -i '1i password requisite pam_unix.so yescrypt' /etc/pam.d/passwd
 expect yes 'passwd by both modules' by_passwd 7001 'Third 3 password' 'Fifth 5 password'

@@ -215,6 +215,31 @@ def no_files():
     return len(made)
 
 
+def mounts():
+    """What is mounted over the file can't be replaced, and is no busy lock. The file below it is as it was too."""
+    write(b"below")
+    for source, options, reason in [("/etc/elsewhere", ["--bind"], "a file of the same file system"),
+                                    (SHADOW, ["--bind"], "itself"), (f"{CLIENT}.shadow", ["--bind"], "a file of another"),
+                                    ("/etc/elsewhere", ["--bind", "-o", "ro"], "one that is only read")]:
+        write(OLD, source)
+        subprocess.run(["mount", *options, source, SHADOW], check=True)
+        status = store()
+        check(status == errno.EXDEV and read() == OLD and left() == [], f"mounted: {reason}", status, left())
+        subprocess.run(["umount", SHADOW], check=True)
+        check(read() == (OLD if source == SHADOW else b"below"), f"below it: {reason}", read())
+        write(b"below")
+    os.unlink(f"{CLIENT}.shadow")
+    write(OLD)
+    os.link(SHADOW, "/etc/linked")
+    check(store() == 0 and read() == NEW and read("/etc/linked") == OLD, "another name of the same file")
+    write(OLD)
+    subprocess.run(["mount", "-o", "remount,ro", "/etc"], check=True)
+    check(store() == errno.EROFS and read() == OLD and left() == [], "a file system that is only read", left())
+    subprocess.run(["mount", "-o", "remount,rw", "/etc"], check=True)
+    os.unlink("/etc/linked")
+    return 6
+
+
 def dead_process():
     gone = subprocess.Popen(["true"])
     gone.wait()
@@ -383,7 +408,8 @@ def by_a_user():
 def main():
     if not os.path.ismount("/etc") or os.listdir("/etc"):
         sys.exit("/etc is not an empty file system of its own")
-    tried = sum(part() for part in (files, hostile, access, no_files, locks, at_once, no_space, by_a_user, cut_lines, interrupted))
+    parts = files, hostile, access, no_files, mounts, locks, at_once, no_space, by_a_user, cut_lines, interrupted
+    tried = sum(part() for part in parts)
     if failed:
         sys.exit(f"{len(failed)} of {tried} changes of /etc/shadow were not as expected")
     print(f"{tried} changes of /etc/shadow: each as expected")
