@@ -1,8 +1,8 @@
 #!/usr/bin/env python3
 """Runs `rt ci`, and then what is built over the libraries that it proved.
 
-`rt ci` proves every crate from nothing, and leaves the libraries that it proved. The wrong bodies are tried over these,
-and the static library for C is built over them, so that only its own crate is checked once more: `rt lib` takes nothing
+`rt ci` proves every crate from nothing, and leaves the libraries that it proved. The wrong bodies are tried over them,
+and the static library for C is built over them, so that only its own crate is checked again: `rt lib` takes nothing
 from `rt ci`, and would prove the crates below it again. If the clone has libraries of an earlier `rt check` or `rt lib`,
 `rt ci` gives those back at its end, and `rt lib` goes on from them.
 """
@@ -42,7 +42,7 @@ def libraries():
 
 
 def build():
-    """Builds the static libraries for C, as `rt lib` does, side by side, and prints the verdict of the newer processor's."""
+    """Builds the static libraries for C side by side, and prints the verdict of the newer processor's."""
     newer, folder = "x86-64-v3", "crates/scrypt_c"
     os.makedirs(f"{folder}/out/{newer}", exist_ok=True)
     command = words.of("build", "scrypt_c") + ["--toolchain", f"{words.kit()}/toolchain", "--backend", "llvm"]
@@ -89,7 +89,7 @@ def main():
         sys.exit("a wrong body was not refused")
     if not shutil.which(os.environ.get("CC", "cc")):
         print("No C compiler is here (package gcc): the library was not called.")
-    elif not build() or any(subprocess.call(it) for it in [["bindings/lib.sh", "built"], ["bindings/callers.sh", "short"]]):
+    elif not build() or subprocess.call(["bindings/lib.sh", "built"]) or subprocess.call(["bindings/callers.sh", "short"]):
         sys.exit("the library could not be built or called")
     print(count, end="")
 

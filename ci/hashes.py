@@ -1,23 +1,24 @@
 #!/usr/bin/env python3
 """Verifies, makes and compares hashes by the built programs: those of other programs, and what is changed, cut or long.
 
-The answers come from elsewhere: the hashes are passlib's and libxcrypt's, and all other keys are those of Python's
-hashlib. scrypt_tool takes one hash a run; VERDICTS, the program of crates/test_verdicts, takes one a line, and gives the
-verdict on the empty password, also within limits.
+The hashes are those of compare/known.py, and all other keys are those of Python's hashlib. scrypt_tool takes one hash a
+run. VERDICTS, the program of crates/test_verdicts, takes one a line and prints the verdict on the empty password, also
+within limits.
 
 usage: hashes.py SCRYPT_TOOL VERDICTS
 """
 
 import hashlib
+import itertools
 import os
-import subprocess
 import sys
 
-sys.path.insert(0, os.path.join(os.path.dirname(os.path.abspath(__file__)), "..", "compare"))
-
+sys.path.append(os.path.join(os.path.dirname(os.path.abspath(__file__)), "../compare"))
 import crypt64
-import unpadded
-from program import CRYPT as MCF, EMPTY, PASSLIB as PHC, SHORT
+import phc
+import runs
+from known import CRYPT as MCF, EMPTY, PASSLIB as PHC, SHORT
+from runs import unlimited
 
 PHC_KEY, MCF_KEY = (it[it.rindex("$") :] for it in (PHC, MCF))
 KEY_AT = EMPTY.rindex("$") + 1
@@ -48,7 +49,7 @@ CHANGED = [
     (MCF, "$CU", "$*U", "ParamsInvalid", "log_n is outside the alphabet"),
     (MCF, "CU", "t/", "ParamsInvalid", "log_n is 57"),
 ]
-PASSWORDS = {PHC: "password", SHORT: "pleaseletmein", MCF: "pleaseletmein"}
+PASSWORDS = {PHC: b"password", SHORT: b"pleaseletmein", MCF: b"pleaseletmein"}
 
 # A text, the verdict on the empty password, and the reason for the row.
 SHORT_TEXTS = [
@@ -143,72 +144,55 @@ WITHOUT_KEY = [7, 12, 13, 17, 21, 26, 30, 33, 34, 38, 42, 44]
 SHORTER_PHC_KEYS = [61, 65, 69, 73, 77, 81, 85]
 
 
-def answer(tool, words, password):
-    """What a run of the program prints: a line of its output, the reason of a refused hash, or another fault."""
-    ran = subprocess.run([tool, "--no-limits", *words], input=password, capture_output=True)
-    return (ran.stdout + ran.stderr).decode().strip().removeprefix("hash refused: ")
+# How a run ends by its verdict, if that isn't a refusal of the hash.
+ENDS = {"ok": runs.OK, "no": runs.NO, "out of memory": (3, "", "out of memory\n")}
 
 
-def verify_rows():
+def verdicts():
     """Texts with a password, the verdict on it, and the reason."""
     for base, old, new, verdict, reason in CHANGED:
         assert base.count(old) == 1
-        yield base.replace(old, new), PASSWORDS[base].encode(), verdict, reason
+        yield base.replace(old, new), PASSWORDS[base], verdict, reason
     for text, verdict, reason in SHORT_TEXTS:
         yield text, b"", verdict, reason
     for length in LONG_KEYS:
         key = hashlib.scrypt(b"", salt=b"", n=16, r=1, p=1, dklen=length)
         other = key[:-1] + bytes([key[-1] ^ 1])
-        yield "$7$2/..../....$" + crypt64.letters(key), b"", "ok", f"a key of {length} bytes"
-        yield "$7$2/..../....$" + crypt64.letters(other), b"", "no", f"its last byte of {length} is another"
+        yield crypt64.text("", key, 4, 1, 1), b"", "ok", f"a key of {length} bytes"
+        yield crypt64.text("", other, 4, 1, 1), b"", "no", f"its last byte of {length} is another"
 
 
-def verdicts(tool):
-    """Compares the verdicts on texts, and returns how many there are and how many differ."""
-    wrong = rows = 0
-    for text, password, verdict, reason in verify_rows():
-        got = answer(tool, ["verify", text], password)
-        rows += 1
-        if got != verdict:
-            print(f"{text} ({reason}): {got}, and not {verdict}")
-            wrong += 1
-    return rows, wrong
+def verified(tool):
+    for text, password, verdict, reason in verdicts():
+        wanted = ENDS.get(verdict, (2, "", f"hash refused: {verdict}\n"))
+        yield f"{text} ({reason})", unlimited(tool, ["verify", text], password), wanted
 
 
-def rehashes(tool):
-    """Compares which hashes are weaker than wanted; a new hash is verified."""
-    wrong = 0
+def rehashed(tool):
+    """Which hashes are weaker than wanted; a new hash is verified."""
     for text, (log_n, r, p, length), weaker, reason in REHASHES:
-        password = PASSWORDS[text].encode()
-        got = answer(tool, ["rehash", "phc", *map(str, (log_n, r, p, length)), "73616c74", text], password)
-        new = got.startswith(f"$scrypt$ln={log_n},r={r},p={p}$c2FsdA$") and answer(tool, ["verify", got], password) == "ok"
-        if not (new if weaker else got == "ok"):
-            print(f"{text} ({reason}): {got}")
-            wrong += 1
-    return len(REHASHES), wrong
+        words = ["rehash", "phc", *map(str, (log_n, r, p, length)), "73616c74", text]
+        answer = unlimited(tool, words, PASSWORDS[text])
+        if weaker:
+            new = answer[1].strip()
+            yield f"{text} ({reason})", new.startswith(f"$scrypt$ln={log_n},r={r},p={p}$c2FsdA$"), True
+            answer = unlimited(tool, ["verify", new], PASSWORDS[text])
+        yield f"{text} ({reason})", answer, runs.OK
 
 
-def made_hashes(tool):
-    """Hashes long passwords in both formats, and compares the hashes with those of hashlib's keys."""
-    wrong = 0
+def made(tool):
+    """Hashes of long passwords in both formats, by hashlib's keys."""
+    field, params = crypt64.letters(b"NaCl"), (4, 1, 1)
     for length in LONG_PASSWORDS:
         password = b"a" * length
-        letters = crypt64.letters(b"NaCl")
-        phc_key = hashlib.scrypt(password, salt=b"NaCl", n=16, r=1, p=1, dklen=32)
-        mcf_key = hashlib.scrypt(password, salt=letters.encode(), n=16, r=1, p=1, dklen=32)
-        for name, text in [
-            ("phc", f"$scrypt$ln=4,r=1,p=1$TmFDbA${unpadded.letters(phc_key)}"),
-            ("mcf", f"$7$2/..../....{letters}${crypt64.letters(mcf_key)}"),
-        ]:
-            made = answer(tool, ["hash", name, "4", "1", "1", b"NaCl".hex()], password)
-            if made != text or answer(tool, ["verify", text], password) != "ok":
-                print(f"a password of {length} bytes: {made}, and not {text}")
-                wrong += 1
-    refused = answer(tool, ["hash", "phc", "4", "1", "1", "00" * 65], b"")
-    if refused != "SaltInvalid":
-        print(f"a salt of 65 bytes: {refused}")
-        wrong += 1
-    return 2 * len(LONG_PASSWORDS) + 1, wrong
+        keys = [hashlib.scrypt(password, salt=salt, n=16, r=1, p=1, dklen=32) for salt in (b"NaCl", field.encode())]
+        texts = {"phc": phc.text(b"NaCl", keys[0], *params), "mcf": crypt64.text(field, keys[1], *params)}
+        for form, text in texts.items():
+            answer = unlimited(tool, ["hash", form, "4", "1", "1", b"NaCl".hex()], password)
+            yield f"a password of {length} bytes, {form}", answer, (0, f"{text}\n", "")
+            yield f"a password of {length} bytes, {form}", unlimited(tool, ["verify", text], password), runs.OK
+    refused = unlimited(tool, ["hash", "phc", "4", "1", "1", "00" * 65], b"")
+    yield "a salt of 65 bytes", refused, (2, "", "hash refused: SaltInvalid\n")
 
 
 def beginnings():
@@ -219,35 +203,25 @@ def beginnings():
             verdict = "Algorithm"
         elif length in WITHOUT_KEY + SHORTER_PHC_KEYS:
             verdict = "PasswordInvalid"
-        yield PHC[:length], f"Err({verdict})"
+        yield PHC[:length], verdict
 
 
-def million():
-    """Texts of a million characters."""
-    yield EMPTY[:KEY_AT] + "." * 1_000_000, "Err(PasswordInvalid)"
-    yield "$7" + "$" * 1_000_000, "Err(EncodingInvalid)"
-
-
-def verdicts_by_line(rows, *words):
-    """Compares the verdicts on texts, one a line."""
-    text = "".join(row[0] + "\n" for row in rows)
-    ran = subprocess.run(words, input=text.encode(), capture_output=True, check=True)
-    got = ran.stdout.decode().splitlines()
-    wrong = [(*row, it) for row, it in zip(rows, got) if row[1] != it]
-    for text, wanted, it in wrong[:10]:
-        print(f"{text[:100]!r}: {it}, and not {wanted}")
-    return len(rows), len(wrong) + abs(len(rows) - len(got))
+def by_line(rows, *words):
+    """The verdicts on the first parts of rows, one a line, if they are errors."""
+    status, printed, error = runs.run(words, "".join(f"{text}\n" for text, _ in rows).encode())
+    lines = printed.splitlines()
+    yield words, (status, len(lines), error), (0, len(rows), "")
+    for (text, verdict), line in zip(rows, lines):
+        yield repr(text[:100]), line, f"Err({verdict})"
 
 
 def main():
     tool, program = sys.argv[1:]
-    counts = [verdicts(tool), rehashes(tool), made_hashes(tool)]
-    counts.append(verdicts_by_line([*beginnings(), *million()], program))
-    counts.append(verdicts_by_line([(text, "Err(EncodingInvalid)") for text, _ in UNREAD], program))
-    counts.append(verdicts_by_line([(text, "Err(TooCostly)") for text, _ in COSTLY], program, "within"))
-    counts.append(verdicts_by_line([(text, "Err(KeyTooShort)") for text, _ in SHORT_KEYS], program, "within"))
-    rows, wrong = map(sum, zip(*counts))
-    print(f"hashes: {rows - wrong} of {rows} texts are hashed, verified and compared as they should be")
+    long = [(EMPTY[:KEY_AT] + "." * 1_000_000, "PasswordInvalid"), ("$7" + "$" * 1_000_000, "EncodingInvalid")]
+    texts = [*beginnings(), *long] + [(text, "EncodingInvalid") for text, _ in UNREAD]
+    within = [(text, "TooCostly") for text, _ in COSTLY] + [(text, "KeyTooShort") for text, _ in SHORT_KEYS]
+    cases = verified(tool), rehashed(tool), made(tool), by_line(texts, program), by_line(within, program, "within")
+    _, wrong = runs.report("hashes", itertools.chain(*cases))
     sys.exit(1 if wrong else 0)
 
 

@@ -10,8 +10,8 @@ lint() {
     echo "$1: SKIPPED: $package isn't installed"
     return
   fi
-  wrong=$(find ci compare doc bench bindings examples release -name "$kind" -not -path '*/out/*' -not -path '*/target/*' \
-    -exec "$@" {} + 2>&1) || test -n "$wrong" || wrong="$1 failed"
+  wrong=$(find ci compare doc bench bindings examples release -name "$kind" -not -path '*/out/*' \
+    -not -path '*/target/*' -exec "$@" {} + 2>&1) || test -n "$wrong" || wrong="$1 failed"
   test -z "$wrong" || { echo "$wrong"; exit 1; }
 }
 

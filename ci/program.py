@@ -1,21 +1,23 @@
 #!/usr/bin/env python3
 """Runs the built program on command lines whose answers come from elsewhere, and on each fault once.
 
-The answer of a run is a line on the standard output for the statuses 0 and 1, and else on the standard
-error; nothing is on the other one. The keys are those of RFC 7914, section 12, and of Python's hashlib; the
-hashes are passlib's and libxcrypt's.
+The answer of a run is a line on the standard output for the statuses 0 and 1, and otherwise on the standard error; the
+other one stays empty. The keys are those of RFC 7914, section 12, and of Python's hashlib; the hashes are those of
+compare/known.py.
 
 usage: program.py PROGRAM
 """
 
+import itertools
 import os
-import shutil
 import subprocess
 import sys
-import tempfile
 
-import limits
-from prompt import wrong_rows
+sys.path.append(os.path.join(os.path.dirname(os.path.abspath(__file__)), "../compare"))
+import prompt
+import runs
+from known import CRYPT, EMPTY, EMPTY_PHC, HASHLIB, LONG, PASSLIB, PLAIN, RFC, SHORT
+from runs import run
 
 FIRST_KEY = (
     "77d6576238657b203b19ca42c18a0497f16b4844e3074ae8dfdffa3fede21442"
@@ -25,15 +27,9 @@ USAGE = (
     "usage: key LOG_N R P LEN SALT_HEX | hash phc|mcf LOG_N R P SALT_HEX [LEN] | verify HASH"
     " | rehash phc|mcf LOG_N R P LEN SALT_HEX HASH"
 )
-
-# Hashes of passlib, of a key of RFC 7914 and its beginning, of the empty password, of libxcrypt, and of a key of hashlib.
-PASSLIB = "$scrypt$ln=16,r=8,p=1$aM15713r3Xsvxbi31lqr1Q$nFNh2CVHVjNldFVKDHDlm4CbdRSCdEBsjjJxD+iCs5E"
-RFC = "$scrypt$ln=14,r=8,p=1$U29kaXVtQ2hsb3JpZGU$cCO9yzr9c0hGHAbNgf046/2o+7qQT44+qbVD9lRdofI"
-SHORT = "$scrypt$ln=14,r=8,p=1$U29kaXVtQ2hsb3JpZGU$cCO9yzr9c0hGHA"
-LONG = "$7$2/..../....$rNxJWVHNv/mCNcgE/f6/L4zO6Fos5c2uTzhyzoisI62zEPEbhb.Gs9XOpdn16zl3cDBsvvG1qUmnp6C1s2RW4."
-EMPTY = "$7$2/..../....$rNxJWVHNv/mCNcgE/f6/L4zO6Fos5c2uTzhyzoisI62"
-CRYPT = "$7$CU..../....Mq4YHD2syxYT.MsH1Ek0n1$JyHIxez0DOwm0r6.kAIohc8UFBOLU4xX8a1wGBpLrw7"
-HASHLIB = "$scrypt$ln=4,r=1,p=1$TmFDbA$rsa3SD7SbgiAK0H0AyCGoOiGvnrEj8/ZL/DO+BCXUvQ"
+TOO_COSTLY = "hash refused: TooCostly, it needs more than --most-bytes or --most-work allows"
+KEY_TOO_SHORT = "hash refused: KeyTooShort, its key is shorter than --least-key-len allows"
+PASSLIB_SALT_AND_KEY = PASSLIB[PASSLIB.index("$aM") :]
 
 # Each row has the words between single blanks, the input, the status, the line, and the reason for the row.
 ANSWERS = [
@@ -60,8 +56,7 @@ ANSWERS = [
      "a salt that is not ASCII, by Python's hashlib"),
     (f"verify {EMPTY}", "\n", 1, "no", "another password"),
     ("--least-key-len=1 verify $7$2/..../....$r/", "", 0, "ok", "a shorter key is the beginning of a longer one"),
-    ("verify $7$C6..../....SodiumChloride$kBGj9fHznVYFQMEn/qDCfrDevf9YDtcDdKvEqHJLV8D", "pleaseletmein", 0, "ok",
-     "a salt may be a plain text"),
+    (f"verify {PLAIN}", "pleaseletmein", 0, "ok", "a salt may be a plain text"),
 ]
 
 # Each fault once.
@@ -78,8 +73,8 @@ FAULTS = [
     ("verify $7$", "", 2, "hash refused: EncodingInvalid", "a `$7$` text without parameters"),
     ("verify $argon2id$ln=4$aA", "password", 2, "hash refused: Algorithm", "another algorithm"),
     ("verify $scrypt$v=1$ln=4$aA", "password", 2, "hash refused: Version", "a version"),
-    ("verify $scrypt$ln=256,r=8,p=1$aM15713r3Xsvxbi31lqr1Q$nFNh2CVHVjNldFVKDHDlm4CbdRSCdEBsjjJxD+iCs5E", "password", 2,
-     "hash refused: ParamInvalid ln", "log_n is above 255"),
+    (f"verify $scrypt$ln=256,r=8,p=1{PASSLIB_SALT_AND_KEY}", "password", 2, "hash refused: ParamInvalid ln",
+     "log_n is above 255"),
     ("verify $scrypt$ln=57", "password", 2, "hash refused: ParamsInvalid", "parameters that are not accepted"),
     ("verify $7$2/..../....$", "password", 2, "hash refused: OutputSize", "an empty key"),
     ("key 56 1 1 32 ", "", 3, "out of memory", "a table of 2^63 bytes"),
@@ -96,138 +91,165 @@ REHASHES = [
     (f"rehash phc 4 1 1 64  {EMPTY}", "x", 1, "no", "a wrong password comes before a salt that the new hash refuses"),
     (f"rehash phc 14 8 1 32 536f6469756d43686c6f72696465 {SHORT}", "pleaseletmein", 0, RFC,
      "a key of 10 bytes is replaced by one of 32"),
-    (f"rehash phc 17 8 1 32 00 {PASSLIB}", "invalid", 1, "no", "passlib's hash, weaker than wanted, and a wrong password"),
+    (f"rehash phc 17 8 1 32 00 {PASSLIB}", "invalid", 1, "no", "a hash weaker than wanted, and a wrong password"),
     (f"rehash phc 4 2 1 32 abcd {HASHLIB}", "password", 0,
      "$scrypt$ln=4,r=2,p=1$q80$9fykwGCqc5wuN3VhSk6s2YNL+iQlvqu+X3lrEvZ6nS8", "r is below"),
     (f"rehash phc 3 1 1 32 abcd {HASHLIB}", "password", 0, "ok", "log_n is above"),
-    (f"rehash mcf 5 1 1 32 abcd {HASHLIB}", "password", 0, "$7$3/..../....fqA$GSoayDUS/tZpwSg3qA/sOnwx1jjdhVpHN49dfPH6c09",
-     "the new hash has the format that is named"),
+    (f"rehash mcf 5 1 1 32 abcd {HASHLIB}", "password", 0,
+     "$7$3/..../....fqA$GSoayDUS/tZpwSg3qA/sOnwx1jjdhVpHN49dfPH6c09", "the new hash has the format that is named"),
     ("rehash phc 4 1 1 32 00 $argon2id$ln=4$aA", "password", 2, "hash refused: Algorithm", "verifying refuses"),
 ]
 
-# A stream that is replaced by a file, its path, how the run ends, and the reason for the row.
+# The words, the input, the status, the line, and the reason for the row. EMPTY needs 128 + 2048 + 256 bytes, and the
+# work 4 * (16 + 32).
+LIMITS = [
+    (f"--most-bytes=2432 verify {EMPTY}", "", 0, "ok", "as much memory as is allowed"),
+    (f"--most-bytes=2431 verify {EMPTY}", "", 2, TOO_COSTLY, "a byte more"),
+    (f"--most-work=192 verify {EMPTY}", "", 0, "ok", "as much work as is allowed"),
+    (f"--most-work=191 verify {EMPTY}", "", 2, TOO_COSTLY, "more work"),
+    (f"--least-key-len=32 verify {EMPTY}", "", 0, "ok", "as short a key as is allowed"),
+    (f"--least-key-len=33 verify {EMPTY}", "", 2, KEY_TOO_SHORT, "a shorter key"),
+    (f"--most-bytes=2432 --most-work=191 verify {EMPTY}", "", 2, TOO_COSTLY, "two options"),
+    (f"--most-work=191 --most-work=192 verify {EMPTY}", "", 0, "ok", "a later option overrides an earlier one"),
+    (f"--most-work=191 --usual-limits verify {EMPTY}", "", 0, "ok", "so does one for all of them"),
+    (f"--most-work=191 --no-limits verify {EMPTY}", "", 0, "ok", "and the one for none"),
+    ("--no-limits --most-work=192 verify $7$2/..../....$r/", "", 2, KEY_TOO_SHORT, "the others are the usual ones"),
+    (f"verify $scrypt$ln=17,r=8,p=5{PASSLIB_SALT_AND_KEY}", "", 2, TOO_COSTLY, "five times the usual work"),
+    (f"verify $scrypt$ln=18,r=8,p=1{PASSLIB_SALT_AND_KEY}", "", 2, TOO_COSTLY, "more than 256 MiB"),
+    ("verify $7$s/..../....$r/", "", 2, TOO_COSTLY, "a table of 2^63 bytes"),
+    (f"verify {SHORT}", "", 2, KEY_TOO_SHORT, "a key of 10 bytes"),
+    ("--most-work=1 verify $scrypt$ln=4$aA", "", 1, "no", "a hash without a key is not verified"),
+    ("--most-work=1 verify $argon2id$ln=4$aA", "", 2, "hash refused: Algorithm", "one that cannot be read comes first"),
+    (f"--most-work=191 rehash phc 4 1 1 32 00 {EMPTY}", "", 0, "ok", "rehash may do the work of a new hash"),
+    (f"--most-bytes=2431 rehash phc 4 1 1 32 00 {EMPTY}", "", 0, "ok", "and take its memory"),
+    (f"--most-work=191 rehash phc 3 1 1 32 00 {EMPTY}", "", 2, TOO_COSTLY, "which here is less"),
+    (f"--most-bytes=2431 rehash phc 3 1 1 32 00 {EMPTY}", "", 2, TOO_COSTLY, "here too"),
+    (f"--least-key-len=33 rehash phc 4 1 1 32 00 {EMPTY}", "", 2, KEY_TOO_SHORT, "a shorter key, if a length is named"),
+    ("--most-work=1 key 4 1 1 16 ", "x" * 5000, 0, "19e0dd858b21a85d5233e34f8025c066", "a key has no limits"),
+]
+
+# Those that are refused with the usage line, and the reason.
+NO_OPTIONS = [
+    (f"--most-work=01 verify {EMPTY}", "a number with a leading zero"),
+    (f"--most-work= verify {EMPTY}", "no number"),
+    (f"--most-bytes=18446744073709551616 verify {EMPTY}", "a number of 2^64"),
+    (f"--most-work 192 verify {EMPTY}", "a number in an argument of its own"),
+    (f"verify --no-limits {EMPTY}", "an option after the command"),
+    ("hash phc 4 1", "no salt is drawn for fewer arguments"),
+    ("key 4 1 1 16", "nor for a key"),
+]
+
+# One command of each kind, which all answer an empty password with status 0.
+STREAM_COMMANDS = ["key 4 1 1 64 ", "hash phc 4 1 1 00", "hash mcf 4 1 1 ", f"verify {EMPTY_PHC}", f"verify {EMPTY}"]
+STREAM_COMMANDS += [f"rehash phc 5 1 1 32 00 {EMPTY}"]
+
+# How the shell opens a stream, in a line that has `"$@"` for the command, the fault line, and the reason for the row.
 STREAMS = [
-    ("stdin", ".", (4, "", "input failed\n"), "a folder can't be read"),
-    ("stdout", "/dev/full", (4, "", "output failed\n"), "nothing can be written"),
-    ("stderr", "/dev/full", (0, "704d1995acb73578bcb377b08d0d622c\n", ""), "no error is written"),
+    ('"$@" > /dev/full', "output failed\n", "a full device takes nothing"),
+    ('"$@" >&-', "output failed\n", "the standard output is closed"),
+    ('"$@" < /', "input failed\n", "a directory opens, but cannot be read"),
+    ('"$@" <&-', "input failed\n", "the standard input is closed"),
 ]
 
 # Parameters whose chunks take 2 GiB, and whose table is refused: log_n is 56, r is 1 and p is 2^24. Nothing is written
 # before everything is allocated, so that the run touches little memory. Each row has a bound on the addresses of the
-# run, or None, and the reason for the row.
+# run, and the reason for the row.
 REFUSED_TABLE = "--no-limits verify $7$s/......../$r/"
 MOST_TOUCHED = 64 << 20
-ADDRESSES = [(None, "there is room for the chunks"), (1 << 30, "there is none")]
+ADDRESSES = [("unlimited", "there is room for the chunks"), (1 << 30, "there is none")]
 
 
-def answer(program, line, text):
-    """How a run of the program ends: its status, and what it wrote to the output and to the faults."""
-    ran = subprocess.run([program, *line.split(" ")], input=text.encode(), capture_output=True)
-    return ran.returncode, ran.stdout.decode(), ran.stderr.decode()
+def rows(program):
+    refused = [(words, "", 2, USAGE, reason) for words, reason in NO_OPTIONS]
+    for line, text, status, printed, reason in ANSWERS + FAULTS + REHASHES + LIMITS + refused:
+        wanted = (status, f"{printed}\n", "") if status < 2 else (status, "", f"{printed}\n")
+        yield f"{line!r} ({reason})", run([program, *line.split(" ")], text.encode()), wanted
 
 
-def answer_with(program, stream, path):
-    """How a run ends whose named stream is a file, by the same three."""
-    flags = os.O_RDONLY if stream == "stdin" else os.O_WRONLY
-    file = os.open(path, flags)
-    streams = {"stdout": subprocess.PIPE, "stderr": subprocess.PIPE} | {stream: file}
-    given = {} if stream == "stdin" else {"input": b"pass\nword\n"}
-    ran = subprocess.run([program, "key", "4", "1", "1", "16", ""], **streams, **given)
-    os.close(file)
-    return ran.returncode, (ran.stdout or b"").decode(), (ran.stderr or b"").decode()
+def without_reader(words):
+    """How a run ends whose output is a pipe that nobody reads."""
+    read, write = os.pipe()
+    os.close(read)
+    ran = subprocess.run(words, stdin=subprocess.DEVNULL, stdout=write, stderr=subprocess.PIPE)
+    os.close(write)
+    return ran.returncode, ran.stderr.decode()
 
 
-def drawn_salts(program):
-    """Whether hashes without a salt have different ones of 16 bytes, and accept their passwords."""
-    salts = set()
-    # The salt of a `$7$` text has its 11 letters of the parameters before it.
-    for form, letters in (("phc", 22), ("mcf", 33)) * 2:
-        status, line, _ = answer(program, f"hash {form} 4 1 1", "password")
-        stored = line.removesuffix("\n")
-        salt = stored.split("$")[-2]
-        salts.add(salt)
-        right = answer(program, f"verify {stored}", "password") == (0, "ok\n", "")
-        if status or not right or len(salt) != letters:
-            return False
-    return len(salts) == 4
-
-
-def without_source(program):
-    """How a run ends that cannot draw a salt, and one that needs none."""
-    with tempfile.TemporaryDirectory() as room:
-        library, source = os.path.join(room, "failing.so"), os.path.join(room, "failing.c")
-        with open(source, "w", encoding="ascii") as file:
-            file.write("int getentropy(void *buffer, unsigned long len) { return buffer && len ? -1 : 0; }\n")
-        subprocess.run([os.environ.get("CC", "cc"), "-shared", "-fPIC", "-o", library, source], check=True)
-        return [
-            subprocess.run([program, *words], input=b"", capture_output=True, env={"LD_PRELOAD": library})
-            for words in (["hash", "phc", "4", "1", "1"], ["verify", limits.EMPTY])
-        ]
-
-
-def others(program):
-    """The runs that are not in a table: each has its name, and whether it ended as it should."""
-    with open(os.path.join(os.path.dirname(os.path.abspath(__file__)), "../VERSION"), encoding="ascii") as file:
-        version = file.read().strip()
-    status, text, error = answer(program, "--help", "")
-    # The usage line has each command as the help has it, which makes the salt of hash optional.
-    named = USAGE.removeprefix("usage: ").replace("SALT_HEX [LEN]", "[SALT_HEX [LEN]]").split(" | ")
-    yield "--help", (status, error) == (0, "") and set(named) <= {it.strip() for it in text.splitlines()}
-    yield "--version", answer(program, "--version", "") == (0, f"scrypt_tool {version}\n", "")
-    with open("/dev/full", "wb") as full:
-        ran = subprocess.run([program, "--help"], stdout=full, stderr=subprocess.PIPE, stdin=subprocess.DEVNULL)
-    yield "--help that cannot be written", (ran.returncode, ran.stderr) == (4, b"output failed\n")
-    yield "drawn salts", drawn_salts(program)
-    if shutil.which(os.environ.get("CC", "cc")):
-        drawn, verified = without_source(program)
-        line = b"no salt can be drawn\n"
-        yield "no salt can be drawn", (drawn.returncode, drawn.stdout, drawn.stderr) == (3, b"", line)
-        yield "none is needed", (verified.returncode, verified.stdout, verified.stderr) == (0, b"ok\n", b"")
+def streams(program):
+    """Every command on streams that fail: status 4, and nothing in the output."""
+    for line in STREAM_COMMANDS:
+        words = [program, *line.split(" ")]
+        yield f"{line!r} on streams that work", runs.redirected('"$@"', words)[0], 0
+        for shell, fault, reason in STREAMS:
+            yield f"{line!r} ({reason})", runs.redirected(shell, words), (4, "", fault)
+        yield f"{line!r} (nobody reads the pipe)", without_reader(words), (4, "output failed\n")
+    for shell in ('"$@" 2> /dev/full', '"$@" 2>&-'):
+        key, refused = ([program, "key", "4", "1", "1", length, ""] for length in ("16", "0"))
+        yield f"{shell}, with nothing to write there", runs.redirected(shell, key)[0], 0
+        yield f"{shell}, with a fault", runs.redirected(shell, refused), (2, "", "")
+    full = runs.redirected('"$@" > /dev/full', [program, "--help"])
+    yield "--help that cannot be written", full, (4, "", "output failed\n")
 
 
 def touched_by(program, line, addresses):
     """How a run ends whose addresses are bounded, and how many bytes of memory it touched."""
-    limit = [] if addresses is None else ["prlimit", f"--as={addresses}"]
-    run = subprocess.Popen([*limit, program, *line.split(" ")], stdin=subprocess.DEVNULL, stderr=subprocess.PIPE)
-    error = run.stderr.read().decode()
-    _, status, usage = os.wait4(run.pid, 0)
-    run.returncode = os.waitstatus_to_exitcode(status)
-    return (run.returncode, error), usage.ru_maxrss << 10
+    words = ["prlimit", f"--as={addresses}", program, *line.split(" ")]
+    ran = subprocess.Popen(words, stdin=subprocess.DEVNULL, stderr=subprocess.PIPE)
+    error = ran.stderr.read().decode()
+    _, status, usage = os.wait4(ran.pid, 0)
+    ran.returncode = os.waitstatus_to_exitcode(status)
+    return (ran.returncode, error), usage.ru_maxrss << 10
+
+
+def memory(program):
+    for addresses, reason in ADDRESSES:
+        ended, touched = touched_by(program, REFUSED_TABLE, addresses)
+        about = f"{REFUSED_TABLE!r} ({reason}) in {touched} bytes"
+        yield about, (ended, touched > MOST_TOUCHED), ((3, "out of memory\n"), False)
+
+
+def salts(program):
+    """Hashes without a salt have different ones of 16 bytes, and accept their passwords; without random bytes, none is
+    made."""
+    drawn = set()
+    # The salt of a `$7$` text has its 11 letters of the parameters before it.
+    for form, letters in (("phc", 22), ("mcf", 33)) * 2:
+        status, line, _ = run([program, "hash", form, "4", "1", "1"], b"password")
+        salt = line.split("$")[-2]
+        drawn.add(salt)
+        verified = run([program, "verify", line.strip()], b"password")
+        yield f"a drawn salt of {form}", (status, len(salt), verified), (0, letters, runs.OK)
+    yield "drawn salts differ", len(drawn), 4
+    if runs.COMPILER:
+        with runs.failing_calls() as library:
+            hashed = run([program, "hash", "phc", "4", "1", "1"], env={"LD_PRELOAD": library})
+            verified = run([program, "verify", EMPTY], env={"LD_PRELOAD": library})
+        yield "no salt can be drawn", hashed, (3, "", "no salt can be drawn\n")
+        yield "none is needed", verified, runs.OK
+
+
+def information(program):
+    yield "--version", run([program, "--version"]), (0, f"{prompt.VERSION}\n", "")
+    status, text, error = run([program, "--help"])
+    # The usage line has each command as the help has it, which makes the salt of hash optional.
+    named = USAGE.removeprefix("usage: ").replace("SALT_HEX [LEN]", "[SALT_HEX [LEN]]").split(" | ")
+    missing = set(named) - {it.strip() for it in text.splitlines()}
+    yield "--help", (status, missing, error), (0, set(), "")
+
+
+def terminal(program):
+    """Runs on a terminal, if the program that is installed can be linked here."""
+    if not runs.COMPILER:
+        print("No C compiler is here (package gcc): the program was not run on a terminal.")
+    elif not os.path.exists(f"{program}.o"):
+        print("rt ci kept the proof of the program, and its object is not here: it was not run on a terminal.")
+    else:
+        yield from prompt.cases(program)
 
 
 def main():
-    rows = ANSWERS + FAULTS + REHASHES + limits.rows(USAGE)
-    wrong = 0
-    for stream, path, wanted, reason in STREAMS:
-        got = answer_with(sys.argv[1], stream, path)
-        if got != wanted:
-            print(f"{stream} is {path} ({reason}): {got}, and not {wanted}")
-            wrong += 1
-    for line, text, status, printed, reason in rows:
-        wanted = (status, printed + "\n", "") if status < 2 else (status, "", printed + "\n")
-        got = answer(sys.argv[1], line, text)
-        if got != wanted:
-            print(f"{line!r} ({reason}): {got}, and not {wanted}")
-            wrong += 1
-    for addresses, reason in ADDRESSES:
-        got, touched = touched_by(sys.argv[1], REFUSED_TABLE, addresses)
-        if got != (3, "out of memory\n") or touched > MOST_TOUCHED:
-            print(f"{REFUSED_TABLE!r} ({reason}): {got}, and {touched} bytes touched")
-            wrong += 1
-    runs = len(rows) + len(STREAMS) + len(ADDRESSES)
-    for name, right in others(sys.argv[1]):
-        runs += 1
-        if not right:
-            print(f"{name}: wrong")
-            wrong += 1
-    if not shutil.which(os.environ.get("CC", "cc")):
-        print("No C compiler is here (package gcc): the program was not run on a terminal.")
-    elif not os.path.exists(f"{sys.argv[1]}.o"):
-        print("rt ci kept the proof of the program, and its object is not here: the program was not run on a terminal.")
-    else:
-        wrong_at_terminal, at_terminal = wrong_rows(sys.argv[1])
-        wrong, runs = wrong + wrong_at_terminal, runs + at_terminal
-    print(f"program: {runs - wrong} of {runs} runs ended as they should")
+    parts = [rows, streams, memory, salts, information, terminal]
+    _, wrong = runs.report("program", itertools.chain(*(part(sys.argv[1]) for part in parts)))
     sys.exit(1 if wrong else 0)
 
 

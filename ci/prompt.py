@@ -3,16 +3,15 @@
 import os
 import signal
 import subprocess
-import sys
 import tempfile
 
-ROOT = os.path.join(os.path.dirname(os.path.abspath(__file__)), "..")
-sys.path.append(os.path.join(ROOT, "compare"))
+from known import HASHLIB
 from terminal import session
 
-KEY, HASH = "key 4 1 1 16 ", "hash phc 4 1 1 4e61436c"
-VERIFY = "verify $scrypt$ln=4,r=1,p=1$TmFDbA$rsa3SD7SbgiAK0H0AyCGoOiGvnrEj8/ZL/DO+BCXUvQ"
-MADE = "$scrypt$ln=4,r=1,p=1$TmFDbA$rsa3SD7SbgiAK0H0AyCGoOiGvnrEj8/ZL/DO+BCXUvQ"
+TOP = os.path.join(os.path.dirname(os.path.abspath(__file__)), "..")
+with open(f"{TOP}/VERSION", encoding="ascii") as file:
+    VERSION = f"scrypt_tool {file.read().strip()}"
+KEY, HASH, VERIFY = "key 4 1 1 16 ", "hash phc 4 1 1 4e61436c", f"verify {HASHLIB}"
 ONCE, TWICE = ["Password: "], ["Password: ", "The same again: "]
 
 # All but those that can't be handled, that only stop a program, that do nothing, and that this program ignores.
@@ -23,41 +22,34 @@ ENDING = signal.valid_signals() - {getattr(signal, f"SIG{it}") for it in OTHERS}
 # terminal, and the reason.
 ROWS = [
     (KEY, ["password\n"], 0, [*ONCE, "d33c6ec1818daaf728f55afadfeaa558"], "a key is asked for once"),
-    (HASH, ["password\n"] * 2, 0, [*TWICE, MADE], "a hash twice"),
+    (HASH, ["password\n"] * 2, 0, [*TWICE, HASHLIB], "a hash twice"),
     (HASH, ["password\n", "passwort\n"], 4, [*TWICE, "The passwords differ.", "input failed"], "two that differ"),
     (HASH, ["password\n", "\x04"], 4, [*TWICE, "input failed"], "no second one"),
     (f"--most-work=192 {VERIFY}", ["password\n"], 0, [*ONCE, "ok"], "after an option"),
     (VERIFY, ["\n"], 1, [*ONCE, "no"], "an empty one"),
     (VERIFY, ["pass\x7f\x7fssword\n"], 0, [*ONCE, "ok"], "one that was corrected"),
-    (f"rehash phc 4 1 1 32 00 {MADE}", ["password\n"], 0, [*ONCE, "ok"], "a login asks once"),
+    (f"rehash phc 4 1 1 32 00 {HASHLIB}", ["password\n"], 0, [*ONCE, "ok"], "a login asks once"),
     (VERIFY, ["\x04"], 4, [*ONCE, "input failed"], "none at all"),
     (VERIFY, ["pass\x03"], -2, ONCE, "Ctrl-C ends it"),
     (HASH, ["password\n", "pass\x03"], -2, TWICE, "Ctrl-C at the second question"),
     (VERIFY, ["pass\x1a", "password\n"], 0, [*ONCE, *ONCE, "ok"], "after Ctrl-Z it asks again, and not the shell"),
-    (HASH, ["password\n", "pass\x1a", *["password\n"] * 2], 0, [*TWICE, *TWICE, MADE], "Ctrl-Z at the second question"),
+    (HASH, ["password\n", "pass\x1a", *["password\n"] * 2], 0, [*TWICE, *TWICE, HASHLIB], "Ctrl-Z at the second one"),
     (VERIFY, ["x" * 4094 + "\n"], 1, [*ONCE, "no"], "the longest one"),
     (VERIFY, ["x" * 4096 + "\n"], 4, [*ONCE, "The password may have been cut.", "input failed"], "one that Linux cuts"),
     *((words, [*typed, it], -it, questions, f"signal {it}: echo is on again before it ends the program")
       for it in ENDING for words, typed, questions in [(VERIFY, [], ONCE), (HASH, ["password\n"], TWICE)]),
     (VERIFY, [signal.SIGCONT, "password\n"], 0, [*ONCE, *ONCE, "ok"], "it asks again when it goes on"),
     ("verify $8$", [], 2, ["hash refused: EncodingInvalid"], "what is refused without a password asks for none"),
-    ("--version", [], 0, [None], "nor does what needs none"),
+    ("--version", [], 0, [VERSION], "nor does what needs none"),
 ]
 
 
-def wrong_rows(program):
-    """How many rows end otherwise, by the program that is linked of the proved one, and how many there are."""
-    with tempfile.TemporaryDirectory() as room:
-        built = os.path.join(room, "scrypt_tool")
-        subprocess.run([os.path.join(ROOT, "bindings/terminal/build.sh"), program, built], check=True)
-        return sum(is_wrong(built, *row) for row in ROWS), len(ROWS)
-
-
-def is_wrong(program, words, typed, status, lines, reason):
-    got, told, echo = session([program, *words.split(" ")], [it if isinstance(it, int) else it.encode() for it in typed])
-    written = told.decode().removesuffix("\r\n").split("\r\n")
-    same = len(written) == len(lines) and all(line in (None, it) for line, it in zip(lines, written))
-    if got == status and same and echo == [False] * len(typed) + [True]:
-        return False
-    print(f"on a terminal, {words!r} ({reason}): {got}, {written}, echo {echo}")
-    return True
+def cases(program):
+    """Each row, by the program that is linked of the proved one; what is typed is shown only at the end."""
+    with tempfile.TemporaryDirectory() as folder:
+        subprocess.run([f"{TOP}/bindings/terminal/build.sh", program, f"{folder}/scrypt_tool"], check=True)
+        for words, typed, status, lines, reason in ROWS:
+            ended, told, echo = session([f"{folder}/scrypt_tool", *words.split(" ")], [it if isinstance(it, int) else it.encode() for it in typed])
+            written = told.decode().removesuffix("\r\n").split("\r\n")
+            wanted = status, lines, [False] * len(typed) + [True]
+            yield f"on a terminal, {words!r} ({reason})", (ended, written, echo), wanted

@@ -1,23 +1,23 @@
 #!/usr/bin/env python3
 """Refuses each allocation of a run of the program in turn, and compares their number.
 
-The program runs with failing_malloc.c preloaded, which fails the allocation of one number, from the
-first to the last. Each refusal has to end with status 3, nothing in the output and its fault line. How
-many a run makes is asserted, so that a hidden one is seen.
+The program runs with failing_calls.c preloaded, which fails the allocation of one number, from the first to the last.
+Each refusal has to end with status 3, nothing in the output and its fault line. How many a run makes is compared too,
+so that a hidden one is seen.
 
-usage: allocations.py PROGRAM        needs a C compiler; the last line is 'N passed, M failed'
+usage: allocations.py PROGRAM        needs a C compiler
 """
 
-import os
-import subprocess
+import functools
 import sys
-import tempfile
 
-# the fault lines of a refusal while the arguments are read, and after that
-ARGUMENTS = b"the arguments can't be read\n"
-MEMORY = b"out of memory\n"
+import runs
+from known import HASHLIB as PHC
 
-PHC = "$scrypt$ln=4,r=1,p=1$TmFDbA$rsa3SD7SbgiAK0H0AyCGoOiGvnrEj8/ZL/DO+BCXUvQ"
+# how a run ends if an allocation is refused: while the arguments are read, and after that
+ARGUMENTS = (3, "", "the arguments can't be read\n")
+MEMORY = (3, "", "out of memory\n")
+
 MCF = "$7$2/..../....C3qEg/$oOSIli7m/kDufp3GXHdJ7lqr3hzIyIJUYr4iTamAqDA"
 
 # the words, the input, the status, and how many allocations a run makes for them: one is the text of --usual-limits,
@@ -51,45 +51,34 @@ RUNS = [
 ]
 
 
-def run(program, shim, words, password, **settings):
-    """How a run ends by these settings of the shim: status, output, fault line."""
-    environment = dict(os.environ, LD_PRELOAD=shim, **settings)
-    ran = subprocess.run([program, *words.split(" ")], input=password, capture_output=True, env=environment)
-    return ran.returncode, ran.stdout, ran.stderr
-
-
-def refused(program, shim, words, password, wanted):
-    """How many allocations a run makes whose refusal ends it, or None if one ends otherwise.
+def refused(run, wanted):
+    """How many allocations a run makes whose refusal ends it, or how the runs end if one ends otherwise.
 
     Collecting the arguments asks for room that it can do without, as std has it: one refusal, between
     those of the arguments and those of the run, changes nothing.
     """
-    total = run(program, shim, words, password, SIZES="1")[2].count(b"alloc ")
-    ends = [run(program, shim, words, password, FAIL_AT=str(it + 1)) for it in range(total)]
-    of_arguments = ends.count((3, b"", ARGUMENTS))
+    total = run(SIZES="1")[2].count("alloc ")
+    ends = [run(FAIL_AT=str(it + 1)) for it in range(total)]
+    of_arguments = ends.count(ARGUMENTS)
     of_run = total - of_arguments - 1
-    if ends != [(3, b"", ARGUMENTS)] * of_arguments + [wanted] + [(3, b"", MEMORY)] * of_run:
-        print(f"{words}: the runs with a refusal each ended by {ends}")
-        return None
-    return of_run
+    return of_run if ends == [ARGUMENTS] * of_arguments + [wanted] + [MEMORY] * of_run else ends
+
+
+def run_with(library, words, password, **settings):
+    return runs.run(words, password, env={"LD_PRELOAD": library, **settings})
+
+
+def cases(program):
+    with runs.failing_calls() as library:
+        for words, password, status, allocations in RUNS:
+            run = functools.partial(run_with, library, [program, *words.split(" ")], password)
+            wanted = run()
+            yield words, (wanted[0], refused(run, wanted)), (status, allocations)
 
 
 def main():
-    program = os.path.abspath(sys.argv[1])
-    passed = 0
-    with tempfile.TemporaryDirectory() as room:
-        shim = os.path.join(room, "failing_malloc.so")
-        source = os.path.join(os.path.dirname(os.path.abspath(__file__)), "failing_malloc.c")
-        subprocess.run(["cc", "-O2", "-shared", "-fPIC", source, "-o", shim], check=True)
-        for words, password, status, allocations in RUNS:
-            wanted = run(program, shim, words, password)
-            number = refused(program, shim, words, password, wanted)
-            if wanted[0] == status and number == allocations:
-                passed += 1
-            else:
-                print(f"{words}: status {wanted[0]} by {number} allocations, wanted {status} by {allocations}")
-    print(f"{passed} passed, {len(RUNS) - passed} failed")
-    sys.exit(passed < len(RUNS))
+    _, wrong = runs.report("allocations", cases(sys.argv[1]))
+    sys.exit(1 if wrong else 0)
 
 
 if __name__ == "__main__":

@@ -1,23 +1,17 @@
-"""Crypt Base64 in plain Python, written from the table in docs/FORMATS.md, and hashes of crypt(5)."""
+"""Crypt Base64 and `$7$` texts in plain Python, written from docs/FORMATS.md."""
 
 ALPHABET = "./0123456789ABCDEFGHIJKLMNOPQRSTUVWXYZabcdefghijklmnopqrstuvwxyz"
 
-# the `$7$` hashes in the tests, each after its password
-HASHES = [
-    ("pleaseletmein", "$7$CU..../....Mq4YHD2syxYT.MsH1Ek0n1$JyHIxez0DOwm0r6.kAIohc8UFBOLU4xX8a1wGBpLrw7"),
-    ("pleaseletmein", "$7$C6..../....SodiumChloride$kBGj9fHznVYFQMEn/qDCfrDevf9YDtcDdKvEqHJLV8D"),
-    ("", "$7$2/..../....$rNxJWVHNv/mCNcgE/f6/L4zO6Fos5c2uTzhyzoisI62"),
-]
+
+def digits(number, count):
+    """So many letters of a number, the lowest digit first."""
+    return "".join(ALPHABET[number >> 6 * place & 63] for place in range(count))
+
 
 def letters(data):
     """The letters of bytes."""
-    written = ""
-    for at in range(0, len(data), 3):
-        group = data[at : at + 3]
-        number = sum(byte * 256**place for place, byte in enumerate(group))
-        for place in range(len(group) + 1):
-            written += ALPHABET[number // 64**place % 64]
-    return written
+    groups = (data[at : at + 3] for at in range(0, len(data), 3))
+    return "".join(digits(int.from_bytes(it, "little"), len(it) + 1) for it in groups)
 
 
 def number(text):
@@ -41,5 +35,9 @@ def read(text):
 
 def params(log_n, r, p):
     """What comes before the salt in a `$7$` text."""
-    five = [ALPHABET[number // 64**place % 64] for number in (r, p) for place in range(5)]
-    return "$7$" + ALPHABET[log_n] + "".join(five)
+    return f"$7${ALPHABET[log_n]}{digits(r, 5)}{digits(p, 5)}"
+
+
+def text(field, key, log_n, r, p):
+    """A hash whose salt is this field."""
+    return f"{params(log_n, r, p)}{field}${letters(key)}"

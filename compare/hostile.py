@@ -18,22 +18,19 @@ import hashlib
 import itertools
 import random
 import re
-import resource
-import subprocess
 import sys
 import time
 
 import crypt64
+import known
 import phc
 import reference
-import unpadded
+import runs
 
 TEXTS = 1_000_000
 
 # the verdicts on the empty password; `ln`, `r` and `p` are the parameters whose value is refused
-VERDICTS = (
-    "Ok Algorithm EncodingInvalid OutputSize ln r p ParamsInvalid PasswordInvalid Version OutOfMemory"
-).split()
+VERDICTS = "Ok Algorithm EncodingInvalid OutputSize ln r p ParamsInvalid PasswordInvalid Version OutOfMemory".split()
 
 # from this log_n on no machine has the table
 GREAT = 50
@@ -54,15 +51,14 @@ ALLOWED = [(17, 8, 1), (17, 8, 4), (20, 1, 4), (0, 1, 127131), (4, 16, 1), (4, 1
 # the characters that mutations put in
 CHARACTERS = "$$$=,,.-/+" + crypt64.ALPHABET + "*!\x00\x7f \u00e9\u20ac"
 
-
 # the texts whose neighbours are read: each part of a PHC text, and a key that is compared
 BASES = [
-    "$scrypt$ln=1,r=1,p=1$aM15713r3Xsvxbi31lqr1Q$nFNh2CVHVjNldFVKDHDlm4CbdRSCdEBsjjJxD+iCs5E",
+    known.PASSLIB.replace("ln=16,r=8", "ln=1,r=1"),
     "$scrypt$v=1$ln=1$aA$AAAAAAAAAAAAAA",
     "$a-1$v=4294967295$x=/+.-,y=0$aGk",
     "$scrypt$v=0$ln=4,r=1,p=1",
     "$a$aGVsbG8$cCO9yzr9c0hGHA",
-    "$7$2/..../....$rNxJWVHNv/mCNcgE/f6/L4zO6Fos5c2uTzhyzoisI62",
+    known.EMPTY,
 ]
 
 
@@ -122,11 +118,12 @@ def phc_params(pairs):
     return tuple(params.values())
 
 
-def phc_verdict(text, by=compared):
+def phc_verdict(text, by):
     """The verdict on a PHC text, by what compares its key."""
-    if not phc.is_read(text):
+    parts = phc.parts(text)
+    if parts is None:
         return "EncodingInvalid"
-    name, version, pairs, salt, key = phc.TEXT.fullmatch(text).groups()
+    name, version, pairs, salt, key = parts
     if name != "scrypt":
         return "Algorithm"
     if version is not None:
@@ -136,10 +133,10 @@ def phc_verdict(text, by=compared):
         return params
     if key is None:
         return "PasswordInvalid"
-    return by(unpadded.read(salt), *params, unpadded.read(key))
+    return by(salt, *params, key)
 
 
-def mcf_verdict(text, by=compared):
+def mcf_verdict(text, by):
     """The verdict on a text that is `$7` or begins with `$7$`, by what compares its key."""
     fields = text.split("$")[2:]
     params = fields[0].encode() if fields else b""
@@ -160,7 +157,7 @@ def mcf_verdict(text, by=compared):
     return by(params[11:], log_n, r, p, key)
 
 
-def verdict(text, by=compared):
+def verdict(text, by):
     """The verdict on the empty password, by the program's choice of the format."""
     return mcf_verdict(text, by) if text == "$7" or text.startswith("$7$") else phc_verdict(text, by)
 
@@ -186,8 +183,7 @@ def printed_within(verdict):
 def texts_of(log_n, r, p):
     """A text of each format with these parameters; its password is not the empty one."""
     salt, key = b"saltsalt", bytes(LEAST_KEY_LEN)
-    phc_text = f"$scrypt$ln={log_n},r={r},p={p}${unpadded.letters(salt)}${unpadded.letters(key)}"
-    return phc_text, crypt64.params(log_n, r, p) + "saltsalt$" + crypt64.letters(key)
+    return phc.text(salt, key, log_n, r, p), crypt64.text("saltsalt", key, log_n, r, p)
 
 
 def random_params(rng):
@@ -207,10 +203,10 @@ def good_texts(rng):
             r = p = 1
         salt = rng.randbytes(rng.randrange(1, 17))
         key = derived_key(salt, log_n, r, p, rng.choice((10, 32, 64)))
-        texts.append(f"$scrypt$ln={log_n},r={r},p={p}${unpadded.letters(salt)}${unpadded.letters(key)}")
+        texts.append(phc.text(salt, key, log_n, r, p))
         field = crypt64.letters(salt)
         key = derived_key(field.encode(), log_n, r, p, rng.choice((1, 32, 33)))
-        texts.append(crypt64.params(log_n, r, p) + field + "$" + crypt64.letters(key))
+        texts.append(crypt64.text(field, key, log_n, r, p))
     return texts
 
 
@@ -255,13 +251,6 @@ def short_keys():
             yield "$7$2/..../....$" + "".join(letters)
 
 
-def random_texts(rng):
-    """Hostile texts without end."""
-    texts = good_texts(rng)
-    while True:
-        yield hostile(rng, texts)
-
-
 def judged(texts, by=compared):
     """Texts and their verdicts, but for those whose parameters are too great."""
     for text in texts:
@@ -271,43 +260,35 @@ def judged(texts, by=compared):
             pass
 
 
-def limited(most_bytes):
-    """Allows the program so much memory."""
-    return lambda: resource.setrlimit(resource.RLIMIT_AS, (most_bytes, most_bytes))
+def answers(words, texts, most_bytes):
+    """What a program that may have so much memory prints for each text."""
+    lines = "".join(f"{text}\n" for text in texts).encode()
+    status, printed, error = runs.run(["prlimit", f"--as={most_bytes}", *words], lines)
+    printed = printed.split("\n")[:-1]
+    if status or len(printed) != len(texts):
+        sys.exit(f"{words} ended with {status} after {len(printed)} of {len(texts)} lines: {error}")
+    return printed
 
 
-def told(command, texts, most_bytes):
-    """What the program writes for each text."""
-    lines = "".join(text + "\n" for text in texts).encode()
-    ran = subprocess.run(command, input=lines, capture_output=True, check=True, preexec_fn=limited(most_bytes))
-    return ran.stdout.decode().split("\n")[:-1]
-
-
-def disagree(title, command, pairs, most_bytes, verdicts, as_printed):
+def disagree(title, pairs, printed, verdicts, as_printed):
     """Whether the program has another verdict on a text, or a verdict has no text."""
-    written = told(command, [text for text, _ in pairs], most_bytes)
-    fell, differ = collections.Counter(wanted for _, wanted in pairs), abs(len(written) - len(pairs))
-    for (text, wanted), got in zip(pairs, written):
-        if got != as_printed(wanted):
-            differ += 1
-            if differ < 10:
-                print(f"differs: {text!r}: {got}, wanted {wanted}")
-    for name in verdicts:
-        print(f"{name}: {fell[name]}")
-    missing = [name for name in verdicts if not fell[name]]
-    print(f"{title}: {len(pairs) - differ} of {len(pairs)} agree; verdicts without a text: {missing or 'none'}")
-    return differ > 0 or missing != []
+    cases = ((repr(text), answer, as_printed(wanted)) for (text, wanted), answer in zip(pairs, printed))
+    _, wrong = runs.report(title, cases)
+    fell = collections.Counter(wanted for _, wanted in pairs)
+    missing = [it for it in verdicts if not fell[it]]
+    print(f"{dict(fell)}; verdicts without a text: {missing or 'none'}")
+    return wrong or missing
 
 
 def slowly_refused(program):
     """Whether refusing a costly text takes a millisecond or more."""
     texts = [text for params in COSTLY for text in texts_of(*params)] * 100
     began = time.monotonic()
-    written = told([program, "within"], texts, MOST_BYTES)
+    printed = answers([program, "within"], texts, MOST_BYTES)
     taken = (time.monotonic() - began) / len(texts)
-    refused = written.count("Err(TooCostly)")
+    refused = printed.count("Err(TooCostly)")
     print(f"costly texts: {refused} of {len(texts)} refused, in {1e6 * taken:.0f} microseconds each")
-    return taken >= 0.001 or set(written) != {"Err(TooCostly)"} or len(written) != len(texts)
+    return taken >= 0.001 or refused < len(texts)
 
 
 def main():
@@ -317,15 +298,17 @@ def main():
     print(f"hostile texts from seed {seed}")
     pairs = list(judged(itertools.chain(*map(neighbours, BASES), short_keys())))
     print(f"{len(pairs)} texts near good ones, or with a short key")
-    pairs += itertools.islice(judged(random_texts(random.Random(seed))), count)
+    rng = random.Random(seed)
+    good = good_texts(rng)
+    pairs += itertools.islice(judged(hostile(rng, good) for _ in itertools.count()), count)
+    texts = [text for text, _ in pairs]
     # No text is to take more than 4 GiB.
-    failed = disagree("hostile texts", [program], pairs, 1 << 32, VERDICTS, printed)
+    failed = [disagree("hostile texts", pairs, answers([program], texts, 1 << 32), VERDICTS, printed)]
     params = COSTLY + ALLOWED + list(itertools.islice(random_params(random.Random(seed)), count // 10))
-    texts = [text for text, _ in pairs] + [text for it in params for text in texts_of(*it)]
-    within = list(judged(texts, compared_within))
-    command = [program, "within"]
-    failed |= disagree("within limits", command, within, MOST_BYTES, VERDICTS + ["TooCostly", "KeyTooShort"], printed_within)
-    sys.exit(1 if failed | slowly_refused(program) else 0)
+    pairs = list(judged(texts + [text for it in params for text in texts_of(*it)], compared_within))
+    within = answers([program, "within"], [text for text, _ in pairs], MOST_BYTES)
+    failed.append(disagree("within limits", pairs, within, VERDICTS + ["TooCostly", "KeyTooShort"], printed_within))
+    sys.exit(1 if any(failed) or slowly_refused(program) else 0)
 
 
 if __name__ == "__main__":

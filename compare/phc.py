@@ -1,8 +1,7 @@
 """PHC texts in plain Python, written from the grammar in docs/FORMATS.md."""
 
+import base64
 import re
-
-import unpadded
 
 DECIMAL = r"(?: 0 | [1-9][0-9]* )"
 PAIR = r"[a-z0-9-]{1,32} = [a-zA-Z0-9/+.-]+"
@@ -16,22 +15,37 @@ TEXT = re.compile(
     re.VERBOSE,
 )
 
-# passlib's hash of `password`
-PASSLIB_HASH = "$scrypt$ln=16,r=8,p=1$aM15713r3Xsvxbi31lqr1Q$nFNh2CVHVjNldFVKDHDlm4CbdRSCdEBsjjJxD+iCs5E"
+
+def letters(data):
+    """Bytes in Base64 without padding."""
+    return base64.b64encode(data).decode().rstrip("=")
 
 
-def is_read(text):
-    """Whether the text is one of a hash."""
-    parts = TEXT.fullmatch(text)
-    if not parts:
-        return False
-    _, version, pairs, salt, key = parts.groups()
+def read(text):
+    """The bytes of letters, or None for a text that isn't the letters of any."""
+    if len(text) % 4 == 1:
+        return None
+    data = base64.b64decode(text + "=" * (-len(text) % 4))
+    return data if letters(data) == text else None
+
+
+def text(salt, key, log_n, r, p):
+    """A hash of scrypt."""
+    return f"$scrypt$ln={log_n},r={r},p={p}${letters(salt)}${letters(key)}"
+
+
+def parts(text):
+    """The algorithm, version, pairs, salt and key of a text, each None if it is missing; or None if it is no hash."""
+    found = TEXT.fullmatch(text)
+    if not found:
+        return None
+    name, version, pairs, salt, key = found.groups()
+    names = [pair.split("=", 1)[0] for pair in (pairs or "").split(",")]
     if version is not None and int(version) >= 1 << 32:
-        return False
-    if pairs is not None:
-        names = [pair.split("=", 1)[0] for pair in pairs.split(",")]
-        if len(pairs) > 127 or "v" in names or len(set(names)) < len(names):
-            return False
-    if salt is not None and not 1 <= len(unpadded.read(salt) or b"") <= 64:
-        return False
-    return key is None or 10 <= len(unpadded.read(key) or b"") <= 64
+        return None
+    if len(pairs or "") > 127 or "v" in names or len(set(names)) < len(names):
+        return None
+    salt, key = (None if it is None else read(it) or b"" for it in (salt, key))
+    if salt is not None and not 1 <= len(salt) <= 64 or key is not None and not 10 <= len(key) <= 64:
+        return None
+    return name, version, pairs, salt, key

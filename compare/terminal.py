@@ -16,15 +16,15 @@ def session(words, answers):
     what it wrote, and whether what was typed was shown, at each answer and at the end."""
     pid, terminal = pty.fork()
     if pid == 0:
-        signal.signal(signal.SIGXFSZ, signal.SIG_DFL)  # which Python ignores
+        # Python ignores the one, and a shell lets a program in the background ignore the other.
+        for each in (signal.SIGXFSZ, signal.SIGINT):
+            signal.signal(each, signal.SIG_DFL)
         os.execvp(words[0], words)
     told, line, answers, echo = b"", b"", list(answers), []
     while True:
         try:
             part = os.read(terminal, 1024)
         except OSError:
-            break
-        if not part:
             break
         told, line = told + part, line + part
         if line.rstrip().endswith(b":") and answers:

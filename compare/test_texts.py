@@ -3,17 +3,17 @@
 import unittest
 
 import crypt64
-import unpadded
+import phc
 
 # A module, the bytes or None if the text is no letters of any, the letters, and the reason for the row.
 ROWS = [
-    (unpadded, b"", "", "no bytes"),
-    (unpadded, b"h", "aA", "one byte"),
-    (unpadded, b"SodiumChloride", "U29kaXVtQ2hsb3JpZGU", "fourteen bytes"),
-    (unpadded, bytes.fromhex("68cd79ef5debdd7b2fc5b8b7d65aabd5"), "aM15713r3Xsvxbi31lqr1Q", "passlib's salt"),
-    (unpadded, None, "a", "a letter alone"),
-    (unpadded, None, "aB", "spare bits are set"),
-    (unpadded, None, "aA==", "padding"),
+    (phc, b"", "", "no bytes"),
+    (phc, b"h", "aA", "one byte"),
+    (phc, b"SodiumChloride", "U29kaXVtQ2hsb3JpZGU", "fourteen bytes"),
+    (phc, bytes.fromhex("68cd79ef5debdd7b2fc5b8b7d65aabd5"), "aM15713r3Xsvxbi31lqr1Q", "passlib's salt"),
+    (phc, None, "a", "a letter alone"),
+    (phc, None, "aB", "spare bits are set"),
+    (phc, None, "aA==", "padding"),
     (crypt64, b"", "", "no bytes"),
     (crypt64, b"\xff", "z1", "one byte"),
     (crypt64, b"\xff\xff", "zzD", "two bytes"),

@@ -15,8 +15,11 @@ PACKAGES = {
     "borrow": "The logic's account of borrowing.",
     "native": "Facts on the logic's numbers.",
     "seplogic": "The logic of memory.",
-    "core": "The library core.", "std": "The library std.", "std_alloc": "The library std: memory, strings and vectors.",
-    "std_heap": "The library std: the allocator.", "std_io": "The library std: input and output.",
+    "core": "The library core.",
+    "std": "The library std.",
+    "std_alloc": "The library std: memory, strings and vectors.",
+    "std_heap": "The library std: the allocator.",
+    "std_io": "The library std: input and output.",
 }
 
 

@@ -71,9 +71,9 @@ def comment_text(lines):
     """The text of a comment. A step of a standard ends its line, unless the line is full or parentheses follow."""
     text = ""
     for line in lines:
-        words = line[2:].strip()
-        last = text.rpartition("\n")[2].strip()
-        is_step = re.match(r"steps? \d", last) and len(last) + len(words.split(" ")[0]) < 99 and not words.startswith("(")
+        words, last = line[2:].strip(), text.rpartition("\n")[2].strip()
+        is_full = len(last) + len(words.split(" ")[0]) >= 99
+        is_step = re.match(r"steps? \d", last) and not is_full and not words.startswith("(")
         text += ("\n" if is_step else " ") + words
     return text.strip()
 

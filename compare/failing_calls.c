@@ -1,5 +1,5 @@
-/* Preloaded into a program: the allocation of number FAIL_AT fails, counted from 1 over malloc and realloc.
-   Where SIZES is set, each allocation's size goes to standard error. */
+/* Preloaded into a program: the allocation of number FAIL_AT fails, counted from 1 over malloc and realloc, and no
+   random bytes are available. If SIZES is set, each allocation's size is printed on standard error. */
 #include <stdio.h>
 #include <stdlib.h>
 #include <unistd.h>
@@ -23,3 +23,5 @@ static int fails(const char *name, size_t size) {
 void *malloc(size_t size) { return fails("malloc", size) ? NULL : __libc_malloc(size); }
 
 void *realloc(void *block, size_t size) { return fails("realloc", size) ? NULL : __libc_realloc(block, size); }
+
+int getentropy(void *buffer, size_t length) { return buffer && length ? -1 : 0; }
