@@ -31,7 +31,7 @@
 #   make promises writes docs/PROMISES.md from the sources: each public function with its clauses, and the definitions
 #   make doc    makes pages for reading the proof, build/doc/index.html, without the kit or a network; it needs Debian's
 #               python3-jinja2 and python3-pygments
-#   make doc-test reads these pages in a headless Chromium, if that is installed
+#   make doc-test reads these pages in a headless Chromium, with Debian's chromium-driver and python3-selenium
 #   make axioms writes doc/axioms.txt, what the check of the program assumes, which those pages print
 #   make login-service  runs a small login service on 127.0.0.1:8080 with a PostgreSQL of its own (examples/login_service);
 #               make login-test tests it and its faults, and make login-load prints its table of logins a second
@@ -109,7 +109,6 @@ oracle: lib
 	cd crates/test_verdicts && rt run < stdin > /dev/null
 	python3 compare/hostile.py crates/test_verdicts/out/test_verdicts
 	python3 compare/pairs.py build/lib/libscrypt_c.so
-	python3 compare/thin_cost.py
 
 lib: kit
 	$(MAKE) -j$(SIDE_BY_SIDE) proved-scrypt

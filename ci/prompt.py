@@ -49,7 +49,8 @@ def cases(program):
     with tempfile.TemporaryDirectory() as folder:
         subprocess.run([f"{TOP}/bindings/terminal/build.sh", program, f"{folder}/scrypt_tool"], check=True)
         for words, typed, status, lines, reason in ROWS:
-            ended, told, echo = session([f"{folder}/scrypt_tool", *words.split(" ")], [it if isinstance(it, int) else it.encode() for it in typed])
+            answers = [it if isinstance(it, int) else it.encode() for it in typed]
+            ended, told, echo = session([f"{folder}/scrypt_tool", *words.split(" ")], answers)
             written = told.decode().removesuffix("\r\n").split("\r\n")
             wanted = status, lines, [False] * len(typed) + [True]
             yield f"on a terminal, {words!r} ({reason})", (ended, written, echo), wanted

@@ -68,13 +68,11 @@ class Person(unittest.TestCase):
             for _ in range(12):
                 if self.browser.run(FOCUS) == field:
                     break
-                self.browser.press("Tab")
+                self.browser.press("TAB")
             self.assertEqual(self.browser.run(FOCUS), field)
             if text:
                 self.browser.type(text)
-        self.browser.events = []
-        self.browser.press("Enter")
-        self.browser.loaded()
+        self.browser.enter()
 
     def test_a_day_of_a_user(self):
         self.browser.open(f"http://{ADDRESS}/")
@@ -106,6 +104,6 @@ class Person(unittest.TestCase):
 
 if __name__ == "__main__":
     if not browser.found():
-        print("chromium is not installed (package chromium): the page was not tried")
+        print("Chromium can't be driven here (packages chromium-driver and python3-selenium): the page was not tried")
     else:
         unittest.main(argv=sys.argv[:1])
