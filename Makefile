@@ -49,7 +49,7 @@ run: kit
 	$(TERMINAL)
 
 # The program that is installed asks for a password at a terminal, which the proved one reads as any input.
-TERMINAL = bindings/terminal/build.sh crates/scrypt_tool/out/scrypt_tool build/bin/scrypt_tool
+TERMINAL = bindings/terminal/build.sh
 
 # Runs a command in the folder of a crate, and keeps the verdict that it prints in build/verdicts, for make dist.
 KEEP = python3 -B release/keep_verdict.py

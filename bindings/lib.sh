@@ -21,6 +21,7 @@ if [ "${1:-}" != built ]; then
     sh -c 'rt lib --cpu x86-64-v3 && mkdir -p out/x86-64-v3 && mv out/libscrypt_c.a out/x86-64-v3/'
   python3 -B release/keep_verdict.py scrypt_c rt lib
 fi
+python3 -B release/linked.py begin lib
 rm -rf "$out"
 mkdir -p "$common"
 # One object, of which only the names of the list are seen from outside.
@@ -108,6 +109,7 @@ bindings/c/found.sh "$PWD/$out" "$PWD/$out" "$out" "$out"
 # The Go module is whole with the header and the static library in its folder.
 cp "$out/libscrypt_c.a" "$out/scrypt_c.h" bindings/go/
 rm -r "$common"
+python3 -B release/linked.py end lib
 echo "$out: $shared for x86-64-v2"
 if [ -e "$out/$newer" ]; then
   echo "$out: $newer for x86-64-v3; libscrypt_c.a and libscrypt_drop_in.so for both"

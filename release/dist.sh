@@ -21,6 +21,7 @@ for built in build/bin/scrypt_tool build/lib/libscrypt_c.a build/lib/glibc-hwcap
   build/lib/libscrypt_drop_in.so build/lib/libscrypt_crypt.so build/lib/pam_scrypt.so; do
   [ -e $built ] || { echo "not built: $built. \`make crypt\` and \`make run\` build all, with the kit" >&2; exit 1; }
 done
+python3 -B release/linked.py check
 python3 bindings/version.py --check
 rm -rf "$dist" "$parts"
 mkdir -p "$dist" "$parts"

@@ -33,15 +33,20 @@ def verdict(text):
     return next((line for line in reversed(text.splitlines()) if line.startswith("logic=")), None)
 
 
-def write(root, crate, line):
-    """Writes the record of a crate that was proved."""
-    place = proved.record(root, crate)
-    os.makedirs(os.path.dirname(place), exist_ok=True)
+def record_of(root, crate, line):
+    """The record of a crate that was proved."""
     fields = [line, f"kit {proved.kit()}", f"sources {proved.sources(root, crate)}"]
     fields += [f"built {proved.digest(os.path.join(root, path))} {path}" for path in proved.built(root, crate)]
-    with open(f"{place}.new", "w", encoding="utf-8") as file:
-        file.write("\n".join(fields) + "\n")
-    os.replace(f"{place}.new", place)
+    return "\n".join(fields) + "\n"
+
+
+def taken_away(place):
+    """What the file has, or None. A command that fails, or is killed, leaves no record."""
+    if not os.path.exists(place):
+        return None
+    text = proved.read(place)
+    os.remove(place)
+    return text
 
 
 def keep(root, crate, command):
@@ -50,19 +55,21 @@ def keep(root, crate, command):
     if right and right[1] == proved.kit() and any(path.endswith(".a") for path in proved.built(root, crate)):
         print(f"{crate} is built already: {right[0]}")
         return 0
-    folder, before = os.path.join(root, "crates", proved.crate_of(crate)), proved.sources(root, crate)
+    folder, place = os.path.join(root, "crates", proved.crate_of(crate)), proved.record(root, crate)
+    old, before = taken_away(place), proved.sources(root, crate)
     # rt run leaves standard output to the program.
     status, text = relayed(command, folder, "stderr" if "run" in command[:2] else "stdout")
     line = verdict(text)
     if status:
-        if os.path.exists(proved.record(root, crate)):
-            os.remove(proved.record(root, crate))
         return status
-    if line is None and proved.kept(root, crate)[1]:
+    if line is None and right and old == record_of(root, crate, right[0]):
+        line = right[0]
+    if line is None:
         ran = subprocess.run(["rt", "check"], cwd=folder, stdout=subprocess.PIPE, text=True, errors="replace")
         line = None if ran.returncode else verdict(ran.stdout)
     if line is not None and line.startswith("logic=proved ") and proved.sources(root, crate) == before:
-        write(root, crate, line)
+        os.makedirs(os.path.dirname(place), exist_ok=True)
+        proved.write(place, record_of(root, crate, line))
     return 0
 
 

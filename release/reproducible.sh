@@ -21,9 +21,7 @@ if [ "${1:-}" != proofs ]; then
     mkdir -p "$room/source/${file%/*}"
     cp -p $file "$room/source/$file"
   done
-  tool=crates/scrypt_tool/out/scrypt_tool
-  command="bindings/lib.sh built && bindings/crypt/build.sh && bindings/terminal/build.sh $tool build/bin/scrypt_tool"
-  command="$command && release/dist.sh"
+  command="bindings/lib.sh built && bindings/crypt/build.sh && bindings/terminal/build.sh && release/dist.sh"
 fi
 # What is left out needs a file system or a clock of its own, or another user. A cargo of rustup's is found below the home.
 export RUSTUP_HOME="${RUSTUP_HOME:-$HOME/.rustup}"

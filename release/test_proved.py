@@ -1,5 +1,5 @@
 #!/usr/bin/env python3
-"""Tests which logs of the gate, and which verdicts that were kept, PROVED.txt takes."""
+"""Tests which logs of the gate and kept verdicts PROVED.txt takes, and which linked files are packed."""
 
 import contextlib
 import io
@@ -8,6 +8,7 @@ import sys
 import tempfile
 
 import keep_verdict
+import linked
 import proved
 
 COMMIT = "c" * 40
@@ -71,6 +72,37 @@ COMMANDS = [
     ("a command that fails", FAILS, "right", LINE, None),
     ("a verdict that is not proved", ["echo", "logic=failed"], None, "", None),
     ("a source changes while it is proved", ["sh", "-c", f"echo more >> src/lib.rt; echo {LINE}"], None, "", None),
+    ("no record is here while a command runs, which may be killed",
+     ["sh", "-c", "test ! -e ../../build/verdicts/low.txt && echo logic=proved new"], "right", "", "logic=proved new"),
+]
+
+LIB = "bindings/lib.sh linked build/lib/libscrypt_c.*: make lib"
+TOOL = "bindings/terminal/build.sh linked build/bin/scrypt_tool: make run"
+
+# why the row is here, what happens after all was linked, and each reason why it isn't packed
+LINKED = [
+    ("nothing happens", "", []),
+    ("it is linked again", "begin lib; end lib; begin terminal; end terminal", []),
+    ("make run failed for a changed source, and left the old program", "echo more >> crates/scrypt_tool/src/lib.rt",
+     [f"the sources of scrypt_tool changed after {TOOL}"]),
+    ("one below", "echo more >> crates/low/src/lib.rt", [f"the sources of {it}" for it in ("scrypt_c", "scrypt_c-x86-64-v3", "scrypt_tool")]),
+    ("one that isn't packed", "echo more >> crates/other/src/lib.rt", []),
+    ("the program was built again, and not linked", "echo more >> crates/scrypt_tool/out/scrypt_tool.o",
+     [f"crates/scrypt_tool/out/scrypt_tool.o changed after {TOOL}"]),
+    ("the object is gone", "rm crates/scrypt_c/out/libscrypt_c.a", [f"crates/scrypt_c/out/libscrypt_c.a changed after {LIB}"]),
+    ("the newer library was built again", "echo more >> crates/scrypt_c/out/x86-64-v3/libscrypt_c.a",
+     [f"crates/scrypt_c/out/x86-64-v3/libscrypt_c.a changed after {LIB}"]),
+    ("another program in its place", "echo more >> build/bin/scrypt_tool", [f"build/bin/scrypt_tool changed after {TOOL}"]),
+    ("another library", "echo more >> build/lib/libscrypt_c.so.0", [f"build/lib/libscrypt_c.so.0 changed after {LIB}"]),
+    ("one more", "echo more > build/lib/libscrypt_c.so.1", [f"build/lib/libscrypt_c.so.1 changed after {LIB}"]),
+    ("the library for C is linked again, and that for crypt(3) is not", "echo more >> build/lib/libscrypt_c.a; begin lib; end lib",
+     ["build/lib/libscrypt_c.a changed after bindings/crypt/build.sh linked build/lib/libscrypt_crypt.so: make crypt"]),
+    ("C beside the proof changed", "echo more >> bindings/terminal/terminal.c", [f"bindings/terminal/terminal.c changed after {TOOL}"]),
+    ("a header", "echo more > bindings/c/new.h", [f"bindings/c/new.h changed after {LIB}"]),
+    ("linking failed, or was killed", "begin terminal", ["nothing shows of what build/bin/scrypt_tool was linked: make run"]),
+    ("an object changes meanwhile", "begin terminal; echo more >> crates/scrypt_tool/out/scrypt_tool.o; ! end terminal",
+     ["nothing shows of what build/bin/scrypt_tool was linked: make run"]),
+    ("no record at all", "rm -r build/linked", [f"nothing shows of what {it}" for it in ("build/lib/libscrypt_c.*", "build/lib/libscrypt_crypt.so", "build/bin/scrypt_tool")]),
 ]
 
 # why the row is here, what happens after a library for C was built, and whether it is built again
@@ -88,6 +120,10 @@ def write(path, text):
     os.makedirs(os.path.dirname(path), exist_ok=True)
     with open(path, "w", encoding="utf-8") as file:
         file.write(text)
+
+
+def kept(root, crate, line):
+    write(proved.record(root, crate), keep_verdict.record_of(root, crate, line))
 
 
 @contextlib.contextmanager
@@ -123,8 +159,8 @@ def log_case(log):
 def folder_case(script):
     with folder() as root:
         for crate in ("low", "scrypt_c", "scrypt_tool"):
-            keep_verdict.write(root, crate, LINE)
-        keep_verdict.write(root, "scrypt_c-x86-64-v3", NEWER_LINE)
+            kept(root, crate, LINE)
+        kept(root, "scrypt_c-x86-64-v3", NEWER_LINE)
         os.environ["UNPROVED"] = "1" if "UNPROVED=1" in script else "0"
         gate = f"gate() {{ cat > build/gate.log << END\n{GATE}END\n}}\n"
         assert os.system(gate + script) == 0
@@ -138,7 +174,7 @@ def command_case(command, before, checked):
     with folder() as root:
         write(f"{root}/checked", checked + "\n")
         if before:
-            keep_verdict.write(root, "low", LINE)
+            kept(root, "low", LINE)
         if before == "old":
             write(f"{root}/crates/low/src/lib.rt", "changed")
         quiet = io.TextIOWrapper(io.BytesIO())
@@ -152,11 +188,26 @@ def command_case(command, before, checked):
 def again_case(script):
     with folder() as root:
         write(f"{root}/checked", "")
-        keep_verdict.write(root, "scrypt_c", LINE)
+        kept(root, "scrypt_c", LINE)
         assert os.system(script) == 0
         with contextlib.redirect_stdout(io.TextIOWrapper(io.BytesIO())):
             keep_verdict.keep(root, "scrypt_c", ["sh", "-c", f"touch {root}/ran"])
         return os.path.exists(f"{root}/ran")
+
+
+def linked_case(script):
+    with folder() as root:
+        for path in ("bindings/lib.sh", "bindings/c/blocks.c", "bindings/terminal/terminal.c", "build/lib/libscrypt_c.a",
+                     "build/lib/libscrypt_c.so.0", "build/lib/libscrypt_crypt.so", "build/bin/scrypt_tool"):
+            write(f"{root}/{path}", path)
+        for name in linked.LINKS:
+            linked.begin(root, name)
+            linked.end(root, name)
+        call = f"python3 -Bc \"import sys, linked; getattr(linked, sys.argv[1])('{root}', sys.argv[2])\""
+        calls = "".join(f"{it}() {{ {call} {it} $1 2> {root}/log; }}\n" for it in ("begin", "end"))
+        os.environ["PYTHONPATH"] = os.path.dirname(os.path.abspath(linked.__file__))
+        assert os.system(calls + script) == 0
+        return linked.faults(root)
 
 
 def main():
@@ -164,10 +215,12 @@ def main():
     rows += [(it[0], it[-1], folder_case, it[1:-1]) for it in FOLDERS]
     rows += [(it[0], it[-1], command_case, it[1:-1]) for it in COMMANDS]
     rows += [(it[0], it[-1], again_case, it[1:-1]) for it in AGAIN]
+    rows += [(it[0], it[-1], linked_case, it[1:-1]) for it in LINKED]
     for why, wanted, case, values in rows:
         try:
             found = case(*values)
-            right = found == wanted
+            right = found == wanted or (
+                case is linked_case and len(found) == len(wanted) and all(it in its for it, its in zip(wanted, found)))
         except SystemExit as refusal:
             found = str(refusal)
             right = bool(wanted) and wanted in found

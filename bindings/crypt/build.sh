@@ -13,6 +13,7 @@ if ! has_header crypt.h; then
   echo "crypt.h is not here (package libcrypt-dev): libscrypt_crypt.so was not built"
   exit 0
 fi
+python3 -B release/linked.py begin crypt
 # The system's libcrypt is a dependency, so that it is found after this library in every program.
 $CC $flags -Wl,--exclude-libs,ALL -Wl,-soname,libscrypt_crypt.so -I"$out" -o "$out/libscrypt_crypt.so" \
   bindings/crypt/crypt.c "$out/libscrypt_c.a" -Wl,--no-as-needed -lcrypt -ldl
@@ -21,3 +22,4 @@ if has_header security/pam_modules.h; then
 else
   echo "security/pam_modules.h is not here (package libpam0g-dev): pam_scrypt.so was not built"
 fi
+python3 -B release/linked.py end crypt

@@ -1,8 +1,15 @@
 #!/bin/sh
 # Links the program that is installed: the proved one, whose reads of the standard input go by terminal.c.
-# usage: build.sh PROGRAM OUTPUT    PROGRAM is crates/scrypt_tool/out/scrypt_tool, which has its object beside it
+# usage: build.sh                   links build/bin/scrypt_tool
+#        build.sh PROGRAM OUTPUT    PROGRAM is crates/scrypt_tool/out/scrypt_tool, which has its object beside it
 set -eu
 folder=$(dirname "$0")
+if [ $# = 0 ]; then
+  cd "$folder/../.."
+  python3 -B release/linked.py begin terminal
+  bindings/terminal/build.sh crates/scrypt_tool/out/scrypt_tool build/bin/scrypt_tool
+  exec python3 -B release/linked.py end terminal
+fi
 kit=$(dirname "$(rt doc)")
 object=$(mktemp --suffix=.o)
 trap 'rm -f "$object"' EXIT
