@@ -14,7 +14,7 @@ run() {
 }
 PYTHONPATH=$PWD/bindings/python
 export PYTHONPATH
-for test in test_keys test_numbers test_library; do PYTHONWARNINGS=error run python3 $test; done
+for test in test_keys test_numbers test_words test_library; do PYTHONWARNINGS=error run python3 $test; done
 if [ "${1:-}" = short ]; then
   run python3 test_hasher Hashes
   echo "called from Python"

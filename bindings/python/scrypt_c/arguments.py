@@ -11,20 +11,20 @@ Bytes = Union[bytes, bytearray, memoryview]
 Password = Union[str, bytes, bytearray, memoryview]
 
 
-def raw_bytes(data: Bytes, what: str) -> bytes:
+def raw_bytes(data: Bytes, what: str, kinds: str = "bytes-like") -> bytes:
     """The bytes of a bytes-like object, without a copy if it is bytes. `bytes` alone would take a number for a length."""
     if isinstance(data, bytes):
         return data
     try:
         return memoryview(data).tobytes()
     except TypeError:
-        raise TypeError(f"{what} is bytes-like, not {type(data).__name__}") from None
+        raise TypeError(f"{what} is {kinds}, not {type(data).__name__}") from None
 
 
 def raw_password(password: Password) -> bytes:
     """The bytes of a password; those of a str are its UTF-8."""
     if not isinstance(password, str):
-        return raw_bytes(password, "a password")
+        return raw_bytes(password, "a password", "a str or bytes-like")
     try:
         return password.encode()
     except UnicodeEncodeError:

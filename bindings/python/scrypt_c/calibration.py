@@ -2,8 +2,10 @@
 
 from __future__ import annotations
 
+import math
 import time
 
+from .arguments import seconds as time_of
 from .key import scrypt
 from .params import Params
 
@@ -26,8 +28,9 @@ def calibrate(seconds: float, most_bytes: int = 256 << 20) -> Params:
     Memory comes first: N is as large as both bounds allow, and p takes the time that is left. It takes some four times
     these seconds. `PasswordHasher(*calibrate(0.25))` makes hashes by them.
     """
-    if not seconds > 0:
-        raise ValueError(f"seconds is positive, not {seconds}")
+    time_of(seconds, "seconds")
+    if not 0 < seconds < math.inf:
+        raise ValueError(f"seconds is positive and finite, not {seconds}")
     params = Params(log_n=_LEAST_LOG_N)
     if params.memory > most_bytes:
         raise ValueError(f"the least parameters need {params.memory} bytes, more than {most_bytes}")
@@ -35,4 +38,6 @@ def calibrate(seconds: float, most_bytes: int = 256 << 20) -> Params:
     while 2 * taken <= seconds and params._replace(log_n=params.log_n + 1).memory <= most_bytes:
         params = params._replace(log_n=params.log_n + 1)
         taken = _seconds(params)
-    return params._replace(p=max(1, int(seconds / taken)))
+    # Each further chunk takes 128 * r bytes, and r * p is below 2**30.
+    most_p = min(1 + (most_bytes - params.memory) // (128 * params.r), ((1 << 30) - 1) // params.r)
+    return params._replace(p=max(1, min(int(seconds / taken), most_p)))

@@ -42,23 +42,26 @@ class InvalidOutputLenError(ScryptError, ValueError):
     """The key is empty, or longer than scrypt allows."""
 
 
+_RANGES = "r and p at least 1, 128 * r * 2**log_n below 2**64, r * p below 2**30"
+_HASH_PARAMS_INVALID = "the parameters in the hash are not accepted, or it has one other than ln, r and p"
+
 # The statuses of scrypt_c.h that are errors: the exception of each, its name and its words.
 _ERRORS: dict[int, tuple[type[ScryptError], str, str]] = {
     1: (VerifyMismatchError, "SCRYPT_MISMATCH", "the password does not match the hash"),
-    2: (InvalidParamsError, "SCRYPT_INVALID_PARAMS", "invalid scrypt parameters"),
+    2: (InvalidParamsError, "SCRYPT_INVALID_PARAMS", f"invalid scrypt parameters ({_RANGES})"),
     3: (InvalidOutputLenError, "SCRYPT_INVALID_OUTPUT_LEN", "the length of the key is not 1 to 137438953440 bytes"),
     5: (InvalidHashError, "SCRYPT_ALGORITHM", "the hash names another algorithm"),
     6: (InvalidHashError, "SCRYPT_ENCODING_INVALID", "the text is not a PHC or $7$ hash"),
-    7: (InvalidHashError, "SCRYPT_OUTPUT_SIZE", "the key in the hash has an invalid length"),
-    8: (InvalidHashError, "SCRYPT_HASH_PARAM_INVALID", "a parameter in the hash is invalid"),
-    9: (InvalidHashError, "SCRYPT_HASH_PARAMS_INVALID", "the parameters in the hash are invalid"),
+    7: (InvalidHashError, "SCRYPT_OUTPUT_SIZE", "the key in the hash is empty, or too long"),
+    8: (InvalidHashError, "SCRYPT_HASH_PARAM_INVALID", "ln, r or p in the hash is not a decimal in its range"),
+    9: (InvalidHashError, "SCRYPT_HASH_PARAMS_INVALID", _HASH_PARAMS_INVALID),
     10: (InvalidSaltError, "SCRYPT_SALT_INVALID", "a salt of a PHC hash has 1 to 64 bytes"),
     11: (InvalidHashError, "SCRYPT_VERSION", "the hash names a version, and scrypt has none"),
     13: (TooCostlyError, "SCRYPT_TOO_COSTLY", "the parameters need more than is allowed"),
     15: (KeyTooShortError, "SCRYPT_KEY_TOO_SHORT", "the key in the hash is too short"),
 }
 
-OUT_OF_MEMORY, TOO_COSTLY, KEY_TOO_SHORT = 4, 13, 15
+INVALID_PARAMS, OUT_OF_MEMORY, TOO_COSTLY, KEY_TOO_SHORT = 2, 4, 13, 15
 
 
 def invalid_params(words: str) -> InvalidParamsError:

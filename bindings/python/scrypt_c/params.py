@@ -7,14 +7,14 @@ from typing import NamedTuple, Union
 
 from . import library
 from .arguments import number, raw_text
-from .errors import OUT_OF_MEMORY, check, invalid_params
+from .errors import INVALID_PARAMS, OUT_OF_MEMORY, check
 
 
 def accepted(log_n: int, r: int, p: int) -> tuple[int, int, int]:
     """The three, if they fit C's types: ctypes would truncate them."""
     log_n, r, p = number(log_n, "log_n"), number(r, "r"), number(p, "p")
     if not (0 <= log_n < 1 << 8 and 0 <= r < 1 << 32 and 0 <= p < 1 << 32):
-        raise invalid_params(f"invalid scrypt parameters: log_n={log_n}, r={r}, p={p}")
+        check(INVALID_PARAMS, f"log_n={log_n}, r={r}, p={p}")
     return log_n, r, p
 
 

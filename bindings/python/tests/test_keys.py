@@ -96,10 +96,15 @@ class Keys(unittest.TestCase):
         self.assertEqual(scrypt_c.scrypt(bytearray(b"a"), salt=memoryview(b"b"), **SMALL), key)
 
     def test_calibrate(self):
-        params = scrypt_c.calibrate(0.01, most_bytes=4 << 20)
-        self.assertLessEqual(params.memory, 4 << 20)
-        self.assertGreaterEqual(params.log_n, 10)
-        self.assertEqual(scrypt_c.PasswordHasher(*params).params, params)
+        for seconds, most_bytes, why in [
+            (0.01, 4 << 20, "the time is less than the memory would take"),
+            (60, 2 << 20, "the chunks take memory too"),
+            (1e9, 2 << 20, "p alone would not be accepted"),
+        ]:
+            params = scrypt_c.calibrate(seconds, most_bytes)
+            self.assertLessEqual(params.memory, most_bytes, why)
+            self.assertGreaterEqual(params.log_n, 10)
+            self.assertEqual(scrypt_c.PasswordHasher(*params).params, params)
         for seconds, most_bytes in [(0, 1 << 30), (-1, 1 << 30), (float("nan"), 1 << 30), (1, 1 << 20)]:
             with self.assertRaises(ValueError):
                 scrypt_c.calibrate(seconds, most_bytes)
