@@ -331,7 +331,7 @@ void scrypt_verify_two_in(scrypt_memory *memory, const uint8_t *password, size_t
 SCRYPT_CHECKED
 int scrypt_draw_salt(uint8_t *salt, size_t len);
 
-/* The version of the linked library, and the processor that its proved code was built for, as in "0.13.0 x86-64-v2". The
+/* The version of the linked library, and the processor that its proved code was built for, as in "0.12.0 x86-64-v2". The
  * static library has code for two, and chooses the newer one that the processor can run. The version of this header is
  * SCRYPT_VERSION_STRING. */
 const char *scrypt_version(void);
@@ -404,21 +404,24 @@ SCRYPT_HELPER const char *scrypt_status_text(int status) {
   switch (status) {
     case SCRYPT_OK: return "success";
     case SCRYPT_MISMATCH: return "the password does not match, or the hash is weaker than wanted";
-    case SCRYPT_INVALID_PARAMS: return "invalid scrypt parameters";
-    case SCRYPT_INVALID_OUTPUT_LEN: return "invalid output length";
+    case SCRYPT_INVALID_PARAMS:
+      return "invalid scrypt parameters (r and p at least 1, 128 * r * 2^log_n below 2^64, r * p below 2^30, and a key in a "
+             "hash of 10 to 64 bytes)";
+    case SCRYPT_INVALID_OUTPUT_LEN: return "the length of the key is not 1 to 137438953440 bytes";
     case SCRYPT_OUT_OF_MEMORY: return "out of memory";
     case SCRYPT_ALGORITHM: return "the hash names another algorithm";
     case SCRYPT_ENCODING_INVALID: return "the text is not a PHC or $7$ hash";
-    case SCRYPT_OUTPUT_SIZE: return "the key in the hash has an invalid length";
-    case SCRYPT_HASH_PARAM_INVALID: return "a parameter in the hash is invalid";
-    case SCRYPT_HASH_PARAMS_INVALID: return "the parameters in the hash are invalid";
-    case SCRYPT_SALT_INVALID: return "invalid salt length";
-    case SCRYPT_VERSION: return "the hash names a version";
-    case SCRYPT_BUFFER_SIZE: return "invalid buffer length";
+    case SCRYPT_OUTPUT_SIZE: return "the key in the hash is empty, or too long";
+    case SCRYPT_HASH_PARAM_INVALID: return "ln, r or p in the hash is not a decimal in its range";
+    case SCRYPT_HASH_PARAMS_INVALID:
+      return "the parameters in the hash are not accepted, or it has one other than ln, r and p";
+    case SCRYPT_SALT_INVALID: return "a salt of a PHC hash has 1 to 64 bytes";
+    case SCRYPT_VERSION: return "the hash names a version, and scrypt has none";
+    case SCRYPT_BUFFER_SIZE: return "a buffer is too short, or has another length than scrypt_kdf_thin takes";
     case SCRYPT_TOO_COSTLY: return "the parameters need more than is allowed";
     case SCRYPT_NO_RANDOM_BYTES: return "the system has no random bytes";
     case SCRYPT_KEY_TOO_SHORT: return "the key in the hash is shorter than is allowed";
-    case SCRYPT_NULL_POINTER: return "NULL is not allowed there";
+    case SCRYPT_NULL_POINTER: return "NULL is not allowed with a length above 0";
     default: return "unknown status";
   }
 }

@@ -390,16 +390,11 @@ static void refusals_of_texts(void) {
 }
 
 int main(int argc, char **argv) {
-  int status;
   keys(argc > 1 && strcmp(argv[1], "small") == 0);
   refusals_of_keys();
   if (argc == 1) new_hash();
   hashes();
   refusals_of_texts();
-  for (status = SCRYPT_OK; status <= SCRYPT_NO_RANDOM_BYTES; status++)
-    check(strcmp(scrypt_status_text(status), "unknown status") != 0, "the words of a status");
   check(strncmp(scrypt_version(), VERSION, sizeof VERSION - 1) == 0, "the version of the header");
-  check(strcmp(scrypt_status_text(SCRYPT_NULL_POINTER), "unknown status") != 0, "the words of the last status");
-  check(strcmp(scrypt_status_text(SCRYPT_NULL_POINTER + 1), "unknown status") == 0, "no status");
   return failed;
 }

@@ -137,7 +137,7 @@ if has gcc gcc && has qemu-x86_64-static qemu-user-static; then
   fi
 fi
 
-tests="test test_order test_mapped test_memory test_null test_wipe test_salt test_traces threads"
+tests="test test_words test_order test_mapped test_memory test_null test_wipe test_salt test_traces threads"
 memcheck() {
   valgrind -q --error-exitcode=1 --leak-check=full --errors-for-leak-kinds=all "$@"
 }

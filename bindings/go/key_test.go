@@ -43,23 +43,24 @@ func TestRefusedKeys(t *testing.T) {
 		why             string
 		n, r, p, keyLen int
 		want            error
+		words           string
 	}{
-		{"no power of two", 15, 8, 1, 32, ErrInvalidParams},
-		{"no row", 0, 8, 1, 32, ErrInvalidParams},
-		{"a negative N", -16, 8, 1, 32, ErrInvalidParams},
-		{"r of 0", 16, 0, 1, 32, ErrInvalidParams},
-		{"a negative r", 16, -1, 1, 32, ErrInvalidParams},
-		{"p of 2^32", 16, 1, 1 << 32, 32, ErrInvalidParams},
-		{"r * p of 2^30", 16, 1 << 15, 1 << 15, 32, ErrInvalidParams},
-		{"a table of 2^64 bytes", 1 << 57, 1, 1, 32, ErrInvalidParams},
-		{"r of 0 and a key that no memory holds", 16, 0, 1, 1 << 36, ErrInvalidParams},
-		{"no key", 16, 8, 1, 0, ErrInvalidOutputLen},
-		{"a negative length", 16, 8, 1, -1, ErrInvalidOutputLen},
-		{"a byte too many", 16, 8, 1, 137438953441, ErrInvalidOutputLen},
-		{"a table of 2^63 bytes", 1 << 56, 1, 1, 32, ErrOutOfMemory},
+		{"no power of two", 15, 8, 1, 32, ErrInvalidParams, "N is 15, and has to be a power of two"},
+		{"no row", 0, 8, 1, 32, ErrInvalidParams, "N is 0, and has to be a power of two"},
+		{"a negative N", -16, 8, 1, 32, ErrInvalidParams, "N is -16"},
+		{"r of 0", 16, 0, 1, 32, ErrInvalidParams, "r is 0"},
+		{"a negative r", 16, -1, 1, 32, ErrInvalidParams, "r is -1"},
+		{"p of 2^32", 16, 1, 1 << 32, 32, ErrInvalidParams, "p is 4294967296"},
+		{"r * p of 2^30", 16, 1 << 15, 1 << 15, 32, ErrInvalidParams, "r * p below 2^30"},
+		{"a table of 2^64 bytes", 1 << 57, 1, 1, 32, ErrInvalidParams, "128 * r * 2^log_n below 2^64"},
+		{"r of 0 and a key that no memory holds", 16, 0, 1, 1 << 36, ErrInvalidParams, "r and p at least 1"},
+		{"no key", 16, 8, 1, 0, ErrInvalidOutputLen, "1 to 137438953440 bytes: keyLen is 0"},
+		{"a negative length", 16, 8, 1, -1, ErrInvalidOutputLen, "keyLen is -1"},
+		{"a byte too many", 16, 8, 1, 137438953441, ErrInvalidOutputLen, "keyLen is 137438953441"},
+		{"a table of 2^63 bytes", 1 << 56, 1, 1, 32, ErrOutOfMemory, "need 9223372036854776192 bytes, and the key 32"},
 	} {
 		key, err := Key(nil, nil, it.n, it.r, it.p, it.keyLen)
-		if !errors.Is(err, it.want) || key != nil {
+		if !errors.Is(err, it.want) || key != nil || !strings.Contains(err.Error(), it.words) {
 			t.Errorf("%s: %d bytes, %v", it.why, len(key), err)
 		}
 	}

@@ -97,6 +97,7 @@ func TestRefusedOptionsAreNamed(t *testing.T) {
 		{"SaltLen is -1", Options{SaltLen: -1}, ErrSaltInvalid},
 		{"KeyLen is 9", Options{Params: Params{KeyLen: 9}}, ErrInvalidParams},
 		{"LogN is 256", Options{Params: Params{LogN: 256}}, ErrInvalidParams},
+		{"128 * r * 2^log_n below 2^64", Options{Params: Params{LogN: 64}}, ErrInvalidParams},
 		{"R is -8", Options{Params: Params{R: -8}}, ErrInvalidParams},
 		{"MostBytes is 1024", Options{MostBytes: 1024}, ErrTooCostly},
 		{"a work of 4195328; MostBytes is 268435456 and MostWork is 4194304", Options{MostWork: 1 << 22}, ErrTooCostly},

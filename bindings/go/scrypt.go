@@ -16,6 +16,7 @@
 package scrypt
 
 import (
+	"fmt"
 	"math/bits"
 	"syscall"
 )
@@ -32,25 +33,26 @@ func Recommended() Params {
 	return Params{LogN: 17, R: 8, P: 1, KeyLen: 32}
 }
 
-// Key returns the key of keyLen bytes of a password and a salt. N is a power of two. The errors are ErrInvalidParams,
-// ErrInvalidOutputLen, and ErrOutOfMemory if the memory for the table or for the key is not available.
+// Key returns the key of keyLen bytes of a password and a salt. N is a power of two. To errors.Is the errors are
+// ErrInvalidParams, ErrInvalidOutputLen, and ErrOutOfMemory if the memory for the table or for the key is not available.
 func Key(password, salt []byte, N, r, p, keyLen int) ([]byte, error) {
 	if N < 1 || N&(N-1) != 0 {
-		return nil, ErrInvalidParams
+		return nil, fmt.Errorf("%w: N is %d, and has to be a power of two", ErrInvalidParams, N)
 	}
 	params := Params{LogN: bits.TrailingZeros(uint(N)), R: r, P: p}
-	if _, err := params.Memory(); err != nil {
-		return nil, err
+	memory, err := params.Memory()
+	if err != nil {
+		return nil, fmt.Errorf("%w: N is %d, r is %d and p is %d", err, N, r, p)
 	}
 	if keyLen < 1 || keyLen > maxOutputLen {
-		return nil, ErrInvalidOutputLen
+		return nil, fmt.Errorf("%w: keyLen is %d", ErrInvalidOutputLen, keyLen)
 	}
 	key, err := newKey(keyLen)
-	if err != nil {
-		return nil, err
+	if err == nil {
+		err = deriveKey(password, salt, params, key)
 	}
-	if err := deriveKey(password, salt, params, key); err != nil {
-		return nil, err
+	if err != nil {
+		return nil, fmt.Errorf("%w: N %d, r %d and p %d need %d bytes, and the key %d", err, N, r, p, memory, keyLen)
 	}
 	return key, nil
 }

@@ -47,8 +47,8 @@ fn main() {
     };
     if let Err(why) = linked {
         eprintln!(
-            "scrypt_c needs the library libscrypt_c: {why}. Install it (make install), or build it (make lib) and let \
-             SCRYPT_C_LIBRARY name its folder or its file."
+            "scrypt_c needs the library libscrypt_c: {why}. Install it (of a release: the package libscrypt-c-dev or \
+             install.sh; of the sources: make lib install), or let SCRYPT_C_LIBRARY name its folder or its file."
         );
         std::process::exit(1);
     }

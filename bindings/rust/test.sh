@@ -52,11 +52,11 @@ if PKG_CONFIG=false cargo build --quiet 2> "$room/log"; then
   echo "the package was built without a library" >&2
   exit 1
 fi
-grep -q SCRYPT_C_LIBRARY "$room/log"
+grep SCRYPT_C_LIBRARY "$room/log" | grep -q libscrypt-c-dev
 cd "$OLDPWD"
 make -s install prefix="$room/usr" DESTDIR= > /dev/null
 cd "$room"/elsewhere/scrypt_c-*
 rm "$room/usr/lib/libscrypt_c.a"
 PKG_CONFIG_PATH=$room/usr/lib/pkgconfig LD_LIBRARY_PATH=$room/usr/lib cargo test --quiet > "$room/log" 2>&1 ||
   { cat "$room/log"; exit 1; }
-echo "packaged, and built elsewhere by SCRYPT_C_LIBRARY and by pkg-config; without both the error names the variable"
+echo "packaged, and built elsewhere by SCRYPT_C_LIBRARY and by pkg-config; without both the error names the variable and the package"

@@ -116,17 +116,13 @@ impl From<DeriveError> for Error {
 
 impl fmt::Display for InvalidParams {
     fn fmt(&self, f: &mut fmt::Formatter<'_>) -> fmt::Result {
-        f.write_str("invalid scrypt parameters")
+        fmt::Display::fmt(&Error::from(*self), f)
     }
 }
 
 impl fmt::Display for DeriveError {
     fn fmt(&self, f: &mut fmt::Formatter<'_>) -> fmt::Result {
-        match self {
-            DeriveError::InvalidOutputLen => f.write_str("invalid output length"),
-            DeriveError::OutOfMemory => f.write_str("out of memory"),
-            DeriveError::Status(status) => write!(f, "status {status} of a newer library"),
-        }
+        fmt::Display::fmt(&Error::from(*self), f)
     }
 }
 
@@ -134,16 +130,19 @@ impl fmt::Display for Error {
     fn fmt(&self, f: &mut fmt::Formatter<'_>) -> fmt::Result {
         f.write_str(match self {
             Error::PasswordInvalid => "the password does not match the hash",
-            Error::InvalidParams => "invalid scrypt parameters",
-            Error::InvalidOutputLen => "invalid output length",
+            Error::InvalidParams => {
+                "invalid scrypt parameters (r and p at least 1, 128 * r * 2^log_n below 2^64, r * p below 2^30, and a key \
+                 in a hash of 10 to 64 bytes)"
+            }
+            Error::InvalidOutputLen => "the length of the key is not 1 to 137438953440 bytes",
             Error::OutOfMemory => "out of memory",
             Error::Algorithm => "the hash names another algorithm",
             Error::EncodingInvalid => "the text is not a PHC or $7$ hash",
-            Error::OutputSize => "the key in the hash has an invalid length",
-            Error::ParamInvalid => "a parameter in the hash is invalid",
-            Error::ParamsInvalid => "the parameters in the hash are invalid",
-            Error::SaltInvalid => "invalid salt length",
-            Error::Version => "the hash names a version",
+            Error::OutputSize => "the key in the hash is empty, or too long",
+            Error::ParamInvalid => "ln, r or p in the hash is not a decimal in its range",
+            Error::ParamsInvalid => "the parameters in the hash are not accepted, or it has one other than ln, r and p",
+            Error::SaltInvalid => "a salt of a PHC hash has 1 to 64 bytes",
+            Error::Version => "the hash names a version, and scrypt has none",
             Error::TooCostly => "the parameters need more memory or more work than the bounds allow",
             Error::KeyTooShort => {
                 "the key in the hash is shorter than 16 bytes, or than new keys if those are shorter"

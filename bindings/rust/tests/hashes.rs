@@ -150,6 +150,17 @@ fn words_of_errors() {
     let boxed: Box<dyn std::error::Error> = Error::PasswordInvalid.into();
     assert_eq!(boxed.to_string(), "the password does not match the hash");
     assert_eq!(Error::Status(99).to_string(), "status 99 of a newer library");
-    assert!(Error::TooCostly.to_string().contains("more work than the bounds allow"));
-    assert!(Error::KeyTooShort.to_string().contains("shorter than 16 bytes"));
+    for (error, allowed) in [
+        (Error::InvalidParams, "and a key in a hash of 10 to 64 bytes"),
+        (Error::EncodingInvalid, "not a PHC or $7$ hash"),
+        (Error::OutputSize, "empty, or too long"),
+        (Error::ParamInvalid, "ln, r or p in the hash is not a decimal in its range"),
+        (Error::ParamsInvalid, "other than ln, r and p"),
+        (Error::SaltInvalid, "1 to 64 bytes"),
+        (Error::Version, "scrypt has none"),
+        (Error::TooCostly, "more work than the bounds allow"),
+        (Error::KeyTooShort, "shorter than 16 bytes"),
+    ] {
+        assert!(error.to_string().contains(allowed), "{error}");
+    }
 }

@@ -128,7 +128,16 @@ fn salts_are_drawn() {
 
 #[test]
 fn words_of_errors() {
-    assert_eq!(InvalidParams.to_string(), "invalid scrypt parameters");
-    assert_eq!(DeriveError::InvalidOutputLen.to_string(), "invalid output length");
+    for (words, error) in [
+        (InvalidParams.to_string(), scrypt_c::Error::InvalidParams),
+        (DeriveError::InvalidOutputLen.to_string(), scrypt_c::Error::InvalidOutputLen),
+        (DeriveError::OutOfMemory.to_string(), scrypt_c::Error::OutOfMemory),
+    ] {
+        assert_eq!(words, error.to_string(), "the same as an Error");
+    }
+    assert!(InvalidParams
+        .to_string()
+        .contains("r and p at least 1, 128 * r * 2^log_n below 2^64, r * p below 2^30"));
+    assert!(DeriveError::InvalidOutputLen.to_string().contains("1 to 137438953440 bytes"));
     assert_eq!(DeriveError::Status(99).to_string(), "status 99 of a newer library");
 }

@@ -1,0 +1,33 @@
+/* The words of the statuses: each has its own, and those for what a caller passed say what is allowed. */
+#include "check.h"
+#include "scrypt_c.h"
+#include <string.h>
+
+static const struct {
+  int status;
+  const char *words, *why;
+} ALLOWED[] = {
+    {SCRYPT_INVALID_PARAMS, "r and p at least 1, 128 * r * 2^log_n below 2^64, r * p below 2^30", "the parameters"},
+    {SCRYPT_INVALID_PARAMS, "10 to 64 bytes", "the length of a key in a hash"},
+    {SCRYPT_INVALID_OUTPUT_LEN, "1 to 137438953440 bytes", "the length of a key"},
+    {SCRYPT_ENCODING_INVALID, "PHC or $7$", "the formats"},
+    {SCRYPT_OUTPUT_SIZE, "empty, or too long", "the key in a text"},
+    {SCRYPT_HASH_PARAM_INVALID, "ln, r or p", "the names of a text"},
+    {SCRYPT_HASH_PARAMS_INVALID, "other than ln, r and p", "the names of a text"},
+    {SCRYPT_SALT_INVALID, "1 to 64 bytes", "the length of a salt"},
+    {SCRYPT_VERSION, "scrypt has none", "a version"},
+};
+
+int main(void) {
+  int status, other;
+  size_t i;
+  for (status = SCRYPT_OK; status <= SCRYPT_NULL_POINTER; status++) {
+    check(strcmp(scrypt_status_text(status), "unknown status") != 0, "the words of a status");
+    for (other = SCRYPT_OK; other < status; other++)
+      check(strcmp(scrypt_status_text(status), scrypt_status_text(other)) != 0, "words of its own");
+  }
+  check(strcmp(scrypt_status_text(SCRYPT_NULL_POINTER + 1), "unknown status") == 0, "no status");
+  for (i = 0; i < sizeof ALLOWED / sizeof ALLOWED[0]; i++)
+    check(strstr(scrypt_status_text(ALLOWED[i].status), ALLOWED[i].words) != NULL, ALLOWED[i].why);
+  return failed;
+}
