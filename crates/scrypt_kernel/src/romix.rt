@@ -1,8 +1,9 @@
 //! scryptROMix (RFC 7914, section 5).
 
-ghost use Rattle.std.specs.Prelude.{◌≡◌, ◌+◌, ◌-◌, ◌*◌, ◌/◌, ◌<◌, ◌≤◌, length};
+ghost use Rattle.std.specs.Prelude.{◌≡◌, ◌+◌, ◌-◌, ◌*◌, ◌/◌, ◌%◌, ◌<◌, ◌≤◌, length};
 ghost use Rattle.scrypt_kernel.specs.Words.{bytes_of, words_of};
 ghost use Rattle.scrypt_kernel.specs.RoMix.{ro_mix};
+ghost use Rattle.scrypt_kernel.specs.Diagonal.{permuted};
 ghost use Rattle.scrypt_kernel.specs.Table.{thin_ro_mix_cost};
 ghost use Rattle.scrypt_kernel.specs.RoMixCost.{AreBytesOfB, AreRoMixLens, AreThinLens, ro_mix_cost, scratch_words, table_words, thin_scratch_words};
 
@@ -51,13 +52,31 @@ pub fn mix_chunk<O: Order, M: Memory>(
     let (x, rest) = t.split_at_mut(words);
     let (y, spare) = rest.split_at_mut(words);
     // Step 1: X = B.
-    read_words(b, x);
-    O::shuffle_in(x);
+    read_in::<O>(b, x);
     // Step 2: for i = 0 to N - 1 do V[i] = X, X = scryptBlockMix (X).
     fill::<O, M>(rows, x, y, log_n, s, cores);
     // Step 3: for i = 0 to N - 1 do j = Integerify (X) mod N, T = X xor V[j], X = scryptBlockMix (T).
     take_steps::<O>(x, rows.words(), y, spare, log_n, s, cores);
     // Step 4: B' = X.
+    write_out::<O>(x, b);
+}
+
+// Reads the words of `b` in the order `O`.
+fn read_in<O: Order>(b: &[u8], x: &mut [u32])
+    requires same { length b.now ≡ 4 * length x.old }
+    requires whole { length x.old % 16 ≡ 0 }
+    ensures { x.new ≡ permuted O.pivot (words_of b.now) }
+{
+    read_words(b, x);
+    O::shuffle_in(x);
+}
+
+// Writes the bytes of words that are in the order `O`. What `x` holds after the call is unspecified.
+fn write_out<O: Order>(x: &mut [u32], b: &mut [u8])
+    requires same { length b.old ≡ 4 * length x.old }
+    requires whole { length x.old % 16 ≡ 0 }
+    ensures { b.new ≡ bytes_of (permuted O.inverse_pivot x.old) }
+{
     O::shuffle_out(x);
     write_words(x, b);
 }

@@ -7,10 +7,10 @@ ghost use Rattle.scrypt_kernel.specs.RoMixCost.{AreBytesOfB, ro_mix_cost, scratc
 
 use crate::CoreCount;
 use crate::memory::{Buffer, Memory};
-use crate::order::diagonal::{shuffle_in, shuffle_out};
+use crate::order::diagonal::Diagonal;
+use crate::romix::{read_in, write_out};
 use crate::table::pair::fill_pair;
 use crate::walk::pair::take_steps_pair;
-use crate::words::{read_words, write_words};
 
 /// Replaces the bytes of `b` and of `other_b` by their scryptROMix, both at once, and counts the
 /// `4 * N * r` cores of each, all of them as SIMD cores.
@@ -44,28 +44,16 @@ pub fn mix_two_chunks(
     let (y, rest) = rest.split_at_mut(words);
     let other_y = &mut rest[..words];
     // Step 1: X = B.
-    read_words(b, x);
-    shuffle_in(x);
-    read_words(other_b, other_x);
-    shuffle_in(other_x);
+    read_in::<Diagonal>(b, x);
+    read_in::<Diagonal>(other_b, other_x);
     // Step 2: for i = 0 to N - 1 do V[i] = X, X = scryptBlockMix (X).
     let mut rows = Buffer::new(v);
     let mut other_rows = Buffer::new(other_v);
     fill_pair(&mut rows, &mut other_rows, x, other_x, log_n, cores);
     // Step 3: for i = 0 to N - 1 do j = Integerify (X) mod N, T = X xor V[j], X = scryptBlockMix (T).
-    take_steps_pair(
-        x,
-        other_x,
-        rows.words(),
-        other_rows.words(),
-        y,
-        other_y,
-        log_n,
-        cores,
-    );
+    let (v, other_v) = (rows.words(), other_rows.words());
+    take_steps_pair(x, other_x, v, other_v, y, other_y, log_n, cores);
     // Step 4: B' = X.
-    shuffle_out(x);
-    write_words(x, b);
-    shuffle_out(other_x);
-    write_words(other_x, other_b);
+    write_out::<Diagonal>(x, b);
+    write_out::<Diagonal>(other_x, other_b);
 }

@@ -1,6 +1,7 @@
 use Rattle.std.proofs.Common.{◌≡◌, ℕ, ◌%◌, ◌/◌, ◌^◌, length, sym, ap, ◌∙◌, arith}
 use Rattle.scrypt_kernel.specs.Words.{bytes_of, words_of}
 use Rattle.scrypt_kernel.specs.Diagonal.{permuted}
+use Rattle.scrypt_kernel.proofs.OrderFacts.{length-permuted}
 use Rattle.scrypt_kernel.proofs.WalkFacts.{filled_and_walked, filled_and_walked_lanes, filled_starts, ro_mixed}
 use Rattle.scrypt_kernel.proofs.romix.mix_chunk.Goals as goal
 
@@ -10,19 +11,18 @@ returns g c =
     let q = g.O.Order.inverse_pivot in
     let n = c.args.log_n in
     let w = words_of c.args.b.now in
-    let x = c.shuffle_in.new.x in
+    let x = c.read_in.new.x in
     let r : ℕ = length c.args.b.now / 128 in
-    let read : c.read_words.new.words ≡ w = c.read_words.ensures in
-    let words_long : length w ≡ length c.read_words.new.words = sym (ap length read) in
+    let is : x ≡ permuted p w = c.read_in.ensures in
+    let words_long : length w ≡ length x = sym (ap length is ∙ length-permuted p w) in
     let whole : length w % 16 ≡ 0 = omega arith in
-    let is : x ≡ permuted p w = c.shuffle_in.ensures.value ∙ ap (permuted p) read in
     let size : length c.fill.new.x ≡ length x = omega arith in
     let blocks : length x / 32 ≡ r = omega arith in
     let starts = filled_starts p q g.met.O.Order.inverse w x _ c.fill.new.x n c.args.s whole is c.fill.ensures.filled size in
     let walked = c.take_steps.ensures.walked w (rw c.words.ensures.value starts) in
     record {
-      value = c.write_words.ensures
-          ∙ ap bytes_of (c.shuffle_out.ensures.value ∙ ro_mixed p q g.met.O.Order.inverse w x _ c.fill.new.x n c.args.s whole is
+      value = c.write_out.ensures
+          ∙ ap bytes_of (ro_mixed p q g.met.O.Order.inverse w x _ c.fill.new.x n c.args.s whole is
           c.fill.ensures.filled size _ (λ b starts. (c.take_steps.ensures.walked b (rw c.words.ensures.value starts)).value) (omega arith));
       room = c.fill.ensures.room;
       all = filled_and_walked _ _ _ (2 ^ n) (length x) _ r _ blocks size c.fill.ensures.all walked.all_cores;
