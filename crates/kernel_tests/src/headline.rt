@@ -1,6 +1,6 @@
-// The first promise, with the key of hashlib: in both ways at once.
+// The first promise, with the key of hashlib: in both ways.
 
-use promises::headline::key_or_want_of_memory;
+use promises::headline::{key_or_want_of_memory, key_with_buffers};
 use scrypt::CoreCount;
 use std::test::Fail;
 
@@ -23,12 +23,19 @@ fn both_ways_write_the_key(rt: HostRuntime) -> Result<(), Fail> {
         1,
         &mut output,
         &mut CoreCount::new(),
+    )?;
+    key_with_buffers(
+        b"password",
+        b"NaCl",
+        1,
+        1,
+        1,
         &mut chunks,
         &mut table,
         &mut scratch,
         &mut buffered,
         &mut CoreCount::new(),
-    )?;
+    );
     assert_eq!(rt; output, KEY);
     assert_eq!(rt; buffered, KEY);
     Ok(())

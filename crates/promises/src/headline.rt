@@ -11,8 +11,7 @@ use std::alloc::Global;
 
 /// For accepted parameters and every output of 1 to 137438953440 bytes, the output is exactly RFC
 /// 7914's key, after exactly 4*N*r*p Salsa20/8 cores, each of them a SIMD core, or the error is
-/// `OutOfMemory`, with no core run and the output untouched. With buffers the key is always written,
-/// here to `buffered`, after as many cores.
+/// `OutOfMemory`, with no core run and the output untouched.
 pub fn key_or_want_of_memory(
     alloc: Global,
     password: &[u8],
@@ -22,45 +21,51 @@ pub fn key_or_want_of_memory(
     p: u32,
     output: &mut [u8],
     cores: &mut CoreCount,
-    chunks: &mut [u8],
-    table: &mut [u32],
-    scratch: &mut [u32],
-    buffered: &mut [u8],
-    buffered_cores: &mut CoreCount,
 ) -> Result<(), DeriveError>
     requires accepted { AreAccepted log_n r p }
     requires output_len { IsOutputLen (length output.old) }
-    requires buffered_len { IsOutputLen (length buffered.old) }
-    requires chunks { length chunks.old ≡ chunks_bytes r p }
-    requires table { length table.old ≡ table_words log_n r }
-    requires scratch { length scratch.old ≡ scratch_words r }
     ensures key { OnOk result (output.new ≡ derived_key password.now salt.now log_n r p (length output.old)) }
     ensures cores { OnOk result (cores.new.all ≡ cores.old.all + 4 * 2 ^ log_n * r * p) }
     ensures lanes { OnOk result (cores.new.lanes ≡ cores.old.lanes + 4 * 2 ^ log_n * r * p) }
     ensures memory { IfErr result (λ e. e ≡ OutOfMemory) }
     ensures no_core { OnErr result ((cores.new.all ≡ cores.old.all) × (cores.new.lanes ≡ cores.old.lanes)) }
     ensures untouched { OnErr result (output.new ≡ output.old) }
-    ensures buffered { buffered.new ≡ derived_key password.now salt.now log_n r p (length buffered.old) }
-    ensures buffered_cores { buffered_cores.new.all ≡ buffered_cores.old.all + 4 * 2 ^ log_n * r * p }
-    ensures buffered_lanes { buffered_cores.new.lanes ≡ buffered_cores.old.lanes + 4 * 2 ^ log_n * r * p }
 {
     let Ok(params) = Params::new(log_n, r, p) else {
         unreachable!();
     };
-    let written = scrypt_with_buffers(
-        password,
-        salt,
-        &params,
-        chunks,
-        table,
-        scratch,
-        buffered,
-        buffered_cores,
-    );
-    let Ok(()) = written else {
+    scrypt_counted(alloc, password, salt, &params, output, cores)
+}
+
+/// With buffers the key is always written, after as many cores.
+pub fn key_with_buffers(
+    password: &[u8],
+    salt: &[u8],
+    log_n: u8,
+    r: u32,
+    p: u32,
+    chunks: &mut [u8],
+    table: &mut [u32],
+    scratch: &mut [u32],
+    output: &mut [u8],
+    cores: &mut CoreCount,
+)
+    requires accepted { AreAccepted log_n r p }
+    requires output_len { IsOutputLen (length output.old) }
+    requires chunks { length chunks.old ≡ chunks_bytes r p }
+    requires table { length table.old ≡ table_words log_n r }
+    requires scratch { length scratch.old ≡ scratch_words r }
+    ensures key { output.new ≡ derived_key password.now salt.now log_n r p (length output.old) }
+    ensures cores { cores.new.all ≡ cores.old.all + 4 * 2 ^ log_n * r * p }
+    ensures lanes { cores.new.lanes ≡ cores.old.lanes + 4 * 2 ^ log_n * r * p }
+{
+    let Ok(params) = Params::new(log_n, r, p) else {
         unreachable!();
     };
-    scrypt_counted(alloc, password, salt, &params, output, cores)
+    let Ok(()) = scrypt_with_buffers(password, salt, &params, chunks, table, scratch, output, cores)
+    else {
+        unreachable!();
+    };
 }
 
 /// The same for `scrypt`, which has no count.

@@ -27,22 +27,18 @@ pub fn key_in_own_buffers(
     ensures key { OnOk result (output.new ≡ derived_key password.now salt.now
         params.now.log_n params.now.r params.now.p (length output.old)) }
 {
-    let lens = BufferLens::of(params);
-    let mut chunks = vec![in alloc; 0u8; lens.chunks]?;
-    let mut table = vec![in alloc; 0u32; lens.table]?;
-    let mut scratch = vec![in alloc; 0u32; lens.scratch]?;
+    let mut own = allocate(alloc, &BufferLens::of(params))?;
     let mut cores = CoreCount::new();
-    let written = scrypt_with_buffers(
+    let Ok(()) = scrypt_with_buffers(
         password,
         salt,
         params,
-        &mut chunks,
-        &mut table,
-        &mut scratch,
+        &mut own.chunks,
+        &mut own.table,
+        &mut own.scratch,
         output,
         &mut cores,
-    );
-    let Ok(()) = written else {
+    ) else {
         unreachable!();
     };
     Ok(())
@@ -70,21 +66,18 @@ pub fn key_in_a_thin_table(
     let Some(lens) = BufferLens::thin(params, s) else {
         unreachable!();
     };
-    let mut chunks = vec![in alloc; 0u8; lens.chunks]?;
-    let mut table = vec![in alloc; 0u32; lens.table]?;
-    let mut scratch = vec![in alloc; 0u32; lens.scratch]?;
-    let written = scrypt_thin(
+    let mut own = allocate(alloc, &lens)?;
+    let Ok(()) = scrypt_thin(
         password,
         salt,
         params,
         s,
-        &mut chunks,
-        &mut table,
-        &mut scratch,
+        &mut own.chunks,
+        &mut own.table,
+        &mut own.scratch,
         output,
         cores,
-    );
-    let Ok(()) = written else {
+    ) else {
         unreachable!();
     };
     Ok(())
@@ -134,7 +127,7 @@ pub fn mcf_text_in_own_buffers(
     let mut text = vec![in alloc; 0u8; mcf::hash_len(params, salt)]?;
     let mut own = allocate(alloc, &BufferLens::of(params))?;
     let mut cores = CoreCount::new();
-    let written = mcf::hash_with_buffers(
+    let Ok(_) = mcf::hash_with_buffers(
         password,
         salt,
         params,
@@ -143,8 +136,7 @@ pub fn mcf_text_in_own_buffers(
         &mut own.table,
         &mut own.scratch,
         &mut cores,
-    );
-    let Ok(_) = written else {
+    ) else {
         unreachable!();
     };
     Ok(text)
