@@ -30,8 +30,7 @@ BY_HAND = [COUNTER + it + "/Proof.antt" for it in ["after_core", "new"]]
 NEW_COUNTS = {
     "crates/promises/src/lengths.rt": 3,
     "crates/scrypt/src/derivation.rt": 1,
-    "crates/scrypt/src/mcf/hashing.rt": 1,
-    "crates/scrypt/src/phc/hashing.rt": 1,
+    "crates/scrypt/src/hashing.rt": 1,
     "crates/scrypt/src/verifying.rt": 1,
     "crates/scrypt_c/src/with_buffers.rt": 4,
     "crates/scrypt_c/src/keys.rt": 2,

@@ -1,5 +1,5 @@
 -- The memory that a caller hands in for one derivation: the verdict in it, and what is left in it.
-use Rattle.std.specs.Prelude.{◌≡◌, ℕ, ◌+◌, ◌*◌, ◌&&◌, Bool, nat_le, if◌then◌else◌, List, length, drop, MatchBool, Result, Ok, Err, ⊤}
+use Rattle.std.specs.Prelude.{◌≡◌, ℕ, ◌≤◌, ◌+◌, ◌*◌, ◌&&◌, Bool, nat_le, if◌then◌else◌, List, length, drop, MatchBool, Result, Ok, Err, ⊤}
 use Rattle.password_hash.specs.Refusal.{Refusal, OutOfMemory}
 use Rattle.password_hash.specs.declared.error.Error.{Error}
 use Rattle.scrypt_kernel.specs.declared.cores.CoreCount.{CoreCount}
@@ -7,6 +7,7 @@ use Rattle.scrypt.specs.Accepted.{Parameters}
 use Rattle.scrypt.specs.Cost.{chunks_bytes, cost, scratch_words, table_words}
 use Rattle.scrypt.specs.InBuffers.{IsWiped}
 use Rattle.scrypt.specs.Reading.{◌and_then◌, Stored, told, verdict}
+use Rattle.scrypt.specs.declared.derivation.BufferLens.{BufferLens}
 
 -- the buffers and the count
 pub record Work : Type 0 where
@@ -31,6 +32,17 @@ has_room c w = nat_le (chunks_bytes c.r c.p) (length w.chunks)
 unfoldable pub tables_used : Parameters → List ℕ → List ℕ → ℕ
 tables_used c table scratch = if nat_le 2 c.p
     && (nat_le (2 * table_words c.log_n c.r) (length table) && nat_le (2 * scratch_words c.r) (length scratch)) then 2 else 1
+
+-- so much of these buffers is used: all of the tables and the scratches, which are at least one
+pub record AreUsed (c : Parameters) (lens : BufferLens) (chunks table scratch : List ℕ) : Type 0 where
+  pub chunks_len : lens.chunks ≡ chunks_bytes c.r c.p
+  pub table_len : lens.table ≡ tables_used c table scratch * table_words c.log_n c.r
+  pub scratch_len : lens.scratch ≡ tables_used c table scratch * scratch_words c.r
+  pub chunks_fit : lens.chunks ≤ length chunks
+  pub table_fits : lens.table ≤ length table
+  pub scratch_fits : lens.scratch ≤ length scratch
+  pub room : table_words c.log_n c.r ≤ lens.table
+  pub spare : scratch_words c.r ≤ lens.scratch
 
 -- A derivation with these parameters was counted. What it used of the chunks and the scratch is zeros, and what is
 -- after the tables that it used is unchanged.

@@ -5,7 +5,7 @@ ghost use Rattle.std.specs.Vec.{vec_capacity};
 ghost use Rattle.scrypt.specs.Cost.{chunks_bytes, scratch_words, table_words};
 ghost use Rattle.scrypt.specs.InBuffers.{AreEnough};
 ghost use Rattle.scrypt.specs.TwoVerdicts.{hold_two};
-ghost use Rattle.scrypt.specs.WorkInBuffers.{tables_used};
+ghost use Rattle.scrypt.specs.WorkInBuffers.{AreUsed, tables_used};
 
 use crate::{BufferLens, Params};
 use std::alloc::{AllocError, Global};
@@ -50,16 +50,7 @@ pub fn used_lens(
     scratch: &[u32],
 ) -> Option<BufferLens>
     ensures enough { IsSome result ↔ AreEnough params.now chunks.now table.now scratch.now }
-    ensures chunks { IfSome result (λ lens. lens.chunks ≡ chunks_bytes params.now.r params.now.p) }
-    ensures table { IfSome result (λ lens. lens.table
-        ≡ tables_used params.now table.now scratch.now * table_words params.now.log_n params.now.r) }
-    ensures scratch { IfSome result (λ lens. lens.scratch
-        ≡ tables_used params.now table.now scratch.now * scratch_words params.now.r) }
-    ensures chunks_fit { IfSome result (λ lens. lens.chunks ≤ length chunks.now) }
-    ensures table_fits { IfSome result (λ lens. lens.table ≤ length table.now) }
-    ensures scratch_fits { IfSome result (λ lens. lens.scratch ≤ length scratch.now) }
-    ensures room { IfSome result (λ lens. table_words params.now.log_n params.now.r ≤ lens.table) }
-    ensures spare { IfSome result (λ lens. scratch_words params.now.r ≤ lens.scratch) }
+    ensures used { IfSome result (λ lens. AreUsed params.now lens chunks.now table.now scratch.now) }
 {
     let lens = BufferLens::of(params);
     if lens.chunks > chunks.len() || lens.table > table.len() || lens.scratch > scratch.len() {

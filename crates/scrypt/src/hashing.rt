@@ -1,17 +1,21 @@
 // Hashing, in every format, with any source of memory.
 
-ghost use Rattle.std.specs.Prelude.{◌≡◌, ◌↔◌, ◌+◌, ◌≤◌, None, length, replicate, IfErr, IsTrue, OnOk};
+ghost use Rattle.std.specs.Prelude.{◌≡◌, ◌↔◌, ◌+◌, ◌*◌, ◌≤◌, None, length, replicate, IfErr, IfOk, IsTrue, OnOk};
 ghost use Rattle.std.specs.Option.{option_map};
 ghost use Rattle.scrypt.specs.Accepted.{IsStoredLen};
 ghost use Rattle.scrypt.specs.Cost.{chunks_bytes, cost, scratch_words, table_words};
 ghost use Rattle.scrypt.specs.Hashing.{IsCallRefused, IsNamedOrNone, key_len_or_default};
 ghost use Rattle.scrypt.specs.KeyOfParams.{key_by};
+ghost use Rattle.scrypt.specs.WorkInBuffers.{AreUsed, IsDone, work_in};
+ghost use Rattle.password_hash.specs.declared.error.Error.TheVariants.{OutOfMemory};
 
+use crate::buffers::Buffers;
 use crate::derivation::derive_in;
 use crate::derivation::tables::Tables;
-use crate::{CoreCount, Params};
+use crate::{BufferLens, CoreCount, Params};
 use password_hash::phc::Output;
 use password_hash::{Error, Result, Version};
+use std::alloc::Global;
 
 /// Checks what a hashing call names beside its parameters.
 ///
@@ -53,9 +57,56 @@ pub(crate) fn key_len_or_default(params: &Params) -> usize
     }
 }
 
-/// Derives the key that hashing with these parameters stores, in any memory. Afterwards the chunks
-/// and the scratch are zeros. Does not allocate.
-pub(crate) fn stored_key<T: Tables>(
+/// Derives the key that hashing with these parameters stores, in three buffers of its own: the chunks, the
+/// table and the scratch, allocated in this order and before the first core.
+///
+/// Returns `OutOfMemory` if an allocation fails.
+pub(crate) fn key_allocating(
+    alloc: Global,
+    password: &[u8],
+    salt: &[u8],
+    params: &Params,
+) -> Result<Output>
+    ensures value { IfOk result (λ key. key ≡ key_by params.now password.now salt.now (key_len_or_default params.now)) }
+    ensures memory { IfErr result (λ e. e ≡ OutOfMemory) }
+{
+    let mut own = Buffers::allocate(alloc, params)?;
+    let mut cores = CoreCount::new();
+    Ok(stored_key::<Vec<u32>>(
+        password,
+        salt,
+        params,
+        &mut own.chunks,
+        &mut own.table,
+        &mut own.scratch,
+        &mut cores,
+    ))
+}
+
+/// Derives the same key in the caller's buffers, of which it uses as much as `lens` has. Does not allocate.
+pub(crate) fn key_in_buffers(
+    password: &[u8],
+    salt: &[u8],
+    params: &Params,
+    lens: BufferLens,
+    chunks: &mut [u8],
+    table: &mut [u32],
+    scratch: &mut [u32],
+    cores: &mut CoreCount,
+) -> Output
+    requires used { AreUsed params.now lens chunks.old table.old scratch.old }
+    ensures value { result ≡ key_by params.now password.now salt.now (key_len_or_default params.now) }
+    ensures done { IsDone params.now
+        (work_in chunks.old table.old scratch.old cores.old) (work_in chunks.new table.new scratch.new cores.new) }
+{
+    let chunks = &mut chunks[..lens.chunks];
+    let mut table = &mut table[..lens.table];
+    let scratch = &mut scratch[..lens.scratch];
+    stored_key::<&mut [u32]>(password, salt, params, chunks, &mut table, scratch, cores)
+}
+
+// Derives it in any memory. Afterwards the chunks and the scratch are zeros.
+fn stored_key<T: Tables>(
     password: &[u8],
     salt: &[u8],
     params: &Params,
@@ -68,7 +119,6 @@ pub(crate) fn stored_key<T: Tables>(
     requires room { table_words params.now.log_n params.now.r ≤ T.room tables.old }
     requires scratch { scratch_words params.now.r ≤ length scratch.old }
     ensures value { result ≡ key_by params.now password.now salt.now (key_len_or_default params.now) }
-    ensures len { IsStoredLen (key_len_or_default params.now) }
     ensures all { cores.new.all ≡ cores.old.all
         + cost params.now.log_n params.now.r params.now.p }
     ensures lanes { cores.new.lanes ≡ cores.old.lanes

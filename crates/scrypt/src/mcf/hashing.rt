@@ -7,23 +7,24 @@ ghost use Rattle.password_hash.specs.Crypt64.{crypt64_of, encoded_len};
 ghost use Rattle.password_hash.specs.Mcf.{IsMcf};
 ghost use Rattle.password_hash.specs.Parts.{dollar};
 ghost use Rattle.password_hash.specs.declared.error.Error.TheVariants.{OutOfMemory};
-ghost use Rattle.scrypt.specs.Accepted.{AreAccepted};
-ghost use Rattle.scrypt.specs.Cost.{chunks_bytes, cost, scratch_words, table_words};
+ghost use Rattle.scrypt.specs.Accepted.{AreAccepted, Parameters};
+ghost use Rattle.scrypt.specs.KeyOfParams.{key_by};
 ghost use Rattle.scrypt.specs.McfParams.{params_text};
+ghost use Rattle.scrypt.specs.McfText.{IsBegun};
 ghost use Rattle.scrypt.specs.Hashing.{key_len_or_default};
 ghost use Rattle.scrypt.specs.McfHash.{HashIsRefused, IsMadeHash, IsMcfOrNone, made_text_len};
 ghost use Rattle.password_hash.specs.Refusal.{refusal};
 ghost use Rattle.scrypt.specs.InBuffers.{AreEnough, IsCopiedTo};
 ghost use Rattle.scrypt.specs.WorkInBuffers.{IsDone, work_in};
 
-use crate::buffers::{Buffers, used_lens};
-use crate::derivation::tables::Tables;
-use crate::hashing::{check_call, key_len_or_default, stored_key};
+use crate::buffers::used_lens;
+use crate::hashing::{check_call, key_allocating, key_in_buffers, key_len_or_default};
 use crate::mcf::five_letters::five_letters;
 use crate::mcf::reading::is_mcf;
 use crate::{CoreCount, Params, Scrypt};
 use password_hash::mcf::alphabet::letter;
 use password_hash::mcf::{Base64, PasswordHash};
+use password_hash::phc::Output;
 use password_hash::{CustomizedPasswordHasher, Error, PasswordHasher, Result, Version};
 use std::alloc::Global;
 
@@ -84,18 +85,14 @@ fn hash_of(alloc: Global, password: &[u8], salt: &[u8], params: &Params) -> Resu
 {
     // The whole text is allocated before the buffers of the derivation.
     let mut text = vec![in alloc; 0u8; hash_len(params, salt)]?;
-    let mut own = Buffers::allocate(alloc, params)?;
-    let mut cores = CoreCount::new();
-    write_text::<Vec<u32>>(
-        password,
-        salt,
-        params,
-        &mut text,
-        &mut own.chunks,
-        &mut own.table,
-        &mut own.scratch,
-        &mut cores,
-    );
+    let out = text.as_mut_slice();
+    write_params_and_salt(out, params, salt);
+    let letters = salt_letters(out, salt);
+    let key = match key_allocating(alloc, password, letters, params) {
+        Ok(key) => key,
+        Err(error) => return Err(error),
+    };
+    write_key(out, params, salt, &key);
     Ok(hash_of_text(text))
 }
 
@@ -117,43 +114,10 @@ fn key_at(salt: &[u8]) -> usize
     PARAMS_LEN + Base64::Crypt.encoded_len(salt.len())
 }
 
-// Writes the text of the hash, which fills `text`, in any memory.
-fn write_text<T: Tables>(
-    password: &[u8],
-    salt: &[u8],
-    params: &Params,
-    text: &mut [u8],
-    chunks: &mut [u8],
-    tables: &mut T,
-    scratch: &mut [u32],
-    cores: &mut CoreCount,
-)
-    requires text { length text.old ≡ made_text_len params.now (length salt.now) }
-    requires chunks { length chunks.old ≡ chunks_bytes params.now.r params.now.p }
-    requires room { table_words params.now.log_n params.now.r ≤ T.room tables.old }
-    requires scratch { scratch_words params.now.r ≤ length scratch.old }
-    ensures made { IsMadeHash params.now password.now salt.now text.new }
-    ensures ascii { IsAscii text.new }
-    ensures all { cores.new.all ≡ cores.old.all
-        + cost params.now.log_n params.now.r params.now.p }
-    ensures lanes { cores.new.lanes ≡ cores.old.lanes
-        + cost params.now.log_n params.now.r params.now.p }
-    ensures chunks { chunks.new ≡ replicate (chunks_bytes params.now.r params.now.p) 0 }
-    ensures scratch { scratch.new ≡ replicate (length scratch.old) 0 }
-{
-    let key_at = key_at(salt);
-    write_params_and_salt(text, params, salt);
-    let letters = &text[PARAMS_LEN..key_at];
-    let key = stored_key::<T>(password, letters, params, chunks, tables, scratch, cores);
-    write_key(&mut text[key_at..], key.as_bytes());
-}
-
 // Writes `$7$`, the letters of the parameters and those of the salt.
 fn write_params_and_salt(out: &mut [u8], params: &Params, salt: &[u8])
-    requires { 14 + length (crypt64_of salt.now) ≤ length out.old }
-    ensures written { out.new ≡ params_text params.now
-        ++ (crypt64_of salt.now ++ drop (14 + length (crypt64_of salt.now)) out.old) }
-    ensures accepted { AreAccepted params.now.log_n params.now.r params.now.p }
+    requires { length out.old ≡ made_text_len params.now (length salt.now) }
+    ensures { IsBegun params.now salt.now out.new }
 {
     out[..PARAMS_LEN].copy_from_slice(&params_letters(params));
     let Ok(_) = Base64::Crypt.encode_slice(salt, &mut out[PARAMS_LEN..]) else {
@@ -173,9 +137,31 @@ fn params_letters(params: &Params) -> [u8; PARAMS_LEN]
     letters
 }
 
+// Returns the letters of the salt, which are in the text after the parameters.
+fn salt_letters<'a>(text: &'a [u8], salt: &[u8]) -> &'a [u8]
+    requires { (c : Parameters) × IsBegun c salt.now text.now }
+    ensures { result.now ≡ crypt64_of salt.now }
+{
+    &text[PARAMS_LEN..key_at(salt)]
+}
+
+// Writes `$` and the letters of the key, which fill the text after the parameters and the salt.
+fn write_key(text: &mut [u8], params: &Params, salt: &[u8], key: &Output)
+    requires begun { IsBegun params.now salt.now text.old }
+    requires len { length text.old ≡ made_text_len params.now (length salt.now) }
+    requires key_len { length key.now ≡ key_len_or_default params.now }
+    ensures made { (password : List ℕ)
+        → key.now ≡ key_by params.now password (crypt64_of salt.now) (key_len_or_default params.now)
+        → IsMadeHash params.now password salt.now text.new }
+    ensures ascii { IsAscii text.new }
+{
+    params.known();
+    write_key_letters(&mut text[key_at(salt)..], key.as_bytes());
+}
+
 // Writes `$` and the letters of the key, which fill `out`.
 #[tactic(auto, using(crate::proofs::McfTextFacts::put_after_dollar))]
-fn write_key(out: &mut [u8], key: &[u8])
+fn write_key_letters(out: &mut [u8], key: &[u8])
     requires { length out.old ≡ 1 + length (crypt64_of key.now) }
     ensures written { out.new ≡ dollar ∷ crypt64_of key.now }
     ensures bytes { All (λ byte. byte < 256) key.now }
@@ -243,11 +229,11 @@ pub fn hash_with_buffers(
         return Err(Error::OutOfMemory);
     };
     let text = &mut text[..len];
-    let chunks = &mut chunks[..lens.chunks];
-    let mut table = &mut table[..lens.table];
-    let scratch = &mut scratch[..lens.scratch];
-    write_text::<&mut [u32]>(
-        password, salt, params, text, chunks, &mut table, scratch, cores,
+    write_params_and_salt(text, params, salt);
+    let letters = salt_letters(text, salt);
+    let key = key_in_buffers(
+        password, letters, params, lens, chunks, table, scratch, cores,
     );
+    write_key(text, params, salt, &key);
     Ok(len)
 }

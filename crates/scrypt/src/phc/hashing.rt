@@ -1,21 +1,21 @@
 // Making PHC hashes.
 
-ghost use Rattle.std.specs.Prelude.{◌≡◌, ◌↔◌, ◌+◌, ◌≤◌, length, replicate, true, None, Some, unwrap_or, IsTrue, drop, IfErr, IfOk, IsErrOf, IsOk, OnErr, OnOk};
+ghost use Rattle.std.specs.Prelude.{◌≡◌, ◌↔◌, ℕ, List, ◌≤◌, length, true, None, Some, unwrap_or, IsTrue, drop, IfErr, IfOk, IsErrOf, IsOk, OnErr, OnOk};
 ghost use Rattle.std.specs.Option.{option_map};
-ghost use Rattle.scrypt.specs.Cost.{chunks_bytes, cost, scratch_words, table_words};
+ghost use Rattle.scrypt.specs.Hashing.{key_len_or_default};
+ghost use Rattle.scrypt.specs.KeyOfParams.{key_by};
 ghost use Rattle.scrypt.specs.PhcHash.{HashIsRefused, IsMadeHash, IsScryptOrNone, IsSaltLen};
 ghost use Rattle.password_hash.specs.Refusal.{refusal};
 ghost use Rattle.password_hash.specs.declared.error.Error.TheVariants.{OutOfMemory, SaltInvalid};
 ghost use Rattle.scrypt.specs.InBuffers.{AreEnough};
 ghost use Rattle.scrypt.specs.WorkInBuffers.{IsDone, work_in};
 
-use crate::buffers::{Buffers, used_lens};
-use crate::derivation::tables::Tables;
-use crate::hashing::{check_call, stored_key};
+use crate::buffers::used_lens;
+use crate::hashing::{check_call, key_allocating, key_in_buffers};
 use crate::phc::ALG_ID;
 use crate::phc::params::written;
 use crate::{CoreCount, Params, Scrypt};
-use password_hash::phc::{PasswordHash, Salt};
+use password_hash::phc::{Output, PasswordHash, Salt};
 use password_hash::{CustomizedPasswordHasher, Error, PasswordHasher, Result, Version};
 use std::alloc::Global;
 
@@ -62,43 +62,18 @@ impl CustomizedPasswordHasher<PasswordHash> for Scrypt {
         let Ok(salt) = Salt::new(salt) else {
             return Err(Error::SaltInvalid);
         };
-        let mut own = Buffers::allocate(alloc, &params)?;
-        let mut cores = CoreCount::new();
-        Ok(hash_of::<Vec<u32>>(
-            password,
-            salt,
-            &params,
-            &mut own.chunks,
-            &mut own.table,
-            &mut own.scratch,
-            &mut cores,
-        ))
+        match key_allocating(alloc, password, salt.as_bytes(), &params) {
+            Ok(key) => Ok(hash_of(&params, salt, key)),
+            Err(error) => Err(error),
+        }
     }
 }
 
-// Hashes a password with a salt, in any memory.
-fn hash_of<T: Tables>(
-    password: &[u8],
-    salt: Salt,
-    params: &Params,
-    chunks: &mut [u8],
-    tables: &mut T,
-    scratch: &mut [u32],
-    cores: &mut CoreCount,
-) -> PasswordHash
-    requires chunks { length chunks.old ≡ chunks_bytes params.now.r params.now.p }
-    requires room { table_words params.now.log_n params.now.r ≤ T.room tables.old }
-    requires scratch { scratch_words params.now.r ≤ length scratch.old }
-    ensures made { IsMadeHash params.now password.now salt result }
-    ensures all { cores.new.all ≡ cores.old.all
-        + cost params.now.log_n params.now.r params.now.p }
-    ensures lanes { cores.new.lanes ≡ cores.old.lanes
-        + cost params.now.log_n params.now.r params.now.p }
-    ensures chunks { chunks.new ≡ replicate (chunks_bytes params.now.r params.now.p) 0 }
-    ensures scratch { scratch.new ≡ replicate (length scratch.old) 0 }
+// Returns the hash with this salt and this key.
+fn hash_of(params: &Params, salt: Salt, key: Output) -> PasswordHash
+    ensures made { (password : List ℕ) → key ≡ key_by params.now password salt (key_len_or_default params.now)
+        → IsMadeHash params.now password salt result }
 {
-    let letters = salt.as_bytes();
-    let key = stored_key::<T>(password, letters, params, chunks, tables, scratch, cores);
     PasswordHash {
         algorithm: ALG_ID,
         version: None,
@@ -147,8 +122,9 @@ pub fn hash_with_buffers(
     let Some(lens) = used_lens(params, chunks, table, scratch) else {
         return Err(Error::OutOfMemory);
     };
-    let chunks = &mut chunks[..lens.chunks];
-    let mut table = &mut table[..lens.table];
-    let scratch = &mut scratch[..lens.scratch];
-    Ok(hash_of::<&mut [u32]>(password, salt, params, chunks, &mut table, scratch, cores))
+    let letters = salt.as_bytes();
+    let key = key_in_buffers(
+        password, letters, params, lens, chunks, table, scratch, cores,
+    );
+    Ok(hash_of(params, salt, key))
 }

@@ -1,21 +1,32 @@
 use Rattle.std.proofs.Common.{arith}
 use Rattle.scrypt.proofs.buffers.used_lens.Goals as goal
 
-pub returns-then-uses_two_tables-clause-table : goal.returns-then-uses_two_tables-clause-table
-returns-then-uses_two_tables-clause-table c =
-    rw (c.uses_two_tables.ensures.exact, c.if-uses_two_tables.true) c.two_tables.ensures.table
+pub returns-then-uses_two_tables-clause-used : goal.returns-then-uses_two_tables-clause-used
+returns-then-uses_two_tables-clause-used c =
+    let two = c.two_tables.ensures in
+    let used = rw c.if-uses_two_tables.true at c.uses_two_tables.ensures.exact in
+    record {
+      chunks_len = two.chunks;
+      table_len = rw used two.table;
+      scratch_len = rw used two.scratch;
+      chunks_fit = omega arith;
+      table_fits = omega (arith, two.table, c.uses_two_tables.ensures.room c.if-uses_two_tables.true);
+      scratch_fits = omega (arith, two.scratch, c.uses_two_tables.ensures.spare c.if-uses_two_tables.true);
+      room = omega arith;
+      spare = omega arith;
+    }
 
-pub returns-then-uses_two_tables-clause-scratch : goal.returns-then-uses_two_tables-clause-scratch
-returns-then-uses_two_tables-clause-scratch c =
-    rw (c.uses_two_tables.ensures.exact, c.if-uses_two_tables.true) c.two_tables.ensures.scratch
-
-pub returns-clause-table : goal.returns-clause-table
-returns-clause-table c =
-    rw (c.uses_two_tables.ensures.exact, c.if-uses_two_tables.false) (omega (arith, c.of-lens.ensures.table))
-
-pub returns-clause-scratch : goal.returns-clause-scratch
-returns-clause-scratch c =
-    rw (c.uses_two_tables.ensures.exact, c.if-uses_two_tables.false) (omega (arith, c.of-lens.ensures.scratch))
-
-pub returns-clause-table_fits : goal.returns-clause-table_fits
-returns-clause-table_fits c = c.if-lens-table.false
+pub returns-clause-used : goal.returns-clause-used
+returns-clause-used c =
+    let one = c.of-lens.ensures in
+    let used = rw c.if-uses_two_tables.false at c.uses_two_tables.ensures.exact in
+    record {
+      chunks_len = one.chunks;
+      table_len = rw used (omega arith);
+      scratch_len = rw used (omega arith);
+      chunks_fit = omega arith;
+      table_fits = c.if-lens-table.false;
+      scratch_fits = omega arith;
+      room = omega arith;
+      spare = omega arith;
+    }

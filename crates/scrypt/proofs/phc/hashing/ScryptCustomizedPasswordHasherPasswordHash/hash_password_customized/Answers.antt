@@ -9,5 +9,5 @@ returns-in_err-check_call-clause-err c = search (rules, refused_call)
 pub returns-in_default-clause-err : goal.returns-in_default-clause-err
 returns-in_default-clause-err c = search (rules, by_salt)
 
-pub returns-in_err-own-clause-err : goal.returns-in_err-own-clause-err
-returns-in_err-own-clause-err c = search (rules, by_memory)
+pub returns-in-Err-clause-err : goal.returns-in-Err-clause-err
+returns-in-Err-clause-err c = search (rules, by_memory)
