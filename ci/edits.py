@@ -24,15 +24,6 @@ class BadEdit(Exception):
     """An edit that can't be applied."""
 
 
-@contextlib.contextmanager
-def copied(*left_out):
-    """A copy of the repository, without its history and without files of these names."""
-    with tempfile.TemporaryDirectory() as room:
-        copy = os.path.join(room, "copy")
-        shutil.copytree(".", copy, ignore=shutil.ignore_patterns(".git", *left_out))
-        yield copy
-
-
 def crates_with(*folders):
     """The crates that have edits in one of these folders."""
     return sorted({it.split("/")[1] for it in edits_of("*", *folders)})
@@ -76,6 +67,12 @@ def texts_after_all(tried, crate):
     return after
 
 
+def write(texts):
+    """Writes texts to files, by their paths."""
+    for path, text in texts.items():
+        Path(path).write_text(text, "utf-8")
+
+
 @contextlib.contextmanager
 def applied(edit, crate):
     """Applies an edit to a crate, and takes it back at the end."""
@@ -88,7 +85,14 @@ def applied(edit, crate):
         write(before)
 
 
-def write(texts):
-    """Writes texts to files, by their paths."""
-    for path, text in texts.items():
-        Path(path).write_text(text, "utf-8")
+def tried(folder, names=(), left_out=()):
+    """The edits of a folder of these crates, or of all, while each is applied to a copy of the repository, in which a
+    crate's path is returned with it. The copy lacks files of the names that are left out."""
+    with tempfile.TemporaryDirectory() as room:
+        copy = os.path.join(room, "copy")
+        shutil.copytree(".", copy, ignore=shutil.ignore_patterns(".git", *left_out))
+        for name in names or crates_with(folder):
+            for edit in edits_of(name, folder):
+                crate = os.path.join(copy, "crates", name)
+                with applied(edit, crate):
+                    yield edit, crate

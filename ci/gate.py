@@ -7,7 +7,6 @@ from `rt ci`, and would prove the crates below it again. If the clone has librar
 `rt ci` gives those back at its end, and `rt lib` goes on from them.
 """
 
-import glob
 import os
 import shutil
 import subprocess
@@ -23,22 +22,27 @@ def left_by_ci(name):
     return os.path.isdir(f"{folder}/{name}.rlib") and not os.path.isfile(f"{folder}/stamp")
 
 
-def without_old_libraries():
-    """Removes what an earlier `rt ci` left, which no other command takes, so that what is there afterwards is new."""
-    for folder in glob.glob("crates/*/out/rlib"):
-        if left_by_ci(folder.split("/")[1]):
-            shutil.rmtree(folder)
-
-
-def without_links():
-    """Removes the libraries for C, which are built again below: `rt ci` refuses a clone with their links."""
+def clean():
+    """Removes what an earlier `rt ci` left, so that what is there afterwards is new, and the libraries for C: `rt ci`
+    refuses a clone with their links."""
+    for name in words.crates():
+        if left_by_ci(name):
+            shutil.rmtree(f"crates/{name}/out/rlib")
     shutil.rmtree("build/lib", ignore_errors=True)
 
 
 def libraries():
     """Brings libraries of an earlier `rt lib` up to date, and returns whether all are built."""
-    names = [it for name in edits.crates_with("wrong-bodies") for it in words.below(name)]
-    return all(left_by_ci(it) or call(["rt", "lib"], f"crates/{it}") for it in dict.fromkeys(names))
+    names = dict.fromkeys(it for name in edits.crates_with("wrong-bodies") for it in words.below(name))
+    return all(left_by_ci(it) or built(it) for it in names)
+
+
+def built(name):
+    """Whether `rt lib` builds a crate; its output is printed only if it fails."""
+    ran = subprocess.run(["rt", "lib"], cwd=f"crates/{name}", capture_output=True, text=True)
+    if ran.returncode:
+        print(ran.stdout + ran.stderr)
+    return ran.returncode == 0
 
 
 def build():
@@ -58,14 +62,6 @@ def build():
     return len(verdicts) == 1 and not any(it.returncode for it in running)
 
 
-def call(command, folder):
-    """Runs a command, whose output is printed only if it fails, and returns whether it succeeds."""
-    ran = subprocess.run(command, cwd=folder, capture_output=True, text=True)
-    if ran.returncode:
-        print(ran.stdout + ran.stderr)
-    return ran.returncode == 0
-
-
 def proved():
     """Runs `rt ci`, and returns its last line, or ends as it did."""
     ran = subprocess.Popen(["rt", "ci"], stdout=subprocess.PIPE, text=True, errors="replace")
@@ -78,8 +74,7 @@ def proved():
 
 
 def main():
-    without_old_libraries()
-    without_links()
+    clean()
     count = proved()
     tool, verdicts = "crates/scrypt_tool/out/scrypt_tool", "crates/test_verdicts/out/test_verdicts"
     for script in [["ci/program.py", tool], ["ci/hashes.py", tool, verdicts]]:

@@ -15,6 +15,7 @@ import sys
 
 sys.path.append(os.path.join(os.path.dirname(os.path.abspath(__file__)), "../compare"))
 import crypt64
+import known
 import phc
 import runs
 from known import CRYPT as MCF, EMPTY, PASSLIB as PHC, SHORT
@@ -114,17 +115,6 @@ REHASHES = [
     (MCF, (14, 8, 1, 32), False, "r of 32 is above"),
 ]
 
-# Hashes that cost more than `Limits::USUAL` allow, and the reason for the row.
-COSTLY = [
-    ("$scrypt$ln=40,r=8,p=1$c2FsdHNhbHQ$AAAAAAAAAAAAAAAAAAAA", "a pebibyte"),
-    ("$scrypt$ln=13,r=1,p=8192$c2FsdHNhbHQ$AAAAAAAAAAAAAAAAAAAA", "16 seconds in 3 MiB"),
-    ("$scrypt$ln=14,r=1,p=16384$c2FsdHNhbHQ$AAAAAAAAAAAAAAAAAAAA", "a minute in 4 MiB"),
-    ("$scrypt$ln=20,r=1,p=1048576$c2FsdHNhbHQ$AAAAAAAAAAAAAAAAAAAA", "days in 256 MiB"),
-    ("$scrypt$ln=50,r=1,p=16777216$c2FsdHNhbHQ$AAAAAAAAAAAAAAAAAAAA", "chunks of 2 GiB"),
-    ("$scrypt$ln=1,r=1,p=2000000$c2FsdHNhbHQ$AAAAAAAAAAAAAAAAAAAA", "11 seconds of PBKDF2, and few cores"),
-    ("$7$c6..../....saltsalt$......................", "a `$7$` text of a pebibyte"),
-]
-
 # Texts whose keys are shorter than the usual limits allow, and why.
 SHORT_KEYS = [
     ("$scrypt$ln=4,r=1,p=1$c2FsdHNhbHQ$AAAAAAAAAAAAAAAAAAAA", "a key of 15 bytes"),
@@ -219,7 +209,7 @@ def main():
     tool, program = sys.argv[1:]
     long = [(EMPTY[:KEY_AT] + "." * 1_000_000, "PasswordInvalid"), ("$7" + "$" * 1_000_000, "EncodingInvalid")]
     texts = [*beginnings(), *long] + [(text, "EncodingInvalid") for text, _ in UNREAD]
-    within = [(text, "TooCostly") for text, _ in COSTLY] + [(text, "KeyTooShort") for text, _ in SHORT_KEYS]
+    within = [(text, "TooCostly") for text in known.costly()] + [(text, "KeyTooShort") for text, _ in SHORT_KEYS]
     cases = verified(tool), rehashed(tool), made(tool), by_line(texts, program), by_line(within, program, "within")
     _, wrong = runs.report("hashes", itertools.chain(*cases))
     sys.exit(1 if wrong else 0)

@@ -14,7 +14,6 @@ derived everywhere, and `PartialEq` is derived or says that the whole values are
 """
 
 import glob
-import os
 import re
 import subprocess
 import sys
@@ -120,14 +119,10 @@ def main():
     wrong = complaints(own_sources())
     if sorted(glob.glob("crates/*/proofs/**/Proof.antt", recursive=True)) != BY_HAND:
         wrong.append(f"proofs by hand other than {', '.join(BY_HAND)}")
-    with edits.copied("out") as copy:
-        for name in edits.crates_with("must-not-compile"):
-            crate = os.path.join(copy, "crates", name)
-            for edit in edits.edits_of(name, "must-not-compile"):
-                with edits.applied(edit, crate):
-                    kind = refused_as(crate)
-                print(f"must-not-compile {edit}: {f'refused, as {kind}' if kind else 'NOT REFUSED'}", flush=True)
-                wrong += [] if kind else [f"{edit} was not refused"]
+    for edit, crate in edits.tried("must-not-compile", left_out=["out"]):
+        kind = refused_as(crate)
+        print(f"must-not-compile {edit}: {f'refused, as {kind}' if kind else 'NOT REFUSED'}", flush=True)
+        wrong += [] if kind else [f"{edit} was not refused"]
     sys.exit("\n".join(wrong) or 0)
 
 

@@ -1,15 +1,13 @@
 #!/usr/bin/env python3
 """Tries the bodies that meet every contract and are wrong still, which the tests have to refuse.
 
-No clause can say that an allocation succeeds, or how much a call allocates: a body that allocates once more,
-or that always returns `OutOfMemory`, is proved. Each edit of crates/NAME/refused-by-tests/ is such a
-body. It is applied to a copy of the repository, where everything still has to be proved, and a test of
-the crate NAME has to fail.
+No clause can say that an allocation succeeds, or how much a call allocates: a body that allocates once more, or that
+always returns `OutOfMemory`, is proved. Each edit of crates/NAME/refused-by-tests/ is such a body. It is applied to a
+copy of the repository, where everything still has to be proved, and a test of the crate NAME has to fail.
 
 usage: refused_by_tests.py [NAME..]    the crates, or all that have such a folder; minutes for each edit
 """
 
-import os
 import re
 import subprocess
 import sys
@@ -27,19 +25,12 @@ def failed_tests(crate):
 
 
 def main():
-    names = sys.argv[1:] or edits.crates_with("refused-by-tests")
     wrong = 0
-    with edits.copied() as copy:
-        for name in names:
-            crate = os.path.join(copy, "crates", name)
-            for edit in edits.edits_of(name, "refused-by-tests"):
-                with edits.applied(edit, crate):
-                    failed = failed_tests(crate)
-                if failed:
-                    print(f"{edit}: proved, and refused by {', '.join(failed)}", flush=True)
-                else:
-                    print(f"{edit}: {'NOT PROVED' if failed is None else 'NOT REFUSED'}", flush=True)
-                    wrong += 1
+    for edit, crate in edits.tried("refused-by-tests", sys.argv[1:]):
+        failed = failed_tests(crate)
+        verdict = f"proved, and refused by {', '.join(failed)}" if failed else "NOT PROVED" if failed is None else "NOT REFUSED"
+        print(f"{edit}: {verdict}", flush=True)
+        wrong += not failed
     sys.exit(1 if wrong else 0)
 
 

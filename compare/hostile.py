@@ -39,12 +39,6 @@ GREAT = 50
 MOST_BYTES, MOST_WORK, LEAST_KEY_LEN = 256 << 20, 16 * ((1 << 17) + 32) * 8, 16
 CHUNKS, TABLE, SCRATCH = 128 * 16, 32 * 16 * 16, 64 * 16
 
-# parameters that ask for seconds to days, for more memory than there is, or for a byte or a little work more than is
-# allowed; and those whose work is PBKDF2 more than cores, since N is small
-COSTLY = [(13, 1, 8192), (14, 1, 16384), (20, 1, 1048576), (50, 1, 16777216), (40, 8, 1), (56, 1, 1)]
-COSTLY += [(18, 8, 1), (17, 8, 5), (20, 1, 5), (10, 2048, 1), (4, 65536, 2)]
-COSTLY += [(1, 1, 2000000), (0, 1, 127132), (0, 127132, 1), (3, 8, 13111), (0, 1, 2097150)]
-
 # parameters that are exactly, or almost, what is allowed
 ALLOWED = [(17, 8, 1), (17, 8, 4), (20, 1, 4), (0, 1, 127131), (4, 16, 1), (4, 1, 16), (4, 1, 17), (5, 16, 1)]
 
@@ -180,12 +174,6 @@ def printed_within(verdict):
     return f"Err(Hash({printed(verdict)[4:-1]}))"
 
 
-def texts_of(log_n, r, p):
-    """A text of each format with these parameters; its password is not the empty one."""
-    salt, key = b"saltsalt", bytes(LEAST_KEY_LEN)
-    return phc.text(salt, key, log_n, r, p), crypt64.text("saltsalt", key, log_n, r, p)
-
-
 def random_params(rng):
     """Costs of every size, without end."""
     while True:
@@ -282,7 +270,7 @@ def disagree(title, pairs, printed, verdicts, as_printed):
 
 def slowly_refused(program):
     """Whether refusing a costly text takes a millisecond or more."""
-    texts = [text for params in COSTLY for text in texts_of(*params)] * 100
+    texts = known.costly() * 100
     began = time.monotonic()
     printed = answers([program, "within"], texts, MOST_BYTES)
     taken = (time.monotonic() - began) / len(texts)
@@ -304,8 +292,9 @@ def main():
     texts = [text for text, _ in pairs]
     # No text is to take more than 4 GiB.
     failed = [disagree("hostile texts", pairs, answers([program], texts, 1 << 32), VERDICTS, printed)]
-    params = COSTLY + ALLOWED + list(itertools.islice(random_params(random.Random(seed)), count // 10))
-    pairs = list(judged(texts + [text for it in params for text in texts_of(*it)], compared_within))
+    params = ALLOWED + list(itertools.islice(random_params(random.Random(seed)), count // 10))
+    texts += known.costly() + [text for it in params for text in known.texts_of(*it)]
+    pairs = list(judged(texts, compared_within))
     within = answers([program, "within"], [text for text, _ in pairs], MOST_BYTES)
     failed.append(disagree("within limits", pairs, within, VERDICTS + ["TooCostly", "KeyTooShort"], printed_within))
     sys.exit(1 if any(failed) or slowly_refused(program) else 0)

@@ -1,4 +1,7 @@
-"""Hashes that other programs made."""
+"""Hashes that other programs made, and costly ones."""
+
+import crypt64
+import phc
 
 # passlib's of `password`
 PASSLIB = "$scrypt$ln=16,r=8,p=1$aM15713r3Xsvxbi31lqr1Q$nFNh2CVHVjNldFVKDHDlm4CbdRSCdEBsjjJxD+iCs5E"
@@ -16,3 +19,18 @@ LONG = "$7$2/..../....$rNxJWVHNv/mCNcgE/f6/L4zO6Fos5c2uTzhyzoisI62zEPEbhb.Gs9XOp
 
 # of `password`, with the salt `NaCl`, by hashlib
 HASHLIB = "$scrypt$ln=4,r=1,p=1$TmFDbA$rsa3SD7SbgiAK0H0AyCGoOiGvnrEj8/ZL/DO+BCXUvQ"
+
+# parameters that ask for seconds to days, for more memory than there is, or for a byte or a little work more than the
+# usual limits allow; and those whose work is PBKDF2 more than cores, since N is small
+COSTLY = [(13, 1, 8192), (14, 1, 16384), (20, 1, 1048576), (50, 1, 16777216), (40, 8, 1), (56, 1, 1)]
+COSTLY += [(18, 8, 1), (17, 8, 5), (20, 1, 5), (10, 2048, 1), (4, 65536, 2)]
+COSTLY += [(1, 1, 2000000), (0, 1, 127132), (0, 127132, 1), (3, 8, 13111), (0, 1, 2097150)]
+
+
+def texts_of(log_n, r, p):
+    """A text of each format with these parameters and a key of 16 bytes; its password is not the empty one."""
+    return phc.text(b"saltsalt", bytes(16), log_n, r, p), crypt64.text("saltsalt", bytes(16), log_n, r, p)
+
+
+def costly():
+    return [text for params in COSTLY for text in texts_of(*params)]

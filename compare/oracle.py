@@ -100,13 +100,14 @@ def keys(program, rng):
 
 
 def hashes(program, rng):
-    """PHC hashes of random passwords, salts and parameters, and with keys of random lengths."""
-    for _ in range(CASES):
+    """Hashes of random passwords, salts and parameters in both formats, with keys of each length."""
+    for length in [*range(10, 65)] * 4:
         password, salt = some_bytes(rng, 140), some_bytes(rng, 64) + b"!"
-        params = rng.randrange(8), rng.choice((1, 2, 3, 8)), rng.randrange(1, 4)
-        key = expected_key(password, salt, *params, 64)
-        yield made(program, words_of("hash", "phc", *params, salt), password, phc.text(salt, key[:32], *params))
-        yield verified(program, phc.text(salt, key[: rng.randrange(10, 65)], *params), password)
+        params = rng.randrange(9), rng.choice((1, 2, 3, 8)), rng.randrange(1, 4)
+        for form in ("phc", "mcf"):
+            text = hash_of(form, password, salt, *params, length)
+            yield made(program, words_of("hash", form, *params, salt, length), password, text)
+            yield verified(program, text, password)
 
 
 def hashes_of_passlib(program, rng):
@@ -193,24 +194,12 @@ def rehashes_of_passlib(program, rng):
         yield f"{wanted} of {answer}", weaker and handler.needs_update(answer), False
 
 
-def key_lengths(program, rng):
-    """Hashes of both formats hold the key of each length, as hashlib derives it."""
-    for length in range(10, 65):
-        password, salt = some_bytes(rng, 40), rng.randbytes(rng.randrange(1, 40))
-        params = rng.randrange(1, 9), rng.choice((1, 2, 8)), rng.randrange(1, 4)
-        for form in ("phc", "mcf"):
-            text = hash_of(form, password, salt, *params, length)
-            yield made(program, words_of("hash", form, *params, salt, length), password, text)
-            yield verified(program, text, password)
-
-
 PARTS = {
     "keys of hashlib, or of plain Python if it refuses": keys,
-    "hashes of hashlib's keys": hashes,
+    "hashes with keys of 10 to 64 bytes": hashes,
     "hashes of passlib": hashes_of_passlib,
     "letters of salts in crypt Base64": letters,
     "hashes of crypt(3)": hashes_of_crypt,
-    "hashes with keys of 10 to 64 bytes": key_lengths,
     "rehashes by the definition in plain Python": rehashes,
     "rehashes of passlib": rehashes_of_passlib,
 }

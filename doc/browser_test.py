@@ -1,7 +1,7 @@
 #!/usr/bin/env python3
 """Reads the pages in a headless Chromium, as a reader does: by links, by keys, wide and narrow, light and dark.
 
-usage: browser_test.py [FOLDER [PICTURES]]    the folder of the pages, and one for pictures of them
+usage: browser_test.py [FOLDER]    the folder of the pages
 """
 
 import os
@@ -13,7 +13,6 @@ from sources import read
 
 HERE = os.path.dirname(os.path.abspath(__file__))
 PAGES = os.path.abspath(sys.argv[1] if len(sys.argv) > 1 else "build/doc")
-PICTURES = sys.argv[2] if len(sys.argv) > 2 else None
 KINDS = ["index.html", "reading.html", "all_definitions.html", "names.html", "trust.html", "kit.html"]
 LOOKS = [(1440, "light"), (1440, "dark"), (768, "light"), (360, "light"), (360, "dark")]
 
@@ -45,10 +44,6 @@ class Reading(unittest.TestCase):
         self.chromium.open(f"file://{PAGES}/{page}")
         self.chromium.add(read(f"{HERE}/measure.js") + "Object.assign(window, {faint, focused, focus_link});")
 
-    def picture(self, name):
-        if PICTURES:
-            self.chromium.picture(f"{PICTURES}/{name}.png")
-
     def test_from_the_headline_to_a_source(self):
         self.open("index.html")
         for href in WAY:
@@ -71,8 +66,6 @@ class Reading(unittest.TestCase):
                 wide = self.chromium.run("document.documentElement.scrollWidth - innerWidth")
                 self.assertLessEqual(wide, 0, f"{page} is wider than {width}")
                 self.assertEqual(self.chromium.run("faint()"), [], f"{page}, {scheme}")
-                if page in KINDS:
-                    self.picture(f"{page[:-5]}-{width}-{scheme}")
 
     def test_keys(self):
         self.open("index.html")
@@ -99,14 +92,12 @@ class Reading(unittest.TestCase):
         self.chromium.run("document.getElementById('query').focus()")
         self.chromium.type("quarter_round")
         self.chromium.press("ARROW_DOWN")
-        self.picture("search")
         self.chromium.enter()
         self.assertTrue(self.chromium.run("location.href").endswith(WAY[2]))
 
     def test_without_a_script(self):
         self.chromium.script(False)
         self.chromium.open(f"file://{PAGES}/names.html")
-        self.picture("no-script")
         self.chromium.script(True)
         self.assertGreater(self.chromium.run("document.querySelectorAll('main a').length"), 500)
         self.assertIsNone(self.chromium.run("document.getElementById('query')"))
@@ -116,6 +107,4 @@ if __name__ == "__main__":
     if not browser.found():
         print("doc: SKIPPED: the pages weren't read: Debian's chromium-driver and python3-selenium aren't installed")
         sys.exit(0)
-    if PICTURES:
-        os.makedirs(PICTURES, exist_ok=True)
     unittest.main(argv=sys.argv[:1])

@@ -31,22 +31,18 @@ def block(text, link):
     if lines and all(re.match(r"[-*] |  ", it) for it in lines):
         items = re.split(r"^[-*] ", text, flags=re.M)[1:]
         return "<ul>" + "".join(f"<li>{inline(' '.join(it.split()), link)}</li>" for it in items) + "</ul>"
-    heading = re.match(r"#+ (.*)", text)
-    if heading:
-        return f"<p><strong>{inline(heading[1], link)}</strong></p>"
     return f"<p>{inline(' '.join(text.split()), link)}</p>"
+
+
+def paragraphs(text, link):
+    return [block(it, link) for it in re.split(r"\n\s*\n", text) if it.strip()]
 
 
 def html(text, link=lambda name: None):
     """HTML of a comment."""
-    out = []
-    for place, part in enumerate(re.split(r"^```(\w*)\n(.*?)^```$", text + "\n", flags=re.M | re.S)):
-        if place % 3 == 0:
-            out += [block(it, link) for it in re.split(r"\n\s*\n", part) if it.strip()]
-        elif place % 3 == 1:
-            language = part
-        else:
-            code = part.rstrip("\n")
-            tokens = lexers.rust(code) if language in ("rust", "") else [("", code)]
-            out.append(f"<pre><code>{lexers.marked_up(tokens)}</code></pre>")
+    words, *more = re.split(r"^```(\w*)\n(.*?)\n```$", text + "\n", flags=re.M | re.S)
+    out = paragraphs(words, link)
+    for language, code, words in zip(more[::3], more[1::3], more[2::3]):
+        tokens = lexers.rust(code) if language in ("rust", "") else [("", code)]
+        out += [f"<pre><code>{lexers.marked_up(tokens)}</code></pre>", *paragraphs(words, link)]
     return "\n".join(out)

@@ -73,33 +73,25 @@ class Kit:
             return None
         return sources.read(path).strip()
 
-    @functools.lru_cache(maxsize=None)
+    @functools.cache
     def module(self, name):
         """A module of the kit by its name, or None."""
         first, _, rest = name.partition(".")
-        if self.folder is None or first == "Prim":
-            return None
         place = f"{LOGIC[first]}/{rest}" if first in LOGIC else rest
-        if first == "Rattle" and len(name.split(".")) < 4:
-            return None
         path = f"{self.folder}/{place.replace('.', '/')}.antt"
-        if os.path.exists(path):
-            return read_module(name, path, sources.read(path))
-        return self.alias(name)
+        return read_module(name, path, sources.read(path)) if os.path.exists(path) else self.alias(name)
 
     def alias(self, name):
         """The module that another one passes on whole, under this name."""
         above, _, last = name.rpartition(".")
-        if above.count(".") < 2 or last == "Lib":
-            return None
-        parent = self.module(f"{above}.Lib" if above.endswith(".specs") else above)
+        parent = self.module(f"{above}.Lib" if above.endswith(".specs") else above) if above.count(".") > 1 else None
         for whole in parent.whole if parent else ():
             if whole.endswith(f".{last}") and whole != name:
                 return self.module(whole)
         moved = parent and not parent.name.endswith(".Lib") and parent.name != above
         return self.module(f"{parent.name}.{last}") if moved else None
 
-    @functools.lru_cache(maxsize=None)
+    @functools.cache
     def find(self, module, name):
         """What a module declares or passes on under this name."""
         if module.startswith("Prim."):
@@ -134,13 +126,12 @@ class Kit:
     def declared(self, module, name):
         """A type of a library, in Rattle."""
         package, path = re.match(r"Rattle\.(\w+)\.specs\.declared\.(.*)", module).groups()
-        words = path.removesuffix(".TheVariants").split(".")
-        for file in ("/".join(words[:-1]) or "lib", "/".join(words[:-2])):
-            source = f"{self.folder}/{package}/src/{file}.rt"
-            text = sources.read(source) if os.path.exists(source) else ""
-            found = re.search(rf"^pub (?:struct|enum|union) {words[-1]}\b.*?^\}}", text, re.M | re.S)
-            if found:
-                return KitName("::".join([package, *words[:-1]]), words[-1], found.group())
+        *above, name_there = path.removesuffix(".TheVariants").split(".")
+        source = f"{self.folder}/{package}/src/{'/'.join(above) or 'lib'}.rt"
+        text = sources.read(source) if os.path.exists(source) else ""
+        found = re.search(rf"^pub (?:struct|enum|union) {name_there}\b.*?^\}}", text, re.M | re.S)
+        if found:
+            return KitName("::".join([package, *above]), name_there, found.group())
         return KitName(module, name, missing=NO_TEXT)
 
     def texts(self, package):
@@ -148,7 +139,7 @@ class Kit:
         paths = sorted(glob.glob(f"{self.folder}/{package}/src/**/*.rt", recursive=True)) if self.folder else []
         return (sources.read(it) for it in paths)
 
-    @functools.lru_cache(maxsize=None)
+    @functools.cache
     def relation(self, trait, name):
         """A relation of a trait of the kit."""
         for package in ("core", "std", "std_io", "std_alloc"):

@@ -42,15 +42,12 @@ def rust(text):
 
 def by_lines(tokens):
     """The tokens of each line. A token of several lines is cut."""
-    line = []
+    lines = [[]]
     for style, value in tokens:
         first, *more = value.split("\n")
-        line.append((style, first))
-        for piece in more:
-            yield line
-            line = [(style, piece)]
-    if any(value for _, value in line):
-        yield line
+        lines[-1].append((style, first))
+        lines += [[(style, piece)] for piece in more]
+    return lines if any(value for _, value in lines[-1]) else lines[:-1]
 
 
 def marked_up(tokens, link=lambda at: None):

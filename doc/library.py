@@ -84,27 +84,20 @@ class Library:
                 return Target(f"{page_of(source)}#{it.anchor}", it.kind, ("rust", crate, module, it.anchor))
         return None
 
-    def rust_path(self, source, path, seen=()):
+    def rust_path(self, source, path):
         """The target of a path of Rust as it is used in a source."""
-        if path in seen or path.count("::") > 8:
-            return None
-        words = path.split("::")
-        if words[0] in ("crate", "self", "super"):
-            crate = source.crate
-            here = source.module.split("::") if source.module else []
-            words = {"crate": [], "self": here, "super": here[:-1]}[words[0]] + words[1:]
-        elif words[0] in self.uses:
-            crate, words = words[0], words[1:]
-        elif len(words) > 1 and words[0] in source.uses:
-            return self.rust_path(source, f"{source.uses[words[0]][0]}::{'::'.join(words[1:])}", (*seen, path))
-        else:
-            crate = source.crate
-            words = (source.module.split("::") if source.module else []) + words
-        found = self.rust_item(crate, "::".join(words[:-1]), words[-1])
-        module = self.sources.get(crate, {}).get("::".join(words[:-1]))
-        if found or module is None or words[-1] not in module.uses:
+        first, *rest = path.split("::")
+        here = source.module.split("::") if source.module else []
+        if rest and first in source.uses and first not in self.uses:
+            return self.rust_path(source, "::".join([source.uses[first][0], *rest]))
+        crate = first if first in self.uses else source.crate
+        begin = {"crate": [], "self": here, "super": here[:-1], crate: []}
+        *words, name = begin.get(first, [*here, first]) + rest
+        found = self.rust_item(crate, "::".join(words), name)
+        module = self.sources[crate].get("::".join(words))
+        if found or module is None or name not in module.uses:
             return found
-        return self.rust_path(module, module.uses[words[-1]][0], (*seen, path))
+        return self.rust_path(module, module.uses[name][0])
 
     def rust_name(self, source, name):
         """The target of a word of Rust in a source: an item of its own, or one that it uses."""
@@ -142,31 +135,20 @@ class Library:
 
     def public_path(self, source, name):
         """The shortest path of an item of a source from outside of its crate, or None."""
-        crate = self.sources[source.crate]
-        found = []
-        for module, it in crate.items():
-            if self.module_is_public(source.crate, module):
-                for word, (path, public) in it.uses.items():
-                    if public and self.same(it, path, source, name):
-                        found.append("::".join(filter(None, (source.crate, module, word))))
-        if self.module_is_public(source.crate, source.module):
-            found.append("::".join(filter(None, (source.name, name))))
-        return min(found, key=lambda it: it.count("::")) if found else None
+        public = [it for it in self.sources[source.crate].values() if self.module_is_public(it)]
+        found = [f"{it.name}::{word}" for it in public for word, (path, is_public) in it.uses.items()
+                 if is_public and self.same(it, path, source, name)]
+        found += [f"{source.name}::{name}"] if source in public else []
+        return min(found, key=lambda it: it.count("::"), default=None)
 
     def same(self, user, path, source, name):
-        if not path.endswith(f"::{name}") and path != name:
-            return False
-        inner = path.removeprefix("crate::").removeprefix("self::").rsplit("::", 1)[0]
-        here = "::".join(filter(None, (user.module, inner)))
-        return source.module in (inner, here)
+        inner, _, last = path.removeprefix("crate::").removeprefix("self::").rpartition("::")
+        return last == name and source.module in (inner, "::".join(filter(None, (user.module, inner))))
 
-    def module_is_public(self, crate, module):
-        parts = module.split("::") if module else []
-        for count in range(len(parts)):
-            parent = self.sources[crate].get("::".join(parts[:count]))
-            if parent is None or not parent.modules.get(parts[count]):
-                return False
-        return True
+    def module_is_public(self, source):
+        above, _, name = source.module.rpartition("::")
+        parent = self.sources[source.crate].get(above)
+        return not source.module or bool(parent and parent.modules.get(name)) and self.module_is_public(parent)
 
 
 def text_page(path):

@@ -1,5 +1,6 @@
 """Reads definitions: the modules of specs/ and of proofs/, which are files of antt."""
 
+import itertools
 import re
 from dataclasses import dataclass, field
 
@@ -80,75 +81,45 @@ def comment_text(lines):
 
 def header_comment(lines):
     """The comment with which a file begins, if a blank line or an import is after it."""
-    count = 0
-    while count < len(lines) and lines[count].startswith("--"):
-        count += 1
-    after = lines[count] if count < len(lines) else ""
-    return comment_text(lines[:count]) if count and re.match(r"$|(pub )?(use|mod)\b", after) else ""
+    comment = list(itertools.takewhile(lambda it: it.startswith("--"), lines))
+    after = "".join(lines[len(comment) : len(comment) + 1])
+    return comment_text(comment) if re.match(r"$|(pub )?(use|mod)\b", after) else ""
 
 
-def blocks(lines):
-    """The parts of a file between blank lines, each with the number of its first line; an indented line after
-    a blank one belongs to the part before it."""
-    block, first = [], 0
-    for number, line in enumerate(lines, 1):
-        if not line.strip():
-            block.append(line)
-            continue
-        if not line.startswith(" ") and block and not block[-1].strip():
-            yield first, block
-            block = []
-        if not block:
-            first = number
-        block.append(line)
-    if block:
-        yield first, block
-
-
-def is_head(line):
-    found = HEAD.match(line)
-    return found and found["name"] not in NOT_HEADS and not line.startswith("--")
-
-
-def heads_in(lines):
-    """The places in a block at which definitions begin: an equation of one that has begun is not another."""
-    begun = set()
+def starts_in(lines):
+    """The places at which definitions begin, with their names: an equation of one that has begun is not another."""
+    begun = {}
     for at, line in enumerate(lines):
-        if is_head(line):
-            name = HEAD.match(line)["name"]
-            if name not in begun and re.match(rf".*?{re.escape(name)}\s*(?::|\(|\{{)", line):
-                begun.add(name)
-                yield at
+        found = HEAD.match(line)
+        name = found and found["name"]
+        if found and name not in NOT_HEADS and not line.startswith("--") and name not in begun:
+            if re.match(rf".*?{re.escape(name)}\s*(?::|\(|\{{)", line):
+                begun[name] = at
+    return begun
 
 
-def definitions_in(module, first, lines):
-    """The definitions of one block, each with the comment right above it."""
-    starts = list(heads_in(lines))
-    for place, at in enumerate(starts):
-        above = at
-        while above > 0 and lines[above - 1].startswith("--"):
-            above -= 1
-        end = starts[place + 1] if place + 1 < len(starts) else len(lines)
-        body = lines[at:end]
-        while body and (not body[-1].strip() or body[-1].startswith("--")):
-            body.pop()
-        found, text = HEAD.match(lines[at]), "\n".join(body)
-        kind = found["kind"] or found["how"] or "theorem"
-        members = " ".join(MEMBERS.findall(text)).split() if found["kind"] in ("record", "data") else []
-        comment = comment_text(lines[above:at])
-        yield Definition(module, found["name"], kind, bool(found["pub"]), text, comment, first + at, members)
+def definitions_in(module, lines):
+    """The definitions of a file by their names, each with the comment right above it. One ends before a blank line, unless
+    an indented line is after that."""
+    begun = starts_in(lines)
+    found = {}
+    for (name, at), after in zip(begun.items(), [*begun.values(), len(lines)][1:]):
+        text = re.split(r"\n\s*\n(?=\S)", "\n".join(lines[at:after]) + "\n")[0]
+        text = re.sub(r"(\n(--.*| *))*$", "", text)
+        above = list(itertools.takewhile(lambda it: it.startswith("--"), reversed(lines[:at])))
+        head = HEAD.match(lines[at])
+        members = " ".join(MEMBERS.findall(text)).split() if head["kind"] in ("record", "data") else []
+        found[name] = Definition(module, name, head["kind"] or head["how"] or "theorem", bool(head["pub"]), text,
+                                 comment_text(reversed(above)), at + 1, members)
+    return found
 
 
 def read_module(name, path, text):
     lines = text.splitlines()
     words, passed_on, whole = imports_of(text)
-    definitions = {}
-    for first, block in blocks(lines):
-        for it in definitions_in(name, first, block):
-            definitions.setdefault(it.name, it)
     # a whole module that a file passes on or declares is one of its table of contents
     order = re.findall(r"^pub (?:mod|use) ([\w.]+)$", text, re.M)
-    return Module(name, path, header_comment(lines), definitions, words, passed_on, whole, order)
+    return Module(name, path, header_comment(lines), definitions_in(name, lines), words, passed_on, whole, order)
 
 
 def standards(*comments):

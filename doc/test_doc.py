@@ -5,7 +5,6 @@ import unittest
 from pathlib import Path
 
 import checks
-import comments
 import kit
 import library
 import links
@@ -172,7 +171,7 @@ class Readers(unittest.TestCase):
         self.assertEqual(found["key"].comment, "step 1: the first key (RFC 8018, section 5.2)")
         self.assertEqual(module.imports["lowest"], ("Rattle.one.specs.Low", "low"))
         rfc = "https://www.rfc-editor.org/rfc/rfc8018.html#section-5.2"
-        self.assertIn(("RFC 8018, section 5.2", rfc), specs.standards(found["key"].comment, module.comment))
+        self.assertEqual(specs.standards(found["key"].comment), [("RFC 8018, section 5.2", rfc)])
 
     def test_sources(self):
         source = sources.read_source("one", "crates/one/src/key.rt", SOURCE)
@@ -204,17 +203,8 @@ class Readers(unittest.TestCase):
             self.assertEqual(it and sources.checked_path(crate, source, it), wanted, reason)
 
     def test_bound_variables(self):
-        rows = [
-            ("λ x y. x", {"x", "y"}),
-            ("λ (pair : List ℕ). pair.0", {"pair"}),
-            ("(x y : ℕ) → {z : ℕ} → x ≡ y", {"x", "y", "z"}),
-            ("let a = b in a", {"a"}),
-            ("do\n  n ← number text\n  Some n", {"n"}),
-            ("record { log_n = a; r = b }", {"log_n", "r"}),
-            ("IsKey k", set()),
-        ]
-        for text, wanted in rows:
-            self.assertEqual(links.bound_in(text), wanted, text)
+        text = "λ x (y : List ℕ). (z : ℕ) → IsKey k\n  n ← number text\n  let a = b in record { log_n = c; r = d }"
+        self.assertEqual(links.bound_in(text), {"x", "y", "z", "n", "a", "log_n", "r"})
 
 
 class Pages(unittest.TestCase):
@@ -237,24 +227,12 @@ class Pages(unittest.TestCase):
 
     def test_links_and_targets(self):
         page = '<a href="b.html#x">x</a><p id="x"></p>'
-        rows = [
-            ({"a.html": page, "b.html": page}, [], "every link has its target"),
-            ({"a.html": page}, ["a.html: the link b.html#x leads nowhere"], "no page"),
-            ({"a.html": page, "b.html": ""}, ["a.html: the link b.html#x leads nowhere"], "no target"),
-            ({"b.html": page + '<p id="x"></p>'}, ["b.html: two targets are named x"], "two targets"),
-            ({"a.html": '<a href="https://example.org/x">x</a>'}, [], "a link to another site"),
-        ]
-        for pages, wanted, reason in rows:
-            self.assertEqual(checks.links(pages)[1], wanted, reason)
+        nowhere = ["a.html: the link b.html#x leads nowhere"]
+        self.assertEqual(checks.links({"a.html": page}), (1, nowhere))
+        self.assertEqual(checks.links({"a.html": page, "b.html": ""}), (1, nowhere))
+        self.assertEqual(checks.links({"b.html": page + '<p id="x"></p>'}), (1, ["b.html: two targets are named x"]))
 
     def test_the_headline(self):
         readme = "> For [keys](a.md#b), `scrypt`\n> writes *one*.\n"
         self.assertEqual(checks.headline("For keys, `scrypt` writes one.", readme), [])
         self.assertEqual(len(checks.headline("For keys, it writes two.", readme)), 1)
-
-    def test_comments(self):
-        text = "One [`Key`] and `a < b`.\n\n```rust\nlet x = 1;\n```\n\n- first\n- second\n"
-        html = comments.html(text, {"Key": "key.html"}.get)
-        self.assertIn('<a href="key.html"><code>Key</code></a> and <code>a &lt; b</code>', html)
-        self.assertIn("<li>second</li>", html)
-        self.assertIn("<pre><code>", html)

@@ -51,7 +51,8 @@ def statement(definition):
 
 class Views:
     def __init__(self, library):
-        self.library, self.links, self.by_name = library, links.Links(library), {}
+        self.library, self.links = library, links.Links(library)
+        self.by_name, self.by_key = {}, {}
         self.crates = library.crates()
         specs_of = {crate: [it for it in library.specs_of(crate) if it.definitions] for crate in library.uses}
         modules = itertools.chain(*specs_of.values())
@@ -127,6 +128,7 @@ class Views:
         parts = [self.of_clause(source, it, clause, trait, name) for clause in clauses]
         kind = it.kind if it.kind not in TYPES or self.library.is_public(source, it) else f"private {it.kind}"
         self.by_name.update((f"{name} {part['name']}", part) for part in parts)
+        self.by_key.update((part["key"], part) for part in parts)
         href = f"{page_of(source)}#{it.anchor}"
         return Shown(("rust", source.crate, source.module, it.anchor), kind, name, it.anchor, href,
                      comments.html(it.doc, self.doc_link(source)), self.links.rust(it.text, source),
@@ -177,16 +179,12 @@ class Views:
 
     def citers(self, key):
         """Those that cite a definition: clauses, definitions and vectors, each with a label and an address."""
-        clauses, definitions = [], []
-        for citer in self.links.cited.get(key, ()):
-            if citer[0] == "rust":
-                source = self.library.sources[citer[1]][citer[2]]
-                it = self.library.item(citer)
-                clause = re.sub("^(requires|relation)-", "", citer[4])
-                clauses.append((self.name_of(source, it), clause, f"{page_of(source)}#{citer[3]}.{citer[4]}"))
-            elif STANDARD_FACTS not in citer[1]:
-                definitions.append((citer[2], citer[1].rsplit(".", 1)[-1], definition_target(*citer[1:]).href))
-        return {"clauses": clauses, "definitions": definitions}
+        citers = self.links.cited.get(key, ())
+        clauses = [self.by_key[it] for it in citers if it[0] == "rust"]
+        definitions = [it[1:] for it in citers if it[0] == "definition" and STANDARD_FACTS not in it[1]]
+        return {"clauses": [(it["of"], it["name"], it["href"]) for it in clauses],
+                "definitions": [(name, module.rsplit(".", 1)[-1], definition_target(module, name).href)
+                                for module, name in definitions]}
 
     def closure(self, roots):
         """The definitions that these rest on, with themselves, in reading order."""
