@@ -13,7 +13,7 @@ trap 'rm -rf "$room"' EXIT
 for place in "$bindir" "$libdir" "$includedir" "$datarootdir" "$mandir" "$docdir" "$pythondir"; do
   case $place in
     /*) ;;
-    *) echo "not an absolute path: $place (say prefix=/..)" >&2; exit 1 ;;
+    *) echo "not an absolute path: $place (use prefix=/..)" >&2; exit 1 ;;
   esac
 done
 

@@ -16,13 +16,13 @@
 #define LARGE ((size_t)32 << 20)
 #define PAGE ((size_t)4096)
 
-/* Writes zeros, which the compiler may not leave out. */
+/* Writes zeros, in a way that the compiler may not optimize away. */
 static void overwrite(void *block, size_t len) {
   memset(block, 0, len);
   __asm__ volatile("" ::"r"(block) : "memory");
 }
 
-/* Gives whole pages back to the system, and overwrites what is beside them; or overwrites all. */
+/* Returns whole pages to the system, and overwrites the rest; or overwrites all. */
 static void clear_block(uint8_t *block, size_t len) {
   size_t front = (PAGE - (uintptr_t)block % PAGE) % PAGE;
   if (len >= LARGE) {
@@ -50,7 +50,7 @@ void clearing_free(void *block) {
 
 void *clearing_malloc(size_t len) { return malloc(len); }
 
-/* Never grows a table, which is allocated whole. */
+/* Never has to grow a table, which is allocated at its full size. */
 void *clearing_realloc(void *block, size_t len) {
   void *other = malloc(len);
   size_t had;

@@ -1,5 +1,5 @@
-/* Memory that is kept from call to call, and memory that is mapped for one call. Not proved: what is proved are the
- * calls that run in this memory, or within its bounds. */
+/* Memory that is kept from call to call, and memory that is mapped for one call. Not proved; the calls that run in this
+ * memory are. */
 #define _DEFAULT_SOURCE
 #include "scrypt_c.h"
 
@@ -16,8 +16,8 @@ struct scrypt_memory {
   size_t mapped;
   uint32_t *front; /* where the buffers begin */
   size_t room;     /* how many bytes there are from there on */
-  size_t used;     /* how many of them were handed to a call since they were zeros */
-  size_t refused;  /* the least bytes that the system refused for two tables, which it isn't asked for again */
+  size_t used;     /* how many of them were passed to a call since they were last zeroed */
+  size_t refused;  /* the smallest size that the system refused for two tables, which is not tried again */
 };
 
 /* The buffers of a derivation: the table, the scratch and the chunks, one after another. */
@@ -91,7 +91,7 @@ static int place(scrypt_memory *memory, struct buffers *buffers) {
   return SCRYPT_OK;
 }
 
-/* The buffers, if the system gives so much memory: less will do too. */
+/* The buffers, if the system has enough memory for them; the caller can do with less. */
 static int place_two(scrypt_memory *memory, struct buffers *two) {
   if (bytes_of(two) > memory->room && bytes_of(two) >= memory->refused) return SCRYPT_OUT_OF_MEMORY;
   if (place(memory, two) == SCRYPT_OK) return SCRYPT_OK;
@@ -254,7 +254,7 @@ int scrypt_verify_in(scrypt_memory *memory, const uint8_t *password, size_t pass
   return status == SCRYPT_OK ? verify(memory, &login, &of) : status;
 }
 
-/* Takes room for both derivations: the bytes of each are within a bound of the memory, and those of both may not be. */
+/* Takes buffers for both derivations. The bytes of each are within the bound, but those of both together need not be. */
 static int take_two(scrypt_memory *memory, const struct buffers *one, const struct buffers *other,
                     struct buffers *two) {
   if (bytes_of(one) > SIZE_MAX - bytes_of(other)) return SCRYPT_OUT_OF_MEMORY;

@@ -1,5 +1,5 @@
-/* Salts, and hashes with a salt that is drawn: not proved. The system call is made by its number, so that no newer C library
- * is needed for it. */
+/* Salts, and hashes with a random salt. Not proved. getrandom is called by its number, so that an older C library is
+ * enough. */
 #define _DEFAULT_SOURCE
 #include "scrypt_c.h"
 

@@ -1,4 +1,4 @@
-/* scrypt_version: not proved. lib.sh takes the version from the file VERSION, and says which processor it builds for. */
+/* scrypt_version. Not proved. lib.sh defines the version, from the file VERSION, and the processor that it builds for. */
 #include "scrypt_c.h"
 
 const char *scrypt_version(void) { return LIBRARY_VERSION " " PROCESSOR; }

@@ -35,7 +35,7 @@ static const char LETTERS[] = "./0123456789ABCDEFGHIJKLMNOPQRSTUVWXYZabcdefghijk
  * library by ld.so.preload, so it can't refuse to be loaded there. */
 __attribute__((visibility("hidden"))) int scrypt_is_refused_at_calls = 0;
 
-/* A setting is a prefix, or a whole hash, whose key is not read. */
+/* A setting is a prefix, or a whole hash, whose key is ignored. */
 static int is_scrypt(const char *setting) { return setting != NULL && strncmp(setting, "$7$", 3) == 0; }
 
 static int is_letter(char it) { return it != '\0' && strchr(LETTERS, it) != NULL; }
@@ -127,7 +127,7 @@ static int hash(const char *phrase, const char *setting, char output[CRYPT_OUTPU
   return error;
 }
 
-/* The text that is returned if there is no hash, as far as it fits. No $7$ setting begins with it. */
+/* The failure token, which is returned in place of a hash, as far as it fits. No $7$ setting begins with it. */
 static void put_failure_token(char *output, int size) {
   if (size > 2) output[2] = '\0';
   if (size > 1) output[1] = size > 2 ? '0' : '\0';

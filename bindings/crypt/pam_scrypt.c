@@ -42,7 +42,7 @@ static int is_password(const char *password, const char *hash) {
   return same;
 }
 
-/* Whether the line of the user asks for more days between two changes. */
+/* Whether the minimum age in the user's line is not over. */
 static int is_too_early(const struct spwd *line) {
   long today = (long)(time(NULL) / 86400);
   return line->sp_min > 0 && line->sp_lstchg > 0 && line->sp_lstchg <= today && today - line->sp_lstchg < line->sp_min;
@@ -59,7 +59,7 @@ static int check(pam_handle_t *pamh, int flags, const char *user) {
   line = getspnam(user);
   if (line == NULL || !is_password(old, line->sp_pwdp)) {
     (void)pam_fail_delay(pamh, DELAY_OF_A_WRONG_PASSWORD);
-    pam_syslog(pamh, LOG_NOTICE, "wrong password of %s, by the user %ld", user, (long)getuid());
+    pam_syslog(pamh, LOG_NOTICE, "wrong password for %s, from user %ld", user, (long)getuid());
     return PAM_AUTH_ERR;
   }
   if (!is_too_early(line)) return PAM_SUCCESS;
@@ -106,7 +106,7 @@ static int store(pam_handle_t *pamh, int flags, const char *user, const char *re
     error = errno;
   free(hash);
   if (error == 0) return PAM_SUCCESS;
-  pam_syslog(pamh, LOG_ERR, "no new password of %s: %s", user, reason_of(error));
+  pam_syslog(pamh, LOG_ERR, "no new password for %s: %s", user, reason_of(error));
   print(pamh, flags, reason_of(error));
   return error == EBUSY ? PAM_AUTHTOK_LOCK_BUSY : PAM_AUTHTOK_ERR;
 }
@@ -123,7 +123,7 @@ static int change(pam_handle_t *pamh, int flags, const char *user) {
   if (needs_old(flags)) {
     replaced = hash_to_replace(pamh, user, password);
     if (replaced == NULL) {
-      pam_syslog(pamh, LOG_NOTICE, "the password of %s was changed by another process", user);
+      pam_syslog(pamh, LOG_NOTICE, "the password for %s was changed by another process", user);
       return PAM_AUTH_ERR;
     }
   }

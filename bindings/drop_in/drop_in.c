@@ -68,25 +68,25 @@ static int derive(const uint8_t *password, size_t password_len, const uint8_t *s
   if (r == 0 || p == 0) return refused(EINVAL);
   if (n > most_n) return refused(EFBIG);
   if (n < 2 || (n & (n - 1)) != 0) return refused(EINVAL);
-  /* What is refused now is a table that no memory holds. */
+  /* What is still refused is a table larger than memory. */
   if (derive_key(password, password_len, salt, salt_len, log_of(n), r, p, output, output_len) != SCRYPT_OK)
     return refused(ENOMEM);
   return 0;
 }
 
-/* Of libscrypt-kdf. */
+/* libscrypt-kdf's function. */
 API int crypto_scrypt(const uint8_t *password, size_t password_len, const uint8_t *salt, size_t salt_len,
                       uint64_t n, uint32_t r, uint32_t p, uint8_t *output, size_t output_len) {
   return derive(password, password_len, salt, salt_len, n, UINT64_MAX, r, p, output, output_len);
 }
 
-/* Of libscrypt. */
+/* libscrypt's function. */
 API int libscrypt_scrypt(const uint8_t *password, size_t password_len, const uint8_t *salt, size_t salt_len,
                          uint64_t n, uint32_t r, uint32_t p, uint8_t *output, size_t output_len) {
   return derive(password, password_len, salt, salt_len, n, UINT64_MAX, r, p, output, output_len);
 }
 
-/* The rest is of libsodium. */
+/* The rest are libsodium's functions. */
 
 /* N, r and p for limits of work and of memory: r is 8, N is as large as both limits let it be, and p takes
  * the work that is left. */

@@ -52,11 +52,11 @@ static ssize_t read_line(char *line) {
   return len;
 }
 
-/* Writes to the terminal, or, if that was opened for reading alone, to the standard error. */
+/* Writes to the terminal, or to standard error if the terminal was opened for reading only. */
 static void say(const char *text) {
   size_t len = strlen(text);
   if (write(STDIN_FILENO, text, len) < 0 && write(STDERR_FILENO, text, len) < 0) {
-    /* nobody sees the prompt, and the password is read all the same */
+    /* the prompt is not shown, but the password is still read */
   }
 }
 
@@ -82,7 +82,7 @@ static ssize_t password_of(char *line) {
   return same ? len : -1;
 }
 
-/* The same without echo. In the background this can't be turned off, and what the terminal is set to is the shell's. */
+/* The same without echo. In the background echo can't be turned off: the terminal's settings are those of the shell. */
 static ssize_t without_echo(char *line) {
   struct termios with_echo, silent;
   if (tcgetattr(STDIN_FILENO, &with_echo) != 0) return -1;
@@ -94,9 +94,9 @@ static ssize_t without_echo(char *line) {
   return len;
 }
 
-/* A signal that ends or stops the program does so only once the echo is back. All but SIGTTOU, without which a program in
-   the background would change the terminal, wait while it is turned off and on. After SIGSTOP, which can't be handled,
-   SIGCONT asks again, as the shell may have turned it on. */
+/* A signal that ends or stops the program takes effect only after echo is on again. All signals but SIGTTOU, without which
+   a program in the background would change the terminal, wait while echo is turned off and on. After SIGSTOP, which can't
+   be handled, SIGCONT asks again, since the shell may have turned echo on. */
 static ssize_t ask(char *line) {
   struct sigaction noted, before[NSIG];
   caught = 0;
@@ -118,7 +118,7 @@ static ssize_t ask(char *line) {
   return len;
 }
 
-/* As read(2), but that the first read of a terminal gives the password that was asked for, and later ones its end. */
+/* Like read(2), but the first read from a terminal asks for the password and returns it, and later ones return its end. */
 ssize_t read_or_ask(int fd, void *buffer, size_t len) {
   static char line[LINE];
   static ssize_t rest = -2; /* how much of the line is left; -2 before it was asked for, and -1 if that failed */

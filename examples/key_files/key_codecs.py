@@ -1,4 +1,4 @@
-"""What key files are written in and Python lacks: Base64 without padding, Base58Check, DER and Keccak-256."""
+"""Encodings of key files that Python lacks: Base64 without padding, Base58Check, DER; and Keccak-256."""
 
 import base64
 import hashlib
@@ -36,7 +36,7 @@ def double_sha256(data):
 
 
 def from_base58(text):
-    """The bytes of Base58Check, without the four bytes of its checksum, which have to be right."""
+    """The bytes of Base58Check, without its checksum of four bytes, which is verified."""
     number = 0
     for letter in text:
         number = 58 * number + BASE58.index(letter)
@@ -57,7 +57,7 @@ def to_base58(data):
 
 
 def from_der(data, depth=8):
-    """The items of DER: a list for each sequence, at most so deep, a number for each integer, and else bytes."""
+    """The items of DER, up to this depth: a list for a sequence, a number for an integer, and bytes for anything else."""
     items = []
     while data:
         if len(data) < 2 or depth == 0:
@@ -104,7 +104,7 @@ def permuted(state):
 
 
 def keccak_256(data):
-    """Keccak-256, whose padding is another than that of SHA3-256."""
+    """Keccak-256, whose padding differs from that of SHA3-256."""
     padding = RATE - len(data) % RATE
     data += b"\x81" if padding == 1 else b"\x01" + bytes(padding - 2) + b"\x80"
     state = [0] * 25

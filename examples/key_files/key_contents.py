@@ -1,4 +1,4 @@
-"""What is around the keys of key_file.py: their contents, and files like those of the real programs."""
+"""The contents that the keys of key_file.py decrypt, and files like those of the real programs."""
 
 import hashlib
 import hmac
@@ -44,7 +44,7 @@ def age_mac(header, file_key):
 
 
 def age_content(file, file_key):
-    """The content of a file of age. What was changed is refused."""
+    """The content of a file of age. A modified file is refused."""
     header, rest = file.split(b"\n---", 1)
     mac, payload = rest.split(b"\n", 1)
     if mac != b" " + age_mac(header + b"\n---", file_key):
@@ -73,7 +73,7 @@ def age_file(content, password, log_n, key_of):
 
 
 def tarsnap_content(file, keys):
-    """The content of a file of `scrypt enc`. What was changed is refused."""
+    """The content of a file of `scrypt enc`. A modified file is refused."""
     # The header alone has the form of a whole file: its last 32 bytes are the HMAC of those before.
     if len(file) < 128 or not hmac.compare_digest(hmac.digest(keys[1], file[:-32], "sha256"), file[-32:]):
         raise ValueError("another file")
@@ -127,7 +127,7 @@ def pkcs8_file(private_info, password, params, key_of, scrypt_id, cipher_id):
 
 
 def private_info(key):
-    """A private key as PKCS#8 writes it when it is not encrypted."""
+    """A private key in unencrypted PKCS#8."""
     return key.private_bytes(Encoding.DER, PrivateFormat.PKCS8, NoEncryption())
 
 
@@ -158,7 +158,7 @@ def bitcoin_address(secret, compressed):
 
 
 def bip38_file(secret, compressed, password, address_text, key_of):
-    """A private key as BIP38 encrypts it, before its checksum. The salt is of the text of the address."""
+    """A private key as BIP38 encrypts it, before its checksum. The salt comes from the text of the address."""
     salt = double_sha256(address_text.encode())[:4]
     stream = key_of(password, salt, 1 << 14, 8, 8, 64)
     head = b"\x01\x42" + (b"\xe0" if compressed else b"\xc0") + salt

@@ -1,4 +1,4 @@
-"""What other implementations of scrypt make, each in a process of its own, for the tests of the examples."""
+"""Runs other implementations of scrypt, each in a separate process, for the tests of the examples."""
 
 import json
 import os
@@ -75,19 +75,19 @@ def python_with(statement, what):
 
 
 def answers(words, cases, env=None):
-    """The lines that a program prints for cases, a line of JSON for each."""
+    """The lines that a program prints for these cases, each of which it reads as a line of JSON."""
     lines = "".join(json.dumps(case) + "\n" for case in cases)
     ran = subprocess.run(words, input=lines, capture_output=True, text=True, check=True, env=os.environ | (env or {}))
     return ran.stdout.split("\n")[:-1]
 
 
 def asked(module, call, cases, what):
-    """What a call of a Python module makes of each case."""
+    """The result of a call of a Python module for each case."""
     return answers([python_with(module, what), "-c", module + "\n" + ASK.format(call)], cases)
 
 
 def go_keys(example, cases):
-    """What a Go program prints of these cases, by the function of this file that writes a key's text."""
+    """The output of a Go program for these cases, which uses the function of this file that writes a key's text."""
     command = installed("go")
     if not os.path.isdir(GO["GOPATH"] + "/src/golang.org/x/crypto/scrypt"):
         raise Missing("golang-golang-x-crypto-dev")

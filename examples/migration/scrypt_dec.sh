@@ -1,6 +1,6 @@
 # shellcheck shell=sh
 # Derives the key of $file, which `scrypt enc` made, from $password, checks both HMACs and writes the decrypted contents.
-# For a wrong password or a changed file it writes nothing and the status is not 0. Nothing bounds $params: a file that
+# For a wrong password or a modified file it writes nothing, and the status is not 0. $params has no bounds: a file that
 # `scrypt enc` writes by default needs 1 GiB, and an untrusted one may ask for more. Other users of the machine can see the
 # key in the list of processes while openssl runs.
 hex() { od -An -v -tx1 | tr -d ' \n'; }
