@@ -1,4 +1,5 @@
 -- What follows from the definitions of crypt Base64.
+use Rattle.std.proofs.Math.Seq.{drop-length}
 use Rattle.std.proofs.Common.{◌≡◌, ◌≢◌, ◌∙◌, sym, ap, refl, arith, ℕ, zero, suc, ◌+◌, ◌-◌, ◌*◌, ◌/◌, ◌%◌, ◌^◌, ◌<◌, ◌≤◌}
 use Rattle.std.proofs.Common.{Option, Some, None, List, [], ◌∷◌, ◌++◌, length, drop, set, get_or, append_assoc, add-one}
 use Rattle.std.proofs.Common.{length-drop}
@@ -150,3 +151,6 @@ pub set-after : (done old : List ℕ) (len x : ℕ) → length done ≡ len → 
 set-after done old len x count inside =
     rw (add-one, drop-cons old len 0) (set_at done (get_or old len 0) (drop (suc len) old) x len count
     ∙ sym (append_assoc done (x ∷ []) (drop (suc len) old)))
+
+-- reading letters, the last one first
+pub ruleset numbers = (number_of-more, number_of-None, number_of-last, letter-of_value, drop-length)

@@ -8,7 +8,7 @@ use Rattle.std.proofs.lemmas.Slice.Eq.{bytes_eq-Decides}
 use Rattle.password_hash.specs.Crypt64.{Crypt64, IsCrypt64, bytes_of_number, crypt64_of, decoded, letters_of, number_of}
 use Rattle.password_hash.proofs.AlphabetFacts.{letter_value-letter}
 use Rattle.password_hash.proofs.Crypt64Facts.{AreBytes, number_of-letters_of}
-use Rattle.password_hash.proofs.GroupFacts.{le_number, length-crypt64_of}
+use Rattle.password_hash.proofs.GroupFacts.{bytes_of-le_number, le_number, length-crypt64_of}
 
 -- the letters of a number, and others after them
 number_of-front : (number above : ℕ) (rest : List ℕ) → number < 64 ^ 4 → number_of rest ≡ Some above
@@ -40,16 +40,6 @@ number_of-crypt64_of (a ∷ b ∷ c ∷ rest) are =
     number_of-front (a + 256 * b + 65536 * c) (le_number rest) (crypt64_of rest) (omega arith)
     (number_of-crypt64_of rest (All-tail (λ x. x < 256) c rest last))
     ∙ ap Some (omega arith)
-
--- bytes are those of their number
-bytes_of-le_number : (bytes : List ℕ) → AreBytes bytes → bytes_of_number (length bytes) (le_number bytes) ≡ bytes
-unfolding bytes_of_number
-bytes_of-le_number [] are = refl
-bytes_of-le_number (byte ∷ bytes) are =
-    let small : byte < 256 = All-head (λ b. b < 256) byte bytes are in
-    let low : (byte + 256 * le_number bytes) % 256 ≡ byte = omega arith in
-    let high : (byte + 256 * le_number bytes) / 256 ≡ le_number bytes = omega arith in
-    rw (low, high, bytes_of-le_number bytes (All-tail (λ b. b < 256) byte bytes are)) refl
 
 bytes_of_number-are_bytes : (count number : ℕ) → AreBytes (bytes_of_number count number)
 unfolding bytes_of_number

@@ -1,5 +1,5 @@
 -- Bytes and letters by groups: how many there are, and what a group encodes.
-use Rattle.std.proofs.Common.{◌≡◌, ◌≢◌, inl, inr, ◌∙◌, sym, ap, refl, arith, ℕ, zero, suc, ◌+◌, ◌*◌, ◌/◌, ◌^◌, ◌<◌, ◌≤◌}
+use Rattle.std.proofs.Common.{◌≡◌, ◌≢◌, inl, inr, ◌∙◌, sym, ap, refl, arith, ℕ, zero, suc, ◌+◌, ◌*◌, ◌/◌, ◌%◌, ◌^◌, ◌<◌, ◌≤◌}
 use Rattle.std.proofs.Common.{min, Some, List, [], ◌∷◌, ◌++◌, length, take, drop, replicate, append_assoc, add-one}
 use Rattle.std.proofs.Common.{length-append, length-drop}
 use Rattle.std.proofs.Math.Nat.{pow-suc}
@@ -9,7 +9,7 @@ use Rattle.std.proofs.Math.Seq.{take-append_seam, drop-append_seam}
 use Rattle.std.proofs.lemmas.List.{nil_from_length, append-nil, take_at, drop_at, take_all, drop_all, take_min}
 use Rattle.std.proofs.lemmas.List.{drop_min, take-append-drop, length-take, length-take-le}
 use Rattle.std.proofs.lemmas.List.Elements.{All-nil, All-head, All-tail, All-append, All-take, All-drop, All-from_recursion}
-use Rattle.password_hash.specs.Crypt64.{letters_of, number_of, crypt64_of, Crypt64, IsCrypt64, encoded_len, Begins}
+use Rattle.password_hash.specs.Crypt64.{bytes_of_number, letters_of, number_of, crypt64_of, Crypt64, IsCrypt64, encoded_len, Begins}
 use Rattle.password_hash.proofs.Crypt64Facts.{AreBytes, length-letters_of, number_of-letters_of, letters_of-number_of}
 
 -- the number of letters is the one that is stated
@@ -60,17 +60,15 @@ le_number-below (byte ∷ rest) bytes =
     let tail = le_number-below rest (All-tail (λ b. b < 256) byte rest bytes) in
     rw (pow-suc 256 (length rest)) (omega (arith, tail))
 
--- the number and the length determine the bytes
-le_number-one : (xs ys : List ℕ) → length xs ≡ length ys → AreBytes xs → AreBytes ys → le_number xs ≡ le_number ys → xs ≡ ys
-le_number-one [] ys count x-bytes y-bytes same = sym (nil_from_length ys (sym count))
-le_number-one (x ∷ xs) [] count x-bytes y-bytes same = absurd (omega arith)
-le_number-one (x ∷ xs) (y ∷ ys) count x-bytes y-bytes same =
-    let x-fits : x < 256 = All-head (λ b. b < 256) x xs x-bytes in
-    let y-fits : y < 256 = All-head (λ b. b < 256) y ys y-bytes in
-    let first : x ≡ y = omega arith in
-    let rest = le_number-one xs ys (omega arith) (All-tail (λ b. b < 256) x xs x-bytes)
-    (All-tail (λ b. b < 256) y ys y-bytes) (omega arith) in
-    rw (first, rest) refl
+-- bytes are those of their number
+pub bytes_of-le_number : (bytes : List ℕ) → AreBytes bytes → bytes_of_number (length bytes) (le_number bytes) ≡ bytes
+unfolding bytes_of_number
+bytes_of-le_number [] are = refl
+bytes_of-le_number (byte ∷ bytes) are =
+    let small : byte < 256 = All-head (λ b. b < 256) byte bytes are in
+    let low : (byte + 256 * le_number bytes) % 256 ≡ byte = omega arith in
+    let high : (byte + 256 * le_number bytes) / 256 ≡ le_number bytes = omega arith in
+    rw (low, high, bytes_of-le_number bytes (All-tail (λ b. b < 256) byte bytes are)) refl
 
 -- up to three bytes, with zeros after them, as the number that is read of all four
 pub le_number-from_le_bytes : (bytes : List ℕ) → length bytes ≤ 3
@@ -177,7 +175,9 @@ group-one group xs ys is is' =
     let x-encodes = encodes group xs is in
     let y-encodes = encodes group ys is' in
     let both = sym x-encodes.number ∙ y-encodes.number in
-    le_number-one xs ys (omega (arith, x-encodes.count, y-encodes.count)) is.are_bytes is'.are_bytes (cc)
+    let len : length xs ≡ length ys = omega (arith, x-encodes.count, y-encodes.count) in
+    let number : le_number xs ≡ le_number ys = cc in
+    sym (bytes_of-le_number xs is.are_bytes) ∙ rw (len, number) (bytes_of-le_number ys is'.are_bytes)
 
 -- letters are the group of so many bytes if their number fits into them
 pub is_group : (group : List ℕ) (number len : ℕ) → number_of group ≡ Some number → length group ≡ suc len → 0 < len → len ≤ 3
@@ -271,3 +271,9 @@ letters-inside done left bytes x same =
     sym (length-append (done ++ (x ∷ [])) left ∙ ap (λ n. n + length left) (length-append done (x ∷ [])))
     ∙ ap length same ∙ length-crypt64_of bytes in
     omega arith
+
+-- the first group of bytes
+pub ruleset first_groups = (cut_at, letters_of_read)
+
+-- letters, group by group
+pub ruleset groups = (begins_more, begins-end, begins-stuck)

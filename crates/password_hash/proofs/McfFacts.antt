@@ -134,3 +134,6 @@ pub only_memory : {T : Type 0} (r : Result T Error) → (IsErrOf r EncodingInval
 only_memory (Ok x) not_invalid = tt
 only_memory (Err EncodingInvalid) not_invalid = absurd (not_invalid refl)
 only_memory (Err OutOfMemory) not_invalid = refl
+
+-- the letters of bytes as one more field
+pub ruleset pushed = (IsField-crypt64_of, only_memory)

@@ -1,11 +1,11 @@
 -- A text has at most one reading.
-use Rattle.std.proofs.Common.{◌≡◌, ℕ, zero, suc, ◌<◌, ◌≤◌, ◌==◌, false, List, [], ◌∷◌, ◌++◌, length, get_or, take, drop}
+use Rattle.std.proofs.Common.{◌≡◌, ℕ, ◌<◌, ◌==◌, false, List, [], ◌∷◌, ◌++◌, length, get_or, drop}
 use Rattle.std.proofs.Common.{codes, refl, sym, ap, subst, ◌∙◌, arith}
 use Rattle.std.specs.Prelude.{All, Option, None, Some, IfSome, OnSome, IsSome, decimal}
 use Rattle.std.specs.List.{slice_split}
 use Rattle.std.proofs.lemmas.Bool.{false≢true, eq-eqb}
 use Rattle.std.proofs.lemmas.Fmt.{decimal_injective}
-use Rattle.std.proofs.lemmas.List.{length-append, length-drop, take-append-drop, get_or_at}
+use Rattle.std.proofs.lemmas.List.{length-append, get_or_at}
 use Rattle.std.proofs.lemmas.List.Elements.{All-head, All-get_or}
 use Rattle.password_hash.specs.Crypt64.{Crypt64}
 use Rattle.password_hash.specs.Pairs.{pairs_text, ArePairs}
@@ -14,7 +14,7 @@ use Rattle.password_hash.specs.Phc.{base64, version_part, params_part, key_part,
 use Rattle.password_hash.specs.Phc.{hash_text, IsSalt, IsKey, IsHashText}
 use Rattle.password_hash.specs.declared.phc.hash.PasswordHash.{PasswordHash}
 use Rattle.password_hash.proofs.Base64Facts.{base64_injective}
-use Rattle.password_hash.proofs.GroupFacts.{no_crypt64, no_letters, first_group, begins_with_group}
+use Rattle.password_hash.proofs.DecodedFacts.{decoded_is}
 use Rattle.password_hash.proofs.HashFacts.{parts_of_hash, parts_lack}
 use Rattle.password_hash.proofs.PairsFacts.{Lacks}
 use Rattle.password_hash.proofs.ParamsFacts.{same_pairs}
@@ -94,14 +94,5 @@ one_reading text a b ha hb =
     λ i. record { algorithm = of_b.algorithm i; version = version.0 i; params = params.0 i; salt = both.0 i; hash = both.1 i }
 
 -- one text is the encoding of one list of bytes
-Crypt64-one_of : (n : ℕ) (letters xs ys : List ℕ) → length xs ≤ n → Crypt64 xs letters → Crypt64 ys letters → xs ≡ ys
-Crypt64-one_of n letters [] ys most is is' = sym (no_letters ys (sym is'.encoding ∙ is.encoding ∙ no_crypt64))
-Crypt64-one_of zero letters (x ∷ xs) ys most is is' = absurd (omega arith)
-Crypt64-one_of (suc n) letters (x ∷ xs) ys most is is' =
-    let first = first_group (x ∷ xs) letters is (omega arith) in
-    let second = (begins_with_group letters _ _ (take 3 (x ∷ xs)) refl refl first.0).back ys is' in
-    let rest = Crypt64-one_of n (drop 4 letters) (drop 3 (x ∷ xs)) second.0 (omega (arith, length-drop 3 (x ∷ xs))) first.1 second.2 in
-    sym (take-append-drop 3 (x ∷ xs)) ∙ ap (λ rest. take 3 (x ∷ xs) ++ rest) rest ∙ sym second.1
-
 pub Crypt64-one : (letters xs ys : List ℕ) → Crypt64 xs letters → Crypt64 ys letters → xs ≡ ys
-Crypt64-one letters xs ys = Crypt64-one_of (length xs) letters xs ys (omega arith)
+Crypt64-one letters xs ys is is' = let both = sym (decoded_is xs letters is) ∙ decoded_is ys letters is' in cc

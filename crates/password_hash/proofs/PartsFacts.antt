@@ -3,6 +3,7 @@ use Rattle.std.proofs.Common.{◌≡◌, ◌≢◌, ℕ, ◌<◌, ◌==◌, fals
 use Rattle.std.specs.Prelude.{All}
 use Rattle.std.specs.List.{join_with_byte}
 use Rattle.std.proofs.lemmas.Bool.{ne_eqb}
+use Rattle.std.proofs.lemmas.Grind.{flat_map-append}
 use Rattle.std.proofs.lemmas.List.{append-nil}
 use Rattle.std.proofs.lemmas.List.Splits.{join_with_byte-slice_split, slice_split_at, slice_split_none}
 use Rattle.std.proofs.lemmas.List.Elements.{All-from_get_or}
@@ -31,10 +32,8 @@ parts_of-parts_text text part parts none e =
 
 -- the text of one part more
 pub parts_text-push : (parts : List (List ℕ)) (part : List ℕ) → parts_text (parts ++ part ∷ []) ≡ parts_text parts ++ dollar ∷ part
-parts_text-push [] part = append-nil (dollar ∷ part)
-parts_text-push (first ∷ parts) part =
-    ap (λ more. (dollar ∷ first) ++ more) (parts_text-push parts part)
-    ∙ sym (append_assoc (dollar ∷ first) (parts_text parts) (dollar ∷ part))
+parts_text-push parts part =
+    flat_map-append (λ part. dollar ∷ part) parts (part ∷ []) ∙ ap (λ more. parts_text parts ++ more) (append-nil (dollar ∷ part))
 
 lacks_by_place : (xs : List ℕ) → ((i : ℕ) → i < length xs → get_or xs i 0 ≢ dollar) → Lacks dollar xs
 lacks_by_place xs other =

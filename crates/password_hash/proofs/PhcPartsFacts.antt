@@ -1,4 +1,5 @@
 -- The parts of a PHC text.
+use Rattle.std.proofs.lemmas.Str.Pattern.{contains_char}
 use Rattle.std.proofs.Common.{◌≡◌, ◌≢◌, ℕ, suc, ◌+◌, ◌*◌, ◌/◌, ◌%◌, ◌^◌, ◌<◌, ◌==◌, ◌||◌, Bool, false, List, [], ◌∷◌}
 use Rattle.std.proofs.Common.{◌++◌, length, get_or, codes, slice_index, refl, sym, ap, subst, ◌∙◌, arith}
 use Rattle.std.specs.Prelude.{All, Option, None, Some, decimal}
@@ -165,3 +166,6 @@ salt_and_key_read parts part letters salt key e is_salt salt_allowed is_key key_
       key_bytes = key_allowed;
       key_after_salt = refl;
     }
+
+-- the parameters, taken off the parts
+pub ruleset params = (contains_char, no_params, params_next)

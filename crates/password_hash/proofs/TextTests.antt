@@ -6,7 +6,8 @@ use Rattle.std.specs.Cmp.Lexicographic.{pointwise}
 use Rattle.std.specs.List.{list_all}
 use Rattle.std.proofs.lemmas.Bool.{and_parts, false≢true, ltb-true, not-true}
 use Rattle.std.proofs.lemmas.Bool.Decides.{nat_tests}
-use Rattle.std.proofs.lemmas.List.Elements.{All-nil, All-cons, All-from_get_or}
+use Rattle.std.proofs.lemmas.List.Elements.{All-weaker, All-from_get_or}
+use Rattle.std.proofs.lemmas.List.Sums.{AllPass-from_list_all}
 use Rattle.std.proofs.lemmas.List.Kept.{AllPairs-cons}
 use Rattle.std.proofs.lemmas.Slice.Eq.{bytes_eq-Decides, slice_eq-Decides}
 use Rattle.base64.specs.GeneralPurpose.{IsBytes}
@@ -22,10 +23,7 @@ use Rattle.password_hash.proofs.McfFacts.{IsMcfText-from_parts, IsMcfText-one}
 
 pub all_shown : {X : Type 0} → (p : X → Bool) (P : X → Type 0) → ((x : X) → p x ≡ true → P x) → (xs : List X)
     → list_all p xs ≡ true → All P xs
-all_shown p P each [] h = All-nil P
-all_shown p P each (x ∷ xs) h =
-    let parts = and_parts (p x) (list_all p xs) h in
-    All-cons P x xs (each x parts.0) (all_shown p P each xs parts.1)
+all_shown p P each xs h = All-weaker (λ x. p x ≡ true) P each xs (AllPass-from_list_all p xs h)
 
 abbrev is_byte : ℕ → Bool
 is_byte b = nat_lt b 256

@@ -29,6 +29,7 @@ pub fn value(byte: u8) -> Option<u8>
 
 /// Returns the number that at most five letters encode in base 64, the lowest digit first, or
 /// `None` if a byte is not a letter of crypt(5).
+#[tactic(auto, using(crate::proofs::Crypt64Facts::numbers), unfolding(crate::specs::Crypt64::number_of))]
 pub fn number(letters: &[u8]) -> Option<u32>
     requires short { length letters.now ≤ 5 }
     ensures value { result ≡ number_of letters.now }

@@ -104,6 +104,7 @@ impl PasswordHash {
     /// Appends `$` and the Base64 of `bytes`. On an error the text is unchanged.
     ///
     /// Returns `OutOfMemory` if an allocation fails.
+    #[tactic(auto, using(crate::proofs::McfFacts::pushed))]
     pub fn push_base64(&mut self, bytes: &[u8], encoding: Base64) -> Result<()>
         ensures ok { OnOk result (self.new ≡ self.old ++ dollar ∷ crypt64_of bytes.now) }
         ensures err { IfErr result (λ e. e ≡ Error.OutOfMemory) }

@@ -31,6 +31,7 @@ impl<'a> Letters<'a> {
 
     /// Starts the group of the first three bytes, or of the last one or two. Returns `None` if
     /// there are no bytes.
+    #[tactic(auto, using(crate::proofs::GroupFacts::first_groups))]
     fn of_first_group(bytes: &'a [u8]) -> Option<Letters<'a>>
         ensures some { MatchOption result (bytes.now ≡ []) (λ letters. 0 < letters.pending) }
         ensures same { IfSome result (λ letters. crypt64_of bytes.now

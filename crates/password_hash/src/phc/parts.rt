@@ -31,6 +31,7 @@ pub(super) fn take_version(left: Option<&str>) -> Option<(Option<Version>, Optio
 }
 
 /// Returns the parameters, if the next part has a `=`, and what is left of the text after them.
+#[tactic(auto, using(crate::proofs::PhcPartsFacts::params))]
 pub(super) fn take_params(left: Option<&str>) -> Option<(ParamsString, Option<&str>)>
     ensures found { IfSome result (IsPrefix params_part ArePairs (parts_left left.entry)) }
     ensures only { IsOnlyPrefix params_part ArePairs LackEquals (parts_left left.entry) result }
