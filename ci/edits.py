@@ -47,23 +47,16 @@ def pairs(edit):
             yield path, old, rest
 
 
-def texts_after(edit, crate, others=()):
-    """The texts that an edit gives to files of a crate, by their paths, over those that other edits gave to it."""
-    after = dict(others)
-    for name, old, new in pairs(edit):
-        path = os.path.join(crate, name)
-        text = after.get(path) or Path(path).read_text("utf-8")
-        if text.count(old) != 1:
-            raise BadEdit(f"{edit}: the old text doesn't occur there once: {old}")
-        after[path] = text.replace(old, new)
-    return after
-
-
-def texts_after_all(tried, crate):
+def texts_after(tried, crate):
     """The texts that edits give to files of a crate, one after another, by their paths."""
     after = {}
     for edit in tried:
-        after = texts_after(edit, crate, after)
+        for name, old, new in pairs(edit):
+            path = os.path.join(crate, name)
+            text = after.get(path) or Path(path).read_text("utf-8")
+            if text.count(old) != 1:
+                raise BadEdit(f"{edit}: the old text doesn't occur there once: {old}")
+            after[path] = text.replace(old, new)
     return after
 
 
@@ -76,7 +69,7 @@ def write(texts):
 @contextlib.contextmanager
 def applied(edit, crate):
     """Applies an edit to a crate, and takes it back at the end."""
-    after = texts_after(edit, crate)
+    after = texts_after([edit], crate)
     before = {path: Path(path).read_text("utf-8") for path in after}
     try:
         write(after)

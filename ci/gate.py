@@ -3,8 +3,8 @@
 
 `rt ci` proves every crate from nothing, and leaves the libraries that it proved. The wrong bodies are tried over them,
 and the static library for C is built over them, so that only its own crate is checked again: `rt lib` takes nothing
-from `rt ci`, and would prove the crates below it again. If the clone has libraries of an earlier `rt check` or `rt lib`,
-`rt ci` gives those back at its end, and `rt lib` goes on from them.
+from `rt ci`, and would prove the crates below it again. If the clone has libraries of an earlier `rt check` or
+`rt lib`, `rt ci` gives those back at its end, and `rt lib` goes on from them.
 """
 
 import os
@@ -84,7 +84,7 @@ def main():
         sys.exit("a wrong body was not refused")
     if not shutil.which(os.environ.get("CC", "cc")):
         print("No C compiler is here (package gcc): the library was not called.")
-    elif not build() or subprocess.call(["bindings/lib.sh", "built"]) or subprocess.call(["bindings/callers.sh", "short"]):
+    elif not build() or any(map(subprocess.call, (["bindings/lib.sh", "built"], ["bindings/callers.sh", "short"]))):
         sys.exit("the library could not be built or called")
     print(count, end="")
 

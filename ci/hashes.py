@@ -54,17 +54,13 @@ PASSWORDS = {PHC: b"password", SHORT: b"pleaseletmein", MCF: b"pleaseletmein"}
 
 # A text, the verdict on the empty password, and the reason for the row.
 SHORT_TEXTS = [
-    (EMPTY, "ok", "the usual key"),
     (EMPTY + "z", "ok", "a key of 33 bytes"),
     ("$7$2/..../....$rNxJWVHNv/mCN.", "ok", "a key of 10 bytes"),
     ("$7$2/..../....$s/", "no", "another key of one byte"),
     ("$7", "EncodingInvalid", "no field"),
-    ("$7$", "EncodingInvalid", "one empty field"),
     ("$7$$r/", "EncodingInvalid", "no parameters"),
     ("$7$é/..../....$r/", "EncodingInvalid", "log_n is not ASCII"),
-    ("$7$*/..../....$r/", "ParamsInvalid", "log_n is outside the alphabet"),
     ("$7$*/...$r/", "EncodingInvalid", "r has four letters"),
-    ("$7$t/..../....$r/", "ParamsInvalid", "log_n is 57"),
     ("$7$t/..../....$$", "ParamsInvalid", "the parameters come before the key"),
     ("$7$2/..../....$$", "EncodingInvalid", "the fields come before the key's length"),
     ("$scrypt$ln=56,r=1,p=1$aA$AAAAAAAAAAAAAA", "out of memory", "the table would have 2^63 bytes"),

@@ -15,7 +15,7 @@ DOCUMENTS = [
     ("[a](API.md) [b](NOTHING.md)", "NOTHING.md leads nowhere", "a link to a file that is gone"),
     ("[a](docs/API.md)", "docs/API.md leads nowhere", "a path from the top"),
     ("[a](../README.md#what-is-hoped)", "README.md#what-is-hoped leads nowhere", "a place that is gone"),
-    ("[`quarter_round`, `ro_mix`](../crates/scrypt_kernel/specs/Salsa.antt)", "no definition ro_mix", "of another file"),
+    ("[`ro_mix`](../crates/scrypt_kernel/specs/Salsa.antt)", "no definition ro_mix", "a definition of another file"),
     (RUST, "not a part of bindings/rust/README.md", "an example with another line"),
 ]
 

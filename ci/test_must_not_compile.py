@@ -54,7 +54,7 @@ class MustNotCompile(unittest.TestCase):
         return must_not_compile.complaints([must_not_compile.bare(*it) for it in (RIGHT | {path: text}).items()])
 
     def test_sources(self):
-        self.assertEqual(self.complaints(ANOTHER, "// CoreCount::new() begins a count.\nfn f(x: &mut CoreCount) {}\n"), [])
+        self.assertEqual(self.complaints(ANOTHER, "// CoreCount::new() begins.\nfn f(x: &mut CoreCount) {}\n"), [])
         rows = [(ANOTHER, *row) for row in REFUSED] + [(must_not_compile.COUNTER_SOURCE, *row) for row in IN_COUNTER]
         for path, text, reason in rows:
             with self.subTest(reason):

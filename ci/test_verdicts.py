@@ -1,4 +1,4 @@
-"""verdicts.py takes only a goal of its own for the refusal of a function. That it sees refusals is shown by the gate."""
+"""verdicts.py takes only a goal of its own for the refusal of a function. The gate shows that it sees refusals."""
 
 import unittest
 

@@ -37,7 +37,7 @@ AT_ONCE = min(4, len(os.sched_getaffinity(0)))
 
 def changed(edit, name, crate):
     """The paths of the functions that an edit changes, or none if it changes what is outside of them."""
-    edits.texts_after(edit, f"crates/{name}")
+    edits.texts_after([edit], f"crates/{name}")
     found, files = set(), {it.path: it for it in crate.values()}
     for path, old, _ in edits.pairs(edit):
         source = files[f"crates/{name}/{path}"]
@@ -54,7 +54,7 @@ def takes(tried, edit, its, folder):
     if any(its & other for other in tried.values()):
         return False
     try:
-        edits.texts_after_all([*tried, edit], folder)
+        edits.texts_after([*tried, edit], folder)
     except edits.BadEdit:
         return False
     return True
@@ -80,7 +80,7 @@ def check(name, tried):
         for part in ("src", "specs", "proofs"):
             if os.path.isdir(f"crates/{name}/{part}"):
                 shutil.copytree(f"crates/{name}/{part}", f"{crate}/{part}")
-        edits.write(edits.texts_after_all(tried, crate))
+        edits.write(edits.texts_after(tried, crate))
         only = [word for its in tried.values() for path in its for word in ("--only", path)]
         command = [*words.of("check", name), *only]
         ran = subprocess.run(command, cwd=crate, capture_output=True, text=True, errors="replace")
@@ -117,7 +117,7 @@ def unfit():
     for name in edits.crates_with(*edits.FOLDERS):
         try:
             for edit in edits.edits_of(name, *edits.FOLDERS):
-                edits.texts_after(edit, f"crates/{name}")
+                edits.texts_after([edit], f"crates/{name}")
             if len(rounds(name, FIRST)) > 1:
                 yield f"crates/{name}/{FIRST}: two edits change one function, or one changes none: move it to {MORE}"
         except edits.BadEdit as error:

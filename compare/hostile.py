@@ -68,11 +68,6 @@ def derived_key(salt, log_n, r, p, length):
     return hashlib.scrypt(b"", salt=salt, n=1 << log_n, r=r, p=p, dklen=length)
 
 
-def accepted(log_n, r, p):
-    """Whether the parameters are accepted."""
-    return r > 0 and p > 0 and 128 * r << log_n < 1 << 64 and r * p < 1 << 30
-
-
 def compared(salt, log_n, r, p, key):
     """The verdict once all but the key is accepted."""
     # The chunks are allocated before the table, so they are to be small at every log_n.
@@ -107,7 +102,7 @@ def phc_params(pairs):
         if not re.fullmatch(phc.DECIMAL, value, re.VERBOSE) or int(value) >= (256 if name == "ln" else 1 << 32):
             return name
         params[name] = int(value)
-    if not accepted(*params.values()):
+    if not reference.accepted(*params.values()):
         return "ParamsInvalid"
     return tuple(params.values())
 
@@ -141,7 +136,7 @@ def mcf_verdict(text, by):
     if r is None or p is None:
         return "EncodingInvalid"
     log_n = crypt64.number(chr(params[0]))
-    if log_n is None or not accepted(log_n, r, p):
+    if log_n is None or not reference.accepted(log_n, r, p):
         return "ParamsInvalid"
     key = crypt64.read(fields[1]) if len(fields) == 2 else None
     if key is None:

@@ -58,6 +58,17 @@ def expected_key(password, salt, log_n, r, p, length):
     return reference.scrypt(password, salt, log_n, r, p, length)
 
 
+def by_python(password, salt, params, length):
+    if length == 0 or not reference.accepted(*params):
+        raise Refused
+    return expected_key(password, salt, *params, length)
+
+
+def by_worker(path):
+    worker = Worker("worker", path)
+    return lambda *case: worker.derive(*case)[1]
+
+
 def hash_of(form, password, salt, log_n, r, p, length):
     """The text of a hash in the format of that name. The salt of a `$7$` key is the salt's letters."""
     if form == "mcf":
@@ -87,16 +98,27 @@ def verified(program, text, password):
     return f"verify {text!r} on {password.hex()}", got, [OK, NO]
 
 
-def keys(program, rng):
-    """Keys of random passwords, salts, parameters and lengths."""
-    for _ in range(CASES):
-        password, salt = some_bytes(rng, 140), some_bytes(rng, 70)
-        log_n, r, p = rng.randrange(11), rng.choice((1, 2, 3, 5, 7, 8)), rng.randrange(1, 6)
-        if log_n == 0:
-            r = rng.choice((1, 3))
-        length = rng.choice((1, 2, 31, 32, 33, 63, 64, 65, 100))
-        wanted = expected_key(password, salt, log_n, r, p, length).hex()
-        yield made(program, words_of("key", log_n, r, p, length, salt), password, wanted)
+def some_case(rng):
+    """A password, a salt, parameters and a length, of which one in 50 is refused."""
+    password, salt = (some_bytes(rng, 2 + rng.choice((0, 1, 16, 80, most))) for most in (400, 300))
+    log_n, r = rng.randrange(11), rng.randrange(1, 17)
+    p = rng.randrange(1, 5) if r << log_n <= 2048 else 1
+    refused = [(64, r, p), (log_n, 0, p), (log_n, r, 0), (log_n, 1 << 15, 1 << 15)]
+    params = rng.choice(refused) if rng.randrange(50) == 0 else (log_n, r, p)
+    return password, salt, params, rng.randrange(1 + rng.choice((1, 32, 33, 65, 300)))
+
+
+def keys(program, rng, derive=by_python, count=CASES):
+    """Keys of random passwords, salts, parameters and lengths, or that both refuse."""
+    for _ in range(count):
+        password, salt, params, length = case = some_case(rng)
+        try:
+            key = derive(*case)
+        except Refused:
+            wanted = 2, ""
+        else:
+            wanted = 0, f"{key.hex()}\n"
+        yield case, unlimited(program, words_of("key", *params, length, salt), password)[:2], wanted
 
 
 def hashes(program, rng):
@@ -205,27 +227,6 @@ PARTS = {
 }
 
 
-def worker_case(rng):
-    """A password, a salt, parameters and a length, of which one in 50 is refused."""
-    password, salt = (rng.randbytes(rng.randrange(1 + rng.choice((0, 1, 16, 80, most)))) for most in (400, 300))
-    log_n, r = rng.randrange(11), rng.randrange(1, 17)
-    p = rng.randrange(1, 5) if r << log_n <= 2048 else 1
-    refused = [(64, r, p), (log_n, 0, p), (log_n, r, 0), (log_n, 1 << 15, 1 << 15)]
-    params = rng.choice(refused) if rng.randrange(50) == 0 else (log_n, r, p)
-    return password, salt, params, rng.randrange(1 + rng.choice((1, 32, 33, 65, 300)))
-
-
-def keys_of_worker(worker, program, rng):
-    """The keys of the program and of a worker, or that both refuse."""
-    for _ in range(WORKER_CASES):
-        password, salt, params, length = case = worker_case(rng)
-        try:
-            wanted = 0, worker.derive(*case)[1].hex() + "\n"
-        except Refused:
-            wanted = 2, ""
-        yield case, unlimited(program, words_of("key", *params, length, salt), password)[:2], wanted
-
-
 def main():
     parser = argparse.ArgumentParser(usage=__doc__.split("usage: ")[1].split("\n")[0])
     parser.add_argument("program")
@@ -235,7 +236,7 @@ def main():
     rng, passed, failed, missing = random.Random(args.seed), 0, 0, []
     parts = PARTS
     if args.worker:
-        parts = {"keys of the worker": functools.partial(keys_of_worker, Worker("worker", args.worker))}
+        parts = {"keys of the worker": functools.partial(keys, derive=by_worker(args.worker), count=WORKER_CASES)}
     for title, part in parts.items():
         try:
             right, wrong = report(title, part(args.program, rng))

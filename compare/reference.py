@@ -71,6 +71,11 @@ def scrypt(password, salt, log_n, r, p, length):
     return hashlib.pbkdf2_hmac("sha256", password, mixed, 1, length)
 
 
+def accepted(log_n, r, p):
+    """Whether parameters are accepted: the table has less than 2^64 bytes, and r * p is below 2^30."""
+    return r > 0 and p > 0 and 128 * r << log_n < 1 << 64 and r * p < 1 << 30
+
+
 def is_weaker(stored, wanted):
     """Whether log_n, r, p or the length of the key is below the wanted one; one of the four is enough."""
     return any(has < wants for has, wants in zip(stored, wanted))

@@ -123,36 +123,36 @@ class Kit:
                 return found
         return None
 
+    def text(self, packages, pattern):
+        """The first text in the sources of these libraries that a pattern finds, with its library, or None."""
+        for package in packages if self.folder else ():
+            for path in sorted(glob.glob(f"{self.folder}/{package}/src/**/*.rt", recursive=True)):
+                found = re.search(pattern, sources.read(path), re.M | re.S)
+                if found:
+                    return package, sources.dedented(found[found.lastindex or 0].splitlines())
+        return None
+
     def declared(self, module, name):
         """A type of a library, in Rattle."""
         package, path = re.match(r"Rattle\.(\w+)\.specs\.declared\.(.*)", module).groups()
-        *above, name_there = path.removesuffix(".TheVariants").split(".")
-        source = f"{self.folder}/{package}/src/{'/'.join(above) or 'lib'}.rt"
-        text = sources.read(source) if os.path.exists(source) else ""
-        found = re.search(rf"^pub (?:struct|enum|union) {name_there}\b.*?^\}}", text, re.M | re.S)
+        *above, word = path.removesuffix(".TheVariants").split(".")
+        found = self.text([package], rf"^pub (?:struct|enum|union) {word}\b.*?^\}}")
         if found:
-            return KitName("::".join([package, *above]), name_there, found.group())
+            return KitName("::".join([package, *above]), word, found[1])
         return KitName(module, name, missing=NO_TEXT)
-
-    def texts(self, package):
-        """The sources of a library of the kit."""
-        paths = sorted(glob.glob(f"{self.folder}/{package}/src/**/*.rt", recursive=True)) if self.folder else []
-        return (sources.read(it) for it in paths)
 
     @functools.cache
     def relation(self, trait, name):
         """A relation of a trait of the kit."""
-        for package in ("core", "std", "std_io", "std_alloc"):
-            for text in self.texts(package):
-                found = re.search(rf"^pub trait {trait}\b.*?^\}}", text, re.M | re.S)
-                relation = found and re.search(rf"^    ghost {name}(?:\(.*?\))?:.*?;", found.group(), re.M | re.S)
-                if relation:
-                    return KitName(f"{package}::{trait}", name, sources.dedented(relation.group().splitlines()))
+        relation = rf"^pub trait {trait}\b(?:(?!^\}}).)*?(^    ghost {name}(?:\(.*?\))?:.*?;)"
+        found = self.text(("core", "std", "std_io", "std_alloc"), relation)
+        if found:
+            return KitName(f"{found[0]}::{trait}", name, found[1])
         return KitName(f"std::{trait}", name, missing=NO_TEXT if self.folder else NO_KIT)
 
     def c_function(self, name):
         """The contract of a function of C that the kit assumes, by its path."""
         package, *_, word = name.split("::")
-        contract = re.compile(rf"(?:^ *//[^\n]*\n)*^ *pub (?:safe |unsafe )?fn {word}\b(?:[^;]|;(?!\n))*;$", re.M)
-        found = next(filter(None, map(contract.search, self.texts(package))), None)
-        return sources.dedented(found.group().splitlines()) if found else ""
+        contract = rf"(?:^ *//[^\n]*\n)*^ *pub (?:safe |unsafe )?fn {word}\b(?:[^;]|;(?!\n))*;$"
+        found = self.text([package], contract)
+        return found[1] if found else ""

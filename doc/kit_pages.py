@@ -23,23 +23,17 @@ PACKAGES = {
 }
 
 
-def cited_by(library, it):
-    """What the text of a name of the kit cites from the kit."""
-    module = library.kit.module(it.module) if it.text and "::" not in it.module else None
-    if module is None:
-        return
-    found = (library.kit.meant(module, value) for style, value in lexers.antt(it.text) if style == "n")
-    yield from filter(None, found)
-
-
 def close(library):
     """Adds to the names of the kit those that their texts cite, and so on."""
     todo = list(library.names_of_kit.values())
     while todo:
-        for it in cited_by(library, todo.pop()):
-            if (it.module, it.name) not in library.names_of_kit:
-                library.names_of_kit[it.module, it.name] = it
-                todo.append(it)
+        it = todo.pop()
+        module = library.kit.module(it.module) if it.text and "::" not in it.module else None
+        for style, value in lexers.antt(it.text) if module else ():
+            found = library.kit.meant(module, value) if style == "n" else None
+            if found and (found.module, found.name) not in library.names_of_kit:
+                library.names_of_kit[found.module, found.name] = found
+                todo.append(found)
 
 
 def shown(pages, it, direct):

@@ -61,7 +61,7 @@ class Links:
 
     def __init__(self, library):
         self.library = library
-        self.cited, self.lost, self.count = {}, [], 0
+        self.cited, self.lost = {}, []
 
     def target(self, place, name):
         """What a word means at a place, or None."""
@@ -77,7 +77,6 @@ class Links:
     def cite(self, place, target):
         if place.cited_by and target.key[:3] != place.cited_by[:3]:
             self.cited.setdefault(target.key, {})[place.cited_by] = None
-        self.count += 1
         return target.href
 
     def projected(self, place, head, name):

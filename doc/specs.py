@@ -99,8 +99,8 @@ def starts_in(lines):
 
 
 def definitions_in(module, lines):
-    """The definitions of a file by their names, each with the comment right above it. One ends before a blank line, unless
-    an indented line is after that."""
+    """The definitions of a file by their names, each with the comment right above it. One ends before a blank line,
+    unless an indented line is after that."""
     begun = starts_in(lines)
     found = {}
     for (name, at), after in zip(begun.items(), [*begun.values(), len(lines)][1:]):
