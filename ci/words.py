@@ -1,17 +1,12 @@
 """The words of a `rattle` command on one crate, over the libraries below it that are built."""
 
 import os
-import shutil
 import sys
 from pathlib import Path
 
 sys.path.append(str(Path(__file__).parent.parent / "doc"))
+from kit import located as kit
 from sources import crates
-
-
-def kit():
-    """The folder of the kit, which has bin/rt."""
-    return os.path.dirname(os.path.dirname(os.path.realpath(shutil.which("rt"))))
 
 
 def below(name):

@@ -1,13 +1,13 @@
 """Finds the text of what the specs cite from the kit: its libraries, and the logic below them.
 
-The kit is where `rt doc` says. Without it every name of the kit is listed with its module and no text.
+The kit is where `rt` is. Without it every name of the kit is listed with its module and no text.
 """
 
 import functools
 import glob
 import os
 import re
-import subprocess
+import shutil
 from dataclasses import dataclass
 
 import sources
@@ -24,13 +24,9 @@ NO_TEXT = "Declared in the kit, in a form that this page doesn't print."
 
 
 def located():
-    """The folder of the kit's libraries, or None."""
-    try:
-        page = subprocess.run(["rt", "doc"], capture_output=True, text=True, check=True).stdout.strip()
-    except (OSError, subprocess.CalledProcessError):
-        return None
-    folder = os.path.join(os.path.dirname(page), "rattle")
-    return folder if os.path.isdir(folder) else None
+    """The folder of the kit, which has bin/rt, or None."""
+    folder = os.path.dirname(os.path.dirname(os.path.realpath(shutil.which("rt") or "")))
+    return folder if os.path.exists(f"{folder}/KIT-ID") else None
 
 
 @dataclass(frozen=True)
@@ -63,15 +59,9 @@ def read_module(name, path, text):
 
 
 class Kit:
-    def __init__(self, folder):
-        self.folder = folder
-
-    @property
-    def identity(self):
-        path = os.path.join(os.path.dirname(self.folder or ""), "KIT-ID")
-        if not self.folder or not os.path.exists(path):
-            return None
-        return sources.read(path).strip()
+    def __init__(self, top):
+        self.folder = top and f"{top}/rattle"
+        self.identity = sources.read(f"{top}/KIT-ID").strip() if top else None
 
     @functools.cache
     def module(self, name):
