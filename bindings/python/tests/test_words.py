@@ -2,7 +2,6 @@
 
 import unittest
 
-import scrypt_c
 from scrypt_c import PasswordHasher, calibrate, scrypt
 
 SMALL = PasswordHasher(log_n=4)
