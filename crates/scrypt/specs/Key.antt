@@ -13,6 +13,7 @@ mixed_chunk b log_n r i = bytes_of (ro_mix (words_of (part (128 * r) b i)) log_n
 abbrev pub mixed_chunks : List ℕ → ℕ → ℕ → ℕ → List ℕ
 mixed_chunks b log_n r p = flat_map (mixed_chunk b log_n r) (range_with_len 0 p)
 
--- DK, n bytes long: B by PBKDF2 (step 1), with its chunks mixed (step 2), is the salt of the last PBKDF2 (step 3)
+-- DK, n bytes long: PBKDF2 derives B (step 1), its chunks are mixed (step 2), and are the salt from which PBKDF2
+-- derives DK (step 3)
 unfoldable pub derived_key : List ℕ → List ℕ → ℕ → ℕ → ℕ → ℕ → List ℕ
 derived_key password salt log_n r p n = pbkdf2 password (mixed_chunks (pbkdf2 password salt (p * (128 * r))) log_n r p) n
