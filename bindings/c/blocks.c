@@ -5,16 +5,27 @@
  * that is linked with the static library may bind one at its first call, and the dynamic linker then saves registers to
  * the stack, deeper than the proved calls use it. */
 #define _DEFAULT_SOURCE
+#include "pages.h"
+
 #include <malloc.h>
 #include <stdint.h>
 #include <stdlib.h>
 #include <string.h>
-#include <sys/mman.h>
 
 /* From this size on the pages of a block are given back to the system, which is faster than to overwrite them. The
  * usual malloc has such a block mapped, and free unmaps it. */
 #define LARGE ((size_t)32 << 20)
 #define PAGE ((size_t)4096)
+#define CACHE_LINE ((size_t)64)
+
+/* The word before a block has the place where malloc's block begins, in which it lies. */
+static void **start_of(void *block) { return (void **)block - 1; }
+
+/* How many bytes of malloc's block there are from here on. */
+static size_t usable(uint8_t *block) {
+  uint8_t *start = *start_of(block);
+  return malloc_usable_size(start) - (size_t)(block - start);
+}
 
 /* Writes zeros, in a way that the compiler may not optimize away. */
 static void overwrite(void *block, size_t len) {
@@ -44,18 +55,30 @@ void *clearing_memmove(void *to, const void *from, size_t len);
 void *clearing_memset(void *to, int byte, size_t len);
 
 void clearing_free(void *block) {
-  if (block != NULL) clear_block(block, malloc_usable_size(block));
-  free(block);
+  if (block == NULL) return;
+  clear_block(block, usable(block));
+  free(*start_of(block));
 }
 
-void *clearing_malloc(size_t len) { return malloc(len); }
+/* A block begins at a cache line, and a large one at a huge page, for which it asks: rows are read in random order. Its
+ * memory is malloc's, which reuses it; to map it for each call takes longer if the system has no huge pages. Nothing is
+ * touched before it is used. */
+void *clearing_malloc(size_t len) {
+  size_t unit = len < 2 * HUGE_PAGE ? CACHE_LINE : HUGE_PAGE, more = sizeof(void *) + unit - 1;
+  uint8_t *start = len > SIZE_MAX - more ? NULL : malloc(len + more), *block;
+  if (start == NULL) return NULL;
+  block = start + more - ((uintptr_t)start + more) % unit;
+  *start_of(block) = start;
+  if (unit == HUGE_PAGE) ask_for_huge_pages(block, len / HUGE_PAGE * HUGE_PAGE);
+  return block;
+}
 
 /* Never has to grow a table, which is allocated at its full size. */
 void *clearing_realloc(void *block, size_t len) {
-  void *other = malloc(len);
+  void *other = clearing_malloc(len);
   size_t had;
   if (other == NULL || block == NULL) return other;
-  had = malloc_usable_size(block);
+  had = usable(block);
   memcpy(other, block, had < len ? had : len);
   clearing_free(block);
   return other;

@@ -1,12 +1,10 @@
 /* Memory that is kept from call to call, and memory that is mapped for one call. Not proved; the calls that run in this
  * memory are. */
 #define _DEFAULT_SOURCE
+#include "pages.h"
 #include "scrypt_c.h"
 
 #include <stdlib.h>
-#include <sys/mman.h>
-
-#define HUGE_PAGE ((size_t)2 << 20)
 
 struct scrypt_memory {
   size_t most_bytes;
@@ -48,9 +46,7 @@ static void unmap(scrypt_memory *memory) {
 
 /* Asks for huge pages, and for all pages at once, which saves time if they are small. Either may be refused. */
 static void advise(void *table, size_t size) {
-#ifdef MADV_HUGEPAGE
-  (void)madvise(table, size, MADV_HUGEPAGE);
-#endif
+  ask_for_huge_pages(table, size);
 #ifdef MADV_POPULATE_WRITE
   (void)madvise(table, size, MADV_POPULATE_WRITE);
 #endif
