@@ -100,8 +100,8 @@ class PasswordHasher:
         capacity = library.mcf_capacity(len(drawn)) if self._mcf else library.PHC_CAPACITY
         text, text_len = ctypes.create_string_buffer(capacity), ctypes.c_size_t()
         made = [self._params.key_len, text, capacity, ctypes.byref(text_len)]
-        with self._memories.one() as memory:
-            status = call(memory, secret, len(secret), drawn, len(drawn), *self._params[:3], *made)
+        arguments = [secret, len(secret), drawn, len(drawn), *self._params[:3], *made]
+        status = self._memories.derive(lambda memory: call(memory, *arguments))
         check_derived(status, self._params)
         return text.raw[: text_len.value].decode("ascii")
 

@@ -2,17 +2,19 @@
 
 from __future__ import annotations
 
-import contextlib
 import ctypes
+import functools
 import os
 import weakref
-from typing import Iterator, Optional
+from typing import Callable, Optional
 
 from . import library
 from .bounds import Bounds
 from .turns import Turn, Turns, Wait
 
 _NOT_YET = -1  # no status of the library
+
+_Derive = Callable[[Turn, Optional[Wait["Verification"]]], None]
 
 
 def processors() -> int:
@@ -49,9 +51,7 @@ class Memories:
         """The status. Another thread may derive for this one, or this one for another, if `like` is equal for both."""
         mine = Verification(password, text)
         while mine.status.value == _NOT_YET:
-            with self._wait(Wait(mine, like)) as wait:
-                if wait.turn is not None:
-                    self._derive(mine, wait.turn, wait.partner)
+            self._in_turn(Wait(mine, like), functools.partial(self._derive, mine))
         return mine.status.value
 
     def _derive(self, mine: Verification, turn: Turn, partner: Optional[Wait[Verification]]) -> None:
@@ -63,36 +63,45 @@ class Memories:
         statuses = ctypes.byref(mine.status), ctypes.byref(other.status)
         library.verify_two(memory, *mine.arguments, statuses[0], *other.arguments, statuses[1])
 
-    @contextlib.contextmanager
-    def one(self) -> Iterator[int]:
-        """A memory for one derivation; waits for a turn."""
-        with contextlib.ExitStack() as waits:
-            turn = None
-            while turn is None:
-                turn = waits.enter_context(self._wait(Wait())).turn
-            yield self._memory_of(turn)
+    def derive(self, call: Callable[[int], int]) -> int:
+        """What the call returns, with a memory for one derivation; waits for a turn."""
+        found: list[int] = []
+        while not found:
+            self._in_turn(Wait(), lambda turn, _: found.append(call(self._memory_of(turn))))
+        return found[0]
 
-    @contextlib.contextmanager
-    def _wait(self, wait: Wait[Verification]) -> Iterator[Wait[Verification]]:
+    def _in_turn(self, wait: Wait[Verification], derive: _Derive) -> None:
+        """Waits, and derives if the wait ends with a turn, which is given back however often a signal raises an
+        exception: also in `leave`, and at the end of the inner loop. At that of the outer one, `take` of another thread
+        gives it back. This is no context manager, which may be interrupted before it calls anything."""
+        interrupt = None
         try:
             if not self._turns.take(wait, self._timeout):
                 raise TimeoutError(f"no turn within {self._timeout} seconds: {len(self._turns)} other threads derive")
-            yield wait
+            if wait.turn is not None:
+                derive(wait.turn, wait.partner)
         finally:
-            try:
-                self._turns.leave(wait)
-            except BaseException:  # of a signal
-                self._turns.leave(wait)
-                raise
+            wait.is_over = True
+            while not wait.has_left:
+                try:
+                    while not wait.has_left:
+                        try:
+                            self._turns.leave(wait)
+                        except BaseException as error:
+                            interrupt = error
+                except BaseException as error:
+                    interrupt = error
+            if interrupt is not None:
+                raise interrupt
 
     def _memory_of(self, turn: Turn) -> int:
         self.check_open()
         if turn.memory is None:
-            memory = library.memory_new(*self._bounds.in_c)
-            if not memory:
-                raise MemoryError("no memory for a derivation")
-            library.memory_set_least_key_len(memory, self._bounds.least_key_len)
-            turn.memory = memory
+            # In one call, as a signal may raise an exception after any: the memory would belong to nobody.
+            vars(turn).update(zip(("memory",), map(library.memory_new, *zip(self._bounds.in_c))))
+        if turn.memory is None:
+            raise MemoryError("no memory for a derivation")
+        library.memory_set_least_key_len(turn.memory, self._bounds.least_key_len)
         return turn.memory
 
 

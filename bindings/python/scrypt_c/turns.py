@@ -46,6 +46,8 @@ class Wait(Generic[Work]):
         self.like = like  # two that are equal, and not None, may share a turn
         self.turn: Optional[Turn] = None
         self.partner: Optional[Wait[Work]] = None
+        self.is_over = False  # its thread wants no turn any more
+        self.has_left = False
         self._ends: queue.SimpleQueue[None] = queue.SimpleQueue()
 
     def end(self) -> None:
@@ -85,6 +87,9 @@ class Turns(Generic[Work]):
     def take(self, wait: Wait[Work], timeout: Optional[float] = None) -> bool:
         """Waits, and returns whether anybody has begun with the work within so many seconds. `leave` has to follow."""
         with self._lock:
+            for turn in self._all:  # of a thread that gave up `leave`, because it was interrupted again and again
+                if turn.holder is not None and turn.holder.is_over:
+                    self._leave(turn.holder)
             free = self._free
             if free:
                 wait.turn = free[-1]
@@ -103,16 +108,21 @@ class Turns(Generic[Work]):
     def leave(self, wait: Wait[Work]) -> None:
         """Lets the partner go on, and gives the turn to the next thread. A wait that was interrupted ends. If this is
         interrupted, it has to be called again."""
+        wait.is_over = True
+        with self._lock:
+            self._leave(wait)
+
+    def _leave(self, wait: Wait[Work]) -> None:
         if wait.partner is not None:
             wait.partner.end()
-        with self._lock:
-            self._end_waits()
-            self._waits.discard(wait)
-            if wait in self._waiting:
-                self._waiting.remove(wait)
-            if wait.turn is not None and wait.turn.holder is wait:
-                self._pass_on(wait.turn)
+        self._end_waits()
+        self._waits.discard(wait)
+        if wait in self._waiting:
+            self._waiting.remove(wait)
+        if wait.turn is not None and wait.turn.holder is wait:
+            self._pass_on(wait.turn)
         wait.turn = None
+        wait.has_left = True
 
     def _pass_on(self, turn: Turn) -> None:
         """To the thread that has waited longest, with the first that may share it; or to nobody."""

@@ -87,9 +87,7 @@ class Costs(unittest.TestCase):
         begun, end = threading.Event(), threading.Event()
 
         def hold():
-            with hasher._memories.one():
-                begun.set()
-                end.wait()
+            hasher._memories.derive(lambda _: (begun.set(), end.wait()))
 
         thread = threading.Thread(target=hold)
         thread.start()

@@ -24,9 +24,7 @@ def turns_taken(hasher, count, seconds=None):
     held, done = threading.Barrier(count + 1), threading.Event()
 
     def hold():
-        with hasher._memories.one():
-            held.wait()
-            done.wait(seconds)
+        hasher._memories.derive(lambda _: (held.wait(), done.wait(seconds)))
 
     threads = [threading.Thread(target=hold) for _ in range(count)]
     for it in threads:
@@ -79,6 +77,30 @@ def interrupted_after(steps, call, *arguments):
         call(*arguments)
     sys.setprofile(None)
     return seen >= steps
+
+
+class Interrupts:
+    """Signals that raise KeyboardInterrupt in turns.py or memories.py, at any time and shortly after one another."""
+
+    def __init__(self):
+        self.left = self.count = 0
+
+    def handle(self, _, frame):
+        while frame and not frame.f_code.co_filename.endswith(("/turns.py", "/memories.py")):
+            frame = frame.f_back
+        if frame and self.left:
+            self.left, self.count = self.left - 1, self.count + 1
+            if self.left:
+                signal.setitimer(signal.ITIMER_REAL, random.uniform(1e-6, 16e-6))
+            raise KeyboardInterrupt
+
+    def during(self, call):
+        self.left = random.randint(1, 5)
+        with contextlib.suppress(KeyboardInterrupt):
+            signal.setitimer(signal.ITIMER_REAL, random.uniform(1e-6, 60e-6))
+            call()
+        self.left = 0
+        signal.setitimer(signal.ITIMER_REAL, 0)
 
 
 def both(one):
@@ -248,8 +270,7 @@ class Threads(unittest.TestCase):
         order = []
 
         def wait(number):
-            with hasher._memories.one():
-                order.append(number)
+            hasher._memories.derive(lambda _: order.append(number))
 
         with turns_taken(hasher, 1):
             threads = [threading.Thread(target=wait, args=(number,)) for number in range(8)]
@@ -313,6 +334,21 @@ class Threads(unittest.TestCase):
             self.assertFalse(any(it.is_alive() for it in others), f"others wait after step {step}")
             self.assertEqual((len(turns._free), len(turns._waiting), len(turns._waits)), (1, 0, 0), f"step {step}")
         self.assertGreater(step, 20)
+
+    def test_interrupted_many_times(self):
+        """By one to five signals, of which later ones come while the turn is given back. No turn and no memory is lost."""
+        hasher = PasswordHasher(log_n=1, r=1, at_once=2, timeout=5)
+        text, turns = hasher.hash("pw"), hasher._memories._turns
+        interrupts = Interrupts()
+        before = signal.signal(signal.SIGALRM, interrupts.handle)
+        while interrupts.count < 20_000:
+            interrupts.during(lambda: hasher.verify(text, "pw"))
+            if interrupts.count % 8 == 0:
+                for turn in turns._all:
+                    turn.free()  # so that there are new ones
+            hasher.verify(text, "pw")
+            self.assertEqual((len(turns._free), len(turns._waiting), len(turns._waits)), (len(turns), 0, 0))
+        signal.signal(signal.SIGALRM, before)
 
     def test_an_error_gives_its_turn_back(self):
         hasher = PasswordHasher(log_n=4, at_once=1, timeout=5)
