@@ -126,8 +126,15 @@ docdir = $(datarootdir)/doc/scrypt_c
 pythondir = $(prefix)/lib/python3/dist-packages
 PLACES = DESTDIR bindir libdir includedir datarootdir mandir docdir pythondir
 
+# The places go by the environment, where nothing is special to a shell. To make a $ is special: only $$ is one, and with
+# another letter after it than a bracket it would be left out with that letter.
+open = (
+without_names = $(subst $$$$,,$(subst $${,,$(subst $$$(open),,$(value $1))))
+stray = $(if $(filter command environment,$(origin $1)),$(findstring $$,$(without_names)))
+$(foreach place,$(PLACES),$(eval install uninstall: export $(place) := $$($(place))))
 install uninstall:
-	$(foreach place,$(PLACES),$(place)="$($(place))") bindings/install.sh $@
+	@$(foreach place,prefix PREFIX exec_prefix $(PLACES),$(if $(call stray,$(place)),$(error $(place) has a $$: write $$$$)))
+	bindings/install.sh $@
 
 .PHONY: dist dist-test
 dist:

@@ -13,7 +13,18 @@ trap 'rm -rf "$room"' EXIT
 for place in "$bindir" "$libdir" "$includedir" "$datarootdir" "$mandir" "$docdir" "$pythondir"; do
   case $place in
     /*) ;;
-    *) echo "not an absolute path: $place (use prefix=/..)" >&2; exit 1 ;;
+    *) printf '%s\n' "not an absolute path: $place (use prefix=/..)" >&2; exit 1 ;;
+  esac
+done
+
+# What an earlier version installed can still be uninstalled.
+for place in "$libdir" "$includedir"; do
+  case $action$place in
+    install*[\\\'\":\;,\(\)\|\$[:cntrl:]]*)
+      printf '%s\n' "not installed, because pkg-config, CMake or a compiler misreads a quote, a control character or one of" \
+        "\\ : ; , ( ) | \$ in a path: $place" >&2
+      exit 1
+      ;;
   esac
 done
 

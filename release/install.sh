@@ -9,9 +9,13 @@ if [ "${1:-}" = --remove ]; then
   shift
 fi
 prefix=${1:-/usr/local}
-case $prefix in
-  /*) ;;
-  *) echo "not an absolute path: $prefix" >&2; exit 1 ;;
+case $action$prefix in
+  install*[\\\'\":\;,\(\)\|\$[:cntrl:]]*)
+    printf '%s\n' "pkg-config, CMake or a compiler misreads a quote, a control character or one of \\ : ; , ( ) | \$: $prefix" >&2
+    exit 1
+    ;;
+  install/* | remove/*) ;;
+  *) printf '%s\n' "not an absolute path: $prefix" >&2; exit 1 ;;
 esac
 cd "$(dirname "$0")/files"
 

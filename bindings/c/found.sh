@@ -1,7 +1,7 @@
 #!/bin/sh
 # Writes the files by which pkg-config and CMake find the library. They name the folders relative to their own place, so
 # that what is installed can be moved, and that a blank or a & in its path does no harm. A quote, a backslash, a bracket or
-# a $ there does: pkg-config writes its own place as it is.
+# a $ there does, because pkg-config writes its own place as it is: install.sh refuses such a path.
 # usage: found.sh LIBDIR INCLUDEDIR PKGCONFIG CMAKE [ROOM]
 #   The folders of the libraries, of the header and of the files. The files are written into ROOM, or else where they are used.
 set -eu

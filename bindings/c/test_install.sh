@@ -57,7 +57,38 @@ done << 'END'
 no special character:plain
 a character that is special to sed:R&D
 a blank:R&D kit
+what is special to make and to a shell:a#b `c` *?[{<~!^%=}]
 END
+
+# Before anything is written. Make reads $$ as $.
+refused() {
+  if make -s install "$2=$room/refused$3/usr" DESTDIR= > "$room/log" 2>&1 || ! grep -q "$4" "$room/log"; then
+    echo "not refused: $1" >&2
+    exit 1
+  fi
+  test -z "$(find "$room" -maxdepth 1 -name 'refused*')"
+}
+newline='
+'
+for it in '\' "'" '"' ':' ';' ',' '(' ')' '|' '$$' '	' "$newline"; do
+  for place in prefix libdir includedir; do refused "$it in $place" "$place" "$it"x "misreads a quote"; done
+  if release/install.sh "$room/refused$it" 2> "$room/log" || ! grep -q misreads "$room/log"; then
+    echo "not refused by the install.sh of the archive: $it" >&2
+    exit 1
+  fi
+done
+refused 'a $ that make would leave out' prefix '$x' 'has a \$'
+if make -s install prefix=refused DESTDIR= 2> "$room/log" || ! grep -q "not an absolute path" "$room/log"; then exit 1; fi
+test ! -e refused
+echo "refused: paths that pkg-config, CMake, a compiler or make would misread"
+# They name no other folder.
+for it in "$room/plain/usr/" "$room//plain//usr"; do
+  make -s install prefix="$it" DESTDIR= > /dev/null
+  is_found "$room/plain/usr"
+  make -s uninstall prefix="$it" DESTDIR= > /dev/null
+  is_empty "$room/plain"
+done
+echo "installed and found: a prefix with a slash at the end, and with two"
 
 # If lib is a link to a folder elsewhere, the folder of the header is not where it is without the link.
 mkdir -p "$room/linked/usr" "$room/else/where/lib"
