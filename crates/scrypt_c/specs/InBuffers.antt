@@ -1,13 +1,17 @@
 -- The caller's buffers: what a call leaves in them.
-use Rattle.std.specs.Prelude.{◌≡◌, ℕ, ◌*◌, List, drop, MatchBool, Result, Ok, Err}
-use Rattle.password_hash.specs.Refusal.{Refusal}
+use Rattle.std.specs.Prelude.{◌≡◌, ℕ, ℤ, ◌*◌, List, drop, MatchBool, Result, Ok, Err}
+use Rattle.password_hash.specs.Refusal.{Refusal, refusal}
+use Rattle.password_hash.specs.declared.error.Error.{Error}
 use Rattle.scrypt.specs.Accepted.{Parameters}
 use Rattle.scrypt.specs.Cost.{chunks_bytes, scratch_words, table_words}
 use Rattle.scrypt.specs.InBuffers.{IsWiped}
 use Rattle.scrypt.specs.Reading.{Stored}
+use Rattle.scrypt.specs.StoredHash.{StoredText}
 use Rattle.scrypt.specs.TwoVerdicts as two
 use Rattle.scrypt.specs.TwoVerdicts.{both_chunks_bytes}
-use Rattle.scrypt.specs.WorkInBuffers.{Work, has_room, tables_used}
+use Rattle.scrypt.specs.WorkInBuffers.{Work, has_room, tables_used, verdict_in}
+use Rattle.scrypt_c.specs.Statuses.{buffers_status}
+use Rattle.scrypt_c.specs.Texts.{ReadsBytes}
 
 -- the buffers of a call, which counts from 0
 abbrev pub buffers : List ℕ → List ℕ → List ℕ → Work
@@ -44,3 +48,22 @@ pub record AreBothUsed (c other : Parameters) (before after : Work) : Type 0 whe
 -- two, and otherwise what verifying each leaves, one after the other
 abbrev pub AreTwoLeft : Result Stored Refusal → Result Stored Refusal → Work → Work → Type 0
 AreTwoLeft = two.AreLeft AreLeft AreBothUsed
+
+-- what was read of bytes, or the error of reading them
+abbrev pub whole_of : Result StoredText Error → Result Stored Refusal
+whole_of (Ok hash) = hash.whole
+whole_of (Err e) = Err (refusal e)
+
+-- the status of verifying in these buffers with the hash that bytes are read as
+abbrev pub IsStatusIn : Work → List ℕ → List ℕ → ℤ → Type 0
+IsStatusIn before password bytes status =
+    (hash : StoredText) × ReadsBytes bytes hash × (status ≡ buffers_status (verdict_in before password hash.whole))
+
+-- what that leaves in them
+abbrev pub IsLeftBy : List ℕ → Work → Work → Type 0
+IsLeftBy bytes before after = (hash : StoredText) × ReadsBytes bytes hash × AreLeft hash.whole before after
+
+-- the same with the hashes that two texts are read as
+abbrev pub IsLeftByTwo : List ℕ → List ℕ → Work → Work → Type 0
+IsLeftByTwo bytes other_bytes before after = (hash other : StoredText)
+    × ReadsBytes bytes hash × ReadsBytes other_bytes other × AreTwoLeft hash.whole other.whole before after

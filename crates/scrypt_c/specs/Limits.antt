@@ -1,6 +1,7 @@
 -- The statuses of what a call needs within limits.
-use Rattle.std.specs.Prelude.{ℕ, ℤ, pos, None, Result, Ok, Err}
-use Rattle.scrypt.specs.Accepted.{Parameters}
+use Rattle.std.specs.Prelude.{◌≡◌, ◌⊎◌, ◌↔◌, ℕ, ℤ, pos, IsTrue, None, Result, Ok, Err}
+use Rattle.scrypt.specs.Accepted.{AreAccepted, Parameters}
+use Rattle.scrypt.specs.Limits.{are_within}
 use Rattle.scrypt.specs.Reading.{Stored}
 use Rattle.scrypt.specs.WithinLimits.{BoundedRefusal, Hash, KeyTooShort, TooCostly}
 use Rattle.scrypt.specs.declared.limits.Limits.{Limits}
@@ -25,3 +26,10 @@ bounded_status KeyTooShort = pos 15
 abbrev pub needs_status : Result Stored BoundedRefusal → ℤ
 needs_status (Ok s) = pos 0
 needs_status (Err why) = bounded_status why
+
+-- the status of what parameters need: 0, or that they aren't accepted, or not within limits
+pub record IsNeedStatus (most_bytes most_work log_n r p : ℕ) (status : ℤ) : Type 0 where
+  pub params : (status ≡ pos 2) ↔ (¬ AreAccepted log_n r p)
+  pub costly : (status ≡ pos 13)
+      ↔ (AreAccepted log_n r p × (¬ IsTrue (are_within (limits_of most_bytes most_work 0) (params_of log_n r p))))
+  pub one : (status ≡ pos 0) ⊎ (status ≡ pos 2) ⊎ (status ≡ pos 13)

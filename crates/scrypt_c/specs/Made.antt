@@ -1,12 +1,19 @@
 -- The parameters of new hashes, and their texts, which are written to the caller's buffer or too long for it.
-use Rattle.std.specs.Prelude.{◌≡◌, ℕ, ◌<◌, List, length, Some}
+use Rattle.std.specs.Prelude.{◌≡◌, ℕ, ◌<◌, ◌≤◌, false, List, length, Some, Ok}
 use Rattle.std.specs.Str.{IsUtf8}
-use Rattle.scrypt.specs.Accepted.{Parameters}
+use Rattle.scrypt.specs.Accepted.{AreAccepted, IsStoredLen, Parameters}
 use Rattle.scrypt.specs.InBuffers.{IsCopiedTo}
+use Rattle.scrypt.specs.Reading.{verdict, weaker}
+use Rattle.scrypt.specs.StoredHash.{StoredText}
+use Rattle.scrypt_c.specs.Texts.{ReadsBytes}
 
 -- parameters with the length of a key
 abbrev pub wanted : ℕ → ℕ → ℕ → ℕ → Parameters
 wanted log_n r p key_len = record { log_n = log_n; r = r; p = p; output_len = Some key_len }
+
+-- a new hash can have them
+abbrev pub AreHashParams : ℕ → ℕ → ℕ → ℕ → Type 0
+AreHashParams log_n r p key_len = AreAccepted log_n r p × IsStoredLen key_len
 
 -- such a text, in UTF-8, is at the front of the caller's buffer, the rest of which is unchanged, and this is its length
 abbrev pub IsWrittenTo : (List ℕ → Type 0) → List ℕ → List ℕ → ℕ → Type 0
@@ -15,3 +22,16 @@ IsWrittenTo IsMade old new len = IsCopiedTo (λ text. IsUtf8 text × IsMade text
 -- a text that is made is longer than the caller's buffer, and this is its length
 abbrev pub IsTooLong : (List ℕ → Type 0) → List ℕ → ℕ → Type 0
 IsTooLong IsMade buffer len = (text : List ℕ) × IsMade text × (len ≡ length text) × (length buffer < len)
+
+-- Why no text is made with parameters that a new hash can have: it is longer than the caller's buffer, and this is its
+-- length, or else the buffers of the derivation are too short, and the length is unchanged.
+abbrev pub IsTooShort : (List ℕ → Type 0) → ℕ → Type 0 → List ℕ → ℕ → ℕ → Type 0
+IsTooShort IsMade made_len Enough buffer old new =
+    (length buffer < made_len → IsTooLong IsMade buffer new) × (made_len ≤ length buffer → (¬ Enough) × (new ≡ old))
+
+-- the bytes are read as a hash that accepts the password and is not weaker than these parameters
+pub record IsAsMade (c : Parameters) (password bytes : List ℕ) : Type 0 where
+  pub hash : StoredText
+  pub reads : ReadsBytes bytes hash
+  pub accepted : verdict password hash.whole ≡ Ok tt
+  pub strong : weaker c hash.whole ≡ Ok false

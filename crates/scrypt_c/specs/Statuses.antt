@@ -1,8 +1,11 @@
 -- The statuses of what was read, of verdicts and of errors.
-use Rattle.std.specs.Prelude.{◌≡◌, ◌⊎◌, ℕ, ℤ, pos, Bool, true, false, List, Result, Ok, Err, IsOk, ⊤}
+use Rattle.std.specs.Prelude.{◌≡◌, ◌⊎◌, ◌↔◌, ℕ, ℤ, pos, Bool, true, false, List, Result, Ok, Err, IfOk, IsOk}
 use Rattle.password_hash.specs.Refusal.{Refusal, Algorithm, EncodingInvalid, OutputSize, ParamInvalid, ParamsInvalid}
 use Rattle.password_hash.specs.Refusal.{SaltInvalid, Version, OutOfMemory, PasswordInvalid}
+use Rattle.scrypt.specs.Accepted.{IsOutputLen}
 use Rattle.scrypt.specs.Reading.{Stored, verdict}
+use Rattle.scrypt.specs.StoredHash.{StoredText}
+use Rattle.scrypt_c.specs.Texts.{ReadsBytes}
 
 -- the status of a refusal
 abbrev pub refusal_status : Refusal → ℤ
@@ -21,6 +24,12 @@ abbrev pub result_status : {A : Type 0} → Result A Refusal → ℤ
 result_status (Ok x) = pos 0
 result_status (Err why) = refusal_status why
 
+-- this is the status of reading the parameters of the bytes and the length of their key, and these are they
+abbrev pub ReadsParams : List ℕ → ℤ → ℕ → ℕ → ℕ → ℕ → Type 0
+ReadsParams bytes status log_n r p key_len =
+    (hash : StoredText) × ReadsBytes bytes hash × (status ≡ result_status hash.params)
+    × IfOk hash.params (λ read. (log_n ≡ read.0.log_n) × (r ≡ read.0.r) × (p ≡ read.0.p) × (key_len ≡ read.1))
+
 -- the status of verifying: that of the verdict, or, only where keys are compared, that an allocation failed
 abbrev pub IsVerifyStatus : List ℕ → Result Stored Refusal → ℤ → Type 0
 IsVerifyStatus password reading status =
@@ -32,8 +41,16 @@ rehash_status (Ok false) = pos 0
 rehash_status (Ok true) = pos 1
 rehash_status (Err why) = refusal_status why
 
--- the status of verifying in the caller's buffers, where `OutOfMemory` is that one is too short
-abbrev pub buffers_status : Result ⊤ Refusal → ℤ
-buffers_status (Ok u) = pos 0
+-- the status of hashing or verifying in the caller's buffers, where `OutOfMemory` is that one is too short
+abbrev pub buffers_status : {A : Type 0} → Result A Refusal → ℤ
+buffers_status (Ok x) = pos 0
 buffers_status (Err OutOfMemory) = pos 12
 buffers_status (Err why) = refusal_status why
+
+-- the status of a derivation in the caller's buffers: 0, or that of the first of the parameters, the length of the output
+-- and the buffers that isn't accepted
+pub record IsKeyStatus (Accepted Enough : Type 0) (output_len : ℕ) (status : ℤ) : Type 0 where
+  pub params : (status ≡ pos 2) ↔ (¬ Accepted)
+  pub length : (status ≡ pos 3) ↔ (Accepted × ¬ IsOutputLen output_len)
+  pub buffers : (status ≡ pos 12) ↔ (Accepted × IsOutputLen output_len × ¬ Enough)
+  pub one : (status ≡ pos 0) ⊎ (status ≡ pos 2) ⊎ (status ≡ pos 3) ⊎ (status ≡ pos 12)

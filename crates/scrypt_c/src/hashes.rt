@@ -1,14 +1,13 @@
 //! Hashes: writing their texts, and verifying passwords by them.
 
-ghost use Rattle.std.specs.Prelude.{◌≡◌, ◌≢◌, ◌⊎◌, ◌↔◌, IfOk, length};
+ghost use Rattle.std.specs.Prelude.{◌≡◌, ◌≢◌, ◌⊎◌, ◌↔◌, length};
 ghost use Rattle.password_hash.specs.Refusal.{told};
-ghost use Rattle.scrypt.specs.Accepted.{AreAccepted, IsStoredLen};
 ghost use Rattle.scrypt.specs.McfHash.{IsMadeHash as IsMadeMcf};
 ghost use Rattle.scrypt.specs.PhcHash.{IsMadeText, IsSaltLen};
 ghost use Rattle.scrypt.specs.Reading.{weaker};
 ghost use Rattle.scrypt.specs.StoredHash.{StoredText};
-ghost use Rattle.scrypt_c.specs.Made.{IsTooLong, IsWrittenTo, wanted};
-ghost use Rattle.scrypt_c.specs.Statuses.{IsVerifyStatus, rehash_status, result_status};
+ghost use Rattle.scrypt_c.specs.Made.{AreHashParams, IsTooLong, IsWrittenTo, wanted};
+ghost use Rattle.scrypt_c.specs.Statuses.{IsVerifyStatus, ReadsParams, rehash_status, result_status};
 ghost use Rattle.scrypt_c.specs.Texts.{ReadsBytes};
 
 use crate::statuses::{
@@ -41,9 +40,8 @@ pub extern "C" fn scrypt_hash_phc(
 ) -> i32
     ensures made { result ≡ OK → IsWrittenTo (IsMadeText (wanted log_n r p key_len) password.now salt.now)
         text.old text.new text_len.new }
-    ensures params { (result ≡ INVALID_PARAMS) ↔ (¬ (AreAccepted log_n r p × IsStoredLen key_len)) }
-    ensures salt { (result ≡ SALT_INVALID)
-        ↔ (AreAccepted log_n r p × IsStoredLen key_len × ¬ IsSaltLen (length salt.now)) }
+    ensures params { (result ≡ INVALID_PARAMS) ↔ (¬ AreHashParams log_n r p key_len) }
+    ensures salt { (result ≡ SALT_INVALID) ↔ (AreHashParams log_n r p key_len × ¬ IsSaltLen (length salt.now)) }
     ensures size { result ≡ BUFFER_SIZE → IsTooLong
         (IsMadeText (wanted log_n r p key_len) password.now salt.now) text.old text_len.new }
     ensures status { (result ≡ OK) ⊎ (result ≡ INVALID_PARAMS) ⊎ (result ≡ SALT_INVALID)
@@ -86,7 +84,7 @@ pub extern "C" fn scrypt_hash_mcf(
 ) -> i32
     ensures made { result ≡ OK → IsWrittenTo (IsMadeMcf (wanted log_n r p key_len) password.now salt.now)
         text.old text.new text_len.new }
-    ensures params { (result ≡ INVALID_PARAMS) ↔ (¬ (AreAccepted log_n r p × IsStoredLen key_len)) }
+    ensures params { (result ≡ INVALID_PARAMS) ↔ (¬ AreHashParams log_n r p key_len) }
     ensures size { result ≡ BUFFER_SIZE → IsTooLong
         (IsMadeMcf (wanted log_n r p key_len) password.now salt.now) text.old text_len.new }
     ensures status { (result ≡ OK) ⊎ (result ≡ INVALID_PARAMS) ⊎ (result ≡ OUT_OF_MEMORY)
@@ -119,9 +117,7 @@ pub extern "C" fn scrypt_hash_params(
     p: &mut u32,
     key_len: &mut usize,
 ) -> i32
-    ensures read { (hash : StoredText) × ReadsBytes text.now hash × ((result ≡ result_status hash.params)
-        × IfOk hash.params (λ read. (log_n.new ≡ read.0.log_n) × (r.new ≡ read.0.r) × (p.new ≡ read.0.p)
-        × (key_len.new ≡ read.1))) }
+    ensures read { ReadsParams text.now result log_n.new r.new p.new key_len.new }
     ensures missing { (result ≢ MISMATCH) × (result ≢ OUT_OF_MEMORY) }
     ensures unchanged { result ≢ OK → (log_n.new ≡ log_n.old) × (r.new ≡ r.old) × (p.new ≡ p.old)
         × (key_len.new ≡ key_len.old) }
@@ -175,8 +171,8 @@ pub extern "C" fn scrypt_verify(alloc: Global, password: &[u8], text: &[u8]) -> 
 /// `NEEDS_REHASH` if the hash is weaker; and `OK` if it is not.
 #[unsafe(no_mangle)]
 pub extern "C" fn scrypt_needs_rehash(text: &[u8], log_n: u8, r: u32, p: u32, key_len: usize) -> i32
-    ensures status { ((result ≡ INVALID_PARAMS) × ¬ (AreAccepted log_n r p × IsStoredLen key_len))
-        ⊎ (AreAccepted log_n r p × IsStoredLen key_len × ((hash : StoredText) × ReadsBytes text.now hash
+    ensures status { ((result ≡ INVALID_PARAMS) × ¬ AreHashParams log_n r p key_len)
+        ⊎ (AreHashParams log_n r p key_len × ((hash : StoredText) × ReadsBytes text.now hash
         × (result ≡ rehash_status (weaker (wanted log_n r p key_len) hash.whole)))) }
 {
     let Ok(wanted) = Params::new_with_output_len(log_n, r, p, key_len) else {

@@ -7,11 +7,12 @@ ghost use Rattle.scrypt.specs.Key.{derived_key};
 ghost use Rattle.scrypt_c.specs.Buffers.{AreBuffers, IsSpacing};
 ghost use Rattle.scrypt_c.specs.InBuffers.{IsRestKept, buffers};
 ghost use Rattle.scrypt_c.specs.Limits.{params_of};
+ghost use Rattle.scrypt_c.specs.Statuses.{IsKeyStatus};
 
 use crate::statuses::{BUFFER_SIZE, INVALID_OUTPUT_LEN, INVALID_PARAMS, OK, OUT_OF_MEMORY};
 use scrypt::{
-    BufferLens, CoreCount, DeriveError, InvalidOutputLen, Params, output_len_ok, scrypt,
-    scrypt_thin, scrypt_with_buffers, used_lens,
+    BufferLens, CoreCount, DeriveError, Params, output_len_ok, scrypt, scrypt_thin,
+    scrypt_with_buffers, used_lens,
 };
 use std::alloc::Global;
 
@@ -100,20 +101,13 @@ pub extern "C" fn scrypt_kdf_with_buffers(
     table: &mut [u32],
     scratch: &mut [u32],
 ) -> i32
-    ensures value { result ≡ OK → output.new
-        ≡ derived_key password.now salt.now log_n r p (length output.old) }
-    ensures params { (result ≡ INVALID_PARAMS) ↔ (¬ AreAccepted log_n r p) }
-    ensures length { (result ≡ INVALID_OUTPUT_LEN)
-        ↔ (AreAccepted log_n r p × ¬ IsOutputLen (length output.old)) }
-    ensures buffers { (result ≡ BUFFER_SIZE) ↔ (AreAccepted log_n r p × IsOutputLen (length output.old)
-        × ¬ AreEnough (params_of log_n r p) chunks.old table.old scratch.old) }
-    ensures status { (result ≡ OK) ⊎ (result ≡ INVALID_PARAMS) ⊎ (result ≡ INVALID_OUTPUT_LEN)
-        ⊎ (result ≡ BUFFER_SIZE) }
+    ensures status { IsKeyStatus (AreAccepted log_n r p)
+        (AreEnough (params_of log_n r p) chunks.old table.old scratch.old) (length output.old) result }
+    ensures value { result ≡ OK → output.new ≡ derived_key password.now salt.now log_n r p (length output.old) }
     ensures rest { result ≡ OK → IsRestKept (params_of log_n r p)
         (buffers chunks.old table.old scratch.old) (buffers chunks.new table.new scratch.new) }
     ensures refused { result ≢ OK → output.new ≡ output.old }
-    ensures unchanged { result ≢ OK →
-        (chunks.new ≡ chunks.old) × (table.new ≡ table.old) × (scratch.new ≡ scratch.old) }
+    ensures unchanged { result ≢ OK → (chunks.new ≡ chunks.old) × (table.new ≡ table.old) × (scratch.new ≡ scratch.old) }
 {
     let Ok(params) = Params::new(log_n, r, p) else {
         return INVALID_PARAMS;
@@ -131,10 +125,8 @@ pub extern "C" fn scrypt_kdf_with_buffers(
     let derived = scrypt_with_buffers(
         password, salt, &params, chunks, table, scratch, output, &mut cores,
     );
-    match derived {
-        Ok(()) => OK,
-        Err(InvalidOutputLen) => INVALID_OUTPUT_LEN,
-    }
+    derived.unwrap();
+    OK
 }
 
 /// Does what `scrypt_kdf_with_buffers` does, with a table that keeps one row in `2^s`: it has `2^s` times
@@ -157,19 +149,11 @@ pub extern "C" fn scrypt_kdf_thin(
     table: &mut [u32],
     scratch: &mut [u32],
 ) -> i32
-    ensures value { result ≡ OK → output.new
-        ≡ derived_key password.now salt.now log_n r p (length output.old) }
-    ensures params { (result ≡ INVALID_PARAMS) ↔ (¬ (AreAccepted log_n r p × IsSpacing log_n s)) }
-    ensures length { (result ≡ INVALID_OUTPUT_LEN)
-        ↔ (AreAccepted log_n r p × IsSpacing log_n s × ¬ IsOutputLen (length output.old)) }
-    ensures buffers { (result ≡ BUFFER_SIZE)
-        ↔ (AreAccepted log_n r p × IsSpacing log_n s × IsOutputLen (length output.old)
-        × ¬ AreBuffers log_n r p s (length chunks.old) (length table.old) (length scratch.old)) }
-    ensures status { (result ≡ OK) ⊎ (result ≡ INVALID_PARAMS) ⊎ (result ≡ INVALID_OUTPUT_LEN)
-        ⊎ (result ≡ BUFFER_SIZE) }
+    ensures status { IsKeyStatus (AreAccepted log_n r p × IsSpacing log_n s)
+        (AreBuffers log_n r p s (length chunks.old) (length table.old) (length scratch.old)) (length output.old) result }
+    ensures value { result ≡ OK → output.new ≡ derived_key password.now salt.now log_n r p (length output.old) }
     ensures refused { result ≢ OK → output.new ≡ output.old }
-    ensures unchanged { result ≢ OK →
-        (chunks.new ≡ chunks.old) × (table.new ≡ table.old) × (scratch.new ≡ scratch.old) }
+    ensures unchanged { result ≢ OK → (chunks.new ≡ chunks.old) × (table.new ≡ table.old) × (scratch.new ≡ scratch.old) }
 {
     let Some((params, lens)) = params_and_lens(log_n, r, p, s) else {
         return INVALID_PARAMS;
@@ -187,10 +171,8 @@ pub extern "C" fn scrypt_kdf_thin(
     let derived = scrypt_thin(
         password, salt, &params, s, chunks, table, scratch, output, &mut cores,
     );
-    match derived {
-        Ok(()) => OK,
-        Err(InvalidOutputLen) => INVALID_OUTPUT_LEN,
-    }
+    derived.unwrap();
+    OK
 }
 
 // The parameters, and the lengths of their buffers, if `log_n`, `r`, `p` and `s` are accepted.

@@ -1,12 +1,10 @@
 //! What a call needs, within limits, before it allocates.
 
-ghost use Rattle.std.specs.Prelude.{◌≡◌, ◌≢◌, ◌↔◌, ◌⊎◌, IfOk, IsTrue};
-ghost use Rattle.scrypt.specs.Accepted.{AreAccepted};
-ghost use Rattle.scrypt.specs.Limits.{are_within};
+ghost use Rattle.std.specs.Prelude.{◌≡◌, ◌≢◌, IfOk};
 ghost use Rattle.scrypt.specs.StoredHash.{StoredText};
 ghost use Rattle.scrypt.specs.WithinLimits.{bounded_refusal, within};
 ghost use Rattle.scrypt_c.specs.Buffers.{AreBuffers, AreUsable};
-ghost use Rattle.scrypt_c.specs.Limits.{bounded_status, limits_of, needs_status, params_of};
+ghost use Rattle.scrypt_c.specs.Limits.{IsNeedStatus, bounded_status, limits_of, needs_status};
 ghost use Rattle.scrypt_c.specs.Texts.{ReadsBytes};
 
 use crate::statuses::{INVALID_PARAMS, KEY_TOO_SHORT, OK, TOO_COSTLY, status_of};
@@ -74,10 +72,7 @@ pub extern "C" fn scrypt_params_need(
     table_len: &mut usize,
     scratch_len: &mut usize,
 ) -> i32
-    ensures params { (result ≡ INVALID_PARAMS) ↔ (¬ AreAccepted log_n r p) }
-    ensures costly { (result ≡ TOO_COSTLY) ↔ (AreAccepted log_n r p
-        × (¬ IsTrue (are_within (limits_of most_bytes most_work 0) (params_of log_n r p)))) }
-    ensures status { (result ≡ OK) ⊎ (result ≡ INVALID_PARAMS) ⊎ (result ≡ TOO_COSTLY) }
+    ensures status { IsNeedStatus most_bytes most_work log_n r p result }
     ensures lens { result ≡ OK → AreBuffers log_n r p 0 chunks_len.new table_len.new scratch_len.new }
     ensures refused { result ≢ OK
         → (chunks_len.new ≡ chunks_len.old) × (table_len.new ≡ table_len.old) × (scratch_len.new ≡ scratch_len.old) }
@@ -117,10 +112,7 @@ pub extern "C" fn scrypt_params_can_use(
     table_len: &mut usize,
     scratch_len: &mut usize,
 ) -> i32
-    ensures params { (result ≡ INVALID_PARAMS) ↔ (¬ AreAccepted log_n r p) }
-    ensures costly { (result ≡ TOO_COSTLY) ↔ (AreAccepted log_n r p
-        × (¬ IsTrue (are_within (limits_of most_bytes most_work 0) (params_of log_n r p)))) }
-    ensures status { (result ≡ OK) ⊎ (result ≡ INVALID_PARAMS) ⊎ (result ≡ TOO_COSTLY) }
+    ensures status { IsNeedStatus most_bytes most_work log_n r p result }
     ensures lens { result ≡ OK → AreUsable most_bytes log_n r p chunks_len.new table_len.new scratch_len.new }
     ensures refused { result ≢ OK
         → (chunks_len.new ≡ chunks_len.old) × (table_len.new ≡ table_len.old) × (scratch_len.new ≡ scratch_len.old) }

@@ -1,22 +1,19 @@
 //! Hashes in the caller's buffers.
 
-ghost use Rattle.std.specs.Prelude.{◌≡◌, ◌≢◌, ◌↔◌, ◌⊎◌, ◌<◌, ◌≤◌, length, replicate};
+ghost use Rattle.std.specs.Prelude.{◌≡◌, ◌≢◌, ◌↔◌, ◌⊎◌, length, replicate, IsOk};
 ghost use Rattle.password_hash.specs.Refusal.{told};
-ghost use Rattle.scrypt.specs.Accepted.{AreAccepted, IsStoredLen};
 ghost use Rattle.scrypt.specs.InBuffers.{AreEnough};
 ghost use Rattle.scrypt.specs.McfHash.{IsMadeHash as IsMadeMcf, made_text_len};
 ghost use Rattle.scrypt.specs.PhcHash.{IsMadeText, IsSaltLen};
-ghost use Rattle.scrypt.specs.StoredHash.{StoredText};
 ghost use Rattle.scrypt.specs.WorkInBuffers.{verdict_in};
-ghost use Rattle.scrypt_c.specs.InBuffers.{AreLeft, AreTwoLeft, AreUsed, buffers};
-ghost use Rattle.scrypt_c.specs.Made.{IsTooLong, IsWrittenTo, wanted};
+ghost use Rattle.scrypt_c.specs.InBuffers.{AreLeft, AreUsed, IsLeftBy, IsLeftByTwo, IsStatusIn, buffers, whole_of};
+ghost use Rattle.scrypt_c.specs.Made.{AreHashParams, IsTooLong, IsTooShort, IsWrittenTo, wanted};
 ghost use Rattle.scrypt_c.specs.Statuses.{buffers_status};
-ghost use Rattle.scrypt_c.specs.Texts.{ReadsBytes};
 
 use crate::statuses::{BUFFER_SIZE, INVALID_PARAMS, OK, SALT_INVALID, status_of};
 use crate::texts::{copy_to, stored_hash};
 use password_hash::{Error, Result};
-use scrypt::{CoreCount, Params, mcf, phc, wipe};
+use scrypt::{CoreCount, Params, StoredHash, mcf, phc, wipe};
 
 /// Does what `scrypt_hash_phc` does, in the caller's buffers, and allocates nothing.
 ///
@@ -44,9 +41,8 @@ pub extern "C" fn scrypt_hash_phc_with_buffers(
 ) -> i32
     ensures made { result ≡ OK → IsWrittenTo (IsMadeText (wanted log_n r p key_len) password.now salt.now)
         text.old text.new text_len.new }
-    ensures params { (result ≡ INVALID_PARAMS) ↔ (¬ (AreAccepted log_n r p × IsStoredLen key_len)) }
-    ensures salt { (result ≡ SALT_INVALID)
-        ↔ (AreAccepted log_n r p × IsStoredLen key_len × ¬ IsSaltLen (length salt.now)) }
+    ensures params { (result ≡ INVALID_PARAMS) ↔ (¬ AreHashParams log_n r p key_len) }
+    ensures salt { (result ≡ SALT_INVALID) ↔ (AreHashParams log_n r p key_len × ¬ IsSaltLen (length salt.now)) }
     ensures buffers { result ≡ OK → AreEnough (wanted log_n r p key_len) chunks.old table.old scratch.old }
     ensures size { result ≡ BUFFER_SIZE → AreEnough (wanted log_n r p key_len) chunks.old table.old scratch.old
         → IsTooLong (IsMadeText (wanted log_n r p key_len) password.now salt.now) text.old text_len.new }
@@ -66,7 +62,7 @@ pub extern "C" fn scrypt_hash_phc_with_buffers(
     let mut cores = CoreCount::new();
     match phc::hash_with_buffers(password, salt, &params, chunks, table, scratch, &mut cores) {
         Ok(hash) => copy_to(hash.to_array_string().as_str(), text, text_len),
-        Err(error) => buffers_status(Err(error)),
+        Err(error) => buffers_status::<()>(Err(error)),
     }
 }
 
@@ -95,14 +91,11 @@ pub extern "C" fn scrypt_hash_mcf_with_buffers(
 ) -> i32
     ensures made { result ≡ OK → IsWrittenTo (IsMadeMcf (wanted log_n r p key_len) password.now salt.now)
         text.old text.new text_len.new }
-    ensures params { (result ≡ INVALID_PARAMS) ↔ (¬ (AreAccepted log_n r p × IsStoredLen key_len)) }
+    ensures params { (result ≡ INVALID_PARAMS) ↔ (¬ AreHashParams log_n r p key_len) }
     ensures buffers { result ≡ OK → AreEnough (wanted log_n r p key_len) chunks.old table.old scratch.old }
-    ensures too_long { result ≡ BUFFER_SIZE
-        → length text.old < made_text_len (wanted log_n r p key_len) (length salt.now)
-        → IsTooLong (IsMadeMcf (wanted log_n r p key_len) password.now salt.now) text.old text_len.new }
-    ensures short { result ≡ BUFFER_SIZE
-        → made_text_len (wanted log_n r p key_len) (length salt.now) ≤ length text.old
-        → (¬ AreEnough (wanted log_n r p key_len) chunks.old table.old scratch.old) × (text_len.new ≡ text_len.old) }
+    ensures size { result ≡ BUFFER_SIZE → IsTooShort (IsMadeMcf (wanted log_n r p key_len) password.now salt.now)
+        (made_text_len (wanted log_n r p key_len) (length salt.now))
+        (AreEnough (wanted log_n r p key_len) chunks.old table.old scratch.old) text.old text_len.old text_len.new }
     ensures status { (result ≡ OK) ⊎ (result ≡ INVALID_PARAMS) ⊎ (result ≡ BUFFER_SIZE) }
     ensures used { result ≡ OK → AreUsed (wanted log_n r p key_len)
         (buffers chunks.old table.old scratch.old) (buffers chunks.new table.new scratch.new) }
@@ -117,19 +110,11 @@ pub extern "C" fn scrypt_hash_mcf_with_buffers(
     let hashed = mcf::hash_with_buffers(
         password, salt, &params, text, chunks, table, scratch, &mut cores,
     );
-    match hashed {
-        Ok(len) => {
-            *text_len = len;
-            OK
-        }
-        Err(error) => {
-            let len = mcf::hash_len(&params, salt);
-            if text.len() < len {
-                *text_len = len;
-            }
-            buffers_status(Err(error))
-        }
+    let len = mcf::hash_len(&params, salt);
+    if hashed.is_ok() || text.len() < len {
+        *text_len = len;
     }
+    buffers_status(hashed)
 }
 
 /// Does what `scrypt_verify` does, in the caller's buffers, and allocates nothing.
@@ -140,6 +125,7 @@ pub extern "C" fn scrypt_hash_mcf_with_buffers(
 /// many elements at the front of each buffer are used. If the keys are compared, those of the chunks
 /// and of the scratch are zeros afterwards, those of the table are unspecified, and nothing after
 /// them has changed; otherwise the buffers are unchanged.
+#[tactic(auto, using(crate::proofs::TextFacts::reading_of))]
 #[unsafe(no_mangle)]
 pub extern "C" fn scrypt_verify_with_buffers(
     password: &[u8],
@@ -148,18 +134,10 @@ pub extern "C" fn scrypt_verify_with_buffers(
     table: &mut [u32],
     scratch: &mut [u32],
 ) -> i32
-    ensures status { (hash : StoredText) × ReadsBytes text.now hash
-        × (result ≡ buffers_status (verdict_in (buffers chunks.old table.old scratch.old) password.now hash.whole)) }
-    ensures left { (hash : StoredText) × ReadsBytes text.now hash × AreLeft hash.whole
-        (buffers chunks.old table.old scratch.old) (buffers chunks.new table.new scratch.new) }
+    ensures status { IsStatusIn (buffers chunks.old table.old scratch.old) password.now text.now result }
+    ensures left { IsLeftBy text.now (buffers chunks.old table.old scratch.old) (buffers chunks.new table.new scratch.new) }
 {
-    let mut cores = CoreCount::new();
-    match stored_hash(text) {
-        Ok(hash) => buffers_status(hash.verify_with_buffers(
-            password, chunks, table, scratch, &mut cores,
-        )),
-        Err(error) => status_of(error),
-    }
+    status_in(stored_hash(text), password, chunks, table, scratch)
 }
 
 /// Verifies two passwords, each with its own hash, in the caller's buffers. Does not allocate.
@@ -182,18 +160,14 @@ pub extern "C" fn scrypt_verify_two_with_buffers(
     table: &mut [u32],
     scratch: &mut [u32],
 ) -> i32
-    ensures status { (hash : StoredText) × ReadsBytes text.now hash
-        × (result ≡ buffers_status (verdict_in (buffers chunks.old table.old scratch.old) password.now hash.whole)) }
-    ensures other_status { (other : StoredText) × ReadsBytes other_text.now other
-        × (other_status.new
-        ≡ buffers_status (verdict_in (buffers chunks.old table.old scratch.old) other_password.now other.whole)) }
-    ensures left { (hash : StoredText) × ReadsBytes text.now hash
-        × (other : StoredText) × ReadsBytes other_text.now other × AreTwoLeft hash.whole other.whole
+    ensures status { IsStatusIn (buffers chunks.old table.old scratch.old) password.now text.now result }
+    ensures other_status { IsStatusIn (buffers chunks.old table.old scratch.old) other_password.now other_text.now other_status.new }
+    ensures left { IsLeftByTwo text.now other_text.now
         (buffers chunks.old table.old scratch.old) (buffers chunks.new table.new scratch.new) }
 {
-    let mut cores = CoreCount::new();
     match (stored_hash(text), stored_hash(other_text)) {
         (Ok(hash), Ok(other)) => {
+            let mut cores = CoreCount::new();
             let (result, other_result) = hash.verify_two(
                 password,
                 &other,
@@ -206,22 +180,12 @@ pub extern "C" fn scrypt_verify_two_with_buffers(
             *other_status = buffers_status(other_result);
             buffers_status(result)
         }
-        (Ok(hash), Err(error)) => {
+        (read, Err(error)) => {
             *other_status = status_of(error);
-            buffers_status(hash.verify_with_buffers(password, chunks, table, scratch, &mut cores))
+            status_in(read, password, chunks, table, scratch)
         }
-        (Err(error), Ok(other)) => {
-            *other_status = buffers_status(other.verify_with_buffers(
-                other_password,
-                chunks,
-                table,
-                scratch,
-                &mut cores,
-            ));
-            status_of(error)
-        }
-        (Err(error), Err(other_error)) => {
-            *other_status = status_of(other_error);
+        (Err(error), other) => {
+            *other_status = status_in(other, other_password, chunks, table, scratch);
             status_of(error)
         }
     }
@@ -237,12 +201,36 @@ pub extern "C" fn scrypt_wipe(chunks: &mut [u8], table: &mut [u32], scratch: &mu
     wipe(chunks, table, scratch);
 }
 
-// Returns the status of the result of verifying in the caller's buffers.
-fn buffers_status(verified: Result<()>) -> i32
-    ensures { result ≡ buffers_status (told verified) }
+// Verifies the password with what was read of a hash, in the caller's buffers.
+fn status_in(
+    read: Result<StoredHash<'_>>,
+    password: &[u8],
+    chunks: &mut [u8],
+    table: &mut [u32],
+    scratch: &mut [u32],
+) -> i32
+    ensures status { result ≡ buffers_status
+        (verdict_in (buffers chunks.old table.old scratch.old) password.now (whole_of read.entry)) }
+    ensures left { AreLeft (whole_of read.entry)
+        (buffers chunks.old table.old scratch.old) (buffers chunks.new table.new scratch.new) }
 {
-    match verified {
-        Ok(()) => OK,
+    let mut cores = CoreCount::new();
+    match read {
+        Ok(hash) => {
+            let verified = hash.verify_with_buffers(password, chunks, table, scratch, &mut cores);
+            buffers_status(verified)
+        }
+        Err(error) => buffers_status::<()>(Err(error)),
+    }
+}
+
+// Returns the status of the result of hashing or verifying in the caller's buffers.
+fn buffers_status<T: Drop>(done: Result<T>) -> i32
+    ensures status { result ≡ buffers_status (told done) }
+    ensures ok { (result ≡ OK) ↔ IsOk done }
+{
+    match done {
+        Ok(_) => OK,
         Err(Error::OutOfMemory) => BUFFER_SIZE,
         Err(error) => status_of(error),
     }

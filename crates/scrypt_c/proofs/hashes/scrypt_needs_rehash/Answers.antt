@@ -11,4 +11,4 @@ returns-in-Ok-stored_hash c =
     let is_weaker = c.needs_rehash.ensures.weaker ∙ ap (λ wanted. weaker wanted read) c.in-Ok.ensures.value in
     let status : c.rehash_status.result ≡ rehash_status (weaker wants read) = c.rehash_status.ensures ∙ ap rehash_status is_weaker in
     let accepted = c.in-Ok.ensures.accepted.0 refl in
-    record { status = inr (accepted.0, accepted.1, (c.in-Ok-stored_hash.hash, c.in-Ok-stored_hash.ensures.ok, search rules)) }
+    record { status = inr (accepted, (c.in-Ok-stored_hash.hash, c.in-Ok-stored_hash.ensures.ok, search rules)) }

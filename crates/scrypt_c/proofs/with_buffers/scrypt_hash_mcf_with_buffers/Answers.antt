@@ -1,31 +1,44 @@
-use Rattle.std.proofs.Common.{◌∙◌, arith, sym}
+use Rattle.std.proofs.Common.{◌≡◌, ◌∙◌, arith, pos, rules, sym}
+use Rattle.std.proofs.lemmas.Bool.{false≢true}
+use Rattle.std.specs.Prelude.{IsOk}
 use Rattle.scrypt.specs.McfHash.{IsMadeHash}
-use Rattle.scrypt_c.proofs.MadeFacts.{written_ascii}
+use Rattle.scrypt_c.proofs.MadeFacts.{written_by}
 use Rattle.scrypt_c.specs.Made.{wanted}
 use Rattle.scrypt_c.proofs.with_buffers.scrypt_hash_mcf_with_buffers.Goals as goal
-use Rattle.scrypt_c.proofs.with_buffers.scrypt_hash_mcf_with_buffers.Goals.{then-text-len, else-text-len}
+use Rattle.scrypt_c.proofs.with_buffers.scrypt_hash_mcf_with_buffers.Goals.{then-is_ok, then-is_ok-via-then-is_ok, then-is_ok-via-else-is_ok+then-text-len, else-is_ok+else-text-len}
 
-pub returns-after-text-len-clause-too_long : goal.returns-after-text-len-clause-too_long
-returns-after-text-len-clause-too_long c is long = elim c.if-text-len.branch [
-  | then-text-len w ↦
-      let made = c.hash_len-len.ensures.made c.args.password.now in (
-        made.0,
-        rw c.in-Ok.ensures.value at made.1,
-        w.text_len-is ∙ sym made.2,
-        omega (arith, w.text_len-is, w.if-text-len.true, c.hash_with_buffers-hashed.auto.text),
-      )
-  | else-text-len w ↦
-      let room = rw c.in-Ok.ensures.value at c.hash_len-len.ensures.value in
-      absurd (omega (arith, room, long, w.if-text-len.false, c.hash_with_buffers-hashed.auto.text))
-]
-
-pub returns-in-Ok-hashed-clause-used : goal.returns-in-Ok-hashed-clause-used
-returns-in-Ok-hashed-clause-used c done =
-    let work = rw c.in-Ok.ensures.value at c.in-Ok-hashed.ensures.done in
-    record { chunks = work.chunks; scratch = work.scratch; rest = work.rest }
-
-pub returns-in-Ok-hashed-clause-made : goal.returns-in-Ok-hashed-clause-made
-returns-in-Ok-hashed-clause-made c done =
+pub returns-clause-made : goal.returns-clause-made
+returns-clause-made c zero =
     let wants = wanted c.args.log_n c.args.r c.args.p c.args.key_len in
-    let copied = rw c.in-Ok.ensures.value at c.in-Ok-hashed.ensures.made in
-    written_ascii (IsMadeHash wants c.args.password.now c.args.salt.now) _ _ _ copied c.in-Ok-hashed.ensures.ascii
+    let each = rw c.in-Ok.ensures.value at c.hash_len-len.ensures.each in
+    let done : c.buffers_status.result ≡ pos 0 = search rules in
+    let ok : IsOk c.hash_with_buffers-hashed.result = c.buffers_status.ensures.ok.0 done in
+    let len : c.if-is_ok.text_len ≡ c.hash_len-len.result = elim c.if-is_ok.branch [
+      | then-is_ok w ↦ w.text_len-is
+      | else-is_ok+else-text-len w ↦ absurd (false≢true (sym w.if-is_ok.false ∙ c.is_ok.ensures.value ∙ ok))
+    ] in
+    written_by c.hash_with_buffers-hashed.result (IsMadeHash wants c.args.password.now c.args.salt.now) _ _ _ _ ok
+    (rw c.in-Ok.ensures.value at c.hash_with_buffers-hashed.ensures.made) c.hash_with_buffers-hashed.ensures.ascii
+    (each c.args.password.now) len
+
+pub returns-clause-size : goal.returns-clause-size
+returns-clause-size c short =
+    let enough = rw c.in-Ok.ensures.value at c.hash_with_buffers-hashed.ensures.exact in
+    let room = rw c.in-Ok.ensures.value at c.hash_len-len.ensures.value in
+    let made = c.hash_len-len.ensures.made c.args.password.now in
+    let status : c.buffers_status.result ≡ pos 12 = search rules in
+    let refused : IsOk c.hash_with_buffers-hashed.result → ⊥ = λ ok. let done = c.buffers_status.ensures.ok.1 ok in absurd cc in
+    let old = c.hash_with_buffers-hashed.auto.text in
+    elim c.if-is_ok.branch [
+      | then-is_ok w ↦ elim w.then-is_ok.branch [
+        | then-is_ok-via-then-is_ok v ↦ absurd (refused (sym c.is_ok.ensures.value ∙ v.if-is_ok.true))
+        | then-is_ok-via-else-is_ok+then-text-len v ↦ (
+          λ long. (made.0, rw c.in-Ok.ensures.value at made.1, w.text_len-is ∙ sym made.2, omega (arith, w.text_len-is, v.if-text-len.true, old)),
+          λ fits. absurd (omega (arith, room, fits, v.if-text-len.true, old)),
+        )
+      ]
+      | else-is_ok+else-text-len w ↦ (
+        λ long. absurd (omega (arith, room, long, w.if-text-len.false, old)),
+        λ fits. (λ all. refused (enough.1 (all, fits)), w.text_len-is),
+      )
+    ]

@@ -1,67 +1,11 @@
-use Rattle.std.proofs.Common.{◌≡◌, ◌∙◌, ap, refl, rules}
-use Rattle.scrypt.specs.WorkInBuffers.{verdict_in}
-use Rattle.scrypt_c.specs.InBuffers.{buffers}
-use Rattle.scrypt_c.specs.Statuses.{buffers_status}
-use Rattle.scrypt_c.specs.Texts.{no_hash}
-use Rattle.scrypt_c.proofs.InBuffersFacts.{in_turn_left, left_uncounted, two_left_uncounted, verdict_uncounted}
+use Rattle.scrypt_c.proofs.InBuffersFacts.{two_left_uncounted}
 use Rattle.scrypt_c.proofs.with_buffers.scrypt_verify_two_with_buffers.Goals as goal
 
 pub returns-in-Ok-Ok-clause-left : goal.returns-in-Ok-Ok-clause-left
 returns-in-Ok-Ok-clause-left c = (
   c.in-Ok-Ok.hash,
-  c.in-Ok-Ok.ensures.ok,
   c.in-Ok-Ok.other,
+  c.in-Ok-Ok.ensures.ok,
   c.in-Ok-Ok.ensures'.ok,
   two_left_uncounted c.in-Ok-Ok.hash.whole c.in-Ok-Ok.other.whole _ _ c.verify_two.ensures.left,
 )
-
-pub returns-in-Ok-Err-clause-left : goal.returns-in-Ok-Err-clause-left
-returns-in-Ok-Err-clause-left c = (
-  c.in-Ok-Err.hash,
-  c.in-Ok-Err.ensures.ok,
-  no_hash c.args.other_text.now,
-  c.in-Ok-Err.ensures'.err.1,
-  in_turn_left c.in-Ok-Err.hash.whole _ _ _ (_, left_uncounted c.in-Ok-Err.hash.whole _ _ c.verify_with_buffers.ensures.left, refl),
-)
-
-pub returns-in-Err-Ok-clause-left : goal.returns-in-Err-Ok-clause-left
-returns-in-Err-Ok-clause-left c = (
-  no_hash c.args.text.now,
-  c.in-Err-Ok.ensures.err.1,
-  c.in-Err-Ok.other,
-  c.in-Err-Ok.ensures'.ok,
-  (_, refl, left_uncounted c.in-Err-Ok.other.whole _ _ c.verify_with_buffers-in-Err-Ok.ensures.left),
-)
-
-pub returns-in-Err-Err-clause-left : goal.returns-in-Err-Err-clause-left
-returns-in-Err-Err-clause-left c = (
-  no_hash c.args.text.now,
-  c.in-Err-Err.ensures.err.1,
-  no_hash c.args.other_text.now,
-  c.in-Err-Err.ensures'.err.1,
-  (_, refl, refl),
-)
-
-pub returns-in-Ok-Ok-clause-status : goal.returns-in-Ok-Ok-clause-status
-returns-in-Ok-Ok-clause-status c =
-    let before = buffers c.args.chunks.now c.args.table.now c.args.scratch.now in
-    let status : c.buffers_status-in-Ok-Ok.result ≡ buffers_status (verdict_in before c.args.password.now c.in-Ok-Ok.hash.whole) =
-    c.buffers_status-in-Ok-Ok.ensures
-    ∙ ap buffers_status (c.verify_two.ensures.verdict ∙ verdict_uncounted _ c.args.password.now c.in-Ok-Ok.hash.whole) in
-    (c.in-Ok-Ok.hash, c.in-Ok-Ok.ensures.ok, search rules)
-
-pub returns-in-Ok-Ok-clause-other_status : goal.returns-in-Ok-Ok-clause-other_status
-returns-in-Ok-Ok-clause-other_status c =
-    let before = buffers c.args.chunks.now c.args.table.now c.args.scratch.now in
-    let status : c.buffers_status.result ≡ buffers_status (verdict_in before c.args.other_password.now c.in-Ok-Ok.other.whole) =
-    c.buffers_status.ensures
-    ∙ ap buffers_status (c.verify_two.ensures.other_verdict ∙ verdict_uncounted _ c.args.other_password.now c.in-Ok-Ok.other.whole) in
-    (c.in-Ok-Ok.other, c.in-Ok-Ok.ensures'.ok, search rules)
-
-pub returns-in-Ok-Err-clause-status : goal.returns-in-Ok-Err-clause-status
-returns-in-Ok-Err-clause-status c =
-    let before = buffers c.args.chunks.now c.args.table.now c.args.scratch.now in
-    let status : c.buffers_status-in-Ok-Err.result ≡ buffers_status (verdict_in before c.args.password.now c.in-Ok-Err.hash.whole) =
-    c.buffers_status-in-Ok-Err.ensures
-    ∙ ap buffers_status (c.verify_with_buffers.ensures.verdict ∙ verdict_uncounted _ c.args.password.now c.in-Ok-Err.hash.whole) in
-    (c.in-Ok-Err.hash, c.in-Ok-Err.ensures.ok, search rules)
