@@ -82,24 +82,48 @@ impl Kdf for Scrypt {
 
 impl Pbkdf for Scrypt {}
 
-// The text of a hash in this format, whose algorithm has this name there.
-fn hashed(
-    (password, salt): (&[u8], &[u8]),
-    (alg_id, version): (Option<&str>, Option<Version>),
-    params: Params,
-    (format, name): (Format, &str),
-) -> Result<String> {
-    if alg_id.map_or(false, |it| it != name) {
-        return Err(Error::Algorithm);
-    }
-    if version.is_some() {
-        return Err(Error::Version);
-    }
-    let hasher = Hasher::new(Options { format, at_once: 1, ..Options::of(params) })?;
-    hasher.hash_with_salt(password, salt)
+/// The hashes of one format, as [`Scrypt`] makes them.
+pub trait Made {
+    /// The format.
+    const FORMAT: Format;
+
+    /// The name of scrypt in it.
+    const ALG_ID: &'static str;
+
+    /// A text that the library has made.
+    fn made(text: String) -> Self;
 }
 
-impl CustomizedPasswordHasher<phc::PasswordHash> for Scrypt {
+// What the hashes of both formats share: each is made, shown and parsed as its text.
+macro_rules! hash_text {
+    ($format:ident, $alg_id:literal) => {
+        impl crate::algorithm::Made for PasswordHash {
+            const FORMAT: crate::Format = crate::Format::$format;
+            const ALG_ID: &'static str = $alg_id;
+
+            fn made(text: String) -> PasswordHash {
+                PasswordHash(text)
+            }
+        }
+
+        impl std::fmt::Display for PasswordHash {
+            fn fmt(&self, f: &mut std::fmt::Formatter<'_>) -> std::fmt::Result {
+                f.pad(&self.0)
+            }
+        }
+
+        impl std::str::FromStr for PasswordHash {
+            type Err = Error;
+
+            fn from_str(text: &str) -> Result<PasswordHash, Error> {
+                PasswordHash::new(text)
+            }
+        }
+    };
+}
+pub(crate) use hash_text;
+
+impl<H: Made> CustomizedPasswordHasher<H> for Scrypt {
     type Params = Params;
 
     fn hash_password_customized(
@@ -109,25 +133,15 @@ impl CustomizedPasswordHasher<phc::PasswordHash> for Scrypt {
         alg_id: Option<&str>,
         version: Option<Version>,
         params: Params,
-    ) -> Result<phc::PasswordHash> {
-        hashed((password, salt), (alg_id, version), params, (Format::Phc, "scrypt"))
-            .map(phc::PasswordHash::made)
-    }
-}
-
-impl CustomizedPasswordHasher<mcf::PasswordHash> for Scrypt {
-    type Params = Params;
-
-    fn hash_password_customized(
-        &self,
-        password: &[u8],
-        salt: &[u8],
-        alg_id: Option<&str>,
-        version: Option<Version>,
-        params: Params,
-    ) -> Result<mcf::PasswordHash> {
-        hashed((password, salt), (alg_id, version), params, (Format::Mcf, "7"))
-            .map(mcf::PasswordHash::made)
+    ) -> Result<H> {
+        if alg_id.map_or(false, |it| it != H::ALG_ID) {
+            return Err(Error::Algorithm);
+        }
+        if version.is_some() {
+            return Err(Error::Version);
+        }
+        let options = Options { format: H::FORMAT, at_once: 1, ..Options::of(params) };
+        Hasher::new(options)?.hash_with_salt(password, salt).map(H::made)
     }
 }
 

@@ -30,21 +30,29 @@ pub struct RawMemory {
     _inside: [u8; 0],
 }
 
-/// `scrypt_hash_phc_in` or `scrypt_hash_mcf_in`.
-pub type HashCall = unsafe extern "C" fn(
-    memory: *mut RawMemory,
-    password: *const u8,
-    password_len: usize,
-    salt: *const u8,
-    salt_len: usize,
-    log_n: u8,
-    r: u32,
-    p: u32,
-    key_len: usize,
-    text: *mut c_char,
-    capacity: usize,
-    text_len: *mut usize,
-) -> c_int;
+// The calls that make a hash in kept memory, one for each format.
+macro_rules! hash_calls {
+    ($($name:ident),*) => {
+        extern "C" {
+            $(pub fn $name(
+                memory: *mut RawMemory,
+                password: *const u8,
+                password_len: usize,
+                salt: *const u8,
+                salt_len: usize,
+                log_n: u8,
+                r: u32,
+                p: u32,
+                key_len: usize,
+                text: *mut c_char,
+                capacity: usize,
+                text_len: *mut usize,
+            ) -> c_int;)*
+        }
+    };
+}
+
+hash_calls!(scrypt_hash_phc_in, scrypt_hash_mcf_in);
 
 extern "C" {
     pub fn scrypt_buffer_lens(
@@ -66,34 +74,6 @@ extern "C" {
         p: u32,
         output: *mut u8,
         output_len: usize,
-    ) -> c_int;
-    pub fn scrypt_hash_phc_in(
-        memory: *mut RawMemory,
-        password: *const u8,
-        password_len: usize,
-        salt: *const u8,
-        salt_len: usize,
-        log_n: u8,
-        r: u32,
-        p: u32,
-        key_len: usize,
-        text: *mut c_char,
-        capacity: usize,
-        text_len: *mut usize,
-    ) -> c_int;
-    pub fn scrypt_hash_mcf_in(
-        memory: *mut RawMemory,
-        password: *const u8,
-        password_len: usize,
-        salt: *const u8,
-        salt_len: usize,
-        log_n: u8,
-        r: u32,
-        p: u32,
-        key_len: usize,
-        text: *mut c_char,
-        capacity: usize,
-        text_len: *mut usize,
     ) -> c_int;
     pub fn scrypt_verify_in(
         memory: *mut RawMemory,

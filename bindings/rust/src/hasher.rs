@@ -128,9 +128,13 @@ impl Hasher {
     ///
     /// `OutOfMemory`, and `SaltInvalid` unless the salt of a PHC hash has 1 to 64 bytes.
     pub fn hash_with_salt(&self, password: impl AsRef<[u8]>, salt: &[u8]) -> Result<String, Error> {
-        let (call, capacity): (HashCall, usize) = match self.options.format {
-            Format::Phc => (scrypt_hash_phc_in, PHC_CAPACITY),
-            Format::Mcf => (scrypt_hash_mcf_in, mcf_capacity(salt.len())),
+        let call = match self.options.format {
+            Format::Phc => scrypt_hash_phc_in,
+            Format::Mcf => scrypt_hash_mcf_in,
+        };
+        let capacity = match self.options.format {
+            Format::Phc => PHC_CAPACITY,
+            Format::Mcf => mcf_capacity(salt.len()),
         };
         let mut text = Vec::new();
         text.try_reserve_exact(capacity).map_err(|_| Error::OutOfMemory)?;

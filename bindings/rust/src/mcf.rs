@@ -1,10 +1,10 @@
 //! Hashes as `$7$` texts of crypt(3), for the traits of [`password_hash`](crate::password_hash).
 
+use crate::algorithm::hash_text;
 use crate::{params_of, Error};
 use std::borrow::Borrow;
 use std::fmt;
 use std::ops::Deref;
-use std::str::FromStr;
 
 // As the library tells the two formats apart.
 pub(crate) fn is_mcf(text: &str) -> bool {
@@ -30,11 +30,6 @@ impl PasswordHash {
         let text = text.into();
         PasswordHashRef::new(&text)?;
         Ok(PasswordHash(text))
-    }
-
-    // A text that the library has made.
-    pub(crate) fn made(text: String) -> PasswordHash {
-        PasswordHash(text)
     }
 
     /// The hash as one that is borrowed.
@@ -88,22 +83,10 @@ impl Borrow<PasswordHashRef> for PasswordHash {
     }
 }
 
-impl fmt::Display for PasswordHash {
-    fn fmt(&self, f: &mut fmt::Formatter<'_>) -> fmt::Result {
-        f.pad(&self.0)
-    }
-}
-
 impl fmt::Display for PasswordHashRef {
     fn fmt(&self, f: &mut fmt::Formatter<'_>) -> fmt::Result {
         f.pad(&self.0)
     }
 }
 
-impl FromStr for PasswordHash {
-    type Err = Error;
-
-    fn from_str(text: &str) -> Result<PasswordHash, Error> {
-        PasswordHash::new(text)
-    }
-}
+hash_text!(Mcf, "7");

@@ -1,8 +1,8 @@
 //! Hashes as PHC texts, `$scrypt$..`, for the traits of [`password_hash`](crate::password_hash).
 
+use crate::algorithm::hash_text;
 use crate::{params_of, Error, Params};
 use std::fmt;
-use std::str::FromStr;
 
 /// The text of a scrypt hash, whose grammar and parameters have been checked.
 #[derive(Clone, Debug, PartialEq, Eq, Hash)]
@@ -22,30 +22,13 @@ impl PasswordHash {
         Ok(PasswordHash(text.to_string()))
     }
 
-    // A text that the library has made.
-    pub(crate) fn made(text: String) -> PasswordHash {
-        PasswordHash(text)
-    }
-
     /// The text.
     pub fn as_str(&self) -> &str {
         &self.0
     }
 }
 
-impl fmt::Display for PasswordHash {
-    fn fmt(&self, f: &mut fmt::Formatter<'_>) -> fmt::Result {
-        f.pad(&self.0)
-    }
-}
-
-impl FromStr for PasswordHash {
-    type Err = Error;
-
-    fn from_str(text: &str) -> Result<PasswordHash, Error> {
-        PasswordHash::new(text)
-    }
-}
+hash_text!(Phc, "scrypt");
 
 impl TryFrom<&str> for PasswordHash {
     type Error = Error;
