@@ -33,7 +33,7 @@
 #               python3-jinja2 and python3-pygments
 #   make doc-test reads these pages in a headless Chromium, with Debian's chromium-driver and python3-selenium
 #   make axioms writes doc/axioms.txt, what the check of the program assumes, which those pages print
-#   make login-service  runs a small login service on 127.0.0.1:8080 with a PostgreSQL of its own (examples/login_service);
+#   make login-service  runs examples/login_service on 127.0.0.1:8080 with a PostgreSQL of its own;
 #               make login-test tests it and its faults, and make login-load prints its table of logins a second
 #   make clean  removes what was built
 

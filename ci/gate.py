@@ -79,7 +79,7 @@ def main():
     tool, verdicts = "crates/scrypt_tool/out/scrypt_tool", "crates/test_verdicts/out/test_verdicts"
     for script in [["ci/program.py", tool], ["ci/hashes.py", tool, verdicts]]:
         if subprocess.call([sys.executable, *script]):
-            sys.exit("a program answered otherwise")
+            sys.exit("a program gave a wrong answer")
     if not libraries() or subprocess.call([sys.executable, "ci/wrong_bodies.py"]):
         sys.exit("a wrong body was not refused")
     if not shutil.which(os.environ.get("CC", "cc")):

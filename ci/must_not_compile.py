@@ -1,16 +1,15 @@
 #!/usr/bin/env python3
-"""Checks beside the gate: what has to be refused by the compiler, before any proof, and what no clause can refuse.
+"""Checks what the compiler has to refuse before any proof, and what no clause can refuse.
 
-Each file crates/NAME/must-not-compile/*.edit has to be refused as a use of something private, or as a constant whose
-`prove!` is false: clauses use the name of a constant, and so hold whatever its number is.
+The compiler has to refuse each crates/NAME/must-not-compile/*.edit, because it uses something private or makes the
+`prove!` of a constant false: clauses name constants, so they hold for any value.
 
-Three more things would let a count of cores say what was not run, and all are refused: a proof by hand other than the
-two of the counter itself; a new count anywhere but where a key's derivation begins, or in a test; and an impl for the
-counter that makes another count. The counter has one name: another one for it is refused too, since a new count could
-hide behind it.
+A count of cores could be wrong in three more ways, which are refused: a handwritten proof other than the two of the
+counter; a new count anywhere but where a derivation begins, or in a test; and an impl for the counter that makes
+another count. Another name for the counter is refused too, since it could hide a new count.
 
-An impl of `PartialEq` chooses its own relation, and one of `Clone` needs to say nothing of the copy. So `Clone` is
-derived everywhere, and `PartialEq` is derived or says that the whole values are compared.
+An impl of `PartialEq` chooses its own relation, and the contract of `Clone` does not require a copy to be equal. So
+`Clone` is always derived, and `PartialEq` is derived or its clause compares the whole values.
 """
 
 import glob
@@ -25,7 +24,7 @@ sys.path.append(str(Path(__file__).parent.parent / "doc"))
 import sources
 
 COUNTER = "crates/scrypt_kernel/proofs/cores/CoreCount/"
-BY_HAND = [COUNTER + it + "/Proof.antt" for it in ["after_core", "new"]]
+HANDWRITTEN = [COUNTER + it + "/Proof.antt" for it in ["after_core", "new"]]
 NEW_COUNTS = {
     "crates/promises/src/lengths.rt": 3,
     "crates/scrypt/src/derivation.rt": 1,
@@ -46,15 +45,14 @@ OTHER_NAMES = re.compile(r"\bCoreCount\s+as\b|\btype\s+\w+[^=;]*=[^;]*\bCoreCoun
 COUNTER_SOURCE = "crates/scrypt_kernel/src/cores.rt"
 COUNTER_IMPLS = {"impl CoreCount", "impl Model for CoreCount"}
 
-# How an impl of `PartialEq` says that the whole values are compared.
+# The clauses by which an impl of `PartialEq` compares the whole values.
 WHOLE = [
     "ghost eq = { λ s t. pointwise nat_eq s t };",
     "ghost eq = { pointwise pair_eq };",
     "ensures exact { IsTrue result ↔ (self.now ≡ other.now) }",
 ]
 
-
-# What the compiler may refuse an edit for, and the errors that say so.
+# Why the compiler may refuse an edit, and the errors for it.
 KINDS = {"private": re.compile("private-"), "a false constant": re.compile("failed-constant-evaluation")}
 
 
@@ -117,8 +115,8 @@ def complaints(those):
 
 def main():
     wrong = complaints(own_sources())
-    if sorted(glob.glob("crates/*/proofs/**/Proof.antt", recursive=True)) != BY_HAND:
-        wrong.append(f"proofs by hand other than {', '.join(BY_HAND)}")
+    if sorted(glob.glob("crates/*/proofs/**/Proof.antt", recursive=True)) != HANDWRITTEN:
+        wrong.append(f"handwritten proofs other than {', '.join(HANDWRITTEN)}")
     for edit, crate in edits.tried("must-not-compile", left_out=["out"]):
         kind = refused_as(crate)
         print(f"must-not-compile {edit}: {f'refused, as {kind}' if kind else 'NOT REFUSED'}", flush=True)

@@ -45,12 +45,12 @@ ROWS = [
 
 
 def cases(program):
-    """Each row, by the program that is linked of the proved one; what is typed is shown only at the end."""
+    """Each row, by the program that is linked from the proved one. The echo is off at each question, and on again."""
     with tempfile.TemporaryDirectory() as folder:
         subprocess.run([f"{TOP}/bindings/terminal/build.sh", program, f"{folder}/scrypt_tool"], check=True)
         for words, typed, status, lines, reason in ROWS:
             answers = [it if isinstance(it, int) else it.encode() for it in typed]
-            ended, told, echo = session([f"{folder}/scrypt_tool", *words.split(" ")], answers)
-            written = told.decode().removesuffix("\r\n").split("\r\n")
+            ended, shown, echo = session([f"{folder}/scrypt_tool", *words.split(" ")], answers)
+            written = shown.decode().removesuffix("\r\n").split("\r\n")
             wanted = status, lines, [False] * len(typed) + [True]
             yield f"on a terminal, {words!r} ({reason})", (ended, written, echo), wanted

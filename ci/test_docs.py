@@ -7,7 +7,7 @@ import docs
 NAMES = {"Params", "log_n", "n", "scrypt_counted", "quarter_round", "ro_mix"}
 RUST = "```rust bindings/rust/README.md\nlet hasher = Hasher::default();\nhasher.close();\n```\n"
 
-# A document in docs/, what has to be said of it, and the reason for the row.
+# A document in docs/, what the complaint names, and the reason for the row.
 DOCUMENTS = [
     ("`Params::{log_n, n}` of `scrypt_numbered`", "scrypt_numbered", "a function that is gone"),
     ("`Params::{log_n, rounds}` of `scrypt_counted`", "rounds", "a part of a group that is gone"),

@@ -5,38 +5,32 @@ A check prints a function by its path, a closure in it below that, and its proof
 
 import re
 
-# Refused for its own sake, and not since a function that it calls is.
+# Refused itself, and not because a function that it calls is.
 REFUSED = re.compile(r"not proved(?:;|$)|no proof: expected answers")
 
-# A reason that shows nothing of the body: a search that ended, and names that are gone.
+# A reason that is not about the body: a search that gave up, and names that are gone.
 WEAK = re.compile(
     r"gave up at one of its limits|can be named (?:from )?here|has no field|has no `|is not in scope"
     r"|was not admitted|depend[s]? on `|declarations? that depend"
 )
 
-# A reason that names a goal which isn't shown.
+# A reason that names an unproved goal.
 STRONG = re.compile(r"it is not proved that|error: `[^`]+`: |error: .*(differ|does not follow|no proof of)")
 
 
 def statuses(printed):
-    """What a check says of each function."""
+    """What a check prints of each function."""
     return dict(re.findall(r"^fn (\S+): (.*)$", printed, re.M))
 
 
 def unshown_goals(printed):
-    """The reasons in what a check prints that name a goal which isn't shown."""
+    """The reasons that a check prints and that name an unproved goal."""
     return [it for it in reasons(printed) if STRONG.search(it) and not WEAK.search(it) and not it.startswith("so far")]
 
 
 def reasons(printed):
-    """What a check prints, where a reason goes on in the indented lines after it."""
-    told = []
-    for line in printed.splitlines():
-        if told and line.startswith("  "):
-            told[-1] += line
-        else:
-            told.append(line)
-    return told
+    """What a check prints. A reason continues in the indented lines after it."""
+    return re.sub(r"\n(?=  )", "", printed).splitlines()
 
 
 def own_reasons(printed, path):

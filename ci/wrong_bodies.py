@@ -1,16 +1,16 @@
 #!/usr/bin/env python3
 """Tries wrong bodies, which the prover has to refuse, many of them in one check.
 
-A function is proved by its own body and the contracts of those that it calls, so the wrong body of one function says
-nothing of another's proof. The edits of a crate are tried in rounds, each of them one check of a copy with at most one
-edit of a function. Each function has to be refused with a goal of its own that isn't shown: that it calls a refused one
-is not enough, nor is a search that gave up, or a name that is gone. Whether the goal is false is for the author to see.
-An edit of a constant, or of a type, has a round of its own.
+A function is proved by its own body and the contracts of those that it calls, so a wrong body does not affect the
+proofs of other functions. The edits of a crate are tried in rounds: each is one check of a copy with at most one edit
+of a function. Each function has to be refused with an unproved goal of its own: that it calls a refused one is not
+enough, nor is a search that gave up, or a name that is gone. The author has to see that the goal is false. An edit of a
+constant, or of a type, has a round of its own.
 
 usage: wrong_bodies.py [NAME..]         the edits of crates/NAME/wrong-bodies/, one round for each crate
        wrong_bodies.py all [NAME..]     those of more-wrong-bodies/ too, in as many rounds as it takes
-       wrong_bodies.py fit              tries nothing: says which edits of all folders can't be applied, or share a
-                                        function where there is one round
+       wrong_bodies.py fit              tries nothing: prints the edits of all folders that can't be applied, and those
+                                        that need more than one round
 The libraries below a crate have to be built.
 """
 
@@ -108,7 +108,7 @@ def try_all(names, folders):
                 if verdict != "refused":
                     wrong += 1
                     print(f"{edit}: {verdict}", flush=True)
-    print(f"wrong bodies: {tried - wrong} of {tried} refused, each with a goal of its own that isn't shown")
+    print(f"wrong bodies: {tried - wrong} of {tried} refused, each with an unproved goal of its own")
     return wrong
 
 

@@ -22,7 +22,7 @@ def number(text):
 
 
 def read(text):
-    """The bytes of letters, or None for a text that isn't the letters of any."""
+    """The bytes that letters encode, or None if they are not an encoding."""
     if number(text) is None:
         return None
     data = b""

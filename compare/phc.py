@@ -22,7 +22,7 @@ def letters(data):
 
 
 def read(text):
-    """The bytes of letters, or None for a text that isn't the letters of any."""
+    """The bytes that letters encode, or None if they are not an encoding."""
     if len(text) % 4 == 1:
         return None
     data = base64.b64decode(text + "=" * (-len(text) % 4))

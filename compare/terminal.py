@@ -7,26 +7,26 @@ import termios
 
 
 def has_echo(terminal):
-    """Whether what is typed is shown."""
+    """Whether the echo is on."""
     return bool(termios.tcgetattr(terminal)[3] & termios.ECHO)
 
 
 def session(words, answers):
-    """The status of a program that is given an answer, or a signal, to each line of its terminal that ends in a colon,
-    what it wrote, and whether what was typed was shown, at each answer and at the end."""
+    """Runs a program on a terminal, and types an answer, or sends a signal, after each line that ends in a colon. Returns its status, what
+    the terminal showed, and whether the echo was on, at each answer and at the end."""
     pid, terminal = pty.fork()
     if pid == 0:
         # Python ignores the one, and a shell lets a program in the background ignore the other.
         for each in (signal.SIGXFSZ, signal.SIGINT):
             signal.signal(each, signal.SIG_DFL)
         os.execvp(words[0], words)
-    told, line, answers, echo = b"", b"", list(answers), []
+    shown, line, answers, echo = b"", b"", list(answers), []
     while True:
         try:
             part = os.read(terminal, 1024)
         except OSError:
             break
-        told, line = told + part, line + part
+        shown, line = shown + part, line + part
         if line.rstrip().endswith(b":") and answers:
             echo.append(has_echo(terminal))
             answer = answers.pop(0)
@@ -38,9 +38,9 @@ def session(words, answers):
     status = os.waitstatus_to_exitcode(os.waitpid(pid, 0)[1])
     echo.append(has_echo(terminal))
     os.close(terminal)
-    return status, told, echo
+    return status, shown, echo
 
 
 def on_terminal(words, answers):
-    """The status of a program that is given these answers, each with a newline."""
+    """The status of a program that gets these answers, each with a newline."""
     return session(words, [it.encode() + b"\n" for it in answers])[0]

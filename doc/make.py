@@ -57,7 +57,7 @@ class Pages:
         self.written[name] = re.sub(r"\n\s*\n+", "\n", text)
 
     def name(self, name, kind, href, of="", shown=None):
-        """Puts a name into the list of all names, with the sections of standards and the words that are said of it."""
+        """Puts a name into the list of all names, with the sections of standards and the words of its comment."""
         kind = "definition" if kind in ("abbrev", "unfoldable", "record", "data") else kind
         standards = "; ".join(words for words, _ in shown.standards) if shown else ""
         said = " ".join(TAG.sub("", shown.words).split()) if shown else ""
@@ -65,7 +65,7 @@ class Pages:
             self.named.append((name, kind, href, of, standards, said))
 
     def with_facts(self, shown):
-        """Definitions, each with what its place on a page says beside its text."""
+        """Definitions, each with what a page prints beside its text."""
         for it in shown:
             named, within = (by_key.get(it.key, []) for by_key in self.tested)
             yield it, {"citers": self.views.citers(it.key), "rests_on": self.views.rests_on(it.key),

@@ -2,7 +2,7 @@
 """Writes docs/PROMISES.md from the sources: each public function with the first sentence of its doc comment and its
 clauses, each module of definitions, and what to read for the two promises of README.
 
-Only doc/not_promised.md is written by hand. Neither the kit nor packages are needed.
+Everything but doc/not_promised.md is generated, without the kit and without packages.
 
 usage: promises.py          writes the page
        promises.py check    refuses a page that differs from the sources, another number of lines to read in README,
@@ -22,7 +22,7 @@ from views import Views
 
 PAGE = "docs/PROMISES.md"
 
-# What says nothing of a call: the shape of a model, and the laws of a derived relation.
+# Relations that are not about calls: the shape of a model, and the laws of a derived relation.
 OF_MODELS = {"laws", "view", "invariant", "inverse_ok", "Value", "inverse", "inverse_invariant", "view_ok"}
 
 # The two promises of README, each with the clauses that it is made of.

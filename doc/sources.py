@@ -33,7 +33,7 @@ class Clause:
 
     @property
     def place(self):
-        """What tells a clause from the others of its item: two may have one name if one of them is required."""
+        """Identifies a clause in its item: a `requires` and an `ensures` may have the same name."""
         before = {"requires": "requires-", "ghost": "relation-"}.get(self.kind, "")
         return f"{before}{self.name or self.line}"
 
