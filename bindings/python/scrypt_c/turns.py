@@ -87,9 +87,7 @@ class Turns(Generic[Work]):
     def take(self, wait: Wait[Work], timeout: Optional[float] = None) -> bool:
         """Waits, and returns whether anybody has begun with the work within so many seconds. `leave` has to follow."""
         with self._lock:
-            for turn in self._all:  # of a thread that gave up `leave`, because it was interrupted again and again
-                if turn.holder is not None and turn.holder.is_over:
-                    self._leave(turn.holder)
+            self._take_back()
             free = self._free
             if free:
                 wait.turn = free[-1]
@@ -123,6 +121,13 @@ class Turns(Generic[Work]):
             self._pass_on(wait.turn)
         wait.turn = None
         wait.has_left = True
+
+    def _take_back(self) -> None:
+        """The turns of threads whose `leave` was interrupted again and again. Python 3.13 would not release the lock if it
+        were interrupted at the end of a loop in the same function."""
+        for turn in self._all:
+            if turn.holder is not None and turn.holder.is_over:
+                self._leave(turn.holder)
 
     def _pass_on(self, turn: Turn) -> None:
         """To the thread that has waited longest, with the first that may share it; or to nobody."""

@@ -335,6 +335,7 @@ class Threads(unittest.TestCase):
             self.assertEqual((len(turns._free), len(turns._waiting), len(turns._waits)), (1, 0, 0), f"step {step}")
         self.assertGreater(step, 20)
 
+    @unittest.skipIf(sys.version_info < (3, 11), "a signal may interrupt a with block before the lock is released")
     def test_interrupted_many_times(self):
         """By one to five signals, of which later ones come while the turn is given back. No turn and no memory is lost."""
         hasher = PasswordHasher(log_n=1, r=1, at_once=2, timeout=5)
