@@ -12,8 +12,8 @@ def has_echo(terminal):
 
 
 def session(words, answers):
-    """Runs a program on a terminal, and types an answer, or sends a signal, after each line that ends in a colon. Returns its status, what
-    the terminal showed, and whether the echo was on, at each answer and at the end."""
+    """Runs a program on a terminal, and types an answer, or sends a signal, after each line that ends in a colon.
+    Returns its status, what the terminal showed, and whether the echo was on, at each answer and at the end."""
     pid, terminal = pty.fork()
     if pid == 0:
         # Python ignores the one, and a shell lets a program in the background ignore the other.

@@ -18,11 +18,13 @@ ROOT = os.path.dirname(os.path.dirname(os.path.abspath(__file__)))
 
 # The name: the script, what has to be run again, the crates, what else is read, and what is made.
 LINKS = {
-    "lib": ("bindings/lib.sh", "make lib", ["scrypt_c", "scrypt_c-x86-64-v3"], ["VERSION", "bindings/c/*", "bindings/drop_in/*"],
+    "lib": ("bindings/lib.sh", "make lib", ["scrypt_c", "scrypt_c-x86-64-v3"],
+            ["VERSION", "bindings/c/abi", "bindings/c/*.[ch]", "bindings/drop_in/*.[ch]"],
             ["build/lib/libscrypt_c.*", "build/lib/libscrypt_drop_in.so", "build/lib/glibc-hwcaps/*/*", "build/lib/*.h"]),
-    "crypt": ("bindings/crypt/build.sh", "make crypt", [], ["build/lib/libscrypt_c.a", "bindings/crypt/*"],
+    "crypt": ("bindings/crypt/build.sh", "make crypt", [], ["build/lib/libscrypt_c.a", "bindings/crypt/*.[ch]"],
               ["build/lib/libscrypt_crypt.so", "build/lib/pam_scrypt.so"]),
-    "terminal": ("bindings/terminal/build.sh", "make run", ["scrypt_tool"], ["bindings/terminal/*"], ["build/bin/scrypt_tool"]),
+    "terminal": ("bindings/terminal/build.sh", "make run", ["scrypt_tool"], ["bindings/terminal/*.c"],
+                 ["build/bin/scrypt_tool"]),
 }
 
 
