@@ -3,7 +3,7 @@
 // The clauses of a call name its arguments, and are proved in any order of them. Each function here is proved from the
 // public clauses of the calls, in the order that the header has, so that an order that changes breaks the proof.
 
-ghost use Rattle.std.specs.Prelude.{◌≡◌, ◌⊎◌, ◌-◌, ◌≤◌, ℕ, List, pos, length, IfErr, IfOk};
+ghost use Rattle.std.specs.Prelude.{◌≡◌, ◌⊎◌, ◌-◌, ◌≤◌, ℕ, List, pos, length, take, IsTrue};
 ghost use Rattle.password_hash.specs.Phc.{IsSalt};
 ghost use Rattle.scrypt.specs.Accepted.{AreAccepted, IsOutputLen};
 ghost use Rattle.scrypt.specs.Cost.{chunks_bytes, table_words};
@@ -19,7 +19,6 @@ use crate::hashes::{
     scrypt_hash_mcf, scrypt_hash_params, scrypt_hash_phc, scrypt_needs_rehash, scrypt_verify,
 };
 use crate::keys::{scrypt_buffer_lens, scrypt_kdf, scrypt_kdf_thin, scrypt_kdf_with_buffers};
-use crate::statuses::OK;
 use crate::with_buffers::scrypt_verify_with_buffers;
 use scrypt::laws::{made_texts_are_accepted, stored_texts_have_one_reading};
 use std::alloc::Global;
@@ -103,14 +102,12 @@ fn buffer_lens(of: &Secret<'_>, s: u8) -> (usize, usize, usize)
     (chunks, table, scratch)
 }
 
-/// The statuses of verifying a new PHC hash, and of comparing it with the parameters that it was made with. Or the
-/// hash was not made, since memory was not available or its text does not fit.
-pub fn phc_round_trip(alloc: Global, of: &Secret<'_>, text: &mut [u8]) -> Result<(i32, i32), i32>
+/// The status of making a hash, and the length of its text. A `$7$` hash can have any salt.
+pub fn new_hash(alloc: Global, of: &Secret<'_>, is_phc: bool, text: &mut [u8]) -> (i32, usize)
     requires accepted { AreHashParams of.now.log_n of.now.r of.now.p of.now.key_len }
-    requires salt { IsSalt of.now.salt.now }
-    ensures made { IfErr result (λ status. (status ≡ pos 4) ⊎ (status ≡ pos 12)) }
-    ensures verified { IfOk result (λ statuses. (statuses.0 ≡ pos 0) ⊎ (statuses.0 ≡ pos 4)) }
-    ensures strong { IfOk result (λ statuses. statuses.1 ≡ pos 0) }
+    requires salt { IsTrue is_phc → IsSalt of.now.salt.now }
+    ensures made { result.0 ≡ pos 0 → IsAsMade (wanted_by of.now) of.now.password.now (take result.1 text.new) }
+    ensures status { (result.0 ≡ pos 0) ⊎ (result.0 ≡ pos 4) ⊎ (result.0 ≡ pos 12) }
 {
     let Secret {
         password,
@@ -122,39 +119,16 @@ pub fn phc_round_trip(alloc: Global, of: &Secret<'_>, text: &mut [u8]) -> Result
     } = *of;
     let mut len = 0;
     made_texts_are_accepted();
-    let made = scrypt_hash_phc(alloc, password, salt, log_n, r, p, key_len, text, &mut len);
-    if made != OK {
-        return Err(made);
+    if is_phc {
+        let made = scrypt_hash_phc(alloc, password, salt, log_n, r, p, key_len, text, &mut len);
+        return (made, len);
     }
-    Ok(read_back(alloc, of, &text[..len]))
-}
-
-/// The same of a `$7$` hash, which can have any salt.
-pub fn mcf_round_trip(alloc: Global, of: &Secret<'_>, text: &mut [u8]) -> Result<(i32, i32), i32>
-    requires accepted { AreHashParams of.now.log_n of.now.r of.now.p of.now.key_len }
-    ensures made { IfErr result (λ status. (status ≡ pos 4) ⊎ (status ≡ pos 12)) }
-    ensures verified { IfOk result (λ statuses. (statuses.0 ≡ pos 0) ⊎ (statuses.0 ≡ pos 4)) }
-    ensures strong { IfOk result (λ statuses. statuses.1 ≡ pos 0) }
-{
-    let Secret {
-        password,
-        salt,
-        log_n,
-        r,
-        p,
-        key_len,
-    } = *of;
-    let mut len = 0;
-    made_texts_are_accepted();
     let made = scrypt_hash_mcf(alloc, password, salt, log_n, r, p, key_len, text, &mut len);
-    if made != OK {
-        return Err(made);
-    }
-    Ok(read_back(alloc, of, &text[..len]))
+    (made, len)
 }
 
-/// The statuses of verifying the text of a new hash, and of comparing it with its parameters.
-fn read_back(alloc: Global, of: &Secret<'_>, text: &[u8]) -> (i32, i32)
+/// The statuses of verifying the text of a new hash, and of comparing it with the parameters that it was made with.
+pub fn read_back(alloc: Global, of: &Secret<'_>, text: &[u8]) -> (i32, i32)
     requires accepted { AreHashParams of.now.log_n of.now.r of.now.p of.now.key_len }
     requires made { IsAsMade (wanted_by of.now) of.now.password.now text.now }
     ensures verified { (result.0 ≡ pos 0) ⊎ (result.0 ≡ pos 4) }
