@@ -92,6 +92,13 @@ const NO_CALLS: Calls = Calls {
     flush: 0,
 };
 
+const LINE: Calls = Calls {
+    write_all: 1,
+    ..NO_CALLS
+};
+
+const FLUSHED_LINE: Calls = Calls { flush: 1, ..LINE };
+
 #[test]
 fn calls_of_a_good_run(rt: HostRuntime) -> Result<(), Fail> {
     for &(line, status, written, command) in &COMMANDS {
@@ -99,14 +106,9 @@ fn calls_of_a_good_run(rt: HostRuntime) -> Result<(), Fail> {
         let input = &mut b"password".as_slice();
         let ended = run_over(rt.alloc(), line, input, &mut output, &mut faults)?;
         assert_eq!(rt; ended, Exit { status, ..DONE }, "{command}");
-        let one_line = Calls {
-            write_all: 1,
-            flush: 1,
-            ..NO_CALLS
-        };
         assert_eq!(rt;
             (output.calls, faults.calls),
-            (one_line, NO_CALLS),
+            (FLUSHED_LINE, NO_CALLS),
             "{command}"
         );
         assert_eq!(rt; output.page.text(), written.as_bytes(), "{command}");
@@ -128,15 +130,7 @@ fn calls_of_a_refusal(rt: HostRuntime) -> Result<(), Fail> {
             ..ended(status, failing.is_some())
         };
         assert_eq!(rt; result, wanted, "{reason}");
-        let one_line = Calls {
-            write_all: 1,
-            ..NO_CALLS
-        };
-        assert_eq!(rt;
-            (output.calls, faults.calls),
-            (NO_CALLS, one_line),
-            "{reason}"
-        );
+        assert_eq!(rt; (output.calls, faults.calls), (NO_CALLS, LINE), "{reason}");
         assert_eq!(rt; faults.page.text(), fault.as_bytes(), "{reason}");
     }
     Ok(())

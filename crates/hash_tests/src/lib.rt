@@ -24,4 +24,6 @@ mod phc_texts;
 #[cfg(test)]
 mod two;
 #[cfg(test)]
+mod verdicts;
+#[cfg(test)]
 mod with_buffers;

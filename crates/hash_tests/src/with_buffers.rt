@@ -1,30 +1,9 @@
 // Hashing and verifying in the caller's buffers.
 
-use password_hash::Error;
+use crate::verdicts::texts_in_buffers;
 use scrypt::{CoreCount, Params, StoredHash, mcf, phc};
 use std::test::Fail;
 use test_support::vectors::{LONG_PASSWORD, LONG_PASSWORD_MCF, LONG_PASSWORD_PHC};
-
-// Each with the verdict on the long password, in buffers for (4, 1, 1), and the reason for the row.
-const TEXTS: [(&str, Result<(), Error>, &str); 5] = [
-    (LONG_PASSWORD_PHC, Ok(()), "a PHC hash"),
-    (LONG_PASSWORD_MCF, Ok(()), "a `$7$` hash"),
-    (
-        "$7$2/..../....C3qEg/$r/",
-        Err(Error::PasswordInvalid),
-        "the key of another password",
-    ),
-    (
-        "$7$3/..../....C3qEg/$r/",
-        Err(Error::OutOfMemory),
-        "a table of twice the length",
-    ),
-    (
-        "$7$2/..../....",
-        Err(Error::EncodingInvalid),
-        "no key, whatever the buffers",
-    ),
-];
 
 // Buffers that are one element longer than (4, 1, 1) needs, and hold no zeros.
 const CHUNKS: [u8; 129] = [0xff; 129];
@@ -73,7 +52,8 @@ fn mcf_hashes(rt: HostRuntime) -> Result<(), Fail> {
 fn verdicts(rt: HostRuntime) -> Result<(), Fail> {
     let (mut chunks, mut table, mut scratch) = (CHUNKS, TABLE, SCRATCH);
     let mut cores = CoreCount::new();
-    for &(text, wanted, reason) in &TEXTS {
+    let texts = texts_in_buffers("$7$3/..../....C3qEg/$r/", "a table of twice the length");
+    for &(text, wanted, reason) in &texts {
         let verdict = StoredHash::read(text)?.verify_with_buffers(
             LONG_PASSWORD,
             &mut chunks,
