@@ -10,7 +10,7 @@
 #   make refused-by-tests tries refused-by-tests/: wrong code that meets every contract, and fails a test (minutes each)
 #   make oracle compares the program with independent implementations on random input and hostile hashes, fails each of
 #               its allocations, and tries examples/migration and examples/key_files; WORKER=PATH calls the Rust crate
-#   make lib    proves and builds the libraries for C into build/lib, the shared one for x86-64-v2 and for x86-64-v3
+#   make lib    proves and builds the libraries for C into build/lib, for x86-64-v2 and for x86-64-v3
 #   make install installs what is built below prefix=/usr/local, and honours DESTDIR; make uninstall with the same
 #               variables removes it
 #   make dist   makes packages for Debian, Python, Go and Rust, an archive, the sources and their hashes in build/dist,
@@ -154,19 +154,23 @@ crypt: lib
 callers: crypt
 	bindings/callers.sh
 
+# What is measured is the library that the dynamic linker takes on this machine.
+MEASURED = $(or $(wildcard build/lib/glibc-hwcaps/x86-64-v3/libscrypt_c.so.0),build/lib/libscrypt_c.so)
 bench: lib
-	python3 bench/bench.py build/lib/libscrypt_c.so --picture docs/speed.svg $(WORKERS)
-	GLIBC_TUNABLES=glibc.malloc.hugetlb=1 python3 bench/bench.py build/lib/libscrypt_c.so $(WORKERS)
-	python3 bench/verifications.py build/lib/libscrypt_c.so $(subst --worker,,$(WORKERS))
+	python3 bench/bench.py $(MEASURED) $(WORKERS)
+	GLIBC_TUNABLES=glibc.malloc.hugetlb=1 python3 bench/bench.py $(MEASURED) $(WORKERS)
+	python3 bench/verifications.py $(MEASURED) $(subst --worker,,$(WORKERS))
+	python3 bench/verifications.py $(MEASURED) $(subst --worker,,$(WORKERS)) --processes $$(nproc) --runs 5 \
+	  --params 14,8,1:15,8,1:16,8,1:17,8,1:18,8,1 --picture docs/speed.svg
 
 thin: lib
-	python3 bench/thin.py build/lib/libscrypt_c.so 2 docs/thin.svg
+	python3 bench/thin.py $(MEASURED) 2 docs/thin.svg
 
 parameters: lib
-	python3 bench/parameters.py build/lib/libscrypt_c.so 15 docs/parameters.svg
+	python3 bench/parameters.py $(MEASURED) 15 docs/parameters.svg
 
 bounds: lib
-	python3 bench/bounds.py build/lib/libscrypt_c.so
+	python3 bench/bounds.py $(MEASURED)
 
 compare-worker: kit
 	@test -n "$(WORKER)" || { echo "Say with what: make compare-worker WORKER=PATH" >&2; exit 1; }

@@ -1,17 +1,17 @@
 #!/usr/bin/env python3
 """Compares this library with other implementations of scrypt on this machine.
 
-usage: bench.py LIBRARY [--worker NAME=PATH].. [--runs 15] [--cpu N] [--params 14,8,1:17,8,1] [--picture FILE]
+usage: bench.py LIBRARY [--worker NAME=PATH].. [--runs 15] [--cpu N] [--params 14,8,1:17,8,1]
 
 All libraries are called in one process: this one (LIBRARY is libscrypt_c.so) by scrypt_kdf and by scrypt_kdf_mapped;
 libxcrypt, libsodium, libscrypt-kdf, and hashlib, which calls OpenSSL. A library that isn't installed is named and left out.
 Each round calls every one once, in a new random order, on one processor (--cpu, by default the last). The minimum and the
 median of the rounds are printed as a table in Markdown. An implementation has no figure if it returns an error or another
-key than OpenSSL. With --picture, the time of a core over log_n is drawn as SVG.
+key than OpenSSL.
 
-Each call allocates its table and frees it, so page faults are part of its time. With GLIBC_TUNABLES=glibc.malloc.hugetlb=1
-in the environment, malloc asks for pages of 2 MiB instead of 4 KiB, if the system has them; this does not affect a table
-that is allocated by mmap.
+Each call allocates its table and frees it, so page faults are part of its time. This library asks for pages of 2 MiB; with
+GLIBC_TUNABLES=glibc.malloc.hugetlb=1 in the environment malloc asks for them for the others too, but for those that map
+their table.
 
 Other programs can be added with --worker. A worker is a process of its own on the same processor that reads lines and
 answers each one with a line, immediately:
@@ -26,13 +26,11 @@ import os
 import random
 import statistics
 
-import picture
 import tables
-from libraries import OPENSSL, libraries, openssl, ours
+from libraries import OPENSSL, libraries, of_this_repository
 from worker import Refused, Worker
 
 PARAMS = "10,8,16:14,8,1:17,8,1:20,8,1:14,32,1"
-GROWTH = [f"{log_n},8,1" for log_n in (10, 12, 14, 15, 16, 17, 18, 20)]
 PASSWORD, SALT, LENGTH = b"pleaseletmein", b"SodiumChloride", 64
 
 # The parameters of some calls before the first that is timed. The C library maps a block of 16 MiB for each of the first
@@ -63,16 +61,6 @@ def times(implementations, params, runs):
     return {name: [time for time, _ in made] if all(map(is_right, made)) else [] for name, made in calls.items()}
 
 
-def draw(path, implementations, runs):
-    """Draws the nanoseconds for a core over log_n."""
-    lines = {}
-    for params in GROWTH:
-        for name, made in times(implementations, params, runs).items():
-            if made:
-                lines.setdefault(name, []).append((tables.numbers(params)[0], min(made) / tables.cores(params), ""))
-    picture.draw(path, "least nanoseconds for a Salsa20/8 core, r = 8, p = 1, pages of 4 KiB", "log_n", lines, range(0, 121, 20))
-
-
 def main():
     parser = argparse.ArgumentParser(usage=__doc__.split("usage: ")[1])
     parser.add_argument("library")
@@ -80,14 +68,13 @@ def main():
     parser.add_argument("--runs", type=int, default=15)
     parser.add_argument("--cpu", type=int, default=max(os.sched_getaffinity(0)))
     parser.add_argument("--params", default=PARAMS)
-    parser.add_argument("--picture")
     args = parser.parse_args()
     os.sched_setaffinity(0, {args.cpu})
     workers = [Worker(*it.split("=", 1)) for it in args.worker]
-    implementations = [*ours(os.path.abspath(args.library)), *workers, *libraries(), openssl()]
+    implementations = [*of_this_repository(args.library), *workers, *libraries()]
     for it in implementations * WARM_UPS:
         derived(it, WARM_UP)
-    print(tables.machine(args.cpu, args.runs), os.environ.get("GLIBC_TUNABLES", "pages of 4 KiB"), sep=", ")
+    print(tables.machine(1, args.runs), os.environ.get("GLIBC_TUNABLES", "pages of 4 KiB"), sep=", ")
     print("\nNanoseconds for a Salsa20/8 core, and the time of this library relative to each\n")
     print(tables.head(["(log_n, r, p)", "", *(it.name for it in implementations)]))
     for params in args.params.split(":"):
@@ -95,8 +82,6 @@ def main():
         for name, figure in (("least", min), ("median", statistics.median)):
             cells = tables.relative([figure(it) if it else None for it in made], tables.cores(params))
             print(tables.line([tables.label(params), name, *cells]), flush=True)
-    if args.picture:
-        draw(args.picture, implementations, args.runs)
 
 
 if __name__ == "__main__":

@@ -3,10 +3,13 @@
 import ctypes
 import ctypes.util
 import hashlib
+import hmac
 import os
 import sys
 import time
 
+import ours
+from ours import DATA, SIZE, WORD
 from worker import Refused
 
 sys.path.insert(0, os.path.join(os.path.dirname(os.path.abspath(__file__)), "..", "compare"))
@@ -14,17 +17,15 @@ import crypt64
 
 OURS, MAPPED, OPENSSL = "this library", "scrypt_kdf_mapped", "OpenSSL"
 
-SIZE, WORD, DATA = ctypes.c_size_t, ctypes.c_uint32, ctypes.c_char_p
-
 # the size of the structure crypt_data of crypt(3)
 CRYPT_DATA = 32768
 
 
 class InProcess:
-    """An implementation that is called in this process."""
+    """An implementation that is called in this process, with its own call for verifying a `$7$` hash if it has one."""
 
-    def __init__(self, name, call):
-        self.name, self.call = name, call
+    def __init__(self, name, call, verify=None):
+        self.name, self.call, self.verify = name, call, verify
 
     def derive(self, password, salt, params, length):
         """The nanoseconds that one call took, and its key."""
@@ -42,20 +43,20 @@ def filled(length, name, call):
     return key.raw
 
 
-def ours(path):
-    """The library of this repository: the call that allocates, and the one that maps memory with huge pages."""
-    library = ctypes.CDLL(path)
+def deriving(name, derive, first=lambda log_n: log_n, verify=None):
+    """A function of C that takes log_n, or what `first` makes of it, r and p."""
 
-    def implementation(name, derive):
-        derive.argtypes = [DATA, SIZE, DATA, SIZE, ctypes.c_uint8, WORD, WORD, DATA, SIZE]
+    def call(password, salt, log_n, r, p, length):
+        texts = password, len(password), salt, len(salt)
+        return filled(length, name, lambda key: derive(*texts, first(log_n), r, p, key, length))
 
-        def call(password, salt, log_n, r, p, length):
-            texts = password, len(password), salt, len(salt)
-            return filled(length, name, lambda key: derive(*texts, log_n, r, p, key, length))
+    return InProcess(name, call, verify)
 
-        return InProcess(name, call)
 
-    return [implementation(OURS, library.scrypt_kdf), implementation(MAPPED, library.scrypt_kdf_mapped)]
+def of_this_repository(path):
+    """The call that allocates, and the one that maps memory with huge pages."""
+    library = ours.loaded(path)
+    return [deriving(OURS, library.scrypt_kdf), deriving(MAPPED, library.scrypt_kdf_mapped)]
 
 
 def openssl():
@@ -68,41 +69,38 @@ def openssl():
     return InProcess(OPENSSL, call)
 
 
-def with_eight_words(library, name, function):
+def with_eight_words(name, derive, verify=None):
     """A function with the signature that libsodium and libscrypt-kdf share."""
-    derive = getattr(library, function)
     derive.argtypes = [DATA, SIZE, DATA, SIZE, ctypes.c_uint64, WORD, WORD, DATA, SIZE]
-
-    def call(password, salt, log_n, r, p, length):
-        texts = password, len(password), salt, len(salt)
-        return filled(length, name, lambda key: derive(*texts, 1 << log_n, r, p, key, length))
-
-    return InProcess(name, call)
+    return deriving(name, derive, lambda log_n: 1 << log_n, verify)
 
 
 def libsodium(library):
     library.sodium_init()
-    return with_eight_words(library, "libsodium", "crypto_pwhash_scryptsalsa208sha256_ll")
+    verify = library.crypto_pwhash_scryptsalsa208sha256_str_verify
+    verify.argtypes = [DATA, DATA, ctypes.c_ulonglong]
+    return with_eight_words("libsodium", library.crypto_pwhash_scryptsalsa208sha256_ll,
+                            lambda password, text: verify(text, password, len(password)) == 0)
 
 
 def libscrypt_kdf(library):
-    return with_eight_words(library, "libscrypt-kdf", "crypto_scrypt")
+    return with_eight_words("libscrypt-kdf", library.crypto_scrypt)
 
 
 def libxcrypt(library):
     """crypt_r with a `$7$` setting: passwords and salts are text, and keys have 32 bytes."""
     library.crypt_r.argtypes = [DATA, DATA, ctypes.c_void_p]
     library.crypt_r.restype = DATA
+    data = ctypes.create_string_buffer(CRYPT_DATA)
 
     def call(password, salt, log_n, r, p, _length):
-        data = ctypes.create_string_buffer(CRYPT_DATA)
         setting = crypt64.params(log_n, r, p).encode() + salt + b"$"
         text = library.crypt_r(password, setting, data)
         if not text or not text.startswith(setting):
             raise Refused("libxcrypt")
         return crypt64.read(text[len(setting) :].decode())
 
-    return InProcess("libxcrypt", call)
+    return InProcess("libxcrypt", call, lambda password, text: hmac.compare_digest(library.crypt_r(password, text, data), text))
 
 
 # the linker's name of each library, and the function that makes an implementation of it
@@ -110,7 +108,7 @@ FOUND = [("crypt", libxcrypt), ("sodium", libsodium), ("scrypt-kdf", libscrypt_k
 
 
 def libraries():
-    """Each installed library. A missing one is named on standard error."""
+    """Each installed library, and hashlib. A library that isn't installed is named on standard error."""
     made = []
     for name, implementation in FOUND:
         path = ctypes.util.find_library(name)
@@ -118,4 +116,4 @@ def libraries():
             made.append(implementation(ctypes.CDLL(path)))
         else:
             print(f"lib{name} isn't installed: left out", file=sys.stderr)
-    return made
+    return [*made, openssl()]

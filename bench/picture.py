@@ -25,24 +25,25 @@ def text(x, y, words, more=""):
     return f'<text x="{x:.1f}" y="{y:.1f}"{more}>{words}</text>'
 
 
-def drawn(title, below, lines, levels, scale=float):
-    """The picture of named lines: points (x, y, label) over a grid at these levels, with both axes mapped by `scale`."""
+def draw(path, title, lines, levels):
+    """Draws lines, by their names, over the MiB of a table: points (x, y, label) over a grid at these levels."""
     points = [point for line in lines.values() for point in line]
-    xs = sorted({scale(x) for x, _, _ in points})
-    low, high = scale(levels[0]), max(scale(levels[-1]), *(scale(y) for _, y, _ in points))
+    xs = sorted({x for x, _, _ in points})
+    low, high = log2(levels[0]), max(log2(levels[-1]), *(log2(y) for _, y, _ in points))
 
     def place(x, y):
-        return (LEFT + (scale(x) - xs[0]) / (xs[-1] - xs[0]) * (WIDTH - LEFT - RIGHT),
-                HEIGHT - BOTTOM - (scale(y) - low) / (high - low) * (HEIGHT - BOTTOM - TOP))
+        return (LEFT + log2(x / xs[0]) / log2(xs[-1] / xs[0]) * (WIDTH - LEFT - RIGHT),
+                HEIGHT - BOTTOM - (log2(y) - low) / (high - low) * (HEIGHT - BOTTOM - TOP))
 
     parts = [f'<svg xmlns="http://www.w3.org/2000/svg" viewBox="0 0 {WIDTH} {HEIGHT}" width="{WIDTH}" height="{HEIGHT}" '
              'font-family="sans-serif" font-size="13">', style(), f'<rect class="ground" width="{WIDTH}" height="{HEIGHT}"/>',
-             text(LEFT, 20, title), text(WIDTH - RIGHT, HEIGHT - 8, below, ' text-anchor="end"')]
+             text(LEFT, 20, title),
+             text(WIDTH - RIGHT, HEIGHT - 8, "MiB of the table; both axes are logarithmic", ' text-anchor="end"')]
     for level in levels:
         _, y = place(points[0][0], level)
         parts.append(f'<line class="grid" x1="{LEFT}" x2="{WIDTH - RIGHT}" y1="{y:.1f}" y2="{y:.1f}"/>')
         parts.append(text(LEFT - 8, y + 4, f"{level:g}", ' text-anchor="end"'))
-    for x in sorted({x for x, _, _ in points}):
+    for x in xs:
         parts.append(text(place(x, levels[0])[0], HEIGHT - BOTTOM + 18, f"{x:g}", ' text-anchor="middle"'))
     for at, (name, line) in enumerate(lines.items()):
         x, y = LEFT + 160 * (at % 4), 42 + 18 * (at // 4)
@@ -54,14 +55,5 @@ def drawn(title, below, lines, levels, scale=float):
         for (x, y), (_, _, label) in zip(places, line):
             parts.append(f'<circle class="d{at}" cx="{x:.1f}" cy="{y:.1f}" r="{width}"/>')
             parts += [text(x + 6, y + (14 if rises else -6), label)] if label else []
-    return "\n".join([*parts, "</svg>", ""])
-
-
-def draw(path, title, below, lines, levels, scale=float):
     with open(path, "w", encoding="utf-8") as file:
-        file.write(drawn(title, below, lines, levels, scale))
-
-
-def draw_logarithmic(path, title, lines, levels):
-    """The same with both axes logarithmic: seconds over MiB of the table."""
-    draw(path, title, "MiB of the table; both axes are logarithmic", lines, levels, log2)
+        file.write("\n".join([*parts, "</svg>", ""]))

@@ -4,11 +4,11 @@ import datetime
 import os
 
 
-def machine(cpu, runs):
+def machine(processes, runs):
     """The date, the machine and its load."""
     with open("/proc/cpuinfo", encoding="ascii") as file:
         model = next(line.split(":")[1].strip() for line in file if line.startswith("model name"))
-    return (f"{datetime.date.today()}, {model} ({os.cpu_count()} processors, number {cpu} used), {runs} runs, "
+    return (f"{datetime.date.today()}, {model} ({processes} of {os.cpu_count()} processors used), {runs} runs, "
             f"load {os.getloadavg()[0]:.1f} at the start")
 
 
@@ -35,7 +35,7 @@ def head(cells):
 
 
 def relative(times, unit):
-    """Each time in a unit, with the ratio of the first to it in parentheses; None is printed as "no figure"."""
+    """Each time in a unit, with the ratio of the first to it in parentheses. None is printed as "no figure"."""
     first = times[0]
     return [f"{time / unit:.1f}" + (f" ({first / time:.2f})" if at and first else "") if time else "no figure"
             for at, time in enumerate(times)]

@@ -13,6 +13,7 @@ import hashlib
 import sys
 import time
 
+import ours
 import picture
 
 PARAMS = [(17, 8, 1), (20, 8, 1)]
@@ -22,20 +23,14 @@ PASSWORD, SALT, LENGTH = b"pleaseletmein", b"SodiumChloride", 64
 
 def thin_call(path):
     """The call of the library, as a function of the parameters and s that returns the time and the key."""
-    derive = getattr(ctypes.CDLL(path), "scrypt_kdf_thin", None)
-    if derive is None:
-        sys.exit(f"{path} has no scrypt_kdf_thin")
-    data, size, byte, word = ctypes.c_void_p, ctypes.c_size_t, ctypes.c_uint8, ctypes.c_uint32
-    text = [ctypes.c_char_p, size]
-    derive.argtypes = [*text, *text, byte, word, word, byte, *[data, size] * 4]
-    derive.restype = ctypes.c_int
+    derive = ours.loaded(path).scrypt_kdf_thin
 
     def call(log_n, r, p, s):
         key = ctypes.create_string_buffer(LENGTH)
         # With s = 0 the scratch is that of a derivation with the whole table.
         lens = 128 * r * p, 32 * r << (log_n - s), (96 if s else 64) * r
         chunks = ctypes.create_string_buffer(lens[0])
-        table, scratch = (word * lens[1])(), (word * lens[2])()
+        table, scratch = (ours.WORD * lens[1])(), (ours.WORD * lens[2])()
         buffers = [key, LENGTH, chunks, lens[0], table, lens[1], scratch, lens[2]]
         start = time.perf_counter()
         status = derive(PASSWORD, len(PASSWORD), SALT, len(SALT), log_n, r, p, s, *buffers)
@@ -54,9 +49,7 @@ def expected_cores(log_n, r, p, s):
 def measured(call, params, runs):
     """For each s: the size of the table in MiB, the expected cores, and the least time."""
     log_n, r, p = params
-    wanted = hashlib.scrypt(
-        PASSWORD, salt=SALT, n=1 << log_n, r=r, p=p, dklen=LENGTH, maxmem=(1 << 31) - 1
-    )
+    wanted = hashlib.scrypt(PASSWORD, salt=SALT, n=1 << log_n, r=r, p=p, dklen=LENGTH, maxmem=(1 << 31) - 1)
     rows = []
     for s in SPACINGS:
         times = []
@@ -82,7 +75,7 @@ def main():
     if len(sys.argv) > 3:
         title = "seconds for a key; beside each point its seconds, at (log_n, r, p)"
         lines = {str(params): [(mib, taken, f"{taken:.2g}") for _, mib, _, taken in rows] for params, rows in results.items()}
-        picture.draw_logarithmic(sys.argv[3], title, lines, (0.25, 1, 4, 16))
+        picture.draw(sys.argv[3], title, lines, (0.25, 1, 4, 16))
 
 
 if __name__ == "__main__":

@@ -1,37 +1,43 @@
 #!/usr/bin/env python3
 """Measures consecutive verifications, by each implementation as its users call it, and prints a table in Markdown.
 
-usage: verifications.py LIBRARY [NAME=WORKER..] [--runs 20] [--params 14,8,1:17,8,1:20,8,1] [--cpu N]
+usage: verifications.py LIBRARY [NAME=WORKER..] [--runs 20] [--params 14,8,1:17,8,1:20,8,1] [--processes 1] [--picture FILE]
 
 This library (LIBRARY is libscrypt_c.so) verifies by scrypt_verify_in, in memory that is kept from call to call, by
-scrypt_verify, and two at once by scrypt_verify_two_in, of which half the time counts. libsodium verifies by crypto_pwhash_scryptsalsa208sha256_str_verify, and libxcrypt by crypt_r, whose
-answer is compared with the hash. hashlib, libscrypt-kdf and workers, which bench.py describes, have no call for it:
-they derive the key, and it is compared. All verify one $7$ hash, in one process (a worker is one of its own), in turns:
-in each of the runs every one verifies once, in a new random order. Before that each has to accept the password and to
-refuse another one.
+scrypt_verify, and two at once by scrypt_verify_two_in, of which half the time counts. libsodium verifies by
+crypto_pwhash_scryptsalsa208sha256_str_verify, and libxcrypt by crypt_r, whose answer is compared with the hash. OpenSSL,
+libscrypt-kdf and workers, which bench.py describes, have no call for it: they derive the key, and it is compared. All
+verify one $7$ hash, in one process (a worker is one of its own), in turns: in each of the runs every one verifies once, in
+a new random order. Before that each has to accept the password and to refuse another one.
+
+With --processes, so many do this at the same time, each on a processor of its own and all with the same implementation.
+With --picture, the verifications a second of all processes over the memory of a table are drawn as SVG: for each
+implementation those of its median time.
 """
 
 import argparse
 import ctypes
-import ctypes.util
 import hashlib
 import hmac
+import multiprocessing
 import os
 import random
 import statistics
 import sys
 import time
 
-import libraries
+import ours
+import picture
 import tables
-from libraries import DATA, SIZE, crypt64
+from libraries import crypt64, libraries
 from worker import Worker
 
 IN_MEMORY, ALLOCATING, AT_ONCE = "`scrypt_verify_in`", "`scrypt_verify`", "`scrypt_verify_two_in`, each"
+DRAWN = {AT_ONCE: "this library in pairs", IN_MEMORY: "this library", ALLOCATING: None}  # None is left out
 PASSWORD, OTHER = b"pleaseletmein", b"pleaseletmeIn"
 SALT = b"SodiumChloride.SodiumChloride.SodiumChlorid"  # 43 letters, as those of libsodium
 KEY_LEN = 32
-UNBOUNDED = (1 << 64) - 1
+PATIENCE = 60  # seconds that a process waits for the others
 
 
 def hash_of(params):
@@ -41,26 +47,20 @@ def hash_of(params):
     return f"{crypt64.params(*params)}{SALT.decode()}${crypt64.letters(key)}".encode(), key
 
 
-def timed(verify):
-    """A verification, and the nanoseconds that it took."""
+def timed(verify, count=1):
+    """Some verifications, and the nanoseconds that each took."""
 
     def verified(*of):
         start = time.perf_counter_ns()
         answer = verify(*of)
-        return time.perf_counter_ns() - start, answer
+        return (time.perf_counter_ns() - start) // count, answer
 
     return verified
 
 
-def ours(path):
-    library = ctypes.CDLL(path)
-    library.scrypt_memory_new.argtypes = [SIZE, ctypes.c_uint64]
-    library.scrypt_memory_new.restype = ctypes.c_void_p
-    library.scrypt_verify_in.argtypes = [ctypes.c_void_p, DATA, SIZE, DATA, SIZE]
-    library.scrypt_verify.argtypes = [DATA, SIZE, DATA, SIZE]
-    status = ctypes.POINTER(ctypes.c_int)
-    library.scrypt_verify_two_in.argtypes = [ctypes.c_void_p, *2 * [DATA, SIZE, DATA, SIZE, status]]
-    memory, room_for_two = (library.scrypt_memory_new(UNBOUNDED, UNBOUNDED) for _ in range(2))
+def of_this_repository(path):
+    library = ours.loaded(path)
+    memory, room_for_two = (library.scrypt_memory_new(ours.UNBOUNDED, ours.UNBOUNDED) for _ in range(2))
 
     def in_memory(password, text, *_):
         return library.scrypt_verify_in(memory, password, len(password), text, len(text)) == 0
@@ -74,25 +74,7 @@ def ours(path):
         library.scrypt_verify_two_in(room_for_two, *login, one, *login, other)
         return one.value == other.value == 0
 
-    def half(password, text, *_):
-        nanoseconds, answer = timed(two)(password, text)
-        return nanoseconds // 2, answer
-
-    return {IN_MEMORY: timed(in_memory), ALLOCATING: timed(allocating), AT_ONCE: half}
-
-
-def libsodium(library):
-    library.sodium_init()
-    call = library.crypto_pwhash_scryptsalsa208sha256_str_verify
-    call.argtypes = [DATA, DATA, ctypes.c_ulonglong]
-    return timed(lambda password, text, *_: call(text, password, len(password)) == 0)
-
-
-def libxcrypt(library):
-    library.crypt_r.argtypes = [DATA, DATA, ctypes.c_void_p]
-    library.crypt_r.restype = DATA
-    data = ctypes.create_string_buffer(libraries.CRYPT_DATA)
-    return timed(lambda password, text, *_: hmac.compare_digest(library.crypt_r(password, text, data), text))
+    return {IN_MEMORY: timed(in_memory), ALLOCATING: timed(allocating), AT_ONCE: timed(two, 2)}
 
 
 def deriving(implementation):
@@ -105,26 +87,12 @@ def deriving(implementation):
     return verified
 
 
-# the linker's name of each library, its name, and the function that makes its verification
-FOUND = [
-    ("sodium", "libsodium", libsodium),
-    ("crypt", "libxcrypt", libxcrypt),
-    ("scrypt-kdf", "libscrypt-kdf", lambda library: deriving(libraries.libscrypt_kdf(library))),
-]
-
-
 def everything(path, workers):
-    """Each verification by its name. A library that isn't installed is named on standard error."""
-    made = ours(path)
-    for name, worker in (it.split("=", 1) for it in workers):
-        made[name] = deriving(Worker(name, worker))
-    for file, name, verification in FOUND:
-        found = ctypes.util.find_library(file)
-        if found:
-            made[name] = verification(ctypes.CDLL(found))
-        else:
-            print(f"lib{file} isn't installed: left out", file=sys.stderr)
-    made["hashlib"] = deriving(libraries.openssl())
+    """Each verification by its name."""
+    made = of_this_repository(path)
+    made |= {name: deriving(Worker(name, worker)) for name, worker in (it.split("=", 1) for it in workers)}
+    for it in libraries():
+        made[it.name] = timed(lambda password, text, *_, verify=it.verify: verify(password, text)) if it.verify else deriving(it)
     return made
 
 
@@ -136,16 +104,39 @@ def check(made):
             sys.exit(f"{name} gives another verdict")
 
 
-def times(made, params, runs):
-    """The nanoseconds of each verification."""
+def times(made, params, runs, start, orders):
+    """The nanoseconds of each verification, which begins when the other processes begin theirs."""
     text, key = hash_of(params)
     taken = {name: [] for name in made}
     for _ in range(runs):
-        for name in random.sample(list(made), len(made)):
+        for name in orders.sample(list(made), len(made)):
+            start.wait(PATIENCE)
             nanoseconds, is_accepted = made[name](PASSWORD, text, params, key)
             assert is_accepted, name
             taken[name].append(nanoseconds)
     return taken
+
+
+def at_once(args, params):
+    """The nanoseconds of each verification in all processes."""
+    context = multiprocessing.get_context("fork")
+    start, answers, seed = context.Barrier(args.processes), context.SimpleQueue(), random.random()
+
+    def run(cpu):
+        os.sched_setaffinity(0, {cpu})
+        made = everything(args.library, args.workers)
+        check(made)
+        answers.put(times(made, params, args.runs, start, random.Random(seed)))
+
+    running = [context.Process(target=run, args=(cpu,)) for cpu in sorted(os.sched_getaffinity(0))[-args.processes :]]
+    for it in running:
+        it.start()
+    for it in running:
+        it.join()
+    if any(it.exitcode for it in running):
+        sys.exit("a process failed")
+    taken = [answers.get() for _ in running]
+    return {name: [time for it in taken for time in it[name]] for name in taken[0]}
 
 
 def main():
@@ -154,17 +145,28 @@ def main():
     parser.add_argument("workers", nargs="*")
     parser.add_argument("--runs", type=int, default=20)
     parser.add_argument("--params", default="14,8,1:17,8,1:20,8,1")
-    parser.add_argument("--cpu", type=int, default=max(os.sched_getaffinity(0)))
+    parser.add_argument("--processes", type=int, default=1)
+    parser.add_argument("--picture")
     args = parser.parse_args()
-    os.sched_setaffinity(0, {args.cpu})
-    made = everything(os.path.abspath(args.library), args.workers)
-    check(made)
-    print(f"\n{args.runs} verifications in a row: milliseconds, and the time of {IN_MEMORY} relative to each\n")
-    print(tables.head(["(log_n, r, p)", "", *made]))
+    print(tables.machine(args.processes, args.runs))
+    print(f"\nMilliseconds of a verification, and the time of {IN_MEMORY} relative to each\n")
+    lines = {}
     for one in args.params.split(":"):
-        taken = times(made, tables.numbers(one), args.runs).values()
-        for name, figure in (("least", min), ("median", statistics.median)):
-            print(tables.line([tables.label(one), name, *tables.relative(list(map(figure, taken)), 1e6)]), flush=True)
+        params = tables.numbers(one)
+        taken = at_once(args, params)
+        if not lines:
+            lines = {name: [] for name in taken}
+            print(tables.head(["(log_n, r, p)", "", *taken]))
+        for name, figure in (("minimum", min), ("median", statistics.median)):
+            print(tables.line([tables.label(one), name, *tables.relative(list(map(figure, taken.values())), 1e6)]), flush=True)
+        for name, made in taken.items():
+            mib, rate = (params[1] << params[0]) / 8192, args.processes * 1e9 / statistics.median(made)
+            lines[name].append((mib, rate, f"{params[0]}: {rate:.3g}" if name == AT_ONCE else ""))
+    if args.picture:
+        title = f"verifications a second on {args.processes} processors, by log_n, r = 8, p = 1"
+        lines = {DRAWN.get(name, name): line for name, line in lines.items()}
+        lines.pop(None, None)
+        picture.draw(args.picture, title, lines, (2, 4, 8, 16, 32, 64, 128, 256))
 
 
 if __name__ == "__main__":

@@ -3,7 +3,7 @@
  *   what you need                                    call                                     proved
  *   ----------------------------------------------   --------------------------------------   ------
  *   a key                                            scrypt_kdf                               yes
- *   a key with a large table, in less time           scrypt_kdf_mapped                        no
+ *   a key in memory that is mapped for one call      scrypt_kdf_mapped                        no
  *   many keys or hashes; a service; bounded costs    scrypt_memory_new, and the _in calls     no
  *   a key with no allocation, in your own buffers    scrypt_kdf_with_buffers                  yes
  *   a key on a small device, with a smaller table    scrypt_kdf_thin                          yes
@@ -108,8 +108,8 @@ SCRYPT_CHECKED SCRYPT_NONNULL
 int scrypt_kdf(const uint8_t *password, size_t password_len, const uint8_t *salt, size_t salt_len,
                uint8_t log_n, uint32_t r, uint32_t p, uint8_t *output, size_t output_len);
 
-/* The same key, in memory that is mapped for this call alone, with huge pages if the system has them: faster than
- * scrypt_kdf if the table is large. Not proved: it maps the buffers, calls scrypt_kdf_with_buffers and unmaps them.
+/* The same key, in memory that is mapped for this call alone, with huge pages if the system has them. Not
+ * proved: it maps the buffers, calls scrypt_kdf_with_buffers and unmaps them.
  * SCRYPT_NULL_POINTER, SCRYPT_INVALID_PARAMS, SCRYPT_INVALID_OUTPUT_LEN, SCRYPT_OUT_OF_MEMORY if the memory cannot be
  * mapped. */
 SCRYPT_CHECKED
