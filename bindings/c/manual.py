@@ -1,6 +1,6 @@
 #!/usr/bin/env python3
-"""Writes pages of the manual, section 3, from the header: scrypt_c.3 from its first comment, and a page from each of its
-parts, which each name in that part leads to.
+"""Writes pages of the manual, section 3, from the header: scrypt_c.3 from its first comment and its macros, and a page
+from each of its parts, which each name in that part leads to.
 
 usage: manual.py FOLDER
 """
@@ -14,8 +14,8 @@ INNER = ("scrypt_bytes", "scrypt_is_null", "SCRYPT_CAST")
 
 
 def quoted(text):
-    """Text for roff, where a backslash, a hyphen and the first letter of a line may mean something."""
-    text = text.replace("\\", "\\e").replace("-", "\\-")
+    """Text for roff, where a backslash, a hyphen, a quote and the first letter of a line may mean something."""
+    text = text.replace("\\", "\\e").replace("-", "\\-").replace('"', "\\(dq")
     return re.sub(r"^(?=[.'])", r"\\&", text, flags=re.M)
 
 
@@ -45,19 +45,23 @@ def page(name, version, *sections):
     return "\n".join(parts) + "\n"
 
 
+def described(found):
+    """What is declared, each with its comment below it."""
+    return "\n".join(f".PP\n.nf\n.B {quoted(code).replace(chr(10), f'{chr(10)}.B ')}\n.fi\n.RS\n{quoted(comment)}\n.RE"
+                     for comment, code in found)
+
+
 def of_part(heading, part, version, statuses):
     """The page of a part, and for each further name in it one that leads there."""
     found = list(paragraphs(part))
     names = [it for _, code in found for it in re.findall(r"\b(scrypt_\w+)\(", code)]
-    described = "\n".join(f".PP\n.nf\n.B {quoted(code).replace(chr(10), f'{chr(10)}.B ')}\n.fi\n.RS\n{quoted(comment)}\n.RE"
-                          for comment, code in found)
     listed = "\n".join(f".TP\n.B {name}\n{quoted(words)}" for name, words in statuses)
     summary = re.split("[.:] ", heading)[0]
     yield names[0], page(
         names[0], version,
         ("NAME", f"{', '.join(names)} \\- {quoted(summary[0].lower() + summary[1:])}"),
         ("SYNOPSIS", ".B #include <scrypt_c.h>\n.PP\nLink with \\fI\\-lscrypt_c\\fP."),
-        ("DESCRIPTION", described), ("STATUSES", listed), ("SEE ALSO", ".BR scrypt_c (3)"))
+        ("DESCRIPTION", described(found)), ("STATUSES", listed), ("SEE ALSO", ".BR scrypt_c (3)"))
     for name in names[1:]:
         yield name, f".so man3/{names[0]}.3\n"
 
@@ -67,10 +71,11 @@ def pages(header):
     version = re.search(r'SCRYPT_VERSION_STRING "(.*)"', header).group(1)
     statuses = re.findall(r"^  (SCRYPT_\w+) = \d+,? +/\* (.*?) \*/", header, re.M)
     first, rest = plain(re.match(r"/\*.*?\*/", header, re.S).group()).split("\n\n", 1)
+    top, *parts = re.split(r"^/\* ---- (.*?) ---- \*/$", header, flags=re.M)
+    constants = [(comment, code) for comment, code in paragraphs(top) if code.startswith("#define")]
     yield "scrypt_c", page("scrypt_c", version, ("NAME", f"scrypt_c \\- {quoted(first.rstrip('.'))}"),
-                           ("DESCRIPTION", f".nf\n{quoted(rest)}\n.fi"))
-    parts = re.split(r"^/\* ---- (.*?) ---- \*/$", header, flags=re.M)
-    for heading, part in zip(parts[1::2], parts[2::2]):
+                           ("DESCRIPTION", f".nf\n{quoted(rest)}\n.fi"), ("CONSTANTS", described(constants)))
+    for heading, part in zip(parts[::2], parts[1::2]):
         yield from of_part(heading, part, version, statuses)
 
 

@@ -116,7 +116,10 @@ for call in scrypt_c $(awk '/^scrypt_/ { print $1 }' bindings/c/abi); do
   fi
 done
 if [ -s "$room/warnings" ]; then sort "$room/warnings" | uniq; exit 1; fi
-echo "a page of the manual for each call"
+for name in $(grep -oP '^#define \KSCRYPT_(?!C_H|CHECKED|NONNULL|HELPER|CAST)\w+' bindings/c/scrypt_c.h); do
+  grep -q "^.B #define $name\b" "$manual"/man3/*.3 || { echo "no page of the manual has $name" >&2; exit 1; }
+done
+echo "a page of the manual for each call, and each macro in one"
 test -z "$(grep -rl "$room" "$room/stage/usr/lib/x86_64-linux-gnu" --include='scrypt_c*')"
 test "$(ls "$room/stage")" = usr
 echo "installed in a stage"
