@@ -59,6 +59,14 @@ make -s uninstall DESTDIR="$room/stage" > /dev/null
 test -z "$(find "$room/stage" -type f -o -type l)"
 echo "installed and uninstalled: $(basename -a $built | paste -sd " ")"
 
+# The page's own check before /etc/ld.so.preload is written: the library, a path with nothing, and a file that is none.
+line=$(sed -n 's|^    \(LD_PRELOAD=.*\)/etc/ld.so.preload$|\1$preloaded|p' bindings/crypt/README.md)
+for library in "$ours" "$room/libscrypt_crypt.so" "$room/names"; do
+  library=$library preloaded=$room/preloaded sh -c "$line" 2> /dev/null || test "$library" != "$ours"
+done
+echo "$ours" | cmp - "$room/preloaded"
+echo "by the page's line /etc/ld.so.preload gets the library, and nothing that isn't one"
+
 # An older processor than x86-64-v2, which Debian's emulator has. There every program runs with the library preloaded, and
 # nothing but hashes of scrypt fails: by the failure token and ENOSYS.
 older_processor() {
