@@ -31,7 +31,7 @@ else
   echo "qemu-x86_64-static is not here (package qemu-user-static): no older processor was tried"
 fi
 
-mmdebstrap --quiet --variant=apt --include=man-db,bash-completion,python3-venv,passwd,pamtester bookworm "$root"
+mmdebstrap --quiet --variant=apt --include=man-db,bash-completion,zsh,python3-venv,passwd,pamtester bookworm "$root"
 # In a mount namespace of its own, for /proc, without which rustc doesn't run.
 inside() {
   unshare --mount sh -c 'mount -t proc proc "$0/proc" && exec chroot "$0" "$@"' "$root" \
@@ -66,11 +66,14 @@ echo "man scrypt_tool"
 completed='. /usr/share/bash-completion/bash_completion; _completion_loader scrypt_tool
   COMP_WORDS=(scrypt_tool ha) COMP_CWORD=1; _scrypt_tool; echo "${COMPREPLY[*]}"'
 expect "$(inside bash -c "$completed")" hash "bash completes scrypt_tool ha"
+completed='autoload -U compinit; compinit -u -D; print ${_comps[scrypt_tool]}'
+expect "$(inside zsh -c "$completed")" _scrypt_tool "zsh finds the completions of scrypt_tool"
 drop_in=/usr/lib/x86_64-linux-gnu/scrypt_c/libscrypt_drop_in.so
 inside env LD_PRELOAD=$drop_in python3 -c 'import ctypes; ctypes.CDLL(None).crypto_scrypt'
 echo "the drop-in library gives crypto_scrypt by LD_PRELOAD"
 # Debian's Python calls crypt(3), which both libraries have: the same hash, by the preloaded one.
-crypt=/usr/lib/x86_64-linux-gnu/scrypt_c/libscrypt_crypt.so
+crypt=/usr/lib/x86_64-linux-gnu/scrypt_c/libscrypt_crypt.so # as the page names it
+grep -qF "$crypt" bindings/crypt/README.md
 by_crypt() { inside env "$@" python3 -W ignore -c 'import crypt; print(crypt.crypt("password", "$7$6..../....salt"))'; }
 expect "$(by_crypt LD_PRELOAD=$crypt)" "$(by_crypt)" "the library for crypt(3) makes the hash of libcrypt by LD_PRELOAD"
 by_crypt LD_PRELOAD=$crypt LD_DEBUG=bindings 2>&1 > /dev/null | grep "to $crypt .*normal symbol .crypt" > /dev/null
