@@ -32,6 +32,7 @@ func TestNumbersOutsideTheirRangeAreRefused(t *testing.T) {
 		{"a pause that may end before a derivation", "-pause=19s", wrong},
 		{"the proxy's address", "-proxy=::ffff:127.0.0.1", read},
 		{"a name for the proxy", "-proxy=localhost", "invalid value"},
+		{"a word, after which no flag is read", "true", `"true" is not a flag`},
 	} {
 		words := []string{"timeout", "5", program, "-store", "/nowhere", "-listen", "127.0.0.1:0", it.flag}
 		if os.Geteuid() == 0 {

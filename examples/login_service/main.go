@@ -38,6 +38,9 @@ var (
 func main() {
 	flag.TextVar(&proxy, "proxy", netip.Addr{}, "the address of a proxy whose X-Forwarded-For and X-Forwarded-Proto are trusted")
 	flag.Parse()
+	if flag.NArg() > 0 {
+		log.Fatalf("%q is not a flag, and no flag after it was read; a value follows its flag after =", flag.Arg(0))
+	}
 	within("-log-n", *logN, 10, 24)
 	within("-most-mib", *most, 1, 1<<20)
 	within("-waiting", *waiting, 0, 10_000)

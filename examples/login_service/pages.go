@@ -29,6 +29,7 @@ var (
 	errTaken   = Refusal{http.StatusConflict, "The name is taken."}
 	errChanged = Refusal{http.StatusConflict, "The password was changed meanwhile. Try again."}
 	errInput   = Refusal{http.StatusBadRequest, "A name has 1 to 64 visible characters, a new password 8 or more, and at most 1024 bytes."}
+	errNew     = Refusal{http.StatusBadRequest, "A new password has 8 characters or more, and at most 1024 bytes."}
 	errLarge   = Refusal{http.StatusRequestEntityTooLarge, "The form is damaged, or has more than 16 KiB."}
 	errFull    = Refusal{http.StatusServiceUnavailable, "Too many people are logging in. Try again in a moment."}
 	errMethod  = Refusal{http.StatusMethodNotAllowed, "This address can't be used in this way. Use the forms of the page."}
@@ -125,6 +126,9 @@ func (s *Service) derive(w http.ResponseWriter, r *http.Request, action, name st
 	password, wanted := r.PostFormValue("password"), r.PostFormValue("new")
 	short := utf8.RuneCountInString(wanted) < leastLetters
 	if name == "" || len(password) > mostPassword || len(wanted) > mostPassword || short && action != "log-in" {
+		if action == "change" {
+			return errNew
+		}
 		return errInput
 	}
 	text, err := s.try(r, action, name, password, wanted)

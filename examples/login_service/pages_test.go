@@ -74,7 +74,7 @@ var mistakes = []struct {
 	{"another current password", "change", []string{"password", "not it", "new", "second password"},
 		[]string{"The current password is wrong."}},
 	{"a short new password", "change", []string{"password", "first password", "new", "short"},
-		[]string{"a new password 8 or more"}},
+		[]string{`role="alert">A new password has 8 characters or more`}},
 	{"another password", "log-in", []string{"name", "ada", "password", "not it"},
 		[]string{"The name or the password is wrong.", field("ada"), own("")}},
 	{"a name that is taken", "sign-up", []string{"name", "ada", "new", "first password"},
