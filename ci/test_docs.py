@@ -1,5 +1,6 @@
 """docs.py refuses what it is there to refuse; that it refuses nothing else is seen by running it."""
 
+import re
 import unittest
 
 import docs
@@ -45,6 +46,15 @@ class Docs(unittest.TestCase):
 
     def test_modules(self):
         self.each(MODULES, lambda text: docs.unexplained_modules("crates/a/proofs/Lib.antt", text))
+
+    def test_man_page(self):
+        """Each error line of the program is explained in its man page."""
+        page = docs.read("docs/scrypt_tool.1")
+        lines = re.findall(r'"(usage|[a-z ]+(?:: \w+)?)[^"]*\\n"', docs.read("crates/scrypt_commands/src/error.rt"))
+        self.assertGreater(len(lines), 12)
+        for line in lines:
+            with self.subTest(line):
+                self.assertIn(f'.It Li "{line}', page)
 
     def test_proofs(self):
         self.each(PROOFS, lambda text: docs.inner_proofs("crates/scrypt_c/proofs/Lib.antt", text))
