@@ -26,9 +26,10 @@ ORDER = 0xFFFFFFFFFFFFFFFFFFFFFFFFFFFFFFFEBAAEDCE6AF48A03BBFD25E8CD0364141  # of
 
 def key_of(password, salt, n, r, p, length, most_memory=MOST_MEMORY, most_work=MOST_WORK):
     """The derived key. The parameters are checked against the bounds here, before the derivation, and nowhere else."""
-    work = scrypt_c.Params(n.bit_length() - 1, r, p).work
-    if 128 * r * max(n, p) > most_memory or work > most_work:
-        raise ValueError("the file's parameters need more than is allowed")
+    memory, work = 128 * r * max(n, p), scrypt_c.Params(n.bit_length() - 1, r, p).work
+    if memory > most_memory or work > most_work:
+        needed = f"{memory} bytes and a work of {work}, above {most_memory} and {most_work}"
+        raise ValueError(f"the file's parameters need more than is allowed: {needed}")
     return scrypt_c.scrypt(password, salt=salt, n=n, r=r, p=p, dklen=length)
 
 
