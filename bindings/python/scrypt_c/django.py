@@ -7,6 +7,14 @@
     ]
 
 The first in the list makes new hashes; a hash that another one made is replaced at the next login.
+
+Parameters and bounds are attributes. Put a subclass of your own into the list to change them:
+
+    class OurPasswordHasher(PHCPasswordHasher):
+        hasher = PasswordHasher(log_n=16, most_bytes=1 << 30)
+
+    class OurDjangoHasher(ScryptPasswordHasher):
+        work_factor, most_bytes = 2**16, 1 << 30
 """
 
 from __future__ import annotations
