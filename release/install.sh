@@ -32,5 +32,6 @@ find . -type f -o -type l | sed 's|^\./||' | sort | while read -r file; do
   cp -P "$file" "$place"
 done
 if [ $action = install ]; then
-  echo "installed below $prefix; a program finds the library there by LD_LIBRARY_PATH=$prefix/lib, or after ldconfig"
+  echo "installed below $prefix: the program is $prefix/bin/scrypt_tool; other programs find the library by"
+  echo "LD_LIBRARY_PATH=$prefix/lib, or after ldconfig if that is a folder of the system's"
 fi

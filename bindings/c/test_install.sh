@@ -100,7 +100,7 @@ echo "installed and found: lib is a link"
 # The archive has the same files below files/, and an install.sh of its own.
 make -s install prefix="$room/archive/files" DESTDIR= > /dev/null
 cp release/install.sh "$room/archive/"
-"$room/archive/install.sh" "$room/R&D kit/usr" > /dev/null
+"$room/archive/install.sh" "$room/R&D kit/usr" | grep -qF "the program is $room/R&D kit/usr/bin/scrypt_tool;"
 is_found "$room/R&D kit/usr"
 "$room/archive/install.sh" --remove "$room/R&D kit/usr"
 is_empty "$room/R&D kit"
