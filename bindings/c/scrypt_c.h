@@ -417,7 +417,7 @@ SCRYPT_HELPER const char *scrypt_status_text(int status) {
       return "the parameters in the hash are not accepted, or it has one other than ln, r and p";
     case SCRYPT_SALT_INVALID: return "a salt of a PHC hash has 1 to 64 bytes";
     case SCRYPT_VERSION: return "the hash names a version, and scrypt has none";
-    case SCRYPT_BUFFER_SIZE: return "a buffer is too short, or has another length than scrypt_kdf_thin takes";
+    case SCRYPT_BUFFER_SIZE: return "a buffer is too short or, for scrypt_kdf_thin, too long; or the text does not fit";
     case SCRYPT_TOO_COSTLY: return "the parameters need more than is allowed";
     case SCRYPT_NO_RANDOM_BYTES: return "the system has no random bytes";
     case SCRYPT_KEY_TOO_SHORT: return "the key in the hash is shorter than is allowed";

@@ -16,6 +16,7 @@ static const struct {
     {SCRYPT_HASH_PARAMS_INVALID, "other than ln, r and p", "the names of a text"},
     {SCRYPT_SALT_INVALID, "1 to 64 bytes", "the length of a salt"},
     {SCRYPT_VERSION, "scrypt has none", "a version"},
+    {SCRYPT_BUFFER_SIZE, "the text does not fit", "the capacity of scrypt_hash_new"},
 };
 
 int main(void) {
