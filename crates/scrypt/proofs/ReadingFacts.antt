@@ -1,5 +1,5 @@
 -- What follows from the reading of a hash: the verdict, and the memory that is left.
-use Rattle.std.proofs.Common.{◌≡◌, ◌↔◌, ◌≢◌, ◌⊎◌, ◌∙◌, ℕ, ◌≤◌, List, length, Ok, Err, inl, inr, true, false, refl, sym, ap, arith}
+use Rattle.std.proofs.Common.{◌≡◌, ◌↔◌, ◌≢◌, ◌⊎◌, ◌∙◌, ℕ, ◌≤◌, List, length, Ok, Err, inl, inr, true, false, refl, sym, ap, ap₂, arith}
 use Rattle.std.specs.Prelude.{Bool, None, Option, Result, Some, if◌then◌else◌, nat_le, ok_or, ⊤}
 use Rattle.std.specs.Bool.{Decides}
 use Rattle.std.proofs.lemmas.Bool.Decides.{Decides-and, same_from_decides}
@@ -16,6 +16,8 @@ use Rattle.scrypt.proofs.KeyFacts.{length-key_by}
 use Rattle.std.proofs.lemmas.Bool.{false≢true, le-ltb}
 use Rattle.scrypt.specs.Reading.{◌and_then◌, Stored, checked, is_below, is_right, mapped, told, verdict, weaker}
 use Rattle.scrypt.specs.InBuffers.{AreEnough}
+use Rattle.scrypt.specs.StoredParts.{HasParts}
+use Rattle.scrypt.specs.declared.stored_hash.parts.Parts.{Parts}
 use Rattle.scrypt.specs.Limits.{are_within}
 use Rattle.scrypt.specs.WithinLimits.{BoundedRefusal, IsLeftWithin, KeyTooShort, TooCostly, unbounded, verdict_within, within}
 use Rattle.scrypt.specs.declared.limits.Limits.{Limits}
@@ -122,6 +124,12 @@ unfolding is_below
 not_weaker c salt key long =
     let same = λ (n : ℕ). le-ltb n n (omega arith) in
     rw (same c.log_n, same c.r, same c.p, le-ltb (length key) (key_len_or_default c) (omega arith)) refl
+
+-- and a hash that was read is, if it is below them
+pub weaker_read : (wanted : Parameters) (reading : Result Stored Refusal) (parts : Parts) (below : Bool) → HasParts reading parts
+    → below ≡ is_below wanted parts.params parts.key_len → Ok below ≡ weaker wanted reading
+weaker_read wanted reading parts below read is =
+    rw read.2 (ap Ok (is ∙ ap₂ (is_below wanted) (sym read.1.params) (sym read.1.key_len)))
 
 -- the test of the buffers
 pub room_decided : (c : Parameters) (w : Work) → Decides (has_room c w)

@@ -12,6 +12,8 @@ use Rattle.password_hash.specs.Refusal.{Refusal, EncodingInvalid, PasswordInvali
 use Rattle.password_hash.specs.declared.error.Error.{Error}
 use Rattle.password_hash.specs.declared.error.Error.TheVariants as error
 use Rattle.password_hash.specs.declared.phc.hash.PasswordHash.{PasswordHash}
+use Rattle.password_hash.specs.declared.mcf.hash_ref.PasswordHashRef.{PasswordHashRef}
+use Rattle.password_hash.specs.McfViews.{borrowed_text}
 use Rattle.scrypt.specs.McfHash.{mcf_id, read_fields, read_mcf}
 use Rattle.scrypt.specs.PhcHash.{phc_params, read_phc}
 use Rattle.scrypt.specs.Accepted.{Parameters}
@@ -34,6 +36,15 @@ reads_as text (Phc hash params) read = phc read.0 read.1
 pub reads_text : (text : List ℕ) (format : Format) → IsHashOf text format → Reads (stored_text text format).text (stored_text text format)
 reads_text text (Mcf hash) read = mcf read.0
 reads_text text (Phc hash params) read = phc read.0 read.1
+
+-- what is read of the hash in its format
+pub whole_of_mcf : (text : List ℕ) (format : Format) (read : StoredText) (hash : PasswordHashRef) → IsHashOf text format
+    → stored_text text format ≡ read → format ≡ Mcf hash → read_mcf (borrowed_text hash) ≡ read.whole
+whole_of_mcf text format read hash invariant view is = ap read_mcf (rw is at invariant).1 ∙ ap (λ z. z.whole) (rw is at view)
+
+pub whole_of_phc : (text : List ℕ) (format : Format) (read : StoredText) (hash : PasswordHash) (params : Result Parameters Error)
+    → stored_text text format ≡ read → format ≡ Phc hash params → read_phc hash ≡ read.whole
+whole_of_phc text format read hash params view is = ap (λ z. z.whole) (rw is at view)
 
 -- a text is read as one hash
 pub read_once : (text : List ℕ) (one other : StoredText) → Reads text one → Reads text other → one ≡ other

@@ -7,8 +7,8 @@ ghost use Rattle.scrypt.specs.PhcHash.{read_phc};
 ghost use Rattle.scrypt.specs.Reading.{is_below, weaker as weaker_than};
 
 use crate::hashing::key_len_or_default;
-use crate::mcf::reading::stored_of_mcf;
-use crate::phc::reading::{read_params, stored_of};
+use crate::mcf::reading::parts_of_mcf;
+use crate::phc::reading::{parts_of_phc, read_params};
 use crate::{Params, Scrypt};
 use password_hash::{RehashCheck, Result, mcf, phc};
 
@@ -21,8 +21,8 @@ impl RehashCheck<phc::PasswordHash> for Scrypt {
     ///
     /// Returns the same errors as verifying does before it allocates, in the same order.
     fn needs_rehash(&self, hash: &phc::PasswordHash) -> Result<bool> {
-        match stored_of(hash, &read_params(hash)) {
-            Ok(stored) => Ok(is_below(&self.params(), &stored.params, stored.key.len())),
+        match parts_of_phc(hash, &read_params(hash)) {
+            Ok(parts) => Ok(is_below(&self.params(), &parts.params, parts.key_len)),
             Err(error) => Err(error),
         }
     }
@@ -37,7 +37,7 @@ impl<'a> RehashCheck<mcf::PasswordHashRef<'a>> for Scrypt {
     ///
     /// Returns the same errors as verifying does before it allocates, in the same order.
     fn needs_rehash(&self, hash: &mcf::PasswordHashRef<'a>) -> Result<bool> {
-        match stored_of_mcf(hash) {
+        match parts_of_mcf(hash) {
             Ok(stored) => Ok(is_below(&self.params(), &stored.params, stored.key_len)),
             Err(refused) => Err(refused),
         }

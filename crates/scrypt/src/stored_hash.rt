@@ -13,7 +13,6 @@ pub(crate) mod parts;
 mod two;
 mod within;
 
-use crate::mcf::reading::stored_of_mcf;
 use crate::phc::reading::read_params;
 use crate::rehashing::is_below;
 use crate::verifying::{verify_allocating, verify_in_buffers};
@@ -184,10 +183,7 @@ impl<'a> StoredHash<'a> {
         ensures value { told result ≡ self.now.params }
     {
         match &self.format {
-            Format::Mcf(hash) => match stored_of_mcf(hash) {
-                Ok(stored) => Ok((stored.params, stored.key_len)),
-                Err(error) => Err(error),
-            },
+            Format::Mcf(_) => self.whole_params_and_key_len(),
             Format::Phc(hash, params) => match params {
                 Ok(params) => Ok((*params, key_len(hash))),
                 Err(error) => Err(*error),

@@ -121,7 +121,7 @@ length-round x =
     length-permuted pivot (double_round (standard_order x)) ∙ length-double_round (standard_order x) ∙ length-permuted inverse_pivot x
 
 -- four rounds of the lanes of a block
-pub four_rounds : (x : List ℕ) → length x ≡ 16 → {from once twice thrice turned : List ℕ × List ℕ × List ℕ × List ℕ}
+four_rounds : (x : List ℕ) → length x ≡ 16 → {from once twice thrice turned : List ℕ × List ℕ × List ℕ × List ℕ}
     → from ≡ lanes_of x → once ≡ lanes_of (round (joined from)) → twice ≡ lanes_of (round (joined once))
     → thrice ≡ lanes_of (round (joined twice)) → turned ≡ lanes_of (round (joined thrice))
     → turned ≡ lanes_of (round (round (round (round x))))
@@ -146,7 +146,7 @@ abbrev pub sums : List ℕ × List ℕ × List ℕ × List ℕ → List ℕ × L
 sums l m = (zip2 add32 l.0 m.0, zip2 add32 l.1 m.1, zip2 add32 l.2 m.2, zip2 add32 l.3 m.3)
 
 -- the sum of a block and its four rounds is the core
-pub core_by_lanes : (x y : List ℕ) → length x ≡ 16 → length y ≡ 16
+core_by_lanes : (x y : List ℕ) → length x ≡ 16 → length y ≡ 16
     → lanes_of y ≡ sums (lanes_of x) (lanes_of (round (round (round (round x))))) → y ≡ diagonal_order (salsa20_8 (standard_order x))
 unfolding salsa20_8
 core_by_lanes x y long_x long_y summed_lanes =
@@ -172,3 +172,11 @@ core_by_lanes x y long_x long_y summed_lanes =
     let back : x ≡ diagonal_order s = sym (out_then_in pivot inverse_pivot diagonal_inverse x (omega arith)) in
     summed ∙ ap (λ w. zip2 add32 w z) back
     ∙ zip_in pivot inverse_pivot diagonal_inverse add32 s (double_round s3) (long ∙ sym (length-double_round s3 ∙ long3)) (omega arith)
+
+-- so it is the core if the lanes are those of four rounds
+pub core_of_rounds : (x y : List ℕ) → length x ≡ 16 → length y ≡ 16 → {from once twice thrice turned : List ℕ × List ℕ × List ℕ × List ℕ}
+    → from ≡ lanes_of x → once ≡ lanes_of (round (joined from)) → twice ≡ lanes_of (round (joined once))
+    → thrice ≡ lanes_of (round (joined twice)) → turned ≡ lanes_of (round (joined thrice)) → lanes_of y ≡ sums from turned
+    → y ≡ diagonal_order (salsa20_8 (standard_order x))
+core_of_rounds x y long_x long_y from once twice thrice turned summed =
+    core_by_lanes x y long_x long_y (summed ∙ ap₂ sums from (four_rounds x long_x from once twice thrice turned))

@@ -6,8 +6,7 @@ ghost use Rattle.scrypt.specs.McfHash.{read_mcf};
 ghost use Rattle.scrypt.specs.Reading.{verdict as verdict_of};
 
 use crate::Scrypt;
-use crate::mcf::reading::stored_of_mcf;
-use crate::stored_hash::parts::{Key, Parts};
+use crate::mcf::reading::parts_of_mcf;
 use crate::verifying::verify_allocating;
 use password_hash::mcf::{PasswordHash, PasswordHashRef};
 use password_hash::{PasswordVerifier, Result};
@@ -33,16 +32,8 @@ impl<'a> PasswordVerifier<PasswordHashRef<'a>> for Scrypt {
         password: &[u8],
         hash: &PasswordHashRef<'a>,
     ) -> Result<()> {
-        match stored_of_mcf(hash) {
-            Ok(stored) => {
-                let parts = Parts {
-                    params: stored.params,
-                    salt: stored.salt,
-                    key: Key::Mcf(stored.key),
-                    key_len: stored.key_len,
-                };
-                verify_allocating(alloc, password, &parts)
-            }
+        match parts_of_mcf(hash) {
+            Ok(parts) => verify_allocating(alloc, password, &parts),
             Err(error) => Err(error),
         }
     }

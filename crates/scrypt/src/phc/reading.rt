@@ -1,31 +1,24 @@
 // Reading PHC hashes.
 
-ghost use Rattle.std.specs.Prelude.{◌≡◌, ◌↔◌, codes, Ok, Err, IfErr, IfOk, IsTrue};
+ghost use Rattle.std.specs.Prelude.{◌≡◌, ◌↔◌, codes, Err, IfErr, IfOk, IsTrue};
 ghost use Rattle.password_hash.specs.Refusal.{refusal};
 ghost use Rattle.scrypt.specs.PhcHash.{phc_params, read_phc};
 ghost use Rattle.scrypt.specs.Reading.{told};
+ghost use Rattle.scrypt.specs.StoredParts.{HasParts};
 
 use crate::Params;
 use crate::phc::ALG_ID;
-use password_hash::phc::{Ident, Output, PasswordHash};
+use crate::stored_hash::parts::{Key, Parts};
+use password_hash::phc::{Ident, PasswordHash};
 use password_hash::{Error, Result};
-
-/// The parameters, the salt and the key of a hash. The salt and the key are borrowed from it.
-#[derive(Clone, Copy)]
-pub(crate) struct PhcParts<'a> {
-    pub(crate) params: Params,
-    pub(crate) salt: &'a [u8],
-    pub(crate) key: &'a Output,
-}
 
 /// Returns the parts of a hash, whose parameters were read by `read_params`.
 ///
 /// Returns the error of reading the parameters, or `PasswordInvalid` if the salt or the key is
 /// missing.
-pub(crate) fn stored_of<'a>(hash: &'a PasswordHash, params: &Result<Params>) -> Result<PhcParts<'a>>
+pub(crate) fn parts_of_phc<'a>(hash: &'a PasswordHash, params: &Result<Params>) -> Result<Parts<'a>>
     requires { told params.now ≡ phc_params hash.now }
-    ensures ok { IfOk result (λ stored. read_phc hash.now
-        ≡ Ok (record { params = stored.params; salt = stored.salt.now; key = stored.key.now })) }
+    ensures ok { IfOk result (HasParts (read_phc hash.now)) }
     ensures err { IfErr result (λ e. read_phc hash.now ≡ Err (refusal e)) }
 {
     let params = match params {
@@ -38,10 +31,11 @@ pub(crate) fn stored_of<'a>(hash: &'a PasswordHash, params: &Result<Params>) -> 
     let Some(key) = &hash.hash else {
         return Err(Error::PasswordInvalid);
     };
-    Ok(PhcParts {
+    Ok(Parts {
         params,
         salt: salt.as_bytes(),
-        key,
+        key: Key::Phc(key),
+        key_len: key.len(),
     })
 }
 

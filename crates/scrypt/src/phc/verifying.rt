@@ -5,8 +5,7 @@ ghost use Rattle.scrypt.specs.PhcHash.{read_phc};
 ghost use Rattle.scrypt.specs.Reading.{verdict as verdict_of};
 
 use crate::Scrypt;
-use crate::phc::reading::{read_params, stored_of};
-use crate::stored_hash::parts::{Key, Parts};
+use crate::phc::reading::{parts_of_phc, read_params};
 use crate::verifying::verify_allocating;
 use password_hash::phc::PasswordHash;
 use password_hash::{PasswordVerifier, Result};
@@ -26,16 +25,8 @@ impl PasswordVerifier<PasswordHash> for Scrypt {
     /// or the key is missing, `OutOfMemory` if an allocation fails, and `PasswordInvalid` if the
     /// keys differ.
     fn verify_password(&self, alloc: Global, password: &[u8], hash: &PasswordHash) -> Result<()> {
-        match stored_of(hash, &read_params(hash)) {
-            Ok(stored) => {
-                let parts = Parts {
-                    params: stored.params,
-                    salt: stored.salt,
-                    key: Key::Phc(stored.key),
-                    key_len: stored.key.len(),
-                };
-                verify_allocating(alloc, password, &parts)
-            }
+        match parts_of_phc(hash, &read_params(hash)) {
+            Ok(parts) => verify_allocating(alloc, password, &parts),
             Err(error) => Err(error),
         }
     }

@@ -1,15 +1,14 @@
 // What a stored hash of either format holds.
 
-ghost use Rattle.std.specs.Prelude.{◌≡◌, ◌↔◌, ℕ, List, length, take, drop, IfErr, IfOk, IsTrue, Err, Ok};
+ghost use Rattle.std.specs.Prelude.{◌≡◌, ◌↔◌, ℕ, List, length, take, drop, IfErr, IfOk, IsTrue, Err};
 ghost use Rattle.password_hash.specs.Crypt64.{IsPiece};
 ghost use Rattle.password_hash.specs.Refusal.{refusal};
-ghost use Rattle.scrypt.specs.Reading.{Stored};
-ghost use Rattle.scrypt.specs.StoredParts.{ArePartsOf, IsKey};
+ghost use Rattle.scrypt.specs.StoredParts.{HasParts, IsKey};
 
 use super::{Format, StoredHash};
 use crate::Params;
-use crate::mcf::reading::stored_of_mcf;
-use crate::phc::reading::stored_of;
+use crate::mcf::reading::parts_of_mcf;
+use crate::phc::reading::parts_of_phc;
 use password_hash::Result;
 use password_hash::mcf::Field;
 use password_hash::phc::Output;
@@ -49,28 +48,12 @@ pub(crate) struct Parts<'a> {
 impl<'a> StoredHash<'a> {
     /// Returns the parts of the hash, or the error of reading it.
     pub(crate) fn parts(&self) -> Result<Parts<'_>>
-        ensures ok { IfOk result (λ parts. (s : Stored) × ArePartsOf s parts × (self.now.whole ≡ Ok s)) }
+        ensures ok { IfOk result (HasParts self.now.whole) }
         ensures err { IfErr result (λ e. self.now.whole ≡ Err (refusal e)) }
     {
         match &self.format {
-            Format::Mcf(hash) => match stored_of_mcf(hash) {
-                Ok(stored) => Ok(Parts {
-                    params: stored.params,
-                    salt: stored.salt,
-                    key: Key::Mcf(stored.key),
-                    key_len: stored.key_len,
-                }),
-                Err(error) => Err(error),
-            },
-            Format::Phc(hash, params) => match stored_of(hash, params) {
-                Ok(stored) => Ok(Parts {
-                    params: stored.params,
-                    salt: stored.salt,
-                    key: Key::Phc(stored.key),
-                    key_len: stored.key.len(),
-                }),
-                Err(error) => Err(error),
-            },
+            Format::Mcf(hash) => parts_of_mcf(hash),
+            Format::Phc(hash, params) => parts_of_phc(hash, params),
         }
     }
 }

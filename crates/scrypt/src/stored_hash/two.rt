@@ -2,7 +2,7 @@
 
 ghost use Rattle.std.specs.Prelude.{◌≡◌, true, false, IfSome, None, Ok};
 ghost use Rattle.scrypt.specs.Reading.{Stored, told};
-ghost use Rattle.scrypt.specs.StoredParts.{ArePartsOf};
+ghost use Rattle.scrypt.specs.StoredParts.{HasParts};
 ghost use Rattle.scrypt.specs.TwoVerdicts.{AreDone, AreLeft, hold_two};
 ghost use Rattle.scrypt.specs.WithinLimits.{IsLeftWithin, told_within, verdict_within, within};
 ghost use Rattle.scrypt.specs.WorkInBuffers.{IsLeft, verdict_in, work_in};
@@ -69,9 +69,9 @@ impl<'a> StoredHash<'a> {
         table: &[u32],
         scratch: &[u32],
     ) -> Option<(Parts<'b>, Parts<'b>)>
-        ensures some { IfSome result (λ both. (s t : Stored) × ArePartsOf s both.0 × ArePartsOf t both.1
-            × (self.now.whole ≡ Ok s) × (other.now.whole ≡ Ok t)
-            × (hold_two both.0.params both.1.params chunks.now table.now scratch.now ≡ true)) }
+        ensures parts { IfSome result (λ both. HasParts self.now.whole both.0) }
+        ensures others { IfSome result (λ both. HasParts other.now.whole both.1) }
+        ensures holds { IfSome result (λ both. hold_two both.0.params both.1.params chunks.now table.now scratch.now ≡ true) }
         ensures none { result ≡ None → (s t : Stored) → self.now.whole ≡ Ok s → other.now.whole ≡ Ok t
             → hold_two s.params t.params chunks.now table.now scratch.now ≡ false }
     {

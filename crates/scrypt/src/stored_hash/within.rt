@@ -82,7 +82,7 @@ impl<'a> StoredHash<'a> {
     }
 
     // Returns the parameters of the hash and the length of its key, if it has a salt and a key.
-    fn whole_params_and_key_len(&self) -> password_hash::Result<(Params, usize)>
+    pub(super) fn whole_params_and_key_len(&self) -> password_hash::Result<(Params, usize)>
         ensures { told result ≡ mapped (λ s. (s.params, length s.key)) self.now.whole }
     {
         match self.parts() {

@@ -1,28 +1,12 @@
-use Rattle.std.proofs.Common.{arith, refl, rules, sym}
-use Rattle.scrypt.specs.Reading.{Stored}
+use Rattle.scrypt.proofs.StoredHashFacts.{whole_of_mcf, whole_of_phc}
 use Rattle.scrypt.proofs.stored_hash.StoredHash.parts.Goals as goal
 
-pub returns-in-Ok-clause-ok : goal.returns-in-Ok-clause-ok
-returns-in-Ok-clause-ok c =
-    let stored = c.in-Ok.stored in
-    let read = c.in-Ok.ensures.ok in
-    let s : Stored = record { params = stored.params; salt = stored.salt.now; key = read.0 } in (
-      s,
-      record { params = refl; salt = refl; key = read.1; key_len = read.2; allowed = c.in-Ok.ensures.len },
-      search (rules, read.3),
-    )
+pub returns-in-Mcf : goal.returns-in-Mcf
+returns-in-Mcf c =
+    let whole = whole_of_mcf c.self.inside.text.now c.self.inside.format c.args.self.now c.in-Mcf.hash c.self.invariant c.self.view_is c.in-Mcf.is in
+    rw (← whole) (record { ok = c.parts_of_mcf.ensures.ok; err = c.parts_of_mcf.ensures.err })
 
-pub returns-in-Ok-stored_of-clause-ok : goal.returns-in-Ok-stored_of-clause-ok
-returns-in-Ok-stored_of-clause-ok c =
-    let stored = c.in-Ok-stored_of.stored in
-    let s : Stored = record { params = stored.params; salt = stored.salt.now; key = stored.key.now } in (
-      s,
-      record {
-        params = refl;
-        salt = refl;
-        key = refl;
-        key_len = sym c.len.ensures.value;
-        allowed = (omega (arith, c.len.ensures.least), omega (arith, c.len.ensures.greatest));
-      },
-      search (rules, c.in-Ok-stored_of.ensures.ok),
-    )
+pub returns-in-Phc : goal.returns-in-Phc
+returns-in-Phc c =
+    let whole = whole_of_phc c.self.inside.text.now c.self.inside.format c.args.self.now c.in-Phc.hash c.in-Phc.params c.self.view_is c.in-Phc.is in
+    rw (← whole) (record { ok = c.parts_of_phc.ensures.ok; err = c.parts_of_phc.ensures.err })

@@ -6,12 +6,12 @@ use Rattle.scrypt.proofs.stored_hash.StoredHash.verify_two.Goals as goal
 
 pub verify_at_once-requires : goal.verify_at_once-requires
 verify_at_once-requires c =
-    let both = c.in-Some.ensures.some in
+    let both = c.in-Some.ensures in
     let fits = (hold_two_decided c.in-Some.parts.params c.in-Some.others.params c.args.chunks.now c.args.table.now c.args.scratch.now).0
-    both.6 in
+    both.holds in
     record {
-      parts = (both.0, both.2);
-      others = (both.1, both.3);
+      parts = (both.parts.0, both.parts.1);
+      others = (both.others.0, both.others.1);
       alike = fits.0;
       chunks = fits.1.0;
       table = fits.1.1.0;
@@ -20,17 +20,19 @@ verify_at_once-requires c =
 
 pub returns-in-Some : goal.returns-in-Some
 returns-in-Some c =
-    let both = c.in-Some.ensures.some in
+    let one = c.in-Some.ensures.parts in
+    let two = c.in-Some.ensures.others in
+    let holds = c.in-Some.ensures.holds in
     let verified = c.verify_at_once in
     let before = work_in c.args.chunks.now c.args.table.now c.args.scratch.now c.args.cores.now in
     let after = work_in verified.new.chunks verified.new.table verified.new.scratch verified.new.cores in
-    let room = room_for_each c.in-Some.parts.params c.in-Some.others.params before both.6 in
+    let room = room_for_each c.in-Some.parts.params c.in-Some.others.params before holds in
     record {
-      verdict = verdict_alone before c.args.password.now _ both.0 _ (rw both.2.params room.0) both.4 (verified.ensures.verdict both.0 both.2);
-      other_verdict = verdict_alone before c.args.other_password.now _ both.1 _ (rw both.3.params room.1) both.5
-          (verified.ensures.other_verdict both.1 both.3);
-      left = left_at_once IsLeft before after _ _ both.0 both.1 both.4 both.5 (rw (both.2.params, both.3.params) both.6)
-          (rw (both.2.params, both.3.params) verified.ensures.done);
+      verdict = verdict_alone before c.args.password.now _ one.0 _ (rw one.1.params room.0) one.2 (verified.ensures.verdict one.0 one.1);
+      other_verdict = verdict_alone before c.args.other_password.now _ two.0 _ (rw two.1.params room.1) two.2
+          (verified.ensures.other_verdict two.0 two.1);
+      left = left_at_once IsLeft before after _ _ one.0 two.0 one.2 two.2 (rw (one.1.params, two.1.params) holds)
+          (rw (one.1.params, two.1.params) verified.ensures.done);
     }
 
 pub returns-in-None : goal.returns-in-None

@@ -7,11 +7,11 @@ use Rattle.password_hash.specs.declared.mcf.field.Field.{Field}
 use Rattle.password_hash.specs.declared.mcf.fields.Fields.{Fields}
 use Rattle.scrypt.specs.McfHash.{read_fields, read_key, read_mcf}
 use Rattle.password_hash.specs.Refusal.{Refusal}
-use Rattle.scrypt.specs.Reading.{◌and_then◌}
+use Rattle.scrypt.specs.Reading.{◌and_then◌, Stored}
 use Rattle.scrypt.proofs.McfHashFacts.{key_read, key_refused, no_key, read_other, read_seven}
 use Rattle.scrypt.proofs.ReadingFacts.{refused_first}
-use Rattle.scrypt.proofs.mcf.reading.stored_of_mcf.Goals as goal
-use Rattle.scrypt.proofs.mcf.reading.stored_of_mcf.Goals.{After-next, After-next-2}
+use Rattle.scrypt.proofs.mcf.reading.parts_of_mcf.Goals as goal
+use Rattle.scrypt.proofs.mcf.reading.parts_of_mcf.Goals.{After-next, After-next-2}
 
 -- what is read of the fields
 fields_at : (c : After-next) {fields : List (List ℕ)} → fields_left c.fields-fields.result ≡ fields
@@ -85,11 +85,12 @@ pub returns-clause-ok : goal.returns-clause-ok
 returns-clause-ok c =
     let last = no_other c.next-2.new.self c.next-3.new.self c.next-3.result c.next-3.ensures.steps
     (sym c.is_some.ensures ∙ c.if-is_some.false) in
-    let key = c.in-Some-base64_len.ensures.value in (
-      key.0,
-      key.1,
-      key.2,
+    let key = c.in-Some-base64_len.ensures.value in
+    let allowed = c.output_len_ok.ensures.exact.0 c.if-not-output_len_ok.false in
+    let s : Stored = record { params = c.in-Ok.read.0; salt = c.in-Ok.read.1.now; key = key.0 } in (
+      s,
+      record { params = refl; salt = refl; key = key.1; key_len = key.2; allowed = allowed },
       rest_at (goal.at.returns-clause-ok c).After-next-2
           (c.in-Some-next.ensures.steps ∙ ap (λ after. field_text c.in-Some-next.key ∷ after) last)
-          (key_read key.1 (rw key.2 (c.output_len_ok.ensures.exact.0 c.if-not-output_len_ok.false))),
+          (key_read key.1 (rw key.2 allowed)),
     )
