@@ -1,6 +1,6 @@
 //! Keys, in memory that is allocated, and in the caller's buffers.
 
-ghost use Rattle.std.specs.Prelude.{◌≡◌, ◌≢◌, ◌⊎◌, ◌↔◌, pos, length, None, IsSome, IfSome};
+ghost use Rattle.std.specs.Prelude.{◌≡◌, ◌≢◌, ◌⊎◌, ◌↔◌, length, None, IsSome, IfSome};
 ghost use Rattle.scrypt.specs.Accepted.{AreAccepted, IsOutputLen};
 ghost use Rattle.scrypt.specs.InBuffers.{AreEnough};
 ghost use Rattle.scrypt.specs.Key.{derived_key};

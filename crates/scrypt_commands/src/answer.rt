@@ -1,15 +1,12 @@
 // The answer to a command.
 
 ghost use Rattle.std.specs.Prelude.{◌≡◌, ◌++◌, IfOk, IfErr, IsOk, IsTrue, Ok, codes, option_map, string_bytes};
-ghost use Rattle.hex.specs.Hex.{encode_lower};
 ghost use Rattle.scrypt.specs.Accepted.{IsOutputLen};
-ghost use Rattle.scrypt.specs.KeyOfParams.{key_by};
 ghost use Rattle.scrypt.specs.Reading.{verdict, weaker};
 ghost use Rattle.scrypt_commands.specs.Bounds.{rehash_limits, verify_limits};
 ghost use Rattle.scrypt_commands.specs.Command.{has_allowed_len};
 ghost use Rattle.scrypt_commands.specs.Outcome.{IsAnswer, excess, new_hash, new_text};
 ghost use Rattle.scrypt_commands.specs.Steps.{Answers, Gives, IsPossible, answer_line, answer_status, command_outcome, right_of, right_within};
-ghost use Rattle.scrypt_commands.specs.declared.args.Format.TheVariants.{Mcf, Phc};
 ghost use Rattle.scrypt_commands.specs.declared.args.Target.TheVariants.{Key};
 ghost use Rattle.scrypt_commands.specs.declared.error.CliError.TheVariants.{OutOfMemory};
 

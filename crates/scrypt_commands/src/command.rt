@@ -1,6 +1,6 @@
 // What the arguments ask for.
 
-ghost use Rattle.std.specs.Prelude.{◌≡◌, ◌↔◌, Err, IfOk, IfErr, IsOk, IsTrue, MatchResult};
+ghost use Rattle.std.specs.Prelude.{◌≡◌, ◌↔◌, Err, IfOk, IfErr, IsOk, MatchResult};
 ghost use Rattle.password_hash.specs.Refusal as refusals;
 ghost use Rattle.hex.specs.Hex.{decode_of};
 ghost use Rattle.scrypt.specs.StoredHash.{HasReading, IsStoredText, Reads};
