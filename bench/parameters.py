@@ -6,7 +6,7 @@ usage: parameters.py LIBRARY [RUNS [PICTURE]]
 LIBRARY is the shared C library of this repository. A login is one call of scrypt_verify on a PHC text. For each log_n,
 at r = 8 and p = 1, a process of its own prints the seconds of its first login, the minimum of RUNS others (by default 7),
 and its peak memory. Seconds are processor time, so other work on the machine matters only as far as it slows memory down.
-With PICTURE, the seconds of the first login over the memory are drawn there as SVG.
+With PICTURE, the minimum over the memory of the table is drawn there as SVG.
 """
 
 import multiprocessing
@@ -36,11 +36,11 @@ def main():
         with multiprocessing.get_context("fork").Pool(1) as pool:
             first, least, peak = pool.apply(logins, (path, log_n, runs))
         mib = (1024 << log_n) / (1 << 20)
-        points.append((mib, first, f"{log_n}: {first:.2g}"))
+        points.append((mib, least, f"{log_n}: {least:.2g}"))
         print(f"| {log_n} | {mib:g} | {first:.3g} | {least:.3g} | {peak:.0f} |", flush=True)
     if len(sys.argv) > 3:
         title = "seconds of a processor for one login, r = 8, p = 1; beside each point its log_n and seconds"
-        picture.draw(sys.argv[3], title, {"the first login": points}, (0.001, 0.01, 0.1, 1, 4))
+        picture.draw(sys.argv[3], title, {"one login": points}, (0.001, 0.01, 0.1, 1, 4))
 
 
 if __name__ == "__main__":
