@@ -5,7 +5,7 @@ use Rattle.std.proofs.lemmas.List.{append-nil, drop_at, length-drop, length-take
 use Rattle.std.proofs.lemmas.Slice.{drop-put_mid, take-put_mid}
 use Rattle.std.proofs.lemmas.List.FromFn.{take-map-range_with_len}
 use borrow.Rule.Slice.PartMut.{put_mid, same_len_mid}
-use Rattle.scrypt_kernel.specs.Words.{bytes_of, part, words_of}
+use Rattle.scrypt_kernel.specs.Words.{bytes_of, words_of}
 use Rattle.scrypt_kernel.specs.RoMix.{ro_mix}
 use Rattle.scrypt_kernel.specs.Hmac.{padded_key}
 use Rattle.scrypt_kernel.specs.Pbkdf2.{pbkdf2}

@@ -1,4 +1,4 @@
-use Rattle.std.proofs.Common.{◌≡◌, ◌<◌, ◌≤◌, ◌-◌, ◌*◌, ◌+◌, ◌∙◌, ℕ, sym, ap, ap₂, min, arith, length, refl, replicate, take}
+use Rattle.std.proofs.Common.{◌≡◌, ◌<◌, ◌≤◌, ◌-◌, ◌*◌, ◌+◌, ◌∙◌, ℕ, sym, ap, min, arith, length, refl, replicate, take}
 use Rattle.std.proofs.lemmas.List.{length-take-le, take_all}
 use Rattle.std.proofs.lemmas.List.FromFn.{length-map-range_with_len}
 use Rattle.scrypt_kernel.proofs.Pbkdf2Facts.{length-pbkdf2}

@@ -1,5 +1,5 @@
 use Rattle.std.proofs.Common.{◌*◌, ◌^◌, ℕ, List, refl, ap, arith}
-use Rattle.scrypt_kernel.specs.Words.{part, words_of}
+use Rattle.scrypt_kernel.specs.Words.{words_of}
 use Rattle.scrypt_kernel.specs.Table.{extra_rows}
 use Rattle.scrypt.specs.Cost.{extra_rows_of_chunks}
 use Rattle.scrypt.proofs.KeyFacts.{chunks_are}
