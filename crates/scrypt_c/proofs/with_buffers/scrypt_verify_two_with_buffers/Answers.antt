@@ -1,5 +1,17 @@
-use Rattle.scrypt_c.proofs.InBuffersFacts.{two_left_uncounted}
+use Rattle.std.proofs.Common.{◌≡◌, ◌∙◌, ap, rules}
+use Rattle.scrypt.specs.WorkInBuffers.{verdict_in}
+use Rattle.scrypt_c.proofs.InBuffersFacts.{two_left_uncounted, verdict_uncounted}
+use Rattle.scrypt_c.specs.InBuffers.{buffers}
+use Rattle.scrypt_c.specs.Statuses.{buffers_status}
 use Rattle.scrypt_c.proofs.with_buffers.scrypt_verify_two_with_buffers.Goals as goal
+
+pub returns-in-Ok-Ok-clause-status : goal.returns-in-Ok-Ok-clause-status
+returns-in-Ok-Ok-clause-status c =
+    let before = buffers c.args.chunks.now c.args.table.now c.args.scratch.now in
+    let status : c.buffers_status-in-Ok-Ok.result ≡ buffers_status (verdict_in before c.args.password.now c.in-Ok-Ok.hash.whole) =
+    c.buffers_status-in-Ok-Ok.ensures.status
+    ∙ ap buffers_status (c.verify_two.ensures.verdict ∙ verdict_uncounted _ c.args.password.now c.in-Ok-Ok.hash.whole) in
+    (c.in-Ok-Ok.hash, c.in-Ok-Ok.ensures.ok, search rules)
 
 pub returns-in-Ok-Ok-clause-left : goal.returns-in-Ok-Ok-clause-left
 returns-in-Ok-Ok-clause-left c = (
