@@ -28,7 +28,8 @@ from foreign import NODE, Missing, answers, asked, go_keys, installed, openssl_k
 HERE = os.path.dirname(os.path.abspath(__file__))
 sys.path += [os.path.join(HERE, "..", "..", folder) for folder in ("compare", "bench")]
 import crypt64
-from oracle import run, some_bytes, verified
+from oracle import some_bytes, verified
+from runs import unlimited
 from worker import Worker
 
 CASES = 20
@@ -82,16 +83,17 @@ class Trial:
         self.agreed.append(bool(agrees))
 
     def verifies(self, text, password):
-        self.check(verified(self.program, text, password), ("is not verified", text, password))
+        about, got, wanted = verified(self.program, text, password)
+        self.check(got == wanted, ("is not verified", about, got))
 
     def refuses(self, text, error):
         """The program refuses to verify a text, by this error."""
-        got = run(self.program, ["verify", text], b"password")
-        self.check(got == (2, b"", f"hash refused: {error}\n".encode()), ("is not refused", text, got))
+        got = unlimited(self.program, ["verify", text], b"password")
+        self.check(got == (2, "", f"hash refused: {error}\n"), ("is not refused", text, got))
 
     def answer(self, words, password):
         """The line of the program."""
-        return run(self.program, words, password)[1].decode().strip()
+        return unlimited(self.program, words, password)[1].strip()
 
     def key(self, password, salt, log_n, r, p, length):
         """The key by the program."""
