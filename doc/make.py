@@ -27,7 +27,6 @@ import comments
 import kit
 import kit_pages
 import lexers
-import picture
 from library import Library, module_page, page_of, text_page
 from sources import read
 from views import Views
@@ -107,6 +106,9 @@ class Pages:
                 "sources": [it for it in sources if it[0].module], "vectors": self.views.vectors[crate],
                 "first_line": first_sentence}
 
+    def own_uses(self, crate):
+        return [it for it in self.library.uses[crate] if it in self.views.crates]
+
     def phrases(self, rows):
         """Phrases with their clauses and a note, which a row may lack."""
         rows = (row + [None, [], ""][len(row) :] for row in rows)
@@ -123,18 +125,16 @@ class Pages:
 
         items = {crate: [it for _, shown in those for it in shown] for crate, those in self.views.sources.items()}
         functions = {crate: sum(it.kind == "fn" for it in those) for crate, those in items.items()}
-        uses = {crate: self.library.uses[crate] for crate in self.views.crates}
         numbers = {
             "functions": sum(functions.values()),
             "clauses": sum(len(it.parts) for those in items.values() for it in those),
             "definitions": sum(len(shown) for those in self.views.definitions.values() for _, shown in those),
             "vectors": sum(it.kind == "vector" for those in self.views.vectors.values() if those for it in those[1]),
         }
-        notes = {crate: f"{count} public function{'s' * (count != 1)}" for crate, count in functions.items()}
         self.write("index.html", "index.html", title="scrypt, proved", phrases=phrases, verifying=verifying,
-                   drawn=picture.drawn(uses, notes), numbers=numbers, lines=lines,
-                   definitions=sum(len(shown) for _, shown in found),
-                   about=[(it, first_sentence(self.library.sources[it][""].doc)) for it in uses])
+                   numbers=numbers, lines=lines, definitions=sum(len(shown) for _, shown in found),
+                   about=[(it, first_sentence(self.library.sources[it][""].doc), functions[it], self.own_uses(it))
+                          for it in self.views.crates])
         return checks.headline("".join(it["text"] for it in phrases), read(f"{self.library.folder}/README.md"))
 
     def rest(self):

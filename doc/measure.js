@@ -17,7 +17,7 @@ function faint() {
   const texts = document.createTreeWalker(document.body, NodeFilter.SHOW_TEXT);
   while (texts.nextNode()) {
     const it = texts.currentNode.parentElement;
-    if (!texts.currentNode.data.trim() || !it.getClientRects().length || it.closest("svg")) continue;
+    if (!texts.currentNode.data.trim() || !it.getClientRects().length) continue;
     const both = [getComputedStyle(it).color, background(it)].map(lightness).sort((a, b) => b - a);
     if ((both[0] + 0.05) / (both[1] + 0.05) < 4.5) found.add(`${it.tagName} ${it.textContent.slice(0, 20)}`);
   }
@@ -28,8 +28,7 @@ function faint() {
 function focused() {
   const it = document.activeElement;
   const style = getComputedStyle(it);
-  const shown = it.matches("svg a") ? getComputedStyle(it.querySelector("rect")).strokeWidth !== "1px"
-    : style.outlineStyle !== "none" && parseFloat(style.outlineWidth) >= 2;
+  const shown = style.outlineStyle !== "none" && parseFloat(style.outlineWidth) >= 2;
   const box = it.getBoundingClientRect();
   return [it.textContent.trim() || it.id, shown, box.top >= -2 && box.bottom <= innerHeight + 2 && box.width > 0];
 }
@@ -38,7 +37,7 @@ function focused() {
 function focus_link(href) {
   const at = document.querySelector(":target");
   const place = !at ? document.querySelector("main") : at.matches("dt") ? at.nextElementSibling : at;
-  const link = [...place.querySelectorAll("a")].find((it) => (it.href.baseVal ?? it.href).includes(href));
+  const link = [...place.querySelectorAll("a")].find((it) => it.href.includes(href));
   link?.focus();
   return link?.textContent;
 }

@@ -1,4 +1,5 @@
-"""The readers find each definition, function and clause, and the pages are refused for what is wrong with them."""
+"""The pages are refused for what is wrong with the sources, and for what isn't read. What is read is seen in the pages,
+and in docs/PROMISES.md."""
 
 import tempfile
 import unittest
@@ -9,55 +10,39 @@ import kit
 import library
 import links
 import sources
-import specs
 import views
 
-SPEC = """-- Keys (RFC 7914, section 6).
-use Rattle.std.specs.Prelude.{ℕ, ◌+◌, ◌≡◌, List, suc, zero}
+SPEC = """-- Keys.
+use Rattle.std.specs.Prelude.{ℕ, ◌+◌, ◌≡◌, suc, zero}
 use Rattle.one.specs.Low.{low as lowest}
 use Rattle.one.specs.Low as lows
 
--- step 1: the first key
--- (RFC 8018, section 5.2)
-unfoldable pub key : List ℕ → ℕ → ℕ
-key b zero = 0
-key b (suc i) = lowest (key b i) + 1
+-- the key of a number
+unfoldable pub key : ℕ → ℕ
+key zero = 0
+key (suc i) = lowest (key i) + 1
 
 -- what a key is
 pub record IsKey (k : ℕ) : Type 0 where
-  pub some : key [] k ≡ 0
+  pub some : key 0 ≡ k
 
-  pub more : ℕ
-
--- one of two
-pub data Outcome : Type 0 where
-  good bad : Outcome
 -- two
 abbrev pub twice : ℕ → ℕ
 twice x = let y = lows.low x in y + y
-
--- both
-abbrev pub ◌>>=◌ : ℕ → ℕ → ℕ
-o >>= n = o + n
 """
 
 SOURCE = """//! Keys.
 ghost use Rattle.one.specs.Key.{IsKey};
-ghost use Rattle.std.specs.Prelude.{ℕ, ◌≡◌};
 
 use crate::low::Table;
 
-/// Makes a key, as [`Key::len`] says.
-#[inline]
-pub fn make<T: Table, const N: usize>(
-    bytes: &[u8],
+/// Makes a key.
+pub fn make<T: Table>(
     table: &mut T,
 ) -> Result<Key, Error>
     requires room { T.room table.old }
     ensures ok { IsKey
         result }
-    // a note
-    ensures room { (x : ℕ) → x ≡ x }
 {
     let braces = '{';
 }
@@ -79,8 +64,6 @@ impl Key {
     {
         self.len
     }
-
-    fn inner(&self) {}
 }
 
 impl<'a, const N: usize> From<low::Bits<'a>, N> for &[Key] {
@@ -141,7 +124,7 @@ CHANGES = [
     ("src/key.rt", "IsKey n", "IsLock n", "IsLock leads nowhere"),
     ("src/key.rt", "ensures value {", "ensures {", "the public function len has a clause without a name"),
     ("src/key.rt", "    /// Its length.\n", "", "the public function len has no doc comment"),
-    ("src/key.rt", "impl Key {", " impl Key {", "src/key.rt:35: not read"),
+    ("src/key.rt", "impl Key {", " impl Key {", "src/key.rt:27: not read"),
     ("src/more.rt", "\n    ensures", "\nensures", "src/more.rt:14: not read"),
     ("src/more.rt", "self.len", "2", None),
     ("specs/Key.antt", "lowest (key", "highest (key", "highest leads nowhere"),
@@ -161,32 +144,6 @@ def small_repository(files):
 
 
 class Readers(unittest.TestCase):
-    def test_definitions(self):
-        module = specs.read_module("Rattle.one.specs.Key", "Key.antt", SPEC)
-        found = module.definitions
-        self.assertEqual(list(found), ["key", "IsKey", "Outcome", "twice", "◌>>=◌"])
-        self.assertEqual([found[it].text.count("\n") for it in ("key", "IsKey", "twice")], [2, 3, 1])
-        self.assertEqual([found[it].members for it in ("IsKey", "Outcome")], [["some", "more"], ["good", "bad"]])
-        self.assertEqual((found["key"].kind, found["key"].line), ("unfoldable", 8))
-        self.assertEqual(found["key"].comment, "step 1: the first key (RFC 8018, section 5.2)")
-        self.assertEqual(module.imports["lowest"], ("Rattle.one.specs.Low", "low"))
-        rfc = "https://www.rfc-editor.org/rfc/rfc8018.html#section-5.2"
-        self.assertEqual(specs.standards(found["key"].comment), [("RFC 8018, section 5.2", rfc)])
-
-    def test_sources(self):
-        source = sources.read_source("one", "crates/one/src/key.rt", SOURCE)
-        items = {it.anchor: it for it in source.items}
-        make, given = items["make"], items["From-low-Bits-a-N-for-ref-Key"]
-        self.assertEqual([it.anchor for it in source.items if it.public], ["make", "Key", "Key.len", given.anchor])
-        self.assertTrue(make.text.endswith("-> Result<Key, Error>"))
-        self.assertEqual(make.doc, "Makes a key, as [`Key::len`] says.")
-        self.assertEqual([it.place for it in make.clauses], ["requires-room", "ok", "room"])
-        self.assertEqual(make.clauses[1].text, "IsKey\n    result")
-        self.assertEqual(make.generics, {"T": "Table", "N": ""})
-        self.assertEqual([it.name for it in given.clauses], ["from_gives"])
-        self.assertEqual(sources.use_paths("pub use a::{\n    b,\n    c as d,\n};\nuse f::g;\n"),
-                         {"b": ("a::b", True), "d": ("a::c", True), "g": ("f::g", False)})
-
     def test_functions_of_places(self):
         paths = {name: f"crates/one/src/{name}.rt" for name in ("key", "more")}
         crate = {name: sources.read_source("one", path, FILES[path]) for name, path in paths.items()}
