@@ -1,5 +1,5 @@
 #!/usr/bin/env python3
-"""Verifies, makes and compares hashes by the built programs: those of other programs, and what is changed, cut or long.
+"""Verifies and makes hashes by the built programs: those of other programs, and what is changed, cut or long.
 
 The hashes are those of compare/known.py, and all other keys are those of Python's hashlib. scrypt_tool takes one hash a
 run. VERDICTS, the program of crates/test_verdicts, takes one a line and prints the verdict on the empty password, also
@@ -15,10 +15,11 @@ import sys
 
 sys.path.append(os.path.join(os.path.dirname(os.path.abspath(__file__)), "../compare"))
 import crypt64
+import hostile
 import known
-import phc
+import reference
 import runs
-from known import CRYPT as MCF, EMPTY, PASSLIB as PHC, SHORT
+from known import CRYPT as MCF, EMPTY, PASSLIB as PHC
 from runs import unlimited
 
 PHC_KEY, MCF_KEY = (it[it.rindex("$") :] for it in (PHC, MCF))
@@ -50,7 +51,7 @@ CHANGED = [
     (MCF, "$CU", "$*U", "ParamsInvalid", "log_n is outside the alphabet"),
     (MCF, "CU", "t/", "ParamsInvalid", "log_n is 57"),
 ]
-PASSWORDS = {PHC: b"password", SHORT: b"pleaseletmein", MCF: b"pleaseletmein"}
+PASSWORDS = {PHC: b"password", MCF: b"pleaseletmein"}
 
 # A text, the verdict on the empty password, and the reason for the row.
 SHORT_TEXTS = [
@@ -97,20 +98,6 @@ UNREAD = [
     ("$scrypt$aA$AAAAAAAAAAAAAA$aA", "one part too many"),
 ]
 
-# A hash, log_n, r, p and the length that are wanted, whether it is weaker, and the reason for the row.
-REHASHES = [
-    (PHC, (17, 8, 1, 32), True, "log_n of 16 is below the recommended 17"),
-    (PHC, (16, 8, 1, 32), False, "as wanted"),
-    (PHC, (15, 8, 1, 32), False, "stronger"),
-    (PHC, (15, 16, 1, 32), True, "r is below, with an equal product"),
-    (PHC, (16, 8, 2, 32), True, "p is below"),
-    (PHC, (16, 8, 1, 33), True, "the key is shorter"),
-    (PHC, (16, 8, 1, 10), False, "the key is longer"),
-    (SHORT, (14, 8, 1, 32), True, "a key of 10 bytes is below 32"),
-    (MCF, (17, 8, 1, 32), True, "log_n of 14 is below"),
-    (MCF, (14, 8, 1, 32), False, "r of 32 is above"),
-]
-
 # Texts whose keys are shorter than the usual limits allow, and why.
 SHORT_KEYS = [
     ("$scrypt$ln=4,r=1,p=1$c2FsdHNhbHQ$AAAAAAAAAAAAAAAAAAAA", "a key of 15 bytes"),
@@ -122,13 +109,6 @@ LONG_PASSWORDS = [63, 64, 65, 200, 100_000]
 
 # How long a key is: a stored key is compared in pieces of 96 bytes.
 LONG_KEYS = [65, 95, 96, 97, 192, 200]
-
-# The lengths of the beginnings of PHC that are PHC texts without a key, which no password is right for.
-WITHOUT_KEY = [7, 12, 13, 17, 21, 26, 30, 33, 34, 38, 42, 44]
-
-# Those of longer ones, whose key is the beginning of PHC's: the empty password is wrong.
-SHORTER_PHC_KEYS = [61, 65, 69, 73, 77, 81, 85]
-
 
 # How a run ends by its verdict, if that isn't a refusal of the hash.
 ENDS = {"ok": runs.OK, "no": runs.NO, "out of memory": (3, "", "out of memory\n")}
@@ -154,42 +134,14 @@ def verified(tool):
         yield f"{text} ({reason})", unlimited(tool, ["verify", text], password), wanted
 
 
-def rehashed(tool):
-    """Which hashes are weaker than wanted; a new hash is verified."""
-    for text, (log_n, r, p, length), weaker, reason in REHASHES:
-        words = ["rehash", "phc", *map(str, (log_n, r, p, length)), "73616c74", text]
-        answer = unlimited(tool, words, PASSWORDS[text])
-        if weaker:
-            new = answer[1].strip()
-            yield f"{text} ({reason})", new.startswith(f"$scrypt$ln={log_n},r={r},p={p}$c2FsdA$"), True
-            answer = unlimited(tool, ["verify", new], PASSWORDS[text])
-        yield f"{text} ({reason})", answer, runs.OK
-
-
 def made(tool):
     """Hashes of long passwords in both formats, by hashlib's keys."""
-    field, params = crypt64.letters(b"NaCl"), (4, 1, 1)
-    for length in LONG_PASSWORDS:
+    for length, form in itertools.product(LONG_PASSWORDS, ("phc", "mcf")):
         password = b"a" * length
-        keys = [hashlib.scrypt(password, salt=salt, n=16, r=1, p=1, dklen=32) for salt in (b"NaCl", field.encode())]
-        texts = {"phc": phc.text(b"NaCl", keys[0], *params), "mcf": crypt64.text(field, keys[1], *params)}
-        for form, text in texts.items():
-            answer = unlimited(tool, ["hash", form, "4", "1", "1", b"NaCl".hex()], password)
-            yield f"a password of {length} bytes, {form}", answer, (0, f"{text}\n", "")
-            yield f"a password of {length} bytes, {form}", unlimited(tool, ["verify", text], password), runs.OK
-    refused = unlimited(tool, ["hash", "phc", "4", "1", "1", "00" * 65], b"")
-    yield "a salt of 65 bytes", refused, (2, "", "hash refused: SaltInvalid\n")
-
-
-def beginnings():
-    """Every beginning of a hash, with its verdict."""
-    for length in range(len(PHC)):
-        verdict = "EncodingInvalid"
-        if 2 <= length <= 6:
-            verdict = "Algorithm"
-        elif length in WITHOUT_KEY + SHORTER_PHC_KEYS:
-            verdict = "PasswordInvalid"
-        yield PHC[:length], verdict
+        text = reference.hash_of(form, password, b"NaCl", 4, 1, 1, 32)
+        answer = unlimited(tool, ["hash", form, "4", "1", "1", b"NaCl".hex()], password)
+        yield f"a password of {length} bytes, {form}", answer, (0, f"{text}\n", "")
+        yield f"a password of {length} bytes, {form}", unlimited(tool, ["verify", text], password), runs.OK
 
 
 def by_line(rows, *words):
@@ -204,9 +156,11 @@ def by_line(rows, *words):
 def main():
     tool, program = sys.argv[1:]
     long = [(EMPTY[:KEY_AT] + "." * 1_000_000, "PasswordInvalid"), ("$7" + "$" * 1_000_000, "EncodingInvalid")]
-    texts = [*beginnings(), *long] + [(text, "EncodingInvalid") for text, _ in UNREAD]
+    # No beginning is judged by its key: a shorter one is the beginning of PHC's, and the empty password is wrong.
+    cut = [(PHC[:at], hostile.verdict(PHC[:at], lambda *_: "PasswordInvalid")) for at in range(len(PHC))]
+    texts = [*cut, *long, *((text, "EncodingInvalid") for text, _ in UNREAD)]
     within = [(text, "TooCostly") for text in known.costly()] + [(text, "KeyTooShort") for text, _ in SHORT_KEYS]
-    cases = verified(tool), rehashed(tool), made(tool), by_line(texts, program), by_line(within, program, "within")
+    cases = verified(tool), made(tool), by_line(texts, program), by_line(within, program, "within")
     _, wrong = runs.report("hashes", itertools.chain(*cases))
     sys.exit(1 if wrong else 0)
 

@@ -59,9 +59,16 @@ ANSWERS = [
     (f"verify {PLAIN}", "pleaseletmein", 0, "ok", "a salt may be a plain text"),
 ]
 
-# Each fault once.
+# Each fault, and lines that are no command.
 FAULTS = [
     ("key 04 1 1 64 ", "", 2, USAGE, "a number with a leading zero"),
+    (f"--most-work=01 verify {EMPTY}", "", 2, USAGE, "the same in an option"),
+    (f"--most-work= verify {EMPTY}", "", 2, USAGE, "no number"),
+    (f"--most-bytes=18446744073709551616 verify {EMPTY}", "", 2, USAGE, "a number of 2^64"),
+    (f"--most-work 192 verify {EMPTY}", "", 2, USAGE, "a number in an argument of its own"),
+    (f"verify --no-limits {EMPTY}", "", 2, USAGE, "an option after the command"),
+    ("hash phc 4 1", "", 2, USAGE, "no salt is drawn for fewer arguments"),
+    ("key 4 1 1 16", "", 2, USAGE, "nor for a key"),
     ("hash md5 4 1 1 00", "", 2, USAGE, "no command"),
     ("key 4 1 1 64 0", "", 2, "salt is not hexadecimal", "half a byte of salt"),
     ("key 4 65536 65536 64 ", "", 2, "invalid scrypt parameters", "r * p is 2^32"),
@@ -69,6 +76,7 @@ FAULTS = [
     ("rehash phc 57 1 1 32 00 $scrypt", "", 2, "invalid scrypt parameters", "the wanted parameters"),
     ("key 4 1 1 0 ", "", 2, "invalid output buffer length", "an empty key"),
     ("hash phc 4 1 1 ", "password", 2, "hash refused: SaltInvalid", "a PHC hash has a salt"),
+    ("hash phc 4 1 1 " + "00" * 65, "", 2, "hash refused: SaltInvalid", "a salt of 65 bytes"),
     ("verify $7$", "", 2, "hash refused: EncodingInvalid", "a `$7$` text without parameters"),
     ("verify $argon2id$ln=4$aA", "password", 2, "hash refused: Algorithm", "another algorithm"),
     ("verify $scrypt$v=1$ln=4$aA", "password", 2, "hash refused: Version", "a version"),
@@ -89,9 +97,12 @@ REHASHES = [
     (f"rehash phc 14 8 1 32 536f6469756d43686c6f72696465 {SHORT}", "pleaseletmein", 0, RFC,
      "a key of 10 bytes is replaced by one of 32"),
     (f"rehash phc 17 8 1 32 00 {PASSLIB}", "invalid", 1, "no", "a hash weaker than wanted, and a wrong password"),
-    (f"rehash phc 4 2 1 32 abcd {HASHLIB}", "password", 0,
-     "$scrypt$ln=4,r=2,p=1$q80$9fykwGCqc5wuN3VhSk6s2YNL+iQlvqu+X3lrEvZ6nS8", "r is below"),
-    (f"rehash phc 3 1 1 32 abcd {HASHLIB}", "password", 0, "ok", "log_n is above"),
+    (f"rehash phc 3 2 1 32 abcd {HASHLIB}", "password", 0,
+     "$scrypt$ln=3,r=2,p=1$q80$p+HxlvAJkTD3C4MVLAhHBeRvyj8fJfBm3wYHLwoMxJk", "r is below, with an equal product"),
+    (f"rehash phc 4 1 2 32 abcd {HASHLIB}", "password", 0,
+     "$scrypt$ln=4,r=1,p=2$q80$h5scLnLkf2S1Dp0Wr6ShFBEViLUMJ+OjcRD8DwMZvwQ", "p is below"),
+    (f"rehash phc 3 1 1 10 abcd {HASHLIB}", "password", 0, "ok", "log_n and the length of the key are above"),
+    (f"rehash phc 14 8 1 32 00 {CRYPT}", "pleaseletmein", 0, "ok", "r is above"),
     (f"rehash mcf 5 1 1 32 abcd {HASHLIB}", "password", 0,
      "$7$3/..../....fqA$GSoayDUS/tZpwSg3qA/sOnwx1jjdhVpHN49dfPH6c09", "the new hash has the format that is named"),
     ("rehash phc 4 1 1 32 00 $argon2id$ln=4$aA", "password", 2, "hash refused: Algorithm", "verifying refuses"),
@@ -125,17 +136,6 @@ LIMITS = [
     ("--most-work=1 key 4 1 1 16 ", "x" * 5000, 0, "19e0dd858b21a85d5233e34f8025c066", "a key has no limits"),
 ]
 
-# Those that are refused with the usage line, and the reason.
-NO_OPTIONS = [
-    (f"--most-work=01 verify {EMPTY}", "a number with a leading zero"),
-    (f"--most-work= verify {EMPTY}", "no number"),
-    (f"--most-bytes=18446744073709551616 verify {EMPTY}", "a number of 2^64"),
-    (f"--most-work 192 verify {EMPTY}", "a number in an argument of its own"),
-    (f"verify --no-limits {EMPTY}", "an option after the command"),
-    ("hash phc 4 1", "no salt is drawn for fewer arguments"),
-    ("key 4 1 1 16", "nor for a key"),
-]
-
 # One command of each kind, which all answer an empty password with status 0.
 STREAM_COMMANDS = ["key 4 1 1 64 ", "hash phc 4 1 1 00", "hash mcf 4 1 1 ", f"verify {EMPTY_PHC}", f"verify {EMPTY}"]
 STREAM_COMMANDS += [f"rehash phc 5 1 1 32 00 {EMPTY}"]
@@ -157,8 +157,7 @@ ADDRESSES = [("unlimited", "there is room for the chunks"), (1 << 30, "there is 
 
 
 def rows(program):
-    refused = [(words, "", 2, USAGE, reason) for words, reason in NO_OPTIONS]
-    for line, text, status, printed, reason in ANSWERS + FAULTS + REHASHES + LIMITS + refused:
+    for line, text, status, printed, reason in ANSWERS + FAULTS + REHASHES + LIMITS:
         wanted = (status, f"{printed}\n", "") if status < 2 else (status, "", f"{printed}\n")
         yield f"{line!r} ({reason})", run([program, *line.split(" ")], text.encode()), wanted
 

@@ -8,18 +8,15 @@ both formats, and `$7$` texts with a key of up to three letters, all of them. Th
 both formats (a million if not given): good ones, and good ones that are mutated, spliced, cut, doubled,
 or random, from a seed that is printed. Their log_n is 0 to 4, or so great that the table is refused.
 Then the same texts, and texts with random parameters, are verified within limits, in less memory than these allow.
-Printed is how many texts fell on each verdict; it fails if a verdict differs, if one has no text, or if
-refusing a costly text takes a millisecond.
+Printed is how many texts fell on each verdict; it fails if a verdict differs, or if one has no text.
 """
 
 import collections
 import functools
-import hashlib
 import itertools
 import random
 import re
 import sys
-import time
 
 import crypt64
 import known
@@ -56,16 +53,12 @@ BASES = [
 ]
 
 
+# the key of the empty password
+derived_key = functools.lru_cache(maxsize=1 << 16)(functools.partial(reference.key, b""))
+
+
 class Costly(Exception):
     """The parameters are too great to derive a key by, and too small to be refused."""
-
-
-@functools.lru_cache(maxsize=1 << 16)
-def derived_key(salt, log_n, r, p, length):
-    """The key of the empty password."""
-    if log_n == 0:
-        return reference.scrypt(b"", salt, log_n, r, p, length)
-    return hashlib.scrypt(b"", salt=salt, n=1 << log_n, r=r, p=p, dklen=length)
 
 
 def compared(salt, log_n, r, p, key):
@@ -185,11 +178,8 @@ def good_texts(rng):
         if log_n == 0:
             r = p = 1
         salt = rng.randbytes(rng.randrange(1, 17))
-        key = derived_key(salt, log_n, r, p, rng.choice((10, 32, 64)))
-        texts.append(phc.text(salt, key, log_n, r, p))
-        field = crypt64.letters(salt)
-        key = derived_key(field.encode(), log_n, r, p, rng.choice((1, 32, 33)))
-        texts.append(crypt64.text(field, key, log_n, r, p))
+        for form, lengths in ("phc", (10, 32, 64)), ("mcf", (1, 32, 33)):
+            texts.append(reference.hash_of(form, b"", salt, log_n, r, p, rng.choice(lengths)))
     return texts
 
 
@@ -263,17 +253,6 @@ def disagree(title, pairs, printed, verdicts, as_printed):
     return wrong or missing
 
 
-def slowly_refused(program):
-    """Whether refusing a costly text takes a millisecond or more."""
-    texts = known.costly() * 100
-    began = time.monotonic()
-    printed = answers([program, "within"], texts, MOST_BYTES)
-    taken = (time.monotonic() - began) / len(texts)
-    refused = printed.count("Err(TooCostly)")
-    print(f"costly texts: {refused} of {len(texts)} refused, in {1e6 * taken:.0f} microseconds each")
-    return taken >= 0.001 or refused < len(texts)
-
-
 def main():
     program, *numbers = sys.argv[1:]
     count = int(numbers[0]) if numbers else TEXTS
@@ -292,7 +271,7 @@ def main():
     pairs = list(judged(texts, compared_within))
     within = answers([program, "within"], [text for text, _ in pairs], MOST_BYTES)
     failed.append(disagree("within limits", pairs, within, VERDICTS + ["TooCostly", "KeyTooShort"], printed_within))
-    sys.exit(1 if any(failed) or slowly_refused(program) else 0)
+    sys.exit(1 if any(failed) else 0)
 
 
 if __name__ == "__main__":

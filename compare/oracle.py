@@ -11,15 +11,14 @@ some of parameters and lengths that both have to refuse.
 import argparse
 import ctypes
 import functools
-import hashlib
 import os
 import random
 import sys
 
 import crypt64
 import known
-import phc
 import reference
+from reference import hash_of
 from runs import NO, OK, report, unlimited
 
 # Debian's packages, for an interpreter that is not the system's
@@ -51,30 +50,15 @@ def crypt(password, setting):
     return library.crypt(password, setting.encode()).decode()
 
 
-def expected_key(password, salt, log_n, r, p, length):
-    """The key by OpenSSL, or by the reference if OpenSSL refuses the parameters."""
-    if 1 <= log_n < 16 * r:
-        return hashlib.scrypt(password, salt=salt, n=1 << log_n, r=r, p=p, dklen=length, maxmem=1 << 30)
-    return reference.scrypt(password, salt, log_n, r, p, length)
-
-
 def by_python(password, salt, params, length):
     if length == 0 or not reference.accepted(*params):
         raise Refused
-    return expected_key(password, salt, *params, length)
+    return reference.key(password, salt, *params, length)
 
 
 def by_worker(path):
     worker = Worker("worker", path)
     return lambda *case: worker.derive(*case)[1]
-
-
-def hash_of(form, password, salt, log_n, r, p, length):
-    """The text of a hash in the format of that name. The salt of a `$7$` key is the salt's letters."""
-    if form == "mcf":
-        field = crypt64.letters(salt)
-        return crypt64.text(field, expected_key(password, field.encode(), log_n, r, p, length), log_n, r, p)
-    return phc.text(salt, expected_key(password, salt, log_n, r, p, length), log_n, r, p)
 
 
 def some_bytes(rng, greatest):
@@ -132,30 +116,8 @@ def hashes(program, rng):
             yield verified(program, text, password)
 
 
-def hashes_of_passlib(program, rng):
-    """passlib's hashes are verified here and ours there, and the hash in the tests is passlib's."""
-    scrypt = passlib()
-    for password in ("password", "invalid"):
-        yield "the hash of the tests", scrypt.verify(password, known.PASSLIB), password == "password"
-    for _ in range(20):
-        password, salt = some_bytes(rng, 40), some_bytes(rng, 40) + b"!"
-        log_n, r, p = rng.randrange(1, 11), rng.choice((1, 2, 8)), rng.randrange(1, 4)
-        theirs = scrypt.using(salt=salt, rounds=log_n, block_size=r, parallelism=p).hash(password)
-        yield verified(program, theirs, password)
-        ours = unlimited(program, words_of("hash", "phc", log_n, r, p, salt), password)[1].strip()
-        yield ours, [scrypt.verify(it, ours) for it in (password, password + b"x")], [True, False]
-
-
-def letters(program, rng):
-    """The letters of salts: of each single byte, of pairs, and of as many bytes as a word may hold."""
-    salts = [bytes([byte]) for byte in range(256)] + [rng.randbytes(2) for _ in range(CASES)]
-    for salt in salts + [rng.randbytes(60_000 - it) for it in range(3)]:
-        text = unlimited(program, words_of("hash", "mcf", 1, 1, 1, salt), b"")[1]
-        yield salt.hex(), text.rpartition("$")[0], crypt64.params(1, 1, 1) + crypt64.letters(salt)
-
-
 def hashes_of_crypt(program, rng):
-    """crypt(3) makes the hashes of the tests, its hashes are verified here and ours there."""
+    """crypt(3) makes the hashes of the tests and ours."""
     for password, text in ("pleaseletmein", known.CRYPT), ("pleaseletmein", known.PLAIN), ("", known.EMPTY):
         yield "a hash of the tests", crypt(password.encode(), text), text
     for _ in range(20):
@@ -165,8 +127,6 @@ def hashes_of_crypt(program, rng):
         ours = unlimited(program, words_of("hash", "mcf", log_n, r, p, salt), password)[1].strip()
         yield ours, ours.rpartition("$")[0], crypt64.params(log_n, r, p) + crypt64.letters(salt)
         yield ours, crypt(password, ours), ours
-        plain = crypt64.params(log_n, r, p) + "SodiumChloride"[: rng.randrange(15)]
-        yield verified(program, crypt(password, f"{plain}$"), password)
 
 
 def some_params(rng):
@@ -195,13 +155,14 @@ def rehashes(program, rng):
 
 
 def rehashes_of_passlib(program, rng):
-    """passlib finds the same hashes weaker, and makes the same new ones.
+    """passlib finds the same hashes weaker, and makes the same new ones; the hash in the tests is passlib's.
 
     The two agree on log_n, and on keys of 32 bytes, the only ones that passlib has. An r or p that isn't the wanted
     one is enough for passlib, and here it has to be below. So if none of the three is below, and r or p is above,
     passlib rehashes a hash that is kept here.
     """
     scrypt = passlib()
+    yield "the hash of the tests", scrypt.verify("password", known.PASSLIB), True
     for _ in range(100):
         (*stored, _), (*wanted, _) = some_params(rng), some_params(rng)
         password, salt = some_bytes(rng, 40), some_bytes(rng, 20) + b"!"
@@ -219,11 +180,9 @@ def rehashes_of_passlib(program, rng):
 PARTS = {
     "keys of hashlib, or of plain Python if it refuses": keys,
     "hashes with keys of 10 to 64 bytes": hashes,
-    "hashes of passlib": hashes_of_passlib,
-    "letters of salts in crypt Base64": letters,
     "hashes of crypt(3)": hashes_of_crypt,
     "rehashes by the definition in plain Python": rehashes,
-    "rehashes of passlib": rehashes_of_passlib,
+    "hashes and rehashes of passlib": rehashes_of_passlib,
 }
 
 

@@ -10,12 +10,10 @@ status differs, or if a kind of pair has not occurred.
 
 import collections
 import ctypes
-import hashlib
 import random
 import sys
 
-import crypt64
-import phc
+from reference import hash_of
 from runs import report
 
 MOST_BYTES, MOST_WORK, LEAST_KEY_LEN = 1 << 20, 1 << 16, 16
@@ -36,11 +34,10 @@ def library(path):
 
 def made(rng):
     """A hash that another program could have stored, and its password."""
-    params = log_n, r, p = rng.choice([4, 4, 5]), rng.choice([1, 1, 2]), rng.choice([1, 1, 2, 3])
+    params = rng.choice([4, 4, 5]), rng.choice([1, 1, 2]), rng.choice([1, 1, 2, 3])
     password, salt = rng.randbytes(rng.randrange(8)), rng.randbytes(rng.choice([1, 8, 16]))
-    key_len, is_phc, field = rng.choice([32, 32, 16, 12, 64]), rng.random() >= 0.5, crypt64.letters(salt)
-    key = hashlib.scrypt(password, salt=salt if is_phc else field.encode(), n=1 << log_n, r=r, p=p, dklen=key_len)
-    return phc.text(salt, key, *params) if is_phc else crypt64.text(field, key, *params), password
+    key_len, form = rng.choice([32, 32, 16, 12, 64]), rng.choice(["phc", "mcf"])
+    return hash_of(form, password, salt, *params, key_len), password
 
 
 def stored(rng):

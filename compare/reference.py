@@ -1,11 +1,14 @@
 """scrypt (RFC 7914) in plain Python, written from the standard, for what OpenSSL refuses.
 
-It is slow, and takes N = 1 and N from 2^(16*r) too. And which hashes are weaker than wanted, as docs/DECISIONS.md
-says it.
+It is slow, and takes N = 1 and N from 2^(16*r) too. And hashes by it, and which are weaker than wanted, as
+docs/DECISIONS.md says it.
 """
 
 import hashlib
 import struct
+
+import crypt64
+import phc
 
 
 def rotate(x, k):
@@ -69,6 +72,21 @@ def scrypt(password, salt, log_n, r, p, length):
     for words in chunks_of(password, salt, r, p):
         mixed += struct.pack(f"<{len(words)}I", *ro_mix(words, 1 << log_n))
     return hashlib.pbkdf2_hmac("sha256", password, mixed, 1, length)
+
+
+def key(password, salt, log_n, r, p, length):
+    """The key by OpenSSL, or by plain Python if OpenSSL refuses the parameters."""
+    if 1 <= log_n < 16 * r:
+        return hashlib.scrypt(password, salt=salt, n=1 << log_n, r=r, p=p, dklen=length, maxmem=1 << 30)
+    return scrypt(password, salt, log_n, r, p, length)
+
+
+def hash_of(form, password, salt, log_n, r, p, length):
+    """The text of a hash in the format of that name. The salt of a `$7$` key is the salt's letters."""
+    if form == "mcf":
+        field = crypt64.letters(salt)
+        return crypt64.text(field, key(password, field.encode(), log_n, r, p, length), log_n, r, p)
+    return phc.text(salt, key(password, salt, log_n, r, p, length), log_n, r, p)
 
 
 def accepted(log_n, r, p):
