@@ -43,6 +43,7 @@ pub fn make<T: Table>(
     requires room { T.room table.old }
     ensures ok { IsKey
         result }
+    // a note
 {
     let braces = '{';
 }
@@ -124,7 +125,7 @@ CHANGES = [
     ("src/key.rt", "IsKey n", "IsLock n", "IsLock leads nowhere"),
     ("src/key.rt", "ensures value {", "ensures {", "the public function len has a clause without a name"),
     ("src/key.rt", "    /// Its length.\n", "", "the public function len has no doc comment"),
-    ("src/key.rt", "impl Key {", " impl Key {", "src/key.rt:27: not read"),
+    ("src/key.rt", "impl Key {", " impl Key {", "src/key.rt:28: not read"),
     ("src/more.rt", "\n    ensures", "\nensures", "src/more.rt:14: not read"),
     ("src/more.rt", "self.len", "2", None),
     ("specs/Key.antt", "lowest (key", "highest (key", "highest leads nowhere"),
@@ -144,6 +145,12 @@ def small_repository(files):
 
 
 class Readers(unittest.TestCase):
+    def test_clauses(self):
+        """A clause of several lines is read whole, without a comment after it."""
+        make = sources.read_source("one", "crates/one/src/key.rt", SOURCE).items[0]
+        self.assertEqual([(it.place, it.text) for it in make.clauses],
+                         [("requires-room", "T.room table.old"), ("ok", "IsKey\n    result")])
+
     def test_functions_of_places(self):
         paths = {name: f"crates/one/src/{name}.rt" for name in ("key", "more")}
         crate = {name: sources.read_source("one", path, FILES[path]) for name, path in paths.items()}
