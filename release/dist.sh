@@ -10,15 +10,13 @@ dist=$PWD/build/dist parts=$PWD/build/dist-parts version=$(cat VERSION)
 name=scrypt-proved-$version
 lib=$parts/files/lib
 python=/usr/bin/python3 # Debian's, which has hatchling
-registry=/usr/share/cargo/registry
 
 needed() { echo "$1 is not here (Debian's package $2), and make dist needs it" >&2; exit 1; }
 command -v dh > /dev/null || needed dh debhelper
 command -v cargo > /dev/null || needed cargo cargo
 $python -c 'import hatchling' 2> /dev/null || needed hatchling python3-hatchling
-ls -d $registry/password-hash-0.4* > /dev/null 2>&1 || needed password-hash librust-password-hash-dev
-for built in build/bin/scrypt_tool build/lib/libscrypt_c.a build/lib/glibc-hwcaps \
-  build/lib/libscrypt_drop_in.so build/lib/libscrypt_crypt.so build/lib/pam_scrypt.so; do
+ls -d /usr/share/cargo/registry/password-hash-0.4* > /dev/null 2>&1 || needed password-hash librust-password-hash-dev
+for built in build/bin/scrypt_tool build/lib/glibc-hwcaps build/lib/libscrypt_crypt.so build/lib/pam_scrypt.so; do
   [ -e $built ] || { echo "not built: $built. \`make crypt\` and \`make run\` build all, with the kit" >&2; exit 1; }
 done
 python3 -B release/linked.py check
@@ -38,7 +36,9 @@ glibc() {
 }
 for file in "$lib"/libscrypt_c.so.0 "$lib"/glibc-hwcaps/*/*; do glibc 2.17 "$file"; done
 glibc 2.33 "$lib/pam_scrypt.so"
-for file in "$parts/files/bin/scrypt_tool" "$lib/libscrypt_drop_in.so" "$lib/libscrypt_crypt.so"; do glibc 2.34 "$file"; done
+for file in "$parts/files/bin/scrypt_tool" "$lib"/libscrypt_drop_in.so "$lib"/libscrypt_crypt.so; do
+  glibc 2.34 "$file"
+done
 
 # packed NAME.. packs folders of parts into an archive of the first one's name.
 packed() {
@@ -50,23 +50,22 @@ debian/rules clean binary > "$parts/log" 2>&1 || { cat "$parts/log"; exit 1; }
 export SCRYPT_C_LIBRARY="$lib" SCRYPT_C_PROVED="$parts/PROVED.txt"
 (cd bindings/python && $python -B -m hatchling build -t wheel -d "$dist")
 
-texts="LICENSE release/NOTICES $parts/PROVED.txt"
+set -- LICENSE release/NOTICES "$parts/PROVED.txt"
 module=scrypt-go-$version
 mkdir "$parts/$module"
-cp $texts bindings/go/*.go bindings/go/go.mod bindings/go/README.md "$parts/$module"
+cp "$@" bindings/go/*.go bindings/go/go.mod bindings/go/README.md "$parts/$module"
 cp "$lib/libscrypt_c.a" build/lib/scrypt_c.h "$parts/$module"
 packed "$module"
 
 mkdir "$parts/cargo"
-printf '[source.crates-io]\nreplace-with = "debian"\n[source.debian]\ndirectory = "%s"\n' $registry \
-  > "$parts/cargo/config.toml"
+cp release/cargo.toml "$parts/cargo/config.toml"
 export CARGO_HOME="$parts/cargo" CARGO_TARGET_DIR="$parts/cargo"
 (cd bindings/rust && cargo package --quiet --offline --no-verify --allow-dirty)
 cp "$parts"/cargo/package/*.crate "$dist"
 
 mkdir "$parts/$name-linux-x86_64"
 mv "$parts/files" "$parts/$name-linux-x86_64/"
-cp $texts release/install.sh "$dist"/*.whl "$parts/$name-linux-x86_64"
+cp "$@" release/install.sh "$dist"/*.whl "$parts/$name-linux-x86_64"
 packed "$name-linux-x86_64"
 git archive --format=tar --prefix="$name/" HEAD | gzip -9n > "$dist/$name-source.tar.gz"
 chmod 644 "$dist"/*

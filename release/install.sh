@@ -11,7 +11,8 @@ fi
 prefix=${1:-/usr/local}
 case $action$prefix in
   install*[\\\'\":\;,\(\)\|\$[:cntrl:]]*)
-    printf '%s\n' "pkg-config, CMake or a compiler misreads a quote, a control character or one of \\ : ; , ( ) | \$: $prefix" >&2
+    special='a quote, a control character or one of \ : ; , ( ) | $'
+    printf '%s\n' "pkg-config, CMake or a compiler misreads $special: $prefix" >&2
     exit 1
     ;;
   install/* | remove/*) ;;
@@ -21,15 +22,15 @@ cd "$(dirname "$0")/files"
 
 find . -type f -o -type l | sed 's|^\./||' | sort | while read -r file; do
   place=$prefix/$file
-  if [ $action = remove ]; then
+  folder=${place%/*}
+  if [ $action = install ]; then
+    mkdir -p "$folder"
+    cp -P "$file" "$place"
+  else
     rm -f "$place"
     # Folders that nothing else is in.
-    folder=${place%/*}
     while [ "$folder" != "$prefix" ] && rmdir "$folder" 2> /dev/null; do folder=${folder%/*}; done
-    continue
   fi
-  mkdir -p "${place%/*}"
-  cp -P "$file" "$place"
 done
 if [ $action = install ]; then
   echo "installed below $prefix: the program is $prefix/bin/scrypt_tool; other programs find the library by"

@@ -82,8 +82,8 @@ def main(folder):
     clean = not records.output("git", "status", "--porcelain", "--untracked-files=no")
     texts, taken = verdict_sections(commit, clean)
     files = sorted(path for path in folder.rglob("*") if path.is_file() and not path.is_symlink())
-    packed = {path.relative_to(folder): path for path in files}
-    hashes = [f"{records.digest(path)}  {it}" for it, path in packed.items() if re.search(r"\.so|\.a$|^bin/", str(it))]
+    named = {str(path.relative_to(folder)): path for path in files}
+    hashes = [f"{records.digest(path)}  {it}" for it, path in named.items() if re.search(r"\.so|\.a$|^bin/", it)]
     built = records.hashes([], sum(records.PACKED.values(), []))
     # What compiled the few lines of C and linked all.
     tools = [records.output(tool, "--version").split("\n")[0] for tool in (os.environ.get("CC", "cc"), "ld")]
@@ -94,7 +94,7 @@ def main(folder):
         ("What is trusted", claims(Path("README.md").read_text(encoding="utf-8"))),
         ("SHA-256 of the binaries, as they are in the packages", "\n".join(hashes)),
         ("SHA-256 of what the kit built, from which these were linked",
-         "\n".join(f"{digest}  {it}" for it, digest in built.items())),
+         "\n".join(f"{digest}  {path}" for path, digest in built.items())),
         ("To compare", "With the kit and this compiler and linker, `make dist` on this commit makes the same files."),
     ]
     print("\n\n".join(f"{title}\n{'-' * len(title)}\n{text}" for title, text in sections))

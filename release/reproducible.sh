@@ -1,8 +1,7 @@
 #!/bin/sh
-# Makes build/dist twice from the commit, by reprotest, which varies the folder, the umask, the time zone, the language, the
-# home, the environment, the number of processors and more, and compares all files byte by byte. What the kit built is
-# taken from this folder as it is, because to prove everything takes long; with the word proofs it is proved and built
-# both times.
+# Makes build/dist twice from the commit, by reprotest, which varies the folder, the umask, the time zone, the language,
+# the home, the environment, the number of processors and more, and compares all files byte by byte. What the kit built
+# is taken from this folder, because to prove everything takes long; with the word proofs it is proved both times.
 # usage: reproducible.sh [proofs]
 set -eu
 cd "$(dirname "$0")/.."
@@ -23,7 +22,7 @@ if [ "${1:-}" != proofs ]; then
   done
   command="bindings/lib.sh built && bindings/crypt/build.sh && bindings/terminal/build.sh && release/dist.sh"
 fi
-# What is left out needs a file system or a clock of its own, or another user. A cargo of rustup's is found below the home.
+# What is left out needs a file system or a clock of its own, or another user. rustup finds its cargo below the home.
 export RUSTUP_HOME="${RUSTUP_HOME:-$HOME/.rustup}"
 TMPDIR=$room reprotest --variations=+all,-fileordering,-time,-user_group,-domain_host --source-root "$room/source" \
   --store-dir "$room/made" "$command" 'build/dist/*'
