@@ -16,8 +16,8 @@ def session(words, answers):
     Returns its status, what the terminal showed, and whether the echo was on, at each answer and at the end."""
     pid, terminal = pty.fork()
     if pid == 0:
-        # Python ignores the one, and a shell lets a program in the background ignore the other.
-        for each in (signal.SIGXFSZ, signal.SIGINT):
+        # Python ignores some signals, and nohup and a shell let a program in the background ignore others.
+        for each in signal.valid_signals() - {signal.SIGKILL, signal.SIGSTOP}:
             signal.signal(each, signal.SIG_DFL)
         os.execvp(words[0], words)
     shown, line, answers, echo = b"", b"", list(answers), []
