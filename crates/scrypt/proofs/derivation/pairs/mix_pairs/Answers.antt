@@ -1,8 +1,8 @@
-use Rattle.std.proofs.Common.{◌≡◌, ◌≤◌, ◌<◌, ◌+◌, ◌-◌, ◌*◌, ◌/◌, ℕ, List, length, take, drop, refl, sym, ap, ap₂, ◌∙◌, arith}
+use Rattle.std.proofs.Common.{◌≡◌, ◌≤◌, ◌<◌, ◌+◌, ◌-◌, ◌*◌, ◌/◌, ℕ, length, take, drop, refl, sym, ap, ap₂, ◌∙◌, arith}
 use Rattle.std.proofs.lemmas.List.{length-drop, length-take-le}
 use Rattle.scrypt_kernel.specs.Words.{bytes_of, words_of}
 use Rattle.scrypt_kernel.specs.RoMix.{ro_mix}
-use Rattle.scrypt.specs.Cost.{ro_mix_cost}
+use Rattle.scrypt.specs.Cost.{ro_mix_cost, table_words}
 use Rattle.scrypt_kernel.proofs.WalkFacts.{whole_cost}
 use Rattle.scrypt_kernel.proofs.PartFacts.{parts_apart}
 use Rattle.scrypt.proofs.KeyFacts.{chunk_inside, chunks_are, mixed_pair}
@@ -42,6 +42,15 @@ mix_two_chunks-requires-clause-other_input c =
     let one : length (take (length front - a) (drop a front)) ≡ length front - a =
     length-take-le (length front - a) (drop a front) (omega (arith, length-drop a front)) in
     length-take-le (128 * c.r.result) back room ∙ sym (one ∙ omega (arith, long))
+
+pub mix_two_chunks-requires-clause-table : goal.mix_two_chunks-requires-clause-table
+mix_two_chunks-requires-clause-table c =
+    let front = c.split_at_mut-front.result.0.now in
+    let a : ℕ = 2 * c.pairs.k * (128 * c.r.result) in
+    let long = length-take-le (length front - a) (drop a front) (omega (arith, length-drop a front)) in
+    let r_of_one : length (take (length front - a) (drop a front)) / 128 ≡ c.args.params.now.r =
+    omega (arith, long, c.split_at_mut-front.ensures.front_len, c.r.ensures.value) in
+    omega (arith, ap₂ table_words c.log_n.ensures.value r_of_one, c.pairs.auto.table, c.split_at_mut-table.ensures.front_len, c.of.ensures.table)
 
 more_pairs : (first before m k : ℕ) → before ≡ first + m * (2 * k) → before + 2 * m ≡ first + m * (2 * (k + 1))
 more_pairs first before m k until = ap (λ n. n + 2 * m) until ∙ omega arith
