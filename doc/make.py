@@ -106,9 +106,6 @@ class Pages:
                 "sources": [it for it in sources if it[0].module], "vectors": self.views.vectors[crate],
                 "first_line": first_sentence}
 
-    def own_uses(self, crate):
-        return [it for it in self.library.uses[crate] if it in self.views.crates]
-
     def phrases(self, rows):
         """Phrases with their clauses and a note, which a row may lack."""
         rows = (row + [None, [], ""][len(row) :] for row in rows)
@@ -133,7 +130,7 @@ class Pages:
         }
         self.write("index.html", "index.html", title="scrypt, proved", phrases=phrases, verifying=verifying,
                    numbers=numbers, lines=lines, definitions=sum(len(shown) for _, shown in found),
-                   about=[(it, first_sentence(self.library.sources[it][""].doc), functions[it], self.own_uses(it))
+                   about=[(it, first_sentence(self.library.sources[it][""].doc), functions[it], self.library.uses[it])
                           for it in self.views.crates])
         return checks.headline("".join(it["text"] for it in phrases), read(f"{self.library.folder}/README.md"))
 

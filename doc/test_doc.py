@@ -43,7 +43,7 @@ pub fn make<T: Table>(
     requires room { T.room table.old }
     ensures ok { IsKey
         result }
-    // a note
+    // a note with {braces}
 {
     let braces = '{';
 }
