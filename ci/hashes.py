@@ -55,8 +55,6 @@ PASSWORDS = {PHC: b"password", MCF: b"pleaseletmein"}
 
 # A text, the verdict on the empty password, and the reason for the row.
 SHORT_TEXTS = [
-    (EMPTY + "z", "ok", "a key of 33 bytes"),
-    ("$7$2/..../....$rNxJWVHNv/mCN.", "ok", "a key of 10 bytes"),
     ("$7$2/..../....$s/", "no", "another key of one byte"),
     ("$7", "EncodingInvalid", "no field"),
     ("$7$$r/", "EncodingInvalid", "no parameters"),
@@ -108,7 +106,7 @@ SHORT_KEYS = [
 LONG_PASSWORDS = [63, 64, 65, 200, 100_000]
 
 # How long a key is: a stored key is compared in pieces of 96 bytes.
-LONG_KEYS = [65, 95, 96, 97, 192, 200]
+LONG_KEYS = [33, 65, 95, 96, 97, 192, 200]
 
 # How a run ends by its verdict, if that isn't a refusal of the hash.
 ENDS = {"ok": runs.OK, "no": runs.NO, "out of memory": (3, "", "out of memory\n")}

@@ -44,8 +44,6 @@ ANSWERS = [
     ("hash mcf 4 1 1 ", "", 0, EMPTY, "the empty password and salt"),
     ("hash mcf 4 1 1  64", "", 0, LONG, "a longer key"),
     ("hash mcf 4 1 1  10", "", 0, "$7$2/..../....$rNxJWVHNv/mCN.", "the shortest key"),
-    ("hash mcf 14 32 1 986d90d343e07e4f7e00864f03040bf3 10", "pleaseletmein", 0,
-     "$7$CU..../....Mq4YHD2syxYT.MsH1Ek0n1$JyHIxez0DOwm01", "libxcrypt's hash with the shortest key"),
     ("hash mcf 14 32 1 986d90d343e07e4f7e00864f03040bf3", "pleaseletmein", 0, CRYPT, "libxcrypt's hash"),
     (f"verify {PASSLIB}", "password", 0, "ok", "the password of a PHC hash"),
     (f"verify {PASSLIB}", "invalid", 1, "no", "another password"),
@@ -59,7 +57,7 @@ ANSWERS = [
     (f"verify {PLAIN}", "pleaseletmein", 0, "ok", "a salt may be a plain text"),
 ]
 
-# Each fault, and lines that are no command.
+# Each fault but those of hashes that are verified (ci/hashes.py), and lines that are no command.
 FAULTS = [
     ("key 04 1 1 64 ", "", 2, USAGE, "a number with a leading zero"),
     (f"--most-work=01 verify {EMPTY}", "", 2, USAGE, "the same in an option"),
@@ -77,11 +75,6 @@ FAULTS = [
     ("key 4 1 1 0 ", "", 2, "invalid output buffer length", "an empty key"),
     ("hash phc 4 1 1 ", "password", 2, "hash refused: SaltInvalid", "a PHC hash has a salt"),
     ("hash phc 4 1 1 " + "00" * 65, "", 2, "hash refused: SaltInvalid", "a salt of 65 bytes"),
-    ("verify $7$", "", 2, "hash refused: EncodingInvalid", "a `$7$` text without parameters"),
-    ("verify $argon2id$ln=4$aA", "password", 2, "hash refused: Algorithm", "another algorithm"),
-    ("verify $scrypt$v=1$ln=4$aA", "password", 2, "hash refused: Version", "a version"),
-    ("verify $scrypt$ln=57", "password", 2, "hash refused: ParamsInvalid", "parameters that are not accepted"),
-    ("verify $7$2/..../....$", "password", 2, "hash refused: OutputSize", "an empty key"),
     ("key 56 1 1 32 ", "", 3, "out of memory", "a table of 2^63 bytes"),
     ("hash phc 56 1 1 00", "", 3, "out of memory", "the same for a hash"),
     ("--no-limits verify $7$s/..../....$r/", "", 3, "out of memory", "the same for a verdict"),
@@ -96,7 +89,6 @@ REHASHES = [
     (f"rehash phc 4 1 1 64  {EMPTY}", "x", 1, "no", "a wrong password comes before a salt that the new hash refuses"),
     (f"rehash phc 14 8 1 32 536f6469756d43686c6f72696465 {SHORT}", "pleaseletmein", 0, RFC,
      "a key of 10 bytes is replaced by one of 32"),
-    (f"rehash phc 17 8 1 32 00 {PASSLIB}", "invalid", 1, "no", "a hash weaker than wanted, and a wrong password"),
     (f"rehash phc 3 2 1 32 abcd {HASHLIB}", "password", 0,
      "$scrypt$ln=3,r=2,p=1$q80$p+HxlvAJkTD3C4MVLAhHBeRvyj8fJfBm3wYHLwoMxJk", "r is below, with an equal product"),
     (f"rehash phc 4 1 2 32 abcd {HASHLIB}", "password", 0,
