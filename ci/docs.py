@@ -2,9 +2,10 @@
 """Compares the documents with the sources, and refuses what does not fit.
 
 Refused are: a name in a document that no source has; a link that leads nowhere, or whose words name a definition that
-its file doesn't have; an example in Rust that is not a part of the file that it names; a module of proofs without a
-comment in its crate's proofs/Lib.antt; and a proof of a caller that names a proof of a library, since callers are
-proved from public clauses alone. docs/PROMISES.md is compared by doc/promises.py.
+its file doesn't have; an example in Rust that is not a part of the file that it names; a call in docs/data_path.dot
+that its function doesn't make; a module of proofs without a comment in its crate's proofs/Lib.antt; and a proof of a
+caller that names a proof of a library, since callers are proved from public clauses alone. docs/PROMISES.md is
+compared by doc/promises.py.
 
 A name is what is between backquotes and is a path (`mcf::Base64`, `Params::{log_n, n}`), a word with an underscore
 (`scrypt_ro_mix`), a call (`new()`), or a file of the repository. What belongs to others is listed below.
@@ -18,7 +19,7 @@ from pathlib import Path
 
 sys.path.append(str(Path(__file__).parent.parent / "doc"))
 import specs
-from sources import read
+from sources import read, read_crate
 
 DOCS = ["*.md", "docs/*.md", "bindings/**/*.md", "release/*.md", "examples/**/*.md"]
 SOURCES = ["crates/**/*.rt", "crates/**/*.antt", "examples/**/*.py"]
@@ -113,6 +114,23 @@ def inner_proofs(path, text):
     return [f"{path}: a proof of a library, {it}" for it in LIBRARY_PROOF.findall(text)]
 
 
+def names_of(source, it):
+    """The names that a picture may have for a function: with its module, its type or its trait, or without."""
+    owners = [re.sub(r"<.*", "", owner) for owner in it.owner.split(" for ")]
+    return {it.name, *(f"{owner}::{it.name}" for owner in [source.module.split("::")[-1], *owners])}
+
+
+def missing_calls(path, crates):
+    """The edges of a picture that are not calls: the first function's body doesn't have the second one's name."""
+    sources = [source for crate in crates for source in crate.values()]
+    functions = [(source, it) for source in sources for it in source.items if it.kind == "fn"]
+    for edge in re.findall(r'"([\w:]+)" -> "([\w:]+)"', read(path)):
+        caller, called = ([it for it in functions if name in names_of(*it)] for name in edge)
+        lines = [line for source, it in caller for line in source.text.splitlines()[it.opened : it.last]]
+        if not called or not re.search(rf"\b{called[0][1].name}(::<.*>)?\(", "\n".join(lines)):
+            yield f"{path}: {edge[0]} doesn't call {edge[1]}"
+
+
 def main():
     names = known_names()
     documents = sorted(path for pattern in DOCS for path in glob.glob(pattern, recursive=True))
@@ -122,6 +140,7 @@ def main():
     for name in CALLERS:
         for path in glob.glob(f"crates/{name}/proofs/**/*.antt", recursive=True):
             found += inner_proofs(path, read(path))
+    found += missing_calls("docs/data_path.dot", [read_crate(it, f"crates/{it}") for it in ("scrypt", "scrypt_kernel")])
     sys.exit("\n".join(found) or 0)
 
 
