@@ -18,6 +18,19 @@ from scrypt_c.turns import Turns, Wait
 MEMORY_FREE = library.memory_free
 
 
+def started(count, target, *arguments):
+    """So many threads that run this."""
+    threads = [threading.Thread(target=target, args=arguments) for _ in range(count)]
+    for it in threads:
+        it.start()
+    return threads
+
+
+def join(threads):
+    for it in threads:
+        it.join()
+
+
 @contextlib.contextmanager
 def turns_taken(hasher, count, seconds=None):
     """So many threads that each hold a turn of the hasher, until the end of the block or for so many seconds."""
@@ -26,16 +39,13 @@ def turns_taken(hasher, count, seconds=None):
     def hold():
         hasher._memories.derive(lambda _: (held.wait(), done.wait(seconds)))
 
-    threads = [threading.Thread(target=hold) for _ in range(count)]
-    for it in threads:
-        it.start()
+    threads = started(count, hold)
     held.wait()
     try:
         yield
     finally:
         done.set()
-        for it in threads:
-            it.join()
+        join(threads)
 
 
 def processors(count):
@@ -170,13 +180,10 @@ class Closing(unittest.TestCase):
                 refused.append(str(error))
 
         with turns_taken(hasher, 1):
-            threads = [threading.Thread(target=wait) for _ in range(4)]
-            for it in threads:
-                it.start()
+            threads = started(4, wait)
             time.sleep(0.02)
             hasher.close()
-        for it in threads:
-            it.join()
+        join(threads)
         self.assertEqual(refused, ["the hasher is closed"] * 4)
 
     def test_closing_while_many_derive(self):
@@ -193,13 +200,10 @@ class Closing(unittest.TestCase):
                         while True:
                             hasher.hash("pw")
 
-                threads = [threading.Thread(target=derive) for _ in range(8)]
-                for it in threads:
-                    it.start()
+                threads = started(8, derive)
                 time.sleep(0.003)
                 hasher.close()
-                for it in threads:
-                    it.join()
+                join(threads)
         self.assertGreater(len(made), 20)
         self.assertEqual(sorted(made), sorted(freed))
 
@@ -241,11 +245,8 @@ class Threads(unittest.TestCase):
                 hasher = PasswordHasher(log_n=4, at_once=at_once)
             text = hasher.hash("")
             with mock.patch.object(library, "verify", slow), mock.patch.object(library, "verify_two", both(slow)):
-                threads = [threading.Thread(target=hasher.verify, args=(text, "")) for _ in range(8)]
-                for it in threads:
-                    it.start()
-                for it in threads:
-                    it.join()
+                threads = started(8, hasher.verify, text, "")
+                join(threads)
             self.assertEqual(most, min(at_once, count), why)
 
     def test_the_longest_wait_is_next(self):
@@ -261,8 +262,7 @@ class Threads(unittest.TestCase):
         threads = [threading.Thread(target=derive, args=(number,)) for number in range(4)]
         for it in threads:
             it.start()
-        for it in threads:
-            it.join()
+        join(threads)
         self.assertGreater(2 * min(counts), max(counts), counts)
 
     def test_in_order(self):
@@ -277,8 +277,7 @@ class Threads(unittest.TestCase):
             for it in threads:
                 it.start()
                 time.sleep(0.02)
-        for it in threads:
-            it.join()
+        join(threads)
         self.assertEqual(order, list(range(8)))
 
     def test_waits_that_end_lose_no_turn(self):
@@ -292,11 +291,8 @@ class Threads(unittest.TestCase):
                     time.sleep(0.0002)
                 turns.leave(wait)
 
-        threads = [threading.Thread(target=take) for _ in range(6)]
-        for it in threads:
-            it.start()
-        for it in threads:
-            it.join()
+        threads = started(6, take)
+        join(threads)
         self.assertEqual([turns.take(Wait(), 0) for _ in range(3)], [True, True, False])
 
     def test_a_wait_that_is_interrupted(self):
