@@ -122,10 +122,9 @@ def names_of(source, it):
 
 def missing_calls(path, crates):
     """The edges of a picture that are not calls: the first function's body doesn't have the second one's name."""
-    sources = [source for crate in crates for source in crate.values()]
-    functions = [(source, it) for source in sources for it in source.items if it.kind == "fn"]
+    known = [(source, it) for crate in crates for source in crate.values() for it in source.items if it.kind == "fn"]
     for edge in re.findall(r'"([\w:]+)" -> "([\w:]+)"', read(path)):
-        caller, called = ([it for it in functions if name in names_of(*it)] for name in edge)
+        caller, called = ([it for it in known if name in names_of(*it)] for name in edge)
         lines = [line for source, it in caller for line in source.text.splitlines()[it.opened : it.last]]
         if not called or not re.search(rf"\b{called[0][1].name}(::<.*>)?\(", "\n".join(lines)):
             yield f"{path}: {edge[0]} doesn't call {edge[1]}"

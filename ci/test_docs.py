@@ -27,25 +27,20 @@ MODULES = [
 ]
 
 # A line of a caller's proof, what has to be named, and the reason for the row.
-PROOFS = [
-    ("use Rattle.scrypt.proofs.VerdictFacts.{once}\n", "scrypt.proofs.VerdictFacts", "a proof of a library"),
-    ("use Rattle.std.proofs.Common.{refl}\n", "", "a proof of the kit"),
-]
+PROOFS = [("use Rattle.scrypt.proofs.VerdictFacts.{once}\n", "scrypt.proofs.VerdictFacts", "a proof of a library")]
 
 
 class Docs(unittest.TestCase):
     def each(self, rows, found_in):
         for text, wanted, reason in rows:
             with self.subTest(reason):
-                found = list(found_in(text))
-                self.assertEqual(len(found), wanted != "", found)
-                self.assertIn(wanted, "".join(found))
+                [found] = found_in(text)
+                self.assertIn(wanted, found)
 
-    def test_documents(self):
+    def test_rows(self):
         self.each(DOCUMENTS, lambda text: docs.complaints("docs/PLAIN.md", text, NAMES))
-
-    def test_modules(self):
         self.each(MODULES, lambda text: docs.unexplained_modules("crates/a/proofs/Lib.antt", text))
+        self.each(PROOFS, lambda text: docs.inner_proofs("crates/scrypt_c/proofs/Lib.antt", text))
 
     def test_man_page(self):
         """Each error line of the program is explained in its man page."""
@@ -55,6 +50,3 @@ class Docs(unittest.TestCase):
         for line in lines:
             with self.subTest(line):
                 self.assertIn(f'.It Li "{line}', page)
-
-    def test_proofs(self):
-        self.each(PROOFS, lambda text: docs.inner_proofs("crates/scrypt_c/proofs/Lib.antt", text))

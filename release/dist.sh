@@ -36,9 +36,7 @@ glibc() {
 }
 for file in "$lib"/libscrypt_c.so.0 "$lib"/glibc-hwcaps/*/*; do glibc 2.17 "$file"; done
 glibc 2.33 "$lib/pam_scrypt.so"
-for file in "$parts/files/bin/scrypt_tool" "$lib"/libscrypt_drop_in.so "$lib"/libscrypt_crypt.so; do
-  glibc 2.34 "$file"
-done
+for file in "$parts"/files/bin/* "$lib"/libscrypt_drop_in.so "$lib"/libscrypt_crypt.so; do glibc 2.34 "$file"; done
 
 # packed NAME.. packs folders of parts into an archive of the first one's name.
 packed() {
