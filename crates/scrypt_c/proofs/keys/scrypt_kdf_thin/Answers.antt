@@ -8,3 +8,6 @@ returns-then-chunks-lens-clause-status c = record {
   buffers = (λ status. search rules, λ refused. search rules);
   one = search rules;
 }
+
+pub scrypt_thin-derived-requires-clause-scratch : goal.scrypt_thin-derived-requires-clause-scratch
+scrypt_thin-derived-requires-clause-scratch c = search rules

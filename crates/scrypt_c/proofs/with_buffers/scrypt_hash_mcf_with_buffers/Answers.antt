@@ -42,3 +42,6 @@ returns-clause-size c short =
         λ fits. (λ all. refused (enough.1 (all, fits)), w.text_len-is),
       )
     ]
+
+pub returns-clause-used : goal.returns-clause-used
+returns-clause-used c = search rules

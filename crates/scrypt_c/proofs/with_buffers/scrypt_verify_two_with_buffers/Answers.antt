@@ -21,3 +21,14 @@ returns-in-Ok-Ok-clause-left c = (
   c.in-Ok-Ok.ensures'.ok,
   two_left_uncounted c.in-Ok-Ok.hash.whole c.in-Ok-Ok.other.whole _ _ c.verify_two.ensures.left,
 )
+
+pub returns-in-Ok-Ok-clause-other_status : goal.returns-in-Ok-Ok-clause-other_status
+returns-in-Ok-Ok-clause-other_status c =
+    let before = buffers c.args.chunks.now c.args.table.now c.args.scratch.now in
+    let status : c.buffers_status.result ≡ buffers_status (verdict_in before c.args.other_password.now c.in-Ok-Ok.other.whole) =
+    c.buffers_status.ensures.status
+    ∙ ap buffers_status (c.verify_two.ensures.other_verdict ∙ verdict_uncounted _ c.args.other_password.now c.in-Ok-Ok.other.whole) in
+    (c.in-Ok-Ok.other, c.in-Ok-Ok.ensures'.ok, search rules)
+
+pub returns-in_default-Err-clause-status : goal.returns-in_default-Err-clause-status
+returns-in_default-Err-clause-status c = search rules
