@@ -62,8 +62,9 @@ pub fn key_with_buffers(
     let Ok(params) = Params::new(log_n, r, p) else {
         unreachable!();
     };
-    let Ok(()) = scrypt_with_buffers(password, salt, &params, chunks, table, scratch, output, cores)
-    else {
+    let Ok(()) = scrypt_with_buffers(
+        password, salt, &params, chunks, table, scratch, output, cores,
+    ) else {
         unreachable!();
     };
 }
