@@ -148,7 +148,7 @@ def by_line(rows, *words):
 def main():
     tool, program = sys.argv[1:]
     long = [(EMPTY[:KEY_AT] + "." * 1_000_000, "PasswordInvalid"), ("$7" + "$" * 1_000_000, "EncodingInvalid")]
-    # No beginning is judged by its key: a shorter one is the beginning of PHC's, and the empty password is wrong.
+    # Beginnings are not judged by their keys: a shorter one is the beginning of PHC's, and the empty password is wrong.
     cut = [(PHC[:at], hostile.verdict(PHC[:at], lambda *_: "PasswordInvalid")) for at in range(len(PHC))]
     texts = [*cut, *long, *((text, "EncodingInvalid") for text, _ in UNREAD)]
     within = [(text, "TooCostly") for text in known.costly()]

@@ -57,7 +57,7 @@ ANSWERS = [
     (f"verify {PLAIN}", "pleaseletmein", 0, "ok", "a salt may be a plain text"),
 ]
 
-# Each fault but those of hashes that are verified (ci/hashes.py), and lines that are no command.
+# Each fault but those of hashes that are verified (ci/hashes.py), and lines that are not commands.
 FAULTS = [
     ("key 04 1 1 64 ", "", 2, USAGE, "a number with a leading zero"),
     (f"--most-work=01 verify {EMPTY}", "", 2, USAGE, "the same in an option"),

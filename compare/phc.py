@@ -35,7 +35,7 @@ def text(salt, key, log_n, r, p):
 
 
 def parts(text):
-    """The algorithm, version, pairs, salt and key of a text, each None if it is missing; or None if it is no hash."""
+    """The algorithm, version, pairs, salt and key of a text, each None if missing; or None if the text is not a hash."""
     found = TEXT.fullmatch(text)
     if not found:
         return None

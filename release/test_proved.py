@@ -70,7 +70,7 @@ ROWS = [
      "no verdict of low was kept"),
     ("a source changes while it is proved", "keep low sh -c 'rt lib; echo more >> src/lib.rt'; link lib terminal; dist",
      1, "no verdict of low was kept"),
-    ("there is no record while a command runs", "keep low test ! -e ../../$low", 0, ""),
+    ("a command runs without its old record", "keep low test ! -e ../../$low", 0, ""),
     ("a command prints nothing, for nothing changed", "keep low true; cat $low", 0, "logic=proved by lib"),
     ("it prints nothing, and the record is of other sources",
      "change crates/low/src/lib.rt; echo logic=proved now > checked; keep low true; cat $low", 0, "logic=proved now"),

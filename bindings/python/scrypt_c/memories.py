@@ -73,7 +73,7 @@ class Memories:
     def _in_turn(self, wait: Wait[Verification], derive: _Derive) -> None:
         """Waits, and derives if the wait ends with a turn, which is given back however often a signal raises an
         exception: also in `leave`, and at the end of the inner loop. At that of the outer one, `take` of another thread
-        gives it back. This is no context manager, which may be interrupted before it calls anything."""
+        gives it back. It is not a context manager, since one can be interrupted before it calls anything."""
         interrupt = None
         try:
             if not self._turns.take(wait, self._timeout):

@@ -15,7 +15,7 @@ import scrypt_c
 from scrypt_c import PasswordHasher, library
 from scrypt_c.turns import Turns, Wait
 from test_processes import ended, forked
-from test_turns import MEMORY_FREE, processors, resident, turns_taken
+from threads import MEMORY_FREE, all_turns_taken, processors, resident, turns_taken
 
 WAIT = 20  # seconds, after which a thread is taken to wait for ever
 VERIFY, VERIFY_TWO = library.verify, library.verify_two
@@ -70,18 +70,6 @@ def waiting(hasher, count):
     while len(hasher._memories._turns._waiting) != count:
         assert time.monotonic() < end
         time.sleep(0.001)
-
-
-@contextlib.contextmanager
-def all_turns_taken(hasher):
-    """By this thread, without memory."""
-    turns = hasher._memories._turns
-    held = [Wait() for _ in range(len(turns))]
-    for it in held:
-        assert turns.take(it)
-    yield
-    for it in held:
-        turns.leave(it)
 
 
 @contextlib.contextmanager

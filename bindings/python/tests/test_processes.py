@@ -16,7 +16,7 @@ from concurrent.futures import ThreadPoolExecutor
 import scrypt_c
 from scrypt_c import PasswordHasher
 from scrypt_c.turns import Wait
-from test_turns import turns_taken
+from threads import turns_taken
 
 WAIT = 20  # seconds, after which a child is taken to wait for ever
 

@@ -11,7 +11,7 @@ import threading
 import scrypt_c
 from scrypt_c.turns import Wait
 from test_pairs import Calls, waiting
-from test_turns import processors
+from threads import processors
 
 
 class Case(ctypes.Structure):

@@ -14,44 +14,7 @@ from unittest import mock
 import scrypt_c
 from scrypt_c import PasswordHasher, library
 from scrypt_c.turns import Turns, Wait
-
-MEMORY_FREE = library.memory_free
-
-
-def started(count, target, *arguments):
-    """So many threads that run this."""
-    threads = [threading.Thread(target=target, args=arguments) for _ in range(count)]
-    for it in threads:
-        it.start()
-    return threads
-
-
-def join(threads):
-    for it in threads:
-        it.join()
-
-
-@contextlib.contextmanager
-def turns_taken(hasher, count, seconds=None):
-    """So many threads that each hold a turn of the hasher, until the end of the block or for so many seconds."""
-    held, done = threading.Barrier(count + 1), threading.Event()
-
-    def hold():
-        hasher._memories.derive(lambda _: (held.wait(), done.wait(seconds)))
-
-    threads = started(count, hold)
-    held.wait()
-    try:
-        yield
-    finally:
-        done.set()
-        join(threads)
-
-
-def processors(count):
-    """Lets hashers that are made meanwhile have so many processors."""
-    return mock.patch.object(os, "sched_getaffinity", lambda _: set(range(count)))
-
+from threads import MEMORY_FREE, join, processors, resident, started, turns_taken
 
 def others_waiting(memory_of, others_wait):
     """In place of the call: lets others wait before the first one."""
@@ -121,11 +84,6 @@ def both(one):
         arguments[9]._obj.value = one(memory, *arguments[5:9])
 
     return two
-
-
-def resident():
-    with open("/proc/self/status", encoding="ascii") as file:
-        return next(int(line.split()[1]) for line in file if line.startswith("VmRSS"))
 
 
 class Closing(unittest.TestCase):
@@ -259,10 +217,7 @@ class Threads(unittest.TestCase):
                 hasher.verify(text, "pw")
                 counts[number] += 1
 
-        threads = [threading.Thread(target=derive, args=(number,)) for number in range(4)]
-        for it in threads:
-            it.start()
-        join(threads)
+        join([started(1, derive, number)[0] for number in range(4)])
         self.assertGreater(2 * min(counts), max(counts), counts)
 
     def test_in_order(self):
@@ -307,7 +262,7 @@ class Threads(unittest.TestCase):
         hasher.hash("pw")
 
     def test_interrupted_after_each_call(self):
-        """An exception of a signal comes at the begin of a function of Python, or after one of C. No turn is lost, and no
+        """A signal raises its exception as a Python function begins, or after a C function returns. No turn is lost, and no
         other thread waits for ever."""
         hasher = PasswordHasher(log_n=4, timeout=5)
         text, step, was_interrupted = hasher.hash("pw"), 0, True

@@ -156,7 +156,7 @@ pub fn verdict_in_buffers(
 
 /// The status of reading the parameters of a hash, and the parameters, with the length of its key.
 pub fn params_of_hash(text: &[u8]) -> (i32, u8, u32, u32, usize)
-    ensures { ReadsParams text.now result.0 result.1 result.2 result.3 result.4 }
+    ensures params { ReadsParams text.now result.0 result.1 result.2 result.3 result.4 }
 {
     let (mut log_n, mut r, mut p, mut key_len) = (0, 0, 0, 0);
     let status = scrypt_hash_params(text, &mut log_n, &mut r, &mut p, &mut key_len);
