@@ -8,6 +8,8 @@ pub mod Hmac
 pub mod Pbkdf2
 -- RFC 7914, section 3: the Salsa20/8 core
 pub mod Salsa
+-- how many cores were run
+pub mod Count
 -- RFC 7914, section 4: scryptBlockMix
 pub mod BlockMix
 -- RFC 7914, section 5: scryptROMix
