@@ -26,21 +26,30 @@ const (
 	measuring = 4 * time.Second
 )
 
-// A count has the answers in a time that is measured.
+// A count has the answers in a time that is measured: how many logins ended in it, and how long those took that began
+// in it. Of all clients that begin at once, some wait until the first turns, which nobody shares, are over.
 type count struct {
 	sync.Mutex
+	ended           int
 	logIns, refused []time.Duration
 	untold          map[string]int
 }
 
-func (c *count) add(got answer, err error) {
+func (c *count) add(got answer, err error, hasBegun, hasEnded bool) {
 	c.Lock()
 	defer c.Unlock()
 	switch {
 	case err == nil && got.status == 303:
-		c.logIns = append(c.logIns, got.took)
+		if hasEnded {
+			c.ended++
+		}
+		if hasBegun {
+			c.logIns = append(c.logIns, got.took)
+		}
 	case err == nil && got.status == 503 && got.retry != "":
-		c.refused = append(c.refused, got.took)
+		if hasEnded {
+			c.refused = append(c.refused, got.took)
+		}
 	default:
 		c.untold[fmt.Sprint(got.status, err)]++
 	}
@@ -106,11 +115,10 @@ func load(w *world, clients int, got *count) {
 			defer group.Done()
 			browser := newBrowser(w.address)
 			defer browser.http.CloseIdleConnections()
-			for time.Now().Before(end) {
+			for start := time.Now(); start.Before(end); start = time.Now() {
 				answer, err := browser.logIn(fmt.Sprint("user", i), "a password")
-				if now := time.Now(); now.After(begin) && now.Before(end) || err != nil {
-					got.add(answer, err)
-				}
+				now := time.Now()
+				got.add(answer, err, start.After(begin), now.After(begin) && now.Before(end))
 				if seconds, err := strconv.Atoi(answer.retry); err == nil {
 					wait := time.Duration(seconds)*time.Second + time.Duration(rand.Intn(200))*time.Millisecond
 					if time.Now().Add(wait).After(end) {
@@ -164,7 +172,7 @@ func TestLoad(t *testing.T) {
 			}
 			library /= slices
 			peak := w.peak()
-			logIns := float64(len(got.logIns)) / slices / measuring.Seconds()
+			logIns := float64(got.ended) / slices / measuring.Seconds()
 			fmt.Printf("| (%d, 8, 1) | %d | %.1f | %.1f | %.2f | %s | %s | %d | %s | %d |\n", logN, clients, logIns, library,
 				logIns/library, part(got.logIns, 0.5), part(got.logIns, 0.99), len(got.refused), part(got.refused, 1), peak)
 			if len(got.untold) != 0 || peak > bound {
