@@ -1,45 +1,23 @@
 -- Letters of crypt Base64 are decoded as the bytes that they encode.
-use Rattle.std.proofs.Common.{◌≡◌, ℕ, zero, suc, ◌+◌, ◌*◌, ◌/◌, ◌%◌, ◌^◌, ◌<◌, List, [], ◌∷◌, ◌++◌, length, Some, None, true, false}
+use Rattle.std.proofs.Common.{◌≡◌, ℕ, zero, suc, ◌+◌, ◌*◌, ◌/◌, ◌%◌, ◌<◌, List, [], ◌∷◌, length, Some, None, true, false}
 use Rattle.std.proofs.Common.{◌∙◌, refl, ap, arith}
 use Rattle.std.specs.Prelude.{Bool, Option, unwrap_or, if◌then◌else◌}
 use Rattle.std.specs.Str.{bytes_eq}
 use Rattle.std.proofs.lemmas.List.Elements.{All-cons, All-head, All-nil, All-tail}
 use Rattle.std.proofs.lemmas.Slice.Eq.{bytes_eq-Decides}
-use Rattle.password_hash.specs.Crypt64.{Crypt64, IsCrypt64, bytes_of_number, crypt64_of, decoded, letters_of, number_of}
-use Rattle.password_hash.proofs.AlphabetFacts.{letter_value-letter}
-use Rattle.password_hash.proofs.Crypt64Facts.{AreBytes, number_of-letters_of}
-use Rattle.password_hash.proofs.GroupFacts.{bytes_of-le_number, le_number, length-crypt64_of}
+use Rattle.password_hash.specs.Crypt64.{Crypt64, IsCrypt64, bytes_of_number, crypt64_of, decoded, number_of}
+use Rattle.password_hash.proofs.Crypt64Facts.{AreBytes}
+use Rattle.password_hash.proofs.GroupFacts.{le_number, length-crypt64_of, number_of-crypt64_of}
 
--- the letters of a number, and others after them
-number_of-front : (number above : ℕ) (rest : List ℕ) → number < 64 ^ 4 → number_of rest ≡ Some above
-    → number_of (letters_of 4 number ++ rest) ≡ Some (number + 64 ^ 4 * above)
-unfolding letters_of number_of
-number_of-front number above rest below is =
-    let digit = λ (n : ℕ). letter_value-letter (n % 64) (omega arith) in
-    let whole : number % 64 + 64 * (number / 64 % 64 + 64 * (number / 64 / 64 % 64 + 64 * (number / 64 / 64 / 64 % 64 + 64 * above)))
-    ≡ number + 64 ^ 4 * above = omega arith in
-    rw (digit number, digit (number / 64), digit (number / 64 / 64), digit (number / 64 / 64 / 64), is) (ap Some whole)
-
--- the letters of bytes are those of their number
-number_of-crypt64_of : (bytes : List ℕ) → AreBytes bytes → number_of (crypt64_of bytes) ≡ Some (le_number bytes)
-unfolding crypt64_of number_of
-number_of-crypt64_of [] are = refl
-number_of-crypt64_of (a ∷ []) are =
-    let small : a < 256 = All-head (λ b. b < 256) a [] are in
-    number_of-letters_of 2 a (omega arith) ∙ ap Some (omega arith)
-number_of-crypt64_of (a ∷ b ∷ []) are =
-    let small : a < 256 = All-head (λ x. x < 256) a (b ∷ []) are in
-    let small_b : b < 256 = All-head (λ x. x < 256) b [] (All-tail (λ x. x < 256) a (b ∷ []) are) in
-    number_of-letters_of 3 (a + 256 * b) (omega arith) ∙ ap Some (omega arith)
-number_of-crypt64_of (a ∷ b ∷ c ∷ rest) are =
-    let small : a < 256 = All-head (λ x. x < 256) a (b ∷ c ∷ rest) are in
-    let after = All-tail (λ x. x < 256) a (b ∷ c ∷ rest) are in
-    let small_b : b < 256 = All-head (λ x. x < 256) b (c ∷ rest) after in
-    let last = All-tail (λ x. x < 256) b (c ∷ rest) after in
-    let small_c : c < 256 = All-head (λ x. x < 256) c rest last in
-    number_of-front (a + 256 * b + 65536 * c) (le_number rest) (crypt64_of rest) (omega arith)
-    (number_of-crypt64_of rest (All-tail (λ x. x < 256) c rest last))
-    ∙ ap Some (omega arith)
+-- bytes are those of their number
+bytes_of-le_number : (bytes : List ℕ) → AreBytes bytes → bytes_of_number (length bytes) (le_number bytes) ≡ bytes
+unfolding bytes_of_number
+bytes_of-le_number [] are = refl
+bytes_of-le_number (byte ∷ bytes) are =
+    let small : byte < 256 = All-head (λ b. b < 256) byte bytes are in
+    let low : (byte + 256 * le_number bytes) % 256 ≡ byte = omega arith in
+    let high : (byte + 256 * le_number bytes) / 256 ≡ le_number bytes = omega arith in
+    rw (low, high, bytes_of-le_number bytes (All-tail (λ b. b < 256) byte bytes are)) refl
 
 bytes_of_number-are_bytes : (count number : ℕ) → AreBytes (bytes_of_number count number)
 unfolding bytes_of_number

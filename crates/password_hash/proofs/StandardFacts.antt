@@ -1,22 +1,18 @@
 -- Texts, read and printed by the definitions alone, so that a wrong letter, order or bound in a
 -- definition does not check.
-use Rattle.std.proofs.Common.{◌≡◌, ◌&&◌, ◌||◌, ◌==◌, ◌+◌, ◌-◌, ◌*◌, ◌/◌, ◌%◌, ◌^◌, ◌<◌, ℕ, Bool, not, true, nat_lt}
-use Rattle.std.proofs.Common.{Option, List, [], ◌∷◌, ◌++◌, length, map, take, replicate, codes, None, Some, refl, ap}
-use Rattle.std.proofs.Common.{arith}
+use Rattle.std.proofs.Common.{◌≡◌, ◌+◌, ◌*◌, ◌%◌, ℕ}
+use Rattle.std.proofs.Common.{Option, List, [], ◌∷◌, ◌++◌, map, replicate, codes, None, Some, refl}
 use Rattle.std.specs.Prelude.{All}
 use Rattle.std.specs.Char.{digit_value}
 use Rattle.std.specs.Fmt.{digits}
 use Rattle.std.specs.List.{range_with_len}
-use Rattle.std.proofs.lemmas.Bool.{and_parts, ltb-true}
-use Rattle.std.proofs.lemmas.Bool.Decides.{nat_tests}
 use Rattle.base64.specs.Rfc4648.{encode_symbols}
-use Rattle.password_hash.specs.Crypt64.{letter, letter_value, letters_of, number_of, crypt64_of, Crypt64, IsCrypt64}
+use Rattle.password_hash.specs.Crypt64.{bytes_of_number, crypt64_of, decoded, letter, letter_value, letters_of, number_of}
 use Rattle.password_hash.specs.Decimal.{decimal_below, has_plus_or_leading_zero}
 use Rattle.password_hash.specs.Mcf.{IsMcf, IsMcfText, id_of}
 use Rattle.password_hash.specs.Phc.{hash_text, IsHashText}
 use Rattle.password_hash.specs.declared.phc.hash.PasswordHash.{PasswordHash}
-use Rattle.password_hash.proofs.GroupFacts.{Encodes, no_bytes, refuses}
-use Rattle.password_hash.proofs.TextTests.{all_shown, crypt64_shown, hash_text_shown, has_no_id, is_crypt64}
+use Rattle.password_hash.proofs.TextTests.{all_shown, hash_text_shown, has_no_id}
 use Rattle.password_hash.proofs.TextTests.{is_hash_text, is_mcf_text, mcf_text_shown, no_id_shown}
 
 -- the bytes that hexadecimal digits spell, two for each
@@ -116,44 +112,18 @@ crypt64_letters =
     ∷ (stepped 61, codes "9.HJux7ldvkAMpbc5nS2qg3UZewvIYXL1WOnmT/DVNseELj4zEKWiCByR6oNA4fpv1GFex6hNvz66paYr0")
     ∷ []
 
-pub crypt64_letters_written : All (λ (row : List ℕ × List ℕ). Crypt64 row.0 row.1) crypt64_letters
+pub bytes_encoded : map (λ row. crypt64_of row.0) crypt64_letters ≡ map (λ row. row.1) crypt64_letters
 unfolding crypt64_of letters_of letter
-crypt64_letters_written = all_shown is_crypt64 (λ (row : List ℕ × List ℕ). Crypt64 row.0 row.1) crypt64_shown crypt64_letters refl
+bytes_encoded = refl
 
--- letters that are not an encoding, by the first four of them
+pub letters_decoded : map (λ row. decoded row.1) crypt64_letters ≡ map (λ row. Some row.0) crypt64_letters
+unfolding bytes_of_number crypt64_of decoded letters_of letter letter_value number_of
+letters_decoded = refl
 
-abbrev encodes_none : ℕ → Option ℕ → Bool
-encodes_none len None = true
-encodes_none len (Some number) = (len == 0) || not (number / 2 ^ (8 * len) == 0)
-
-abbrev is_refused : List ℕ → Bool
-is_refused letters = nat_lt 0 (length letters) && encodes_none (length (take 4 letters) - 1) (number_of (take 4 letters))
-
-refused_shown : (letters : List ℕ) → is_refused letters ≡ true → ¬ IsCrypt64 letters
-refused_shown letters refused is =
-    let parts = and_parts (nat_lt 0 (length letters)) (encodes_none (length (take 4 letters) - 1) (number_of (take 4 letters))) refused in
-    let empty = refuses letters (take 4 letters) refl (λ bytes said some. encodes_some bytes said some parts.1) is.0 is.1 in
-    absurd (omega (arith, ltb-true 0 (length letters) parts.0, ap length (no_bytes is.0 letters is.1 empty)))
-  where
-    encodes_some : (bytes : List ℕ) → Encodes (take 4 letters) bytes → 0 < length bytes
-        → encodes_none (length (take 4 letters) - 1) (number_of (take 4 letters)) ≡ true → ⊥
-    encodes_some bytes said some none =
-        let len : length (take 4 letters) - 1 ≡ length bytes = omega (arith, said.count) in
-        let encodes = rw (len, said.number) at none in
-        grind (arith, nat_tests, said.no_more, encodes)
-
-abbrev refused_letters : List (List ℕ)
-refused_letters =
-    -- a letter alone
-    codes "z"
-    -- a bit above the last byte
-    ∷ codes "z2" ∷ codes "zzE"
-    -- padding is not a letter
-    ∷ codes "zz=" ∷ []
-
-pub letters_refused : All (λ letters. ¬ IsCrypt64 letters) refused_letters
-unfolding number_of letter_value
-letters_refused = all_shown is_refused (λ letters. ¬ IsCrypt64 letters) refused_shown refused_letters refl
+-- a letter alone, a bit above the last byte of one and of two, and padding, which is not a letter
+pub other_letters_are_not_decoded : map decoded (codes "z" ∷ codes "z2" ∷ codes "zzE" ∷ codes "zz=" ∷ []) ≡ None ∷ None ∷ None ∷ None ∷ []
+unfolding bytes_of_number crypt64_of decoded letters_of letter letter_value number_of
+other_letters_are_not_decoded = refl
 
 -- MCF texts
 

@@ -6,12 +6,11 @@ use Rattle.std.specs.Cmp.Lexicographic.{pointwise}
 use Rattle.std.specs.List.{list_all}
 use Rattle.std.proofs.lemmas.Bool.{and_parts, false≢true, ltb-true, not-true}
 use Rattle.std.proofs.lemmas.Bool.Decides.{nat_tests}
-use Rattle.std.proofs.lemmas.List.Elements.{All-weaker, All-from_get_or}
+use Rattle.std.proofs.lemmas.List.Elements.{All-weaker}
 use Rattle.std.proofs.lemmas.List.Sums.{AllPass-from_list_all}
 use Rattle.std.proofs.lemmas.List.Kept.{AllPairs-cons}
 use Rattle.std.proofs.lemmas.Slice.Eq.{bytes_eq-Decides, slice_eq-Decides}
 use Rattle.base64.specs.GeneralPurpose.{IsBytes}
-use Rattle.password_hash.specs.Crypt64.{crypt64_of, Crypt64}
 use Rattle.password_hash.specs.Letters.{IsIdentifier, is_identifier_letter, is_value_letter}
 use Rattle.password_hash.specs.Mcf.{IsId, IsMcf, IsMcfText, id_of}
 use Rattle.password_hash.specs.Pairs.{IsPair, ArePairs, pairs_text}
@@ -122,16 +121,6 @@ hash_text_shown (text, hash) h = shown (and_parts (is_printed (text, hash)) (are
       key = if_some_shown (within 10 64) (AreBytesFromTo 10 64) (within_shown 10 64) hash.hash (grind arith);
       key_after_salt = if_some_shown (λ _. is_some hash.salt) (λ _. IsSome hash.salt) (λ _ some. some) hash.hash (grind arith);
     }
-
--- the letters are those of these bytes
-abbrev pub is_crypt64 : List ℕ × List ℕ → Bool
-is_crypt64 (bytes, letters) = pointwise nat_eq letters (crypt64_of bytes) && list_all is_byte bytes
-
-pub crypt64_shown : (row : List ℕ × List ℕ) → is_crypt64 row ≡ true → Crypt64 row.0 row.1
-crypt64_shown (bytes, letters) h = record {
-  are_bytes = All-from_get_or (λ b. b < 256) bytes 0 (λ i inside. bytes_shown bytes (grind arith) i);
-  encoding = (bytes_eq-Decides letters (crypt64_of bytes)).0 (grind arith);
-}
 
 -- the text is that of this id and these fields
 abbrev pub is_mcf_text : List ℕ × (List ℕ × List (List ℕ)) → Bool

@@ -69,8 +69,8 @@ pub record IsPiece (at n all : ℕ) : Type 0 where
   pub inside : at + n ≤ all
   pub ends : at + n < all → n % 3 ≡ 0
 
--- these letters encode these bytes followed by what the rest encodes, and nothing else
+-- these letters begin with the encoding of these bytes, and the rest comes after it
 pub record Begins (letters bytes rest : List ℕ) : Type 0 where
-  pub forth : (more : List ℕ) → Crypt64 more rest → Crypt64 (bytes ++ more) letters
-  pub back : (all : List ℕ) → Crypt64 all letters
-      → (more : List ℕ) × (all ≡ bytes ++ more) × Crypt64 more rest
+  pub are_bytes : All (λ byte. byte < 256) bytes
+  pub whole : letters ≡ crypt64_of bytes ++ rest
+  pub groups : 0 < length rest → length bytes % 3 ≡ 0

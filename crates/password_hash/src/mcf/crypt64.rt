@@ -1,5 +1,6 @@
 //! Crypt Base64: the encoding of bytes in the letters of crypt(5), low bits first.
-ghost use Rattle.std.specs.Prelude.{◌≡◌, ◌↔◌, ℕ, ◌+◌, ◌^◌, ◌<◌, ◌≤◌, List, ◌++◌, length, drop, IsTrue, IsOk, IfOk, OnOk, IfErr, OnErr, IsErrOf, MatchOption, string_bytes};
+ghost use Rattle.std.specs.Prelude.{◌≡◌, ◌↔◌, ℕ, ◌+◌, ◌^◌, ◌<◌, ◌≤◌, List, ◌++◌, length, drop, string_bytes};
+ghost use Rattle.std.specs.Prelude.{IsTrue, IsOk, IfOk, OnOk, IfErr, OnErr, IsErrOf, MatchOption};
 ghost use Rattle.password_hash.specs.Crypt64.{Crypt64, IsCrypt64, crypt64_of, encoded_len};
 
 use super::group::Group;

@@ -1,6 +1,6 @@
 //! Decoding of letters, one group of at most four at a time.
-ghost use Rattle.std.specs.Prelude.{◌≡◌, ℕ, ◌+◌, ◌<◌, ◌≤◌, List, [], length, take, MatchOption, IfSome};
-ghost use Rattle.password_hash.specs.Crypt64.{Crypt64, Begins};
+ghost use Rattle.std.specs.Prelude.{◌≡◌, ◌+◌, ◌<◌, ◌≤◌, [], length, take, MatchOption, IfSome};
+ghost use Rattle.password_hash.specs.Crypt64.{IsCrypt64, Begins};
 
 use super::alphabet::number;
 
@@ -17,7 +17,7 @@ impl Group {
     /// after them. Returns `None` if there are no letters, or if these are not an encoding.
     pub(super) fn split_first(letters: &[u8]) -> Option<(Group, &[u8])>
         ensures split { MatchOption result
-            ((bytes : List ℕ) → Crypt64 bytes letters.now → bytes ≡ [])
+            (IsCrypt64 letters.now → letters.now ≡ [])
             (λ split. Begins letters.now (take split.0.len split.0.bytes) split.1.now) }
         ensures shorter { IfSome result (λ split.
             length (take split.0.len split.0.bytes) + length split.1.now < length letters.now) }

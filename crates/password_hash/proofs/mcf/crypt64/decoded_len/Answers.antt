@@ -1,7 +1,8 @@
 use Rattle.std.proofs.Common.{◌≡◌, sym, ap, arith, [], length, length-append, ◌++◌, take}
 use Rattle.std.proofs.lemmas.Bool.{eqb-true}
+use Rattle.std.proofs.lemmas.Bool.Decides.{nat_tests}
 use Rattle.std.proofs.lemmas.List.{nil_from_length}
-use Rattle.password_hash.proofs.GroupFacts.{begins_more, begins-end}
+use Rattle.password_hash.proofs.GroupFacts.{begins_more, begins-end, begins-stuck}
 use Rattle.password_hash.proofs.mcf.crypt64.decoded_len.Goals as goal
 
 pub loop-group-preserved : goal.loop-group-preserved
@@ -22,3 +23,9 @@ returns-then-is_empty c =
     let before = c.loop-group.invariant.begins in
     let none : c.loop-group.rest.now ≡ [] = nil_from_length _ (eqb-true _ _ (sym c.if-is_empty.ensures)) in
     (before.0, begins-end _ _ _ before.1 none, before.2)
+
+pub returns-else-is_empty : goal.returns-else-is_empty
+returns-else-is_empty c = λ is.
+    let none : c.loop-group.rest.now ≡ [] =
+    begins-stuck _ _ _ c.loop-group.invariant.begins.1 c.in_default.ensures.split is in
+    absurd (grind (arith, nat_tests, c.is_empty.ensures, none))
