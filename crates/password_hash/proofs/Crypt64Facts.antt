@@ -1,14 +1,13 @@
 -- What follows from the definitions of crypt Base64.
 use Rattle.std.proofs.Math.Seq.{drop-length}
 use Rattle.std.proofs.Common.{◌≡◌, ◌≢◌, ◌∙◌, sym, ap, refl, arith, ℕ, zero, suc, ◌+◌, ◌-◌, ◌*◌, ◌/◌, ◌%◌, ◌^◌, ◌<◌, ◌≤◌}
-use Rattle.std.proofs.Common.{Option, Some, None, List, [], ◌∷◌, ◌++◌, length, drop, set, get_or, append_assoc, add-one}
+use Rattle.std.proofs.Common.{Option, Some, None, List, [], ◌∷◌, ◌++◌, length, drop, get_or, append_assoc}
 use Rattle.std.proofs.Common.{length-drop}
 use Rattle.std.proofs.Math.Nat.{pow-suc, pow-le-pow_right}
 use Rattle.std.specs.List.{All}
 use Rattle.std.proofs.lemmas.Nat.{div_below}
-use Rattle.std.proofs.Math.Seq.{drop-append_seam, drop-cons}
-use Rattle.std.proofs.lemmas.List.{set_at}
-use Rattle.std.proofs.lemmas.List.Elements.{All-nil, All-cons, All-head, All-drop, All-append, All-same}
+use Rattle.std.proofs.Math.Seq.{drop-cons}
+use Rattle.std.proofs.lemmas.List.Elements.{All-nil, All-cons, All-head, All-append, All-same}
 use Rattle.password_hash.specs.Crypt64.{letter, letter_value, letters_of, with_digit, number_of, crypt64_of}
 use Rattle.password_hash.proofs.AlphabetFacts.{letter_value-letter, letter-of_value, letter-ascii}
 
@@ -60,15 +59,6 @@ letters_of-number_of (first ∷ letters) number h =
     let fits : high < 64 ^ length letters = rest.1 in
     (rw (remainder, quotient, digit.1, rest.0) refl, rw (pow-suc 64 (length letters)) (omega arith))
 
--- the first letter of a number, and those after it
-pub letters_of-first : (count number : ℕ) (rest : List ℕ) → 0 < count
-    → letters_of count number ++ rest ≡ letter (number % 64) ∷ (letters_of (count - 1) (number / 64) ++ rest)
-unfolding letters_of
-letters_of-first zero number rest some = absurd (omega arith)
-letters_of-first (suc count) number rest some =
-    let less : suc count - 1 ≡ count = omega arith in
-    rw less refl
-
 -- reading letters one by one, from the last to the first
 
 pub number_of-more : (letters : List ℕ) (place value number : ℕ) → 0 < place → place ≤ length letters
@@ -109,9 +99,11 @@ pub next_letter : (pending number pending' number' x : ℕ) (bytes bytes' : List
     → letters_of pending number ++ crypt64_of bytes ≡ letters_of pending' number' ++ crypt64_of bytes'
     → 0 < pending' → x ≡ letter (number' % 64)
     → letters_of pending number ++ crypt64_of bytes ≡ x ∷ (letters_of (pending' - 1) (number' / 64) ++ crypt64_of bytes')
-next_letter pending number pending' number' x bytes bytes' same some is =
-    same ∙ letters_of-first pending' number' (crypt64_of bytes') some
-    ∙ ap (λ first. first ∷ (letters_of (pending' - 1) (number' / 64) ++ crypt64_of bytes')) (sym is)
+unfolding letters_of
+next_letter pending number zero number' x bytes bytes' same some is = absurd (omega arith)
+next_letter pending number (suc count) number' x bytes bytes' same some is =
+    let less : suc count - 1 ≡ count = omega arith in
+    rw (less, is) same
 
 -- every letter is an ASCII byte and no dollar
 
@@ -139,18 +131,10 @@ crypt64_of-plain (a ∷ b ∷ c ∷ rest) =
 pub letter_done : (done left left' all : List ℕ) (x : ℕ) → done ++ left ≡ all → left ≡ x ∷ left' → (done ++ (x ∷ [])) ++ left' ≡ all
 letter_done done left left' all x same next = append_assoc done (x ∷ []) left' ∙ ap (λ more. done ++ more) (sym next) ∙ same
 
-pub letter-is_plain : (done left left' bytes : List ℕ) (x : ℕ) → done ++ left ≡ crypt64_of bytes → left ≡ x ∷ left' → IsPlain x
-letter-is_plain done left left' bytes x same next =
-    let each = All-drop IsPlain (length done) (crypt64_of bytes) (crypt64_of-plain bytes) in
-    All-head IsPlain x left' (All-same IsPlain (x ∷ left') _ (sym next ∙ sym (drop-append_seam done left)
-    ∙ ap (drop (length done)) same) each)
-
--- a write after what is done
-pub set-after : (done old : List ℕ) (len x : ℕ) → length done ≡ len → len < length old
-    → set (done ++ drop len old) len x ≡ (done ++ (x ∷ [])) ++ drop (len + 1) old
-set-after done old len x count inside =
-    rw (add-one, drop-cons old len 0) (set_at done (get_or old len 0) (drop (suc len) old) x len count
-    ∙ sym (append_assoc done (x ∷ []) (drop (suc len) old)))
+pub letter-is_plain : (pending number x : ℕ) (bytes left' : List ℕ) → letters_of pending number ++ crypt64_of bytes ≡ x ∷ left' → IsPlain x
+letter-is_plain pending number x bytes left' next =
+    All-head IsPlain x left' (All-same IsPlain (x ∷ left') _ (sym next) (All-append IsPlain (letters_of pending number)
+    (crypt64_of bytes) (letters_of-plain pending number) (crypt64_of-plain bytes)))
 
 -- reading letters, the last one first
 pub ruleset numbers = (number_of-more, number_of-None, number_of-last, letter-of_value, drop-length)

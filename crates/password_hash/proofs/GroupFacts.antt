@@ -220,12 +220,3 @@ begins-stuck letters bytes rest begins stuck is = stuck (begins-rest letters byt
 
 -- letters, group by group
 pub ruleset groups = (begins_none, begins_more, begins-end, begins-stuck)
-
--- what is done is fewer letters than there are
-pub letters-inside : (done left bytes : List ℕ) (x : ℕ) → (done ++ (x ∷ [])) ++ left ≡ crypt64_of bytes
-    → length done < encoded_len (length bytes)
-letters-inside done left bytes x same =
-    let counts : length done + 1 + length left ≡ encoded_len (length bytes) =
-    sym (length-append (done ++ (x ∷ [])) left ∙ ap (λ n. n + length left) (length-append done (x ∷ [])))
-    ∙ ap length same ∙ length-crypt64_of bytes in
-    omega arith

@@ -68,6 +68,7 @@ impl Base64 {
     /// are. The bytes of `out` after them are unchanged.
     ///
     /// Returns `EncodingInvalid` exactly if `out` is too short, and leaves it unchanged.
+    #[tactic(auto, using(crate::proofs::GroupFacts::lengths))]
     pub fn encode_slice(self, bytes: &[u8], out: &mut [u8]) -> Result<usize>
         ensures exact { IsOk result ↔ (length (crypt64_of bytes.now) ≤ length out.old) }
         ensures ok { IfOk result (λ len. len ≡ length (crypt64_of bytes.now)) }
