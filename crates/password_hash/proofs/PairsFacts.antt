@@ -94,7 +94,7 @@ pub pieces_of_pairs : (pair : List ℕ × List ℕ) (pairs : List (List ℕ × L
 pieces_of_pairs pair pairs h =
     slice_split-join 44 (pair_text pair) (map pair_text pairs) (texts_lack 44 refl refl refl (pair ∷ pairs) h)
 
-pairs_of_some : (text : List ℕ) → 0 < length text → pairs_of text ≡ map pair_of (slice_split (λ b. b == 44) text)
+pub pairs_of_some : (text : List ℕ) → 0 < length text → pairs_of text ≡ map pair_of (slice_split (λ b. b == 44) text)
 pairs_of_some [] some = absurd (omega arith)
 pairs_of_some (byte ∷ text) some = refl
 

@@ -2,13 +2,13 @@
 use Rattle.std.proofs.Common.{◌≡◌, ◌≢◌, ℕ, ◌+◌, ◌<◌, ◌≤◌, ◌==◌, Bool, List, [], ◌∷◌, ◌++◌, min, length, take, drop, map}
 use Rattle.std.proofs.Common.{get_or, refl, sym, ap, subst, ◌∙◌, arith}
 use Rattle.std.specs.Prelude.{◌↔◌, All, Result, Ok, Err, IsOk, OnOk, OnErr}
-use Rattle.std.specs.List.{join_with_byte, slice_split, before_first, after_first, position_or_len}
+use Rattle.std.specs.List.{join_with_byte, slice_split, after_first, position_or_len}
 use Rattle.std.proofs.lemmas.Bool.{eqb-true, false≢true}
-use Rattle.std.proofs.lemmas.List.{append_assoc, length-append, length-map, get_or_append_left, get_or_push}
+use Rattle.std.proofs.lemmas.List.{append_assoc, length-append, get_or_append_left, get_or_push}
 use Rattle.std.proofs.lemmas.List.{length_push, take-append-drop, length-take, get_or-take, take_more, take-map}
-use Rattle.std.proofs.lemmas.List.{get_or-map, map-append, map_push, length-drop}
+use Rattle.std.proofs.lemmas.List.{map-append, map_push, length-drop}
 use Rattle.std.proofs.lemmas.List.Sums.{split_at_first, passes_at_first}
-use Rattle.std.proofs.lemmas.List.Elements.{All-head, All-push, All-take}
+use Rattle.std.proofs.lemmas.List.Elements.{All-head, All-push, All-tail, All-take}
 use Rattle.std.proofs.lemmas.List.Quantifiers.{all_pairs_push}
 use Rattle.std.specs.Bool.{Decides}
 use Rattle.std.specs.Prelude.{nat_eq}
@@ -16,8 +16,8 @@ use Rattle.std.specs.Cmp.Lexicographic.{pointwise}
 use Rattle.std.proofs.lemmas.Bool.Decides.{same_from_decides}
 use Rattle.std.proofs.lemmas.Slice.Eq.{bytes_eq-Decides}
 use Rattle.password_hash.specs.Pairs.{IsPair, pair_text, pairs_text, ArePairs, pair_of, pairs_of, pair_eq, with_pair, IsPairsText}
-use Rattle.password_hash.proofs.PairsFacts.{pair_of-pair_text, length_pairs_text, map-pair_of, pieces_of_pairs}
-use Rattle.password_hash.proofs.PairsFacts.{pairs_of-pairs_text, kept_as_text, pairs_eq-Decides}
+use Rattle.password_hash.proofs.PairsFacts.{length_pairs_text}
+use Rattle.password_hash.proofs.PairsFacts.{pairs_of-pairs_text, pairs_of_some, kept_as_text, pairs_eq-Decides}
 
 -- a row with one more piece
 join_push : (c : ℕ) (first : List ℕ) (pieces : List (List ℕ)) (last : List ℕ)
@@ -58,10 +58,10 @@ pub last_pair : (pairs : List (List ℕ × List ℕ)) (pair : List ℕ × List �
 last_pair pairs pair h =
     let more = length_push pairs pair in
     record {
-      is_pair = subst IsPair (get_or_push pairs pair pair (length pairs) refl) (h.each (length pairs) pair (omega arith));
-      others = λ k d below. subst (λ (p : List ℕ × List ℕ). (get_or pairs k d).0 ≢ p.0) (get_or_push pairs pair d (length pairs) refl)
-          (subst (λ (p : List ℕ × List ℕ). p.0 ≢ (get_or (pairs ++ pair ∷ []) (length pairs) d).0)
-          (get_or_append_left pairs (pair ∷ []) d k below) (h.once k (length pairs) d below (omega arith)));
+      is_pair = rw (get_or_push pairs pair pair (length pairs) refl) at (h.each (length pairs) pair (omega arith));
+      others = λ k d below.
+          let differ = h.once k (length pairs) d below (omega arith) in
+          rw (get_or_append_left pairs (pair ∷ []) d k below, get_or_push pairs pair d (length pairs) refl) at differ;
     }
 
 length_front : (c : ℕ) (xs ys : List (List ℕ)) → length (join_with_byte c xs) ≤ length (join_with_byte c (xs ++ ys))
@@ -131,25 +131,25 @@ pair_text-pair_of piece some =
     let split = split_at_first (λ b. b == 61) piece 0 within in
     sym (rw equals at split)
 
-pair_again : (pairs : List (List ℕ × List ℕ)) (k : ℕ) (d : List ℕ × List ℕ) → ArePairs pairs → k < length pairs
-    → pair_of (pair_text (get_or pairs k d)) ≡ get_or pairs k d
-pair_again pairs k d h within = pair_of-pair_text (get_or pairs k d) (h.each k d within)
+-- pieces whose pairs are allowed are the texts of these
+pub texts_of_pairs : (pieces : List (List ℕ)) → All IsPair (map pair_of pieces) → map pair_text (map pair_of pieces) ≡ pieces
+texts_of_pairs [] each = refl
+texts_of_pairs (piece ∷ pieces) each =
+    rw (
+      pair_text-pair_of piece (All-head IsPair (pair_of piece) (map pair_of pieces) each).value.some,
+      texts_of_pairs pieces (All-tail IsPair (pair_of piece) (map pair_of pieces) each),
+    ) refl
 
--- the pairs before place k, and the piece at it, of the text of parameters
-pub next_of_pairs : (pairs params : List (List ℕ × List ℕ)) (piece : List ℕ) (k : ℕ) → ArePairs pairs
-    → All IsPair params → map pair_text params ≡ take k (map pair_text pairs) → k < length (map pair_text pairs)
-    → piece ≡ get_or (map pair_text pairs) k piece → ArePairs (params ++ pair_of piece ∷ [])
-next_of_pairs pairs params piece k h each read below at =
-    let within : k < length pairs = omega (arith, length-map pairs pair_text) in
-    let front : params ≡ take k pairs =
-    sym (map-pair_of params each) ∙ ap (map pair_of) (read ∙ take-map pair_text k pairs)
-    ∙ map-pair_of (take k pairs) (All-take IsPair k pairs h.each) in
-    let d : List ℕ × List ℕ = pair_of piece in
-    let pair : pair_of piece ≡ get_or pairs k d =
-    ap pair_of (at ∙ get_or-map pair_text pairs k d piece within) ∙ pair_again pairs k d h within in
-    let more : take (k + 1) pairs ≡ take k pairs ++ get_or pairs k d ∷ [] = take_more pairs k d within in
-    subst ArePairs (more ∙ ap (λ (front : List (List ℕ × List ℕ)). front ++ get_or pairs k d ∷ []) (sym front)
-    ∙ ap (λ last. params ++ last ∷ []) (sym pair)) (ArePairs-take (k + 1) pairs h)
+-- the parameters up to place k, and that of the piece at it
+pub next_of_pairs : (pairs params : List (List ℕ × List ℕ)) (pieces : List (List ℕ)) (piece : List ℕ) (k : ℕ) → ArePairs pairs
+    → pairs ≡ map pair_of pieces → params ≡ map pair_of (take k pieces) → k < length pieces → piece ≡ get_or pieces k piece
+    → ArePairs (params ++ pair_of piece ∷ [])
+next_of_pairs pairs params pieces piece k h all read below at =
+    let more = ap (map pair_of) (take_more pieces k piece below) ∙ map_push pair_of (take k pieces) (get_or pieces k piece) in
+    let front : take (k + 1) pairs ≡ params ++ pair_of piece ∷ [] =
+    ap (take (k + 1)) all ∙ take-map pair_of (k + 1) pieces ∙ more
+    ∙ (λ i. sym read i ++ pair_of (sym at i) ∷ []) in
+    subst ArePairs front (ArePairs-take (k + 1) pairs h)
 
 -- no parameters have an empty text
 pub no_pairs : (text : List ℕ) (pairs : List (List ℕ × List ℕ)) → length text ≡ 0 → ArePairs pairs → text ≡ pairs_text pairs → pairs ≡ []
@@ -157,25 +157,17 @@ no_pairs text [] empty h e = refl
 no_pairs text (pair ∷ pairs) empty h e =
     absurd (omega (arith, ap length e, length_pairs_text pair pairs (All-head IsPair pair pairs h.each)))
 
--- the pieces of a text of parameters
-pub pieces_of_text : (text : List ℕ) (pairs : List (List ℕ × List ℕ)) → 0 < length text → ArePairs pairs
-    → text ≡ pairs_text pairs → slice_split (λ b. b == 44) text ≡ map pair_text pairs
-pieces_of_text text [] some h e = absurd (omega (arith, ap length e))
-pieces_of_text text (pair ∷ pairs) some h e = ap (slice_split (λ b. b == 44)) e ∙ pieces_of_pairs pair pairs h.each
+-- others are the pairs of the pieces of their text
+pub pairs_of_pieces : (text : List ℕ) (pairs : List (List ℕ × List ℕ)) → 0 < length text → ArePairs pairs
+    → text ≡ pairs_text pairs → pairs ≡ map pair_of (slice_split (λ b. b == 44) text)
+pairs_of_pieces text pairs some h e =
+    sym (pairs_of-pairs_text pairs h.each) ∙ ap pairs_of (sym e) ∙ pairs_of_some text some
 
 -- parameters are told by their text
 pub same_pairs : (text : List ℕ) (xs ys : List (List ℕ × List ℕ)) → ArePairs xs → ArePairs ys → text ≡ pairs_text xs
     → text ≡ pairs_text ys → xs ≡ ys
 same_pairs text xs ys hx hy ex ey =
     sym (pairs_of-pairs_text xs hx.each) ∙ ap pairs_of (sym ex ∙ ey) ∙ pairs_of-pairs_text ys hy.each
-
--- the last of some parameters has the text that it was read from
-pub last_read : (params : List (List ℕ × List ℕ)) (name value piece : List ℕ) → name ≡ before_first (λ b. b == 61) piece
-    → value ≡ after_first (λ b. b == 61) piece → ArePairs (params ++ (name, value) ∷ []) → pair_text (name, value) ≡ piece
-last_read params name value piece before after h =
-    let some = (last_pair params (name, value) h).is_pair.value.some in
-    let joined = pair_text-pair_of piece (rw after at some) in
-    rw (before, after) joined
 
 -- a test of two texts of parameters tests the parameters
 pub tested : (xs ys : List (List ℕ × List ℕ)) (r : Bool) → ArePairs xs → ArePairs ys
