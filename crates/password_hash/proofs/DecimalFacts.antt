@@ -1,20 +1,19 @@
 -- Decimal digits.
-use Rattle.std.proofs.Common.{◌≡◌, ◌≢◌, ◌&&◌, ℕ, ◌^◌, ◌<◌, ◌≤◌, Bool, true, false, nat_lt, IsTrue, List, [], ◌∷◌}
-use Rattle.std.proofs.Common.{length, get_or, slice_index, Option, None, Some, Result, Ok, Err, MatchBool, refl, sym}
+use Rattle.std.proofs.Common.{◌≡◌, ◌≢◌, ◌&&◌, ℕ, ◌^◌, ◌<◌, ◌≤◌, true, false, nat_lt, IsTrue, List, [], ◌∷◌}
+use Rattle.std.proofs.Common.{length, get_or, slice_index, Option, None, Some, Result, Ok, Err, refl, sym}
 use Rattle.std.proofs.Common.{ap, ◌∙◌, arith, inl, inr}
 use Rattle.std.specs.Prelude.{decimal, IfSome}
 use Rattle.std.specs.List.{list_all}
 use Rattle.std.specs.Result.{OkIff, result_ok}
 use Rattle.std.specs.Str.{all_ascii_digits}
-use Rattle.std.specs.Str.Parse.{AllDigits, digits_value, ParsesUnsigned}
+use Rattle.std.specs.Str.Parse.{AllDigits, digits_value}
 use Rattle.std.proofs.lemmas.Bool.{cases_lt, cases_Bool}
 use Rattle.std.proofs.lemmas.Fmt.{decimal_digit, decimal_is_IsNumeral, first_decimal, decimal-digits_value}
 use Rattle.std.proofs.lemmas.Str.Parse.{IsNumeralModel, numerals_by_value, parse_plain, tells_digits}
 use Rattle.std.proofs.lemmas.Str.Parse.{tells_all_ascii_digits, digit_from_value}
 use Rattle.std.proofs.lemmas.Bool.Decides.{nat_tests}
-use Rattle.password_hash.specs.Letters.{is_digit, is_value_letter, IsValue}
+use Rattle.password_hash.specs.Letters.{is_value_letter, IsValue}
 use Rattle.password_hash.specs.Decimal.{DecimalGives, IsDecimal, UnsignedGives, decimal_below, has_plus_or_leading_zero, is_decimal}
-use Rattle.password_hash.proofs.PairsFacts.{Lacks, letters_lack}
 
 digits : IsNumeralModel (AllDigits 10) (digits_value 10)
 digits = numerals_by_value (AllDigits 10) tells_digits
@@ -42,35 +41,23 @@ IsDecimal-decimal n small =
     let both = decimal_is_IsNumeral n (omega arith) in
     record { some = both.0.0; digits = both.0.1; no_leading_zero = leads n small; value = both.1; small = small }
 
--- digits as letters
-digits_are_letters : (p : ℕ → Bool) → ((digit : ℕ) → 48 ≤ digit → digit ≤ 57 → IsTrue (p digit)) → (text : List ℕ)
-    → AllDigits 10 text → IsTrue (list_all p text)
-digits_are_letters p each [] h = refl
-digits_are_letters p each (digit ∷ text) h =
-    let range = digit_from_value digit h.0 in
-    let head : IsTrue (p digit) = each digit (omega (arith, range)) (omega (arith, range)) in
-    let tail = digits_are_letters p each text h.1 in
-    grind arith
-
-is_digit_digit : (digit : ℕ) → 48 ≤ digit → digit ≤ 57 → IsTrue (is_digit digit)
-is_digit_digit digit low high = grind (arith, nat_tests)
-
 is_value_letter_digit : (digit : ℕ) → 48 ≤ digit → digit ≤ 57 → IsTrue (is_value_letter digit)
 is_value_letter_digit digit low high = grind (arith, nat_tests)
 
--- a number in decimal digits lacks a byte other than a digit
-pub decimal_lacks : (c : ℕ) → is_digit c ≡ false → (n : ℕ) → n < 2 ^ 32 → Lacks c (decimal n)
-decimal_lacks c other n small =
-    letters_lack is_digit c other (decimal n) (digits_are_letters is_digit is_digit_digit (decimal n) (IsDecimal-decimal n small).digits)
+-- digits are letters of values
+digits_are_letters : (text : List ℕ) → AllDigits 10 text → IsTrue (list_all is_value_letter text)
+digits_are_letters [] h = refl
+digits_are_letters (digit ∷ text) h =
+    let range = digit_from_value digit h.0 in
+    let head : IsTrue (is_value_letter digit) = is_value_letter_digit digit (omega (arith, range)) (omega (arith, range)) in
+    let tail = digits_are_letters text h.1 in
+    grind arith
 
 -- a number in decimal digits is a value
 pub IsValue-decimal : (n : ℕ) → n < 2 ^ 32 → IsValue (decimal n)
 IsValue-decimal n small =
     let written = IsDecimal-decimal n small in
-    record {
-      some = written.some;
-      letters = digits_are_letters is_value_letter is_value_letter_digit (decimal n) written.digits;
-    }
+    record { some = written.some; letters = digits_are_letters (decimal n) written.digits }
 
 -- a text that begins with a plus or a leading zero is not a decimal
 none_after_plus_or_zero : (limit : ℕ) (text : List ℕ) → has_plus_or_leading_zero text ≡ true → decimal_below limit text ≡ None
@@ -90,22 +77,18 @@ unfolding decimal_below
 plain_gives limit text (Ok x) h g = grind (arith, nat_tests)
 plain_gives limit text (Err e) h g = grind (arith, nat_tests)
 
--- the answer by whether a plus or a leading zero comes first
-answer_gives : {E : Type 0} → (k : ℕ) (parse_gives : List ℕ → Result ℕ E → Type 0)
-    → ((bs : List ℕ) (r : Result ℕ E) → parse_gives bs r → ParsesUnsigned k 10 bs r)
-    → (text : List ℕ) (answer : Option ℕ) (b : Bool) → has_plus_or_leading_zero text ≡ b
-    → MatchBool b (answer ≡ None) ((parsed : Result ℕ E) × parse_gives text parsed × (answer ≡ result_ok parsed))
-    → answer ≡ decimal_below (2 ^ k) text
-answer_gives k parse_gives only text answer true h g = g ∙ sym (none_after_plus_or_zero (2 ^ k) text h)
-answer_gives k parse_gives only text answer false h (parsed, given, is) =
-    is ∙ plain_gives (2 ^ k) text parsed h
-    (parse_plain (numerals_by_value _ tells_all_ascii_digits) k text parsed (only text parsed given) (no_plus text h))
-
--- so a decimal of such a type is a decimal below 2 ^ k
+-- so a decimal of an unsigned type of k bits is a decimal below 2 ^ k
 pub decimal_gives : (k : ℕ) (text : List ℕ) (answer : Option ℕ)
     → DecimalGives (UnsignedGives k) text answer → answer ≡ decimal_below (2 ^ k) text
-decimal_gives k text answer given =
-    answer_gives k (UnsignedGives k) (λ bs r h. h.0) text answer (has_plus_or_leading_zero text) refl given
+decimal_gives k text answer given = elim (cases_Bool (has_plus_or_leading_zero text)) [
+  | inl begins ↦
+      let none = rw begins at given in
+      none ∙ sym (none_after_plus_or_zero (2 ^ k) text begins)
+  | inr plain ↦
+      let read = rw plain at given in
+      read.2 ∙ plain_gives (2 ^ k) text read.0 plain
+      (parse_plain (numerals_by_value _ tells_all_ascii_digits) k text read.0 read.1.0 (no_plus text plain))
+]
 
 -- what a decimal text of a 32-bit number gives, and what gives one
 pub record ReadsDecimal (text : List ℕ) (answer : Option ℕ) : Type 0 where

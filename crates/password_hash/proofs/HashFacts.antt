@@ -3,17 +3,16 @@ use Rattle.std.proofs.Common.{◌≡◌, ℕ, ◌==◌, false, List, [], ◌∷�
 use Rattle.std.specs.Prelude.{All, Option, None, Some, IfSome, decimal}
 use Rattle.std.specs.List.{slice_split, join_with_byte, before_first}
 use Rattle.std.proofs.lemmas.Bool.{false≢true}
-use Rattle.std.proofs.lemmas.List.Elements.{All-nil, All-cons, All-head, All-tail, All-append, All-get_or}
-use Rattle.password_hash.specs.Letters.{is_identifier_letter, IsIdentifier}
+use Rattle.std.proofs.lemmas.List.Elements.{All-nil, All-cons, All-head, All-tail, All-append, All-from_recursion, All-get_or}
+use Rattle.password_hash.specs.Letters.{is_identifier_letter, is_value_letter}
 use Rattle.password_hash.specs.Pairs.{IsPair, pair_text, pairs_text, ArePairs}
-use Rattle.password_hash.specs.Parts.{parts_text}
 use Rattle.password_hash.specs.PhcParts.{IsVersion, LackVersion, LackEquals}
-use Rattle.password_hash.specs.Phc.{base64, version_part, params_part, key_part, salt_and_key_parts, hash_parts, IsSalt}
+use Rattle.password_hash.specs.Phc.{base64, version_part, params_part, salt_and_key_parts, hash_parts, IsSalt}
 use Rattle.password_hash.specs.Phc.{IsKey, IsSaltAndKey, IsHashText}
 use Rattle.password_hash.specs.declared.phc.hash.PasswordHash.{PasswordHash}
 use Rattle.password_hash.proofs.PairsFacts.{Lacks, letters_lack, texts_lack, before_first_at}
-use Rattle.password_hash.proofs.DecimalFacts.{decimal_lacks}
-use Rattle.password_hash.proofs.PartsFacts.{parts_of-parts_text, parts_text-parts_of}
+use Rattle.password_hash.proofs.DecimalFacts.{IsValue-decimal}
+use Rattle.password_hash.proofs.PartsFacts.{parts_of-parts_text}
 use Rattle.password_hash.proofs.PhcPartsFacts.{LacksVersion, base64_lacks, equals_of_pairs}
 
 -- a row of pieces that lack a byte lacks it, unless it separates them
@@ -27,40 +26,31 @@ join_lacks c separator other (piece ∷ next ∷ pieces) h =
     (All-cons (λ b. (b == c) ≡ false) separator (join_with_byte separator (next ∷ pieces)) other
     (join_lacks c separator other (next ∷ pieces) (All-tail (Lacks c) piece (next ∷ pieces) h)))
 
-one : (P : List ℕ → Type 0) (part : List ℕ) → P part → All P (part ∷ [])
-one P part h = All-cons P part [] h (All-nil P)
-
 version_lacks : (version : Option ℕ) → IsVersion version → All (Lacks 36) (version_part version)
 version_lacks None h = All-nil (Lacks 36)
 version_lacks (Some number) h =
-    one (Lacks 36) (codes "v=" ++ decimal number)
-    (All-cons (λ b. (b == 36) ≡ false) 118 (61 ∷ decimal number) refl
-    (All-cons (λ b. (b == 36) ≡ false) 61 (decimal number) refl (decimal_lacks 36 refl number h)))
+    All-from_recursion (Lacks 36) ((codes "v=" ++ decimal number) ∷ []) (
+      All-append (λ b. (b == 36) ≡ false) (codes "v=") (decimal number)
+          (All-from_recursion (λ b. (b == 36) ≡ false) (codes "v=") (refl, (refl, tt)))
+          (letters_lack is_value_letter 36 refl (decimal number) (IsValue-decimal number h).letters),
+      tt,
+    )
 
 params_lack : (params : List (List ℕ × List ℕ)) → ArePairs params → All (Lacks 36) (params_part params)
 params_lack [] h = All-nil (Lacks 36)
 params_lack (pair ∷ params) h =
-    one (Lacks 36) (pairs_text (pair ∷ params)) (join_lacks 36 44 refl (map pair_text (pair ∷ params))
-    (texts_lack 36 refl refl refl (pair ∷ params) h.each))
+    let texts = join_lacks 36 44 refl (map pair_text (pair ∷ params)) (texts_lack 36 refl refl refl (pair ∷ params) h.each) in
+    All-from_recursion (Lacks 36) (pairs_text (pair ∷ params) ∷ []) (texts, tt)
 
-key_lacks : (c : ℕ) → ((bytes : List ℕ) → IsKey bytes → Lacks c (base64 bytes)) → (key : Option (List ℕ))
-    → IfSome key IsKey → All (Lacks c) (key_part key)
-key_lacks c each None h = All-nil (Lacks c)
-key_lacks c each (Some key) h = one (Lacks c) (base64 key) (each key h)
-
-salt_and_key_lack : (c : ℕ) → ((bytes : List ℕ) → IsSalt bytes → Lacks c (base64 bytes))
-    → ((bytes : List ℕ) → IsKey bytes → Lacks c (base64 bytes)) → (salt key : Option (List ℕ)) → IfSome salt IsSalt
-    → IfSome key IsKey → All (Lacks c) (salt_and_key_parts salt key)
-salt_and_key_lack c salts keys None key hs hk = All-nil (Lacks c)
-salt_and_key_lack c salts keys (Some salt) key hs hk =
-    All-cons (Lacks c) (base64 salt) (key_part key) (salts salt hs) (key_lacks c keys key hk)
-
-dollar_lacks : (salt key : Option (List ℕ)) → IfSome salt IsSalt → IfSome key IsKey → All (Lacks 36) (salt_and_key_parts salt key)
-dollar_lacks = salt_and_key_lack 36 (λ bytes h. base64_lacks 36 refl bytes h.are_bytes) (λ bytes h. base64_lacks 36 refl bytes h.are_bytes)
-
--- neither a salt nor a key has a `=`
-equals_lack : (salt key : Option (List ℕ)) → IfSome salt IsSalt → IfSome key IsKey → LackEquals (salt_and_key_parts salt key)
-equals_lack = salt_and_key_lack 61 (λ bytes h. base64_lacks 61 refl bytes h.are_bytes) (λ bytes h. base64_lacks 61 refl bytes h.are_bytes)
+-- neither a salt nor a key has a byte that is no letter of values
+salt_and_key_lack : (c : ℕ) → is_value_letter c ≡ false → (salt key : Option (List ℕ)) → IfSome salt IsSalt → IfSome key IsKey
+    → All (Lacks c) (salt_and_key_parts salt key)
+salt_and_key_lack c other None key hs hk = All-nil (Lacks c)
+salt_and_key_lack c other (Some salt) None hs hk =
+    All-from_recursion (Lacks c) (base64 salt ∷ []) (base64_lacks c other salt hs.are_bytes, tt)
+salt_and_key_lack c other (Some salt) (Some key) hs hk =
+    All-from_recursion (Lacks c) (base64 salt ∷ base64 key ∷ [])
+    (base64_lacks c other salt hs.are_bytes, (base64_lacks c other key hk.are_bytes, tt))
 
 -- no part of a hash has a `$`
 pub parts_lack : (text : List ℕ) (hash : PasswordHash) → IsHashText text hash → All (Lacks 36) (hash_parts hash)
@@ -70,7 +60,7 @@ parts_lack text hash h =
     (All-append (Lacks 36) (version_part hash.version) (params_part hash.params ++ salt_and_key_parts hash.salt
     hash.hash) (version_lacks hash.version h.version)
     (All-append (Lacks 36) (params_part hash.params) (salt_and_key_parts hash.salt hash.hash)
-    (params_lack hash.params h.params) (dollar_lacks hash.salt hash.hash h.salt h.key)))
+    (params_lack hash.params h.params) (salt_and_key_lack 36 refl hash.salt hash.hash h.salt h.key)))
 
 -- the text of parameters does not begin with `v=`, since no name is `v`
 pairs_no_version : (pair : List ℕ × List ℕ) (params : List (List ℕ × List ℕ)) → IsPair pair → LacksVersion (pairs_text (pair ∷ params))
@@ -85,7 +75,8 @@ pairs_no_version pair params h rest e =
 params_no_version : (params : List (List ℕ × List ℕ)) → ArePairs params → LackVersion (params_part params)
 params_no_version [] h = All-nil LacksVersion
 params_no_version (pair ∷ params) h =
-    one LacksVersion (pairs_text (pair ∷ params)) (pairs_no_version pair params (All-head IsPair pair params h.each))
+    All-from_recursion LacksVersion (pairs_text (pair ∷ params) ∷ [])
+    (pairs_no_version pair params (All-head IsPair pair params h.each), tt)
 
 -- nor does what has no `=`
 lacking_no_version : (parts : List (List ℕ)) → LackEquals parts → LackVersion parts
@@ -110,7 +101,7 @@ parts_of_hash text rest part after hash h begins split =
     let both = sym split ∙ parts in
     let first : part ≡ hash.algorithm = cc in
     let left : after ≡ version_part hash.version ++ (params_part hash.params ++ salt_and_key_parts hash.salt hash.hash) = cc in
-    let no_equals = equals_lack hash.salt hash.hash h.salt h.key in
+    let no_equals = salt_and_key_lack 61 refl hash.salt hash.hash h.salt h.key in
     record {
       algorithm = first;
       version_first = left;
@@ -118,24 +109,4 @@ parts_of_hash text rest part after hash h begins split =
           (params_no_version hash.params h.params) (lacking_no_version (salt_and_key_parts hash.salt hash.hash) no_equals);
       lack_equals = no_equals;
       salt_and_key = record { whole = refl; salt_bytes = h.salt; key_bytes = h.key; key_after_salt = h.key_after_salt };
-    }
-
--- a text that has the parts of a hash is read as it
-pub hash_of_parts : (text rest : List ℕ) (hash : PasswordHash) (after from_params from_salt : List (List ℕ))
-    → text ≡ 36 ∷ rest → slice_split (λ b. b == 36) rest ≡ hash.algorithm ∷ after → IsIdentifier hash.algorithm
-    → after ≡ version_part hash.version ++ from_params → IsVersion hash.version
-    → from_params ≡ params_part hash.params ++ from_salt → ArePairs hash.params
-    → IsSaltAndKey from_salt hash.salt hash.hash → IsHashText text hash
-hash_of_parts text rest hash after from_params from_salt begins split algorithm version_first version params_next params salt_and_key =
-    let parts : after ≡ version_part hash.version ++ (params_part hash.params ++ salt_and_key_parts hash.salt hash.hash) =
-    version_first ∙ ap (λ left. version_part hash.version ++ left) (params_next
-    ∙ ap (λ left. params_part hash.params ++ left) salt_and_key.whole) in
-    record {
-      whole = begins ∙ parts_text-parts_of rest hash.algorithm after split ∙ ap (λ left. parts_text (hash.algorithm ∷ left)) parts;
-      algorithm = algorithm;
-      version = version;
-      params = params;
-      salt = salt_and_key.salt_bytes;
-      key = salt_and_key.key_bytes;
-      key_after_salt = salt_and_key.key_after_salt;
     }

@@ -1,8 +1,8 @@
 -- The parts of a PHC text.
 use Rattle.std.proofs.lemmas.Str.Pattern.{contains_char}
-use Rattle.std.proofs.Common.{◌≡◌, ◌≢◌, ℕ, suc, ◌+◌, ◌*◌, ◌/◌, ◌%◌, ◌^◌, ◌<◌, ◌==◌, ◌||◌, Bool, false, List, [], ◌∷◌}
+use Rattle.std.proofs.Common.{◌≡◌, ◌≢◌, ℕ, suc, ◌+◌, ◌*◌, ◌/◌, ◌%◌, ◌^◌, ◌<◌, ◌==◌, false, List, [], ◌∷◌}
 use Rattle.std.proofs.Common.{◌++◌, length, get_or, codes, slice_index, refl, sym, ap, subst, ◌∙◌, arith}
-use Rattle.std.specs.Prelude.{All, Option, None, Some, decimal}
+use Rattle.std.specs.Prelude.{All, IfSome, Option, None, Some, decimal}
 use Rattle.std.specs.List.{AllByRecursion as ByRecursion}
 use Rattle.std.specs.List.{slice_split, join_with_byte}
 use Rattle.std.proofs.lemmas.List.{append_assoc, append-nil, length-append, get_or_at}
@@ -12,11 +12,12 @@ use Rattle.std.proofs.lemmas.List.Elements.{All-head, All-get_or, All-from_recur
 use Rattle.base64.specs.Rfc4648.{encode_symbols}
 use Rattle.base64.specs.GeneralPurpose.{IsBytes}
 use Rattle.base64.specs.Engines.{standard_no_pad}
-use Rattle.password_hash.specs.Letters.{is_lowercase, is_uppercase, is_digit}
+use Rattle.password_hash.specs.Letters.{is_value_letter}
 use Rattle.password_hash.specs.Pairs.{pairs_text}
-use Rattle.password_hash.specs.Phc.{base64, version_part, params_part, IsSalt, IsKey, IsSaltAndKey}
+use Rattle.password_hash.specs.Phc.{base64, version_part, params_part, key_part, IsSalt, IsKey, IsSaltAndKey}
 use Rattle.password_hash.specs.Decimal.{IsDecimal}
 use Rattle.password_hash.specs.PhcParts.{IsVersion, LackVersion, LackEquals}
+use Rattle.password_hash.proofs.Base64Facts.{base64_injective}
 use Rattle.password_hash.proofs.DecimalFacts.{decimal_of, IsDecimal-decimal}
 use Rattle.password_hash.proofs.PairsFacts.{Lacks, letters_lack}
 
@@ -46,15 +47,11 @@ symbols_hold P t each (a ∷ b ∷ c ∷ m) h =
       ),
     )
 
--- `a-zA-Z0-9+/`
-abbrev is_base64_letter : ℕ → Bool
-is_base64_letter b = is_lowercase b || is_uppercase b || is_digit b || (b == 43) || (b == 47)
-
--- Base64 lacks a byte outside its alphabet
-pub base64_lacks : (c : ℕ) → is_base64_letter c ≡ false → (bytes : List ℕ) → IsBytes bytes → Lacks c (base64 bytes)
+-- Base64 lacks a byte that is no letter of values
+pub base64_lacks : (c : ℕ) → is_value_letter c ≡ false → (bytes : List ℕ) → IsBytes bytes → Lacks c (base64 bytes)
 base64_lacks c other bytes h =
     let table : List ℕ = standard_no_pad.encode_table in
-    let none : Lacks c table = letters_lack is_base64_letter c other table refl in
+    let none : Lacks c table = letters_lack is_value_letter c other table refl in
     let symbols = symbols_hold (λ b. (b == c) ≡ false) table (λ v below. All-get_or (λ b. (b == c) ≡ false) table v 0 below none) bytes h in
     rw append-nil (All-from_recursion (λ b. (b == c) ≡ false) (encode_symbols table bytes) symbols)
 
@@ -118,40 +115,42 @@ params_next part after (pair ∷ params) others k below equals none e =
     let left : after ≡ others = cc in
     (text, left)
 
--- the salt and the key of two parts
-pub record HasSaltAndKey (part letters : List ℕ) (salt key : Option (List ℕ)) : Type 0 where
-  pub salt_bytes : List ℕ
-  pub key_bytes : List ℕ
-  pub is_salt : salt ≡ Some salt_bytes
-  pub is_key : key ≡ Some key_bytes
-  pub salt_letters : part ≡ base64 salt_bytes
-  pub key_letters : letters ≡ base64 key_bytes
-  pub salt_allowed : IsSalt salt_bytes
-  pub key_allowed : IsKey key_bytes
-
-pub salt_and_key_next : (part letters : List ℕ) (salt key : Option (List ℕ))
-    → IsSaltAndKey (part ∷ slice_split (λ b. b == 36) letters) salt key → HasSaltAndKey part letters salt key
-salt_and_key_next part letters None key h =
-    let e = h.whole in
-    cc
-salt_and_key_next part letters (Some salt) None h =
+-- if more follows a salt, then it is a key
+pub key_next : (part letters : List ℕ) (salt key : Option (List ℕ)) → IsSaltAndKey (part ∷ slice_split (λ b. b == 36) letters) salt key
+    → (bytes : List ℕ) × IsKey bytes × (letters ≡ base64 bytes)
+key_next part letters None key h = let e = h.whole in cc
+key_next part letters (Some salt) None h =
     let e = h.whole in
     let none : slice_split (λ b. b == 36) letters ≡ [] = cc in
     absurd (omega (arith, ap length none, length-slice_split (λ b. b == 36) letters))
-salt_and_key_next part letters (Some salt) (Some key) h =
+key_next part letters (Some salt) (Some key) h =
     let e = h.whole in
-    let first : part ≡ base64 salt = cc in
     let rest : slice_split (λ b. b == 36) letters ≡ base64 key ∷ [] = cc in
-    record {
-      salt_bytes = salt;
-      key_bytes = key;
-      is_salt = refl;
-      is_key = refl;
-      salt_letters = first;
-      key_letters = sym (join_with_byte-slice_split 36 letters) ∙ ap (join_with_byte 36) rest;
-      salt_allowed = h.salt_bytes;
-      key_allowed = h.key_bytes;
-    }
+    (key, h.key_bytes, sym (join_with_byte-slice_split 36 letters) ∙ ap (join_with_byte 36) rest)
+
+-- parts are one salt and one key
+pub same_salt_and_key : (parts : List (List ℕ)) (salt salt' key key' : Option (List ℕ)) → IsSaltAndKey parts salt key
+    → IsSaltAndKey parts salt' key' → (salt ≡ salt') × (key ≡ key')
+same_salt_and_key parts None None None None h h' = (refl, refl)
+same_salt_and_key parts None salt' (Some key) key' h h' = absurd (false≢true h.key_after_salt)
+same_salt_and_key parts salt None key (Some key') h h' = absurd (false≢true h'.key_after_salt)
+same_salt_and_key parts None (Some salt') key key' h h' = let e = sym h.whole ∙ h'.whole in cc
+same_salt_and_key parts (Some salt) None key key' h h' = let e = sym h.whole ∙ h'.whole in cc
+same_salt_and_key parts (Some salt) (Some salt') key key' h h' =
+    let e = sym h.whole ∙ h'.whole in
+    let letters : base64 salt ≡ base64 salt' = cc in
+    let keys : key_part key ≡ key_part key' = cc in (
+      ap (λ salt. Some salt) (base64_injective salt salt' h.salt_bytes.are_bytes h'.salt_bytes.are_bytes letters),
+      same_key key key' h.key_bytes h'.key_bytes keys,
+    )
+  where
+    same_key : (a b : Option (List ℕ)) → IfSome a IsKey → IfSome b IsKey → key_part a ≡ key_part b → a ≡ b
+    same_key None None ha hb e = refl
+    same_key None (Some b) ha hb e = cc
+    same_key (Some a) None ha hb e = cc
+    same_key (Some a) (Some b) ha hb e =
+        let letters : base64 a ≡ base64 b = cc in
+        ap (λ key. Some key) (base64_injective a b ha.are_bytes hb.are_bytes letters)
 
 -- what is read of a salt and a key
 pub salt_and_key_read : (parts : List (List ℕ)) (part letters salt key : List ℕ)

@@ -1,25 +1,14 @@
-use Rattle.std.proofs.Common.{◌≡◌, ◌∷◌, List, ℕ, Option, Some, None, refl, lit<, ap, ◌∙◌}
+use Rattle.std.proofs.Common.{◌≡◌, ◌∷◌, Some, None, refl, lit<, ap, ◌∙◌}
 use Rattle.std.proofs.lemmas.Bool.{false≢true}
 use Rattle.std.proofs.lemmas.Str.Pattern.{strip_prefix_char}
 use Rattle.password_hash.specs.Parts.{parts_left}
 use Rattle.password_hash.specs.Phc.{IsHashText}
 use Rattle.password_hash.specs.declared.phc.hash.PasswordHash.{PasswordHash}
-use Rattle.password_hash.proofs.HashFacts.{HasParts, parts_of_hash, hash_of_parts}
+use Rattle.password_hash.proofs.HashFacts.{HasParts, parts_of_hash}
+use Rattle.password_hash.proofs.OneReading.{one_reading}
+use Rattle.password_hash.proofs.PartsFacts.{parts_text-parts_of}
 use Rattle.password_hash.proofs.phc.hash.parse.Goals as goal
 use Rattle.password_hash.proofs.phc.hash.parse.Goals.{After-first_part}
-
--- hashes with the same parts
-same_hash : {a b : PasswordHash} → a.algorithm ≡ b.algorithm → a.version ≡ b.version → a.params ≡ b.params
-    → a.salt ≡ b.salt → a.hash ≡ b.hash → a ≡ b
-same_hash algorithm version params salt key =
-    λ i. record { algorithm = algorithm i; version = version i; params = params i; salt = salt i; hash = key i }
-
-same_pair : (salt other_salt key other_key : Option (List ℕ))
-    → ◌≡◌ {A = Option (Option (List ℕ) × Option (List ℕ))} (Some (salt, key)) (Some (other_salt, other_key))
-    → (salt ≡ other_salt) × (key ≡ other_key)
-same_pair salt other_salt key other_key e =
-    let same : ◌≡◌ {A = Option (List ℕ) × Option (List ℕ)} (salt, key) (other_salt, other_key) = cc in
-    (ap (λ both. both.0) same, ap (λ both. both.1) same)
 
 begins : (c : After-first_part) → c.args.text.now ≡ 36 ∷ c.in_ok-text.text.now
 begins c = strip_prefix_char 36 c.args.text.now (Some c.in_ok-text.text) c.in_ok-text.ensures.cases (lit< tt)
@@ -59,30 +48,19 @@ returns-in_err-salt-clause-only c = λ hash h.
 
 pub returns-clause-found : goal.returns-clause-found
 returns-clause-found c =
-    let at = (goal.at.returns-clause-found c).After-first_part in
-    let hash : PasswordHash = record {
-      algorithm = c.in-Ok.algorithm;
-      version = c.in_ok-version.version;
-      params =
-          c.in_ok-params.params;
-      salt = c.in_ok-salt.salt;
-      hash = c.in_ok-salt.hash;
-    } in
     let version = c.in_ok-version.ensures.found in
     let params = c.in_ok-params.ensures.found in
-    let identifier = c.in-Ok.ensures.exact.0 refl in
-    let first = c.first_part.ensures in
-    hash_of_parts c.args.text.now c.in_ok-text.text.now hash (parts_left c.first_part.result.1)
-    (parts_left c.in_ok-version.left) (parts_left c.in_ok-params.left) (begins at)
-    (rw (← c.in-Ok.ensures.value) at first) (rw (← c.in-Ok.ensures.value) at identifier) version.0 version.1
-    params.0 params.1 c.in_ok-salt.ensures.found
+    let rest = c.in_ok-salt.ensures.found in
+    let parts = rw (version.0, params.0, rest.whole, ← c.in-Ok.ensures.value) at c.first_part.ensures in
+    record {
+      whole = begins (goal.at.returns-clause-found c).After-first_part ∙ parts_text-parts_of _ _ _ parts;
+      algorithm = rw c.in-Ok.ensures.value (c.in-Ok.ensures.exact.0 refl);
+      version = version.1;
+      params = params.1;
+      salt = rest.salt_bytes;
+      key = rest.key_bytes;
+      key_after_salt = rest.key_after_salt;
+    }
 
 pub returns-clause-only : goal.returns-clause-only
-returns-clause-only c = λ hash h.
-    let read = parts (goal.at.returns-clause-only c).After-first_part hash h in
-    let version = c.in_ok-version.ensures.only hash.version _ h.version read.lack_version read.version_first in
-    let params = c.in_ok-params.ensures.only hash.params _ h.params read.lack_equals version.1 in
-    let rest = c.in_ok-salt.ensures.only hash.salt hash.hash (rw params.1 read.salt_and_key) in
-    let algorithm : c.in-Ok.algorithm ≡ hash.algorithm = c.in-Ok.ensures.value ∙ read.algorithm in
-    let both = same_pair c.in_ok-salt.salt hash.salt c.in_ok-salt.hash hash.hash rest in
-    ap (λ read. Some read) (same_hash algorithm version.0 params.0 both.0 both.1)
+returns-clause-only c = λ hash h. ap (λ read. Some read) (one_reading c.args.text.now _ hash (returns-clause-found c) h)

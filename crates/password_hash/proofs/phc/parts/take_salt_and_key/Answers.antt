@@ -1,7 +1,7 @@
-use Rattle.std.proofs.Common.{◌≡◌, ◌∷◌, ◌==◌, ap, ◌∙◌}
+use Rattle.std.proofs.Common.{◌≡◌, ◌∷◌, ◌==◌, Some, ap, ◌∙◌}
 use Rattle.std.specs.List.{slice_split}
 use Rattle.password_hash.specs.Parts.{parts_left}
-use Rattle.password_hash.proofs.PhcPartsFacts.{salt_and_key_next, salt_and_key_read}
+use Rattle.password_hash.proofs.PhcPartsFacts.{key_next, salt_and_key_read, same_salt_and_key}
 use Rattle.password_hash.proofs.phc.parts.take_salt_and_key.Goals as goal
 use Rattle.password_hash.proofs.phc.parts.take_salt_and_key.Goals.{In-Some-after}
 
@@ -20,16 +20,11 @@ returns-clause-found c =
 pub returns-in_err-key-clause-only : goal.returns-in_err-key-clause-only
 returns-in_err-key-clause-only c = λ salt key h.
     let at = (goal.at.returns-in_err-key-clause-only c).In-Some-after in
-    let next = salt_and_key_next c.first_part.result.0.now c.in-Some-after.letters.now salt key (rw (front at) at h) in
-    let read = c.in_err-key.ensures.only next.key_bytes next.key_allowed next.key_letters in
+    let next = key_next c.first_part.result.0.now c.in-Some-after.letters.now salt key (rw (front at) at h) in
+    let read = c.in_err-key.ensures.only next.0 next.1 next.2 in
     cc
 
 pub returns-clause-only : goal.returns-clause-only
 returns-clause-only c = λ salt key h.
-    let at = (goal.at.returns-clause-only c).In-Some-after in
-    let next = salt_and_key_next c.first_part.result.0.now c.in-Some-after.letters.now salt key (rw (front at) at h) in
-    let salt_read = c.in_ok-salt.ensures.only next.salt_bytes next.salt_allowed next.salt_letters in
-    let key_read = c.in_ok-key.ensures.only next.key_bytes next.key_allowed next.key_letters in
-    let is_salt = next.is_salt in
-    let is_key = next.is_key in
-    cc
+    let both = same_salt_and_key _ _ salt _ key (returns-clause-found c) h in
+    λ i. Some (both.0 i, both.1 i)

@@ -1,7 +1,9 @@
-use Rattle.std.proofs.Common.{◌≡◌, ◌++◌, ◌∷◌, Some, codes, sym, ap, ◌∙◌}
+use Rattle.std.proofs.Common.{◌≡◌, ◌++◌, ◌∷◌, ℕ, List, Option, Some, codes, sym, ap, ◌∙◌}
 use Rattle.password_hash.specs.Parts.{parts_left}
+use Rattle.password_hash.specs.Phc.{version_part}
+use Rattle.password_hash.specs.PhcParts.{IsVersion, LackVersion}
 use Rattle.password_hash.proofs.DecimalFacts.{reads_decimal}
-use Rattle.password_hash.proofs.PhcPartsFacts.{version_next, version_read}
+use Rattle.password_hash.proofs.PhcPartsFacts.{HasVersion, version_next, version_read}
 use Rattle.password_hash.proofs.phc.parts.take_version.Goals as goal
 use Rattle.password_hash.proofs.phc.parts.take_version.Goals.{In-Some-strip_prefix}
 
@@ -13,12 +15,16 @@ begins c =
     let cases = c.in-Some-strip_prefix.ensures.cases in
     cases.1.1 ∙ ap (λ rest. codes "v=" ++ rest) (sym cases.2)
 
+next : (c : In-Some-strip_prefix) (version : Option ℕ) (others : List (List ℕ)) → IsVersion version → LackVersion others
+    → parts_left c.args.left ≡ version_part version ++ others
+    → HasVersion c.in-Some-strip_prefix.digits.now (parts_left c.first_part.result.1) version others
+next c version others is_version none e = version_next _ _ version others is_version none
+    (sym (ap (λ part. part ∷ parts_left c.first_part.result.1) (begins c)) ∙ sym (front c) ∙ e)
+
 pub returns-in_err-version-clause-only : goal.returns-in_err-version-clause-only
 returns-in_err-version-clause-only c = λ version others is_version none e.
-    let at = (goal.at.returns-in_err-version-clause-only c).In-Some-strip_prefix in
-    let shown = sym (ap (λ part. part ∷ parts_left c.first_part.result.1) (begins at)) ∙ sym (front at) ∙ e in
-    let next = version_next c.in-Some-strip_prefix.digits.now (parts_left c.first_part.result.1) version others is_version none shown in
-    let read = (reads_decimal _ _ c.in_err-version.ensures.gives).only next.number next.is_decimal in
+    let it = next (goal.at.returns-in_err-version-clause-only c).In-Some-strip_prefix version others is_version none e in
+    let read = (reads_decimal _ _ c.in_err-version.ensures.gives).only it.number it.is_decimal in
     cc
 
 pub returns-clause-found : goal.returns-clause-found
@@ -30,9 +36,7 @@ returns-clause-found c =
 
 pub returns-clause-only : goal.returns-clause-only
 returns-clause-only c = λ version others is_version none e.
-    let at = (goal.at.returns-clause-only c).In-Some-strip_prefix in
-    let shown = sym (ap (λ part. part ∷ parts_left c.first_part.result.1) (begins at)) ∙ sym (front at) ∙ e in
-    let next = version_next c.in-Some-strip_prefix.digits.now (parts_left c.first_part.result.1) version others is_version none shown in
-    let read = (reads_decimal _ _ c.in_ok-version.ensures.gives).only next.number next.is_decimal in
-    let same : c.in_ok-version.version ≡ next.number = cc in
-    (ap (λ n. Some n) same ∙ sym next.is_version, next.left)
+    let it = next (goal.at.returns-clause-only c).In-Some-strip_prefix version others is_version none e in
+    let read = (reads_decimal _ _ c.in_ok-version.ensures.gives).only it.number it.is_decimal in
+    let same : c.in_ok-version.version ≡ it.number = cc in
+    (ap (λ n. Some n) same ∙ sym it.is_version, it.left)
