@@ -1,8 +1,9 @@
 -- Letters of crypt Base64 are decoded as the bytes that they encode.
-use Rattle.std.proofs.Common.{◌≡◌, ℕ, zero, suc, ◌+◌, ◌*◌, ◌/◌, ◌%◌, ◌<◌, List, [], ◌∷◌, length, Some, None, true, false}
-use Rattle.std.proofs.Common.{◌∙◌, refl, ap, arith}
-use Rattle.std.specs.Prelude.{Bool, Option, unwrap_or, if◌then◌else◌}
+use Rattle.std.proofs.Common.{◌≡◌, ℕ, zero, suc, ◌+◌, ◌*◌, ◌/◌, ◌%◌, ◌<◌, List, [], ◌∷◌, length, Some, None, true}
+use Rattle.std.proofs.Common.{◌∙◌, refl, ap, arith, inl, inr}
+use Rattle.std.specs.Prelude.{Option, unwrap_or}
 use Rattle.std.specs.Str.{bytes_eq}
+use Rattle.std.proofs.lemmas.Bool.{cases_Bool}
 use Rattle.std.proofs.lemmas.List.Elements.{All-cons, All-head, All-nil, All-tail}
 use Rattle.std.proofs.lemmas.Slice.Eq.{bytes_eq-Decides}
 use Rattle.password_hash.specs.Crypt64.{Crypt64, IsCrypt64, bytes_of_number, crypt64_of, decoded, number_of}
@@ -39,14 +40,17 @@ decoded_is bytes letters is =
 pub encoded_is : (bytes letters : List ℕ) → decoded letters ≡ Some bytes → Crypt64 bytes letters
 unfolding decoded
 encoded_is bytes letters is =
-    let made = bytes_of_number (3 * length letters / 4) (unwrap_or (number_of letters) 0) in
-    at (bytes_eq letters (crypt64_of made)) made (bytes_eq-Decides letters (crypt64_of made)).0
-    (bytes_of_number-are_bytes (3 * length letters / 4) (unwrap_or (number_of letters) 0)) is
-  where
-    at : (same : Bool) (made : List ℕ) → (same ≡ true → letters ≡ crypt64_of made) → AreBytes made
-        → (if same then Some made else None) ≡ Some bytes → Crypt64 bytes letters
-    at true made told are e = let one : made ≡ bytes = cc in rw (← one) (record { are_bytes = are; encoding = told refl })
-    at false made told are e = absurd cc
+    let made : List ℕ = bytes_of_number (3 * length letters / 4) (unwrap_or (number_of letters) 0) in
+    elim (cases_Bool (bytes_eq letters (crypt64_of made))) [
+      | inl same ↦
+          let said = rw same at is in
+          let one : made ≡ bytes = cc in
+          rw (← one) (record {
+            are_bytes = bytes_of_number-are_bytes (3 * length letters / 4) (unwrap_or (number_of letters) 0);
+            encoding = (bytes_eq-Decides letters (crypt64_of made)).0 same;
+          })
+      | inr other ↦ let said = rw other at is in absurd (cc)
+    ]
 
 -- others are not decoded
 pub not_decoded : (letters : List ℕ) → ¬ IsCrypt64 letters → decoded letters ≡ None

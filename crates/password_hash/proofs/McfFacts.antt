@@ -5,13 +5,12 @@ use Rattle.std.specs.List.{All, onto_first}
 use Rattle.std.proofs.lemmas.Bool.{ne_eqb, eqb-false, cases_Bool, false≢true}
 use Rattle.std.proofs.lemmas.List.{append-nil}
 use Rattle.std.proofs.lemmas.List.Elements.{All-nil, All-cons, All-head, All-tail, All-weaker, All-push, All-from_get_or}
-use Rattle.std.proofs.lemmas.List.Splits.{slice_split-cons_yes, slice_split-cons_no}
 use Rattle.password_hash.specs.declared.mcf.Error.{Error}
 use Rattle.password_hash.specs.declared.mcf.Error.TheVariants.{EncodingInvalid, OutOfMemory}
 use Rattle.password_hash.specs.Crypt64.{crypt64_of}
 use Rattle.password_hash.specs.Letters.{is_identifier_letter}
 use Rattle.password_hash.specs.Mcf.{IsId, IsField, IsMcfText, IsMcf, id_of, fields_of}
-use Rattle.password_hash.specs.Parts.{dollar, parts_of, parts_text}
+use Rattle.password_hash.specs.Parts.{dollar, parts_of}
 use Rattle.password_hash.proofs.Crypt64Facts.{IsPlain, crypt64_of-plain}
 use Rattle.password_hash.proofs.PairsFacts.{Lacks, letters_lack}
 use Rattle.password_hash.proofs.PartsFacts.{parts_of-parts_text, parts_text-parts_of, parts_text-push}
@@ -42,12 +41,8 @@ parts_of-IsMcfText text id fields is =
 are_fields-slice_split : (text : List ℕ) → All IsField (parts_of text)
 are_fields-slice_split [] = All-cons IsField [] [] (All-nil (λ byte. byte ≢ dollar)) (All-nil IsField)
 are_fields-slice_split (byte ∷ text) = elim (cases_Bool (byte == dollar)) [
-  | inl hit ↦
-      subst (All IsField) (sym (slice_split-cons_yes (λ b. b == dollar) byte text hit))
-      (All-cons IsField [] (parts_of text) (All-nil (λ byte. byte ≢ dollar)) (are_fields-slice_split text))
-  | inr miss ↦
-      subst (All IsField) (sym (slice_split-cons_no (λ b. b == dollar) byte text miss))
-      (onto (parts_of text) (eqb-false byte dollar miss) (are_fields-slice_split text))
+  | inl hit ↦ rw hit (All-cons IsField [] (parts_of text) (All-nil (λ byte. byte ≢ dollar)) (are_fields-slice_split text))
+  | inr miss ↦ rw miss (onto (parts_of text) (eqb-false byte dollar miss) (are_fields-slice_split text))
 ]
   where
     onto : (parts : List (List ℕ)) → byte ≢ dollar → All IsField parts → All IsField (onto_first byte parts)
@@ -62,14 +57,12 @@ pub IsMcfText-from_parts : (text id : List ℕ) (fields : List (List ℕ)) → p
     → IsMcfText text id fields
 IsMcfText-from_parts text id fields parts is =
     let each : All IsField ([] ∷ id ∷ fields) = subst (All IsField) parts (are_fields-slice_split text) in
+    let whole = parts_text-parts_of text [] (id ∷ fields) parts in
     record {
       is_id = is;
       are_fields = All-tail IsField id fields (All-tail IsField [] (id ∷ fields) each);
-      written = tail_is text (id ∷ fields) (parts_text-parts_of text [] (id ∷ fields) parts);
+      written = cc;
     }
-  where
-    tail_is : (text : List ℕ) (parts : List (List ℕ)) → dollar ∷ text ≡ parts_text ([] ∷ parts) → text ≡ parts_text parts
-    tail_is text parts e = cc
 
 pub id_of_parts : (text id : List ℕ) (fields : List (List ℕ)) → parts_of text ≡ [] ∷ id ∷ fields → id_of text ≡ id
 unfolding id_of
