@@ -1,3 +1,5 @@
+-- Facts on the count of cores.
+pub mod CountFacts
 -- Facts on lists of words.
 pub mod WordFacts
 -- Facts on a list that is cut into parts of s elements each.

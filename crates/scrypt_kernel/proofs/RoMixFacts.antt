@@ -1,13 +1,16 @@
 -- Facts on scryptROMix.
-use Rattle.std.proofs.Common.{◌≡◌, ℕ, zero, suc, ◌<◌, ◌+◌, ◌*◌, ◌/◌, ◌%◌, ◌^◌, List, [], ◌++◌, length, bit_xor, refl}
+use Rattle.std.proofs.Common.{◌≡◌, Bool, ℕ, zero, suc, ◌<◌, ◌+◌, ◌*◌, ◌/◌, ◌%◌, ◌^◌, List, [], ◌++◌, length, bit_xor, refl}
 use Rattle.std.proofs.Common.{sym, ap, ap₂, ◌∙◌, arith, add-one, add-zero, below_more, length-append}
 use Rattle.std.proofs.lemmas.Simd.{length-zip2}
 use Rattle.scrypt_kernel.specs.Words.{part, xor_words}
+use Rattle.scrypt_kernel.specs.declared.cores.CoreCount.{CoreCount}
+use Rattle.scrypt_kernel.specs.Count.{AreCountedAs}
 use Rattle.scrypt_kernel.specs.BlockMix.{block_mix}
 use Rattle.scrypt_kernel.specs.RoMix.{integerify, ro_mix, row, walk}
 use Rattle.scrypt_kernel.specs.Diagonal.{AreInverse, permuted}
 use Rattle.scrypt_kernel.proofs.BlockMixFacts.{length-block_mix}
 use Rattle.scrypt_kernel.proofs.OrderFacts.{in_then_out, length-permuted, out_then_in, zip_in}
+use Rattle.scrypt_kernel.proofs.CountFacts.{counted_both, counted_none}
 use Rattle.scrypt_kernel.proofs.PartFacts.{length-part, part_append_front, part_append_last, parts_apart}
 
 -- the next row
@@ -48,30 +51,15 @@ module _ (b : List ℕ) (some : 0 < length b) (whole : length b % 32 ≡ 0) wher
   unfolding ro_mix
   length-ro_mix log_n = length-walk log_n _
 
--- the cores of one more row or step
-pub more_cores : (a l m i n : ℕ) → n ≡ i + 1 → a + l * (i * m) + l * m ≡ a + l * (n * m)
-more_cores a l m i n is = rw is (omega arith)
-
--- the count of the lanes' cores after one more step over s words
-pub counted_lanes : (a l s words i n before after : ℕ) → after ≡ before + l * (2 * (words / 32)) → words ≡ s
-    → before ≡ a + l * (i * (2 * (s / 32))) → n ≡ i + 1 → after ≡ a + l * (n * (2 * (s / 32)))
-counted_lanes a l s words i n before after step same until is =
-    step ∙ ap (λ w. before + l * (2 * (w / 32))) same ∙ ap (λ c. c + l * (2 * (s / 32))) until
-    ∙ more_cores a l (2 * (s / 32)) i n is
-
-more_of_all : (a m i n : ℕ) → n ≡ i + 1 → a + i * m + m ≡ a + n * m
-more_of_all a m i n is = rw is (omega arith)
-
--- and that of all cores
-pub counted_all : (a s words i n before after : ℕ) → after ≡ before + 2 * (words / 32) → words ≡ s
-    → before ≡ a + i * (2 * (s / 32)) → n ≡ i + 1 → after ≡ a + n * (2 * (s / 32))
-counted_all a s words i n before after step same until is =
-    step ∙ ap (λ w. before + 2 * (w / 32)) same ∙ ap (λ c. c + 2 * (s / 32)) until ∙ more_of_all a (2 * (s / 32)) i n is
-
 -- n rows of b, one in t and each of this size, in the order p
 pub record HoldsRows (p b : List ℕ) (size t n : ℕ) (v : List ℕ) : Type 0 where
   pub len : length v ≡ n * size
   pub each : (k : ℕ) → k < n → part size v k ≡ permuted p (row b (k * t))
+
+-- after i block mixes of rows of b of this size, in the order p: X is x, and the cores are counted
+pub record AfterMixes (p b : List ℕ) (size : ℕ) (simd : Bool) (before : CoreCount) (i : ℕ) (x : List ℕ) (after : CoreCount) : Type 0 where
+  pub value : x ≡ permuted p (row b i)
+  pub counted : AreCountedAs simd (i * (2 * (size / 32))) before after
 
 -- the row after one that is in another order
 module _ (p q : List ℕ) (inverse : AreInverse p q) where
@@ -94,6 +82,20 @@ module _ (p q : List ℕ) (inverse : AreInverse p q) where
       let long : length (row b i) ≡ length x = sym (ap length is ∙ length-permuted p (row b i)) in
       let standard : permuted q x ≡ row b i = ap (permuted q) is ∙ in_then_out p q inverse (row b i) (omega arith) in
       ap (λ z. permuted p (row z n)) standard ∙ ap (permuted p) (row_after b i n)
+
+  -- before the first block mix, and after one more
+  module _ (b : List ℕ) (size : ℕ) (whole : size % 32 ≡ 0) {simd : Bool} {begin : CoreCount} where
+    pub no_mix : (x : List ℕ) → x ≡ permuted p b → AfterMixes p b size simd begin 0 x begin
+    unfolding row
+    no_mix x is = record { value = is; counted = counted_none _ _ _ (omega arith) }
+
+    pub one_more_mix : (before after : CoreCount) (x y : List ℕ) (i n len : ℕ) → AfterMixes p b size simd begin i x before
+        → length x ≡ size → y ≡ permuted p (block_mix (permuted q x)) → AreCountedAs simd (2 * (len / 32)) before after → len ≡ size
+        → n ≡ i + 1 → AfterMixes p b size simd begin n y after
+    one_more_mix before after x y i n len until long mixed counted same is = rw is (record {
+      value = mixed ∙ next_row_in b x i (omega arith) until.value;
+      counted = counted_both _ until.counted (rw same at counted) (omega arith);
+    })
 
   -- the first row of a table
   pub first_row : (x v : List ℕ) (s t : ℕ) → length x ≡ s → s % 32 ≡ 0 → v ≡ [] ++ x → HoldsRows p (permuted q x) s t 1 v

@@ -1,15 +1,18 @@
 -- Facts on the walk over a table that keeps some rows, or all of them.
-use Rattle.std.proofs.Common.{◌≡◌, ℕ, zero, suc, ◌<◌, ◌≤◌, ◌+◌, ◌-◌, ◌*◌, ◌/◌, ◌%◌, ◌^◌, List, length, refl, sym, ap}
+use Rattle.std.proofs.Common.{◌≡◌, Bool, ℕ, zero, suc, ◌<◌, ◌≤◌, ◌+◌, ◌-◌, ◌*◌, ◌/◌, ◌%◌, ◌^◌, List, length, refl, sym, ap}
 use Rattle.std.proofs.Common.{ap₂, subst, ◌∙◌, arith, add-one}
 use Rattle.std.proofs.lemmas.Nat.{one_shl, pow-add, pow_pos, shr_below}
 use Rattle.std.proofs.Math.Nat.{div-mul-le_self, lt_of_mul-lt-mul_left, mul-le-mul_right}
 use Rattle.scrypt_kernel.specs.Words.{part, xor_words}
+use Rattle.scrypt_kernel.specs.declared.cores.CoreCount.{CoreCount}
+use Rattle.scrypt_kernel.specs.Count.{AreCountedAs}
 use Rattle.scrypt_kernel.specs.BlockMix.{block_mix}
 use Rattle.scrypt_kernel.specs.RoMix.{integerify, ro_mix, row, walk}
 use Rattle.scrypt_kernel.specs.RoMixCost.{ro_mix_cost}
 use Rattle.scrypt_kernel.specs.Table.{extra_rows, recomputed_rows, thin_ro_mix_cost}
 use Rattle.scrypt_kernel.specs.KeptRows.{AfterSteps, AreWalkLens, IsFilled, IsNext, IsWalked, KeepsRows, StartsWalk}
 use Rattle.scrypt_kernel.specs.Diagonal.{AreInverse, permuted}
+use Rattle.scrypt_kernel.proofs.CountFacts.{counted_both, counted_none}
 use Rattle.scrypt_kernel.proofs.PartFacts.{length-part}
 use Rattle.scrypt_kernel.proofs.OrderFacts.{in_then_out, length-permuted}
 use Rattle.scrypt_kernel.proofs.RoMixFacts.{HoldsRows, length-row, next_step_in, row_after_in, row_zero_in}
@@ -141,17 +144,11 @@ all_steps log_n k some small is =
     omega (arith, is, shifted, double)
 
 -- before the first step
-pub no_step : (p b : List ℕ) (log_n s l all lanes : ℕ) (kept x : List ℕ) → StartsWalk p b log_n s kept x
-    → AfterSteps p b log_n s (length x) l all lanes 0 x all lanes
+pub no_step : (p b : List ℕ) (log_n s : ℕ) (simd : Bool) (cores : CoreCount) (kept x : List ℕ) → StartsWalk p b log_n s kept x
+    → AfterSteps p b log_n s (length x) simd cores 0 x cores
 unfolding walk extra_rows
-no_step p b log_n s l all lanes kept x starts =
-    record { value = starts.start; all_cores = omega arith; lane_cores = omega arith }
-
-more_of_all : (a k e d m : ℕ) → a + (k + e) * m + (d + 1) * m ≡ a + (k + 1 + (e + d)) * m
-more_of_all a k e d m = omega arith
-
-more_of_lanes : (a l k e d m : ℕ) → a + l * ((k + e) * m) + l * ((d + 1) * m) ≡ a + l * ((k + 1 + (e + d)) * m)
-more_of_lanes a l k e d m = omega arith
+no_step p b log_n s simd cores kept x starts =
+    record { value = starts.start; counted = counted_none simd _ cores (omega arith) }
 
 extra_rows-more : (b : List ℕ) (log_n s k : ℕ)
     → extra_rows b log_n s (k + 1) ≡ extra_rows b log_n s k + recomputed_rows s (integerify (walk b log_n k) % 2 ^ log_n)
@@ -159,30 +156,19 @@ unfolding extra_rows
 extra_rows-more b log_n s k = rw add-one refl
 
 -- one more step
-module _ (p q : List ℕ) (inverse : AreInverse p q) (b : List ℕ) (log_n s size l all_before lanes_before k : ℕ)
-    (kept start x y : List ℕ) (all lanes all_next lanes_next : ℕ) where
-  pub one_more_step : StartsWalk p b log_n s kept start → AfterSteps p b log_n s size l all_before lanes_before k x all lanes
-      → length start ≡ size → length x ≡ size → size % 16 ≡ 0
-      → IsNext p log_n s kept x y
-      → all_next ≡ all + (recomputed_rows s (integerify (permuted q x) % 2 ^ log_n) + 1) * (2 * (length x / 32))
-      → lanes_next ≡ lanes + l * ((recomputed_rows s (integerify (permuted q x) % 2 ^ log_n) + 1) * (2 * (length x / 32)))
-      → AfterSteps p b log_n s size l all_before lanes_before (k + 1) y all_next lanes_next
-  one_more_step starts before long same whole step all_is lanes_is =
+module _ (p q : List ℕ) (inverse : AreInverse p q) (b : List ℕ) (log_n s size : ℕ) {simd : Bool} {begin : CoreCount} where
+  pub one_more_step : (before after : CoreCount) (k : ℕ) (kept start x y : List ℕ)
+      → StartsWalk p b log_n s kept start → AfterSteps p b log_n s size simd begin k x before
+      → length start ≡ size → length x ≡ size → size % 16 ≡ 0 → IsNext p log_n s kept x y
+      → AreCountedAs simd ((recomputed_rows s (integerify (permuted q x) % 2 ^ log_n) + 1) * (2 * (length x / 32))) before after
+      → AfterSteps p b log_n s size simd begin (k + 1) y after
+  one_more_step before after k kept start x y starts until long same whole step counted =
       let w = walk b log_n k in
-      let m : ℕ = 2 * (size / 32) in
-      let e = extra_rows b log_n s k in
-      let d : ℕ = recomputed_rows s (integerify w % 2 ^ log_n) in
-      let walked : length w ≡ length x = sym (ap length before.value ∙ length-permuted p w) in
-      let standard : permuted q x ≡ w = ap (permuted q) before.value ∙ in_then_out p q inverse w (omega arith) in
-      let rows : recomputed_rows s (integerify (permuted q x) % 2 ^ log_n) ≡ d =
-      ap (λ z. integerify z % 2 ^ log_n % 2 ^ s) standard in
+      let walked : length w ≡ length x = sym (ap length until.value ∙ length-permuted p w) in
+      let standard : permuted q x ≡ w = ap (permuted q) until.value ∙ in_then_out p q inverse w (omega arith) in
       record {
-        value = step b k (subst (λ n. KeepsRows p b s n (2 ^ log_n) kept) (long ∙ sym same) starts.rows) before.value;
-        all_cores = all_is ∙ ap₂ (λ n i. all + (n + 1) * (2 * (i / 32))) rows same ∙ ap (λ n. n + (d + 1) * m) before.all_cores
-            ∙ more_of_all all_before k e d m ∙ ap (λ n. all_before + (k + 1 + n) * m) (sym (extra_rows-more b log_n s k));
-        lane_cores = lanes_is ∙ ap₂ (λ n i. lanes + l * ((n + 1) * (2 * (i / 32)))) rows same
-            ∙ ap (λ n. n + l * ((d + 1) * m)) before.lane_cores
-            ∙ more_of_lanes lanes_before l k e d m ∙ ap (λ n. lanes_before + l * ((k + 1 + n) * m)) (sym (extra_rows-more b log_n s k));
+        value = step b k (subst (λ n. KeepsRows p b s n (2 ^ log_n) kept) (long ∙ sym same) starts.rows) until.value;
+        counted = counted_both _ until.counted (rw (standard, same) at counted) (rw (extra_rows-more b log_n s k) (omega arith));
       }
 
 -- the words w of a chunk after all steps: put into the order p, a table filled from them, and the walk
@@ -207,17 +193,8 @@ module _ (p q : List ℕ) (inverse : AreInverse p q) (w x kept last : List ℕ) 
       ap (permuted q) after ∙ in_then_out p q inverse z (ap (λ n. n % 16) long ∙ whole)
 
 -- the cores of the fill and of the walk
-pub filled_and_walked : (before filled after rows size words r e : ℕ) → size / 32 ≡ r → words ≡ size
-    → filled ≡ before + rows * (2 * (size / 32)) → after ≡ filled + (rows + e) * (2 * (words / 32))
-    → after ≡ before + (4 * rows * r + 2 * r * e)
-filled_and_walked before filled after rows size words r e blocks same fill walk =
-    walk ∙ ap (λ n. filled + (rows + e) * (2 * (n / 32))) same ∙ ap (λ n. n + (rows + e) * (2 * (size / 32))) fill
-    ∙ ap (λ n. before + rows * (2 * n) + (rows + e) * (2 * n)) blocks ∙ omega arith
-
--- and those of the lanes
-pub filled_and_walked_lanes : (before filled after rows size words r e l : ℕ) → size / 32 ≡ r → words ≡ size
-    → filled ≡ before + l * (rows * (2 * (size / 32))) → after ≡ filled + l * ((rows + e) * (2 * (words / 32)))
-    → after ≡ before + l * (4 * rows * r + 2 * r * e)
-filled_and_walked_lanes before filled after rows size words r e l blocks same fill walk =
-    walk ∙ ap (λ n. filled + l * ((rows + e) * (2 * (n / 32)))) same ∙ ap (λ n. n + l * ((rows + e) * (2 * (size / 32)))) fill
-    ∙ ap (λ n. before + l * (rows * (2 * n)) + l * ((rows + e) * (2 * n))) blocks ∙ omega arith
+pub filled_and_walked : {simd : Bool} {before filled after : CoreCount} (rows size words r e : ℕ) → size / 32 ≡ r → words ≡ size
+    → AreCountedAs simd (rows * (2 * (size / 32))) before filled → AreCountedAs simd ((rows + e) * (2 * (words / 32))) filled after
+    → AreCountedAs simd (4 * rows * r + 2 * r * e) before after
+filled_and_walked rows size words r e blocks same fill walk =
+    counted_both _ (rw blocks at fill) (rw (same, blocks) at walk) (omega arith)

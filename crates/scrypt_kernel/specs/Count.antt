@@ -1,8 +1,12 @@
 -- The count of Salsa20/8 cores.
-use Rattle.std.specs.Prelude.{◌≡◌, ℕ, ◌+◌}
+use Rattle.std.specs.Prelude.{◌≡◌, ℕ, ◌+◌, Bool, true, if◌then◌else◌}
 use Rattle.scrypt_kernel.specs.declared.cores.CoreCount.{CoreCount}
 
--- n more cores were run, each of them as a SIMD core
-pub record AreCounted (n : ℕ) (before after : CoreCount) : Type 0 where
+-- n more cores were run, which are all SIMD cores if simd is true, and otherwise none
+pub record AreCountedAs (simd : Bool) (n : ℕ) (before after : CoreCount) : Type 0 where
   pub all : after.all ≡ before.all + n
-  pub lanes : after.lanes ≡ before.lanes + n
+  pub lanes : after.lanes ≡ before.lanes + (if simd then n else 0)
+
+-- n more cores were run, each of them as a SIMD core
+abbrev pub AreCounted : ℕ → CoreCount → CoreCount → Type 0
+AreCounted n before after = AreCountedAs true n before after

@@ -1,7 +1,9 @@
 -- Only functions that scrypt does not export cite this: the rows that a table keeps, and the walk over
 -- them.
-use Rattle.std.specs.Prelude.{◌≡◌, ℕ, ◌+◌, ◌-◌, ◌*◌, ◌/◌, ◌%◌, ◌^◌, ◌<◌, ◌≤◌, List, length}
+use Rattle.std.specs.Prelude.{◌≡◌, Bool, ℕ, ◌+◌, ◌-◌, ◌*◌, ◌/◌, ◌%◌, ◌^◌, ◌<◌, ◌≤◌, List, length}
 use Rattle.scrypt_kernel.specs.Words.{part}
+use Rattle.scrypt_kernel.specs.declared.cores.CoreCount.{CoreCount}
+use Rattle.scrypt_kernel.specs.Count.{AreCountedAs}
 use Rattle.scrypt_kernel.specs.RoMix.{row, walk}
 use Rattle.scrypt_kernel.specs.Diagonal.{permuted}
 use Rattle.scrypt_kernel.specs.Table.{extra_rows}
@@ -45,10 +47,9 @@ IsNext p log_n s kept x y =
 abbrev pub IsWalked : List ℕ → ℕ → ℕ → List ℕ → List ℕ → ℕ → List ℕ → Type 0
 IsWalked p log_n s kept start k x = (b : List ℕ) → StartsWalk p b log_n s kept start → x ≡ permuted p (walk b log_n k)
 
--- after k steps of the walk for the input b, over rows of this size: X is x, and the counts, of
--- which l with SIMD for each core, are those from before the walk and the cores of k block mixes
--- and of the rows that were recomputed
-pub record AfterSteps (p b : List ℕ) (log_n s size l all_before lanes_before k : ℕ) (x : List ℕ) (all lanes : ℕ) : Type 0 where
+-- after k steps of the walk for the input b, over rows of this size: X is x, and the cores of k block
+-- mixes and of the rows that were recomputed are counted
+pub record AfterSteps (p b : List ℕ) (log_n s size : ℕ) (simd : Bool) (before : CoreCount) (k : ℕ) (x : List ℕ) (after : CoreCount)
+    : Type 0 where
   pub value : x ≡ permuted p (walk b log_n k)
-  pub all_cores : all ≡ all_before + (k + extra_rows b log_n s k) * (2 * (size / 32))
-  pub lane_cores : lanes ≡ lanes_before + l * ((k + extra_rows b log_n s k) * (2 * (size / 32)))
+  pub counted : AreCountedAs simd ((k + extra_rows b log_n s k) * (2 * (size / 32))) before after

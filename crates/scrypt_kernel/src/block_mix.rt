@@ -3,6 +3,7 @@
 ghost use Rattle.std.specs.Prelude.{◌≡◌, ℕ, ◌+◌, ◌*◌, ◌/◌, ◌%◌, ◌<◌, ◌≤◌, List, length};
 ghost use Rattle.scrypt_kernel.specs.Words.{block, xor_words};
 ghost use Rattle.scrypt_kernel.specs.Salsa.{salsa20_8};
+ghost use Rattle.scrypt_kernel.specs.Count.{AreCountedAs};
 ghost use Rattle.scrypt_kernel.specs.BlockMix.{block_mix};
 ghost use Rattle.scrypt_kernel.specs.KeptRows.{IsRowLen};
 ghost use Rattle.scrypt_kernel.specs.Diagonal.{permuted};
@@ -61,9 +62,7 @@ pub(crate) fn mix<O: Order, I: Input>(input: &I, output: &mut [u32], cores: &mut
     requires row { IsRowLen (length output.old) }
     ensures value { output.new
         ≡ permuted O.pivot (block_mix (permuted O.inverse_pivot (I.words input.now))) }
-    ensures all { cores.new.all ≡ cores.old.all + 2 * (length output.old / 32) }
-    ensures lanes { cores.new.lanes ≡ cores.old.lanes
-        + O.lanes_of_core * (2 * (length output.old / 32)) }
+    ensures counted { AreCountedAs O.simd (2 * (length output.old / 32)) cores.old cores.new }
 {
     let r = output.len() / 32;
     // Step 1: X = B[2 * r - 1].
@@ -84,8 +83,7 @@ fn step<O: Order, I: Input>(x: &mut [u32; 16], input: &I, i: usize, cores: &mut 
     requires { 16 * i + 16 ≤ length (I.words input.now) }
     ensures value { x.new ≡ permuted O.pivot (salsa20_8
         (permuted O.inverse_pivot (xor_words x.old (block (I.words input.now) i)))) }
-    ensures all { cores.new.all ≡ cores.old.all + 1 }
-    ensures lanes { cores.new.lanes ≡ cores.old.lanes + O.lanes_of_core }
+    ensures counted { AreCountedAs O.simd 1 cores.old cores.new }
 {
     *x = xor_blocks(x, &input.block(i));
     O::core(x, cores);

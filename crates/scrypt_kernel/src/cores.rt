@@ -1,7 +1,7 @@
 //! The Salsa20/8 cores, and the count of how many were run. Nothing outside this module and those
 //! below it can increment a count.
 
-ghost use Rattle.std.specs.Prelude.{◌≡◌, ℕ, ◌+◌, Bool, if◌then◌else◌};
+ghost use Rattle.std.specs.Prelude.{◌≡◌, ℕ, Bool, if◌then◌else◌};
 ghost use Rattle.std.specs.Borrow.{ftrue};
 ghost use Rattle.scrypt_kernel.specs.Salsa.{salsa20_8};
 ghost use Rattle.scrypt_kernel.specs.Diagonal.{diagonal_core};
@@ -28,6 +28,8 @@ impl Model for CoreCount {
 }
 
 impl CoreCount {
+    ghost use Rattle.scrypt_kernel.specs.Count.{AreCountedAs};
+
     /// Creates a count of zero.
     pub fn new() -> CoreCount
         ensures none { (result.all ≡ 0) × (result.lanes ≡ 0) }
@@ -40,8 +42,7 @@ impl CoreCount {
     fn after_core(_before: &CoreCount, _from: &[u32; 16], _to: &[u32; 16]) -> CoreCount
         ghost simd: { Bool }
         requires { _to.now ≡ (if simd then diagonal_core _from.now else salsa20_8 _from.now) }
-        ensures { (result.all ≡ _before.now.all + 1)
-            × (result.lanes ≡ _before.now.lanes + (if simd then 1 else 0)) }
+        ensures { AreCountedAs simd 1 _before.now result }
     {
         CoreCount { seal: () }
     }

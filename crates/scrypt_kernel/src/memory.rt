@@ -3,6 +3,7 @@
 ghost use Rattle.std.specs.Prelude.{◌≡◌, ℕ, ◌+◌, ◌*◌, ◌/◌, ◌%◌, ◌<◌, ◌≤◌, List, [], ◌++◌, length};
 ghost use Rattle.std.specs.Vec.{vec_capacity, vec_len};
 ghost use Rattle.scrypt_kernel.specs.Words.{part};
+ghost use Rattle.scrypt_kernel.specs.Count.{AreCountedAs};
 ghost use Rattle.scrypt_kernel.specs.BlockMix.{block_mix};
 ghost use Rattle.scrypt_kernel.specs.Diagonal.{permuted};
 
@@ -46,9 +47,7 @@ pub trait Memory {
         ensures words { words self.new ≡ words self.old ++ permuted O.pivot
             (block_mix (permuted O.inverse_pivot (part (length spare.old) (words self.old) i))) }
         ensures room { room self.old ≤ room self.new }
-        ensures all { cores.new.all ≡ cores.old.all + 2 * (length spare.old / 32) }
-        ensures lanes { cores.new.lanes ≡ cores.old.lanes
-            + O.lanes_of_core * (2 * (length spare.old / 32)) };
+        ensures counted { AreCountedAs O.simd (2 * (length spare.old / 32)) cores.old cores.new };
 }
 
 /// The caller's buffer. Each row is mixed straight into its place.

@@ -1,7 +1,8 @@
 //! The orders in which the words of a block can be kept.
 
-ghost use Rattle.std.specs.Prelude.{◌≡◌, ℕ, ◌+◌, ◌*◌, ◌%◌, ◌^◌, ◌<◌, ◌≤◌, List, length};
+ghost use Rattle.std.specs.Prelude.{◌≡◌, Bool, ℕ, ◌+◌, ◌*◌, ◌%◌, ◌^◌, ◌<◌, ◌≤◌, List, length};
 ghost use Rattle.scrypt_kernel.specs.Salsa.{salsa20_8};
+ghost use Rattle.scrypt_kernel.specs.Count.{AreCountedAs};
 ghost use Rattle.scrypt_kernel.specs.RoMix.{integerify};
 ghost use Rattle.scrypt_kernel.specs.Diagonal.{AreInverse, permuted};
 
@@ -18,8 +19,8 @@ pub trait Order {
     // inverse_pivot[i] is the index at which the word of standard index i is stored
     ghost inverse_pivot: { List ℕ };
 
-    // how many SIMD cores one core is, 0 or 1
-    ghost lanes_of_core: { ℕ };
+    // whether its cores are SIMD cores
+    ghost simd: { Bool };
 
     /// Puts words from standard order into this one.
     fn shuffle_in(x: &mut [u32])
@@ -42,8 +43,7 @@ pub trait Order {
     /// Replaces a block by its Salsa20/8 core, and counts it.
     fn core(x: &mut [u32; 16], cores: &mut CoreCount)
         ensures value { x.new ≡ permuted pivot (salsa20_8 (permuted inverse_pivot x.old)) }
-        ensures all { cores.new.all ≡ cores.old.all + 1 }
-        ensures lanes { cores.new.lanes ≡ cores.old.lanes + lanes_of_core };
+        ensures counted { AreCountedAs simd 1 cores.old cores.new };
 
     ghost inverse: { AreInverse pivot inverse_pivot };
 }

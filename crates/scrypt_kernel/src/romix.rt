@@ -1,7 +1,8 @@
 //! scryptROMix (RFC 7914, section 5).
 
-ghost use Rattle.std.specs.Prelude.{◌≡◌, ◌+◌, ◌-◌, ◌*◌, ◌/◌, ◌%◌, ◌<◌, ◌≤◌, length};
+ghost use Rattle.std.specs.Prelude.{◌≡◌, ◌+◌, ◌-◌, ◌*◌, ◌/◌, ◌%◌, ◌<◌, ◌≤◌, false, length};
 ghost use Rattle.scrypt_kernel.specs.Words.{bytes_of, words_of};
+ghost use Rattle.scrypt_kernel.specs.Count.{AreCounted, AreCountedAs};
 ghost use Rattle.scrypt_kernel.specs.RoMix.{ro_mix};
 ghost use Rattle.scrypt_kernel.specs.Diagonal.{permuted};
 ghost use Rattle.scrypt_kernel.specs.Table.{thin_ro_mix_cost};
@@ -43,10 +44,8 @@ pub fn mix_chunk<O: Order, M: Memory>(
     requires spare { 0 < s → thin_scratch_words (length b.old / 128) ≤ length t.old }
     ensures value { b.new ≡ bytes_of (ro_mix (words_of b.old) log_n) }
     ensures room { M.room rows.old ≤ M.room rows.new }
-    ensures all { cores.new.all ≡ cores.old.all
-        + thin_ro_mix_cost (words_of b.old) log_n s (length b.old / 128) }
-    ensures lanes { cores.new.lanes ≡ cores.old.lanes + O.lanes_of_core
-        * thin_ro_mix_cost (words_of b.old) log_n s (length b.old / 128) }
+    ensures counted { AreCountedAs O.simd
+        (thin_ro_mix_cost (words_of b.old) log_n s (length b.old / 128)) cores.old cores.new }
 {
     let words = b.len() / 4;
     let (x, rest) = t.split_at_mut(words);
@@ -90,8 +89,7 @@ fn write_out<O: Order>(x: &mut [u32], b: &mut [u8])
 pub fn scrypt_ro_mix(b: &mut [u8], v: &mut [u32], t: &mut [u32], log_n: u8, cores: &mut CoreCount)
     requires lens { AreRoMixLens log_n (length b.old) (length v.old) (length t.old) }
     ensures value { b.new ≡ bytes_of (ro_mix (words_of b.old) log_n) }
-    ensures all { cores.new.all ≡ cores.old.all + ro_mix_cost log_n (length b.old / 128) }
-    ensures lanes { cores.new.lanes ≡ cores.old.lanes + ro_mix_cost log_n (length b.old / 128) }
+    ensures counted { AreCounted (ro_mix_cost log_n (length b.old / 128)) cores.old cores.new }
 {
     mix_chunk::<Diagonal, Buffer<'_>>(b, &mut Buffer::new(v), t, log_n, 0, cores);
 }
@@ -113,10 +111,8 @@ pub fn thin_ro_mix(
 )
     requires lens { AreThinLens log_n s (length b.old) (length v.old) (length t.old) }
     ensures value { b.new ≡ bytes_of (ro_mix (words_of b.old) log_n) }
-    ensures all { cores.new.all ≡ cores.old.all
-        + thin_ro_mix_cost (words_of b.old) log_n s (length b.old / 128) }
-    ensures lanes { cores.new.lanes ≡ cores.old.lanes
-        + thin_ro_mix_cost (words_of b.old) log_n s (length b.old / 128) }
+    ensures counted { AreCounted
+        (thin_ro_mix_cost (words_of b.old) log_n s (length b.old / 128)) cores.old cores.new }
 {
     mix_chunk::<Diagonal, Buffer<'_>>(b, &mut Buffer::new(v), t, log_n, s, cores);
 }
@@ -128,8 +124,7 @@ pub fn thin_ro_mix(
 pub fn plain_ro_mix(b: &mut [u8], v: &mut [u32], t: &mut [u32], log_n: u8, cores: &mut CoreCount)
     requires lens { AreRoMixLens log_n (length b.old) (length v.old) (length t.old) }
     ensures value { b.new ≡ bytes_of (ro_mix (words_of b.old) log_n) }
-    ensures all { cores.new.all ≡ cores.old.all + ro_mix_cost log_n (length b.old / 128) }
-    ensures lanes { cores.new.lanes ≡ cores.old.lanes }
+    ensures counted { AreCountedAs false (ro_mix_cost log_n (length b.old / 128)) cores.old cores.new }
 {
     mix_chunk::<Standard, Buffer<'_>>(b, &mut Buffer::new(v), t, log_n, 0, cores);
 }

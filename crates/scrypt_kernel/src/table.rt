@@ -3,6 +3,7 @@
 
 ghost use Rattle.std.specs.Prelude.{◌≡◌, ◌+◌, ◌-◌, ◌*◌, ◌/◌, ◌%◌, ◌^◌, ◌<◌, ◌≤◌, ◌++◌, length};
 ghost use Rattle.scrypt_kernel.specs.Words.{part};
+ghost use Rattle.scrypt_kernel.specs.Count.{AreCountedAs};
 ghost use Rattle.scrypt_kernel.specs.RoMix.{row};
 ghost use Rattle.scrypt_kernel.specs.KeptRows.{IsFilled, IsRowLen};
 ghost use Rattle.scrypt_kernel.specs.Diagonal.{permuted};
@@ -33,9 +34,7 @@ pub(crate) fn fill<O: Order, M: Memory>(
     requires room { 2 ^ (log_n - s) * length x.old ≤ M.room rows.old }
     ensures room { M.room rows.old ≤ M.room rows.new }
     ensures filled { IsFilled O.pivot O.inverse_pivot log_n s x.old (M.words rows.new) x.new }
-    ensures all { cores.new.all ≡ cores.old.all + 2 ^ log_n * (2 * (length x.old / 32)) }
-    ensures lanes { cores.new.lanes ≡ cores.old.lanes
-        + O.lanes_of_core * (2 ^ log_n * (2 * (length x.old / 32))) }
+    ensures counted { AreCountedAs O.simd (2 ^ log_n * (2 * (length x.old / 32))) cores.old cores.new }
 {
     rows.clear();
     rows.append(x);
@@ -65,9 +64,7 @@ fn append_next<O: Order, M: Memory>(
     ensures words { M.words rows.new ≡ M.words rows.old ++ permuted O.pivot
         (row (permuted O.inverse_pivot (part (length x.old) (M.words rows.old) m)) (2 ^ s)) }
     ensures room { M.room rows.old ≤ M.room rows.new }
-    ensures all { cores.new.all ≡ cores.old.all + 2 ^ s * (2 * (length x.old / 32)) }
-    ensures lanes { cores.new.lanes ≡ cores.old.lanes
-        + O.lanes_of_core * (2 ^ s * (2 * (length x.old / 32))) }
+    ensures counted { AreCountedAs O.simd (2 ^ s * (2 * (length x.old / 32))) cores.old cores.new }
 {
     if s == 0 {
         rows.append_mix::<O>(m, x, cores);
@@ -92,9 +89,7 @@ pub(crate) fn recompute<O: Order>(
     requires same { length x.old ≡ length kept.now }
     requires scratch { length y.old ≡ length kept.now }
     ensures value { x.new ≡ permuted O.pivot (row (permuted O.inverse_pivot kept.now) n) }
-    ensures all { cores.new.all ≡ cores.old.all + n * (2 * (length kept.now / 32)) }
-    ensures lanes { cores.new.lanes ≡ cores.old.lanes
-        + O.lanes_of_core * (n * (2 * (length kept.now / 32))) }
+    ensures counted { AreCountedAs O.simd (n * (2 * (length kept.now / 32))) cores.old cores.new }
 {
     if n % 2 == 0 {
         mix::<O, &[u32]>(&kept, y, cores);

@@ -1,6 +1,7 @@
 //! The walk of scryptROMix (RFC 7914, section 5, step 3).
 
 ghost use Rattle.std.specs.Prelude.{◌≡◌, ℕ, ◌+◌, ◌*◌, ◌/◌, ◌%◌, ◌^◌, List, length};
+ghost use Rattle.scrypt_kernel.specs.Count.{AreCountedAs};
 ghost use Rattle.scrypt_kernel.specs.Diagonal.{permuted};
 ghost use Rattle.scrypt_kernel.specs.RoMix.{integerify};
 ghost use Rattle.scrypt_kernel.specs.Table.{recomputed_rows};
@@ -31,8 +32,7 @@ pub(crate) fn take_steps<O: Order>(
 )
     requires lens { AreWalkLens log_n s (length x.old) (length y.old) (length spare.old) (length v.now) }
     ensures walked { (b : List ℕ) → StartsWalk O.pivot b log_n s v.now x.old
-        → AfterSteps O.pivot b log_n s (length x.old) O.lanes_of_core
-        cores.old.all cores.old.lanes (2 ^ log_n) x.new cores.new.all cores.new.lanes }
+        → AfterSteps O.pivot b log_n s (length x.old) O.simd cores.old (2 ^ log_n) x.new cores.new }
 {
     if log_n == 0 {
         step::<O>(x, v, y, spare, log_n, s, cores);
@@ -58,11 +58,8 @@ fn step<O: Order>(
 )
     requires lens { AreWalkLens log_n s (length x.now) (length y.old) (length spare.old) (length v.now) }
     ensures value { IsNext O.pivot log_n s v.now x.now y.new }
-    ensures all { let j = integerify (permuted O.inverse_pivot x.now) % 2 ^ log_n in
-        cores.new.all ≡ cores.old.all + (recomputed_rows s j + 1) * (2 * (length x.now / 32)) }
-    ensures lanes { let j = integerify (permuted O.inverse_pivot x.now) % 2 ^ log_n in
-        cores.new.lanes ≡ cores.old.lanes
-        + O.lanes_of_core * ((recomputed_rows s j + 1) * (2 * (length x.now / 32))) }
+    ensures counted { let j = integerify (permuted O.inverse_pivot x.now) % 2 ^ log_n in
+        AreCountedAs O.simd ((recomputed_rows s j + 1) * (2 * (length x.now / 32))) cores.old cores.new }
 {
     let j = O::integerify(x, log_n);
     let kept = part(x.len(), v, j >> s);

@@ -1,6 +1,7 @@
 //! scryptBlockMix (RFC 7914, section 4) on words in diagonal order, four lanes at a time.
 
 ghost use Rattle.std.specs.Prelude.{◌≡◌, ◌+◌, ◌*◌, ◌/◌, ◌%◌, ◌<◌, length};
+ghost use Rattle.scrypt_kernel.specs.Count.{AreCounted};
 ghost use Rattle.scrypt_kernel.specs.BlockMix.{block_mix};
 ghost use Rattle.scrypt_kernel.specs.Diagonal.{diagonal_order, standard_order};
 
@@ -20,8 +21,7 @@ pub fn scrypt_block_mix(input: &[u32], output: &mut [u32], cores: &mut CoreCount
     requires some { 0 < length input.now }
     requires whole { length input.now % 32 ≡ 0 }
     ensures value { output.new ≡ diagonal_order (block_mix (standard_order input.now)) }
-    ensures all { cores.new.all ≡ cores.old.all + 2 * (length input.now / 32) }
-    ensures lanes { cores.new.lanes ≡ cores.old.lanes + 2 * (length input.now / 32) }
+    ensures counted { AreCounted (2 * (length input.now / 32)) cores.old cores.new }
 {
     mix::<Diagonal, &[u32]>(&input, output, cores);
 }

@@ -3,6 +3,7 @@
 ghost use Rattle.std.specs.Prelude.{◌≡◌, ◌+◌, ◌*◌, ◌/◌, ◌%◌, ◌<◌, ◌≤◌, length};
 ghost use Rattle.scrypt_kernel.specs.Words.{block, xor_words};
 ghost use Rattle.scrypt_kernel.specs.Salsa.{salsa20_8};
+ghost use Rattle.scrypt_kernel.specs.Count.{AreCounted};
 ghost use Rattle.scrypt_kernel.specs.BlockMix.{block_mix};
 ghost use Rattle.scrypt_kernel.specs.KeptRows.{IsRowLen};
 ghost use Rattle.scrypt_kernel.specs.Diagonal.{diagonal_order, standard_order};
@@ -29,8 +30,7 @@ pub(crate) fn mix_pair<I: Input>(
     ensures value { output.new ≡ diagonal_order (block_mix (standard_order (I.words input.now))) }
     ensures other_value { other_output.new
         ≡ diagonal_order (block_mix (standard_order (I.words other_input.now))) }
-    ensures all { cores.new.all ≡ cores.old.all + 2 * (2 * (length output.old / 32)) }
-    ensures lanes { cores.new.lanes ≡ cores.old.lanes + 2 * (2 * (length output.old / 32)) }
+    ensures counted { AreCounted (2 * (2 * (length output.old / 32))) cores.old cores.new }
 {
     let r = output.len() / 32;
     // Step 1: X = B[2 * r - 1].
@@ -64,8 +64,7 @@ fn step<I: Input>(
         (standard_order (xor_words x.old (block (I.words input.now) i)))) }
     ensures other_value { other_x.new ≡ diagonal_order (salsa20_8
         (standard_order (xor_words other_x.old (block (I.words other_input.now) i)))) }
-    ensures all { cores.new.all ≡ cores.old.all + 2 }
-    ensures lanes { cores.new.lanes ≡ cores.old.lanes + 2 }
+    ensures counted { AreCounted 2 cores.old cores.new }
 {
     *x = xor_blocks(x, &input.block(i));
     *other_x = xor_blocks(other_x, &other_input.block(i));

@@ -1,6 +1,7 @@
 //! scryptBlockMix (RFC 7914, section 4) on words in standard order.
 
-ghost use Rattle.std.specs.Prelude.{◌≡◌, ◌+◌, ◌*◌, ◌/◌, ◌%◌, ◌<◌, length};
+ghost use Rattle.std.specs.Prelude.{◌≡◌, ◌+◌, ◌*◌, ◌/◌, ◌%◌, ◌<◌, false, length};
+ghost use Rattle.scrypt_kernel.specs.Count.{AreCountedAs};
 ghost use Rattle.scrypt_kernel.specs.BlockMix.{block_mix};
 
 use crate::CoreCount;
@@ -16,8 +17,7 @@ pub fn scrypt_block_mix(input: &[u32], output: &mut [u32], cores: &mut CoreCount
     requires some { 0 < length input.now }
     requires whole { length input.now % 32 ≡ 0 }
     ensures value { output.new ≡ block_mix input.now }
-    ensures all { cores.new.all ≡ cores.old.all + 2 * (length input.now / 32) }
-    ensures lanes { cores.new.lanes ≡ cores.old.lanes }
+    ensures counted { AreCountedAs false (2 * (length input.now / 32)) cores.old cores.new }
 {
     mix::<Standard, &[u32]>(&input, output, cores);
 }

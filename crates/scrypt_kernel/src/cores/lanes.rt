@@ -2,6 +2,7 @@
 
 ghost use Rattle.std.specs.Prelude.{◌≡◌, ◌+◌, ◌*◌, ◌<◌, ◌++◌};
 ghost use Rattle.scrypt_kernel.specs.Salsa.{double_round, salsa20_8};
+ghost use Rattle.scrypt_kernel.specs.Count.{AreCounted};
 ghost use Rattle.scrypt_kernel.specs.Diagonal.{diagonal_order, standard_order};
 ghost use Rattle.scrypt_kernel.specs.Lanes.{lanes_of, quarter_rounds, turned, xor_rotated};
 
@@ -14,8 +15,7 @@ use std::simd::{Simd, u32x4};
 #[inline(always)]
 pub fn core(x: &mut [u32; 16], cores: &mut CoreCount)
     ensures value { x.new ≡ diagonal_order (salsa20_8 (standard_order x.old)) }
-    ensures all { cores.new.all ≡ cores.old.all + 1 }
-    ensures lanes { cores.new.lanes ≡ cores.old.lanes + 1 }
+    ensures counted { AreCounted 1 cores.old cores.new }
 {
     let from = *x;
     salsa20_8(x);

@@ -4,6 +4,7 @@
 ghost use Rattle.std.specs.Prelude.{◌≡◌, ◌+◌, ◌<◌, ◌++◌, take, drop};
 ghost use Rattle.scrypt_kernel.specs.Words.{part};
 ghost use Rattle.scrypt_kernel.specs.Salsa.{double_round, salsa20_8};
+ghost use Rattle.scrypt_kernel.specs.Count.{AreCounted};
 ghost use Rattle.scrypt_kernel.specs.Diagonal.{diagonal_order, standard_order};
 ghost use Rattle.scrypt_kernel.specs.Lanes.{lanes_of, quarter_rounds, turned};
 ghost use Rattle.scrypt_kernel.specs.Pair.{first, second};
@@ -57,8 +58,7 @@ fn double_round(a: u32x8, b: u32x8, c: u32x8, d: u32x8) -> (u32x8, u32x8, u32x8,
 pub(crate) fn core_pair(x: &mut [u32; 16], y: &mut [u32; 16], cores: &mut CoreCount)
     ensures one { x.new ≡ diagonal_order (salsa20_8 (standard_order x.old)) }
     ensures other { y.new ≡ diagonal_order (salsa20_8 (standard_order y.old)) }
-    ensures all { cores.new.all ≡ cores.old.all + 2 }
-    ensures lanes { cores.new.lanes ≡ cores.old.lanes + 2 }
+    ensures counted { AreCounted 2 cores.old cores.new }
 {
     let (from, other) = (*x, *y);
     salsa20_8(x, y);

@@ -1,7 +1,8 @@
 //! The Salsa20/8 core (RFC 7914, section 3) on words in standard order.
 
-ghost use Rattle.std.specs.Prelude.{◌≡◌, ◌≢◌, ◌+◌, ◌<◌};
+ghost use Rattle.std.specs.Prelude.{◌≡◌, ◌≢◌, ◌<◌, false};
 ghost use Rattle.scrypt_kernel.specs.Salsa.{quarter_round_at, double_round, salsa20_8};
+ghost use Rattle.scrypt_kernel.specs.Count.{AreCountedAs};
 
 use crate::cores::CoreCount;
 use crate::words::add_words;
@@ -10,8 +11,7 @@ use crate::words::add_words;
 #[inline(always)]
 pub fn core(x: &mut [u32; 16], cores: &mut CoreCount)
     ensures value { x.new ≡ salsa20_8 x.old }
-    ensures all { cores.new.all ≡ cores.old.all + 1 }
-    ensures lanes { cores.new.lanes ≡ cores.old.lanes }
+    ensures counted { AreCountedAs false 1 cores.old cores.new }
 {
     let from = *x;
     let mut turned = from;

@@ -2,6 +2,7 @@
 
 ghost use Rattle.std.specs.Prelude.{◌≡◌, ◌+◌, ◌*◌, ◌/◌, ◌%◌, ◌<◌, ◌≤◌, ◌++◌, length};
 ghost use Rattle.scrypt_kernel.specs.Words.{part};
+ghost use Rattle.scrypt_kernel.specs.Count.{AreCounted};
 ghost use Rattle.scrypt_kernel.specs.BlockMix.{block_mix};
 ghost use Rattle.scrypt_kernel.specs.KeptRows.{IsRowLen};
 ghost use Rattle.scrypt_kernel.specs.Diagonal.{diagonal_order, standard_order};
@@ -34,8 +35,7 @@ pub(crate) fn append_mix_pair(
         ++ diagonal_order (block_mix (standard_order (part s (buffer_words other_rows.old) i))) }
     ensures room { buffer_room rows.old ≤ buffer_room rows.new }
     ensures other_room { buffer_room other_rows.old ≤ buffer_room other_rows.new }
-    ensures all { cores.new.all ≡ cores.old.all + 2 * (2 * (s / 32)) }
-    ensures lanes { cores.new.lanes ≡ cores.old.lanes + 2 * (2 * (s / 32)) }
+    ensures counted { AreCounted (2 * (2 * (s / 32))) cores.old cores.new }
 {
     let memory = &mut *rows.memory;
     let (front, rest) = memory.split_at_mut(rows.len);

@@ -4,7 +4,7 @@
 //! another, so the words of each column are in the same lane of four vectors. Word 0 stays at place
 //! 0, and word 1 is at place 13.
 
-ghost use Rattle.std.specs.Prelude.{◌≡◌, ◌≢◌, ℕ, ◌+◌, ◌-◌, ◌*◌, ◌%◌, ◌^◌, ◌<◌, ◌≤◌, length, IsTrue, nat_lt, refl, slice_index};
+ghost use Rattle.std.specs.Prelude.{◌≡◌, ◌≢◌, ℕ, ◌+◌, ◌-◌, ◌*◌, ◌%◌, ◌^◌, ◌<◌, ◌≤◌, length, IsTrue, nat_lt, refl, slice_index, true};
 ghost use Rattle.std.specs.List.{list_all};
 ghost use Rattle.scrypt_kernel.specs.Words.{block};
 ghost use Rattle.scrypt_kernel.specs.RoMix.{integerify};
@@ -46,7 +46,7 @@ impl Order for Diagonal {
 
     ghost inverse_pivot = { inverse_pivot };
 
-    ghost lanes_of_core = { 1 };
+    ghost simd = { true };
 
     fn shuffle_in(x: &mut [u32]) {
         shuffle_in(x);

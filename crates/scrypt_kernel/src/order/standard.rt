@@ -1,6 +1,6 @@
 //! The order of the standard.
 
-ghost use Rattle.std.specs.Prelude.{◌≡◌, ◌%◌, ◌^◌, ◌<◌, ◌≤◌, length, refl};
+ghost use Rattle.std.specs.Prelude.{◌≡◌, ◌%◌, ◌^◌, ◌<◌, ◌≤◌, false, length, refl};
 ghost use Rattle.std.specs.List.{range_with_len};
 ghost use Rattle.scrypt_kernel.specs.RoMix.{integerify};
 
@@ -16,7 +16,7 @@ impl Order for Standard {
 
     ghost inverse_pivot = { range_with_len 0 16 };
 
-    ghost lanes_of_core = { 0 };
+    ghost simd = { false };
 
     fn shuffle_in(_x: &mut [u32]) {}
 

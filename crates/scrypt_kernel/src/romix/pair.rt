@@ -2,6 +2,7 @@
 
 ghost use Rattle.std.specs.Prelude.{◌≡◌, ◌+◌, ◌*◌, ◌/◌, ◌<◌, ◌≤◌, length};
 ghost use Rattle.scrypt_kernel.specs.Words.{bytes_of, words_of};
+ghost use Rattle.scrypt_kernel.specs.Count.{AreCounted};
 ghost use Rattle.scrypt_kernel.specs.RoMix.{ro_mix};
 ghost use Rattle.scrypt_kernel.specs.RoMixCost.{AreBytesOfB, ro_mix_cost, scratch_words, table_words};
 
@@ -35,8 +36,7 @@ pub fn mix_two_chunks(
     requires scratch { 2 * scratch_words (length b.old / 128) ≤ length t.old }
     ensures value { b.new ≡ bytes_of (ro_mix (words_of b.old) log_n) }
     ensures other_value { other_b.new ≡ bytes_of (ro_mix (words_of other_b.old) log_n) }
-    ensures all { cores.new.all ≡ cores.old.all + 2 * ro_mix_cost log_n (length b.old / 128) }
-    ensures lanes { cores.new.lanes ≡ cores.old.lanes + 2 * ro_mix_cost log_n (length b.old / 128) }
+    ensures counted { AreCounted (2 * ro_mix_cost log_n (length b.old / 128)) cores.old cores.new }
 {
     let words = b.len() / 4;
     let (x, rest) = t.split_at_mut(words);

@@ -1,6 +1,7 @@
 //! Two whole tables of scryptROMix (RFC 7914, section 5, step 2), filled at once.
 
 ghost use Rattle.std.specs.Prelude.{◌≡◌, ◌+◌, ◌*◌, ◌/◌, ◌%◌, ◌^◌, ◌<◌, ◌≤◌, length};
+ghost use Rattle.scrypt_kernel.specs.Count.{AreCounted};
 ghost use Rattle.scrypt_kernel.specs.KeptRows.{IsFilled, IsRowLen};
 ghost use Rattle.scrypt_kernel.specs.Diagonal.{inverse_pivot, pivot};
 ghost use Rattle.scrypt_kernel.specs.Memory.{buffer_room, buffer_words};
@@ -30,9 +31,7 @@ pub(crate) fn fill_pair(
     ensures filled { IsFilled pivot inverse_pivot log_n 0 x.old (buffer_words rows.new) x.new }
     ensures other_filled { IsFilled pivot inverse_pivot log_n 0 other_x.old (buffer_words other_rows.new)
         other_x.new }
-    ensures all { cores.new.all ≡ cores.old.all + 2 * (2 ^ log_n * (2 * (length x.old / 32))) }
-    ensures lanes { cores.new.lanes
-        ≡ cores.old.lanes + 2 * (2 ^ log_n * (2 * (length x.old / 32))) }
+    ensures counted { AreCounted (2 * (2 ^ log_n * (2 * (length x.old / 32)))) cores.old cores.new }
 {
     let s = x.len();
     rows.clear();

@@ -1,6 +1,7 @@
 //! Two walks of scryptROMix (RFC 7914, section 5, step 3) at once, over whole tables.
 
 ghost use Rattle.std.specs.Prelude.{◌≡◌, ◌+◌, ◌*◌, ◌/◌, ◌^◌, length};
+ghost use Rattle.scrypt_kernel.specs.Count.{AreCounted};
 ghost use Rattle.scrypt_kernel.specs.Diagonal.{pivot};
 ghost use Rattle.scrypt_kernel.specs.KeptRows.{AreWalkLens, IsNext, IsWalked};
 
@@ -31,9 +32,7 @@ pub(crate) fn take_steps_pair(
     requires same { length other_x.old ≡ length x.old }
     ensures walked { IsWalked pivot log_n 0 v.now x.old (2 ^ log_n) x.new }
     ensures other_walked { IsWalked pivot log_n 0 other_v.now other_x.old (2 ^ log_n) other_x.new }
-    ensures all { cores.new.all ≡ cores.old.all + 2 * (2 ^ log_n * (2 * (length x.old / 32))) }
-    ensures lanes { cores.new.lanes
-        ≡ cores.old.lanes + 2 * (2 ^ log_n * (2 * (length x.old / 32))) }
+    ensures counted { AreCounted (2 * (2 ^ log_n * (2 * (length x.old / 32)))) cores.old cores.new }
 {
     if log_n == 0 {
         step(x, other_x, v, other_v, y, other_y, log_n, cores);
@@ -64,8 +63,7 @@ fn step(
     requires same { length other_x.now ≡ length x.now }
     ensures value { IsNext pivot log_n 0 v.now x.now y.new }
     ensures other_value { IsNext pivot log_n 0 other_v.now other_x.now other_y.new }
-    ensures all { cores.new.all ≡ cores.old.all + 2 * (2 * (length x.now / 32)) }
-    ensures lanes { cores.new.lanes ≡ cores.old.lanes + 2 * (2 * (length x.now / 32)) }
+    ensures counted { AreCounted (2 * (2 * (length x.now / 32))) cores.old cores.new }
 {
     let taken = part(x.len(), v, integerify_diagonal(x, log_n));
     let other_taken = part(x.len(), other_v, integerify_diagonal(other_x, log_n));

@@ -1,11 +1,11 @@
-use Rattle.std.proofs.Common.{◌/◌, length, arith}
+use Rattle.std.proofs.Common.{◌/◌, length, refl, arith}
+use Rattle.scrypt_kernel.proofs.CountFacts.{counted_both, counted_none}
 use Rattle.scrypt_kernel.proofs.BlockMixFacts.{all_turns, no_turn, one_more_turn}
 use Rattle.scrypt_kernel.proofs.block_mix.mix.Goals as goal
 
 pub steps-init : goal.steps-init
 steps-init g c = record {
-  all = omega arith;
-  lanes = omega arith;
+  counted = counted_none _ _ _ (omega arith);
   mixed = no_turn _ _ g.met.O.Order.inverse (g.I.Input.words c.args.input.now) (length c.args.output.now / 32)
       (omega arith) (omega arith) (omega arith) _ _ c.block-x.ensures;
 }
@@ -15,8 +15,7 @@ steps-preserved g c =
     let one = c.step.ensures in
     let two = c.step-in-steps.ensures in
     record {
-      all = omega (arith, one.all, two.all, c.steps.invariant.all);
-      lanes = omega (arith, one.lanes, two.lanes, c.steps.invariant.lanes);
+      counted = counted_both _ (counted_both _ c.steps.invariant.counted one.counted refl) two.counted (omega arith);
       mixed = one_more_turn _ _ g.met.O.Order.inverse _ (length c.args.output.now / 32) (omega arith) (omega arith) (omega arith)
           _ _ _ _ _ _ _ (omega arith) c.steps.invariant.mixed
           one.value c.put_block.ensures.written c.put_block.ensures.others

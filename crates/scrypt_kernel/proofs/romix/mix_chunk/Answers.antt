@@ -2,7 +2,7 @@ use Rattle.std.proofs.Common.{◌≡◌, ℕ, ◌%◌, ◌/◌, ◌^◌, length,
 use Rattle.scrypt_kernel.specs.Words.{bytes_of, words_of}
 use Rattle.scrypt_kernel.specs.Diagonal.{permuted}
 use Rattle.scrypt_kernel.proofs.OrderFacts.{length-permuted}
-use Rattle.scrypt_kernel.proofs.WalkFacts.{filled_and_walked, filled_and_walked_lanes, filled_starts, ro_mixed}
+use Rattle.scrypt_kernel.proofs.WalkFacts.{filled_and_walked, filled_starts, ro_mixed}
 use Rattle.scrypt_kernel.proofs.romix.mix_chunk.Goals as goal
 
 pub returns : goal.returns
@@ -25,6 +25,5 @@ returns g c =
           ∙ ap bytes_of (ro_mixed p q g.met.O.Order.inverse w x _ c.fill.new.x n c.args.s whole is
           c.fill.ensures.filled size _ (λ b starts. (c.take_steps.ensures.walked b (rw c.words.ensures.value starts)).value) (omega arith));
       room = c.fill.ensures.room;
-      all = filled_and_walked _ _ _ (2 ^ n) (length x) _ r _ blocks size c.fill.ensures.all walked.all_cores;
-      lanes = filled_and_walked_lanes _ _ _ (2 ^ n) (length x) _ r _ _ blocks size c.fill.ensures.lanes walked.lane_cores;
+      counted = filled_and_walked (2 ^ n) (length x) _ r _ blocks size c.fill.ensures.counted walked.counted;
     }

@@ -1,21 +1,13 @@
-use Rattle.std.proofs.Common.{◌≡◌, ◌≤◌, ℕ, length, ◌*◌, ◌/◌, ◌%◌, ◌+◌, ◌-◌, ◌^◌, ◌++◌, [], refl, sym, ap, ap₂, ◌∙◌, arith}
+use Rattle.std.proofs.Common.{◌≡◌, ◌≤◌, ℕ, length, ◌*◌, ◌%◌, ◌+◌, ◌-◌, ◌^◌, ◌++◌, [], refl, sym, ap, ap₂, ◌∙◌, arith}
 use Rattle.std.proofs.lemmas.Nat.{one_shl}
 use Rattle.std.proofs.Math.Nat.{mul-le-mul_right}
 use Rattle.scrypt_kernel.specs.Words.{part}
 use Rattle.scrypt_kernel.specs.RoMix.{row}
 use Rattle.scrypt_kernel.specs.Diagonal.{permuted}
+use Rattle.scrypt_kernel.proofs.CountFacts.{counted_both, counted_none}
 use Rattle.scrypt_kernel.proofs.RoMixFacts.{first_row, more_rows}
 use Rattle.scrypt_kernel.proofs.WalkFacts.{all_rows, filled, kept_rows}
 use Rattle.scrypt_kernel.proofs.table.fill.Goals as goal
-
-no_cores : (a l t n : ℕ) → a ≡ a + l * (0 * t * n)
-no_cores a l t n = omega arith
-
-sum_all : (a m t n : ℕ) → a + m * t * n + t * n ≡ a + (m + 1) * t * n
-sum_all a m t n = omega arith
-
-sum_lanes : (a l m t n : ℕ) → a + l * (m * t * n) + l * (t * n) ≡ a + l * ((m + 1) * t * n)
-sum_lanes a l m t n = omega arith
 
 pub rows-init : goal.rows-init
 rows-init g c =
@@ -24,8 +16,7 @@ rows-init g c =
     record {
       room = omega (arith, c.clear.ensures.room, c.append.ensures.room);
       held = first_row g.O.Order.pivot g.O.Order.inverse_pivot g.met.O.Order.inverse x _ _ (2 ^ c.args.s) refl c.requires.row.whole words;
-      all = omega arith;
-      lanes = no_cores _ g.O.Order.lanes_of_core (2 ^ c.args.s) (2 * (length x / 32));
+      counted = counted_none _ _ _ (omega arith);
     }
 
 pub append_next-requires-clause-room : goal.append_next-requires-clause-room
@@ -44,11 +35,7 @@ rows-preserved g c =
       room = omega (arith, c.rows.invariant.room, c.append_next.ensures.room);
       held = more_rows g.O.Order.pivot g.O.Order.inverse_pivot g.met.O.Order.inverse _ _ _ size (2 ^ c.args.s) c.rows.m
           (omega arith) (omega arith) c.rows.invariant.held added;
-      all = c.append_next.ensures.all ∙ ap (λ n. c.rows.cores.all + 2 ^ c.args.s * (2 * (n / 32))) same
-          ∙ ap (λ n. n + 2 ^ c.args.s * (2 * (size / 32))) c.rows.invariant.all ∙ sum_all _ c.rows.m (2 ^ c.args.s) (2 * (size / 32));
-      lanes = c.append_next.ensures.lanes ∙ ap (λ n. c.rows.cores.lanes + g.O.Order.lanes_of_core * (2 ^ c.args.s * (2 * (n / 32)))) same
-          ∙ ap (λ n. n + g.O.Order.lanes_of_core * (2 ^ c.args.s * (2 * (size / 32)))) c.rows.invariant.lanes
-          ∙ sum_lanes _ g.O.Order.lanes_of_core c.rows.m (2 ^ c.args.s) (2 * (size / 32));
+      counted = counted_both _ c.rows.invariant.counted (rw same at c.append_next.ensures.counted) (omega arith);
     }
 
 pub returns-clause-filled : goal.returns-clause-filled
@@ -63,21 +50,10 @@ returns-clause-filled g c =
     (c.recompute.ensures.value ∙ ap (λ n. permuted g.O.Order.pivot (row (permuted g.O.Order.inverse_pivot c.part.result.now) n))
     (one_shl c.args.s 64 (omega arith)))
 
-pub returns-clause-all : goal.returns-clause-all
-returns-clause-all g c =
-    let size = length c.args.x.now in
-    let long : length c.part.result.now ≡ size = omega arith in
-    c.recompute.ensures.all ∙ ap₂ (λ n i. c.rows.cores.all + n * (2 * (i / 32))) (one_shl c.args.s 64 (omega arith)) long
-    ∙ ap (λ n. n + 2 ^ c.args.s * (2 * (size / 32))) c.rows.invariant.all ∙ sum_all _ c.rows.m (2 ^ c.args.s) (2 * (size / 32))
-    ∙ ap (λ n. c.args.cores.now.all + n * (2 * (size / 32)))
-    (all_rows c.args.log_n c.args.s c.rows.m c.requires.spacing (kept_rows c.args.log_n c.args.s c.rows.m c.requires.small (omega arith)))
-
-pub returns-clause-lanes : goal.returns-clause-lanes
-returns-clause-lanes g c =
-    let size = length c.args.x.now in
-    let l = g.O.Order.lanes_of_core in
-    let long : length c.part.result.now ≡ size = omega arith in
-    c.recompute.ensures.lanes ∙ ap₂ (λ n i. c.rows.cores.lanes + l * (n * (2 * (i / 32)))) (one_shl c.args.s 64 (omega arith)) long
-    ∙ ap (λ n. n + l * (2 ^ c.args.s * (2 * (size / 32)))) c.rows.invariant.lanes ∙ sum_lanes _ l c.rows.m (2 ^ c.args.s) (2 * (size / 32))
-    ∙ ap (λ n. c.args.cores.now.lanes + l * (n * (2 * (size / 32))))
-    (all_rows c.args.log_n c.args.s c.rows.m c.requires.spacing (kept_rows c.args.log_n c.args.s c.rows.m c.requires.small (omega arith)))
+pub returns-clause-counted : goal.returns-clause-counted
+returns-clause-counted g c =
+    let long : length c.part.result.now ≡ length c.args.x.now = omega arith in
+    let kept = kept_rows c.args.log_n c.args.s c.rows.m c.requires.small (omega arith) in
+    let all = all_rows c.args.log_n c.args.s c.rows.m c.requires.spacing kept in
+    counted_both _ c.rows.invariant.counted (rw (one_shl c.args.s 64 (omega arith), long) at c.recompute.ensures.counted)
+    (rw (← all) (omega arith))

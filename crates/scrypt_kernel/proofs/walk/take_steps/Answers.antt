@@ -3,7 +3,7 @@ use Rattle.scrypt_kernel.proofs.WalkFacts.{all_steps, no_step, one_more_step}
 use Rattle.scrypt_kernel.proofs.walk.take_steps.Goals as goal
 
 pub pairs-init : goal.pairs-init
-pairs-init g c b starts = no_step g.O.Order.pivot b c.args.log_n c.args.s g.O.Order.lanes_of_core _ _ _ _ starts
+pairs-init g c b starts = no_step g.O.Order.pivot b c.args.log_n c.args.s g.O.Order.simd _ _ _ starts
 
 pub pairs-preserved : goal.pairs-preserved
 pairs-preserved g c b starts =
@@ -11,9 +11,8 @@ pairs-preserved g c b starts =
     let two = c.step-in-pairs-2.ensures in
     let more = one_more_step g.O.Order.pivot g.O.Order.inverse_pivot g.met.O.Order.inverse b c.args.log_n c.args.s (length c.args.x.now) in
     let next : 2 * c.pairs._k + 1 + 1 ≡ 2 * (c.pairs._k + 1) = omega arith in
-    let first = more _ _ _ _ _ _ _ _ _ _ _ _ starts (c.pairs.invariant b starts) refl c.pairs.auto.x (omega arith)
-    one.value one.all one.lanes in
-    rw (← next) (more _ _ _ _ _ _ _ _ _ _ _ _ starts first refl (omega arith) (omega arith) two.value two.all two.lanes)
+    let first = more _ _ _ _ _ _ _ starts (c.pairs.invariant b starts) refl c.pairs.auto.x (omega arith) one.value one.counted in
+    rw (← next) (more _ _ _ _ _ _ _ starts first refl (omega arith) (omega arith) two.value two.counted)
 
 pub returns-then-log_n-eq0 : goal.returns-then-log_n-eq0
 returns-then-log_n-eq0 g c = record {
@@ -23,9 +22,9 @@ returns-then-log_n-eq0 g c = record {
       let single : 0 + 1 ≡ 2 ^ c.args.log_n = rw none refl in
       rw (← single)
       (one_more_step g.O.Order.pivot g.O.Order.inverse_pivot g.met.O.Order.inverse b c.args.log_n c.args.s
-      (length c.args.x.now) _ _ _ _ _ _ _ _ _ _ _ _
-      starts (no_step g.O.Order.pivot b c.args.log_n c.args.s g.O.Order.lanes_of_core _ _ _ _ starts) refl refl (omega arith)
-      (λ b k keeps is. c.copy_from_slice.ensures.after ∙ one.value b k keeps is) one.all one.lanes);
+      (length c.args.x.now) _ _ _ _ _ _ _
+      starts (no_step g.O.Order.pivot b c.args.log_n c.args.s g.O.Order.simd _ _ _ starts) refl refl (omega arith)
+      (λ b k keeps is. c.copy_from_slice.ensures.after ∙ one.value b k keeps is) one.counted);
 }
 
 pub returns : goal.returns

@@ -6,5 +6,4 @@ abbrev pub invariant-pairs : goal.invariant-pairs
 invariant-pairs g l =
     let p = g.O.Order.pivot in
     (b : List ℕ) → StartsWalk p b l.log_n l.s l.fn.v l.initial.x
-    → AfterSteps p b l.log_n l.s (length l.initial.x) g.O.Order.lanes_of_core
-    l.initial.cores.all l.initial.cores.lanes (2 * l._k) l.x l.cores.all l.cores.lanes
+    → AfterSteps p b l.log_n l.s (length l.initial.x) g.O.Order.simd l.initial.cores (2 * l._k) l.x l.cores

@@ -1,4 +1,5 @@
-use Rattle.std.proofs.Common.{ℕ, ◌/◌, length, arith}
+use Rattle.std.proofs.Common.{ℕ, ◌/◌, length, refl, arith}
+use Rattle.scrypt_kernel.proofs.CountFacts.{counted_both, counted_none}
 use Rattle.scrypt_kernel.specs.Diagonal.{inverse_pivot, pivot}
 use Rattle.scrypt_kernel.proofs.OrderFacts.{diagonal_inverse}
 use Rattle.scrypt_kernel.proofs.BlockMixFacts.{all_turns, no_turn, one_more_turn}
@@ -8,8 +9,7 @@ pub steps-init : goal.steps-init
 steps-init g c =
     let r : ℕ = length c.args.output.now / 32 in
     record {
-      all = omega arith;
-      lanes = omega arith;
+      counted = counted_none _ _ _ (omega arith);
       mixed = no_turn pivot inverse_pivot diagonal_inverse (g.I.Input.words c.args.input.now) r
           (omega arith) (omega arith) (omega arith) _ _ c.block-x.ensures;
       other_mixed = no_turn pivot inverse_pivot diagonal_inverse (g.I.Input.words c.args.other_input.now) r
@@ -22,8 +22,7 @@ steps-preserved g c =
     let one = c.step.ensures in
     let two = c.step-in-steps.ensures in
     record {
-      all = omega (arith, one.all, two.all, c.steps.invariant.all);
-      lanes = omega (arith, one.lanes, two.lanes, c.steps.invariant.lanes);
+      counted = counted_both _ (counted_both _ c.steps.invariant.counted one.counted refl) two.counted (omega arith);
       mixed = one_more_turn pivot inverse_pivot diagonal_inverse _ r (omega arith) (omega arith) (omega arith)
           _ _ _ _ _ _ _ (omega arith) c.steps.invariant.mixed
           one.value c.put_block.ensures.written c.put_block.ensures.others

@@ -78,7 +78,7 @@ module _ {M : Type 1} {𝓤 : Ura M} (𝓛 : Logic 𝓤) (mem : Memory → SProp
           tt,
           (tt, (tt, tt)),
         ) (tt, (tt, (tt, tt)))) $
-        says ! (refl, refl) $ pure_i ! (made.the_row.own_val counted (vstruct (vcons vunit vnil) ∷ []))
+        says ! (record { all = refl; lanes = refl }) $ pure_i ! (made.the_row.own_val counted (vstruct (vcons vunit vnil) ∷ []))
         ((λ vss. (tt, (tt, tt))), tt) (((vunit ∷ [], tt), (refl, (refl, tt))), tt) $
         move ! (1 ∷ 2 ∷ 0 ∷ []) $ done !)
 

@@ -3,6 +3,7 @@ use Rattle.scrypt_kernel.specs.Words.{part}
 use Rattle.scrypt_kernel.specs.Diagonal.{diagonal_order, inverse_pivot, pivot, standard_order}
 use Rattle.scrypt_kernel.specs.Memory.{buffer_words}
 use Rattle.scrypt_kernel.proofs.OrderFacts.{diagonal_inverse}
+use Rattle.scrypt_kernel.proofs.CountFacts.{counted_both, counted_none}
 use Rattle.scrypt_kernel.proofs.RoMixFacts.{first_row, more_rows, row_one}
 use Rattle.scrypt_kernel.proofs.WalkFacts.{filled}
 use Rattle.scrypt_kernel.proofs.table.pair.fill_pair.Goals as goal
@@ -22,8 +23,7 @@ rows-init c =
           (c.append.ensures.words ∙ ap (λ z. z ++ x) c.clear.ensures.words);
       other_held = first_row pivot inverse_pivot diagonal_inverse other _ _ 1 c.requires.other_x c.requires.row.whole
           (c.append-2.ensures.words ∙ ap (λ z. z ++ other) c.clear-2.ensures.words);
-      all = omega arith;
-      lanes = omega arith;
+      counted = counted_none _ _ _ (omega arith);
     }
 
 pub rows-preserved : goal.rows-preserved
@@ -41,8 +41,7 @@ rows-preserved c =
       other_held = more_rows pivot inverse_pivot diagonal_inverse _ other _ size 1 m c.requires.row.some c.requires.row.whole
           c.rows.invariant.other_held
           (c.append_mix_pair.ensures.other_words ∙ ap (λ z. other ++ diagonal_order z) (row_one (standard_order (part size other m))));
-      all = c.append_mix_pair.ensures.all ∙ omega (arith, c.rows.invariant.all);
-      lanes = c.append_mix_pair.ensures.lanes ∙ omega (arith, c.rows.invariant.lanes);
+      counted = counted_both _ c.rows.invariant.counted c.append_mix_pair.ensures.counted (omega arith);
     }
 
 pub returns-clause-filled : goal.returns-clause-filled

@@ -1,6 +1,7 @@
-use Rattle.std.proofs.Common.{◌≡◌, ◌+◌, ◌^◌, refl, ◌∙◌, arith}
+use Rattle.std.proofs.Common.{◌≡◌, ◌+◌, ◌^◌, length, refl, ◌∙◌, arith}
 use Rattle.scrypt_kernel.specs.RoMix.{walk}
 use Rattle.scrypt_kernel.specs.Diagonal.{pivot}
+use Rattle.scrypt_kernel.proofs.CountFacts.{counted_both, counted_none}
 use Rattle.scrypt_kernel.proofs.WalkFacts.{all_steps, two_steps}
 use Rattle.scrypt_kernel.proofs.walk.pair.take_steps_pair.Goals as goal
 
@@ -9,8 +10,7 @@ unfolding walk
 pairs-init c = record {
   walked = λ b starts. starts.start;
   other_walked = λ b starts. starts.start;
-  all = omega arith;
-  lanes = omega arith;
+  counted = counted_none _ _ _ (omega arith);
 }
 
 pub pairs-preserved : goal.pairs-preserved
@@ -18,12 +18,13 @@ pairs-preserved c =
     let one = c.step-in-pairs.ensures in
     let two = c.step-in-pairs-2.ensures in
     let before = c.pairs.invariant in
+    let long : length c.step-in-pairs.new.y ≡ length c.args.x.now = omega arith in
     let more = two_steps pivot c.args.log_n 0 in
     record {
       walked = more _ _ _ _ _ _ _ one.value two.value refl c.pairs.auto.x (omega arith) before.walked;
       other_walked = more _ _ _ _ _ _ _ one.other_value two.other_value refl c.pairs.auto.other_x (omega arith) before.other_walked;
-      all = omega (arith, one.all, two.all, before.all);
-      lanes = omega (arith, one.lanes, two.lanes, before.lanes);
+      counted = counted_both _ (counted_both _ before.counted (rw c.pairs.auto.x at one.counted) refl)
+          (rw long at two.counted) (omega arith);
     }
 
 pub returns-then-log_n-eq0 : goal.returns-then-log_n-eq0
@@ -35,8 +36,7 @@ returns-then-log_n-eq0 c =
       walked = λ b starts. rw (← single) (c.copy_from_slice.ensures.after ∙ c.step.ensures.value b 0 starts.rows starts.start);
       other_walked = λ b starts.
           rw (← single) (c.copy_from_slice-then-log_n-eq0.ensures.after ∙ c.step.ensures.other_value b 0 starts.rows starts.start);
-      all = rw (← single) (c.step.ensures.all ∙ omega arith);
-      lanes = rw (← single) (c.step.ensures.lanes ∙ omega arith);
+      counted = rw (← single) (counted_both _ (counted_none _ _ _ refl) c.step.ensures.counted (omega arith));
     }
 
 pub returns : goal.returns
@@ -45,6 +45,5 @@ returns c =
     rw (← whole) (record {
       walked = c.pairs.invariant.walked;
       other_walked = c.pairs.invariant.other_walked;
-      all = c.pairs.invariant.all;
-      lanes = c.pairs.invariant.lanes;
+      counted = c.pairs.invariant.counted;
     })

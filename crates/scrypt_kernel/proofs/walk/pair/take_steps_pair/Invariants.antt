@@ -1,14 +1,12 @@
-use Rattle.std.proofs.Common.{◌≡◌, length, ◌+◌, ◌*◌, ◌/◌}
+use Rattle.std.proofs.Common.{length, ◌*◌, ◌/◌}
+use Rattle.scrypt_kernel.specs.Count.{AreCounted}
 use Rattle.scrypt_kernel.specs.Diagonal.{pivot}
 use Rattle.scrypt_kernel.specs.KeptRows.{IsWalked}
 use Rattle.scrypt_kernel.proofs.walk.pair.take_steps_pair.Given as goal
 
 abbrev pub invariant-pairs : goal.invariant-pairs
-invariant-pairs l =
-    let cores = 2 * (2 * l._k * (2 * (length l.initial.x / 32))) in
-    record {
-      walked : IsWalked pivot l.log_n 0 l.fn.v l.initial.x (2 * l._k) l.x;
-      other_walked : IsWalked pivot l.log_n 0 l.fn.other_v l.initial.other_x (2 * l._k) l.other_x;
-      all : l.cores.all ≡ l.initial.cores.all + cores;
-      lanes : l.cores.lanes ≡ l.initial.cores.lanes + cores;
-    }
+invariant-pairs l = record {
+  walked : IsWalked pivot l.log_n 0 l.fn.v l.initial.x (2 * l._k) l.x;
+  other_walked : IsWalked pivot l.log_n 0 l.fn.other_v l.initial.other_x (2 * l._k) l.other_x;
+  counted : AreCounted (2 * (2 * l._k * (2 * (length l.initial.x / 32)))) l.initial.cores l.cores;
+}
