@@ -10,4 +10,4 @@ pub overflow_shl-left : goal.overflow_shl-left
 overflow_shl-left g c = shifts_fit_splat 32 c.args.y g.row.N _ (omega arith)
 
 pub returns : goal.returns
-returns g c = xor_rotated_by_parts c.args.k c.requires.0 c.requires.1 g.row.N c.args.x c.args.y c.fits-x.0 c.fits-y.0 c.fits-y.1
+returns g c = xor_rotated_by_parts c.args.k c.requires.0 c.requires.1 g.row.N c.args.x c.args.y c.fits-y.0 c.fits-y.1
