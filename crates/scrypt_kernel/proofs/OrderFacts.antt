@@ -1,5 +1,5 @@
 -- Facts on words whose blocks are permuted.
-use Rattle.std.proofs.Common.{◌≡◌, ℕ, ◌<◌, ◌≤◌, ◌+◌, ◌*◌, ◌/◌, ◌%◌, List, length, map, drop, get_or, refl, sym, ap, ap₂}
+use Rattle.std.proofs.Common.{◌≡◌, ℕ, ◌<◌, ◌≤◌, ◌+◌, ◌*◌, ◌/◌, ◌%◌, List, length, map, get_or, refl, sym, ap}
 use Rattle.std.proofs.Common.{◌∙◌, arith, lit<, inl, inr, zero-add}
 use Rattle.std.proofs.lemmas.List.{ext_get_or, get_or-take, get_or-drop, get_or-map, length-map}
 use Rattle.std.proofs.lemmas.List.Sums.{AllPass-from_list_all}
@@ -48,88 +48,62 @@ undoes p q undone j h =
 permuted_back : (p q : List ℕ) → IsWithin q → Undoes q p → (x : List ℕ) → length x % 16 ≡ 0
     → permuted q (permuted p x) ≡ x
 permuted_back p q inside back x whole =
-    let y = permuted p x in
-    let size : length y ≡ length x = length-permuted p x in
-    let long : length (permuted q y) ≡ length x = length-permuted q y ∙ size in
-    ext_get_or 0 _ _ long (λ i h.
-    let below : i < length x = omega arith in
-    let small : i % 16 < 16 = omega arith in
-    let place : get_or q (i % 16) 0 < 16 = inside (i % 16) in
-    let j : ℕ = 16 * (i / 16) + get_or q (i % 16) 0 in
-    let block_of : j / 16 ≡ i / 16 = omega arith in
-    let place_of : j % 16 ≡ get_or q (i % 16) 0 = omega arith in
-    let at : 16 * (i / 16) + i % 16 ≡ i = omega arith in
-    get_or-permuted q y i (omega arith) ∙ get_or-permuted p x j (omega arith)
-    ∙ ap (λ m. get_or x m 0) (rw (block_of, place_of, back (i % 16) small) at))
+    ext_get_or 0 _ _ (simp length-permuted) (λ i h.
+    let below : i < length x = rw (length-permuted, length-permuted) at h in
+    let place = inside (i % 16) in
+    let undone = back (i % 16) (omega arith) in
+    grind (arith, get_or-permuted, length-permuted))
 
 module _ (p : List ℕ) (inside : IsWithin p) where
   pub block_permuted : (x : List ℕ) (k : ℕ) → k * 16 + 16 ≤ length x
       → block (permuted p x) k ≡ permuted p (block x k)
   block_permuted x k room =
-      let long : length (permuted p x) ≡ length x = length-permuted p x in
-      let one : length (block (permuted p x) k) ≡ 16 = length-part 16 k (permuted p x) (omega arith) in
-      let size : length (block x k) ≡ 16 = length-part 16 k x room in
-      let two : length (permuted p (block x k)) ≡ 16 = length-permuted p (block x k) ∙ size in
-      ext_get_or 0 _ _ (one ∙ sym two) (λ i h.
+      let one : length (block (permuted p x) k) ≡ 16 = length-part 16 k (permuted p x) (omega (arith, length-permuted p x)) in
+      let two : length (block x k) ≡ 16 = length-part 16 k x room in
+      ext_get_or 0 _ _ (one ∙ sym (length-permuted p (block x k) ∙ two)) (λ i h.
       let below : i < 16 = omega arith in
-      let block_of : (k * 16 + i) / 16 ≡ k = omega arith in
       let place_of : (k * 16 + i) % 16 ≡ i = omega arith in
-      let first_block : i / 16 ≡ 0 = omega arith in
+      let at : 16 * ((k * 16 + i) / 16) + get_or p i 0 ≡ k * 16 + get_or p i 0 = omega arith in
       let same_place : i % 16 ≡ i = omega arith in
-      let place : get_or p i 0 < 16 = inside i in
-      let at : 16 * k + get_or p i 0 ≡ k * 16 + get_or p i 0 = omega arith in
-      let first : 16 * 0 + get_or p i 0 ≡ get_or p i 0 = omega arith in
-      let left : get_or (block (permuted p x) k) i 0 ≡ get_or x (k * 16 + get_or p i 0) 0 =
-      get_or-take 16 (drop (k * 16) (permuted p x)) i 0 below ∙ get_or-drop (k * 16) (permuted p x) i 0
-      ∙ get_or-permuted p x (k * 16 + i) (omega arith)
-      ∙ ap (λ j. get_or x j 0) (rw (block_of, place_of) at) in
-      let right : get_or (permuted p (block x k)) i 0 ≡ get_or x (k * 16 + get_or p i 0) 0 =
-      get_or-permuted p (block x k) i (omega arith)
-      ∙ ap (λ j. get_or (block x k) j 0) (rw (first_block, same_place) first)
-      ∙ get_or-take 16 (drop (k * 16) x) (get_or p i 0) 0 place ∙ get_or-drop (k * 16) x (get_or p i 0) 0 in
-      left ∙ sym right)
+      let first : 16 * (i / 16) + get_or p i 0 ≡ get_or p i 0 = omega arith in
+      let left = get_or-permuted p x (k * 16 + i) (omega arith) in
+      let right = get_or-permuted p (block x k) i (omega arith) in
+      get_or-take 16 _ i 0 below ∙ get_or-drop (k * 16) (permuted p x) i 0 ∙ left ∙ rw (place_of, at)
+      (sym (right ∙ rw (same_place, first) (get_or-take 16 _ _ 0 (inside i) ∙ get_or-drop (k * 16) x _ 0))))
 
   -- an operation word by word
   pub zip_permuted : (f : ℕ → ℕ → ℕ) (x y : List ℕ) → length x ≡ length y → length x % 16 ≡ 0
       → zip2 f (permuted p x) (permuted p y) ≡ permuted p (zip2 f x y)
   zip_permuted f x y same whole =
-      let px : length (permuted p x) ≡ length x = length-permuted p x in
-      let py : length (permuted p y) ≡ length y = length-permuted p y in
-      let left : length (zip2 f (permuted p x) (permuted p y)) ≡ length x = length-zip2 f _ _ (px ∙ same ∙ sym py) ∙ px in
-      let both : length (zip2 f x y) ≡ length x = length-zip2 f x y same in
-      let right : length (permuted p (zip2 f x y)) ≡ length x = length-permuted p (zip2 f x y) ∙ both in
-      ext_get_or 0 _ _ (left ∙ sym right) (λ i h.
-      let below : i < length x = omega arith in
-      let place : get_or p (i % 16) 0 < 16 = inside (i % 16) in
-      let j : ℕ = 16 * (i / 16) + get_or p (i % 16) 0 in
-      let one : j < length x = omega arith in
-      let two : j < length y = omega arith in
-      get_or-zip2 f (permuted p x) (permuted p y) i 0 0 0 (omega arith) (omega arith)
-      ∙ ap₂ f (get_or-permuted p x i below) (get_or-permuted p y i (omega arith))
-      ∙ sym (get_or-permuted p (zip2 f x y) i (omega arith) ∙ get_or-zip2 f x y j 0 0 0 one two))
+      let both = length-zip2 f x y same in
+      let left = length-zip2 f (permuted p x) (permuted p y) (simp length-permuted same) in
+      ext_get_or 0 _ _ (left ∙ simp length-permuted (sym both)) (λ i h.
+      let below : i < length x = omega (arith, length-permuted p x) in
+      let place = inside (i % 16) in
+      grind (
+        arith,
+        get_or-permuted,
+        length-permuted,
+        get_or-zip2 f (permuted p x) (permuted p y) i 0 0 0,
+        get_or-zip2 f x y (16 * (i / 16) + get_or p (i % 16) 0) 0 0 0,
+      ))
 
 -- a block whose words come from the places of p
 pub block_by_places : (p x y : List ℕ) → length x ≡ 16 → length y ≡ 16
     → ((j : ℕ) → j < 16 → get_or y j 0 ≡ get_or x (get_or p j 0) 0) → y ≡ permuted p x
 block_by_places p x y long_x long_y each =
-    ext_get_or 0 y (permuted p x) (long_y ∙ sym (length-permuted p x ∙ long_x)) (λ j h.
-    let below : j < 16 = omega arith in
-    let first_block : j / 16 ≡ 0 = omega arith in
-    let same_place : j % 16 ≡ j = omega arith in
-    let at : get_or p j 0 ≡ 16 * 0 + get_or p j 0 = omega arith in
-    each j below ∙ ap (λ i. get_or x i 0) at
-    ∙ sym (get_or-permuted p x j (omega arith) ∙ ap (λ i. get_or x i 0) (rw (first_block, same_place) refl)))
+    ext_get_or 0 y (permuted p x) (grind (arith, length-permuted)) (λ j h.
+    let is = each j (omega arith) in
+    grind (arith, get_or-permuted))
 
 -- the order of the standard leaves each word where it is
 pub permuted_in_place : (x : List ℕ) → permuted (range_with_len 0 16) x ≡ x
 permuted_in_place x =
-    let long : length (permuted (range_with_len 0 16) x) ≡ length x = length-permuted (range_with_len 0 16) x in
-    ext_get_or 0 _ _ long (λ i h.
-    let at : 16 * (i / 16) + i % 16 ≡ i = omega arith in
-    let small : i % 16 < 16 = omega arith in
-    get_or-permuted (range_with_len 0 16) x i (omega arith)
-    ∙ ap (λ j. get_or x (16 * (i / 16) + j) 0) (get_or-range_with_len 0 16 (i % 16) 0 small ∙ zero-add (i % 16))
-    ∙ ap (λ j. get_or x j 0) at)
+    ext_get_or 0 _ _ (length-permuted _ x) (λ i h.
+    let below : i < length x = omega (arith, length-permuted (range_with_len 0 16) x) in
+    let same = get_or-range_with_len 0 16 (i % 16) 0 (omega arith) in
+    let at : 16 * (i / 16) + (0 + i % 16) ≡ i = omega arith in
+    get_or-permuted (range_with_len 0 16) x i below ∙ rw (same, at) refl)
 
 -- two tables that undo each other
 module _ (p q : List ℕ) (inverse : AreInverse p q) where
@@ -144,6 +118,16 @@ module _ (p q : List ℕ) (inverse : AreInverse p q) where
 
   pub block_out : (x : List ℕ) (k : ℕ) → k * 16 + 16 ≤ length x → block (permuted q x) k ≡ permuted q (block x k)
   block_out x k room = block_permuted q (within q inverse.inverse_places) x k room
+
+  -- the words whose permutation is x
+  pub standard_of : (x w : List ℕ) → length x % 16 ≡ 0 → x ≡ permuted p w → permuted q x ≡ w
+  standard_of x w whole is =
+      let long : length x ≡ length w = ap length is ∙ length-permuted p w in
+      ap (permuted q) is ∙ in_then_out w (omega arith)
+
+  pub zip_out : (f : ℕ → ℕ → ℕ) (x y : List ℕ) → length x ≡ length y → length x % 16 ≡ 0
+      → permuted q (zip2 f x y) ≡ zip2 f (permuted q x) (permuted q y)
+  zip_out f x y same whole = sym (zip_permuted q (within q inverse.inverse_places) f x y same whole)
 
   pub zip_in : (f : ℕ → ℕ → ℕ) (x y : List ℕ) → length x ≡ length y → length x % 16 ≡ 0
       → zip2 f (permuted p x) (permuted p y) ≡ permuted p (zip2 f x y)

@@ -1,11 +1,11 @@
 -- Facts on a list that is cut into parts of s elements each.
 use Rattle.std.proofs.Common.{◌≡◌, ◌≢◌, ℕ, zero, suc, ◌<◌, ◌≤◌, ◌+◌, ◌*◌, List, ◌++◌, length, get_or, take, drop, refl}
-use Rattle.std.proofs.Common.{sym, ap, ap₂, ◌∙◌, take_all, arith, inl, inr, add-zero, zero-add, append_assoc}
+use Rattle.std.proofs.Common.{sym, ap, ap₂, ◌∙◌, take_all, arith, rules, inl, inr, add-zero, zero-add, append_assoc}
 use Rattle.std.proofs.Math.Nat.{mul-le-mul_right}
 use Rattle.std.proofs.lemmas.Bool.{cases_lt}
-use Rattle.std.proofs.lemmas.List.{take_at, drop_at, drop-take, drop-drop, take-append-drop, take-take, length-take-le}
+use Rattle.std.proofs.lemmas.List.{take_at, drop-drop, take-append-drop, length-take-le, places, same_lists}
 use Rattle.std.proofs.lemmas.List.{length-append, length-drop, nil_from_length}
-use Rattle.std.proofs.lemmas.Slice.{take-put_mid_below, drop-put_mid}
+use Rattle.std.proofs.lemmas.Slice.{drop-put_mid}
 use Rattle.std.proofs.lemmas.List.FromFn.{fill_by_all}
 use Rattle.std.proofs.lemmas.List.Folds.{flat_map-map}
 use borrow.Rule.Slice.PartMut.{put_mid}
@@ -26,46 +26,25 @@ part_of_slice s k x a n at size = rw (at, size) refl
 pub length-part : (s k : ℕ) (x : List ℕ) → k * s + s ≤ length x → length (part s x k) ≡ s
 length-part s k x room = length-take-le s (drop (k * s) x) (omega (arith, length-drop (k * s) x))
 
--- a part lies in front of its end
-part_is : (s k : ℕ) (x : List ℕ) → part s x k ≡ drop (k * s) (take (k * s + s) x)
-part_is s k x = sym (drop-take (k * s) s x)
-
 -- a part of a beginning that holds it
 pub part-take : (s k a : ℕ) (x : List ℕ) → k * s + s ≤ a → part s (take a x) k ≡ part s x k
-part-take s k a x inside =
-    part_is s k (take a x) ∙ ap (drop (k * s)) (take-take (k * s + s) a x inside) ∙ sym (part_is s k x)
+part-take s k a x inside = same_lists _ _ (search (rules, places)) (λ i d h. grind (arith, places))
 
 module _ (s k : ℕ) (x ys : List ℕ) (a n : ℕ) (at : a ≡ k * s) (size : n ≡ s) (full : length ys ≡ s) (room : a + s ≤ length x) where
   pub part_put_same : part s (put_mid a n x ys) k ≡ ys
-  part_put_same =
-      let front : length (take a x) ≡ a = length-take-le a x (omega arith) in
-      rw (← at) (ap (take s) (drop_at (take a x) _ a front) ∙ take_at ys _ s full)
+  part_put_same = same_lists _ _ (search (rules, places)) (λ i d h. grind (arith, places))
 
   pub part_put_other : (j : ℕ) → j ≢ k → part s (put_mid a n x ys) j ≡ part s x j
-  part_put_other j ne =
-      elim (cases_lt j k) [
-        | inl lt ↦
-            let apart = parts_apart s j k lt in
-            part_is s j (put_mid a n x ys)
-            ∙ ap (drop (j * s)) (take-put_mid_below a n x ys (j * s + s) (omega arith) (omega arith))
-            ∙ sym (part_is s j x)
-        | inr ge ↦
-            let gt : k < j = omega arith in
-            let apart = parts_apart s k j gt in
-            ap (take s) (drop-put_mid a n x ys (j * s) (omega arith) (omega arith) (omega arith))
-      ]
+  part_put_other j ne = elim (cases_lt j k) [
+    | inl lt ↦ let apart = parts_apart s j k lt in same_lists _ _ (search (rules, places)) (λ i d h. grind (arith, places))
+    | inr ge ↦
+        let gt : k < j = omega arith in
+        let apart = parts_apart s k j gt in
+        ap (take s) (drop-put_mid a n x ys (j * s) (omega arith) (omega arith) (omega arith))
+  ]
 
--- the first part of a list that begins with it
-pub first_part : (s : ℕ) (xs ys : List ℕ) → length xs ≡ s → part s (xs ++ ys) 0 ≡ xs
-first_part s xs ys full =
-    let none : 0 * s ≡ 0 = omega arith in
-    ap (λ i. take s (drop i (xs ++ ys))) none ∙ take_at xs ys s full
-
--- part k of what follows the first part
-part_next : (s k : ℕ) (x : List ℕ) → part s (drop s x) k ≡ part s x (suc k)
-part_next s k x =
-    let e : s + k * s ≡ suc k * s = omega arith in
-    ap (take s) (drop-drop (k * s) s x ∙ ap (λ i. drop i x) e)
+next_place : (a i : ℕ) → a + 1 + i ≡ a + suc i
+next_place a i = omega arith
 
 -- a list of n parts, each known
 pub parts_from : (f : ℕ → List ℕ) (s a n : ℕ) (x : List ℕ) → length x ≡ n * s
@@ -73,12 +52,11 @@ pub parts_from : (f : ℕ → List ℕ) (s a n : ℕ) (x : List ℕ) → length 
 parts_from f s a zero x long each = nil_from_length x (omega arith)
 parts_from f s a (suc n) x long each =
     let none : 0 * s ≡ 0 = omega arith in
-    let first : take s x ≡ f a = ap (λ i. take s (drop i x)) (sym none) ∙ each 0 (omega arith) ∙ ap f (add-zero a) in
-    let less : length (drop s x) ≡ n * s = omega (arith, length-drop s x) in
-    let rest = parts_from f s (a + 1) n (drop s x) less (λ k h.
-    let e : a + suc k ≡ a + 1 + k = omega arith in
-    part_next s k x ∙ each (suc k) (omega arith) ∙ ap f e) in
-    sym (take-append-drop s x) ∙ ap (λ z. z ++ drop s x) first ∙ ap (λ z. f a ++ z) rest
+    let first : take s x ≡ f a = rw (none, add-zero) at (each 0 (omega arith)) in
+    let rest = parts_from f s (a + 1) n (drop s x) (omega (arith, length-drop s x)) (λ k h.
+    let next : s + k * s ≡ suc k * s = omega arith in
+    rw (drop-drop, next, next_place) (each (suc k) (omega arith))) in
+    sym (take-append-drop s x) ∙ ap₂ (λ u v. u ++ v) first rest
 
 pub parts_all : (f : ℕ → List ℕ) (s n : ℕ) (x : List ℕ) → length x ≡ n * s
     → ((k : ℕ) → k < n → part s x k ≡ f k) → x ≡ flat_map f (range_with_len 0 n)
@@ -89,21 +67,26 @@ pub halves_all : (f g : ℕ → List ℕ) (s n : ℕ) (x : List ℕ) → length 
     → ((k : ℕ) → k < n → part s x k ≡ f k) → ((k : ℕ) → k < n → part s x (n + k) ≡ g k)
     → x ≡ flat_map f (range_with_len 0 n) ++ flat_map g (range_with_len 0 n)
 halves_all f g s n x long front back =
-    let a = n * s in
-    let fits : a ≤ length x = omega arith in
-    let one : take a x ≡ flat_map f (range_with_len 0 n) = parts_all f s n (take a x) (length-take-le a x fits) (λ k h.
+    let a : ℕ = n * s in
+    let one = parts_all f s n (take a x) (length-take-le a x (omega arith)) (λ k h.
     let apart = parts_apart s k n h in
     part-take s k a x (omega arith) ∙ front k h) in
-    let two : drop a x ≡ flat_map g (range_with_len 0 n) = parts_all g s n (drop a x) (omega (arith, length-drop a x)) (λ k h.
-    let e : a + k * s ≡ (n + k) * s = omega arith in
-    ap (take s) (drop-drop (k * s) a x ∙ ap (λ i. drop i x) e) ∙ back k h) in
-    sym (take-append-drop a x) ∙ ap (λ z. z ++ drop a x) one ∙ ap (λ z. flat_map f (range_with_len 0 n) ++ z) two
+    let two = parts_all g s n (drop a x) (omega (arith, length-drop a x)) (λ k h.
+    let place : n * s + k * s ≡ (n + k) * s = omega arith in
+    rw (drop-drop, place) (back k h)) in
+    sym (take-append-drop a x) ∙ ap₂ (λ u v. u ++ v) one two
 
--- two lists with equal parts
+-- two lists whose first n parts are equal
+take_parts : (s n : ℕ) (x z : List ℕ) → ((k : ℕ) → k < n → part s x k ≡ part s z k) → take (n * s) x ≡ take (n * s) z
+take_parts s zero x z each = let none : 0 * s ≡ 0 = omega arith in rw none refl
+take_parts s (suc n) x z each =
+    let next : suc n * s ≡ n * s + s = omega arith in
+    rw (next, take-add (n * s) s x, take-add (n * s) s z)
+    (ap₂ (λ a b. a ++ b) (take_parts s n x z (λ k h. each k (omega arith))) (each n (omega arith)))
+
 pub parts_same : (s n : ℕ) (x z : List ℕ) → length x ≡ n * s → length z ≡ n * s
     → ((k : ℕ) → k < n → part s x k ≡ part s z k) → x ≡ z
-parts_same s n x z one two each =
-    parts_all (λ k. part s z k) s n x one each ∙ sym (parts_all (λ k. part s z k) s n z two (λ k h. refl))
+parts_same s n x z one two each = sym (take_all (n * s) x (omega arith)) ∙ take_parts s n x z each ∙ take_all (n * s) z (omega arith)
 
 -- a list of one part for each element of x
 pub parts_of_each : (g : ℕ → List ℕ) (s : ℕ) (x b : List ℕ) → length b ≡ length x * s
@@ -113,16 +96,17 @@ parts_of_each g s x b long each =
     parts_all (λ k. g (get_or x k 0)) s (length x) b long each
     ∙ sym (flat_map-map g (λ k. get_or x k 0) (range_with_len 0 (length x))) ∙ ap (flat_map g) (sym places)
 
-next_place : (a i : ℕ) → a + 1 + i ≡ a + suc i
-next_place a i = omega arith
+-- part n + k of a list whose first n parts are known
+pub part_after : (s n k : ℕ) (xs ys : List ℕ) → length xs ≡ n * s → part s (xs ++ ys) (n + k) ≡ part s ys k
+part_after s n k xs ys long = same_lists _ _ (search (rules, places)) (λ i d h. grind (arith, places))
 
 -- the length of n parts of s elements each
 pub length-parts : (f : ℕ → List ℕ) (s a n : ℕ) → ((i : ℕ) → i < n → length (f (a + i)) ≡ s)
     → length (flat_map f (range_with_len a n)) ≡ n * s
 length-parts f s a zero long = omega arith
 length-parts f s a (suc n) long =
-    let first : length (f a) ≡ s = ap (λ i. length (f i)) (sym (add-zero a)) ∙ long 0 (omega arith) in
-    let rest = length-parts f s (a + 1) n (λ i h. ap (λ j. length (f j)) (next_place a i) ∙ long (suc i) (omega arith)) in
+    let first : length (f a) ≡ s = rw add-zero at (long 0 (omega arith)) in
+    let rest = length-parts f s (a + 1) n (λ i h. rw next_place (long (suc i) (omega arith))) in
     omega (arith, length-append (f a) (flat_map f (range_with_len (a + 1) n)))
 
 -- part k of them, with more elements after them
@@ -130,69 +114,38 @@ pub part_of_parts : (f : ℕ → List ℕ) (s a n k : ℕ) (ys : List ℕ) → (
     → part s (flat_map f (range_with_len a n) ++ ys) k ≡ f (a + k)
 part_of_parts f s a zero k ys long inside = absurd (omega arith)
 part_of_parts f s a (suc n) zero ys long inside =
-    let first : length (f a) ≡ s = ap (λ i. length (f i)) (sym (add-zero a)) ∙ long 0 inside in
-    let rest = flat_map f (range_with_len (a + 1) n) in
-    ap (λ z. part s z 0) (append_assoc (f a) rest ys) ∙ first_part s (f a) (rest ++ ys) first ∙ ap f (sym (add-zero a))
+    let first : length (f a) ≡ s = rw add-zero at (long 0 inside) in
+    let none : 0 * s ≡ 0 = omega arith in
+    rw (none, add-zero, append_assoc) (take_at (f a) _ s first)
 part_of_parts f s a (suc n) (suc k) ys long inside =
-    let first : length (f a) ≡ s = ap (λ i. length (f i)) (sym (add-zero a)) ∙ long 0 (omega arith) in
-    let rest = flat_map f (range_with_len (a + 1) n) in
-    ap (λ z. part s z (suc k)) (append_assoc (f a) rest ys) ∙ sym (part_next s k (f a ++ (rest ++ ys)))
-    ∙ ap (λ z. part s z k) (drop_at (f a) (rest ++ ys) s first)
-    ∙ part_of_parts f s (a + 1) n k ys (λ i h. ap (λ j. length (f j)) (next_place a i) ∙ long (suc i) (omega arith)) (omega arith)
-    ∙ ap f (next_place a k)
-
--- part n + k of a list whose first n parts are known
-pub part_after : (s n k : ℕ) (xs ys : List ℕ) → length xs ≡ n * s → part s (xs ++ ys) (n + k) ≡ part s ys k
-part_after s n k xs ys long =
-    let place : (n + k) * s ≡ n * s + k * s = omega arith in
-    ap (λ i. take s (drop i (xs ++ ys))) place ∙ ap (take s) (sym (drop-drop (k * s) (n * s) (xs ++ ys)))
-    ∙ ap (λ z. take s (drop (k * s) z)) (drop_at xs ys (n * s) long)
+    let first : length (f a) ≡ 1 * s = rw add-zero at (long 0 (omega arith)) ∙ omega arith in
+    let next : suc k ≡ 1 + k = omega arith in
+    rw (← next_place a k, append_assoc, next, part_after s 1 k (f a) _ first)
+    (part_of_parts f s (a + 1) n k ys (λ i h. rw next_place (long (suc i) (omega arith))) (omega arith))
 
 -- what is before the rest of a list
 pub take_both : (xs ys rest : List ℕ) (n : ℕ) → length xs + length ys ≡ n → take n (xs ++ (ys ++ rest)) ≡ xs ++ ys
-take_both xs ys rest n long =
-    ap (take n) (sym (append_assoc xs ys rest)) ∙ take_at (xs ++ ys) rest n (length-append xs ys ∙ long)
+take_both xs ys rest n long = same_lists _ _ (search (rules, places)) (λ i d h. grind (arith, places))
 
 -- the parts of a list, with more appended to it
 pub part_append_front : (s k : ℕ) (xs ys : List ℕ) → k * s + s ≤ length xs → part s (xs ++ ys) k ≡ part s xs k
-part_append_front s k xs ys room =
-    sym (part-take s k (length xs) (xs ++ ys) room) ∙ ap (λ z. part s z k) (take_at xs ys (length xs) refl)
+part_append_front s k xs ys room = same_lists _ _ (search (rules, places)) (λ i d h. grind (arith, places))
 
 pub part_append_last : (s k : ℕ) (xs ys : List ℕ) → length xs ≡ k * s → length ys ≡ s → part s (xs ++ ys) k ≡ ys
-part_append_last s k xs ys long size = ap (take s) (drop_at xs ys (k * s) long) ∙ take_all s ys (omega arith)
+part_append_last s k xs ys long size = same_lists _ _ (search (rules, places)) (λ i d h. grind (arith, places))
 
--- a block is its four parts of four words
-block_by_lanes : (x : List ℕ) (k : ℕ)
-    → block x k ≡ part 4 x (4 * k) ++ (part 4 x (4 * k + 1) ++ (part 4 x (4 * k + 2) ++ part 4 x (4 * k + 3)))
-block_by_lanes x k =
-    let rest = drop (k * 16) x in
-    let at0 : k * 16 ≡ 4 * k * 4 = omega arith in
-    let at1 : k * 16 + 4 ≡ (4 * k + 1) * 4 = omega arith in
-    let at2 : k * 16 + 8 ≡ (4 * k + 2) * 4 = omega arith in
-    let at3 : k * 16 + 12 ≡ (4 * k + 3) * 4 = omega arith in
-    let one : take 4 rest ≡ part 4 x (4 * k) = ap (λ i. take 4 (drop i x)) at0 in
-    let two : take 4 (drop 4 rest) ≡ part 4 x (4 * k + 1) = ap (take 4) (drop-drop 4 (k * 16) x ∙ ap (λ i. drop i x) at1) in
-    let three : take 4 (drop 4 (drop 4 rest)) ≡ part 4 x (4 * k + 2) =
-    ap (take 4) (drop-drop 4 4 rest ∙ drop-drop 8 (k * 16) x ∙ ap (λ i. drop i x) at2) in
-    let four : take 4 (drop 4 (drop 4 (drop 4 rest))) ≡ part 4 x (4 * k + 3) =
-    ap (take 4) (drop-drop 4 4 (drop 4 rest) ∙ drop-drop 8 4 rest ∙ drop-drop 12 (k * 16) x ∙ ap (λ i. drop i x) at3) in
-    take-add 4 12 rest
-    ∙ ap₂ (λ a b. a ++ b) one (take-add 4 8 (drop 4 rest)
-    ∙ ap₂ (λ a b. a ++ b) two (take-add 4 4 (drop 4 (drop 4 rest)) ∙ ap₂ (λ a b. a ++ b) three four))
+-- part i of the words from block k on
+part_of_block : (x : List ℕ) (k i : ℕ) → part 4 (drop (k * 16) x) i ≡ part 4 x (4 * k + i)
+part_of_block x k i =
+    let place : k * 16 + i * 4 ≡ (4 * k + i) * 4 = omega arith in
+    ap (take 4) (drop-drop (i * 4) (k * 16) x ∙ ap (λ n. drop n x) place)
 
 -- blocks with the same four parts
 pub block_same : (x z : List ℕ) (j k : ℕ) → ((i : ℕ) → i < 4 → part 4 x (4 * j + i) ≡ part 4 z (4 * k + i)) → block x j ≡ block z k
 block_same x z j k each =
-    let first : part 4 x (4 * j) ≡ part 4 z (4 * k) =
-    ap (part 4 x) (sym (add-zero (4 * j))) ∙ each 0 (omega arith) ∙ ap (part 4 z) (add-zero (4 * k)) in
-    block_by_lanes x j
-    ∙ ap₂ (λ a b. a ++ b) first (ap₂ (λ a b. a ++ b) (each 1 (omega arith))
-    (ap₂ (λ a b. a ++ b) (each 2 (omega arith)) (each 3 (omega arith))))
-    ∙ sym (block_by_lanes z k)
+    take_parts 4 4 (drop (j * 16) x) (drop (k * 16) z) (λ i h. part_of_block x j i ∙ each i h ∙ sym (part_of_block z k i))
 
 -- a list of 16 words with the four parts of a block
 pub block_alone : (w x : List ℕ) (k : ℕ) → length w ≡ 16 → ((i : ℕ) → i < 4 → part 4 w i ≡ part 4 x (4 * k + i)) → w ≡ block x k
 block_alone w x k long each =
-    let at = λ (i : ℕ). zero-add i in
-    sym (take_all 16 w (omega arith))
-    ∙ block_same w x 0 k (λ i h. ap (part 4 w) (at i) ∙ each i h)
+    sym (take_all 16 w (omega arith)) ∙ take_parts 4 4 w (drop (k * 16) x) (λ i h. each i h ∙ sym (part_of_block x k i))

@@ -1,18 +1,17 @@
 -- Facts on HMAC and PBKDF2.
 use Rattle.std.proofs.Common.{◌≡◌, ℕ, zero, inl, inr, ◌<◌, ◌≤◌, ◌+◌, ◌-◌, ◌*◌, ◌/◌, ◌%◌, suc, List, [], ◌∷◌, ◌++◌}
-use Rattle.std.proofs.Common.{length, map, take, drop, get_or, slice_index, replicate, bit_xor, false, true, nat_lt}
-use Rattle.std.proofs.Common.{refl, sym, ap, ◌∙◌, arith, append_assoc, length-append}
+use Rattle.std.proofs.Common.{length, map, take, drop, get_or, slice_index, replicate, bit_xor, false, nat_lt}
+use Rattle.std.proofs.Common.{refl, sym, ap, ◌∙◌, arith, rules}
 use Rattle.std.proofs.lemmas.Bool.{cases_lt, le-ltb, lt-ltb}
 use Rattle.std.proofs.lemmas.List.{drop-replicate, get_or_append_left, get_or-append_right, get_or-take, get_or-drop}
-use Rattle.std.proofs.lemmas.List.{length-take-le, ext_get_or}
+use Rattle.std.proofs.lemmas.List.{ext_get_or}
 use Rattle.std.proofs.lemmas.List.FromFn.{get_or-map-range_with_len, length-map-range_with_len}
 use Rattle.std.specs.List.{flat_map, range_with_len}
 use Rattle.sha2.proofs.Facts256.{length-sha256}
 use Rattle.sha2.specs.Sha256.{digest_bytes, sha256}
-use Rattle.std.specs.List.{All}
 use Rattle.std.specs.Int.{to_be_bytes, w32}
-use Rattle.std.proofs.lemmas.List.Elements.{All-append, All-cons, All-get_or, All-nil}
-use Rattle.std.proofs.lemmas.List.{get_or_past}
+use Rattle.std.proofs.lemmas.Grind.{common_steps}
+use Rattle.std.proofs.lemmas.List.{get_or_past, places, same_lists}
 use borrow.Rule.Slice.PartMut.{put_mid}
 use Rattle.scrypt_kernel.specs.Hmac.{hmac_sha256, padded_key}
 use Rattle.scrypt_kernel.specs.Pbkdf2.{pbkdf2, pbkdf2_block, pbkdf2_byte, pbkdf2_from}
@@ -29,16 +28,12 @@ padded_short secret ys fits same =
 -- the elements of a list below a part that was written
 pub put_below : (a n : ℕ) (xs ys : List ℕ) (k : ℕ) → k < a → a ≤ length xs
     → get_or (put_mid a n xs ys) k 0 ≡ get_or xs k 0
-put_below a n xs ys k h room =
-    let front : length (take a xs) ≡ a = length-take-le a xs room in
-    get_or_append_left (take a xs) _ 0 k (omega arith) ∙ get_or-take a xs k 0 h
+put_below a n xs ys k h room = grind (arith, places)
 
 -- the elements of the part
 pub put_inside : (a n : ℕ) (xs ys : List ℕ) (k : ℕ) → a ≤ k → k < a + length ys → a ≤ length xs
     → get_or (put_mid a n xs ys) k 0 ≡ get_or ys (k - a) 0
-put_inside a n xs ys k low high room =
-    let front : length (take a xs) ≡ a = length-take-le a xs room in
-    get_or-append_right (take a xs) _ a k 0 front low ∙ get_or_append_left ys _ 0 (k - a) (omega arith)
+put_inside a n xs ys k low high room = grind (arith, places)
 
 -- byte k after so many blocks is in block k / 32 after them
 pub byte_in_block : (password salt made cut : List ℕ) (skipped i k size : ℕ)
@@ -46,28 +41,17 @@ pub byte_in_block : (password salt made cut : List ℕ) (skipped i k size : ℕ)
     → made ≡ pbkdf2_block password salt (skipped + i + 1) → cut ≡ take size made
     → get_or cut (k - 32 * i) 0 ≡ pbkdf2_byte password salt (32 * skipped + k)
 unfolding pbkdf2_byte
-byte_in_block password salt made cut skipped i k size low high inside is_made is_cut =
-    let number : (32 * skipped + k) / 32 ≡ skipped + i = omega arith in
-    let place : (32 * skipped + k) % 32 ≡ k - 32 * i = omega arith in
-    rw (number, place, is_cut, get_or-take, is_made) refl
+byte_in_block password salt made cut skipped i k size low high inside is_made is_cut = grind (arith, places)
 
 pub length-pbkdf2 : (password salt : List ℕ) (n : ℕ) → length (pbkdf2 password salt n) ≡ n
 length-pbkdf2 password salt n = length-map-range_with_len (pbkdf2_byte password salt) 0 n
 
 -- bytes that are written in two pieces, one after the other
-ranges_joined : (f : ℕ → ℕ) (a n more at : ℕ) → a + n ≡ at
-    → map f (range_with_len a n) ++ map f (range_with_len at more) ≡ map f (range_with_len a (n + more))
-ranges_joined f a zero more at is =
-    let here : at ≡ a = omega arith in
-    let count : zero + more ≡ more = omega arith in
-    rw (here, count) refl
-ranges_joined f a (suc n) more at is =
-    let count : suc n + more ≡ suc (n + more) = omega arith in
-    rw count (ap (λ rest. f a ∷ rest) (ranges_joined f (a + 1) n more at (omega arith)))
-
 pub pbkdf2-append : (password salt : List ℕ) (n more : ℕ)
     → pbkdf2 password salt n ++ pbkdf2_from password salt n more ≡ pbkdf2 password salt (n + more)
-pbkdf2-append password salt n more = ranges_joined (pbkdf2_byte password salt) 0 n more n (omega arith)
+pbkdf2-append password salt n more =
+    same_lists _ _ (grind (arith, places, length-map-range_with_len))
+    (λ i d h. grind (arith, places, get_or-map-range_with_len, length-map-range_with_len))
 
 -- the bytes between 32 * i and 32 * (i + 1) are those of block i + 1
 part_of_pbkdf2 : (password salt : List ℕ) (n i : ℕ) → i < n
@@ -109,40 +93,25 @@ same_pbkdf2 one other salt n padded = λ i. map (λ k. same_byte one other salt 
 -- a zero byte after a key that leaves room in its block
 pub padded_zero_byte : (secret : List ℕ) → length secret < 64 → padded_key (secret ++ 0 ∷ []) ≡ padded_key secret
 padded_zero_byte secret fits =
-    let longer : length (secret ++ 0 ∷ []) ≡ suc (length secret) = length-append secret (0 ∷ []) ∙ omega arith in
-    let one : nat_lt 64 (length (secret ++ 0 ∷ [])) ≡ false = le-ltb 64 _ (omega arith) in
-    let other : nat_lt 64 (length secret) ≡ false = le-ltb 64 (length secret) (omega arith) in
-    let room : 64 - length secret ≡ suc (64 - length (secret ++ 0 ∷ [])) = omega arith in
-    rw (one, other, room) (append_assoc secret (0 ∷ []) (replicate (64 - length (secret ++ 0 ∷ [])) 0))
+    same_lists _ _ (grind (arith, common_steps, places, le-ltb)) (λ i d h. grind (arith, common_steps, places, le-ltb))
 
 -- the digest of a key that is longer than a block
 pub padded_digest : (secret : List ℕ) → 64 < length secret → padded_key (sha256 secret) ≡ padded_key secret
-padded_digest secret above =
-    let digest : nat_lt 64 (length (sha256 secret)) ≡ false = le-ltb 64 _ (omega (arith, length-sha256 secret)) in
-    let long : nat_lt 64 (length secret) ≡ true = lt-ltb 64 (length secret) above in
-    rw (long, digest) refl
+padded_digest secret above = grind (arith, common_steps, le-ltb, lt-ltb, length-sha256)
 
 -- a digest is of bytes
-digest_bytes-are_bytes : (h : List ℕ) (n : ℕ) → All (λ b. b < 256) (digest_bytes h n)
+digest_byte-fits : (h : List ℕ) (n k : ℕ) → get_or (digest_bytes h n) k 0 < 256
 unfolding digest_bytes
-digest_bytes-are_bytes h zero = All-nil (λ b. b < 256)
-digest_bytes-are_bytes h (suc n) =
-    let w : ℕ = slice_index h n in
-    All-append (λ b. b < 256) (digest_bytes h n) (to_be_bytes w32 w) (digest_bytes-are_bytes h n)
-    (All-cons (λ b. b < 256) (w / 16777216 % 256) (w / 65536 % 256 ∷ w / 256 % 256 ∷ w % 256 ∷ []) (omega arith)
-    (All-cons (λ b. b < 256) (w / 65536 % 256) (w / 256 % 256 ∷ w % 256 ∷ []) (omega arith)
-    (All-cons (λ b. b < 256) (w / 256 % 256) (w % 256 ∷ []) (omega arith)
-    (All-cons (λ b. b < 256) (w % 256) [] (omega arith) (All-nil (λ b. b < 256))))))
-
-digest-fits : (m : List ℕ) (k : ℕ) → k < 32 → slice_index (sha256 m) k < 256
-unfolding sha256
-digest-fits m k inside =
-    All-get_or (λ b. b < 256) (digest_bytes _ 8) k 0 (omega (arith, length-sha256 m)) (digest_bytes-are_bytes _ 8)
+digest_byte-fits h zero k = omega arith
+digest_byte-fits h (suc n) k = elim (cases_lt k (length (digest_bytes h n))) [
+  | inl lt ↦ rw (get_or_append_left (digest_bytes h n) _ 0 k lt) (digest_byte-fits h n k)
+  | inr ge ↦ rw (get_or-append_right (digest_bytes h n) (to_be_bytes w32 (get_or h n 0)) _ k 0 refl ge) (search (rules, places))
+]
 
 -- and so is what PBKDF2 derives
 pbkdf2_byte-fits : (password salt : List ℕ) (k : ℕ) → pbkdf2_byte password salt k < 256
-unfolding pbkdf2_byte hmac_sha256
-pbkdf2_byte-fits password salt k = digest-fits _ (k % 32) (omega arith)
+unfolding pbkdf2_byte hmac_sha256 sha256
+pbkdf2_byte-fits password salt k = digest_byte-fits _ 8 (k % 32)
 
 pub pbkdf2-are_bytes : (password salt : List ℕ) (n i : ℕ) → slice_index (pbkdf2 password salt n) i < 256
 pbkdf2-are_bytes password salt n i = elim (cases_lt i n) [

@@ -1,8 +1,8 @@
 -- Facts on lists of words.
-use Rattle.std.proofs.Common.{◌≡◌, ◌≢◌, below_more, ℕ, zero, suc, ◌<◌, ◌≤◌, ◌+◌, ◌*◌, List, [], ◌∷◌, length, take, drop}
-use Rattle.std.proofs.Common.{refl, get_or, set, sym, ap, ◌∙◌, arith, length-append}
-use Rattle.std.proofs.lemmas.List.{get_or-set_same, get_or-set_other, ext_get_or}
-use Rattle.std.specs.Int.{w32, to_le_bytes}
+use Rattle.std.proofs.Common.{◌≡◌, ℕ, zero, suc, ◌<◌, ◌≤◌, ◌+◌, ◌*◌, List, [], ◌∷◌, length, take, drop}
+use Rattle.std.proofs.Common.{refl, get_or, set, sym, ap, ◌∙◌, arith}
+use Rattle.std.proofs.lemmas.Grind.{common_steps}
+use Rattle.std.proofs.lemmas.List.{ext_get_or, places}
 use Rattle.std.specs.Simd.Lanes.{zip2}
 use Rattle.std.proofs.lemmas.Simd.{length-zip2, get_or-zip2}
 use Rattle.scrypt_kernel.specs.Words.{bytes_of, part}
@@ -11,11 +11,7 @@ use Rattle.scrypt_kernel.specs.Words.{bytes_of, part}
 pub zip2_all : (f : ℕ → ℕ → ℕ) (x y out : List ℕ) → length out ≡ length x → length x ≡ length y
     → ((k : ℕ) → k < length out → get_or out k 0 ≡ f (get_or x k 0) (get_or y k 0)) → out ≡ zip2 f x y
 zip2_all f x y out long same each =
-    let whole : length (zip2 f x y) ≡ length x = length-zip2 f x y same in
-    ext_get_or 0 out (zip2 f x y) (omega arith) (λ k h.
-    let in_x : k < length x = omega arith in
-    let in_y : k < length y = omega arith in
-    each k h ∙ sym (get_or-zip2 f x y k 0 0 0 in_x in_y))
+    ext_get_or 0 _ _ (long ∙ sym (length-zip2 f x y same)) (λ k h. grind (arith, each k h, get_or-zip2 f x y k 0 0 0))
 
 -- x holds f of x0 and y below place i, and x0 from there on
 pub record IsMerged (f : ℕ → ℕ → ℕ) (x0 y : List ℕ) (i : ℕ) (x : List ℕ) : Type 0 where
@@ -25,15 +21,10 @@ pub record IsMerged (f : ℕ → ℕ → ℕ) (x0 y : List ℕ) (i : ℕ) (x : L
 -- one more place
 pub merged_more : (f : ℕ → ℕ → ℕ) (x0 y : List ℕ) (i : ℕ) (x : List ℕ) → i < length x → IsMerged f x0 y i x
     → IsMerged f x0 y (i + 1) (set x i (f (get_or x i 0) (get_or y i 0)))
-merged_more f x0 y i x inside held =
-    let now : f (get_or x i 0) (get_or y i 0) ≡ f (get_or x0 i 0) (get_or y i 0)
-    = ap (λ v. f v (get_or y i 0)) (held.above i (omega arith)) in
-    record {
-      below = below_more _ _
-          (λ k h. let ne : k ≢ i = omega arith in rw get_or-set_other (held.below k h))
-          (rw get_or-set_same now);
-      above = λ k h. let ne : k ≢ i = omega arith in rw get_or-set_other (held.above k (omega arith));
-    }
+merged_more f x0 y i x inside held = record {
+  below = λ k h. grind (arith, common_steps, held.below k, held.above k);
+  above = λ k h. grind (arith, common_steps, held.above k);
+}
 
 zip2-nil : (f : ℕ → ℕ → ℕ) (x : List ℕ) → zip2 f x [] ≡ []
 zip2-nil f [] = refl
@@ -58,6 +49,4 @@ part-zip2 f s k x y = ap (take s) (drop-zip2 f (k * s) x y) ∙ take-zip2 f s (d
 -- a word has four bytes
 pub length-bytes_of : (x : List ℕ) → length (bytes_of x) ≡ length x * 4
 length-bytes_of [] = refl
-length-bytes_of (a ∷ x) =
-    let four : length (to_le_bytes w32 a) ≡ 4 = refl in
-    omega (arith, length-append (to_le_bytes w32 a) (bytes_of x), length-bytes_of x)
+length-bytes_of (a ∷ x) = grind (arith, places, length-bytes_of x)
