@@ -10,7 +10,7 @@ use Rattle.scrypt_kernel.specs.BlockMix.{block_mix, chain, y}
 use Rattle.scrypt_kernel.specs.Diagonal.{AreInverse, IsBlockMixBy, permuted}
 use Rattle.scrypt_kernel.proofs.PartFacts.{halves_all, length-part, length-parts, part_after, part_of_parts, take_both}
 use Rattle.scrypt_kernel.proofs.SalsaFacts.{length-salsa20_8}
-use Rattle.scrypt_kernel.proofs.OrderFacts.{block_in, block_out, in_then_out, length-permuted, out_then_in, zip_in}
+use Rattle.scrypt_kernel.proofs.OrderFacts.{block_in, block_out, in_then_out, length-permuted, out_then_in, standard_of, zip_out}
 
 -- one more step of the chain
 pub chain_more : (b : List ℕ) (i : ℕ) → chain b (i + 1) ≡ salsa20_8 (xor_words (chain b i) (block b i))
@@ -86,15 +86,11 @@ module _ (p q : List ℕ) (inverse : AreInverse p q) (input : List ℕ) where
   next_in_chain x i some whole room is =
       let b = permuted q input in
       let long : length b ≡ length input = length-permuted q input in
-      let z = chain b i in
-      let w = block b i in
-      let one : length z ≡ 16 = length-chain b (omega arith) (omega arith) i (omega arith) in
-      let two : length w ≡ 16 = length-part 16 i b (omega arith) in
-      let both : length (xor_words z w) ≡ 16 = length-zip2 bit_xor z w (one ∙ sym two) ∙ one in
-      let taken : permuted q (xor_words x (block input i)) ≡ xor_words z w =
-      ap (permuted q) (ap₂ xor_words is (block_is_in i room) ∙ zip_in p q inverse bit_xor z w (one ∙ sym two) (omega arith))
-      ∙ in_then_out p q inverse (xor_words z w) (omega arith) in
-      ap (λ v. permuted p (salsa20_8 v)) taken ∙ ap (permuted p) (sym (chain_more b i))
+      let one : length x ≡ 16 = ap length is ∙ length-permuted p _ ∙ length-chain b (omega arith) (omega arith) i (omega arith) in
+      let two : length (block input i) ≡ 16 = length-part 16 i input room in
+      ap (λ z. permuted p (salsa20_8 z)) (zip_out p q inverse bit_xor x (block input i) (one ∙ sym two) (omega arith)
+      ∙ ap₂ xor_words (standard_of p q inverse x (chain b i) (omega arith) is) (sym (block_out p q inverse input i room)))
+      ∙ ap (permuted p) (sym (chain_more b i))
 
 -- the block mix of words in another order, by the core in that order
 module _ (p q : List ℕ) (inverse : AreInverse p q) (b : List ℕ) (some : 0 < length b) (whole : length b % 32 ≡ 0) where
@@ -204,12 +200,12 @@ module _ (p q : List ℕ) (inverse : AreInverse p q) (input : List ℕ) (r : ℕ
       let b = permuted q input in
       let long : length b ≡ length input = length-permuted q input in
       let size_out : length (permuted q output) ≡ length output = length-permuted q output in
-      let standard = λ (k n : ℕ) (h : k * 16 + 16 ≤ length output) (m : n * 16 ≤ length b) (is : block output k ≡ permuted p (chain b n)).
-      let one : length (chain b n) ≡ 16 = length-chain b (omega arith) (omega arith) n m in
-      block_out p q inverse output k h ∙ ap (permuted q) is ∙ in_then_out p q inverse (chain b n) (omega arith) in
+      let standard = λ (k n : ℕ) (h : k * 16 + 16 ≤ length output) (is : block output k ≡ permuted p (chain b n)).
+      let one : length (block output k) ≡ 16 = length-part 16 k output h in
+      block_out p q inverse output k h ∙ standard_of p q inverse (block output k) (chain b n) (omega arith) is in
       let mixed : permuted q output ≡ block_mix b = block_mix_all b (permuted q output) r (omega arith) (omega arith)
-      (λ k h. standard k (2 * k + 1) (omega arith) (omega arith) (after.even k (omega arith)))
-      (λ k h. standard (r + k) (2 * k + 1 + 1) (omega arith) (omega arith) (after.odd k (omega arith))) in
+      (λ k h. standard k (2 * k + 1) (omega arith) (after.even k (omega arith)))
+      (λ k h. standard (r + k) (2 * k + 1 + 1) (omega arith) (after.odd k (omega arith))) in
       sym (out_then_in p q inverse output (omega arith)) ∙ ap (permuted p) mixed
 
 -- a row that is mixed from row i of those before it, and written behind them

@@ -9,14 +9,9 @@ use Rattle.scrypt_kernel.specs.BlockMix.{block_mix}
 use Rattle.scrypt_kernel.specs.RoMix.{integerify, ro_mix, row, walk}
 use Rattle.scrypt_kernel.specs.Diagonal.{AreInverse, permuted}
 use Rattle.scrypt_kernel.proofs.BlockMixFacts.{length-block_mix}
-use Rattle.scrypt_kernel.proofs.OrderFacts.{in_then_out, length-permuted, out_then_in, zip_in}
+use Rattle.scrypt_kernel.proofs.OrderFacts.{length-permuted, out_then_in, standard_of, zip_out}
 use Rattle.scrypt_kernel.proofs.CountFacts.{counted_both, counted_none}
 use Rattle.scrypt_kernel.proofs.PartFacts.{length-part, part_append_front, part_append_last, parts_apart}
-
--- the next row
-pub row_more : (b : List ℕ) (i : ℕ) → row b (i + 1) ≡ block_mix (row b i)
-unfolding row
-row_more b i = rw add-one refl
 
 pub row_one : (b : List ℕ) → block_mix b ≡ row b 1
 unfolding row
@@ -68,20 +63,11 @@ module _ (p q : List ℕ) (inverse : AreInverse p q) where
   unfolding row
   row_zero_in x whole = sym (out_then_in p q inverse x whole)
 
-  pub next_row_in : (b x : List ℕ) (i : ℕ) → length x % 16 ≡ 0 → x ≡ permuted p (row b i)
-      → permuted p (block_mix (permuted q x)) ≡ permuted p (row b (i + 1))
-  next_row_in b x i whole is =
-      let long : length (row b i) ≡ length x = sym (ap length is ∙ length-permuted p (row b i)) in
-      let standard : permuted q x ≡ row b i = ap (permuted q) is ∙ in_then_out p q inverse (row b i) (omega arith) in
-      ap (λ z. permuted p (block_mix z)) standard ∙ ap (permuted p) (sym (row_more b i))
-
   -- and the row that is n rows after it
   pub row_after_in : (b x : List ℕ) (i n : ℕ) → length x % 16 ≡ 0 → x ≡ permuted p (row b i)
       → permuted p (row (permuted q x) n) ≡ permuted p (row b (i + n))
   row_after_in b x i n whole is =
-      let long : length (row b i) ≡ length x = sym (ap length is ∙ length-permuted p (row b i)) in
-      let standard : permuted q x ≡ row b i = ap (permuted q) is ∙ in_then_out p q inverse (row b i) (omega arith) in
-      ap (λ z. permuted p (row z n)) standard ∙ ap (permuted p) (row_after b i n)
+      ap (λ z. permuted p (row z n)) (standard_of p q inverse x (row b i) whole is) ∙ ap (permuted p) (row_after b i n)
 
   -- before the first block mix, and after one more
   module _ (b : List ℕ) (size : ℕ) (whole : size % 32 ≡ 0) {simd : Bool} {begin : CoreCount} where
@@ -93,7 +79,7 @@ module _ (p q : List ℕ) (inverse : AreInverse p q) where
         → length x ≡ size → y ≡ permuted p (block_mix (permuted q x)) → AreCountedAs simd (2 * (len / 32)) before after → len ≡ size
         → n ≡ i + 1 → AfterMixes p b size simd begin n y after
     one_more_mix before after x y i n len until long mixed counted same is = rw is (record {
-      value = mixed ∙ next_row_in b x i (omega arith) until.value;
+      value = mixed ∙ ap (permuted p) (row_one (permuted q x)) ∙ row_after_in b x i 1 (omega arith) until.value;
       counted = counted_both _ until.counted (rw same at counted) (omega arith);
     })
 
@@ -136,12 +122,8 @@ module _ (p q : List ℕ) (inverse : AreInverse p q) where
   unfolding walk
   next_step_in b log_n k x u j whole same is names taken =
       let w = walk b log_n k in
-      let long : length w ≡ length x = sym (ap length is ∙ length-permuted p w) in
-      let long_row : length (row b j) ≡ length x = sym (length-permuted p (row b j)) ∙ sym (ap length taken) ∙ same in
-      let standard : permuted q x ≡ w = ap (permuted q) is ∙ in_then_out p q inverse w (omega arith) in
+      let standard = standard_of p q inverse x w whole is in
       let number : j ≡ integerify w % 2 ^ log_n = names ∙ ap (λ z. integerify z % 2 ^ log_n) standard in
-      let both : length (xor_words w (row b j)) ≡ length w = length-zip2 bit_xor w (row b j) (long ∙ sym long_row) in
-      let joined : permuted q (xor_words x u) ≡ xor_words w (row b j) =
-      ap (permuted q) (ap₂ xor_words is taken ∙ zip_in p q inverse bit_xor w (row b j) (long ∙ sym long_row) (omega arith))
-      ∙ in_then_out p q inverse (xor_words w (row b j)) (omega arith) in
-      ap (λ z. permuted p (block_mix z)) (joined ∙ ap (λ n. xor_words w (row b n)) number) ∙ rw add-one refl
+      let row_is = standard_of p q inverse u (row b j) (omega arith) taken in
+      ap (λ z. permuted p (block_mix z)) (zip_out p q inverse bit_xor x u (sym same) whole
+      ∙ ap₂ xor_words standard (row_is ∙ ap (row b) number)) ∙ rw add-one refl

@@ -14,8 +14,8 @@ use Rattle.scrypt_kernel.specs.KeptRows.{AfterSteps, AreWalkLens, IsFilled, IsNe
 use Rattle.scrypt_kernel.specs.Diagonal.{AreInverse, permuted}
 use Rattle.scrypt_kernel.proofs.CountFacts.{counted_both, counted_none}
 use Rattle.scrypt_kernel.proofs.PartFacts.{length-part}
-use Rattle.scrypt_kernel.proofs.OrderFacts.{in_then_out, length-permuted}
-use Rattle.scrypt_kernel.proofs.RoMixFacts.{HoldsRows, length-row, next_step_in, row_after_in, row_zero_in}
+use Rattle.scrypt_kernel.proofs.OrderFacts.{length-permuted, standard_of}
+use Rattle.scrypt_kernel.proofs.RoMixFacts.{HoldsRows, next_step_in, row_after_in, row_zero_in}
 
 -- a table's number of kept rows, of which m is the last
 pub kept_rows : (log_n s m : ℕ) → log_n ≤ 56 → m ≡ 1 * 2 ^ (log_n - s) % 2 ^ 64 - 1 → m + 1 ≡ 2 ^ (log_n - s)
@@ -73,17 +73,6 @@ whole_cost b log_n r =
     let none = extra_rows-whole b log_n (2 ^ log_n) in
     ap (λ e. ro_mix_cost log_n r + 2 * r * e) none ∙ omega arith
 
--- the input of a table is one of its rows
-pub input_long : (p b : List ℕ) (log_n s size : ℕ) (kept : List ℕ) → KeepsRows p b s size (2 ^ log_n) kept
-    → length kept ≡ 2 ^ (log_n - s) * size → length b ≡ size
-unfolding row
-input_long p b log_n s size kept keeps long =
-    let none : 0 * 2 ^ s ≡ 0 = omega arith in
-    let some : 0 * 2 ^ s < 2 ^ log_n = omega (arith, pow_pos log_n) in
-    let room : 0 * size + size ≤ length kept = omega (arith, mul-le-mul_right size (pow_pos (log_n - s))) in
-    let first : part size kept 0 ≡ permuted p b = keeps.each 0 some ∙ ap (λ i. permuted p (row b i)) none in
-    sym (length-permuted p b) ∙ sym (ap length first) ∙ length-part size 0 kept room
-
 -- the row that is recomputed from the kept row below it
 pub row_from_kept : (p q : List ℕ) → AreInverse p q → (b x kept : List ℕ) (s size n j : ℕ) → size % 16 ≡ 0
     → KeepsRows p b s size n kept → j < n → (j / 2 ^ s + 1) * size ≤ length kept → x ≡ part size kept (j / 2 ^ s)
@@ -104,35 +93,29 @@ some_missing (suc s) j missing = omega arith
 -- the step after one, which takes in row j: the kept row below it is low, and u is mixed from that
 module _ (p q : List ℕ) (inverse : AreInverse p q) {log_n s y spare : ℕ} (kept x low : List ℕ) (j : ℕ)
     (lens : AreWalkLens log_n s (length x) y spare (length kept)) (names : j ≡ integerify (permuted q x) % 2 ^ log_n)
-    (inside : j < 2 ^ log_n) where
-  pub next_step : (u : List ℕ) → low ≡ part (length x) kept (j / 2 ^ s) → u ≡ permuted p (row (permuted q low) (j % 2 ^ s))
-      → IsNext p log_n s kept x (permuted p (block_mix (permuted q (xor_words x u))))
-  next_step u below mixed b k keeps is =
+    (inside : j < 2 ^ log_n) (below : low ≡ part (length x) kept (j / 2 ^ s)) where
+  pub next_step : (u : List ℕ) → length u ≡ length x → u ≡ permuted p (row (permuted q low) (j % 2 ^ s))
+      → IsNext p log_n s (length x) kept x (permuted p (block_mix (permuted q (xor_words x u))))
+  next_step u long mixed b k keeps is =
       let fits = kept_inside s log_n j (length x) (length kept) lens.spacing inside lens.rows in
-      let taken : u ≡ permuted p (row b j) =
-      mixed ∙ row_from_kept p q inverse b low kept s (length x) (2 ^ log_n) j (omega (arith, lens.row.whole)) keeps inside fits below in
-      let input : length b ≡ length x = input_long p b log_n s _ kept keeps lens.rows in
-      let long : length u ≡ length x = ap length taken ∙ length-permuted p (row b j)
-      ∙ length-row b (omega (arith, lens.row.some)) (omega (arith, lens.row.whole)) j ∙ input in
-      next_step_in p q inverse b log_n k x u j (omega (arith, lens.row.whole)) long is names taken
+      next_step_in p q inverse b log_n k x u j (omega (arith, lens.row.whole)) long is names
+      (mixed ∙ row_from_kept p q inverse b low kept s (length x) (2 ^ log_n) j (omega (arith, lens.row.whole)) keeps inside fits below)
 
   -- u is the kept row itself
-  pub next_step_kept : low ≡ part (length x) kept (j / 2 ^ s) → j % 2 ^ s ≡ 0
-      → IsNext p log_n s kept x (permuted p (block_mix (permuted q (xor_words x low))))
-  next_step_kept below none =
-      let fits = kept_inside s log_n j (length x) (length kept) lens.spacing inside lens.rows in
-      let long : length low ≡ length x = ap length below ∙ length-part (length x) (j / 2 ^ s) kept (omega (arith, fits)) in
+  pub next_step_kept : length low ≡ length x → j % 2 ^ s ≡ 0
+      → IsNext p log_n s (length x) kept x (permuted p (block_mix (permuted q (xor_words x low))))
+  next_step_kept long none =
       let first = row_zero_in p q inverse low (omega (arith, lens.row.whole)) in
-      next_step low below (first ∙ ap (λ n. permuted p (row (permuted q low) n)) (sym none))
+      next_step low long (first ∙ ap (λ n. permuted p (row (permuted q low) n)) (sym none))
 
 -- two more steps
-pub two_steps : (p : List ℕ) (log_n s size k : ℕ) (kept start x y z : List ℕ) → IsNext p log_n s kept x y → IsNext p log_n s kept y z
-    → length start ≡ size → length x ≡ size → length y ≡ size
+pub two_steps : (p : List ℕ) (log_n s size k : ℕ) (kept start x y z : List ℕ) → IsNext p log_n s size kept x y
+    → IsNext p log_n s size kept y z → length start ≡ size
     → IsWalked p log_n s kept start (2 * k) x → IsWalked p log_n s kept start (2 * (k + 1)) z
-two_steps p log_n s size k kept start x y z one two long long_x long_y before b starts =
-    let rows = λ (n : ℕ) (same : n ≡ size). subst (λ n. KeepsRows p b s n (2 ^ log_n) kept) (long ∙ sym same) starts.rows in
+two_steps p log_n s size k kept start x y z one two long before b starts =
+    let rows = rw long at starts.rows in
     let next : 2 * k + 1 + 1 ≡ 2 * (k + 1) = omega arith in
-    rw (← next) (two b (2 * k + 1) (rows _ long_y) (one b (2 * k) (rows _ long_x) (before b starts)))
+    rw (← next) (two b (2 * k + 1) rows (one b (2 * k) rows (before b starts)))
 
 -- the steps of all turns, two in each
 pub all_steps : (log_n k : ℕ) → 0 < log_n → log_n ≤ 56 → k ≡ 1 * 2 ^ (log_n - 1) % 2 ^ 64 → 2 * k ≡ 2 ^ log_n
@@ -159,15 +142,14 @@ extra_rows-more b log_n s k = rw add-one refl
 module _ (p q : List ℕ) (inverse : AreInverse p q) (b : List ℕ) (log_n s size : ℕ) {simd : Bool} {begin : CoreCount} where
   pub one_more_step : (before after : CoreCount) (k : ℕ) (kept start x y : List ℕ)
       → StartsWalk p b log_n s kept start → AfterSteps p b log_n s size simd begin k x before
-      → length start ≡ size → length x ≡ size → size % 16 ≡ 0 → IsNext p log_n s kept x y
+      → length start ≡ size → length x ≡ size → size % 16 ≡ 0 → IsNext p log_n s (length x) kept x y
       → AreCountedAs simd ((recomputed_rows s (integerify (permuted q x) % 2 ^ log_n) + 1) * (2 * (length x / 32))) before after
       → AfterSteps p b log_n s size simd begin (k + 1) y after
   one_more_step before after k kept start x y starts until long same whole step counted =
-      let w = walk b log_n k in
-      let walked : length w ≡ length x = sym (ap length until.value ∙ length-permuted p w) in
-      let standard : permuted q x ≡ w = ap (permuted q) until.value ∙ in_then_out p q inverse w (omega arith) in
+      let rows = rw (long ∙ sym same) at starts.rows in
+      let standard = standard_of p q inverse x (walk b log_n k) (omega arith) until.value in
       record {
-        value = step b k (subst (λ n. KeepsRows p b s n (2 ^ log_n) kept) (long ∙ sym same) starts.rows) until.value;
+        value = step b k rows until.value;
         counted = counted_both _ until.counted (rw (standard, same) at counted) (rw (extra_rows-more b log_n s k) (omega arith));
       }
 
@@ -176,21 +158,17 @@ module _ (p q : List ℕ) (inverse : AreInverse p q) (w x kept last : List ℕ) 
     (is : x ≡ permuted p w) (fill : IsFilled p q log_n s x kept last) (same : length last ≡ length x) where
   pub filled_starts : StartsWalk p w log_n s kept last
   filled_starts =
-      let input : permuted q x ≡ w = ap (permuted q) is ∙ in_then_out p q inverse w whole in
+      let input = standard_of p q inverse x w (omega (arith, ap length is, length-permuted p w)) is in
       let P : List ℕ → Type 0 = λ z. KeepsRows p z s (length x) (2 ^ log_n) kept in
       record {
-        rows = subst (λ n. KeepsRows p w s n (2 ^ log_n) kept) (sym same) (subst P input fill.rows);
+        rows = rw (← same) at (subst P input fill.rows);
         start = fill.after ∙ ap (λ z. permuted p (row z (2 ^ log_n))) input;
       }
 
   pub ro_mixed : (end : List ℕ) → IsWalked p log_n s kept last (2 ^ log_n) end → length end ≡ length x → permuted q end ≡ ro_mix w log_n
   unfolding ro_mix
-  ro_mixed end walked end_long =
-      let z = walk w log_n (2 ^ log_n) in
-      let after = walked w filled_starts in
-      let long : length z ≡ length w =
-      sym (length-permuted p z) ∙ sym (ap length after) ∙ end_long ∙ ap length is ∙ length-permuted p w in
-      ap (permuted q) after ∙ in_then_out p q inverse z (ap (λ n. n % 16) long ∙ whole)
+  ro_mixed end walked long =
+      standard_of p q inverse end _ (omega (arith, ap length is, length-permuted p w)) (walked w filled_starts)
 
 -- the cores of the fill and of the walk
 pub filled_and_walked : {simd : Bool} {before filled after : CoreCount} (rows size words r e : ℕ) → size / 32 ≡ r → words ≡ size

@@ -37,10 +37,10 @@ pub record AreWalkLens (log_n s x y spare v : ℕ) : Type 0 where
   pub room : 0 < s → x ≤ spare
   pub rows : v ≡ 2 ^ (log_n - s) * x
 
--- y is the X after x, for each input whose rows are kept and whose walk reaches x
-abbrev pub IsNext : List ℕ → ℕ → ℕ → List ℕ → List ℕ → List ℕ → Type 0
-IsNext p log_n s kept x y =
-    (b : List ℕ) (k : ℕ) → KeepsRows p b s (length x) (2 ^ log_n) kept → x ≡ permuted p (walk b log_n k)
+-- y is the X after x, for each input whose rows, of this size, are kept and whose walk reaches x
+abbrev pub IsNext : List ℕ → ℕ → ℕ → ℕ → List ℕ → List ℕ → List ℕ → Type 0
+IsNext p log_n s size kept x y =
+    (b : List ℕ) (k : ℕ) → KeepsRows p b s size (2 ^ log_n) kept → x ≡ permuted p (walk b log_n k)
     → y ≡ permuted p (walk b log_n (k + 1))
 
 -- x is X after k steps from `start`, for each input whose walk begins there

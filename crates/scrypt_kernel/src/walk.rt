@@ -57,7 +57,7 @@ fn step<O: Order>(
     cores: &mut CoreCount,
 )
     requires lens { AreWalkLens log_n s (length x.now) (length y.old) (length spare.old) (length v.now) }
-    ensures value { IsNext O.pivot log_n s v.now x.now y.new }
+    ensures value { IsNext O.pivot log_n s (length x.now) v.now x.now y.new }
     ensures counted { let j = integerify (permuted O.inverse_pivot x.now) % 2 ^ log_n in
         AreCountedAs O.simd ((recomputed_rows s j + 1) * (2 * (length x.now / 32))) cores.old cores.new }
 {

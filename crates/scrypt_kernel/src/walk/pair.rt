@@ -61,8 +61,8 @@ fn step(
     requires lens { AreWalkLens log_n 0 (length x.now) (length y.old) 0 (length v.now) }
     requires other_lens { AreWalkLens log_n 0 (length other_x.now) (length other_y.old) 0 (length other_v.now) }
     requires same { length other_x.now ≡ length x.now }
-    ensures value { IsNext pivot log_n 0 v.now x.now y.new }
-    ensures other_value { IsNext pivot log_n 0 other_v.now other_x.now other_y.new }
+    ensures value { IsNext pivot log_n 0 (length x.now) v.now x.now y.new }
+    ensures other_value { IsNext pivot log_n 0 (length other_x.now) other_v.now other_x.now other_y.new }
     ensures counted { AreCounted (2 * (2 * (length x.now / 32))) cores.old cores.new }
 {
     let taken = part(x.len(), v, integerify_diagonal(x, log_n));

@@ -21,7 +21,7 @@ returns-then-missing-eq0-clause-value g c =
     let j = c.integerify-j in
     let none : j.result % 2 ^ c.args.s ≡ 0 = ap (λ n. j.result % n) (sym (one_shl c.args.s 64 (omega arith))) ∙ c.if-missing-eq0.true in
     rw c.mix.ensures.value (next_step_kept g.O.Order.pivot g.O.Order.inverse_pivot g.met.O.Order.inverse c.args.v.now c.args.x.now
-    c.part-kept.result.now j.result c.requires.lens j.ensures.value j.ensures.inside c.part-kept.ensures.value none)
+    c.part-kept.result.now j.result c.requires.lens j.ensures.value j.ensures.inside c.part-kept.ensures.value c.part-kept.ensures.len none)
 
 pub mix-requires-else-missing-eq0-clause-same : goal.mix-requires-else-missing-eq0-clause-same
 mix-requires-else-missing-eq0-clause-same g c =
@@ -36,6 +36,8 @@ returns-else-missing-eq0-clause-value g c =
     let p = g.O.Order.pivot in
     let q = g.O.Order.inverse_pivot in
     let kept = c.part-kept.result.now in
+    let room = c.requires.lens.room (some_missing _ _ c.if-missing-eq0.false) in
+    let long = c.recompute.auto.x ∙ length-take-le (length c.args.x.now) c.args.spare.now room in
     rw c.mix-else-missing-eq0.ensures.value (next_step p q g.met.O.Order.inverse c.args.v.now c.args.x.now kept j.result c.requires.lens
-    j.ensures.value j.ensures.inside _ c.part-kept.ensures.value
+    j.ensures.value j.ensures.inside c.part-kept.ensures.value _ long
     (c.recompute.ensures.value ∙ ap (λ n. permuted p (row (permuted q kept) (j.result % n))) (one_shl c.args.s 64 (omega arith))))

@@ -24,7 +24,7 @@ returns-clause-value c =
     let j = c.integerify_diagonal in
     rw c.mix_pair.ensures.value (next_step_kept pivot inverse_pivot diagonal_inverse c.args.v.now c.args.x.now
     c.part-taken.result.now j.result c.requires.lens j.ensures.value j.ensures.inside
-    (c.part-taken.ensures.value ∙ same_row _ _ j.result c.args.v.now refl) (omega arith))
+    (c.part-taken.ensures.value ∙ same_row _ _ j.result c.args.v.now refl) (omega arith) (omega arith))
 
 pub part-other_taken-requires : goal.part-other_taken-requires
 part-other_taken-requires c =
@@ -40,4 +40,4 @@ returns-clause-other_value c =
     let j = c.integerify_diagonal-2 in
     rw c.mix_pair.ensures.other_value (next_step_kept pivot inverse_pivot diagonal_inverse c.args.other_v.now c.args.other_x.now
     c.part-other_taken.result.now j.result c.requires.other_lens j.ensures.value j.ensures.inside
-    (c.part-other_taken.ensures.value ∙ same_row _ _ j.result c.args.other_v.now (omega arith)) (omega arith))
+    (c.part-other_taken.ensures.value ∙ same_row _ _ j.result c.args.other_v.now (omega arith)) (omega arith) (omega arith))

@@ -19,10 +19,12 @@ pairs-preserved c =
     let two = c.step-in-pairs-2.ensures in
     let before = c.pairs.invariant in
     let long : length c.step-in-pairs.new.y ≡ length c.args.x.now = omega arith in
+    let other_long : length c.step-in-pairs.new.other_y ≡ length c.args.other_x.now = omega arith in
     let more = two_steps pivot c.args.log_n 0 in
     record {
-      walked = more _ _ _ _ _ _ _ one.value two.value refl c.pairs.auto.x (omega arith) before.walked;
-      other_walked = more _ _ _ _ _ _ _ one.other_value two.other_value refl c.pairs.auto.other_x (omega arith) before.other_walked;
+      walked = more _ _ _ _ _ _ _ (rw c.pairs.auto.x at one.value) (rw long at two.value) refl before.walked;
+      other_walked = more _ _ _ _ _ _ _ (rw c.pairs.auto.other_x at one.other_value) (rw other_long at two.other_value) refl
+          before.other_walked;
       counted = counted_both _ (counted_both _ before.counted (rw c.pairs.auto.x at one.counted) refl)
           (rw long at two.counted) (omega arith);
     }
