@@ -13,10 +13,6 @@ use Rattle.scrypt_kernel.proofs.OrderFacts.{length-permuted, out_then_in, standa
 use Rattle.scrypt_kernel.proofs.CountFacts.{counted_both, counted_none}
 use Rattle.scrypt_kernel.proofs.PartFacts.{length-part, part_append_front, part_append_last, parts_apart}
 
-pub row_one : (b : List ℕ) → block_mix b ≡ row b 1
-unfolding row
-row_one b = refl
-
 -- the rows after a row are rows
 pub row_after : (b : List ℕ) (i k : ℕ) → row (row b i) k ≡ row b (i + k)
 unfolding row
@@ -78,14 +74,17 @@ module _ (p q : List ℕ) (inverse : AreInverse p q) where
     pub one_more_mix : (before after : CoreCount) (x y : List ℕ) (i n len : ℕ) → AfterMixes p b size simd begin i x before
         → length x ≡ size → y ≡ permuted p (block_mix (permuted q x)) → AreCountedAs simd (2 * (len / 32)) before after → len ≡ size
         → n ≡ i + 1 → AfterMixes p b size simd begin n y after
+    unfolding row
     one_more_mix before after x y i n len until long mixed counted same is = rw is (record {
-      value = mixed ∙ ap (permuted p) (row_one (permuted q x)) ∙ row_after_in b x i 1 (omega arith) until.value;
+      value = mixed ∙ row_after_in b x i 1 (omega arith) until.value;
       counted = counted_both _ until.counted (rw same at counted) (omega arith);
     })
 
   -- the first row of a table
-  pub first_row : (x v : List ℕ) (s t : ℕ) → length x ≡ s → s % 32 ≡ 0 → v ≡ [] ++ x → HoldsRows p (permuted q x) s t 1 v
-  first_row x v s t size whole is =
+  pub first_row : (x none v : List ℕ) (s t : ℕ) → length x ≡ s → s % 32 ≡ 0 → none ≡ [] → v ≡ none ++ x
+      → HoldsRows p (permuted q x) s t 1 v
+  first_row x cleared v s t size whole empty added =
+      let is : v ≡ x = rw empty at added in
       let none : 0 * t ≡ 0 = omega arith in
       record {
         len = ap length is ∙ omega arith;

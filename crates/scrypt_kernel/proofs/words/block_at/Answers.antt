@@ -1,13 +1,11 @@
-use Rattle.std.proofs.Common.{◌≢◌, arith, below_more, ◌∙◌}
+use Rattle.std.proofs.Common.{arith}
 use Rattle.scrypt_kernel.proofs.PartFacts.{block_alone}
 use Rattle.scrypt_kernel.proofs.words.block_at.Goals as goal
 
 pub loop-j-preserved : goal.loop-j-preserved
 loop-j-preserved c = record {
   long = omega arith;
-  copied = below_more _ _
-      (λ i h. let other : i ≢ c.loop-j.j = omega arith in c.put_lanes.ensures.others i other ∙ c.loop-j.invariant.copied i h)
-      (c.put_lanes.ensures.written ∙ c.lanes.ensures);
+  copied = λ i h. grind (arith, c.put_lanes.ensures.others i, c.loop-j.invariant.copied i);
 }
 
 pub returns : goal.returns

@@ -1,4 +1,4 @@
-use Rattle.std.proofs.Common.{◌≢◌, ◌*◌, ◌+◌, arith, below_more, inl, inr, sym, ◌∙◌}
+use Rattle.std.proofs.Common.{◌*◌, ◌+◌, arith, inl, inr, sym}
 use Rattle.std.proofs.lemmas.Bool.{cases_lt}
 use Rattle.scrypt_kernel.proofs.PartFacts.{block_alone, block_same}
 use Rattle.scrypt_kernel.proofs.words.put_block.Goals as goal
@@ -8,13 +8,9 @@ loop-j-preserved c =
     let at = 4 * c.args.k in
     let j = c.loop-j.j in
     record {
-      written = below_more _ _
-          (λ i h. let other : at + i ≢ at + j = omega arith in
-          c.put_lanes.ensures.others (at + i) other ∙ c.loop-j.invariant.written i h)
-          (c.put_lanes.ensures.written ∙ c.lanes.ensures);
-      before = λ i h. let other : i ≢ at + j = omega arith in c.put_lanes.ensures.others i other ∙ c.loop-j.invariant.before i h;
-      after = λ i h. let other : i ≢ at + j = omega arith in
-          c.put_lanes.ensures.others i other ∙ c.loop-j.invariant.after i (omega arith);
+      written = λ i h. grind (arith, c.put_lanes.ensures.others (at + i), c.loop-j.invariant.written i);
+      before = λ i h. grind (arith, c.put_lanes.ensures.others i, c.loop-j.invariant.before i);
+      after = λ i h. grind (arith, c.put_lanes.ensures.others i, c.loop-j.invariant.after i);
     }
 
 pub returns-clause-written : goal.returns-clause-written

@@ -1,5 +1,4 @@
-use Rattle.std.proofs.Common.{◌≡◌, ◌≢◌, length, ap₂, sym, ◌∙◌, arith, below_more, bit_xor}
-use Rattle.std.specs.Simd.Lanes.{zip2}
+use Rattle.std.proofs.Common.{◌≡◌, length, sym, ◌∙◌, arith, bit_xor}
 use Rattle.std.proofs.lemmas.Simd.{length-zip2}
 use Rattle.scrypt_kernel.specs.Words.{xor_words}
 use Rattle.scrypt_kernel.proofs.PartFacts.{parts_same}
@@ -9,9 +8,7 @@ use Rattle.scrypt_kernel.proofs.words.xor_blocks.Goals as goal
 pub loop-j-preserved : goal.loop-j-preserved
 loop-j-preserved c = record {
   long = omega arith;
-  joined = below_more _ _
-      (λ i h. let other : i ≢ c.loop-j.j = omega arith in c.put_lanes.ensures.others i other ∙ c.loop-j.invariant.joined i h)
-      (c.put_lanes.ensures.written ∙ ap₂ (zip2 bit_xor) c.lanes.ensures c.lanes-in-loop-j.ensures);
+  joined = λ i h. grind (arith, c.put_lanes.ensures.others i, c.loop-j.invariant.joined i);
 }
 
 pub returns : goal.returns

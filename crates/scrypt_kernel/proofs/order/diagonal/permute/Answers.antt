@@ -1,4 +1,4 @@
-use Rattle.std.proofs.Common.{◌≢◌, ℕ, ◌/◌, length, ap, sym, ◌∙◌, arith, below_more}
+use Rattle.std.proofs.Common.{ℕ, ◌/◌, length, sym, ◌∙◌, arith}
 use Rattle.scrypt_kernel.specs.Diagonal.{permuted}
 use Rattle.scrypt_kernel.proofs.PartFacts.{parts_same}
 use Rattle.scrypt_kernel.proofs.OrderFacts.{block_permuted, length-permuted, within}
@@ -8,11 +8,8 @@ pub loop-k-preserved : goal.loop-k-preserved
 loop-k-preserved c =
     let k = c.loop-k.k in
     record {
-      done = below_more _ _
-          (λ j h. let ne : j ≢ k = omega arith in c.permute_block.ensures.others j ne ∙ c.loop-k.invariant.done j h)
-          (c.permute_block.ensures.written ∙ ap (permuted c.args.pivot.now) (c.loop-k.invariant.rest k (omega arith)));
-      rest = λ j h. let ne : j ≢ k = omega arith in
-          c.permute_block.ensures.others j ne ∙ c.loop-k.invariant.rest j (omega arith);
+      done = λ j h. grind (arith, c.permute_block.ensures.others j, c.loop-k.invariant.done j, c.loop-k.invariant.rest k);
+      rest = λ j h. grind (arith, c.permute_block.ensures.others j, c.loop-k.invariant.rest j);
     }
 
 pub returns : goal.returns
