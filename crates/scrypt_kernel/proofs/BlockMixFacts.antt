@@ -1,6 +1,6 @@
 -- Facts on scryptBlockMix.
 use Rattle.std.proofs.Common.{◌≡◌, ◌≢◌, ℕ, zero, suc, ◌+◌, ◌-◌, ◌*◌, ◌/◌, ◌%◌, ◌<◌, ◌≤◌, List, [], ◌++◌, length, take, zero-add}
-use Rattle.std.proofs.Common.{bit_xor, add-one, refl, sym, ap, ap₂, ◌∙◌, arith, below_more}
+use Rattle.std.proofs.Common.{bit_xor, add-one, refl, sym, ap, ap₂, ◌∙◌, arith}
 use Rattle.std.proofs.lemmas.List.{append-nil, length-append}
 use Rattle.std.proofs.lemmas.Simd.{length-zip2}
 use Rattle.std.specs.List.{flat_map, range_with_len}
@@ -183,14 +183,8 @@ module _ (p q : List ℕ) (inverse : AreInverse p q) (input : List ℕ) (r : ℕ
       let even_next : 2 * i + 1 + 1 ≡ 2 * (i + 1) = omega arith in
       record {
         chained = second ∙ ap (λ n. permuted p (chain b n)) even_next;
-        even = below_more _ _
-            (λ k h. let second_half : k ≢ r + i = omega arith in let other : k ≢ i = omega arith in
-            others2 k second_half ∙ others1 k other ∙ before.even k h)
-            (let second_half : i ≢ r + i = omega arith in others2 i second_half ∙ written1 ∙ first);
-        odd = below_more _ _
-            (λ k h. let other : r + k ≢ r + i = omega arith in let first_half : r + k ≢ i = omega arith in
-            others2 (r + k) other ∙ others1 (r + k) first_half ∙ before.odd k h)
-            (written2 ∙ second);
+        even = λ k h. grind (arith, others2 k, others1 k, before.even k);
+        odd = λ k h. grind (arith, others2 (r + k), others1 (r + k), before.odd k);
       }
 
   -- after the last turn

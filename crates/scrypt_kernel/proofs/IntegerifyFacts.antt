@@ -1,6 +1,6 @@
 -- Facts on the number that the last block's bytes write.
 use Rattle.std.proofs.Common.{◌≡◌, ℕ, ◌<◌, ◌≤◌, ◌+◌, ◌-◌, ◌*◌, ◌/◌, ◌%◌, ◌^◌, List, ◌∷◌, ◌++◌, length, take, drop}
-use Rattle.std.proofs.Common.{get_or, sym, ap, ap₂, ◌∙◌, arith, bit_and, bit_or}
+use Rattle.std.proofs.Common.{get_or, sym, ap, ◌∙◌, arith, bit_and, bit_or}
 use Rattle.std.specs.Int.{w32, to_le_bytes}
 use Rattle.std.proofs.lemmas.Nat.{pow-add, and_mask, one_shl, or_shifted, shl_whole}
 use Rattle.std.proofs.lemmas.List.{drop_more}
@@ -46,9 +46,5 @@ integerify_low x a k at whole small u_fits w_fits =
 pub low_bits : (u w k : ℕ) → u < 2 ^ 32 → w < 2 ^ 32 → k < 64
     → bit_and (bit_or (w * 2 ^ 32 % 2 ^ 64) u) (1 * 2 ^ k % 2 ^ 64 - 1) ≡ (u + 2 ^ 32 * w) % 2 ^ k
 low_bits u w k u_fits w_fits small =
-    let placed : w * 2 ^ 32 % 2 ^ 64 ≡ w * 2 ^ 32 = shl_whole w 32 32 64 w_fits (omega arith) in
-    let mask : 1 * 2 ^ k % 2 ^ 64 ≡ 2 ^ k = one_shl k 64 small in
-    let joined : bit_or (w * 2 ^ 32) u ≡ w * 2 ^ 32 + u = or_shifted w 32 u u_fits in
     let turned : w * 2 ^ 32 + u ≡ u + 2 ^ 32 * w = omega arith in
-    ap₂ (λ n m. bit_and n (m - 1)) (ap (λ n. bit_or n u) placed ∙ joined ∙ turned) mask
-    ∙ and_mask (u + 2 ^ 32 * w) k
+    rw (shl_whole w 32 32 64 w_fits (omega arith), one_shl k 64 small, or_shifted w 32 u u_fits, turned) (and_mask (u + 2 ^ 32 * w) k)

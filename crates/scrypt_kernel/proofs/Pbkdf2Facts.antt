@@ -1,7 +1,7 @@
 -- Facts on HMAC and PBKDF2.
 use Rattle.std.proofs.Common.{◌≡◌, ℕ, zero, inl, inr, ◌<◌, ◌≤◌, ◌+◌, ◌-◌, ◌*◌, ◌/◌, ◌%◌, suc, List, [], ◌∷◌, ◌++◌}
-use Rattle.std.proofs.Common.{length, map, take, drop, get_or, slice_index, replicate, bit_xor, false, nat_lt}
-use Rattle.std.proofs.Common.{refl, sym, ap, ◌∙◌, arith, rules}
+use Rattle.std.proofs.Common.{length, map, take, drop, get_or, slice_index, replicate, false, nat_lt}
+use Rattle.std.proofs.Common.{refl, sym, ◌∙◌, arith, rules}
 use Rattle.std.proofs.lemmas.Bool.{cases_lt, le-ltb, lt-ltb}
 use Rattle.std.proofs.lemmas.List.{drop-replicate, get_or_append_left, get_or-append_right, get_or-take, get_or-drop}
 use Rattle.std.proofs.lemmas.List.{ext_get_or}
@@ -59,16 +59,13 @@ part_of_pbkdf2 : (password salt : List ℕ) (n i : ℕ) → i < n
 unfolding pbkdf2_byte hmac_sha256
 part_of_pbkdf2 password salt n i inside =
     let whole = pbkdf2 password salt (n * 32) in
-    let room : i * 32 + 32 ≤ length whole = omega (arith, length-pbkdf2 password salt (n * 32)) in
-    let one : length (part 32 whole i) ≡ 32 = length-part 32 i whole room in
-    let two : length (pbkdf2_block password salt (i + 1)) ≡ 32 = length-sha256 _ in
-    ext_get_or 0 _ _ (one ∙ sym two) (λ j h.
+    let one : length (part 32 whole i) ≡ 32 = length-part 32 i whole (omega (arith, length-pbkdf2 password salt (n * 32))) in
+    ext_get_or 0 _ _ (one ∙ sym (length-sha256 _)) (λ j h.
     let below : j < 32 = omega arith in
+    let is = get_or-map-range_with_len (pbkdf2_byte password salt) 0 (n * 32) (i * 32 + j) (i * 32 + j) 0 (omega arith) (omega arith) in
     let number : (i * 32 + j) / 32 ≡ i = omega arith in
     let place : (i * 32 + j) % 32 ≡ j = omega arith in
-    get_or-take 32 (drop (i * 32) whole) j 0 below ∙ get_or-drop (i * 32) whole j 0
-    ∙ get_or-map-range_with_len (pbkdf2_byte password salt) 0 (n * 32) (i * 32 + j) (i * 32 + j) 0 (omega arith) (omega arith)
-    ∙ rw (number, place) refl)
+    rw (get_or-take, get_or-drop, is, number, place) refl)
 
 -- whole blocks of a derived key
 pub pbkdf2_by_blocks : (password salt : List ℕ) (n : ℕ)
@@ -78,14 +75,9 @@ pbkdf2_by_blocks password salt n =
     (length-pbkdf2 password salt (n * 32)) (λ i h. part_of_pbkdf2 password salt n i h)
 
 -- a key that is padded to the same block gives the same bytes
-same_hmac : (one other text : List ℕ) → padded_key one ≡ padded_key other → hmac_sha256 one text ≡ hmac_sha256 other text
-unfolding hmac_sha256
-same_hmac one other text padded =
-    ap (λ k. sha256 (map (bit_xor 0x5c) k ++ sha256 (map (bit_xor 0x36) k ++ text))) padded
-
 same_byte : (one other salt : List ℕ) → padded_key one ≡ padded_key other → (k : ℕ) → pbkdf2_byte one salt k ≡ pbkdf2_byte other salt k
-unfolding pbkdf2_byte
-same_byte one other salt padded k = ap (λ t. slice_index t (k % 32)) (same_hmac one other _ padded)
+unfolding pbkdf2_byte hmac_sha256
+same_byte one other salt padded k = rw padded refl
 
 pub same_pbkdf2 : (one other salt : List ℕ) (n : ℕ) → padded_key one ≡ padded_key other → pbkdf2 one salt n ≡ pbkdf2 other salt n
 same_pbkdf2 one other salt n padded = λ i. map (λ k. same_byte one other salt padded k i) (range_with_len 0 n)

@@ -1,17 +1,23 @@
 -- Facts on lists of words.
 use Rattle.std.proofs.Common.{◌≡◌, ℕ, zero, suc, ◌<◌, ◌≤◌, ◌+◌, ◌*◌, List, [], ◌∷◌, length, take, drop}
-use Rattle.std.proofs.Common.{refl, get_or, set, sym, ap, ◌∙◌, arith}
+use Rattle.std.proofs.Common.{bit_xor, refl, get_or, set, sym, ap, ◌∙◌, arith}
 use Rattle.std.proofs.lemmas.Grind.{common_steps}
 use Rattle.std.proofs.lemmas.List.{ext_get_or, places}
 use Rattle.std.specs.Simd.Lanes.{zip2}
 use Rattle.std.proofs.lemmas.Simd.{length-zip2, get_or-zip2}
-use Rattle.scrypt_kernel.specs.Words.{bytes_of, part}
+use Rattle.scrypt_kernel.specs.Words.{bytes_of, part, xor_words}
 
 -- a list that holds f of two lists at each place
 pub zip2_all : (f : ℕ → ℕ → ℕ) (x y out : List ℕ) → length out ≡ length x → length x ≡ length y
     → ((k : ℕ) → k < length out → get_or out k 0 ≡ f (get_or x k 0) (get_or y k 0)) → out ≡ zip2 f x y
 zip2_all f x y out long same each =
     ext_get_or 0 _ _ (long ∙ sym (length-zip2 f x y same)) (λ k h. grind (arith, each k h, get_or-zip2 f x y k 0 0 0))
+
+-- the exclusive or of two lists of the same length
+pub length-xor : (x y : List ℕ) → length x ≡ length y → length (xor_words x y) ≡ length x
+length-xor x y same = length-zip2 bit_xor x y same
+
+pub ruleset xor_lengths = (length-xor)
 
 -- x holds f of x0 and y below place i, and x0 from there on
 pub record IsMerged (f : ℕ → ℕ → ℕ) (x0 y : List ℕ) (i : ℕ) (x : List ℕ) : Type 0 where

@@ -49,6 +49,7 @@ pub(crate) struct Xor<'a> {
 impl<'a> Input for Xor<'a> {
     ghost words = { λ a. xor_words a.x.now a.y.now };
 
+    #[tactic(auto, using(crate::proofs::WordFacts::xor_lengths))]
     #[inline(always)]
     fn block(&self, k: usize) -> [u32; 16] {
         xor_blocks(&block_at(self.x, k), &block_at(self.y, k))

@@ -12,10 +12,6 @@ part-kept-requires g c =
     let inside = kept_inside _ c.args.log_n _ _ _ c.requires.lens.spacing c.integerify-j.ensures.inside c.requires.lens.rows in
     omega (arith, inside)
 
-pub mix-requires-clause-same : goal.mix-requires-clause-same
-mix-requires-clause-same g c =
-    omega (arith, length-zip2 bit_xor c.args.x.now c.part-kept.result.now (sym c.part-kept.ensures.len))
-
 pub returns-then-missing-eq0-clause-value : goal.returns-then-missing-eq0-clause-value
 returns-then-missing-eq0-clause-value g c =
     let j = c.integerify-j in

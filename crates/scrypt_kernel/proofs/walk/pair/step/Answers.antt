@@ -1,5 +1,4 @@
-use Rattle.std.proofs.Common.{◌≡◌, ◌<◌, ◌≤◌, ◌+◌, ◌-◌, ◌*◌, ◌/◌, ◌^◌, ℕ, List, refl, ap, ap₂, bit_xor, arith, ◌∙◌}
-use Rattle.std.proofs.lemmas.Simd.{length-zip2}
+use Rattle.std.proofs.Common.{◌≡◌, ◌<◌, ◌≤◌, ◌+◌, ◌-◌, ◌*◌, ◌/◌, ◌^◌, ℕ, List, refl, ap, ap₂, arith, ◌∙◌}
 use Rattle.scrypt_kernel.specs.Words.{part}
 use Rattle.scrypt_kernel.specs.Diagonal.{inverse_pivot, pivot}
 use Rattle.scrypt_kernel.proofs.OrderFacts.{diagonal_inverse}
@@ -15,10 +14,6 @@ row_inside log_n j size len inside long =
 same_row : (n size j : ℕ) (v : List ℕ) → n ≡ size → part n v j ≡ part size v (j / 2 ^ 0)
 same_row n size j v same = let there : j ≡ j / 1 = omega arith in ap₂ (λ n j. part n v j) same there
 
-pub mix_pair-requires-clause-same : goal.mix_pair-requires-clause-same
-mix_pair-requires-clause-same c =
-    omega (arith, length-zip2 bit_xor c.args.x.now c.part-taken.result.now (omega arith))
-
 pub returns-clause-value : goal.returns-clause-value
 returns-clause-value c =
     let j = c.integerify_diagonal in
@@ -30,10 +25,6 @@ pub part-other_taken-requires : goal.part-other_taken-requires
 part-other_taken-requires c =
     let j = c.integerify_diagonal-2 in
     rw (← c.requires.same) (row_inside c.args.log_n j.result _ _ j.ensures.inside c.requires.other_lens.rows)
-
-pub mix_pair-requires-clause-other_same : goal.mix_pair-requires-clause-other_same
-mix_pair-requires-clause-other_same c =
-    omega (arith, length-zip2 bit_xor c.args.other_x.now c.part-other_taken.result.now (omega arith))
 
 pub returns-clause-other_value : goal.returns-clause-other_value
 returns-clause-other_value c =
