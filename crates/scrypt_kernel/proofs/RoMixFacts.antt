@@ -90,8 +90,8 @@ module _ (p q : List ℕ) (inverse : AreInverse p q) where
         len = ap length is ∙ omega arith;
         each = λ k h.
             let zero : k ≡ 0 = omega arith in
-            rw zero (ap (λ z. part s z 0) is ∙ part_append_last s 0 [] x (omega arith) size
-            ∙ row_zero_in x (omega arith) ∙ ap (λ n. permuted p (row (permuted q x) n)) (sym none));
+            rw (zero, none)
+            (ap (λ z. part s z 0) is ∙ part_append_last s 0 [] x (omega arith) size ∙ row_zero_in x (omega arith));
       }
 
   -- and one more, which is t rows after the last
@@ -105,14 +105,14 @@ module _ (p q : List ℕ) (inverse : AreInverse p q) where
       let next_long : length next ≡ s =
       length-permuted p (row (permuted q last) t) ∙ length-row (permuted q last) (omega arith) (omega arith) t ∙ in_long in
       let there : i * t + t ≡ (i + 1) * t = omega arith in
-      record {
-        len = ap length added ∙ length-append v next ∙ omega (arith, held.len);
+      rw added (record {
+        len = length-append v next ∙ omega (arith, held.len);
         each = below_more _ _
             (λ k h. let apart = parts_apart s k (i + 1) h in
-            ap (λ z. part s z k) added ∙ part_append_front s k v next (omega (arith, held.len)) ∙ held.each k h)
-            (ap (λ z. part s z (i + 1)) added ∙ part_append_last s (i + 1) v next held.len next_long
-            ∙ row_after_in b last (i * t) t (omega arith) (held.each i (omega arith)) ∙ ap (λ n. permuted p (row b n)) there);
-      }
+            part_append_front s k v next (omega (arith, held.len)) ∙ held.each k h)
+            (part_append_last s (i + 1) v next held.len next_long ∙ row_after_in b last (i * t) t (omega arith) (held.each i (omega arith))
+            ∙ ap (λ n. permuted p (row b n)) there);
+      })
 
   -- the step after one, which takes in row j
   pub next_step_in : (b : List ℕ) (log_n k : ℕ) (x u : List ℕ) (j : ℕ) → length x % 16 ≡ 0 → length u ≡ length x

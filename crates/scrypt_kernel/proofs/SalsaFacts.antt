@@ -12,13 +12,7 @@ length-double_round x = simp length-set
 
 pub length-salsa20_8 : (x : List ℕ) → length (salsa20_8 x) ≡ length x
 unfolding salsa20_8
-length-salsa20_8 x =
-    let x1 = double_round x in
-    let x2 = double_round x1 in
-    let x3 = double_round x2 in
-    let long : length x ≡ length (double_round x3) =
-    omega (arith, length-double_round x, length-double_round x1, length-double_round x2, length-double_round x3) in
-    length-zip2 add32 x (double_round x3) long
+length-salsa20_8 x = length-zip2 add32 x _ (simp length-double_round)
 
 -- the four steps made in place, where each reads what those before it wrote
 pub quarter_round_in_place : (x : List ℕ) (a b c d v1 v2 v3 v4 : ℕ)

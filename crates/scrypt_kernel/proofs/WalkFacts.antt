@@ -69,21 +69,7 @@ extra_rows-whole b log_n (suc k) =
 
 -- so its cores are those of the standard's table
 pub whole_cost : (b : List ℕ) (log_n r : ℕ) → thin_ro_mix_cost b log_n 0 r ≡ ro_mix_cost log_n r
-whole_cost b log_n r =
-    let none = extra_rows-whole b log_n (2 ^ log_n) in
-    ap (λ e. ro_mix_cost log_n r + 2 * r * e) none ∙ omega arith
-
--- the row that is recomputed from the kept row below it
-pub row_from_kept : (p q : List ℕ) → AreInverse p q → (b x kept : List ℕ) (s size n j : ℕ) → size % 16 ≡ 0
-    → KeepsRows p b s size n kept → j < n → (j / 2 ^ s + 1) * size ≤ length kept → x ≡ part size kept (j / 2 ^ s)
-    → permuted p (row (permuted q x) (j % 2 ^ s)) ≡ permuted p (row b j)
-row_from_kept p q inverse b x kept s size n j whole keeps inside fits is =
-    let t : ℕ = 2 ^ s in
-    let below : j / t * t < n = omega (arith, div-mul-le_self j t, inside) in
-    let there : j / t * t + j % t ≡ j = omega arith in
-    let long : length x ≡ size = ap length is ∙ length-part size (j / t) kept (omega arith) in
-    row_after_in p q inverse b x (j / t * t) (j % t) (omega arith) (is ∙ keeps.each (j / t) below)
-    ∙ ap (λ i. permuted p (row b i)) there
+whole_cost b log_n r = rw extra_rows-whole (omega arith)
 
 -- a row is missing only if rows are left out
 pub some_missing : (s j : ℕ) → (j % (1 * 2 ^ s % 2 ^ 64) ≡ 0 → ⊥) → 0 < s
@@ -93,20 +79,20 @@ some_missing (suc s) j missing = omega arith
 -- the step after one, which takes in row j: the kept row below it is low, and u is mixed from that
 module _ (p q : List ℕ) (inverse : AreInverse p q) {log_n s y spare : ℕ} (kept x low : List ℕ) (j : ℕ)
     (lens : AreWalkLens log_n s (length x) y spare (length kept)) (names : j ≡ integerify (permuted q x) % 2 ^ log_n)
-    (inside : j < 2 ^ log_n) (below : low ≡ part (length x) kept (j / 2 ^ s)) where
+    (inside : j < 2 ^ log_n) (below : low ≡ part (length x) kept (j / 2 ^ s)) (long : length low ≡ length x) where
   pub next_step : (u : List ℕ) → length u ≡ length x → u ≡ permuted p (row (permuted q low) (j % 2 ^ s))
       → IsNext p log_n s (length x) kept x (permuted p (block_mix (permuted q (xor_words x u))))
-  next_step u long mixed b k keeps is =
-      let fits = kept_inside s log_n j (length x) (length kept) lens.spacing inside lens.rows in
-      next_step_in p q inverse b log_n k x u j (omega (arith, lens.row.whole)) long is names
-      (mixed ∙ row_from_kept p q inverse b low kept s (length x) (2 ^ log_n) j (omega (arith, lens.row.whole)) keeps inside fits below)
+  next_step u same mixed b k keeps is =
+      let t : ℕ = 2 ^ s in
+      let kept_row : j / t * t < 2 ^ log_n = omega (arith, div-mul-le_self j t, inside) in
+      let there : j / t * t + j % t ≡ j = omega arith in
+      let taken = row_after_in p q inverse b low (j / t * t) (j % t) (omega (arith, lens.row.whole)) (below ∙ keeps.each (j / t) kept_row) in
+      next_step_in p q inverse b log_n k x u j (omega (arith, lens.row.whole)) same is names
+      (mixed ∙ taken ∙ ap (λ i. permuted p (row b i)) there)
 
   -- u is the kept row itself
-  pub next_step_kept : length low ≡ length x → j % 2 ^ s ≡ 0
-      → IsNext p log_n s (length x) kept x (permuted p (block_mix (permuted q (xor_words x low))))
-  next_step_kept long none =
-      let first = row_zero_in p q inverse low (omega (arith, lens.row.whole)) in
-      next_step low long (first ∙ ap (λ n. permuted p (row (permuted q low) n)) (sym none))
+  pub next_step_kept : j % 2 ^ s ≡ 0 → IsNext p log_n s (length x) kept x (permuted p (block_mix (permuted q (xor_words x low))))
+  next_step_kept none = next_step low long (rw none (row_zero_in p q inverse low (omega (arith, lens.row.whole))))
 
 -- two more steps
 pub two_steps : (p : List ℕ) (log_n s size k : ℕ) (kept start x y z : List ℕ) → IsNext p log_n s size kept x y

@@ -35,5 +35,5 @@ returns-else-missing-eq0-clause-value g c =
     let room = c.requires.lens.room (some_missing _ _ c.if-missing-eq0.false) in
     let long = c.recompute.auto.x ∙ length-take-le (length c.args.x.now) c.args.spare.now room in
     rw c.mix-else-missing-eq0.ensures.value (next_step p q g.met.O.Order.inverse c.args.v.now c.args.x.now kept j.result c.requires.lens
-    j.ensures.value j.ensures.inside c.part-kept.ensures.value _ long
+    j.ensures.value j.ensures.inside c.part-kept.ensures.value c.part-kept.ensures.len _ long
     (c.recompute.ensures.value ∙ ap (λ n. permuted p (row (permuted q kept) (j.result % n))) (one_shl c.args.s 64 (omega arith))))

@@ -1,4 +1,4 @@
-use Rattle.std.proofs.Common.{◌≡◌, ℕ, List, ◌/◌, refl, ap, ◌<◌, ◌^◌, ◌+◌, ◌-◌, ◌*◌, ◌%◌, length, get_or, sym, ap₂, ◌∙◌, arith, rules}
+use Rattle.std.proofs.Common.{◌≡◌, ℕ, List, refl, ◌<◌, ◌^◌, ◌+◌, ◌-◌, ◌*◌, ◌%◌, length, get_or, sym, ap₂, ◌∙◌, arith, rules}
 use Rattle.scrypt_kernel.specs.Diagonal.{inverse_pivot, standard_order}
 use Rattle.scrypt_kernel.proofs.IntegerifyFacts.{integerify_low}
 use Rattle.scrypt_kernel.proofs.OrderFacts.{get_or-permuted, length-permuted}
@@ -7,10 +7,7 @@ use Rattle.scrypt_kernel.proofs.order.diagonal.integerify_diagonal.Goals as goal
 -- the word at place k of the block that begins at `at`, in standard order
 word_from : (x : List ℕ) (at k i j : ℕ) → at % 16 ≡ 0 → k < 16 → i ≡ at + k → i < length x
     → j ≡ at + get_or inverse_pivot k 0 → get_or (standard_order x) i 0 ≡ get_or x j 0
-word_from x at k i j whole small is inside from =
-    let place : i % 16 ≡ k = omega arith in
-    let start : 16 * (i / 16) ≡ at = omega arith in
-    get_or-permuted inverse_pivot x i inside ∙ ap (λ n. get_or x n 0) (rw (place, start) (sym from))
+word_from x at k i j whole small is inside from = grind (arith, get_or-permuted)
 
 pub returns-clause-value : goal.returns-clause-value
 returns-clause-value c =
