@@ -26,7 +26,7 @@ PAGE = "docs/PROMISES.md"
 OF_MODELS = {"laws", "view", "invariant", "inverse_ok", "Value", "inverse", "inverse_invariant", "view_ok"}
 
 # The two promises of README, each with the clauses that it is made of.
-KEY = ["scrypt::Params::new accepted", *(f"scrypt::scrypt_counted {it}" for it in ("length", "value", "all", "lanes"))]
+KEY = ["scrypt::Params::new accepted", *(f"scrypt::scrypt_counted {it}" for it in ("length", "value", "counted"))]
 VERDICT = [f"scrypt::StoredHash::{it}" for it in ("verify_with_buffers verdict", "verify_with_buffers left")]
 VERDICT += ["scrypt::StoredHash::read reading"]
 

@@ -1,6 +1,7 @@
 //! The first promise of README, sentence for sentence.
 
-ghost use Rattle.std.specs.Prelude.{◌≡◌, ◌+◌, ◌*◌, ◌^◌, length, IfErr, OnErr, OnOk};
+ghost use Rattle.std.specs.Prelude.{◌≡◌, ◌*◌, ◌^◌, length, IfErr, OnErr, OnOk};
+ghost use Rattle.scrypt.specs.Count.{AreCounted};
 ghost use Rattle.scrypt.specs.Accepted.{AreAccepted, IsOutputLen};
 ghost use Rattle.scrypt.specs.Cost.{chunks_bytes, scratch_words, table_words};
 ghost use Rattle.scrypt.specs.Key.{derived_key};
@@ -25,10 +26,9 @@ pub fn key_or_want_of_memory(
     requires accepted { AreAccepted log_n r p }
     requires output_len { IsOutputLen (length output.old) }
     ensures key { OnOk result (output.new ≡ derived_key password.now salt.now log_n r p (length output.old)) }
-    ensures cores { OnOk result (cores.new.all ≡ cores.old.all + 4 * 2 ^ log_n * r * p) }
-    ensures lanes { OnOk result (cores.new.lanes ≡ cores.old.lanes + 4 * 2 ^ log_n * r * p) }
+    ensures counted { OnOk result (AreCounted (4 * 2 ^ log_n * r * p) cores.old cores.new) }
     ensures memory { IfErr result (λ e. e ≡ OutOfMemory) }
-    ensures no_core { OnErr result ((cores.new.all ≡ cores.old.all) × (cores.new.lanes ≡ cores.old.lanes)) }
+    ensures no_core { OnErr result (cores.new ≡ cores.old) }
     ensures untouched { OnErr result (output.new ≡ output.old) }
 {
     let Ok(params) = Params::new(log_n, r, p) else {
@@ -56,8 +56,7 @@ pub fn key_with_buffers(
     requires table { length table.old ≡ table_words log_n r }
     requires scratch { length scratch.old ≡ scratch_words r }
     ensures key { output.new ≡ derived_key password.now salt.now log_n r p (length output.old) }
-    ensures cores { cores.new.all ≡ cores.old.all + 4 * 2 ^ log_n * r * p }
-    ensures lanes { cores.new.lanes ≡ cores.old.lanes + 4 * 2 ^ log_n * r * p }
+    ensures counted { AreCounted (4 * 2 ^ log_n * r * p) cores.old cores.new }
 {
     let Ok(params) = Params::new(log_n, r, p) else {
         unreachable!();

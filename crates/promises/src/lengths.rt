@@ -1,10 +1,11 @@
 //! Buffers of the lengths that the library returns are those that its calls take.
 
-ghost use Rattle.std.specs.Prelude.{◌≡◌, ◌+◌, ◌≤◌, length, IfOk, OnOk, IsOk};
+ghost use Rattle.std.specs.Prelude.{◌≡◌, ◌≤◌, length, IfOk, OnOk, IsOk};
 ghost use Rattle.promises.specs.Within.{IsVerdictWithin};
 ghost use Rattle.scrypt.specs.McfHash.{IsMadeHash};
 ghost use Rattle.scrypt.specs.StoredHash.{ByReading};
 ghost use Rattle.scrypt.specs.WithinLimits.{told_within, within};
+ghost use Rattle.scrypt.specs.Count.{AreCounted};
 ghost use Rattle.scrypt.specs.Accepted.{IsOutputLen};
 ghost use Rattle.scrypt.specs.Cost.{thin_cost};
 ghost use Rattle.scrypt.specs.Key.{derived_key};
@@ -58,10 +59,8 @@ pub fn key_in_a_thin_table(
     requires output_len { IsOutputLen (length output.old) }
     ensures key { OnOk result (output.new ≡ derived_key password.now salt.now
         params.now.log_n params.now.r params.now.p (length output.old)) }
-    ensures cores { OnOk result (cores.new.all ≡ cores.old.all + thin_cost password.now salt.now
-        params.now.log_n params.now.r params.now.p s) }
-    ensures lanes { OnOk result (cores.new.lanes ≡ cores.old.lanes + thin_cost password.now salt.now
-        params.now.log_n params.now.r params.now.p s) }
+    ensures counted { OnOk result (AreCounted (thin_cost password.now salt.now params.now.log_n params.now.r params.now.p s)
+        cores.old cores.new) }
 {
     let Some(lens) = BufferLens::thin(params, s) else {
         unreachable!();

@@ -1,7 +1,9 @@
 -- Facts on the cores of a derivation.
-use Rattle.std.proofs.Common.{◌≡◌, ℕ, zero, suc, ◌+◌, ◌*◌, ◌^◌, List, refl, sym, ap, ◌∙◌, arith, add-one}
+use Rattle.std.proofs.Common.{◌≡◌, ℕ, zero, suc, ◌+◌, ◌*◌, ◌^◌, List, refl, ap, ◌∙◌, arith, add-one}
 use Rattle.scrypt_kernel.specs.Words.{part, words_of}
-use Rattle.scrypt_kernel.specs.Table.{extra_rows}
+use Rattle.scrypt_kernel.specs.Count.{AreCounted}
+use Rattle.scrypt_kernel.specs.Table.{extra_rows, thin_ro_mix_cost}
+use Rattle.scrypt_kernel.specs.declared.cores.CoreCount.{CoreCount}
 use Rattle.scrypt_kernel.proofs.WalkFacts.{extra_rows-whole}
 use Rattle.scrypt.specs.Cost.{cost, extra_rows_of_chunks, ro_mix_cost, thin_chunks_cost}
 
@@ -25,17 +27,13 @@ more_chunks : (b : List ℕ) (log_n s r i : ℕ) → extra_rows_of_chunks b log_
 unfolding extra_rows_of_chunks
 more_chunks b log_n s r i = rw add-one refl
 
-sum_more : (first m i r d e : ℕ) → first + (m * i + 2 * r * d) + (m + 2 * r * e) ≡ first + (m * (i + 1) + 2 * r * (d + e))
-sum_more first m i r d e = omega arith
+-- the count of both
+pub counted_more : {x y z : CoreCount} {n m all : ℕ} → AreCounted n x y → AreCounted m y z → n + m ≡ all → AreCounted all x z
+counted_more until more sum = record { all = omega arith; lanes = omega arith }
 
 -- the count after one more chunk
-pub counted_chunk : (b : List ℕ) (log_n s r i first before after e : ℕ)
-    → e ≡ extra_rows (words_of (part (128 * r) b i)) log_n s (2 ^ log_n)
-    → after ≡ before + (ro_mix_cost log_n r + 2 * r * e)
-    → before ≡ first + (ro_mix_cost log_n r * i + 2 * r * extra_rows_of_chunks b log_n s r i)
-    → after ≡ first + (ro_mix_cost log_n r * (i + 1) + 2 * r * extra_rows_of_chunks b log_n s r (i + 1))
-counted_chunk b log_n s r i first before after e anew one until =
-    one ∙ ap (λ n. n + (ro_mix_cost log_n r + 2 * r * e)) until
-    ∙ sum_more first (ro_mix_cost log_n r) i r (extra_rows_of_chunks b log_n s r i) e
-    ∙ ap (λ n. first + (ro_mix_cost log_n r * (i + 1) + 2 * r * (extra_rows_of_chunks b log_n s r i + n))) anew
-    ∙ ap (λ n. first + (ro_mix_cost log_n r * (i + 1) + 2 * r * n)) (sym (more_chunks b log_n s r i))
+pub counted_chunk : (b : List ℕ) (log_n s r i : ℕ) {x y z : CoreCount}
+    → AreCounted (ro_mix_cost log_n r * i + 2 * r * extra_rows_of_chunks b log_n s r i) x y
+    → AreCounted (thin_ro_mix_cost (words_of (part (128 * r) b i)) log_n s r) y z
+    → AreCounted (ro_mix_cost log_n r * (i + 1) + 2 * r * extra_rows_of_chunks b log_n s r (i + 1)) x z
+counted_chunk b log_n s r i until one = counted_more until one (rw (more_chunks b log_n s r i) (omega arith))

@@ -10,6 +10,7 @@ pub use Rattle.scrypt_kernel.specs.RoMix
 pub use Rattle.scrypt_kernel.specs.RoMixCost
 pub use Rattle.scrypt_kernel.specs.Diagonal
 pub use Rattle.scrypt_kernel.specs.Table
+pub use Rattle.scrypt_kernel.specs.Count
 -- RFC 7914, section 6: the derived key
 pub mod Key
 -- the derived key by a table that keeps some rows

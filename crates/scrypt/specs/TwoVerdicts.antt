@@ -1,5 +1,6 @@
 -- What verifying two hashes in one memory leaves in it.
 use Rattle.std.specs.Prelude.{◌≡◌, ℕ, ◌+◌, ◌*◌, ◌&&◌, Bool, nat_eq, nat_le, List, length, drop, MatchBool, Result, Ok}
+use Rattle.scrypt_kernel.specs.Count.{AreCounted}
 use Rattle.scrypt.specs.Accepted.{Parameters}
 use Rattle.scrypt.specs.Cost.{chunks_bytes, cost, scratch_words, table_words}
 use Rattle.scrypt.specs.InBuffers.{IsWiped}
@@ -28,8 +29,7 @@ hold_two c other chunks table scratch =
 
 -- Both were counted. What they used of the chunks and the scratch is zeros, and what is after their tables is unchanged.
 pub record AreDone (c other : Parameters) (before after : Work) : Type 0 where
-  pub all : after.all ≡ before.all + both_cost c other
-  pub lanes : after.lanes ≡ before.lanes + both_cost c other
+  pub counted : AreCounted (both_cost c other) before.cores after.cores
   pub chunks : IsWiped (both_chunks_bytes c other) before.chunks after.chunks
   pub scratch : IsWiped (2 * scratch_words c.r) before.scratch after.scratch
   pub rest : drop (2 * table_words c.log_n c.r) after.table ≡ drop (2 * table_words c.log_n c.r) before.table

@@ -1,7 +1,8 @@
 -- The memory that a caller hands in for one derivation: the verdict in it, and what is left in it.
-use Rattle.std.specs.Prelude.{◌≡◌, ℕ, ◌≤◌, ◌+◌, ◌*◌, ◌&&◌, Bool, nat_le, if◌then◌else◌, List, length, drop, MatchBool, Result, Ok, Err, ⊤}
+use Rattle.std.specs.Prelude.{◌≡◌, ℕ, ◌≤◌, ◌*◌, ◌&&◌, Bool, nat_le, if◌then◌else◌, List, length, drop, MatchBool, Result, Ok, Err, ⊤}
 use Rattle.password_hash.specs.Refusal.{Refusal, OutOfMemory}
 use Rattle.password_hash.specs.declared.error.Error.{Error}
+use Rattle.scrypt_kernel.specs.Count.{AreCounted}
 use Rattle.scrypt_kernel.specs.declared.cores.CoreCount.{CoreCount}
 use Rattle.scrypt.specs.Accepted.{Parameters}
 use Rattle.scrypt.specs.Cost.{chunks_bytes, cost, scratch_words, table_words}
@@ -14,13 +15,12 @@ pub record Work : Type 0 where
   pub chunks : List ℕ
   pub table : List ℕ
   pub scratch : List ℕ
-  pub all : ℕ
-  pub lanes : ℕ
+  pub cores : CoreCount
 
 -- these buffers and this count
 abbrev pub work_in : List ℕ → List ℕ → List ℕ → CoreCount → Work
 work_in chunks table scratch cores =
-    record { chunks = chunks; table = table; scratch = scratch; all = cores.all; lanes = cores.lanes }
+    record { chunks = chunks; table = table; scratch = scratch; cores = cores }
 
 -- whether the buffers are at least as long as a derivation with these parameters needs
 unfoldable pub has_room : Parameters → Work → Bool
@@ -47,8 +47,7 @@ pub record AreUsed (c : Parameters) (lens : BufferLens) (chunks table scratch : 
 -- A derivation with these parameters was counted. What it used of the chunks and the scratch is zeros, and what is
 -- after the tables that it used is unchanged.
 pub record IsDone (c : Parameters) (before after : Work) : Type 0 where
-  pub all : after.all ≡ before.all + cost c.log_n c.r c.p
-  pub lanes : after.lanes ≡ before.lanes + cost c.log_n c.r c.p
+  pub counted : AreCounted (cost c.log_n c.r c.p) before.cores after.cores
   pub chunks : IsWiped (chunks_bytes c.r c.p) before.chunks after.chunks
   pub scratch : IsWiped (tables_used c before.table before.scratch * scratch_words c.r) before.scratch after.scratch
   pub rest : let used = tables_used c before.table before.scratch * table_words c.log_n c.r in

@@ -1,6 +1,7 @@
 // The derived key (RFC 7914, section 6).
 
 ghost use Rattle.std.specs.Prelude.{◌≡◌, ◌↔◌, ℕ, List, ◌+◌, ◌-◌, ◌*◌, ◌^◌, ◌<◌, ◌≤◌, length, IfSome, IsOk, IsSome, IsTrue, IsErrOf, OnOk, OnErr};
+ghost use Rattle.scrypt_kernel.specs.Count.{AreCounted};
 ghost use Rattle.scrypt_kernel.specs.Pbkdf2.{max_output_len, pbkdf2};
 ghost use Rattle.scrypt_kernel.specs.Table.{thin_ro_mix_cost};
 ghost use Rattle.scrypt_kernel.specs.Words.{part, words_of};
@@ -178,12 +179,9 @@ pub fn scrypt_counted(
     ensures length { IsErrOf result BadLength ↔ ¬ IsOutputLen (length output.old) }
     ensures value { OnOk result (output.new ≡ derived_key password.now salt.now
         params.now.log_n params.now.r params.now.p (length output.old)) }
-    ensures all { OnOk result (cores.new.all ≡ cores.old.all
-        + cost params.now.log_n params.now.r params.now.p) }
-    ensures lanes { OnOk result (cores.new.lanes ≡ cores.old.lanes
-        + cost params.now.log_n params.now.r params.now.p) }
+    ensures counted { OnOk result (AreCounted (cost params.now.log_n params.now.r params.now.p) cores.old cores.new) }
     ensures refused { OnErr result (output.new ≡ output.old) }
-    ensures uncounted { OnErr result ((cores.new.all ≡ cores.old.all) × (cores.new.lanes ≡ cores.old.lanes)) }
+    ensures uncounted { OnErr result (cores.new ≡ cores.old) }
 {
     if !output_len_ok(output.len()) {
         return Err(DeriveError::InvalidOutputLen);
@@ -229,13 +227,10 @@ pub fn scrypt_with_buffers(
     ensures allowed { IsOk result ↔ IsOutputLen (length output.old) }
     ensures value { OnOk result (output.new ≡ derived_key password.now salt.now
         params.now.log_n params.now.r params.now.p (length output.old)) }
-    ensures all { OnOk result (cores.new.all ≡ cores.old.all
-        + cost params.now.log_n params.now.r params.now.p) }
-    ensures lanes { OnOk result (cores.new.lanes ≡ cores.old.lanes
-        + cost params.now.log_n params.now.r params.now.p) }
+    ensures counted { OnOk result (AreCounted (cost params.now.log_n params.now.r params.now.p) cores.old cores.new) }
     ensures refused { OnErr result (output.new ≡ output.old) }
     ensures buffers { OnErr result ((chunks.new ≡ chunks.old) × (table.new ≡ table.old) × (scratch.new ≡ scratch.old)) }
-    ensures uncounted { OnErr result ((cores.new.all ≡ cores.old.all) × (cores.new.lanes ≡ cores.old.lanes)) }
+    ensures uncounted { OnErr result (cores.new ≡ cores.old) }
 {
     if !output_len_ok(output.len()) {
         return Err(InvalidOutputLen);
@@ -278,13 +273,11 @@ pub fn scrypt_thin(
     ensures allowed { IsOk result ↔ IsOutputLen (length output.old) }
     ensures value { OnOk result (output.new ≡ derived_key password.now salt.now
         params.now.log_n params.now.r params.now.p (length output.old)) }
-    ensures all { OnOk result (cores.new.all ≡ cores.old.all + thin_cost password.now salt.now
-        params.now.log_n params.now.r params.now.p s) }
-    ensures lanes { OnOk result (cores.new.lanes ≡ cores.old.lanes + thin_cost password.now salt.now
-        params.now.log_n params.now.r params.now.p s) }
+    ensures counted { OnOk result (AreCounted (thin_cost password.now salt.now params.now.log_n params.now.r params.now.p s)
+        cores.old cores.new) }
     ensures refused { OnErr result (output.new ≡ output.old) }
     ensures buffers { OnErr result ((chunks.new ≡ chunks.old) × (table.new ≡ table.old) × (scratch.new ≡ scratch.old)) }
-    ensures uncounted { OnErr result ((cores.new.all ≡ cores.old.all) × (cores.new.lanes ≡ cores.old.lanes)) }
+    ensures uncounted { OnErr result (cores.new ≡ cores.old) }
 {
     if !output_len_ok(output.len()) {
         return Err(InvalidOutputLen);
@@ -315,8 +308,7 @@ pub(crate) fn derive_in<T: Tables>(
     requires length { length output.old ≤ max_output_len }
     ensures value { output.new ≡ derived_key password.now salt.now
         params.now.log_n params.now.r params.now.p (length output.old) }
-    ensures all { cores.new.all ≡ cores.old.all + cost params.now.log_n params.now.r params.now.p }
-    ensures lanes { cores.new.lanes ≡ cores.old.lanes + cost params.now.log_n params.now.r params.now.p }
+    ensures counted { AreCounted (cost params.now.log_n params.now.r params.now.p) cores.old cores.new }
 {
     derive_chunks(password, salt, params, chunks);
     tables.mix(params, chunks, scratch, cores);
@@ -347,10 +339,8 @@ fn mix_chunks<M: Memory>(
     requires chunks { length chunks.old ≡ chunks_bytes params.now.r params.now.p }
     requires memory { HasRoom params.now s (M.room rows.old) (length scratch.old) }
     ensures value { chunks.new ≡ mixed_chunks chunks.old params.now.log_n params.now.r params.now.p }
-    ensures all { cores.new.all ≡ cores.old.all
-        + thin_chunks_cost chunks.old params.now.log_n params.now.r params.now.p s }
-    ensures lanes { cores.new.lanes ≡ cores.old.lanes
-        + thin_chunks_cost chunks.old params.now.log_n params.now.r params.now.p s }
+    ensures counted { AreCounted (thin_chunks_cost chunks.old params.now.log_n params.now.r params.now.p s)
+        cores.old cores.new }
 {
     // Step 2: for i = 0 to p - 1 do B[i] = scryptROMix (r, B[i], N).
     'chunks: for i in 0..params.p() as usize {
@@ -373,10 +363,8 @@ pub(crate) fn mix_one<M: Memory>(
     ensures mixed { (b : List ℕ) → AreMixed b params.now.log_n params.now.r i chunks.old
         → AreMixed b params.now.log_n params.now.r (i + 1) chunks.new }
     ensures room { M.room rows.old ≤ M.room rows.new }
-    ensures all { cores.new.all ≡ cores.old.all
-        + thin_ro_mix_cost (words_of (part (128 * params.now.r) chunks.old i)) params.now.log_n s params.now.r }
-    ensures lanes { cores.new.lanes ≡ cores.old.lanes
-        + thin_ro_mix_cost (words_of (part (128 * params.now.r) chunks.old i)) params.now.log_n s params.now.r }
+    ensures counted { AreCounted
+        (thin_ro_mix_cost (words_of (part (128 * params.now.r) chunks.old i)) params.now.log_n s params.now.r) cores.old cores.new }
 {
     let chunk_len = 128 * params.r() as usize;
     let at = i * chunk_len;

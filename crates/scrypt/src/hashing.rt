@@ -2,6 +2,7 @@
 
 ghost use Rattle.std.specs.Prelude.{◌≡◌, ◌↔◌, ◌+◌, ◌*◌, ◌≤◌, None, length, replicate, IfErr, IfOk, IsTrue, OnOk};
 ghost use Rattle.std.specs.Option.{option_map};
+ghost use Rattle.scrypt_kernel.specs.Count.{AreCounted};
 ghost use Rattle.scrypt.specs.Accepted.{IsStoredLen};
 ghost use Rattle.scrypt.specs.Cost.{chunks_bytes, cost, scratch_words, table_words};
 ghost use Rattle.scrypt.specs.Hashing.{IsCallRefused, IsNamedOrNone, key_len_or_default};
@@ -119,10 +120,7 @@ fn stored_key<T: Tables>(
     requires room { table_words params.now.log_n params.now.r ≤ T.room tables.old }
     requires scratch { scratch_words params.now.r ≤ length scratch.old }
     ensures value { result ≡ key_by params.now password.now salt.now (key_len_or_default params.now) }
-    ensures all { cores.new.all ≡ cores.old.all
-        + cost params.now.log_n params.now.r params.now.p }
-    ensures lanes { cores.new.lanes ≡ cores.old.lanes
-        + cost params.now.log_n params.now.r params.now.p }
+    ensures counted { AreCounted (cost params.now.log_n params.now.r params.now.p) cores.old cores.new }
     ensures chunks { chunks.new ≡ replicate (chunks_bytes params.now.r params.now.p) 0 }
     ensures scratch { scratch.new ≡ replicate (length scratch.old) 0 }
 {

@@ -2,6 +2,7 @@
 
 ghost use Rattle.std.specs.Prelude.{◌≡◌, ◌↔◌, ◌+◌, ◌*◌, ◌^◌, ◌≤◌, length, replicate, if◌then◌else◌, IsTrue, Err, Ok};
 ghost use Rattle.password_hash.specs.Refusal.{PasswordInvalid};
+ghost use Rattle.scrypt_kernel.specs.Count.{AreCounted};
 ghost use Rattle.scrypt.specs.Cost.{chunks_bytes, cost, scratch_words, table_words};
 ghost use Rattle.scrypt.specs.Reading.{IsVerdict, Stored, is_right, told};
 ghost use Rattle.scrypt.specs.StoredParts.{ArePartsOf};
@@ -44,10 +45,7 @@ fn is_key_of<T: Tables>(
     requires room { table_words parts.now.params.log_n parts.now.params.r ≤ T.room tables.old }
     requires scratch { scratch_words parts.now.params.r ≤ length scratch.old }
     ensures exact { (s : Stored) → ArePartsOf s parts.now → result ≡ is_right password.now s }
-    ensures all { cores.new.all ≡ cores.old.all
-        + cost parts.now.params.log_n parts.now.params.r parts.now.params.p }
-    ensures lanes { cores.new.lanes ≡ cores.old.lanes
-        + cost parts.now.params.log_n parts.now.params.r parts.now.params.p }
+    ensures counted { AreCounted (cost parts.now.params.log_n parts.now.params.r parts.now.params.p) cores.old cores.new }
     ensures chunks { chunks.new ≡ replicate (length chunks.old) 0 }
     ensures scratch { scratch.new ≡ replicate (length scratch.old) 0 }
 {

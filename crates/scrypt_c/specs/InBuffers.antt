@@ -15,7 +15,8 @@ use Rattle.scrypt_c.specs.Texts.{ReadsBytes}
 
 -- the buffers of a call, which counts from 0
 abbrev pub buffers : List ℕ → List ℕ → List ℕ → Work
-buffers chunks table scratch = record { chunks = chunks; table = table; scratch = scratch; all = 0; lanes = 0 }
+buffers chunks table scratch =
+    record { chunks = chunks; table = table; scratch = scratch; cores = record { seal = tt; all = 0; lanes = 0 } }
 
 -- a derivation with these parameters was done in the buffers: what it used of the chunks and the scratch is zeros
 -- now, and all buffers are unchanged after what it used

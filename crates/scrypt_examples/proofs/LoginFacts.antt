@@ -37,15 +37,15 @@ within_fits limits (Ok read) s is =
 
 -- verifying within limits runs no more cores than these allow
 pub bounded : (limits : Limits) (reading : Result Stored Refusal) (before after : Work)
-    → IsLeftWithin (within limits reading) before after → after.all ≤ before.all + limits.most_work
+    → IsLeftWithin (within limits reading) before after → after.cores.all ≤ before.cores.all + limits.most_work
 bounded limits reading before after left = at (within limits reading) refl left
   where
     in_room : (s : Stored) (room : Bool) → cost s.params.log_n s.params.r s.params.p ≤ limits.most_work
-        → MatchBool room (IsDone s.params before after) (after ≡ before) → after.all ≤ before.all + limits.most_work
-    in_room s true fits done = omega (arith, done.all)
+        → MatchBool room (IsDone s.params before after) (after ≡ before) → after.cores.all ≤ before.cores.all + limits.most_work
+    in_room s true fits done = omega (arith, done.counted)
     in_room s false fits same = rw same (omega arith)
 
     at : (bound : Result Stored BoundedRefusal) → within limits reading ≡ bound → IsLeftWithin bound before after
-        → after.all ≤ before.all + limits.most_work
+        → after.cores.all ≤ before.cores.all + limits.most_work
     at (Ok s) is left = in_room s (has_room s.params before) (within_fits limits reading s is) left
     at (Err why) is left = rw left (omega arith)

@@ -1,6 +1,7 @@
 // Step 2 of a derivation (RFC 7914, section 6), two chunks at a time.
 
 ghost use Rattle.std.specs.Prelude.{◌≡◌, ◌+◌, ◌*◌, ◌≤◌, length};
+ghost use Rattle.scrypt_kernel.specs.Count.{AreCounted};
 ghost use Rattle.scrypt.specs.Cost.{chunks_bytes, cost, scratch_words, table_words};
 ghost use Rattle.scrypt.specs.Key.{mixed_chunks};
 
@@ -25,8 +26,7 @@ pub(crate) fn mix_pairs(
     requires room { 2 * table_words params.now.log_n params.now.r ≤ length table.old }
     requires scratch { 2 * scratch_words params.now.r ≤ length scratch.old }
     ensures value { chunks.new ≡ mixed_chunks chunks.old params.now.log_n params.now.r count }
-    ensures all { cores.new.all ≡ cores.old.all + cost params.now.log_n params.now.r count }
-    ensures lanes { cores.new.lanes ≡ cores.old.lanes + cost params.now.log_n params.now.r count }
+    ensures counted { AreCounted (cost params.now.log_n params.now.r count) cores.old cores.new }
 {
     let chunk_len = 128 * params.r() as usize;
     let (table, other_table) = table.split_at_mut(BufferLens::of(params).table);

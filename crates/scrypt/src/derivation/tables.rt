@@ -2,6 +2,7 @@
 
 ghost use Rattle.std.specs.Prelude.{◌≡◌, ℕ, ◌+◌, ◌≤◌, length};
 ghost use Rattle.std.specs.Vec.{vec_capacity};
+ghost use Rattle.scrypt_kernel.specs.Count.{AreCounted};
 ghost use Rattle.scrypt.specs.Cost.{chunks_bytes, cost, scratch_words, table_words};
 ghost use Rattle.scrypt.specs.Key.{mixed_chunks};
 
@@ -32,10 +33,7 @@ pub(crate) trait Tables {
         requires scratch { scratch_words params.now.r ≤ length scratch.old }
         ensures value { chunks.new ≡ mixed_chunks chunks.old
             params.now.log_n params.now.r params.now.p }
-        ensures all { cores.new.all ≡ cores.old.all
-            + cost params.now.log_n params.now.r params.now.p }
-        ensures lanes { cores.new.lanes ≡ cores.old.lanes
-            + cost params.now.log_n params.now.r params.now.p };
+        ensures counted { AreCounted (cost params.now.log_n params.now.r params.now.p) cores.old cores.new };
 }
 
 /// One table, which grows within the capacity of the vector.

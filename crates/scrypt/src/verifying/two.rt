@@ -1,6 +1,7 @@
 // Verifying with two hashes at once, whose keys are derived with the same N and the same r.
 
 ghost use Rattle.std.specs.Prelude.{◌≡◌, ◌+◌, ◌*◌, ◌≤◌, length, replicate, Ok};
+ghost use Rattle.scrypt_kernel.specs.Count.{AreCounted};
 ghost use Rattle.scrypt.specs.Cost.{scratch_words, table_words};
 ghost use Rattle.scrypt.specs.Reading.{Stored, is_right, told, verdict as verdict_of};
 ghost use Rattle.scrypt.specs.StoredParts.{ArePartsOf};
@@ -35,8 +36,7 @@ fn are_keys_of(
     requires scratch { 2 * scratch_words parts.now.params.r ≤ length scratch.old }
     ensures exact { (s : Stored) → ArePartsOf s parts.now → result.0 ≡ is_right password.now s }
     ensures other_exact { (s : Stored) → ArePartsOf s others.now → result.1 ≡ is_right other_password.now s }
-    ensures all { cores.new.all ≡ cores.old.all + both_cost parts.now.params others.now.params }
-    ensures lanes { cores.new.lanes ≡ cores.old.lanes + both_cost parts.now.params others.now.params }
+    ensures counted { AreCounted (both_cost parts.now.params others.now.params) cores.old cores.new }
     ensures chunks { chunks.new ≡ replicate (length chunks.old) 0 }
     ensures scratch { scratch.new ≡ replicate (length scratch.old) 0 }
 {

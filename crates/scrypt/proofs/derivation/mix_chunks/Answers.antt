@@ -1,6 +1,4 @@
-use Rattle.std.proofs.Common.{◌*◌, ◌^◌, ℕ, List, refl, ap, arith}
-use Rattle.scrypt_kernel.specs.Words.{words_of}
-use Rattle.scrypt_kernel.specs.Table.{extra_rows}
+use Rattle.std.proofs.Common.{◌*◌, refl, arith}
 use Rattle.scrypt.specs.Cost.{extra_rows_of_chunks}
 use Rattle.scrypt.proofs.KeyFacts.{chunks_are}
 use Rattle.scrypt.proofs.CostFacts.{counted_chunk}
@@ -12,8 +10,7 @@ unfolding extra_rows_of_chunks
 chunks-init g c = record {
   mixed = record { done = λ k h. absurd (omega arith); rest = λ k h. refl };
   room = omega arith;
-  all = omega arith;
-  lanes = omega arith;
+  counted = record { all = omega arith; lanes = omega arith };
 }
 
 pub mix_one-requires-clause-inside : goal.mix_one-requires-clause-inside
@@ -27,13 +24,10 @@ chunks-preserved g c =
     let i = c.chunks.i in
     let b = c.args.chunks.now in
     let before = c.chunks.invariant in
-    let rows = λ (z : List ℕ). extra_rows (words_of z) log_n c.args.s (2 ^ log_n) in
-    let anew = ap rows (before.mixed.rest i (omega arith)) in
     record {
       mixed = c.mix_one.ensures.mixed b before.mixed;
       room = omega (arith, before.room, c.mix_one.ensures.room);
-      all = counted_chunk b log_n c.args.s r i _ _ _ _ anew c.mix_one.ensures.all before.all;
-      lanes = counted_chunk b log_n c.args.s r i _ _ _ _ anew c.mix_one.ensures.lanes before.lanes;
+      counted = counted_chunk b log_n c.args.s r i before.counted (rw (before.mixed.rest i (omega arith)) at c.mix_one.ensures.counted);
     }
 
 pub returns-clause-value : goal.returns-clause-value

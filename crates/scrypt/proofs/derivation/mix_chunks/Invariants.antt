@@ -1,4 +1,5 @@
-use Rattle.std.proofs.Common.{◌≡◌, ◌≤◌, ◌+◌, ◌*◌}
+use Rattle.std.proofs.Common.{◌≤◌, ◌+◌, ◌*◌}
+use Rattle.scrypt_kernel.specs.Count.{AreCounted}
 use Rattle.scrypt.specs.Cost.{extra_rows_of_chunks, ro_mix_cost}
 use Rattle.scrypt.specs.Mixing.{AreMixed}
 use Rattle.scrypt.proofs.derivation.mix_chunks.Given as goal
@@ -11,6 +12,5 @@ invariant-chunks g l =
     record {
       mixed : AreMixed l.initial.chunks log_n r l.i l.chunks;
       room : g.M.Memory.room l.fn.rows ≤ g.M.Memory.room l.rows;
-      all : l.cores.all ≡ l.initial.cores.all + cores;
-      lanes : l.cores.lanes ≡ l.initial.cores.lanes + cores;
+      counted : AreCounted cores l.initial.cores l.cores;
     }

@@ -32,6 +32,5 @@ returns g c =
       mixed = λ b before. mixed_more b x mixed.new.b log_n r i start size start_is size_is (mixed.auto.b ∙ long) room
           (mixed.ensures.value ∙ ap (λ n. bytes_of (ro_mix (words_of old) n)) log_n_is) before;
       room = mixed.ensures.room;
-      all = mixed.ensures.all ∙ ap (λ n. c.args.cores.now.all + n) cost_is;
-      lanes = mixed.ensures.lanes ∙ ap (λ n. c.args.cores.now.lanes + 1 * n) cost_is ∙ omega arith;
+      counted = rw (← cost_is) (record { all = mixed.ensures.all; lanes = omega (arith, mixed.ensures.lanes) });
     }

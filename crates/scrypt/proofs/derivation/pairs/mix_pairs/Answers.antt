@@ -2,9 +2,11 @@ use Rattle.std.proofs.Common.{◌≡◌, ◌≤◌, ◌<◌, ◌+◌, ◌-◌, �
 use Rattle.std.proofs.lemmas.List.{length-drop, length-take-le}
 use Rattle.scrypt_kernel.specs.Words.{bytes_of, words_of}
 use Rattle.scrypt_kernel.specs.RoMix.{ro_mix}
+use Rattle.scrypt_kernel.specs.Count.{AreCounted}
 use Rattle.scrypt.specs.Cost.{ro_mix_cost, table_words}
 use Rattle.scrypt_kernel.proofs.WalkFacts.{whole_cost}
 use Rattle.scrypt_kernel.proofs.PartFacts.{parts_apart}
+use Rattle.scrypt.proofs.CostFacts.{counted_more}
 use Rattle.scrypt.proofs.KeyFacts.{chunk_inside, chunks_are, mixed_pair}
 use Rattle.scrypt.proofs.derivation.pairs.mix_pairs.Goals as goal
 
@@ -52,9 +54,6 @@ mix_two_chunks-requires-clause-table c =
     omega (arith, long, c.split_at_mut-front.ensures.front_len, c.r.ensures.value) in
     omega (arith, ap₂ table_words c.log_n.ensures.value r_of_one, c.pairs.auto.table, c.split_at_mut-table.ensures.front_len, c.of.ensures.table)
 
-more_pairs : (first before m k : ℕ) → before ≡ first + m * (2 * k) → before + 2 * m ≡ first + m * (2 * (k + 1))
-more_pairs first before m k until = ap (λ n. n + 2 * m) until ∙ omega arith
-
 pub pairs-preserved : goal.pairs-preserved
 pairs-preserved c =
     let r = c.args.params.now.r in
@@ -79,24 +78,20 @@ pairs-preserved c =
     let r_of_one : length (take n (drop a front)) / 128 ≡ r = omega (arith, one) in
     let cost_is = ap₂ ro_mix_cost c.log_n.ensures.value r_of_one in
     let next : 2 * k + 1 + 1 ≡ 2 * (k + 1) = omega arith in
+    let both : AreCounted _ c.pairs.cores mixed.new.cores = record { all = mixed.ensures.all; lanes = mixed.ensures.lanes } in
     record {
       mixed = rw (← next) (mixed_pair c.args.chunks.now c.pairs.chunks front back mixed.new.b mixed.new.other_b log_n r (2 * k) a n m
           split.value a_is (omega (arith, split.front_len, m_is)) n_is m_is room (mixed.auto.b ∙ one) (mixed.auto.other_b ∙ two)
           (mixed.ensures.value ∙ ap (λ i. bytes_of (ro_mix (words_of (take n (drop a front))) i)) c.log_n.ensures.value)
           (mixed.ensures.other_value ∙ ap (λ i. bytes_of (ro_mix (words_of (take m back)) i)) c.log_n.ensures.value)
           c.pairs.invariant.mixed);
-      all = mixed.ensures.all ∙ ap (λ i. c.pairs.cores.all + 2 * i) cost_is ∙ more_pairs _ _ (ro_mix_cost log_n r) k c.pairs.invariant.all;
-      lanes = mixed.ensures.lanes ∙ ap (λ i. c.pairs.cores.lanes + 2 * i) cost_is
-          ∙ more_pairs _ _ (ro_mix_cost log_n r) k c.pairs.invariant.lanes;
+      counted = counted_more c.pairs.invariant.counted (rw cost_is at both) (omega arith);
     }
 
 pub returns-else-count-eq1-clause-value : goal.returns-else-count-eq1-clause-value
 returns-else-count-eq1-clause-value c =
     chunks_are c.args.chunks.now c.pairs.chunks _ c.args.params.now.r c.args.count (2 * c.pairs.k) (omega arith)
     (omega (arith, c.requires.chunks)) c.pairs.invariant.mixed
-
-one_more : (first before m i p : ℕ) → before ≡ first + m * i → i + 1 ≡ p → before + m ≡ first + m * p
-one_more first before m i p until all = ap (λ n. n + m) until ∙ rw (← all) (omega arith)
 
 -- the last chunk, alone
 pub mix_one-requires-clause-inside : goal.mix_one-requires-clause-inside
@@ -115,7 +110,5 @@ returns-then-count-eq1 c =
       value = chunks_are c.args.chunks.now _ log_n r c.args.count (c.args.count - 1 + 1) (omega arith)
           (omega (arith, mixed.auto.chunks, c.pairs.auto.chunks, c.requires.chunks))
           (mixed.ensures.mixed c.args.chunks.now (rw place before.mixed));
-      all = mixed.ensures.all ∙ ap (λ n. c.pairs.cores.all + n) (whole_cost _ _ _) ∙ one_more _ _ (ro_mix_cost log_n r) _ _ before.all last;
-      lanes = mixed.ensures.lanes ∙ ap (λ n. c.pairs.cores.lanes + n) (whole_cost _ _ _)
-          ∙ one_more _ _ (ro_mix_cost log_n r) _ _ before.lanes last;
+      counted = counted_more before.counted (rw whole_cost at mixed.ensures.counted) (rw (← last) (omega arith));
     }
