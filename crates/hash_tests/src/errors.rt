@@ -1,4 +1,4 @@
-// The printed text of each error, which no clause gives.
+// The printed texts of the errors, if no clause gives them.
 
 use password_hash::{Error, kdf, mcf};
 use std::test::Fail;

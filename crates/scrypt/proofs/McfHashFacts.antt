@@ -1,6 +1,6 @@
 -- Facts on `$7$` hashes: what the parts of a text are read as, and the text of a hash.
-use Rattle.std.proofs.Common.{◌≡◌, ◌≢◌, ℕ, List, [], ◌∷◌, ◌++◌, length, drop, Some, None, Ok, Err, refl, ap, ◌∙◌, lit<}
-use Rattle.std.specs.Prelude.{Option, ok_or}
+use Rattle.std.proofs.Common.{◌≡◌, ◌≢◌, ℕ, List, [], ◌∷◌, ◌++◌, length, drop, Some, None, Ok, Err, refl, rules, ap, ◌∙◌, lit<}
+use Rattle.std.specs.Prelude.{IfErr, Option, ok_or}
 use Rattle.std.specs.Str.{bytes_eq}
 use Rattle.std.proofs.lemmas.Slice.Eq.{bytes_eq-Decides}
 use Rattle.password_hash.specs.Crypt64.{Crypt64, IsCrypt64, crypt64_of, decoded}
@@ -11,10 +11,10 @@ use Rattle.password_hash.proofs.McfFacts.{IsMcfText-from_parts, parts_of-IsMcfTe
 use Rattle.scrypt.specs.Accepted.{IsOutputLen, is_output_len}
 use Rattle.scrypt.specs.McfParams.{params_letters, field_params}
 use Rattle.scrypt.specs.McfHash.{mcf_id, read_fields, read_key, read_mcf, read_parts}
-use Rattle.scrypt.specs.Reading.{Stored}
+use Rattle.scrypt.specs.Reading.{NamesNoPassword, Stored}
 use Rattle.scrypt.proofs.AcceptedFacts.{not_true, ok_if, output_len_decided}
-use Rattle.scrypt.proofs.McfParamsFacts.{field_is, field_none}
-use Rattle.scrypt.proofs.ReadingFacts.{NamesNoPassword, both_read, err_none, if_none, ok_none, some_none, then_none}
+use Rattle.scrypt.proofs.McfParamsFacts.{field_fault, field_is}
+use Rattle.scrypt.proofs.ReadingFacts.{IsFault, both_read, faults, no_password}
 use Rattle.password_hash.proofs.DecodedFacts.{decoded_is, encoded_is, not_decoded}
 
 -- what a text of some fields is read as
@@ -107,26 +107,26 @@ text_of {text} {s} is =
     written ∙ ap (λ z. parts_text (mcf_id ∷ z ∷ t.letters ∷ [])) field
     ∙ ap (λ z. parts_text (mcf_id ∷ (params_letters s.params.log_n s.params.r s.params.p ++ s.salt) ∷ z ∷ [])) t.key.encoding
 
--- a text is refused neither as a wrong password nor for memory
+-- the error of a text
 
-key_none : (fields : List (List ℕ)) → NamesNoPassword (read_key fields)
-key_none [] = err_none EncodingInvalid refl
-key_none (letters ∷ []) =
-    then_none _ _ (some_none (decoded letters) EncodingInvalid refl)
-    (λ key. if_none _ _ _ (ok_none key) (err_none OutputSize refl))
-key_none (letters ∷ third ∷ after) = err_none EncodingInvalid refl
+key_fault : (fields : List (List ℕ)) → IfErr (read_key fields) IsFault
+key_fault [] = tt
+key_fault (letters ∷ []) = search (rules, faults)
+key_fault (letters ∷ third ∷ after) = tt
 
-fields_none : (fields : List (List ℕ)) → NamesNoPassword (read_fields fields)
-fields_none [] = err_none EncodingInvalid refl
-fields_none (field ∷ after) =
-    then_none _ _ (field_none field) (λ c. then_none _ _ (key_none after) (λ key. ok_none _))
+pub fields_fault : (fields : List (List ℕ)) → IfErr (read_fields fields) IsFault
+fields_fault [] = tt
+fields_fault (field ∷ after) = search (rules, faults, field_fault, key_fault)
 
-parts_none : (parts : List (List ℕ)) → NamesNoPassword (read_parts parts)
-parts_none ([] ∷ id ∷ fields) = if_none _ _ _ (fields_none fields) (err_none Algorithm refl)
-parts_none [] = err_none EncodingInvalid refl
-parts_none ([] ∷ []) = err_none EncodingInvalid refl
-parts_none ((byte ∷ first) ∷ rest) = err_none EncodingInvalid refl
+parts_fault : (parts : List (List ℕ)) → IfErr (read_parts parts) IsFault
+parts_fault ([] ∷ id ∷ fields) = search (rules, faults, fields_fault)
+parts_fault [] = tt
+parts_fault ([] ∷ []) = tt
+parts_fault ((byte ∷ first) ∷ rest) = tt
+
+pub mcf_fault : (text : List ℕ) → IfErr (read_mcf text) IsFault
+unfolding read_mcf
+mcf_fault text = parts_fault (parts_of text)
 
 pub mcf_none : (text : List ℕ) → NamesNoPassword (read_mcf text)
-unfolding read_mcf
-mcf_none text = parts_none (parts_of text)
+mcf_none text = no_password (read_mcf text) (mcf_fault text)

@@ -1,10 +1,10 @@
 -- Facts on five-letter numbers and on the parameters with which a field begins.
 use Rattle.std.proofs.Common.{◌≡◌, ℕ, ◌-◌, ◌/◌, ◌%◌, ◌^◌, ◌<◌, ◌≤◌, List, [], ◌∷◌, ◌++◌, length, take, drop, Some, None, unwrap_or}
-use Rattle.std.proofs.Common.{refl, sym, ap, ◌∙◌, arith, inl, inr, append_assoc, length-append, length-drop}
+use Rattle.std.proofs.Common.{refl, rules, sym, ap, ◌∙◌, arith, inl, inr, append_assoc, length-append, length-drop}
 use Rattle.std.specs.List.{slice_get}
 use Rattle.std.proofs.Math.Seq.{take-append_seam}
 use Rattle.std.proofs.lemmas.Bool.{le-ltb, cases_lt, lt-ltb}
-use Rattle.std.specs.Prelude.{All, Err, IsSome, Ok, Option, Result, nat_lt, ok_or, slice_index}
+use Rattle.std.specs.Prelude.{All, Err, IfErr, IsSome, Ok, Option, Result, nat_lt, ok_or, slice_index}
 use Rattle.std.proofs.lemmas.List.{append-nil, take_all, take-append-drop, length-take-le, drop-drop}
 use Rattle.std.proofs.lemmas.List.Elements.{All-head, All-tail}
 use Rattle.password_hash.specs.Crypt64.{letter, letter_value, letters_of, number_of, with_digit}
@@ -16,7 +16,7 @@ use Rattle.scrypt.specs.Accepted.{AreAccepted, Parameters}
 use Rattle.scrypt.specs.McfParams.{params_letters, field_params, five_letter_number}
 use Rattle.scrypt.specs.Reading.{◌and_then◌, checked}
 use Rattle.scrypt.proofs.AcceptedFacts.{checked_ok, ok_if, small_params}
-use Rattle.scrypt.proofs.ReadingFacts.{NamesNoPassword, checked_none, err_none, if_none, some_none, then_none}
+use Rattle.scrypt.proofs.ReadingFacts.{IsFault, faults}
 
 -- where there are five letters, they say the number
 pub five_letter_number-some : (text : List ℕ) → 5 ≤ length text → five_letter_number text ≡ number_of (take 5 text)
@@ -73,19 +73,11 @@ pub no_p : (log_n : ℕ) (r : Option ℕ) → of_numbers log_n r None ≡ Err En
 no_p log_n None = refl
 no_p log_n (Some r) = refl
 
--- a field is refused neither as a wrong password nor for memory
+-- the error of a field
 
-numbers_none : (log_n : ℕ) (r p : Option ℕ) → NamesNoPassword (of_numbers log_n r p)
-numbers_none log_n r p =
-    then_none _ _ (some_none r EncodingInvalid refl)
-    (λ r. then_none _ _ (some_none p EncodingInvalid refl) (λ p. checked_none log_n r p))
-
-pub field_none : (field : List ℕ) → NamesNoPassword (field_params field)
+pub field_fault : (field : List ℕ) → IfErr (field_params field) IsFault
 unfolding field_params
-field_none field =
-    if_none (nat_lt (slice_index field 0) 128) _ _
-    (numbers_none (unwrap_or (letter_value (slice_index field 0)) 255) (five_letter_number (drop 1 field)) (five_letter_number (drop 6 field)))
-    (err_none EncodingInvalid refl)
+field_fault field = search (rules, faults)
 
 -- numbers below 2^30 are read back from their five letters alone
 pub five_letters_read_back : (number : ℕ) → number < 2 ^ 30 → five_letter_number (letters_of 5 number) ≡ Some number

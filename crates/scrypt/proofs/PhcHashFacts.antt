@@ -1,6 +1,6 @@
 -- Facts on PHC hashes of scrypt.
-use Rattle.std.proofs.Common.{◌≡◌, ◌≢◌, ℕ, List, codes, refl, ap, ◌∙◌, arith, lit≤, Ok, Err, true, false}
-use Rattle.std.specs.Prelude.{IfSome, is_some}
+use Rattle.std.proofs.Common.{◌≡◌, ◌≢◌, ℕ, List, codes, refl, rules, ap, ◌∙◌, arith, lit≤, Ok, Err, true, false}
+use Rattle.std.specs.Prelude.{IfErr, IfSome, is_some}
 use Rattle.std.specs.Str.{bytes_eq}
 use Rattle.std.proofs.lemmas.Slice.Eq.{bytes_eq-Decides}
 use Rattle.password_hash.specs.Phc.{IsHashText, IsSalt, hash_text}
@@ -11,11 +11,12 @@ use Rattle.scrypt.specs.KeyOfParams.{key_by}
 use Rattle.scrypt.specs.PhcParams.{params_of_pairs}
 use Rattle.scrypt.specs.PhcHash.{IsMadeHash, phc_params, read_phc}
 use Rattle.scrypt.specs.Hashing.{key_len_or_default}
+use Rattle.scrypt.specs.Reading.{NamesNoPassword}
 use Rattle.scrypt.proofs.AcceptedFacts.{key_len_or_default_stored, not_true, small_params}
 use Rattle.scrypt.proofs.KeyFacts.{key_by-are_bytes, length-key_by}
 use Rattle.scrypt.proofs.PhcParamsFacts.{three_pairs}
-use Rattle.scrypt.proofs.PhcReadingFacts.{pairs_none, written_read}
-use Rattle.scrypt.proofs.ReadingFacts.{NamesNoPassword, err_none, if_none}
+use Rattle.scrypt.proofs.PhcReadingFacts.{pairs_fault, written_read}
+use Rattle.scrypt.proofs.ReadingFacts.{IsFault, faults, no_password}
 
 -- the parameters of a hash
 
@@ -34,11 +35,13 @@ module _ (hash : PasswordHash) (is : hash.algorithm ≡ codes "scrypt") where
   unfolding phc_params
   unversioned none = rw (is, none) refl
 
--- they are refused neither as a wrong password nor for memory
-pub params_none : (hash : PasswordHash) → NamesNoPassword (phc_params hash)
+-- their error
+pub params_fault : (hash : PasswordHash) → IfErr (phc_params hash) IsFault
 unfolding phc_params
-params_none hash =
-    if_none _ _ _ (err_none Algorithm refl) (if_none _ _ _ (err_none Version refl) (pairs_none 17 8 1 hash.params))
+params_fault hash = search (rules, faults, pairs_fault)
+
+pub params_none : (hash : PasswordHash) → NamesNoPassword (phc_params hash)
+params_none hash = no_password (phc_params hash) (params_fault hash)
 
 -- a made hash is read as it was made
 pub made_read : (c : Parameters) (password salt : List ℕ) (hash : PasswordHash) → AreAccepted c.log_n c.r c.p

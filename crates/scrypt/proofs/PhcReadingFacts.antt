@@ -1,6 +1,6 @@
 -- Facts on parameters as they are read from PHC pairs.
-use Rattle.std.proofs.Common.{◌≡◌, ◌≢◌, ℕ, ◌^◌, ◌<◌, ◌≤◌, List, [], ◌∷◌, codes, refl, sym, ap, ◌∙◌, arith, Ok, Err, Some, None}
-use Rattle.std.specs.Prelude.{IfSome, Option, Result, ok_or}
+use Rattle.std.proofs.Common.{◌≡◌, ◌≢◌, ℕ, ◌^◌, ◌<◌, ◌≤◌, List, [], ◌∷◌, codes, refl, rules, sym, ap, ◌∙◌, arith, Ok, Err, Some, None}
+use Rattle.std.specs.Prelude.{IfErr, IfSome, Option, Result, ok_or}
 use Rattle.std.specs.Str.{bytes_eq}
 use Rattle.std.proofs.lemmas.Bool.Decides.{nat_tests}
 use Rattle.std.proofs.lemmas.Slice.Eq.{bytes_eq-Decides}
@@ -10,7 +10,7 @@ use Rattle.password_hash.proofs.DecimalFacts.{IsDecimal-decimal, decimal_found, 
 use Rattle.scrypt.specs.Accepted.{AreAccepted, Parameters, without_len}
 use Rattle.scrypt.specs.Reading.{◌and_then◌, checked}
 use Rattle.scrypt.proofs.AcceptedFacts.{checked_is, not_true, small_params}
-use Rattle.scrypt.proofs.ReadingFacts.{NamesNoPassword, checked_none, err_none, if_none, some_none, then_none}
+use Rattle.scrypt.proofs.ReadingFacts.{IsFault, checked_fault, faults}
 use Rattle.scrypt.specs.PhcParams.{params_of_pairs, read_pairs, written_pairs}
 
 -- the number of a value
@@ -91,13 +91,10 @@ written_read c fits =
     let p = number_taken (codes "p") (2 ^ 32) _ c.p (IsDecimal-decimal c.p (omega (arith, small.2))) (omega (arith, small.2)) in
     rw (ln, r, p) (checked_is c.log_n c.r c.p fits)
 
--- pairs are refused neither as a wrong password nor for memory
+-- the error of the pairs
 
-pub pairs_none : (log_n r p : ℕ) (pairs : List (List ℕ × List ℕ)) → NamesNoPassword (read_pairs log_n r p pairs)
+pub pairs_fault : (log_n r p : ℕ) (pairs : List (List ℕ × List ℕ)) → IfErr (read_pairs log_n r p pairs) IsFault
 unfolding read_pairs
-pairs_none log_n r p [] = checked_none log_n r p
-pairs_none log_n r p (pair ∷ pairs) =
-    if_none _ _ _ (then_none _ _ (some_none (decimal_below 256 pair.1) (ParamInvalid pair.0) refl) (λ n. pairs_none n r p pairs))
-    (if_none _ _ _ (then_none _ _ (some_none (decimal_below (2 ^ 32) pair.1) (ParamInvalid pair.0) refl) (λ n. pairs_none log_n n p pairs))
-    (if_none _ _ _ (then_none _ _ (some_none (decimal_below (2 ^ 32) pair.1) (ParamInvalid pair.0) refl) (λ n. pairs_none log_n r n pairs))
-    (err_none ParamsInvalid refl)))
+pairs_fault log_n r p [] = checked_fault log_n r p
+pairs_fault log_n r p (pair ∷ pairs) =
+    let after = λ (log_n r p : ℕ). pairs_fault log_n r p pairs in search (rules, faults, after)

@@ -1,10 +1,10 @@
 -- What follows from the reading of a hash: the verdict, and the memory that is left.
 use Rattle.std.proofs.Common.{◌≡◌, ◌↔◌, ◌≢◌, ◌⊎◌, ◌∙◌, ℕ, ◌≤◌, List, length, Ok, Err, inl, inr, true, false, refl, sym, ap, ap₂, arith}
-use Rattle.std.specs.Prelude.{Bool, None, Option, Result, Some, if◌then◌else◌, nat_le, ok_or, ⊤}
+use Rattle.std.specs.Prelude.{Bool, IfErr, None, Option, Result, Some, if◌then◌else◌, ok_or, ⊤}
 use Rattle.std.specs.Bool.{Decides}
 use Rattle.std.proofs.lemmas.Bool.Decides.{Decides-and, same_from_decides}
 use Rattle.std.proofs.lemmas.Slice.Eq.{bytes_eq-Decides}
-use Rattle.password_hash.specs.Refusal.{Refusal, OutOfMemory, ParamsInvalid, PasswordInvalid}
+use Rattle.password_hash.specs.Refusal.{Refusal, KeyTooShort, OutOfMemory, PasswordInvalid, TooCostly}
 use Rattle.password_hash.specs.declared.error.Error.{Error}
 use Rattle.password_hash.specs.declared.error.Error.TheVariants as error
 use Rattle.scrypt.specs.Accepted.{Parameters, are_accepted, without_len}
@@ -13,15 +13,15 @@ use Rattle.scrypt.specs.Hashing.{key_len_or_default}
 use Rattle.scrypt.specs.KeyOfParams.{key_by}
 use Rattle.scrypt.proofs.AcceptedFacts.{leb_decided, not_true, ok_if}
 use Rattle.scrypt.proofs.KeyFacts.{length-key_by}
-use Rattle.std.proofs.lemmas.Bool.{false≢true, le-ltb}
-use Rattle.scrypt.specs.Reading.{◌and_then◌, Stored, checked, is_below, is_right, mapped, told, verdict, weaker}
+use Rattle.std.proofs.lemmas.Bool.{le-ltb}
+use Rattle.scrypt.specs.Reading.{◌and_then◌, NamesNoPassword, Stored, checked, is_below, is_right, mapped, told, verdict, weaker}
 use Rattle.scrypt.specs.InBuffers.{AreEnough}
 use Rattle.scrypt.specs.StoredParts.{HasParts}
 use Rattle.scrypt.specs.declared.stored_hash.parts.Parts.{Parts}
 use Rattle.scrypt.specs.Limits.{are_within}
-use Rattle.scrypt.specs.WithinLimits.{BoundedRefusal, IsLeftWithin, KeyTooShort, TooCostly, unbounded, verdict_within, within}
+use Rattle.scrypt.specs.WithinLimits.{within}
 use Rattle.scrypt.specs.declared.limits.Limits.{Limits}
-use Rattle.scrypt.specs.WorkInBuffers.{IsDone, IsLeft, IsVerifying, Work, has_room, verdict_in}
+use Rattle.scrypt.specs.WorkInBuffers.{IsDone, IsVerifying, Work, has_room, verdict_in}
 
 -- what is read in two steps
 
@@ -35,47 +35,47 @@ pub refused_first : {A B : Type 0} (reading : Result A Refusal) (rest : A → Re
 refused_first (Ok x) rest is = absurd cc
 refused_first (Err other) rest is = cc
 
--- reading is refused neither as a wrong password nor for memory
+-- the errors of reading
 
-abbrev pub NamesNoPassword : {A : Type 0} → Result A Refusal → Type 0
-NamesNoPassword reading = (reading ≢ Err PasswordInvalid) × (reading ≢ Err OutOfMemory)
+pub mapped_refused : {A B : Type 0} (f : A → B) (reading : Result A Refusal) (why : Refusal) → mapped f reading ≡ Err why
+    → reading ≡ Err why
+mapped_refused f (Ok x) why is = absurd cc
+mapped_refused f (Err other) why is = let same : other ≡ why = cc in ap Err same
 
--- any other refusal
-abbrev is_another : Refusal → Bool
-is_another PasswordInvalid = false
-is_another OutOfMemory = false
-is_another _ = true
+-- an error of a text, except that its salt or its key is missing
+abbrev pub IsFault : Refusal → Type 0
+IsFault PasswordInvalid = ⊥
+IsFault OutOfMemory = ⊥
+IsFault TooCostly = ⊥
+IsFault KeyTooShort = ⊥
+IsFault why = ⊤
 
-pub err_none : {A : Type 0} (why : Refusal) → is_another why ≡ true → NamesNoPassword {A = A} (Err why)
-err_none why other =
-    let differs = λ (wrong : Refusal) (no : is_another wrong ≡ false) (is : why ≡ wrong).
-    false≢true (sym no ∙ ap is_another (sym is) ∙ other) in
-    (λ is. differs PasswordInvalid refl cc, λ is. differs OutOfMemory refl cc)
+pub part_fault : {A B : Type 0} (f : A → B) (reading : Result A Refusal) → IfErr reading IsFault → IfErr (mapped f reading) IsFault
+part_fault f (Ok x) fault = tt
+part_fault f (Err why) fault = fault
 
-pub ok_none : {A : Type 0} (x : A) → NamesNoPassword (Ok x)
-ok_none x = (λ is. absurd cc, λ is. absurd cc)
+pub then_fault : {A B : Type 0} (reading : Result A Refusal) (rest : A → Result B Refusal) → IfErr reading IsFault
+    → ((x : A) → IfErr (rest x) IsFault) → IfErr (reading and_then rest) IsFault
+then_fault (Ok x) rest fault after = after x
+then_fault (Err why) rest fault after = fault
 
-pub part_none : {A B : Type 0} (f : A → B) (reading : Result A Refusal) → NamesNoPassword reading → NamesNoPassword (mapped f reading)
-part_none f (Ok x) none = ok_none (f x)
-part_none f (Err why) none = (λ is. none.0 cc, λ is. none.1 cc)
+pub if_fault : {A : Type 0} (test : Bool) (first second : Result A Refusal) → IfErr first IsFault → IfErr second IsFault
+    → IfErr (if test then first else second) IsFault
+if_fault true first second fault other = fault
+if_fault false first second fault other = other
 
-pub then_none : {A B : Type 0} (reading : Result A Refusal) (rest : A → Result B Refusal) → NamesNoPassword reading
-    → ((x : A) → NamesNoPassword (rest x)) → NamesNoPassword (reading and_then rest)
-then_none (Ok x) rest none after = after x
-then_none (Err why) rest none after = (λ is. none.0 cc, λ is. none.1 cc)
+pub some_fault : {A : Type 0} (found : Option A) (why : Refusal) → IsFault why → IfErr (ok_or found why) IsFault
+some_fault None why fault = fault
+some_fault (Some x) why fault = tt
 
-pub if_none : {A : Type 0} (test : Bool) (first second : Result A Refusal) → NamesNoPassword first → NamesNoPassword second
-    → NamesNoPassword (if test then first else second)
-if_none true first second none other = none
-if_none false first second none other = other
-
-pub some_none : {A : Type 0} (found : Option A) (why : Refusal) → is_another why ≡ true → NamesNoPassword (ok_or found why)
-some_none None why other = err_none why other
-some_none (Some x) why other = ok_none x
-
-pub checked_none : (log_n r p : ℕ) → NamesNoPassword (checked log_n r p)
+pub checked_fault : (log_n r p : ℕ) → IfErr (checked log_n r p) IsFault
 unfolding checked
-checked_none log_n r p = if_none (are_accepted log_n r p) _ _ (ok_none _) (err_none ParamsInvalid refl)
+checked_fault log_n r p = if_fault (are_accepted log_n r p) _ _ tt tt
+
+pub ruleset faults = (checked_fault, if_fault, part_fault, some_fault, then_fault)
+
+pub no_password : {A : Type 0} (reading : Result A Refusal) → IfErr reading IsFault → NamesNoPassword reading
+no_password reading fault = (λ is. rw is at fault, (λ is. rw is at fault, λ is. rw is at fault, λ is. rw is at fault))
 
 -- the password is right exactly if the stored key is its key
 pub right_decided : (password : List ℕ) (s : Stored)
@@ -165,7 +165,7 @@ same_verdict w w' chunks table scratch password (Err why) = refl
 
 -- within limits
 
--- a hash whose parameters are refused
+-- a hash whose parameters need too much
 pub too_costly : (limits : Limits) (reading : Result Stored Refusal) (c : Parameters) (n : ℕ)
     → Ok (c, n) ≡ mapped {B = Parameters × ℕ} (λ s. (s.params, length s.key)) reading → are_within limits c ≡ false
     → Err TooCostly ≡ mapped (λ s. s.params) (within limits reading)
@@ -177,46 +177,3 @@ too_costly limits (Ok s) c n is costly =
     let same : c ≡ s.params = ap (λ (pair : Parameters × ℕ). pair.0) pairs in
     let costs : are_within limits s.params ≡ false = ap (are_within limits) (sym same) ∙ costly in
     rw costs refl
-
--- a hash that is refused
-pub refused_within : (limits : Limits) (password : List ℕ) (w : Work) (reading : Result Stored Refusal) (why : BoundedRefusal)
-    → Err why ≡ mapped (λ s. s.params) (within limits reading)
-    → (Err why ≡ verdict_within w password (within limits reading)) × IsLeftWithin (within limits reading) w w
-refused_within limits password w reading why is = at (within limits reading) is
-  where
-    at : (bounded : Result Stored BoundedRefusal) → Err why ≡ mapped (λ s. s.params) bounded
-        → (Err why ≡ verdict_within w password bounded) × IsLeftWithin bounded w w
-    at (Ok s) is = absurd cc
-    at (Err other) is = (let same : why ≡ other = cc in ap Err same, refl)
-
--- a hash that is not is read as it is without limits
-within_is : (limits : Limits) (reading : Result Stored Refusal) (s : Stored) → within limits reading ≡ Ok s → reading ≡ Ok s
-within_is limits (Err why) s is = absurd cc
-within_is limits (Ok read) s is = at (are_within limits read.params) (nat_le limits.least_key_len (length read.key)) is
-  where
-    at : (cheap long : Bool)
-        → if◌then◌else◌ {A = Result Stored BoundedRefusal} cheap (if◌then◌else◌ {A = Result Stored BoundedRefusal} long
-        (Ok read) (Err KeyTooShort)) (Err TooCostly) ≡ Ok s
-        → ◌≡◌ {A = Result Stored Refusal} (Ok read) (Ok s)
-    at true true is = let same : read ≡ s = cc in ap (λ z. Ok z) same
-    at true false is = absurd cc
-    at false long is = absurd cc
-
-pub allowed_within : (limits : Limits) (password : List ℕ) (before after : Work) (reading : Result Stored Refusal) (c : Parameters)
-    (out : Result ⊤ Refusal) → Ok c ≡ mapped (λ s. s.params) (within limits reading)
-    → out ≡ verdict_in before password reading → IsLeft reading before after
-    → (unbounded out ≡ verdict_within before password (within limits reading)) × IsLeftWithin (within limits reading) before after
-allowed_within limits password before after reading c out is told left = at (within limits reading) refl is
-  where
-    at : (bounded : Result Stored BoundedRefusal) → within limits reading ≡ bounded → Ok c ≡ mapped (λ s. s.params) bounded
-        → (unbounded out ≡ verdict_within before password bounded) × IsLeftWithin bounded before after
-    at (Ok s) same is =
-        let read = within_is limits reading s same in
-        (ap unbounded (rw read at told), rw read at left)
-    at (Err why) same is = absurd cc
-
-pub same_verdict_within : (w w' : Work) → length w.chunks ≡ length w'.chunks → length w.table ≡ length w'.table
-    → length w.scratch ≡ length w'.scratch
-    → (password : List ℕ) (reading : Result Stored BoundedRefusal) → verdict_within w password reading ≡ verdict_within w' password reading
-same_verdict_within w w' chunks table scratch password (Ok s) = ap unbounded (same_verdict w w' chunks table scratch password (Ok s))
-same_verdict_within w w' chunks table scratch password (Err why) = refl

@@ -1,6 +1,6 @@
 -- Facts on stored hashes of either format: a text has one reading.
 use Rattle.std.proofs.Common.{◌≡◌, ◌∙◌, List, ℕ, [], ◌∷◌, Bool, true, false, Ok, Err, refl, sym, ap, arith, lit<}
-use Rattle.std.specs.Prelude.{◌||◌, Option, Some, None, Result, codes, length, ok_or}
+use Rattle.std.specs.Prelude.{◌||◌, IfErr, Option, Some, None, Result, codes, length, ok_or}
 use Rattle.std.proofs.lemmas.Bool.{false≢true}
 use Rattle.std.proofs.lemmas.Bool.Decides.{nat_tests}
 use Rattle.password_hash.proofs.McfFacts.{IsMcfText-from_parts}
@@ -17,16 +17,16 @@ use Rattle.password_hash.specs.McfViews.{borrowed_text}
 use Rattle.scrypt.specs.McfHash.{mcf_id, read_fields, read_mcf}
 use Rattle.scrypt.specs.PhcHash.{phc_params, read_phc}
 use Rattle.scrypt.specs.Accepted.{Parameters}
-use Rattle.scrypt.specs.Reading.{◌and_then◌, Stored, mapped}
+use Rattle.scrypt.specs.Reading.{◌and_then◌, IsOfText, NamesNoPassword, Stored, mapped}
 use Rattle.scrypt.specs.StoredHash.{HasReading, IsStoredText, Reads, StoredText, by_fields, by_hash, is_mcf_text, key_len_or_zero}
 use Rattle.scrypt.specs.StoredHash.{mcf, of_mcf, of_phc, phc, unread}
 use Rattle.scrypt.specs.StoredRead.{IsHashOf, stored_text}
 use Rattle.scrypt.specs.declared.stored_hash.Format.{Format}
 use Rattle.scrypt.specs.declared.stored_hash.Format.TheVariants.{Mcf, Phc}
 use Rattle.scrypt.proofs.AcceptedFacts.{not_true}
-use Rattle.scrypt.proofs.McfHashFacts.{is_mcf, mcf_none, read_seven}
-use Rattle.scrypt.proofs.PhcHashFacts.{params_none}
-use Rattle.scrypt.proofs.ReadingFacts.{NamesNoPassword, part_none}
+use Rattle.scrypt.proofs.McfHashFacts.{fields_fault, is_mcf, mcf_fault, read_seven}
+use Rattle.scrypt.proofs.PhcHashFacts.{params_fault}
+use Rattle.scrypt.proofs.ReadingFacts.{IsFault, mapped_refused, no_password, part_fault}
 
 -- the text of a hash that was read is read so
 pub reads_as : (text : List ℕ) (format : Format) → IsHashOf text format → Reads text (stored_text text format)
@@ -106,10 +106,6 @@ none_read text e none is = rw is (of_none text none)
 
 -- the parameters and the whole of a hash
 
-mapped_refused : {A B : Type 0} (f : A → B) (reading : Result A Refusal) (why : Refusal) → mapped f reading ≡ Err why → reading ≡ Err why
-mapped_refused f (Ok x) why is = absurd cc
-mapped_refused f (Err other) why is = let same : other ≡ why = cc in ap Err same
-
 phc_whole : (params : Result Parameters Refusal) (salt key : Option (List ℕ)) (s : Stored)
     → (params and_then λ c. ok_or salt PasswordInvalid and_then λ salt. ok_or key PasswordInvalid
     and_then λ key. Ok (record { params = c; salt = salt; key = key })) ≡ Ok s
@@ -133,11 +129,24 @@ params_refused text hash why (mcf seven) is = mapped_refused _ (read_mcf text) w
 params_refused text hash why (phc {hash = read} differs written) is =
     rw (mapped_refused _ (phc_params read) why is) refl
 
--- its parameters are refused neither as a wrong password nor for memory
+-- the error of its parameters, and of the whole, which may lack the salt or the key
 
 pub stored_none : (text : List ℕ) (read : StoredText) → Reads text read → NamesNoPassword read.params
-stored_none text read (mcf seven) = part_none _ (read_mcf text) (mcf_none text)
-stored_none text read (phc {hash = hash} differs is) = part_none _ (phc_params hash) (params_none hash)
+stored_none text read (mcf seven) = no_password _ (part_fault _ (read_mcf text) (mcf_fault text))
+stored_none text read (phc {hash = hash} differs is) = no_password _ (part_fault _ (phc_params hash) (params_fault hash))
+
+phc_of_text : (params : Result Parameters Refusal) (salt key : Option (List ℕ)) → IfErr params IsFault
+    → IsOfText {A = Stored} (params and_then λ c. ok_or salt PasswordInvalid and_then λ salt. ok_or key PasswordInvalid
+    and_then λ key. Ok (record { params = c; salt = salt; key = key }))
+phc_of_text (Ok c) (Some salt) (Some key) fault = (λ is. absurd cc, λ is. absurd cc, λ is. absurd cc)
+phc_of_text (Ok c) (Some salt) None fault = (λ is. absurd cc, λ is. absurd cc, λ is. absurd cc)
+phc_of_text (Ok c) None key fault = (λ is. absurd cc, λ is. absurd cc, λ is. absurd cc)
+phc_of_text (Err why) salt key fault = (no_password (Err why) fault).1
+
+pub whole_of_text : (text : List ℕ) (reading : Result Stored Refusal) → HasReading text reading → IsOfText reading
+whole_of_text text reading (by_fields seven) = (no_password _ (fields_fault (fields_of text))).1
+whole_of_text text reading (by_hash {hash = hash} differs is) = phc_of_text (phc_params hash) hash.salt hash.hash (params_fault hash)
+whole_of_text text reading (unread differs none) = (λ is. absurd cc, λ is. absurd cc, λ is. absurd cc)
 
 or_true : (b : Bool) → (b || true) ≡ true
 or_true true = refl
@@ -150,7 +159,8 @@ mcf_is_seven {fields = []} is = rw is.written refl
 mcf_is_seven {fields = field ∷ fields} is = rw is.written (or_true _)
 
 -- the text of a PHC hash of scrypt is read as a PHC text
-pub scrypt_is_phc : {text : List ℕ} {hash : PasswordHash} → IsHashText text hash → hash.algorithm ≡ codes "scrypt" → is_mcf_text text ≡ false
+pub scrypt_is_phc : {text : List ℕ} {hash : PasswordHash} → IsHashText text hash → hash.algorithm ≡ codes "scrypt"
+    → is_mcf_text text ≡ false
 unfolding is_mcf_text
 scrypt_is_phc is named = rw (is.whole, named) refl
 
@@ -159,5 +169,6 @@ scrypt_is_phc is named = rw (is.whole, named) refl
 pub made_mcf : (text : List ℕ) {s : Stored} → read_mcf text ≡ Ok s → Reads text (of_mcf text)
 made_mcf text is = mcf (mcf_is_seven (is_mcf is).1)
 
-pub made_phc : (text : List ℕ) (hash : PasswordHash) → IsHashText text hash → hash.algorithm ≡ codes "scrypt" → Reads text (of_phc text hash)
+pub made_phc : (text : List ℕ) (hash : PasswordHash) → IsHashText text hash → hash.algorithm ≡ codes "scrypt"
+    → Reads text (of_phc text hash)
 made_phc text hash is named = phc (scrypt_is_phc is named) is

@@ -13,9 +13,7 @@ use Rattle.scrypt.specs.Cost.{chunks_bytes, scratch_words, table_words}
 use Rattle.scrypt.specs.Key.{mixed_chunk, mixed_chunks}
 use Rattle.scrypt.specs.Reading.{Stored, verdict}
 use Rattle.scrypt.specs.TwoVerdicts.{AreAlike, AreDone, AreLeft, AreLeftInTurn, both_chunks_bytes, hold_two}
-use Rattle.scrypt.specs.WithinLimits.{IsLeftWithin, within}
-use Rattle.scrypt.specs.WorkInBuffers.{IsLeft, Work, has_room, verdict_in}
-use Rattle.scrypt.specs.declared.limits.Limits.{Limits}
+use Rattle.scrypt.specs.WorkInBuffers.{Work, has_room, verdict_in}
 use Rattle.scrypt_kernel.proofs.PartFacts.{part_after, part_append_front, part_of_parts, parts_all, parts_apart}
 use Rattle.scrypt.proofs.AcceptedFacts.{leb_decided}
 use Rattle.scrypt.proofs.ChunkFacts.{length-mixed_chunk}
@@ -94,21 +92,14 @@ verdict_alone w password reading s out room read is = is ∙ rw (read, room) ref
 
 -- what verifying two hashes leaves
 
-pub left_at_once : {E : Type 0} (Left : Result Stored E → Work → Work → Type 0) (before after : Work) (reading other : Result Stored E)
+pub left_at_once : (Left : Result Stored Refusal → Work → Work → Type 0) (before after : Work) (reading other : Result Stored Refusal)
     (s t : Stored) → reading ≡ Ok s → other ≡ Ok t → hold_two s.params t.params before.chunks before.table before.scratch ≡ true
     → AreDone s.params t.params before after → AreLeft Left AreDone reading other before after
 left_at_once Left before after reading other s t read other_read holds done = rw (read, other_read, holds) done
 
-pub left_in_turn : {E : Type 0} (Left : Result Stored E → Work → Work → Type 0) (before after : Work) (reading other : Result Stored E)
+pub left_in_turn : (Left : Result Stored Refusal → Work → Work → Type 0) (before after : Work) (reading other : Result Stored Refusal)
     → ((s t : Stored) → reading ≡ Ok s → other ≡ Ok t → hold_two s.params t.params before.chunks before.table before.scratch ≡ false)
     → AreLeftInTurn Left reading other before after → AreLeft Left AreDone reading other before after
 left_in_turn Left before after (Ok s) (Ok t) apart turn = rw (apart s t refl refl) turn
 left_in_turn Left before after (Ok s) (Err why) apart turn = turn
 left_in_turn Left before after (Err why) other apart turn = turn
-
--- what two hashes within limits leave, if it is known what they leave without limits
-pub left_within : (limits : Limits) (before after : Work) (reading other : Result Stored Refusal) (s t : Stored)
-    → within limits reading ≡ Ok s → within limits other ≡ Ok t → reading ≡ Ok s → other ≡ Ok t
-    → AreLeft IsLeft AreDone reading other before after → AreLeft IsLeftWithin AreDone (within limits reading) (within limits other) before after
-left_within limits before after reading other s t bounded other_bounded read other_read left =
-    rw (bounded, other_bounded) (rw (read, other_read) at left)

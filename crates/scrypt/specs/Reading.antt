@@ -1,8 +1,8 @@
 -- The result of reading a stored hash, in either format, and what is computed from it.
-use Rattle.std.specs.Prelude.{◌≡◌, ◌⊎◌, ℕ, Bool, nat_lt, ◌||◌, if◌then◌else◌, List, length, None, Result, Ok, Err, IsOk, ⊤}
+use Rattle.std.specs.Prelude.{◌≡◌, ◌≢◌, ◌⊎◌, ℕ, Bool, nat_lt, ◌||◌, if◌then◌else◌, List, length, None, Result, Ok, Err, IsOk, ⊤}
 use Rattle.std.specs.Result.{result_map_both}
 use Rattle.std.specs.Str.{bytes_eq}
-use Rattle.password_hash.specs.Refusal.{Refusal, OutOfMemory, ParamsInvalid, PasswordInvalid}
+use Rattle.password_hash.specs.Refusal.{Refusal, KeyTooShort, OutOfMemory, ParamsInvalid, PasswordInvalid, TooCostly}
 pub use Rattle.password_hash.specs.Refusal.{told}
 use Rattle.scrypt.specs.Accepted.{Parameters, are_accepted}
 use Rattle.scrypt.specs.Hashing.{key_len_or_default}
@@ -50,3 +50,11 @@ is_below wanted c len =
 -- whether a hash is weaker than wanted, or the error of reading it
 abbrev pub weaker : Parameters → Result Stored Refusal → Result Bool Refusal
 weaker wanted reading = mapped (λ s. is_below wanted s.params (length s.key)) reading
+
+-- reading returns none of the errors that come after it
+abbrev pub IsOfText : {A : Type 0} → Result A Refusal → Type 0
+IsOfText reading = (reading ≢ Err OutOfMemory) × (reading ≢ Err TooCostly) × (reading ≢ Err KeyTooShort)
+
+-- and not `PasswordInvalid` either
+abbrev pub NamesNoPassword : {A : Type 0} → Result A Refusal → Type 0
+NamesNoPassword reading = (reading ≢ Err PasswordInvalid) × IsOfText reading

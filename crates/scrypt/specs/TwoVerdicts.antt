@@ -1,5 +1,6 @@
 -- What verifying two hashes in one memory leaves in it.
 use Rattle.std.specs.Prelude.{◌≡◌, ℕ, ◌+◌, ◌*◌, ◌&&◌, Bool, nat_eq, nat_le, List, length, drop, MatchBool, Result, Ok}
+use Rattle.password_hash.specs.Refusal.{Refusal}
 use Rattle.scrypt_kernel.specs.Count.{AreCounted}
 use Rattle.scrypt.specs.Accepted.{Parameters}
 use Rattle.scrypt.specs.Cost.{chunks_bytes, cost, scratch_words, table_words}
@@ -35,14 +36,14 @@ pub record AreDone (c other : Parameters) (before after : Work) : Type 0 where
   pub rest : drop (2 * table_words c.log_n c.r) after.table ≡ drop (2 * table_words c.log_n c.r) before.table
 
 -- what verifying two hashes leaves, one after the other, if `Left` is what verifying one leaves
-abbrev pub AreLeftInTurn : {E : Type 0} → (Result Stored E → Work → Work → Type 0) → Result Stored E → Result Stored E
+abbrev pub AreLeftInTurn : (Result Stored Refusal → Work → Work → Type 0) → Result Stored Refusal → Result Stored Refusal
     → Work → Work → Type 0
 AreLeftInTurn Left reading other before after = (between : Work) × Left reading before between × Left other between after
 
 -- What verifying two hashes leaves, if `Both` is what two derivations at once leave: that, if keys of both would be
 -- compared and the memory holds two, and otherwise what they leave one after the other.
-abbrev pub AreLeft : {E : Type 0} → (Result Stored E → Work → Work → Type 0) → (Parameters → Parameters → Work → Work → Type 0)
-    → Result Stored E → Result Stored E → Work → Work → Type 0
+abbrev pub AreLeft : (Result Stored Refusal → Work → Work → Type 0) → (Parameters → Parameters → Work → Work → Type 0)
+    → Result Stored Refusal → Result Stored Refusal → Work → Work → Type 0
 AreLeft Left Both (Ok s) (Ok other) before after =
     MatchBool (hold_two s.params other.params before.chunks before.table before.scratch)
     (Both s.params other.params before after) (AreLeftInTurn Left (Ok s) (Ok other) before after)

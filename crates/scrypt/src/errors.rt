@@ -1,9 +1,8 @@
-//! The errors of a derivation, of its parameters and of verifying within limits.
+//! The errors of a derivation and of its parameters.
 
 ghost use Rattle.std.specs.Prelude.{◌≡◌, Some, codes};
-ghost use Rattle.scrypt.specs.ErrorText.{bounded_error_text, derive_error_text};
+ghost use Rattle.scrypt.specs.ErrorText.{derive_error_text};
 ghost use Rattle.password_hash.specs.declared.kdf.Error.TheVariants.{Refused};
-ghost use Rattle.scrypt.specs.declared.errors.BoundedError.TheVariants.{Hash};
 ghost use Rattle.scrypt.specs.declared.errors.DeriveError.TheVariants.{InvalidOutputLen as BadLength, OutOfMemory};
 
 use password_hash::kdf;
@@ -82,39 +81,5 @@ impl From<InvalidOutputLen> for kdf::Error {
 
     fn from(_error: InvalidOutputLen) -> kdf::Error {
         kdf::Error::Refused
-    }
-}
-
-/// An error from verifying within [`Limits`](crate::Limits).
-#[derive(Clone, Copy, Debug, PartialEq, Eq)]
-pub enum BoundedError {
-    /// The hash can be read, and its parameters need more than one of the limits.
-    TooCostly,
-    /// The hash can be read and its parameters are within the limits, but its key is shorter than
-    /// they allow.
-    KeyTooShort,
-    /// An error from verifying the hash.
-    Hash(password_hash::Error),
-}
-
-impl fmt::Display for BoundedError {
-    ghost output = { λ e. bounded_error_text e };
-
-    fn fmt<W: fmt::Write>(&self, f: &mut fmt::Formatter<W>) -> fmt::Result {
-        match self {
-            BoundedError::TooCostly => f.write_str("the parameters need more than is allowed"),
-            BoundedError::KeyTooShort => f.write_str("the key is shorter than is allowed"),
-            BoundedError::Hash(error) => write!(f, "{error}"),
-        }
-    }
-}
-
-impl Error for BoundedError {}
-
-impl From<password_hash::Error> for BoundedError {
-    ghost from_gives = { λ error e. e ≡ Hash error };
-
-    fn from(error: password_hash::Error) -> BoundedError {
-        BoundedError::Hash(error)
     }
 }

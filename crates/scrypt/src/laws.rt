@@ -6,7 +6,7 @@ ghost use Rattle.password_hash.specs.Crypt64.{Crypt64, crypt64_of, letter_value,
 ghost use Rattle.password_hash.specs.Mcf.{IsMcfText};
 ghost use Rattle.password_hash.specs.Parts.{dollar};
 ghost use Rattle.password_hash.specs.Phc.{IsHashText, IsSalt, hash_text};
-ghost use Rattle.password_hash.specs.Refusal.{Refusal, EncodingInvalid, OutOfMemory, PasswordInvalid};
+ghost use Rattle.password_hash.specs.Refusal.{Refusal, EncodingInvalid, PasswordInvalid};
 ghost use Rattle.password_hash.specs.declared.phc.hash.PasswordHash.{PasswordHash};
 ghost use Rattle.scrypt.specs.Accepted.{AreAccepted, IsStoredLen, Parameters};
 ghost use Rattle.scrypt_kernel.specs.BlockMix.{block_mix};
@@ -24,7 +24,7 @@ ghost use Rattle.scrypt.specs.Hashing.{key_len_or_default};
 ghost use Rattle.scrypt.specs.Accepted.{without_len};
 ghost use Rattle.scrypt.specs.PhcParams.{params_of_pairs, written_pairs};
 ghost use Rattle.scrypt.specs.PhcHash.{HashIsRefused, IsMadeHash, phc_params, read_phc};
-ghost use Rattle.scrypt.specs.Reading.{Stored, verdict, weaker};
+ghost use Rattle.scrypt.specs.Reading.{IsOfText, NamesNoPassword, Stored, verdict, weaker};
 ghost use Rattle.scrypt.specs.StoredHash.{HasReading, IsStoredText, Reads, StoredText};
 
 /// A shorter key is the beginning of a longer one, for any two lengths.
@@ -143,14 +143,14 @@ pub fn verdicts_compare_keys()
         ⊎ (reading ≡ Err PasswordInvalid) }
 {}
 
-/// Reading a `$7$` text, or the parameters of a PHC hash or of a stored hash, never gives `PasswordInvalid` or
-/// `OutOfMemory`.
-#[tactic(auto, using(crate::proofs::McfHashFacts::mcf_none, crate::proofs::PhcHashFacts::params_none, crate::proofs::StoredHashFacts::stored_none))]
+/// Reading a `$7$` text, or the parameters of a PHC hash or of a stored hash, never gives `PasswordInvalid`; and no
+/// reading gives `OutOfMemory`, `TooCostly` or `KeyTooShort`, which come after it.
+#[tactic(auto, using(crate::proofs::McfHashFacts::mcf_none, crate::proofs::PhcHashFacts::params_none, crate::proofs::StoredHashFacts::stored_none, crate::proofs::StoredHashFacts::whole_of_text))]
 pub fn reading_names_no_password()
-    ensures mcf { (text : List ℕ) → (read_mcf text ≢ Err PasswordInvalid) × (read_mcf text ≢ Err OutOfMemory) }
-    ensures params { (hash : PasswordHash) → (phc_params hash ≢ Err PasswordInvalid) × (phc_params hash ≢ Err OutOfMemory) }
-    ensures stored { (text : List ℕ) (read : StoredText) → Reads text read
-        → (read.params ≢ Err PasswordInvalid) × (read.params ≢ Err OutOfMemory) }
+    ensures mcf { (text : List ℕ) → NamesNoPassword (read_mcf text) }
+    ensures params { (hash : PasswordHash) → NamesNoPassword (phc_params hash) }
+    ensures stored { (text : List ℕ) (read : StoredText) → Reads text read → NamesNoPassword read.params }
+    ensures whole { (text : List ℕ) (reading : Result Stored Refusal) → HasReading text reading → IsOfText reading }
 {}
 
 /// A hash that was made with the wanted parameters is not weaker than wanted.

@@ -35,7 +35,7 @@ pub use buffers::used_lens;
 pub use derivation::{
     BufferLens, output_len_ok, scrypt, scrypt_counted, scrypt_thin, scrypt_with_buffers,
 };
-pub use errors::{BoundedError, DeriveError, InvalidOutputLen, InvalidParams};
+pub use errors::{DeriveError, InvalidOutputLen, InvalidParams};
 pub use limits::Limits;
 pub use params::Params;
 pub use password_hash;

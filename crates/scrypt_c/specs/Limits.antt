@@ -1,11 +1,8 @@
--- The statuses of what a call needs within limits.
-use Rattle.std.specs.Prelude.{◌≡◌, ◌⊎◌, ◌↔◌, ℕ, ℤ, pos, IsTrue, None, Result, Ok, Err}
+-- The status of what parameters need within limits.
+use Rattle.std.specs.Prelude.{◌≡◌, ◌⊎◌, ◌↔◌, ℕ, ℤ, pos, IsTrue, None}
 use Rattle.scrypt.specs.Accepted.{AreAccepted, Parameters}
 use Rattle.scrypt.specs.Limits.{are_within}
-use Rattle.scrypt.specs.Reading.{Stored}
-use Rattle.scrypt.specs.WithinLimits.{BoundedRefusal, Hash, KeyTooShort, TooCostly}
 use Rattle.scrypt.specs.declared.limits.Limits.{Limits}
-use Rattle.scrypt_c.specs.Statuses.{refusal_status}
 
 -- these limits
 abbrev pub limits_of : ℕ → ℕ → ℕ → Limits
@@ -15,17 +12,6 @@ limits_of most_bytes most_work least_key_len =
 -- these parameters, without a length
 abbrev pub params_of : ℕ → ℕ → ℕ → Parameters
 params_of log_n r p = record { log_n = log_n; r = r; p = p; output_len = None }
-
--- the status of an error of verifying within limits
-abbrev pub bounded_status : BoundedRefusal → ℤ
-bounded_status (Hash why) = refusal_status why
-bounded_status TooCostly = pos 13
-bounded_status KeyTooShort = pos 15
-
--- the status of the reading of a hash within limits
-abbrev pub needs_status : Result Stored BoundedRefusal → ℤ
-needs_status (Ok s) = pos 0
-needs_status (Err why) = bounded_status why
 
 -- the status of what parameters need: 0, or that they aren't accepted, or not within limits
 pub record IsNeedStatus (most_bytes most_work log_n r p : ℕ) (status : ℤ) : Type 0 where

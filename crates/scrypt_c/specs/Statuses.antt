@@ -1,7 +1,7 @@
 -- The statuses of what was read, of verdicts and of errors.
 use Rattle.std.specs.Prelude.{◌≡◌, ◌⊎◌, ◌↔◌, ℕ, ℤ, pos, Bool, true, false, List, Result, Ok, Err, IfOk, IsOk}
 use Rattle.password_hash.specs.Refusal.{Refusal, Algorithm, EncodingInvalid, OutputSize, ParamInvalid, ParamsInvalid}
-use Rattle.password_hash.specs.Refusal.{SaltInvalid, Version, OutOfMemory, PasswordInvalid}
+use Rattle.password_hash.specs.Refusal.{KeyTooShort, SaltInvalid, TooCostly, Version, OutOfMemory, PasswordInvalid}
 use Rattle.scrypt.specs.Accepted.{IsOutputLen}
 use Rattle.scrypt.specs.Reading.{Stored, verdict}
 use Rattle.scrypt.specs.StoredHash.{StoredText}
@@ -18,8 +18,10 @@ refusal_status (ParamInvalid name) = pos 8
 refusal_status ParamsInvalid = pos 9
 refusal_status SaltInvalid = pos 10
 refusal_status Version = pos 11
+refusal_status TooCostly = pos 13
+refusal_status KeyTooShort = pos 15
 
--- the status of a result: of reading parameters, or of verifying
+-- the status of a result: of reading a hash, also within limits, or of verifying
 abbrev pub result_status : {A : Type 0} → Result A Refusal → ℤ
 result_status (Ok x) = pos 0
 result_status (Err why) = refusal_status why

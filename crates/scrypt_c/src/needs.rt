@@ -2,14 +2,15 @@
 
 ghost use Rattle.std.specs.Prelude.{◌≡◌, ◌≢◌, IfOk};
 ghost use Rattle.scrypt.specs.StoredHash.{StoredText};
-ghost use Rattle.scrypt.specs.WithinLimits.{bounded_refusal, within};
+ghost use Rattle.scrypt.specs.WithinLimits.{within};
 ghost use Rattle.scrypt_c.specs.Buffers.{AreBuffers, AreUsable};
-ghost use Rattle.scrypt_c.specs.Limits.{IsNeedStatus, bounded_status, limits_of, needs_status};
+ghost use Rattle.scrypt_c.specs.Limits.{IsNeedStatus, limits_of};
+ghost use Rattle.scrypt_c.specs.Statuses.{result_status};
 ghost use Rattle.scrypt_c.specs.Texts.{ReadsBytes};
 
-use crate::statuses::{INVALID_PARAMS, KEY_TOO_SHORT, OK, TOO_COSTLY, status_of};
+use crate::statuses::{INVALID_PARAMS, OK, TOO_COSTLY, status_of};
 use crate::texts::stored_hash;
-use scrypt::{BoundedError, BufferLens, Limits, Params};
+use scrypt::{BufferLens, Limits, Params};
 
 /// Returns in `chunks_len` (bytes), `table_len` and `scratch_len` (words) the lengths of the buffers that verifying
 /// with this text needs. Does not allocate.
@@ -29,7 +30,7 @@ pub extern "C" fn scrypt_hash_needs(
     scratch_len: &mut usize,
 ) -> i32
     ensures status { (hash : StoredText) × ReadsBytes text.now hash
-        × (result ≡ needs_status (within (limits_of most_bytes most_work least_key_len) hash.whole)) }
+        × (result ≡ result_status (within (limits_of most_bytes most_work least_key_len) hash.whole)) }
     ensures lens { (hash : StoredText) × ReadsBytes text.now hash
         × IfOk (within (limits_of most_bytes most_work least_key_len) hash.whole)
         (λ s. AreBuffers s.params.log_n s.params.r s.params.p 0 chunks_len.new table_len.new scratch_len.new) }
@@ -52,7 +53,7 @@ pub extern "C" fn scrypt_hash_needs(
             *scratch_len = lens.scratch;
             OK
         }
-        Err(error) => bounded_status(error),
+        Err(error) => status_of(error),
     }
 }
 
@@ -139,15 +140,4 @@ pub extern "C" fn scrypt_params_can_use(
         *scratch_len = two.scratch;
     }
     OK
-}
-
-// Returns the status of an error of verifying within limits.
-fn bounded_status(error: BoundedError) -> i32
-    ensures { result ≡ bounded_status (bounded_refusal error) }
-{
-    match error {
-        BoundedError::TooCostly => TOO_COSTLY,
-        BoundedError::KeyTooShort => KEY_TOO_SHORT,
-        BoundedError::Hash(error) => status_of(error),
-    }
 }

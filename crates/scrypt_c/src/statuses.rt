@@ -79,5 +79,7 @@ pub(crate) fn status_of(error: Error) -> i32
         Error::ParamsInvalid => HASH_PARAMS_INVALID,
         Error::SaltInvalid => SALT_INVALID,
         Error::Version => VERSION,
+        Error::TooCostly => TOO_COSTLY,
+        Error::KeyTooShort => KEY_TOO_SHORT,
     }
 }

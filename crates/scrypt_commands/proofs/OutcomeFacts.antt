@@ -19,8 +19,8 @@ use Rattle.scrypt_commands.specs.Outcome.{new_outcome, rehash_outcome, verdict_o
 use Rattle.scrypt_commands.specs.Outcome.{HasOutcomeOf}
 use Rattle.scrypt_commands.specs.declared.bounds.Bounds.{Bounds}
 use Rattle.scrypt_commands.specs.declared.command.Command.{Command}
-use Rattle.scrypt_commands.specs.Outcome.{excess, outcome_within, OnInput, Outcome, OutcomeIs, is_salt_len, new_hash, phc_text, refusal_of}
-use Rattle.scrypt_commands.specs.Steps.{Answers, command_outcome, answer_line, answer_status, right_of, right_within, wrong_or_error}
+use Rattle.scrypt_commands.specs.Outcome.{bounded, OnInput, Outcome, OutcomeIs, is_salt_len, new_hash, phc_text, refusal_of}
+use Rattle.scrypt_commands.specs.Steps.{Answers, command_outcome, answer_line, answer_status, right_of, wrong_or_error}
 use Rattle.scrypt_commands.specs.Steps.{Ends, FailsWith, IsCommandFor}
 use Rattle.scrypt_commands.specs.Steps.{no_input, no_memory, no_output, refused}
 use Rattle.scrypt_commands.specs.declared.answer.Answer.{Answer}
@@ -130,19 +130,10 @@ verdict_answers (Err why) right is = no_error (error_of why) is
     no_error None is = let same : false ≡ right = cc in rw (← same) refl
     no_error (Some error) is = absurd cc
 
--- within bounds
-
--- a hash that cannot be read asks for nothing
-pub unread_within : (limits : Option Limits) (why : Refusal) (outcome : Outcome)
-    → outcome_within (excess limits (Err why)) outcome ≡ outcome
-unread_within None why outcome = refl
-unread_within (Some limits) why outcome = refl
-
--- a hash that was verified does not ask for too much
-pub verified : (error : Option CliError) (right : Result Bool CliError) (is_right : Bool)
-    → right_within error right ≡ Ok is_right → (error ≡ None) × (right ≡ Ok is_right)
-verified None right is_right is = (refl, is)
-verified (Some error) right is_right is = absurd cc
+-- limits change no error of reading a hash
+pub unread_bounded : (limits : Option Limits) (why : Refusal) → bounded limits (Err why) ≡ Err why
+unread_bounded None why = refl
+unread_bounded (Some limits) why = refl
 
 -- by a new hash that is due
 pub due_answers : (verdict : Result ⊤ Refusal) (weaker : Result Bool Refusal) (new : Result (List ℕ) CliError)
@@ -164,10 +155,10 @@ kept_answers (Ok met) weaker new right is (inr kept) = rw kept (verdict_answers 
 kept_answers (Err why) weaker new right is due = verdict_answers (Err why) right is
 
 -- what `rehash` asks for
-pub ruleset rehashed = (unread_within, rehash_asked, rehash_refused)
+pub ruleset rehashed = (rehash_asked, rehash_refused, unread_bounded)
 
 -- carrying out a command
-pub ruleset answers = (due_answers, kept_answers, made_answers, verified)
+pub ruleset answers = (due_answers, kept_answers, made_answers)
 
 -- the ends of a run
 pub ruleset endings = (refused_args, unread_input, refused_input, has_outcome)

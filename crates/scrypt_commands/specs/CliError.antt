@@ -53,3 +53,5 @@ error_of refusals.PasswordInvalid = None
 error_of refusals.SaltInvalid = Some SaltInvalid
 error_of refusals.Version = Some Version
 error_of refusals.OutOfMemory = Some OutOfMemory
+error_of refusals.TooCostly = Some TooCostly
+error_of refusals.KeyTooShort = Some KeyTooShort

@@ -14,8 +14,7 @@ use Rattle.scrypt.specs.PhcParams.{written_pairs}
 use Rattle.scrypt.specs.Reading.{Stored, verdict, weaker}
 use Rattle.scrypt.specs.declared.limits.Limits.{Limits}
 use Rattle.scrypt.specs.StoredHash.{ByReading}
-use Rattle.scrypt.specs.WithinLimits.{BoundedRefusal, within}
-use Rattle.scrypt.specs.WithinLimits as bounded
+use Rattle.scrypt.specs.WithinLimits.{within}
 use Rattle.scrypt_commands.specs.Bounds.{bounds_of, command_of, rehash_limits, verify_limits}
 use Rattle.scrypt_commands.specs.Command.{Request, ToMake, ToRehash, ToVerify, request_of}
 use Rattle.scrypt_commands.specs.CliError.{error_line, error_of, status_of}
@@ -25,7 +24,7 @@ use Rattle.scrypt_commands.specs.declared.args.Format.TheVariants.{Phc, Mcf}
 use Rattle.scrypt_commands.specs.declared.args.Target.{Target}
 use Rattle.scrypt_commands.specs.declared.args.Target.TheVariants.{Key, Hash}
 use Rattle.scrypt_commands.specs.declared.error.CliError.{CliError}
-use Rattle.scrypt_commands.specs.declared.error.CliError.TheVariants.{KeyTooShort, SaltInvalid, TooCostly}
+use Rattle.scrypt_commands.specs.declared.error.CliError.TheVariants.{SaltInvalid}
 
 -- the status, the line for the output and the line for the errors
 pub record Outcome : Type 0 where
@@ -93,32 +92,20 @@ rehash_outcome (Ok right) (Ok is_weaker) new = if is_weaker then new_outcome new
 rehash_outcome (Ok right) (Err why) new = verdict_outcome (Ok right)
 rehash_outcome (Err why) is_weaker new = verdict_outcome (Err why)
 
--- the error of a hash that asks for more than limits allow, by what is read within them
-abbrev pub limit_error : {A : Type 0} → Result A BoundedRefusal → Option CliError
-limit_error (Ok s) = None
-limit_error (Err (bounded.Hash why)) = None
-limit_error (Err bounded.TooCostly) = Some TooCostly
-limit_error (Err bounded.KeyTooShort) = Some KeyTooShort
-
--- the same, if there are limits
-abbrev pub excess : Option Limits → Result Stored Refusal → Option CliError
-excess None reading = None
-excess (Some limits) reading = limit_error (within limits reading)
-
--- the outcome of a command on a hash, unless it asks for too much
-abbrev pub outcome_within : Option CliError → Outcome → Outcome
-outcome_within None outcome = outcome
-outcome_within (Some error) outcome = refusal_of error
+-- the reading of a hash, within limits if there are any
+abbrev pub bounded : Option Limits → Result Stored Refusal → Result Stored Refusal
+bounded None reading = reading
+bounded (Some limits) reading = within limits reading
 
 -- the outcome on this input of a request within bounds, or of the error that arguments are refused with
 abbrev pub HasOutcomeOf : Option Bounds → Result Request CliError → List ℕ → Outcome → Type 0
 HasOutcomeOf bounds (Ok (ToMake target params salt)) input outcome =
     outcome ≡ new_outcome (new_text target params input salt)
 HasOutcomeOf bounds (Ok (ToVerify text)) input outcome = ByReading text (λ reading.
-    outcome ≡ outcome_within (excess (option_map verify_limits bounds) reading) (verdict_outcome (verdict input reading)))
+    outcome ≡ verdict_outcome (verdict input (bounded (option_map verify_limits bounds) reading)))
 HasOutcomeOf bounds (Ok (ToRehash format wanted salt text)) input outcome = ByReading text (λ reading.
-    outcome ≡ outcome_within (excess (option_map (λ b. rehash_limits b wanted) bounds) reading)
-    (rehash_outcome (verdict input reading) (weaker wanted reading) (new_hash format wanted input salt)))
+    outcome ≡ rehash_outcome (verdict input (bounded (option_map (λ b. rehash_limits b wanted) bounds) reading))
+    (weaker wanted reading) (new_hash format wanted input salt))
 HasOutcomeOf bounds (Err error) input outcome = outcome ≡ refusal_of error
 
 -- the outcome for these arguments and this input, if memory is available and neither the input nor the output fails

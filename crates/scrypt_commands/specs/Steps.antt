@@ -12,7 +12,7 @@ use Rattle.scrypt_commands.specs.Bounds.{rehash_limits, verify_limits}
 use Rattle.scrypt_commands.specs.CliError.{error_of, status_of}
 use Rattle.scrypt_commands.specs.Command.{AreRefused, IsRefused, Request, has_allowed_len, requested_len}
 use Rattle.scrypt_commands.specs.Outcome.{HasOutcome, HasOutcomeOf, OnInput, Outcome, answer_of, new_hash, new_outcome}
-use Rattle.scrypt_commands.specs.Outcome.{excess, new_text, outcome_within, refusal_of, rehash_outcome, verdict_outcome}
+use Rattle.scrypt_commands.specs.Outcome.{bounded, new_text, refusal_of, rehash_outcome, verdict_outcome}
 use Rattle.scrypt_commands.specs.declared.answer.Answer.{Answer}
 use Rattle.scrypt_commands.specs.declared.answer.Answer.TheVariants.{Verdict, Made}
 use Rattle.scrypt_commands.specs.declared.args.Args.{Args}
@@ -60,11 +60,6 @@ abbrev pub right_of : Result ⊤ Refusal → Result Bool CliError
 right_of (Ok right) = Ok true
 right_of (Err why) = wrong_or_error (error_of why)
 
--- the same, unless the hash asks for too much
-abbrev pub right_within : Option CliError → Result Bool CliError → Result Bool CliError
-right_within None right = right
-right_within (Some error) right = Err error
-
 -- the length of the key that a command is to make is allowed
 abbrev pub IsPossible : Command → Type 0
 IsPossible (Make target params salt) = IsTrue (has_allowed_len target)
@@ -75,10 +70,10 @@ IsPossible (Rehash format params salt hash) = ⊤
 abbrev pub command_outcome : Option Bounds → Command → List ℕ → Outcome
 command_outcome bounds (Make target params salt) input = new_outcome (new_text target params input salt.items)
 command_outcome bounds (Verify hash) input =
-    outcome_within (excess (option_map verify_limits bounds) hash.whole) (verdict_outcome (verdict input hash.whole))
+    verdict_outcome (verdict input (bounded (option_map verify_limits bounds) hash.whole))
 command_outcome bounds (Rehash format params salt hash) input =
-    outcome_within (excess (option_map (λ b. rehash_limits b params) bounds) hash.whole)
-    (rehash_outcome (verdict input hash.whole) (weaker params hash.whole) (new_hash format params input salt.items))
+    rehash_outcome (verdict input (bounded (option_map (λ b. rehash_limits b params) bounds) hash.whole))
+    (weaker params hash.whole) (new_hash format params input salt.items)
 
 -- the status of an answer
 abbrev pub answer_status : Answer → ℕ

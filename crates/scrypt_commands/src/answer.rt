@@ -1,12 +1,13 @@
 // The answer to a command.
 
 ghost use Rattle.std.specs.Prelude.{◌≡◌, ◌++◌, IfOk, IfErr, IsOk, IsTrue, Ok, codes, option_map, string_bytes};
+ghost use Rattle.password_hash.specs.Refusal.{refusal};
 ghost use Rattle.scrypt.specs.Accepted.{IsOutputLen};
 ghost use Rattle.scrypt.specs.Reading.{verdict, weaker};
 ghost use Rattle.scrypt_commands.specs.Bounds.{rehash_limits, verify_limits};
 ghost use Rattle.scrypt_commands.specs.Command.{has_allowed_len};
-ghost use Rattle.scrypt_commands.specs.Outcome.{IsAnswer, excess, new_hash, new_text};
-ghost use Rattle.scrypt_commands.specs.Steps.{Answers, Gives, IsPossible, answer_line, answer_status, command_outcome, right_of, right_within};
+ghost use Rattle.scrypt_commands.specs.Outcome.{IsAnswer, bounded, new_hash, new_text};
+ghost use Rattle.scrypt_commands.specs.Steps.{Answers, Gives, IsPossible, answer_line, answer_status, command_outcome, right_of};
 ghost use Rattle.scrypt_commands.specs.declared.args.Target.TheVariants.{Key};
 ghost use Rattle.scrypt_commands.specs.declared.error.CliError.TheVariants.{OutOfMemory};
 
@@ -16,7 +17,7 @@ use crate::command::Command;
 use crate::error::CliError;
 use password_hash::{PasswordHasher, mcf, phc};
 use scrypt::laws::{hashers_are_accepted, made_hashes_are_accepted, texts_have_one_reading};
-use scrypt::{BoundedError, Limits, Params, Scrypt, StoredHash, scrypt};
+use scrypt::{Limits, Params, Scrypt, StoredHash, scrypt};
 use std::alloc::Global;
 
 /// The answer to a command.
@@ -112,15 +113,17 @@ fn rehash_limits(bounds: Option<Bounds>, wanted: &Params) -> Option<Limits>
     Some(bounds?.for_rehashing(wanted))
 }
 
-// Returns the error of a hash that exceeds the limits, if there are any. A hash that cannot be read
-// is left to verifying.
-fn excess(hash: &StoredHash<'_>, limits: Option<Limits>) -> Option<CliError>
-    ensures { result ≡ excess limits hash.now.whole }
+// Returns the error of a hash that cannot be read, or exceeds the limits, if there are limits.
+fn check(hash: &StoredHash<'_>, limits: Option<Limits>) -> password_hash::Result<()>
+    ensures same { IsOk result → bounded limits hash.now.whole ≡ hash.now.whole }
+    ensures err { IfErr result (λ e. bounded limits hash.now.whole ≡ Err (refusal e)) }
 {
-    match hash.buffer_lens_within(&limits?) {
-        Err(BoundedError::TooCostly) => Some(CliError::TooCostly),
-        Err(BoundedError::KeyTooShort) => Some(CliError::KeyTooShort),
-        Ok(_) | Err(BoundedError::Hash(_)) => None,
+    let Some(limits) = limits else {
+        return Ok(());
+    };
+    match hash.buffer_lens_within(&limits) {
+        Ok(_) => Ok(()),
+        Err(error) => Err(error),
     }
 }
 
@@ -132,12 +135,13 @@ fn verify(
     limits: Option<Limits>,
 ) -> Result<bool, CliError>
     ensures { Gives (λ right. right)
-        (right_within (excess limits hash.now.whole) (right_of (verdict password.now hash.now.whole))) result }
+        (right_of (verdict password.now (bounded limits hash.now.whole))) result }
 {
-    if let Some(error) = excess(hash, limits) {
-        return Err(error);
-    }
-    match hash.verify(alloc, password) {
+    let verified = match check(hash, limits) {
+        Ok(()) => hash.verify(alloc, password),
+        refused => refused,
+    };
+    match verified {
         Ok(()) => Ok(true),
         Err(refused) => match CliError::of(refused) {
             Some(error) => Err(error),

@@ -127,7 +127,7 @@ fn has_allowed_len(target: Target) -> bool
 }
 
 // Returns the command that verifies against the hash of this text.
-#[tactic(auto, using(crate::proofs::OutcomeFacts::unread_within), unfolding(crate::specs::Command::command_request))]
+#[tactic(auto, using(crate::proofs::OutcomeFacts::unread_bounded), unfolding(crate::specs::Command::command_request))]
 fn verify_command<'a>(text: &'a str) -> Result<Command<'a>, CliError>
     ensures { IsCommandFor (command_request (VerifyArgs text.now)) result }
 {

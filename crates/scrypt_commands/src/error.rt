@@ -67,6 +67,8 @@ impl CliError {
             Error::SaltInvalid => CliError::SaltInvalid,
             Error::Version => CliError::Version,
             Error::OutOfMemory => CliError::OutOfMemory,
+            Error::TooCostly => CliError::TooCostly,
+            Error::KeyTooShort => CliError::KeyTooShort,
             Error::PasswordInvalid => return None,
         })
     }

@@ -2,13 +2,13 @@
 use Rattle.std.proofs.Common.{◌≡◌, ◌+◌, ◌*◌, ◌≤◌, ℕ, Ok, Err, refl, arith, true, false}
 use Rattle.std.specs.Prelude.{◌&&◌, Bool, Result, MatchBool, if◌then◌else◌, nat_le, length}
 use Rattle.std.proofs.lemmas.Bool.Decides.{nat_tests}
-use Rattle.password_hash.specs.Refusal.{Refusal}
+use Rattle.password_hash.specs.Refusal.{Refusal, KeyTooShort, TooCostly}
 use Rattle.scrypt.specs.Accepted.{Parameters}
 use Rattle.scrypt.specs.Cost.{cost}
 use Rattle.scrypt.specs.Limits.{are_within}
 use Rattle.scrypt.specs.Reading.{Stored}
-use Rattle.scrypt.specs.WithinLimits.{BoundedRefusal, IsLeftWithin, KeyTooShort, TooCostly, within}
-use Rattle.scrypt.specs.WorkInBuffers.{IsDone, Work, has_room}
+use Rattle.scrypt.specs.WithinLimits.{within}
+use Rattle.scrypt.specs.WorkInBuffers.{IsDone, IsLeft, Work, has_room}
 use Rattle.scrypt.specs.declared.limits.Limits.{Limits}
 
 second_fits : (first : Bool) (m n more : ℕ) → (first && nat_le (m + more) n) ≡ true → m ≤ n
@@ -28,8 +28,8 @@ within_fits limits (Ok read) s is =
     at (are_within limits read.params) (nat_le limits.least_key_len (length read.key)) (cores_fit limits read.params) is
   where
     at : (cheap long : Bool) → (cheap ≡ true → cost read.params.log_n read.params.r read.params.p ≤ limits.most_work)
-        → if◌then◌else◌ {A = Result Stored BoundedRefusal} cheap
-        (if◌then◌else◌ {A = Result Stored BoundedRefusal} long (Ok read) (Err KeyTooShort)) (Err TooCostly) ≡ Ok s
+        → if◌then◌else◌ {A = Result Stored Refusal} cheap
+        (if◌then◌else◌ {A = Result Stored Refusal} long (Ok read) (Err KeyTooShort)) (Err TooCostly) ≡ Ok s
         → cost s.params.log_n s.params.r s.params.p ≤ limits.most_work
     at true true fits is = let same : s ≡ read = cc in rw same (fits refl)
     at true false fits is = absurd cc
@@ -37,7 +37,7 @@ within_fits limits (Ok read) s is =
 
 -- verifying within limits runs no more cores than these allow
 pub bounded : (limits : Limits) (reading : Result Stored Refusal) (before after : Work)
-    → IsLeftWithin (within limits reading) before after → after.cores.all ≤ before.cores.all + limits.most_work
+    → IsLeft (within limits reading) before after → after.cores.all ≤ before.cores.all + limits.most_work
 bounded limits reading before after left = at (within limits reading) refl left
   where
     in_room : (s : Stored) (room : Bool) → cost s.params.log_n s.params.r s.params.p ≤ limits.most_work
@@ -45,7 +45,7 @@ bounded limits reading before after left = at (within limits reading) refl left
     in_room s true fits done = omega (arith, done.counted)
     in_room s false fits same = rw same (omega arith)
 
-    at : (bound : Result Stored BoundedRefusal) → within limits reading ≡ bound → IsLeftWithin bound before after
+    at : (bound : Result Stored Refusal) → within limits reading ≡ bound → IsLeft bound before after
         → after.cores.all ≤ before.cores.all + limits.most_work
     at (Ok s) is left = in_room s (has_room s.params before) (within_fits limits reading s is) left
     at (Err why) is left = rw left (omega arith)

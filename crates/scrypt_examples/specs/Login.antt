@@ -5,7 +5,6 @@ use Rattle.scrypt.specs.Accepted.{AreAccepted, Parameters}
 use Rattle.scrypt.specs.PhcHash.{IsMadeText}
 use Rattle.scrypt.specs.Reading.{verdict, weaker}
 use Rattle.scrypt.specs.StoredHash.{ByReading}
-use Rattle.scrypt.specs.WithinLimits.{BoundedRefusal, Hash}
 use Rattle.scrypt_examples.specs.declared.login.Login.{Login}
 use Rattle.scrypt_examples.specs.declared.login.Login.TheVariants.{In, InWithNewText, Refused}
 
@@ -39,9 +38,3 @@ abbrev pub let_in : Result ⊤ Refusal → Result Bool Refusal
 let_in (Ok u) = Ok true
 let_in (Err PasswordInvalid) = Ok false
 let_in (Err why) = Err why
-
--- the same within limits
-abbrev pub let_in_within : Result ⊤ BoundedRefusal → Result Bool BoundedRefusal
-let_in_within (Ok u) = Ok true
-let_in_within (Err (Hash PasswordInvalid)) = Ok false
-let_in_within (Err why) = Err why

@@ -4,15 +4,15 @@ ghost use Rattle.std.specs.Prelude.{◌≡◌, true, false, IfSome, None, Ok};
 ghost use Rattle.scrypt.specs.Reading.{Stored, told};
 ghost use Rattle.scrypt.specs.StoredParts.{HasParts};
 ghost use Rattle.scrypt.specs.TwoVerdicts.{AreDone, AreLeft, hold_two};
-ghost use Rattle.scrypt.specs.WithinLimits.{IsLeftWithin, told_within, verdict_within, within};
+ghost use Rattle.scrypt.specs.WithinLimits.{within};
 ghost use Rattle.scrypt.specs.WorkInBuffers.{IsLeft, verdict_in, work_in};
 
 use super::StoredHash;
 use super::parts::Parts;
-use super::within::without_limits;
 use crate::buffers::hold_two;
 use crate::verifying::two::verify_at_once;
-use crate::{BoundedError, CoreCount, Limits};
+use crate::{CoreCount, Limits};
+use password_hash::Result;
 
 impl<'a> StoredHash<'a> {
     /// Verifies a password with this hash and another one with `other`, each as
@@ -34,7 +34,7 @@ impl<'a> StoredHash<'a> {
         table: &mut [u32],
         scratch: &mut [u32],
         cores: &mut CoreCount,
-    ) -> (password_hash::Result<()>, password_hash::Result<()>)
+    ) -> (Result<()>, Result<()>)
         ensures verdict { told result.0
             ≡ verdict_in (work_in chunks.old table.old scratch.old cores.old) password.now self.now.whole }
         ensures other_verdict { told result.1
@@ -102,12 +102,12 @@ impl<'a> StoredHash<'a> {
         table: &mut [u32],
         scratch: &mut [u32],
         cores: &mut CoreCount,
-    ) -> (Result<(), BoundedError>, Result<(), BoundedError>)
-        ensures verdict { told_within result.0 ≡ verdict_within (work_in chunks.old table.old scratch.old cores.old)
+    ) -> (Result<()>, Result<()>)
+        ensures verdict { told result.0 ≡ verdict_in (work_in chunks.old table.old scratch.old cores.old)
             password.now (within limits.now self.now.whole) }
-        ensures other_verdict { told_within result.1 ≡ verdict_within (work_in chunks.old table.old scratch.old cores.old)
+        ensures other_verdict { told result.1 ≡ verdict_in (work_in chunks.old table.old scratch.old cores.old)
             other_password.now (within limits.now other.now.whole) }
-        ensures left { AreLeft IsLeftWithin AreDone (within limits.now self.now.whole) (within limits.now other.now.whole)
+        ensures left { AreLeft IsLeft AreDone (within limits.now self.now.whole) (within limits.now other.now.whole)
             (work_in chunks.old table.old scratch.old cores.old) (work_in chunks.new table.new scratch.new cores.new) }
     {
         if !self.is_within(limits) || !other.is_within(limits) {
@@ -116,7 +116,7 @@ impl<'a> StoredHash<'a> {
                 other.verify_within(other_password, limits, chunks, table, scratch, cores),
             );
         }
-        let (result, other_result) = self.verify_two(
+        self.verify_two(
             password,
             other,
             other_password,
@@ -124,7 +124,6 @@ impl<'a> StoredHash<'a> {
             table,
             scratch,
             cores,
-        );
-        (without_limits(result), without_limits(other_result))
+        )
     }
 }

@@ -7,7 +7,7 @@ returns-in-Ok-verify_within-clause-bounded c =
     let before = work_in c.args.chunks.now c.args.table.now c.args.scratch.now c.args.cores.now in
     bounded c.args.limits.now c.in-Ok.hash.whole before _ c.verify_within.ensures.left
 
-pub returns-in-Err-Hash-PasswordInvalid-clause-bounded : goal.returns-in-Err-Hash-PasswordInvalid-clause-bounded
-returns-in-Err-Hash-PasswordInvalid-clause-bounded c =
+pub returns-in-Err-PasswordInvalid-clause-bounded : goal.returns-in-Err-PasswordInvalid-clause-bounded
+returns-in-Err-PasswordInvalid-clause-bounded c =
     let before = work_in c.args.chunks.now c.args.table.now c.args.scratch.now c.args.cores.now in
     bounded c.args.limits.now c.in-Ok.hash.whole before _ c.verify_within.ensures.left

@@ -1,21 +1,23 @@
 use Rattle.std.proofs.Common.{◌≡◌, ◌∙◌, Ok, false, refl}
 use Rattle.scrypt.specs.Reading.{Stored}
 use Rattle.scrypt.specs.TwoVerdicts.{hold_two}
-use Rattle.scrypt.specs.WithinLimits.{IsLeftWithin, within}
-use Rattle.scrypt.specs.WorkInBuffers.{work_in}
-use Rattle.scrypt.proofs.ReadingFacts.{same_verdict_within}
-use Rattle.scrypt.proofs.TwoVerdictsFacts.{left_in_turn, left_within}
+use Rattle.scrypt.specs.WithinLimits.{within}
+use Rattle.scrypt.specs.WorkInBuffers.{IsLeft, work_in}
+use Rattle.scrypt.proofs.ReadingFacts.{same_verdict}
+use Rattle.scrypt.proofs.TwoVerdictsFacts.{left_in_turn}
 use Rattle.scrypt.proofs.stored_hash.StoredHash.verify_two_within.Goals as goal
 use Rattle.scrypt.proofs.stored_hash.StoredHash.verify_two_within.Goals.{then-not-is_within-via-then-not-is_within}
 use Rattle.scrypt.proofs.stored_hash.StoredHash.verify_two_within.Goals.{then-not-is_within-via-else-not-is_within+then-not-is_within-2}
 
-pub returns-clause-left : goal.returns-clause-left
-returns-clause-left c =
-    let read = c.is_within.ensures.read c.if-not-is_within.false in
-    let other_read = c.is_within-else-not-is_within.ensures.read c.if-not-is_within-2.false in
-    let before = work_in c.args.chunks.now c.args.table.now c.args.scratch.now c.args.cores.now in
-    left_within c.args.limits.now before _ c.args.self.now.whole c.args.other.now.whole read.0 other_read.0 read.1 other_read.1
-    read.2 other_read.2 c.verify_two.ensures.left
+pub returns : goal.returns
+returns c =
+    let same = c.is_within.ensures.same c.if-not-is_within.false in
+    let other_same = c.is_within-else-not-is_within.ensures.same c.if-not-is_within-2.false in
+    rw (same, other_same) (record {
+      verdict = c.verify_two.ensures.verdict;
+      other_verdict = c.verify_two.ensures.other_verdict;
+      left = c.verify_two.ensures.left;
+    })
 
 pub returns-then-not-is_within : goal.returns-then-not-is_within
 returns-then-not-is_within c =
@@ -36,6 +38,6 @@ returns-then-not-is_within c =
     record {
       verdict = first.ensures.verdict;
       other_verdict = second.ensures.verdict
-          ∙ same_verdict_within between before first.auto.chunks first.auto.table first.auto.scratch c.args.other_password.now other;
-      left = left_in_turn IsLeftWithin before _ _ _ apart (between, first.ensures.left, second.ensures.left);
+          ∙ same_verdict between before first.auto.chunks first.auto.table first.auto.scratch c.args.other_password.now other;
+      left = left_in_turn IsLeft before _ _ _ apart (between, first.ensures.left, second.ensures.left);
     }

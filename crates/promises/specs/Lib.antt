@@ -1,2 +1,0 @@
--- the verdict on a text within limits, in memory that is allocated
-pub mod Within
