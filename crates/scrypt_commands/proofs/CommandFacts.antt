@@ -9,12 +9,11 @@ use Rattle.scrypt.specs.Accepted.{AreAccepted, IsOutputLen, IsStoredLen, Paramet
 use Rattle.scrypt_commands.specs.Args.{MakeArgs, RehashArgs}
 use Rattle.scrypt_commands.specs.CliError.{status_of}
 use Rattle.scrypt_commands.specs.Command.{Request, ToMake, ToRehash, are_params_accepted, command_request}
-use Rattle.scrypt_commands.specs.Command.{has_allowed_len, is_stored_len, params_of, requested_len, salt_and_params}
+use Rattle.scrypt_commands.specs.Command.{has_allowed_len, is_stored_len, params_of, salt_and_params}
 use Rattle.scrypt_commands.specs.Command.{salt_of}
 use Rattle.scrypt_commands.specs.Steps.{AreParamsAccepted, FailsWith, IsCommandFor}
 use Rattle.scrypt_commands.specs.declared.args.Format.{Format}
 use Rattle.scrypt_commands.specs.declared.args.Target.{Target}
-use Rattle.scrypt_commands.specs.declared.args.Target.TheVariants.{Hash}
 use Rattle.scrypt_commands.specs.declared.args.UncheckedParams.{UncheckedParams}
 use Rattle.scrypt_commands.specs.declared.error.CliError.{CliError}
 use Rattle.scrypt_commands.specs.declared.error.CliError.TheVariants.{InvalidOutputLen, InvalidParams}
@@ -42,10 +41,9 @@ accepted_decided log_n r p =
     (Decides-and _ _ (Decides-and _ _ (Decides-ltb 0 r) (Decides-ltb 0 p))
     (Decides-and _ _ (Decides-ltb (128 * r * 2 ^ log_n) (2 ^ 64)) (Decides-ltb (r * p) (2 ^ 30))))
 
-params_decided : (target : Target) (unchecked : UncheckedParams)
-    → Decides (are_params_accepted target unchecked) (AreParamsAccepted target unchecked)
-params_decided target unchecked =
-    Decides-and _ _ (accepted_decided unchecked.log_n unchecked.r unchecked.p) (stored_len_decided (requested_len target))
+params_decided : (unchecked : UncheckedParams) → Decides (are_params_accepted unchecked) (AreParamsAccepted unchecked)
+params_decided unchecked =
+    Decides-and _ _ (accepted_decided unchecked.log_n unchecked.r unchecked.p) (stored_len_decided unchecked.key_len)
 
 -- what a test that fails decides does not hold
 pub fails : {P : Type 0} (test : Bool) → Decides test P → ¬ P → test ≡ false
@@ -54,23 +52,23 @@ fails false tells none = refl
 
 -- the salt and the parameters, by what was read of them
 
-pub salt_failed : (target : Target) (unchecked : UncheckedParams) (salt_hex : List ℕ) (error : CliError)
+pub salt_failed : (unchecked : UncheckedParams) (salt_hex : List ℕ) (error : CliError)
     → FailsWith (λ error. salt_of (decode_of salt_hex) ≡ Err error) error
-    → FailsWith (λ error. salt_and_params target unchecked salt_hex ≡ Err error) error
+    → FailsWith (λ error. salt_and_params unchecked salt_hex ≡ Err error) error
 unfolding salt_and_params
-salt_failed target unchecked salt_hex error (inl h) = inl h
-salt_failed target unchecked salt_hex error (inr h) = inr (h.0, rw h.1 refl)
+salt_failed unchecked salt_hex error (inl h) = inl h
+salt_failed unchecked salt_hex error (inr h) = inr (h.0, rw h.1 refl)
 
-pub params_failed : (target : Target) (unchecked : UncheckedParams) (salt_hex salt : List ℕ) → salt_of (decode_of salt_hex) ≡ Ok salt
-    → ¬ AreParamsAccepted target unchecked → salt_and_params target unchecked salt_hex ≡ Err InvalidParams
+pub params_failed : (unchecked : UncheckedParams) (salt_hex salt : List ℕ) → salt_of (decode_of salt_hex) ≡ Ok salt
+    → ¬ AreParamsAccepted unchecked → salt_and_params unchecked salt_hex ≡ Err InvalidParams
 unfolding salt_and_params
-params_failed target unchecked salt_hex salt is none = rw (is, fails _ (params_decided target unchecked) none) refl
+params_failed unchecked salt_hex salt is none = rw (is, fails _ (params_decided unchecked) none) refl
 
-pub both_read : (target : Target) (unchecked : UncheckedParams) (salt_hex salt : List ℕ) (params : Parameters)
-    → salt_of (decode_of salt_hex) ≡ Ok salt → AreParamsAccepted target unchecked → params ≡ params_of target unchecked
-    → salt_and_params target unchecked salt_hex ≡ Ok (salt, params)
+pub both_read : (unchecked : UncheckedParams) (salt_hex salt : List ℕ) (params : Parameters)
+    → salt_of (decode_of salt_hex) ≡ Ok salt → AreParamsAccepted unchecked → params ≡ params_of unchecked
+    → salt_and_params unchecked salt_hex ≡ Ok (salt, params)
 unfolding salt_and_params
-both_read target unchecked salt_hex salt params is accepted are = rw (is, (params_decided target unchecked).1 accepted, are) refl
+both_read unchecked salt_hex salt params is accepted are = rw (is, (params_decided unchecked).1 accepted, are) refl
 
 -- what the arguments of `key` and `hash` ask for
 
@@ -79,38 +77,38 @@ refused_request : (request : Result Request CliError) (error : CliError) → sta
 refused_request request error two is = rw is (inr (two, (tt, λ bounds input. refl)))
 
 pub make_refused : (target : Target) (unchecked : UncheckedParams) (salt_hex : List ℕ) (error : CliError)
-    → FailsWith (λ error. salt_and_params target unchecked salt_hex ≡ Err error) error
+    → FailsWith (λ error. salt_and_params unchecked salt_hex ≡ Err error) error
     → IsCommandFor (command_request (MakeArgs target unchecked salt_hex)) (Err error)
 unfolding command_request
 make_refused target unchecked salt_hex error (inl h) = inl h
 make_refused target unchecked salt_hex error (inr h) = refused_request _ error h.0 (rw h.1 refl)
 
 pub make_too_long : (target : Target) (unchecked : UncheckedParams) (salt_hex salt : List ℕ) (params : Parameters)
-    → salt_and_params target unchecked salt_hex ≡ Ok (salt, params) → has_allowed_len target ≡ false
+    → salt_and_params unchecked salt_hex ≡ Ok (salt, params) → has_allowed_len target ≡ false
     → IsCommandFor (command_request (MakeArgs target unchecked salt_hex)) (Err InvalidOutputLen)
 unfolding command_request
 make_too_long target unchecked salt_hex salt params read long = refused_request _ InvalidOutputLen refl (rw (read, long) refl)
 
 pub make_asked : (target : Target) (unchecked : UncheckedParams) (salt_hex salt : List ℕ) (params : Parameters)
-    → salt_and_params target unchecked salt_hex ≡ Ok (salt, params) → has_allowed_len target ≡ true
+    → salt_and_params unchecked salt_hex ≡ Ok (salt, params) → has_allowed_len target ≡ true
     → command_request (MakeArgs target unchecked salt_hex) ≡ Ok (ToMake target params salt)
 unfolding command_request
 make_asked target unchecked salt_hex salt params read allowed = rw (read, allowed) refl
 
 -- the arguments of `rehash`
 
-pub rehash_refused : (format : Format) (unchecked : UncheckedParams) (len : ℕ) (salt_hex text : List ℕ) (error : CliError)
-    → FailsWith (λ error. salt_and_params (Hash format (Some len)) unchecked salt_hex ≡ Err error) error
-    → IsCommandFor (command_request (RehashArgs format unchecked len salt_hex text)) (Err error)
+pub rehash_refused : (format : Format) (unchecked : UncheckedParams) (salt_hex text : List ℕ) (error : CliError)
+    → FailsWith (λ error. salt_and_params unchecked salt_hex ≡ Err error) error
+    → IsCommandFor (command_request (RehashArgs format unchecked salt_hex text)) (Err error)
 unfolding command_request
-rehash_refused format unchecked len salt_hex text error (inl h) = inl h
-rehash_refused format unchecked len salt_hex text error (inr h) = refused_request _ error h.0 (rw h.1 refl)
+rehash_refused format unchecked salt_hex text error (inl h) = inl h
+rehash_refused format unchecked salt_hex text error (inr h) = refused_request _ error h.0 (rw h.1 refl)
 
-pub rehash_asked : (format : Format) (unchecked : UncheckedParams) (len : ℕ) (salt_hex text salt : List ℕ) (params : Parameters)
-    → salt_and_params (Hash format (Some len)) unchecked salt_hex ≡ Ok (salt, params)
-    → command_request (RehashArgs format unchecked len salt_hex text) ≡ Ok (ToRehash format params salt text)
+pub rehash_asked : (format : Format) (unchecked : UncheckedParams) (salt_hex text salt : List ℕ) (params : Parameters)
+    → salt_and_params unchecked salt_hex ≡ Ok (salt, params)
+    → command_request (RehashArgs format unchecked salt_hex text) ≡ Ok (ToRehash format params salt text)
 unfolding command_request
-rehash_asked format unchecked len salt_hex text salt params read = rw read refl
+rehash_asked format unchecked salt_hex text salt params read = rw read refl
 
 -- what the arguments of `key` and `hash` ask for, and their salt and parameters
 pub ruleset made = (make_asked, make_refused, make_too_long)

@@ -13,7 +13,7 @@ use Rattle.scrypt_commands.specs.declared.args.Target.TheVariants.{Key, Hash}
 pub data CommandArgs : Type 0 where
   MakeArgs : (target : Target) (unchecked : UncheckedParams) (salt_hex : List ℕ) → CommandArgs
   VerifyArgs : (text : List ℕ) → CommandArgs
-  RehashArgs : (format : Format) (unchecked : UncheckedParams) (len : ℕ) (salt_hex text : List ℕ) → CommandArgs
+  RehashArgs : (format : Format) (unchecked : UncheckedParams) (salt_hex text : List ℕ) → CommandArgs
 
 -- the texts of arguments
 abbrev pub texts_of : List (String Global) → List (List ℕ)
@@ -24,64 +24,83 @@ infixl 10 ◌>>=◌
 abbrev pub ◌>>=◌ : {A B : Type 0} → Option A → (A → Option B) → Option B
 o >>= f = option_and_then f o
 
--- LOG_N R P: the first below 2 ^ 8, the others below 2 ^ 32
-unfoldable pub unchecked_params : List ℕ → List ℕ → List ℕ → Option UncheckedParams
-unchecked_params log_n r p = do
+-- the first word, and the words after it
+abbrev pub first_word : List (List ℕ) → Option (List ℕ × List (List ℕ))
+first_word [] = None
+first_word (word ∷ words) = Some (word, words)
+
+-- the only word
+abbrev pub last_word : List (List ℕ) → Option (List ℕ)
+last_word (word ∷ []) = Some word
+last_word words = None
+
+-- LOG_N R P, the first below 2 ^ 8 and the others below 2 ^ 32, and the words after them
+unfoldable pub params_word : List (List ℕ) → Option (UncheckedParams × List (List ℕ))
+params_word words = do
+  (log_n, words) ← first_word words
+  (r, words) ← first_word words
+  (p, words) ← first_word words
   log_n ← decimal_below (2 ^ 8) log_n
   r ← decimal_below (2 ^ 32) r
   p ← decimal_below (2 ^ 32) p
-  Some (record { log_n = log_n; r = r; p = p })
+  Some (record { log_n = log_n; r = r; p = p; key_len = None }, words)
 
--- after `key`: LOG_N R P LEN SALT_HEX, with LEN below 2 ^ 64
+-- LEN, below 2 ^ 64, and the words after it
+unfoldable pub len_word : List (List ℕ) → Option (ℕ × List (List ℕ))
+len_word words = do
+  (len, words) ← first_word words
+  len ← decimal_below (2 ^ 64) len
+  Some (len, words)
+
+-- phc|mcf, and the words after it
+unfoldable pub format_word : List (List ℕ) → Option (Format × List (List ℕ))
+format_word words = do
+  (name, words) ← first_word words
+  if bytes_eq name (codes "phc") then Some (Phc, words)
+      else if bytes_eq name (codes "mcf") then Some (Mcf, words)
+      else None
+
+-- [LEN], and no words after it
+unfoldable pub optional_len : List (List ℕ) → Option (Option ℕ)
+optional_len [] = Some None
+optional_len words = do
+  len ← last_word words
+  len ← decimal_below (2 ^ 64) len
+  Some (Some len)
+
+-- after `key`: LOG_N R P LEN SALT_HEX
 unfoldable pub key_args : List (List ℕ) → Option CommandArgs
-key_args (log_n ∷ r ∷ p ∷ len ∷ salt_hex ∷ []) = do
-  unchecked ← unchecked_params log_n r p
-  len ← decimal_below (2 ^ 64) len
-  Some (MakeArgs (Key len) unchecked salt_hex)
-key_args args = None
+key_args words = do
+  (params, words) ← params_word words
+  (len, words) ← len_word words
+  salt_hex ← last_word words
+  Some (MakeArgs (Key len) params salt_hex)
 
--- phc|mcf
-unfoldable pub format_of : List ℕ → Option Format
-format_of arg =
-    if bytes_eq arg (codes "phc") then Some Phc
-    else if bytes_eq arg (codes "mcf") then Some Mcf
-    else None
-
--- the hash of the format that the first argument names, with a key of this length, if one is named
-unfoldable pub named_hash_args : (format log_n r p salt_hex : List ℕ) → Option ℕ → Option CommandArgs
-named_hash_args format log_n r p salt_hex len = do
-  format ← format_of format
-  unchecked ← unchecked_params log_n r p
-  Some (MakeArgs (Hash format len) unchecked salt_hex)
-
--- after `hash`: phc|mcf LOG_N R P SALT_HEX [LEN], with LEN below 2 ^ 64
+-- after `hash`: phc|mcf LOG_N R P SALT_HEX [LEN]
 unfoldable pub hash_args : List (List ℕ) → Option CommandArgs
-hash_args (format ∷ log_n ∷ r ∷ p ∷ salt_hex ∷ []) = named_hash_args format log_n r p salt_hex None
-hash_args (format ∷ log_n ∷ r ∷ p ∷ salt_hex ∷ len ∷ []) = do
-  len ← decimal_below (2 ^ 64) len
-  named_hash_args format log_n r p salt_hex (Some len)
-hash_args args = None
+hash_args words = do
+  (format, words) ← format_word words
+  (params, words) ← params_word words
+  (salt_hex, words) ← first_word words
+  len ← optional_len words
+  Some (MakeArgs (Hash format) (record params { key_len = len }) salt_hex)
 
--- after `verify`: HASH
-unfoldable pub verify_args : List (List ℕ) → Option CommandArgs
-verify_args (text ∷ []) = Some (VerifyArgs text)
-verify_args args = None
-
--- after `rehash`: phc|mcf LOG_N R P LEN SALT_HEX HASH, with LEN below 2 ^ 64
+-- after `rehash`: phc|mcf LOG_N R P LEN SALT_HEX HASH
 unfoldable pub rehash_args : List (List ℕ) → Option CommandArgs
-rehash_args (format ∷ log_n ∷ r ∷ p ∷ len ∷ salt_hex ∷ text ∷ []) = do
-  format ← format_of format
-  unchecked ← unchecked_params log_n r p
-  len ← decimal_below (2 ^ 64) len
-  Some (RehashArgs format unchecked len salt_hex text)
-rehash_args args = None
+rehash_args words = do
+  (format, words) ← format_word words
+  (params, words) ← params_word words
+  (len, words) ← len_word words
+  (salt_hex, words) ← first_word words
+  text ← last_word words
+  Some (RehashArgs format (record params { key_len = Some len }) salt_hex text)
 
 -- the arguments of a command, after the program's name
 unfoldable pub args_of : List (List ℕ) → Option CommandArgs
-args_of [] = None
-args_of (name ∷ args) =
-    if bytes_eq name (codes "key") then key_args args
-    else if bytes_eq name (codes "hash") then hash_args args
-    else if bytes_eq name (codes "verify") then verify_args args
-    else if bytes_eq name (codes "rehash") then rehash_args args
-    else None
+args_of words = do
+  (name, words) ← first_word words
+  if bytes_eq name (codes "key") then key_args words
+      else if bytes_eq name (codes "hash") then hash_args words
+      else if bytes_eq name (codes "verify") then last_word words >>= (λ text. Some (VerifyArgs text))
+      else if bytes_eq name (codes "rehash") then rehash_args words
+      else None

@@ -30,45 +30,39 @@ abbrev pub salt_of : {E : Type 0} → Result (List ℕ) E → Result (List ℕ) 
 salt_of (Ok salt) = Ok salt
 salt_of (Err why) = Err SaltNotHex
 
--- the length of the key that the arguments of `hash` or `rehash` name, if any
-abbrev pub requested_len : Target → Option ℕ
-requested_len (Key len) = None
-requested_len (Hash format len) = len
-
 -- whether a stored key can have this length: 10 to 64 bytes
 unfoldable pub is_stored_len : Option ℕ → Bool
 is_stored_len None = true
 is_stored_len (Some len) = nat_le 10 len && nat_le len 64
 
--- whether the parameters of a target are accepted
-abbrev pub are_params_accepted : Target → UncheckedParams → Bool
-are_params_accepted target unchecked =
-    are_accepted unchecked.log_n unchecked.r unchecked.p && is_stored_len (requested_len target)
+-- whether parameters are accepted
+abbrev pub are_params_accepted : UncheckedParams → Bool
+are_params_accepted unchecked = are_accepted unchecked.log_n unchecked.r unchecked.p && is_stored_len unchecked.key_len
 
--- the parameters of a target
-abbrev pub params_of : Target → UncheckedParams → Parameters
-params_of target unchecked =
-    record { log_n = unchecked.log_n; r = unchecked.r; p = unchecked.p; output_len = requested_len target }
+-- the parameters, if they are
+abbrev pub params_of : UncheckedParams → Parameters
+params_of unchecked =
+    record { log_n = unchecked.log_n; r = unchecked.r; p = unchecked.p; output_len = unchecked.key_len }
 
 -- the salt of these digits, and the parameters if they are accepted
-unfoldable pub salt_and_params : Target → UncheckedParams → List ℕ → Result (List ℕ × Parameters) CliError
-salt_and_params target unchecked salt_hex = do
+unfoldable pub salt_and_params : UncheckedParams → List ℕ → Result (List ℕ × Parameters) CliError
+salt_and_params unchecked salt_hex = do
   salt ← salt_of (decode_of salt_hex)
-  if are_params_accepted target unchecked then Ok (salt, params_of target unchecked) else Err InvalidParams
+  if are_params_accepted unchecked then Ok (salt, params_of unchecked) else Err InvalidParams
 
 -- whether a key of that length can be derived; a hash has an allowed length of its own
 abbrev pub has_allowed_len : Target → Bool
 has_allowed_len (Key len) = is_output_len len
-has_allowed_len (Hash format len) = true
+has_allowed_len (Hash format) = true
 
 -- what the arguments of a command ask for
 unfoldable pub command_request : CommandArgs → Result Request CliError
 command_request (MakeArgs target unchecked salt_hex) = do
-  (salt, params) ← salt_and_params target unchecked salt_hex
+  (salt, params) ← salt_and_params unchecked salt_hex
   if has_allowed_len target then Ok (ToMake target params salt) else Err InvalidOutputLen
 command_request (VerifyArgs text) = Ok (ToVerify text)
-command_request (RehashArgs format unchecked len salt_hex text) = do
-  (salt, params) ← salt_and_params (Hash format (Some len)) unchecked salt_hex
+command_request (RehashArgs format unchecked salt_hex text) = do
+  (salt, params) ← salt_and_params unchecked salt_hex
   Ok (ToRehash format params salt text)
 
 -- what arguments ask for, if they are those of a command

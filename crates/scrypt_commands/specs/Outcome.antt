@@ -68,7 +68,7 @@ new_hash Mcf c password salt = Ok (mcf_text c password salt)
 -- the text of what is made of a password and a salt: a derived key in hexadecimal, or a hash
 abbrev pub new_text : Target → Parameters → List ℕ → List ℕ → Result (List ℕ) CliError
 new_text (Key len) c password salt = Ok (encode_lower (key_by c password salt len))
-new_text (Hash format len) c password salt = new_hash format c password salt
+new_text (Hash format) c password salt = new_hash format c password salt
 
 -- the outcome of making a text
 abbrev pub new_outcome : Result (List ℕ) CliError → Outcome

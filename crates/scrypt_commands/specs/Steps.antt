@@ -1,23 +1,24 @@
 -- Private: the steps of a run. Only the clauses of private functions cite these.
 use Rattle.std.specs.Prelude.{◌≡◌, ◌⊎◌, ℕ, Bool, false, true, if◌then◌else◌, List, codes, Option, None, Some, Result}
-use Rattle.std.specs.Prelude.{Ok, Err, IfSome, IsTrue, option_map, string_bytes, ⊤}
+use Rattle.std.specs.Prelude.{Ok, Err, IfSome, IsTrue, String, option_map, string_bytes, ⊤}
+use Rattle.std.specs.Borrow.{Bor}
+use Rattle.std.specs.Global.{Global}
 use Rattle.std.specs.Io.KnownBytes.{Appends}
 use Rattle.password_hash.specs.Refusal.{Refusal}
 use Rattle.scrypt.specs.Accepted.{AreAccepted, IsStoredLen}
 use Rattle.scrypt.specs.Reading.{verdict, weaker}
 use Rattle.scrypt.specs.declared.errors.DeriveError.{DeriveError}
 use Rattle.scrypt.specs.declared.errors.DeriveError.TheVariants.{InvalidOutputLen as DerivedBadLength, OutOfMemory as DerivedOutOfMemory}
-use Rattle.scrypt_commands.specs.Args.{CommandArgs, MakeArgs, RehashArgs, VerifyArgs}
+use Rattle.scrypt_commands.specs.Args.{CommandArgs, MakeArgs, RehashArgs, VerifyArgs, texts_of}
 use Rattle.scrypt_commands.specs.Bounds.{rehash_limits, verify_limits}
 use Rattle.scrypt_commands.specs.CliError.{error_of, status_of}
-use Rattle.scrypt_commands.specs.Command.{AreRefused, IsRefused, Request, has_allowed_len, requested_len}
+use Rattle.scrypt_commands.specs.Command.{AreRefused, IsRefused, Request, has_allowed_len}
 use Rattle.scrypt_commands.specs.Outcome.{HasOutcome, HasOutcomeOf, OnInput, Outcome, answer_of, new_hash, new_outcome}
 use Rattle.scrypt_commands.specs.Outcome.{bounded, new_text, refusal_of, rehash_outcome, verdict_outcome}
 use Rattle.scrypt_commands.specs.declared.answer.Answer.{Answer}
 use Rattle.scrypt_commands.specs.declared.answer.Answer.TheVariants.{Verdict, Made}
 use Rattle.scrypt_commands.specs.declared.args.Args.{Args}
 use Rattle.scrypt_commands.specs.declared.args.Args.TheVariants.{Make as MakeOf, Rehash as RehashOf, Verify as VerifyOf}
-use Rattle.scrypt_commands.specs.declared.args.Target.{Target}
 use Rattle.scrypt_commands.specs.declared.args.UncheckedParams.{UncheckedParams}
 use Rattle.scrypt_commands.specs.declared.bounds.Bounds.{Bounds}
 use Rattle.scrypt_commands.specs.declared.command.Command.{Command}
@@ -29,17 +30,21 @@ use Rattle.scrypt_commands.specs.declared.error.CliError.TheVariants.{InputFaile
 abbrev pub args_view : Args → CommandArgs
 args_view (MakeOf target unchecked salt_hex) = MakeArgs target unchecked salt_hex.now
 args_view (VerifyOf text) = VerifyArgs text.now
-args_view (RehashOf format unchecked len salt_hex text) = RehashArgs format unchecked len salt_hex.now text.now
+args_view (RehashOf format unchecked salt_hex text) = RehashArgs format unchecked salt_hex.now text.now
+
+-- what is read of the first words, and the words after them
+abbrev pub before_words : {A : Type 0} → A × Bor (List (String Global)) → A × List (List ℕ)
+before_words (read, words) = (read, texts_of words.now)
 
 -- the error of a derivation that fails
 abbrev pub derive_error : DeriveError → CliError
 derive_error DerivedBadLength = InvalidOutputLen
 derive_error DerivedOutOfMemory = OutOfMemory
 
--- the parameters of a target are accepted
-abbrev pub AreParamsAccepted : Target → UncheckedParams → Type 0
-AreParamsAccepted target unchecked =
-    AreAccepted unchecked.log_n unchecked.r unchecked.p × IfSome (requested_len target) IsStoredLen
+-- parameters are accepted
+abbrev pub AreParamsAccepted : UncheckedParams → Type 0
+AreParamsAccepted unchecked =
+    AreAccepted unchecked.log_n unchecked.r unchecked.p × IfSome unchecked.key_len IsStoredLen
 
 -- an allocation failed, or this holds of an error with status 2
 abbrev pub FailsWith : (CliError → Type 0) → CliError → Type 0

@@ -173,7 +173,7 @@ fn make(
 {
     match target {
         Target::Key { len } => key(alloc, password, salt, params, *len),
-        Target::Hash { format, .. } => make_hash(alloc, password, salt, params, *format),
+        Target::Hash { format } => make_hash(alloc, password, salt, params, *format),
     }
 }
 

@@ -1,9 +1,10 @@
 // The arguments of a command, with their decimals read.
 
-ghost use Rattle.std.specs.Prelude.{◌≡◌, ◌^◌, ◌∷◌, [], map, option_map, string_bytes};
+ghost use Rattle.std.specs.Prelude.{◌≡◌, ◌^◌, option_map};
 ghost use Rattle.password_hash.specs.Decimal.{decimal_below};
-ghost use Rattle.scrypt_commands.specs.Args.{args_of, format_of, hash_args, key_args, named_hash_args, rehash_args, unchecked_params, verify_args};
-ghost use Rattle.scrypt_commands.specs.Steps.{args_view};
+ghost use Rattle.scrypt_commands.specs.Args.{args_of, first_word, format_word, hash_args, key_args, last_word, len_word};
+ghost use Rattle.scrypt_commands.specs.Args.{optional_len, params_word, rehash_args, texts_of};
+ghost use Rattle.scrypt_commands.specs.Steps.{args_view, before_words};
 
 use password_hash::decimal::read_decimal;
 use password_hash::laws::decimals_are_read;
@@ -25,7 +26,6 @@ pub enum Args<'a> {
     Rehash {
         format: Format,
         unchecked: UncheckedParams,
-        len: usize,
         salt_hex: &'a str,
         text: &'a str,
     },
@@ -36,8 +36,8 @@ pub enum Args<'a> {
 pub enum Target {
     /// a key of `len` bytes
     Key { len: usize },
-    /// a hash of this format, whose key has `len` bytes if a length is named
-    Hash { format: Format, len: Option<usize> },
+    /// a hash of this format
+    Hash { format: Format },
 }
 
 /// A format of hash texts.
@@ -49,27 +49,30 @@ pub enum Format {
     Mcf,
 }
 
-/// The parameters LOG_N, R and P, which may not be accepted.
+/// The parameters LOG_N, R and P, and the length of the key of a hash, if one is named. They may not be accepted.
 #[derive(Clone, Copy, Debug, PartialEq, Eq)]
 pub struct UncheckedParams {
     pub log_n: u8,
     pub r: u32,
     pub p: u32,
+    pub key_len: Option<usize>,
 }
 
 impl<'a> Args<'a> {
     /// Parses the arguments after the program's name.
     ///
     /// Returns `None` if they are not those of a command, or if one is not a decimal below its bound.
-    #[tactic(auto, using(crate::proofs::ArgsFacts::commands), unfolding(crate::specs::Args::args_of))]
+    #[tactic(auto, using(crate::proofs::ArgsFacts::other), unfolding(crate::specs::Args::args_of))]
     pub fn parse(args: &'a [String]) -> Option<Args<'a>>
-        ensures value { option_map args_view result ≡ args_of (map string_bytes args.now) }
+        ensures value { option_map args_view result ≡ args_of (texts_of args.now) }
     {
-        let (name, args) = args.split_first()?;
-        match name.as_str() {
+        let (name, args) = first_word(args)?;
+        match name {
             "key" => parse_key(args),
             "hash" => parse_hash(args),
-            "verify" => parse_verify(args),
+            "verify" => Some(Args::Verify {
+                text: last_word(args)?,
+            }),
             "rehash" => parse_rehash(args),
             _ => None,
         }
@@ -77,30 +80,13 @@ impl<'a> Args<'a> {
 }
 
 // Parses LOG_N R P LEN SALT_HEX.
-#[tactic(auto, using(crate::proofs::ArgsFacts::words))]
-fn parse_key<'a>(args: &'a [String]) -> Option<Args<'a>>
-    ensures { option_map args_view result ≡ key_args (map string_bytes args.now) }
-{
-    match args {
-        [log_n, r, p, len, salt_hex] => key_of_words(
-            log_n.as_str(),
-            r.as_str(),
-            p.as_str(),
-            len.as_str(),
-            salt_hex.as_str(),
-        ),
-        _ => None,
-    }
-}
-
-// Returns the arguments of a key.
 #[tactic(auto, unfolding(crate::specs::Args::key_args))]
-fn key_of_words<'a>(log_n: &str, r: &str, p: &str, len: &str, salt_hex: &'a str) -> Option<Args<'a>>
-    ensures { option_map args_view result
-        ≡ key_args (log_n.now ∷ r.now ∷ p.now ∷ len.now ∷ salt_hex.now ∷ []) }
+fn parse_key<'a>(args: &'a [String]) -> Option<Args<'a>>
+    ensures { option_map args_view result ≡ key_args (texts_of args.now) }
 {
-    let unchecked = parse_params(log_n, r, p)?;
-    let len = parse_len(len)?;
+    let (unchecked, args) = parse_params(args)?;
+    let (len, args) = len_word(args)?;
+    let salt_hex = last_word(args)?;
     Some(Args::Make {
         target: Target::Key { len },
         unchecked,
@@ -109,112 +95,109 @@ fn key_of_words<'a>(log_n: &str, r: &str, p: &str, len: &str, salt_hex: &'a str)
 }
 
 // Parses phc|mcf LOG_N R P SALT_HEX [LEN].
-#[tactic(auto, using(crate::proofs::ArgsFacts::words), unfolding(crate::specs::Args::hash_args))]
+#[tactic(auto, unfolding(crate::specs::Args::hash_args))]
 fn parse_hash<'a>(args: &'a [String]) -> Option<Args<'a>>
-    ensures { option_map args_view result ≡ hash_args (map string_bytes args.now) }
+    ensures { option_map args_view result ≡ hash_args (texts_of args.now) }
 {
-    match args {
-        [format, log_n, r, p, salt_hex] => hash_of_words(
-            format.as_str(),
-            log_n.as_str(),
-            r.as_str(),
-            p.as_str(),
-            salt_hex.as_str(),
-            None,
-        ),
-        [format, log_n, r, p, salt_hex, len] => {
-            let len = parse_len(len.as_str())?;
-            hash_of_words(
-                format.as_str(),
-                log_n.as_str(),
-                r.as_str(),
-                p.as_str(),
-                salt_hex.as_str(),
-                Some(len),
-            )
-        }
-        _ => None,
-    }
-}
-
-// Returns the arguments of a hash with this length, if one is named.
-#[tactic(auto, unfolding(crate::specs::Args::named_hash_args))]
-fn hash_of_words<'a>(
-    format: &str,
-    log_n: &str,
-    r: &str,
-    p: &str,
-    salt_hex: &'a str,
-    len: Option<usize>,
-) -> Option<Args<'a>>
-    ensures { option_map args_view result
-        ≡ named_hash_args format.now log_n.now r.now p.now salt_hex.now len }
-{
-    let format = parse_format(format)?;
-    let unchecked = parse_params(log_n, r, p)?;
+    let (format, args) = parse_format(args)?;
+    let (params, args) = parse_params(args)?;
+    let (salt_hex, args) = first_word(args)?;
+    let key_len = optional_len(args)?;
     Some(Args::Make {
-        target: Target::Hash { format, len },
-        unchecked,
+        target: Target::Hash { format },
+        unchecked: UncheckedParams { key_len, ..params },
         salt_hex,
-    })
-}
-
-// Parses HASH.
-#[tactic(auto, using(crate::proofs::ArgsFacts::words), unfolding(crate::specs::Args::verify_args))]
-fn parse_verify<'a>(args: &'a [String]) -> Option<Args<'a>>
-    ensures { option_map args_view result ≡ verify_args (map string_bytes args.now) }
-{
-    let [text] = args else {
-        return None;
-    };
-    Some(Args::Verify {
-        text: text.as_str(),
     })
 }
 
 // Parses phc|mcf LOG_N R P LEN SALT_HEX HASH.
-#[tactic(auto, using(crate::proofs::ArgsFacts::words))]
+#[tactic(auto, unfolding(crate::specs::Args::rehash_args))]
 fn parse_rehash<'a>(args: &'a [String]) -> Option<Args<'a>>
-    ensures { option_map args_view result ≡ rehash_args (map string_bytes args.now) }
+    ensures { option_map args_view result ≡ rehash_args (texts_of args.now) }
 {
-    match args {
-        [format, log_n, r, p, len, salt_hex, text] => rehash_of_words(
-            format.as_str(),
-            log_n.as_str(),
-            r.as_str(),
-            p.as_str(),
-            len.as_str(),
-            salt_hex.as_str(),
-            text.as_str(),
-        ),
+    let (format, args) = parse_format(args)?;
+    let (params, args) = parse_params(args)?;
+    let (len, args) = len_word(args)?;
+    let (salt_hex, args) = first_word(args)?;
+    let text = last_word(args)?;
+    Some(Args::Rehash {
+        format,
+        unchecked: UncheckedParams {
+            key_len: Some(len),
+            ..params
+        },
+        salt_hex,
+        text,
+    })
+}
+
+// Parses LOG_N R P, and returns the words after them too.
+#[tactic(auto, unfolding(crate::specs::Args::params_word))]
+fn parse_params<'a>(args: &'a [String]) -> Option<(UncheckedParams, &'a [String])>
+    ensures { option_map before_words result ≡ params_word (texts_of args.now) }
+{
+    let (log_n, args) = first_word(args)?;
+    let (r, args) = first_word(args)?;
+    let (p, args) = first_word(args)?;
+    let params = UncheckedParams {
+        log_n: parse_byte(log_n)?,
+        r: parse_word(r)?,
+        p: parse_word(p)?,
+        key_len: None,
+    };
+    Some((params, args))
+}
+
+// Parses phc|mcf, and returns the words after it too.
+#[tactic(auto, using(crate::proofs::ArgsFacts::other), unfolding(crate::specs::Args::format_word))]
+fn parse_format<'a>(args: &'a [String]) -> Option<(Format, &'a [String])>
+    ensures { option_map before_words result ≡ format_word (texts_of args.now) }
+{
+    let (name, args) = first_word(args)?;
+    match name {
+        "phc" => Some((Format::Phc, args)),
+        "mcf" => Some((Format::Mcf, args)),
         _ => None,
     }
 }
 
-// Returns the arguments of a new hash.
-#[tactic(auto, unfolding(crate::specs::Args::rehash_args))]
-fn rehash_of_words<'a>(
-    format: &str,
-    log_n: &str,
-    r: &str,
-    p: &str,
-    len: &str,
-    salt_hex: &'a str,
-    text: &'a str,
-) -> Option<Args<'a>>
-    ensures { option_map args_view result ≡ rehash_args
-        (format.now ∷ log_n.now ∷ r.now ∷ p.now ∷ len.now ∷ salt_hex.now ∷ text.now ∷ []) }
+// Parses LEN, and returns the words after it too.
+#[tactic(auto, unfolding(crate::specs::Args::len_word))]
+fn len_word<'a>(args: &'a [String]) -> Option<(usize, &'a [String])>
+    ensures { option_map before_words result ≡ len_word (texts_of args.now) }
 {
-    let format = parse_format(format)?;
-    let unchecked = parse_params(log_n, r, p)?;
-    let len = parse_len(len)?;
-    Some(Args::Rehash {
-        format,
-        unchecked,
-        len,
-        salt_hex,
-        text,
-    })
+    let (len, args) = first_word(args)?;
+    Some((parse_len(len)?, args))
+}
+
+// Parses [LEN].
+#[tactic(auto, unfolding(crate::specs::Args::optional_len))]
+fn optional_len(args: &[String]) -> Option<Option<usize>>
+    ensures { result ≡ optional_len (texts_of args.now) }
+{
+    if args.is_empty() {
+        return Some(None);
+    }
+    let len = parse_len(last_word(args)?)?;
+    Some(Some(len))
+}
+
+// Returns the first word, and the words after it.
+fn first_word<'a>(args: &'a [String]) -> Option<(&'a str, &'a [String])>
+    ensures { option_map (λ found. (found.0.now, texts_of found.1.now)) result ≡ first_word (texts_of args.now) }
+{
+    let (word, args) = args.split_first()?;
+    Some((word.as_str(), args))
+}
+
+// Returns the only word.
+fn last_word<'a>(args: &'a [String]) -> Option<&'a str>
+    ensures { option_map (λ word. word.now) result ≡ last_word (texts_of args.now) }
+{
+    let [word] = args else {
+        return None;
+    };
+    Some(word.as_str())
 }
 
 /// Parses LEN.
@@ -239,28 +222,4 @@ fn parse_byte(arg: &str) -> Option<u8>
 {
     decimals_are_read();
     read_decimal(arg)
-}
-
-// Parses LOG_N, R and P.
-#[tactic(auto, unfolding(crate::specs::Args::unchecked_params))]
-fn parse_params(log_n: &str, r: &str, p: &str) -> Option<UncheckedParams>
-    ensures { result ≡ unchecked_params log_n.now r.now p.now }
-{
-    Some(UncheckedParams {
-        log_n: parse_byte(log_n)?,
-        r: parse_word(r)?,
-        p: parse_word(p)?,
-    })
-}
-
-// Parses the name of a format.
-#[tactic(auto, using(crate::proofs::ArgsFacts::no_format_named), unfolding(crate::specs::Args::format_of))]
-fn parse_format(arg: &str) -> Option<Format>
-    ensures { result ≡ format_of arg.now }
-{
-    match arg {
-        "phc" => Some(Format::Phc),
-        "mcf" => Some(Format::Mcf),
-        _ => None,
-    }
 }

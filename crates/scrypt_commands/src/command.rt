@@ -59,10 +59,9 @@ impl<'a> Command<'a> {
             Args::Rehash {
                 format,
                 unchecked,
-                len,
                 salt_hex,
                 text,
-            } => rehash_command(alloc, format, unchecked, len, salt_hex, text),
+            } => rehash_command(alloc, format, unchecked, salt_hex, text),
         }
     }
 }
@@ -77,7 +76,7 @@ fn make_command<'a>(
 ) -> Result<Command<'a>, CliError>
     ensures { IsCommandFor (command_request (MakeArgs target unchecked salt_hex.now)) result }
 {
-    let (salt, params) = salt_and_params(alloc, target, unchecked, salt_hex)?;
+    let (salt, params) = salt_and_params(alloc, unchecked, salt_hex)?;
     if !has_allowed_len(target) {
         return Err(CliError::InvalidOutputLen);
     }
@@ -88,30 +87,34 @@ fn make_command<'a>(
     })
 }
 
-// Decodes the salt, and then checks the parameters of the target.
+// Decodes the salt, and then checks the parameters.
 #[tactic(auto, using(crate::proofs::CommandFacts::salts))]
 fn salt_and_params(
     alloc: Global,
-    target: Target,
     unchecked: UncheckedParams,
     salt_hex: &str,
 ) -> Result<(Vec<u8>, Params), CliError>
-    ensures { Gives (λ read. (read.0.items, read.1)) (salt_and_params target unchecked salt_hex.now) result }
+    ensures { Gives (λ read. (read.0.items, read.1)) (salt_and_params unchecked salt_hex.now) result }
 {
     let salt = decode_salt(alloc, salt_hex)?;
-    let params = checked_params(target, unchecked)?;
+    let params = checked_params(unchecked)?;
     Ok((salt, params))
 }
 
-// Returns the parameters of the target, with the length that is named for a hash.
-fn checked_params(target: Target, unchecked: UncheckedParams) -> Result<Params, InvalidParams>
-    ensures accepted { IsOk result ↔ AreParamsAccepted target unchecked }
-    ensures value { IfOk result (λ params. params ≡ params_of target unchecked) }
+// Returns the parameters, with the length that is named for a hash.
+fn checked_params(unchecked: UncheckedParams) -> Result<Params, InvalidParams>
+    ensures accepted { IsOk result ↔ AreParamsAccepted unchecked }
+    ensures value { IfOk result (λ params. params ≡ params_of unchecked) }
 {
-    let UncheckedParams { log_n, r, p } = unchecked;
-    match target {
-        Target::Hash { len: Some(len), .. } => Params::new_with_output_len(log_n, r, p, len),
-        _ => Params::new(log_n, r, p),
+    let UncheckedParams {
+        log_n,
+        r,
+        p,
+        key_len,
+    } = unchecked;
+    match key_len {
+        Some(len) => Params::new_with_output_len(log_n, r, p, len),
+        None => Params::new(log_n, r, p),
     }
 }
 
@@ -137,24 +140,18 @@ fn verify_command<'a>(text: &'a str) -> Result<Command<'a>, CliError>
     }
 }
 
-// Returns the command that makes the hash of this text again, with these parameters, this length and
-// the salt of these digits.
+// Returns the command that makes the hash of this text again, with these parameters and the salt of these digits.
 #[tactic(auto, using(crate::proofs::OutcomeFacts::rehashed))]
 fn rehash_command<'a>(
     alloc: Global,
     format: Format,
     unchecked: UncheckedParams,
-    len: usize,
     salt_hex: &str,
     text: &'a str,
 ) -> Result<Command<'a>, CliError>
-    ensures { IsCommandFor (command_request (RehashArgs format unchecked len salt_hex.now text.now)) result }
+    ensures { IsCommandFor (command_request (RehashArgs format unchecked salt_hex.now text.now)) result }
 {
-    let target = Target::Hash {
-        format,
-        len: Some(len),
-    };
-    let (salt, params) = salt_and_params(alloc, target, unchecked, salt_hex)?;
+    let (salt, params) = salt_and_params(alloc, unchecked, salt_hex)?;
     match stored_hash(text) {
         Ok(hash) => Ok(Command::Rehash {
             format,
