@@ -1,17 +1,17 @@
 -- The options before a command.
-use Rattle.std.proofs.Common.{[], ◌∷◌, map, String, string_bytes, ap, get_or, ◌∙◌, arith, ◌≡◌, ◌≢◌, ◌++◌, ℕ}
-use Rattle.std.proofs.Common.{List, None, Option, Some, length, take, drop, refl, subst, sym, bytes_eq, false, true}
+use Rattle.std.proofs.Common.{[], ◌∷◌, map, String, string_bytes, ap, ◌∙◌, ◌≡◌, ◌++◌, ℕ}
+use Rattle.std.proofs.Common.{List, None, Option, Some, length, take, drop, refl, subst, sym, bytes_eq, true}
 use Rattle.std.specs.Borrow.{Bor}
 use Rattle.std.specs.Global.{Global}
-use Rattle.std.specs.Prelude.{IfOk, Result, Ok, Err, if◌then◌else◌, MatchOption, codes, option_map, unwrap_or}
+use Rattle.std.specs.Prelude.{IfOk, Result, Ok, Err, if◌then◌else◌, MatchOption, codes, option_map}
 use Rattle.std.specs.Str.Pattern.{FindsTextPrefix, StripsPrefix}
 use Rattle.std.proofs.lemmas.List.{nil_from_length, take-append-drop, take_at}
 use Rattle.std.proofs.lemmas.Slice.Eq.{bytes_eq-Decides}
 use Rattle.scrypt_commands.specs.Bounds.{after_prefix, command_of, completed, lacks_salt, options_of}
-use Rattle.scrypt_commands.specs.Bounds.{usual, with_number, with_option}
+use Rattle.scrypt_commands.specs.Bounds.{with_option}
 use Rattle.hex.specs.Hex.{encode_lower}
 use Rattle.scrypt_commands.specs.declared.bounds.Bounds.{Bounds}
-use Rattle.scrypt_commands.proofs.ArgsFacts.{not_true, other}
+use Rattle.scrypt_commands.proofs.ArgsFacts.{not_true}
 
 -- what `strip_prefix` gives
 pub prefix_stripped : (prefix text : List ℕ) (rest : Option (Bor (List ℕ)))
@@ -27,16 +27,6 @@ prefix_stripped prefix text None none =
 prefix_stripped prefix text (Some x) (n, (is, split, boundary), rest, len) =
     let front = subst (λ t. take (length prefix) t ≡ prefix) (sym split) (take_at prefix (drop n text) (length prefix) refl) in
     rw ((bytes_eq-Decides (take (length prefix) text) prefix).1 front, rest, is) refl
-
--- a word that names a number, if any
-pub no_other_option : (bounds : Option Bounds) (word : List ℕ) → word ≢ codes "--usual-limits" → word ≢ codes "--no-limits"
-    → with_option bounds word ≡ option_map Some (with_number (unwrap_or bounds usual) word)
-unfolding with_option
-no_other_option bounds word h i = rw (other word (codes "--usual-limits") h, other word (codes "--no-limits") i) refl
-
--- no arguments have no texts
-pub no_words : (args : List (String Global)) → length args ≡ 0 → map string_bytes args ≡ []
-no_words args n = ap (map string_bytes) (nil_from_length args n)
 
 -- the options that are left
 
@@ -58,31 +48,6 @@ unfolding options_of
 command_left bounds args rest word are is = rw (are, is) refl
 
 -- what the program adds to its arguments
-
-pub other_salt : {A : Type 0} (text : A → List ℕ) (args : List A) → length args ≢ 5 → lacks_salt (map text args) ≡ false
-unfolding lacks_salt
-other_salt text [] n = refl
-other_salt text (x0 ∷ []) n = refl
-other_salt text (x0 ∷ x1 ∷ []) n = refl
-other_salt text (x0 ∷ x1 ∷ x2 ∷ []) n = refl
-other_salt text (x0 ∷ x1 ∷ x2 ∷ x3 ∷ []) n = refl
-other_salt text (x0 ∷ x1 ∷ x2 ∷ x3 ∷ x4 ∷ []) n = absurd (n refl)
-other_salt text (x0 ∷ x1 ∷ x2 ∷ x3 ∷ x4 ∷ x5 ∷ xs) n = refl
-
-pub other_command : (args : List (List ℕ)) (rest : List (String Global)) → map string_bytes rest ≡ command_of args
-    → length rest ≢ 5 → false ≡ lacks_salt (command_of args)
-other_command args rest is n = sym (ap lacks_salt (sym is) ∙ other_salt string_bytes rest n)
-
-pub named_hash : {A : Type 0} (text : A → List ℕ) (args : List A) (a : A) → length args ≡ 5 → a ≡ get_or args 0 a
-    → lacks_salt (map text args) ≡ bytes_eq (text a) (codes "hash")
-unfolding lacks_salt
-named_hash text [] a n is = absurd (omega arith)
-named_hash text (x0 ∷ []) a n is = absurd (omega arith)
-named_hash text (x0 ∷ x1 ∷ []) a n is = absurd (omega arith)
-named_hash text (x0 ∷ x1 ∷ x2 ∷ []) a n is = absurd (omega arith)
-named_hash text (x0 ∷ x1 ∷ x2 ∷ x3 ∷ []) a n is = absurd (omega arith)
-named_hash text (x0 ∷ x1 ∷ x2 ∷ x3 ∷ x4 ∷ []) a n is = rw is refl
-named_hash text (x0 ∷ x1 ∷ x2 ∷ x3 ∷ x4 ∷ x5 ∷ xs) a n is = absurd (omega arith)
 
 pub all_completed : {A E : Type 0} (texts : A → List (List ℕ)) (args words : List (List ℕ)) (salt : List ℕ) (out : Result A E)
     → IfOk out (λ made. texts made ≡ codes "--usual-limits" ∷ words) → length salt ≡ 16

@@ -11,7 +11,7 @@ use Rattle.scrypt.specs.Accepted.{Parameters}
 use Rattle.scrypt.specs.Hashing.{by_algorithm, by_memory, by_salt, by_version}
 use Rattle.scrypt.specs.PhcHash.{HashIsRefused, IsMadeHash, IsSaltLen}
 use Rattle.scrypt.specs.declared.limits.Limits.{Limits}
-use Rattle.scrypt_commands.proofs.CommandFacts.{between_decided, fails, rehash_asked, rehash_refused}
+use Rattle.scrypt_commands.proofs.CommandFacts.{between_decided, fails}
 use Rattle.scrypt_commands.specs.Bounds.{bounds_of, command_of}
 use Rattle.scrypt_commands.specs.Command.{AreRefused, request_of}
 use Rattle.scrypt_commands.specs.CliError.{error_line, error_of, status_of}
@@ -153,9 +153,6 @@ pub kept_answers : (verdict : Result ⊤ Refusal) (weaker : Result Bool Refusal)
 kept_answers (Ok met) weaker new right is (inl wrong) = let same : true ≡ right = cc in absurd cc
 kept_answers (Ok met) weaker new right is (inr kept) = rw kept (verdict_answers (Ok met) right is)
 kept_answers (Err why) weaker new right is due = verdict_answers (Err why) right is
-
--- what `rehash` asks for
-pub ruleset rehashed = (rehash_asked, rehash_refused, unread_bounded)
 
 -- carrying out a command
 pub ruleset answers = (due_answers, kept_answers, made_answers)

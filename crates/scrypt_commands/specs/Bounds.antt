@@ -1,5 +1,5 @@
 -- The options before a command: what a stored hash may need, and how short its key may be.
-use Rattle.std.specs.Prelude.{ℕ, ◌-◌, ◌^◌, Bool, bytes_eq, codes, false, if◌then◌else◌, length, drop, take, max, min}
+use Rattle.std.specs.Prelude.{ℕ, ◌-◌, ◌^◌, Bool, ◌&&◌, bytes_eq, codes, false, if◌then◌else◌, length, drop, take, max, min, nat_eq}
 use Rattle.std.specs.Prelude.{List, [], ◌∷◌, ◌++◌, Option, None, Some, option_map, unwrap_or}
 use Rattle.std.specs.Option.{option_map_or, option_or}
 use Rattle.hex.specs.Hex.{encode_lower}
@@ -7,7 +7,7 @@ use Rattle.password_hash.specs.Decimal.{decimal_below}
 use Rattle.scrypt.specs.Accepted.{Parameters}
 use Rattle.scrypt.specs.Limits.{buffers_bytes, work}
 use Rattle.scrypt.specs.declared.limits.Limits.{Limits}
-use Rattle.scrypt_commands.specs.Args.{◌>>=◌}
+use Rattle.scrypt_commands.specs.Args.{◌>>=◌, first_word}
 use Rattle.scrypt_commands.specs.declared.bounds.Bounds.{Bounds}
 
 -- 256 MiB, and four times the work of the recommended parameters
@@ -70,8 +70,8 @@ rehash_limits b wanted = record {
 
 -- whether the command is `hash phc|mcf LOG_N R P`, without a salt
 unfoldable pub lacks_salt : List (List ℕ) → Bool
-lacks_salt (name ∷ format ∷ log_n ∷ r ∷ p ∷ []) = bytes_eq name (codes "hash")
-lacks_salt args = false
+lacks_salt words =
+    option_map_or (λ found. bytes_eq found.0 (codes "hash") && nat_eq (length found.1) 4) (first_word words) false
 
 -- the arguments as the program reads them: with the usual bounds first, and with this salt if there is none
 abbrev pub completed : List (List ℕ) → List ℕ → List (List ℕ)

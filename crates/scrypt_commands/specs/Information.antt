@@ -1,5 +1,6 @@
 -- The texts that `--help` and `--version` print.
-use Rattle.std.specs.Prelude.{ℕ, ◌++◌, bytes_eq, codes, if◌then◌else◌, List, [], ◌∷◌, Option, None, Some}
+use Rattle.std.specs.Prelude.{ℕ, ◌++◌, bytes_eq, codes, if◌then◌else◌, List, Option, None, Some}
+use Rattle.scrypt_commands.specs.Args.{◌>>=◌, first_word}
 
 -- the line that `--version` prints
 abbrev pub version_text : List ℕ
@@ -40,5 +41,6 @@ text_for word =
 
 -- the text that the first argument asks for
 abbrev pub information_of : List (List ℕ) → Option (List ℕ)
-information_of [] = None
-information_of (word ∷ args) = text_for word
+information_of words = do
+  (word, words) ← first_word words
+  text_for word

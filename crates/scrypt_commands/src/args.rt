@@ -182,9 +182,9 @@ fn optional_len(args: &[String]) -> Option<Option<usize>>
     Some(Some(len))
 }
 
-// Returns the first word, and the words after it.
-fn first_word<'a>(args: &'a [String]) -> Option<(&'a str, &'a [String])>
-    ensures { option_map (λ found. (found.0.now, texts_of found.1.now)) result ≡ first_word (texts_of args.now) }
+/// Returns the first word, and the words after it.
+pub fn first_word<'a>(args: &'a [String]) -> Option<(&'a str, &'a [String])>
+    ensures first { option_map (λ found. (found.0.now, texts_of found.1.now)) result ≡ first_word (texts_of args.now) }
 {
     let (word, args) = args.split_first()?;
     Some((word.as_str(), args))

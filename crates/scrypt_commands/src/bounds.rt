@@ -74,7 +74,7 @@ pub fn parse_options<'a>(args: &'a [String]) -> (Option<Bounds>, &'a [String])
 }
 
 // Returns the bounds after an option, or `None` if the word is not one.
-#[tactic(auto, using(crate::proofs::BoundsFacts::no_other_option), unfolding(crate::specs::Bounds::with_option))]
+#[tactic(auto, using(crate::proofs::ArgsFacts::other), unfolding(crate::specs::Bounds::with_option))]
 fn with_option(bounds: Option<Bounds>, word: &str) -> Option<Option<Bounds>>
     ensures { result ≡ with_option bounds word.now }
 {

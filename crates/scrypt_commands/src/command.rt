@@ -67,7 +67,7 @@ impl<'a> Command<'a> {
 }
 
 // Returns the command that makes this target, with these parameters and the salt of these digits.
-#[tactic(auto, using(crate::proofs::CommandFacts::made))]
+#[tactic(auto, unfolding(crate::specs::Command::command_request))]
 fn make_command<'a>(
     alloc: Global,
     target: Target,
@@ -88,7 +88,7 @@ fn make_command<'a>(
 }
 
 // Decodes the salt, and then checks the parameters.
-#[tactic(auto, using(crate::proofs::CommandFacts::salts))]
+#[tactic(auto, using(crate::proofs::CommandFacts::params_decided), unfolding(crate::specs::Command::salt_and_params))]
 fn salt_and_params(
     alloc: Global,
     unchecked: UncheckedParams,
@@ -141,7 +141,7 @@ fn verify_command<'a>(text: &'a str) -> Result<Command<'a>, CliError>
 }
 
 // Returns the command that makes the hash of this text again, with these parameters and the salt of these digits.
-#[tactic(auto, using(crate::proofs::OutcomeFacts::rehashed))]
+#[tactic(auto, using(crate::proofs::OutcomeFacts::unread_within), unfolding(crate::specs::Command::command_request))]
 fn rehash_command<'a>(
     alloc: Global,
     format: Format,

@@ -5,6 +5,7 @@ ghost use Rattle.hex.specs.Hex.{encode_lower};
 ghost use Rattle.scrypt_commands.specs.Args.{texts_of};
 ghost use Rattle.scrypt_commands.specs.Bounds.{command_of, completed, lacks_salt};
 
+use crate::args::first_word;
 use crate::bounds::parse_options;
 use std::alloc::Global;
 use std::io;
@@ -29,15 +30,15 @@ pub fn complete<S: RandomSource>(
 }
 
 // Returns whether the command is `hash phc|mcf LOG_N R P`, without a salt.
-#[tactic(auto, using(crate::proofs::BoundsFacts::other_command))]
+#[tactic(auto, unfolding(crate::specs::Bounds::lacks_salt))]
 fn lacks_salt(args: &[String]) -> bool
     ensures { result ≡ lacks_salt (command_of (texts_of args.now)) }
 {
     let (_, command) = parse_options(args);
-    let [name, _, _, _, _] = command else {
+    let Some((name, words)) = first_word(command) else {
         return false;
     };
-    name.as_str() == "hash"
+    name == "hash" && words.len() == 4
 }
 
 // Returns the arguments with a salt after them.

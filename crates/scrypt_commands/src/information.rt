@@ -7,6 +7,7 @@ ghost use Rattle.scrypt_commands.specs.CliError.{error_line};
 ghost use Rattle.scrypt_commands.specs.Information.{information_of, text_for};
 ghost use Rattle.scrypt_commands.specs.declared.error.CliError.TheVariants.{OutputFailed};
 
+use crate::args::first_word;
 use crate::run::{Exit, answered, end, write_line};
 use std::io::Write;
 
@@ -39,12 +40,11 @@ Statuses: 0 done or ok, 1 no, 2 refused, 3 out of memory, 4 input or output fail
 ";
 
 /// Returns the text that the first argument asks for, if that is `--help` or `--version`.
-#[tactic(auto, using(crate::proofs::BoundsFacts::no_words))]
 pub fn information(args: &[String]) -> Option<&'static str>
     ensures value { option_map (λ text. text.now) result ≡ information_of (texts_of args.now) }
 {
-    let (word, _) = args.split_first()?;
-    text_for(word.as_str())
+    let (word, _) = first_word(args)?;
+    text_for(word)
 }
 
 // Returns the text that a word asks for.
