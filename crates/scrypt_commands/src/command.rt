@@ -119,7 +119,6 @@ fn checked_params(unchecked: UncheckedParams) -> Result<Params, InvalidParams>
 }
 
 // Returns whether a key of that length can be derived. A hash has an allowed length of its own.
-#[tactic(auto, using(crate::proofs::CommandFacts::output_len_decided))]
 fn has_allowed_len(target: Target) -> bool
     ensures { result ≡ has_allowed_len target }
 {
