@@ -10,10 +10,10 @@ use Rattle.password_hash.specs.PhcParts.{IsVersion, LackVersion, LackEquals}
 use Rattle.password_hash.specs.Phc.{base64, version_part, params_part, salt_and_key_parts, hash_parts, IsSalt}
 use Rattle.password_hash.specs.Phc.{IsKey, IsSaltAndKey, IsHashText}
 use Rattle.password_hash.specs.declared.phc.hash.PasswordHash.{PasswordHash}
-use Rattle.password_hash.proofs.PairsFacts.{Lacks, letters_lack, texts_lack, before_first_at}
+use Rattle.password_hash.proofs.PairsFacts.{Lacks, letters_lack, texts_lack, cut_at_first, equals_of_pairs}
 use Rattle.password_hash.proofs.DecimalFacts.{IsValue-decimal}
 use Rattle.password_hash.proofs.PartsFacts.{parts_of-parts_text}
-use Rattle.password_hash.proofs.PhcPartsFacts.{LacksVersion, base64_lacks, equals_of_pairs}
+use Rattle.password_hash.proofs.PhcPartsFacts.{LacksVersion, base64_lacks}
 
 -- a row of pieces that lack a byte lacks it, unless it separates them
 join_lacks : (c separator : ℕ) → (separator == c) ≡ false → (pieces : List (List ℕ)) → All (Lacks c) pieces
@@ -66,11 +66,9 @@ parts_lack text hash h =
 pairs_no_version : (pair : List ℕ × List ℕ) (params : List (List ℕ × List ℕ)) → IsPair pair → LacksVersion (pairs_text (pair ∷ params))
 pairs_no_version pair params h rest e =
     let equals = equals_of_pairs pair params in
-    let name : before_first (λ b. b == 61) (pair.0 ++ (61 ∷ equals.0)) ≡ pair.0 =
-    before_first_at 61 pair.0 equals.0 (letters_lack is_identifier_letter 61 refl pair.0 h.name.letters) in
-    let v : before_first (λ b. b == 61) (codes "v" ++ (61 ∷ rest)) ≡ codes "v" =
-    before_first_at 61 (codes "v") rest (All-cons (λ b. (b == 61) ≡ false) 118 [] refl (All-nil (λ b. (b == 61) ≡ false))) in
-    h.no_version (sym name ∙ ap (before_first (λ b. b == 61)) (sym equals.1 ∙ e) ∙ v)
+    let name = cut_at_first 61 pair.0 equals.0 (letters_lack is_identifier_letter 61 refl pair.0 h.name.letters) in
+    let v = cut_at_first 61 (codes "v") rest (All-from_recursion (λ b. (b == 61) ≡ false) (codes "v") (refl, tt)) in
+    h.no_version (sym name.0 ∙ ap (before_first (λ b. b == 61)) (sym equals.1 ∙ e) ∙ v.0)
 
 params_no_version : (params : List (List ℕ × List ℕ)) → ArePairs params → LackVersion (params_part params)
 params_no_version [] h = All-nil LacksVersion

@@ -1,9 +1,9 @@
 -- Pairs and their text.
-use Rattle.std.proofs.Common.{◌≡◌, ◌≢◌, ℕ, suc, ◌+◌, ◌<◌, ◌≤◌, ◌==◌, Bool, true, false, IsTrue, List, [], ◌∷◌, ◌++◌}
+use Rattle.std.proofs.Common.{◌≡◌, ℕ, suc, ◌+◌, ◌<◌, ◌==◌, Bool, true, false, IsTrue, List, [], ◌∷◌, ◌++◌}
 use Rattle.std.proofs.Common.{length, map, refl, sym, ap, subst, ◌∙◌, arith}
 use Rattle.std.specs.Prelude.{All}
 use Rattle.std.specs.List.{list_all, join_with_byte, slice_split, before_first, after_first, position_or_len}
-use Rattle.std.proofs.lemmas.Bool.{ne_eqb, eq-eqb, false≢true}
+use Rattle.std.proofs.lemmas.Bool.{and_parts, ne_eqb, eq-eqb, false≢true}
 use Rattle.std.proofs.lemmas.List.{take_all, drop_all, take_at, drop_at, append_assoc, length-append, length-drop}
 use Rattle.std.proofs.lemmas.List.{get_or_append_left, get_or_at, length_push}
 use Rattle.std.proofs.lemmas.List.Sums.{position_or_len_is, AllPass-from_list_all}
@@ -20,14 +20,11 @@ use Rattle.password_hash.specs.Pairs.{IsPair, pair_text, pairs_text, ArePairs, p
 abbrev pub Lacks : ℕ → List ℕ → Type 0
 Lacks c xs = All (λ b. (b == c) ≡ false) xs
 
-other_letter : (p : ℕ → Bool) (c x : ℕ) → p c ≡ false → IsTrue (p x) → x ≢ c
-other_letter p c x is_none is_one e = false≢true (sym is_none ∙ (rw e at is_one))
-
 -- letters of a kind lack a byte of another kind
 pub letters_lack : (p : ℕ → Bool) (c : ℕ) → p c ≡ false → (xs : List ℕ) → IsTrue (list_all p xs) → Lacks c xs
 letters_lack p c is_none xs h =
-    All-weaker (λ x. p x ≡ true) (λ x. (x == c) ≡ false) (λ x is_one. ne_eqb x c (other_letter p c x is_none is_one)) xs
-    (AllPass-from_list_all p xs h)
+    let other = λ (x : ℕ) (is_one : p x ≡ true). ne_eqb x c (λ e. false≢true (sym is_none ∙ (rw e at is_one))) in
+    All-weaker (λ x. p x ≡ true) (λ x. (x == c) ≡ false) other xs (AllPass-from_list_all p xs h)
 
 -- the first c comes after bytes that lack it
 pub position_at : (c : ℕ) (xs ys : List ℕ) → Lacks c xs → position_or_len (λ b. b == c) (xs ++ (c ∷ ys)) ≡ length xs
@@ -37,28 +34,28 @@ position_at c xs ys none =
     (λ k below. rw (get_or_append_left xs (c ∷ ys) 0 k below) (All-get_or (λ b. (b == c) ≡ false) xs k 0 below none))
     (λ _. rw (get_or_at xs c ys 0 (length xs) refl) (eq-eqb c c refl))
 
-pub before_first_at : (c : ℕ) (xs ys : List ℕ) → Lacks c xs → before_first (λ b. b == c) (xs ++ (c ∷ ys)) ≡ xs
-before_first_at c xs ys none = rw (position_at c xs ys none) (take_at xs (c ∷ ys) (length xs) refl)
-
-pub after_first_at : (c : ℕ) (xs ys : List ℕ) → Lacks c xs → after_first (λ b. b == c) (xs ++ (c ∷ ys)) ≡ ys
-after_first_at c xs ys none =
+-- so a text is cut at it
+pub cut_at_first : (c : ℕ) (xs ys : List ℕ) → Lacks c xs
+    → (before_first (λ b. b == c) (xs ++ (c ∷ ys)) ≡ xs) × (after_first (λ b. b == c) (xs ++ (c ∷ ys)) ≡ ys)
+cut_at_first c xs ys none =
+    let at = position_at c xs ys none in
     let regrouped : xs ++ (c ∷ ys) ≡ (xs ++ (c ∷ [])) ++ ys = sym (append_assoc xs (c ∷ []) ys) in
-    rw (position_at c xs ys none, regrouped) (drop_at (xs ++ (c ∷ [])) ys (length xs + 1) (length_push xs c))
+    (rw at (take_at xs (c ∷ ys) (length xs) refl), rw (at, regrouped) (drop_at (xs ++ (c ∷ [])) ys (length xs + 1) (length_push xs c)))
 
--- no c stands in bytes that lack it
-pub position_none : (c : ℕ) (xs : List ℕ) → Lacks c xs → position_or_len (λ b. b == c) xs ≡ length xs
-position_none c xs none =
+-- and bytes that lack it are whole before it
+pub cut_at_none : (c : ℕ) (xs : List ℕ) → Lacks c xs → (before_first (λ b. b == c) xs ≡ xs) × (after_first (λ b. b == c) xs ≡ [])
+cut_at_none c xs none =
+    let at : position_or_len (λ b. b == c) xs ≡ length xs =
     position_or_len_is (λ b. b == c) xs (length xs) 0 (omega arith)
-    (λ k below. All-get_or (λ b. (b == c) ≡ false) xs k 0 below none)
-    (λ past. absurd (omega arith))
+    (λ k below. All-get_or (λ b. (b == c) ≡ false) xs k 0 below none) (λ past. absurd (omega arith)) in
+    rw at (take_all (length xs) xs (omega arith), drop_all (length xs + 1) xs (omega arith))
 
 -- a pair is told by its text
 pub pair_of-pair_text : (pair : List ℕ × List ℕ) → IsPair pair → pair_of (pair_text pair) ≡ pair
 pair_of-pair_text pair h =
     let none : Lacks 61 pair.0 = letters_lack is_identifier_letter 61 refl pair.0 h.name.letters in
-    let before = before_first_at 61 pair.0 pair.1 none in
-    let after = after_first_at 61 pair.0 pair.1 none in
-    λ i. (before i, after i)
+    let both = cut_at_first 61 pair.0 pair.1 none in
+    λ i. (both.0 i, both.1 i)
 
 -- the text of a pair has no `,`
 pub pair_text_lacks : (c : ℕ) → is_identifier_letter c ≡ false → is_value_letter c ≡ false → (61 == c) ≡ false
@@ -98,22 +95,24 @@ pub pairs_of_some : (text : List ℕ) → 0 < length text → pairs_of text ≡ 
 pairs_of_some [] some = absurd (omega arith)
 pairs_of_some (byte ∷ text) some = refl
 
-length_pair_text : (pair : List ℕ × List ℕ) → IsPair pair → 0 < length (pair_text pair)
-length_pair_text pair h = omega (arith, length-append pair.0 (61 ∷ pair.1))
+-- a text of pairs has a `=` after the first name
+pub equals_of_pairs : (pair : List ℕ × List ℕ) (pairs : List (List ℕ × List ℕ))
+    → (rest : List ℕ) × (pairs_text (pair ∷ pairs) ≡ pair.0 ++ (61 ∷ rest))
+equals_of_pairs pair [] = (pair.1, refl)
+equals_of_pairs pair (next ∷ pairs) =
+    (pair.1 ++ (44 ∷ pairs_text (next ∷ pairs)), append_assoc pair.0 (61 ∷ pair.1) (44 ∷ pairs_text (next ∷ pairs)))
 
-length_first : (piece : List ℕ) (pieces : List (List ℕ)) → length piece ≤ length (join_with_byte 44 (piece ∷ pieces))
-length_first piece [] = omega arith
-length_first piece (next ∷ pieces) = omega (arith, length-append piece (44 ∷ join_with_byte 44 (next ∷ pieces)))
-
--- a text of pairs is not empty
-pub length_pairs_text : (pair : List ℕ × List ℕ) (pairs : List (List ℕ × List ℕ)) → IsPair pair → 0 < length (pairs_text (pair ∷ pairs))
-length_pairs_text pair pairs h = omega (arith, length_pair_text pair h, length_first (pair_text pair) (map pair_text pairs))
+-- so it is not empty
+pub length_pairs_text : (pair : List ℕ × List ℕ) (pairs : List (List ℕ × List ℕ)) → 0 < length (pairs_text (pair ∷ pairs))
+length_pairs_text pair pairs =
+    let equals = equals_of_pairs pair pairs in
+    omega (arith, ap length equals.1, length-append pair.0 (61 ∷ equals.0))
 
 -- pairs are told by their text
 pub pairs_of-pairs_text : (pairs : List (List ℕ × List ℕ)) → All IsPair pairs → pairs_of (pairs_text pairs) ≡ pairs
 pairs_of-pairs_text [] h = refl
 pairs_of-pairs_text (pair ∷ pairs) h =
-    pairs_of_some (pairs_text (pair ∷ pairs)) (length_pairs_text pair pairs (All-head IsPair pair pairs h))
+    pairs_of_some (pairs_text (pair ∷ pairs)) (length_pairs_text pair pairs)
     ∙ ap (map pair_of) (pieces_of_pairs pair pairs h) ∙ map-pair_of (pair ∷ pairs) h
 
 -- the text of parameters is kept in place of them
@@ -122,14 +121,6 @@ pub kept_as_text : (text : List ℕ) (pairs : List (List ℕ × List ℕ)) → t
 kept_as_text text pairs e h =
     let back : pairs_of text ≡ pairs = ap pairs_of e ∙ pairs_of-pairs_text pairs h.each in
     (record { pairs = rw back h; whole = ap pairs_text back ∙ sym e }, back)
-
--- a text that lacks c is whole before the first c
-pub before_first_none : (c : ℕ) (xs : List ℕ) → Lacks c xs → before_first (λ b. b == c) xs ≡ xs
-before_first_none c xs none = rw (position_none c xs none) (take_all (length xs) xs (omega arith))
-
--- and nothing comes after
-pub after_first_none : (c : ℕ) (xs : List ℕ) → Lacks c xs → after_first (λ b. b == c) xs ≡ []
-after_first_none c xs none = rw (position_none c xs none) (drop_all (length xs + 1) xs (omega arith))
 
 -- the first pair of a text, and the text of the others
 pub record IsFirstPair (text pair rest : List ℕ) : Type 0 where
@@ -141,11 +132,8 @@ pub record IsFirstPair (text pair rest : List ℕ) : Type 0 where
 cut_at_comma : (pair : List ℕ × List ℕ) (pairs : List (List ℕ × List ℕ)) → Lacks 44 (pair_text pair)
     → (before_first (λ b. b == 44) (pairs_text (pair ∷ pairs)) ≡ pair_text pair) ×
     (after_first (λ b. b == 44) (pairs_text (pair ∷ pairs)) ≡ pairs_text pairs)
-cut_at_comma pair [] none = (before_first_none 44 (pair_text pair) none, after_first_none 44 (pair_text pair) none)
-cut_at_comma pair (next ∷ pairs) none = (
-  before_first_at 44 (pair_text pair) (pairs_text (next ∷ pairs)) none,
-  after_first_at 44 (pair_text pair) (pairs_text (next ∷ pairs)) none,
-)
+cut_at_comma pair [] none = cut_at_none 44 (pair_text pair) none
+cut_at_comma pair (next ∷ pairs) none = cut_at_first 44 (pair_text pair) (pairs_text (next ∷ pairs)) none
 
 first_pair_of : (pairs : List (List ℕ × List ℕ)) (text : List ℕ) → ArePairs pairs → pairs_text pairs ≡ text
     → 0 < length text → IsFirstPair text (before_first (λ b. b == 44) text) (after_first (λ b. b == 44) text)
@@ -175,10 +163,9 @@ first_pair text pair rest h some before after =
 pair_eq-Decides : (first second : List ℕ × List ℕ) → Decides (pair_eq first second) (first ≡ second)
 pair_eq-Decides first second =
     let names = bytes_eq-Decides first.0 second.0 in
-    let values = bytes_eq-Decides first.1 second.1 in
-    let both : pair_eq first second ≡ true
-    → (pointwise nat_eq first.0 second.0 ≡ true) × (pointwise nat_eq first.1 second.1 ≡ true) = grind arith in (
-      λ e. λ i. (names.0 (both e).0 i, values.0 (both e).1 i),
+    let values = bytes_eq-Decides first.1 second.1 in (
+      λ e. let both = and_parts (pointwise nat_eq first.0 second.0) (pointwise nat_eq first.1 second.1) e in
+          λ i. (names.0 both.0 i, values.0 both.1 i),
       λ e. rw (names.1 (ap (λ p. p.0) e), values.1 (ap (λ p. p.1) e)) refl,
     )
 

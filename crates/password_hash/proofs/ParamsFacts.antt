@@ -32,22 +32,13 @@ with_pair_some [] pair some = absurd (omega arith)
 with_pair_some (byte ∷ text) pair some = refl
 
 -- the text of one pair more
-pub with_pair-pairs_text : (pairs : List (List ℕ × List ℕ)) (pair : List ℕ × List ℕ) → All IsPair pairs
+pub with_pair-pairs_text : (pairs : List (List ℕ × List ℕ)) (pair : List ℕ × List ℕ)
     → with_pair (pairs_text pairs) pair ≡ pairs_text (pairs ++ pair ∷ [])
-with_pair-pairs_text [] pair h = refl
-with_pair-pairs_text (first ∷ pairs) pair h =
-    with_pair_some (pairs_text (first ∷ pairs)) pair (length_pairs_text first pairs (All-head IsPair first pairs h))
+with_pair-pairs_text [] pair = refl
+with_pair-pairs_text (first ∷ pairs) pair =
+    with_pair_some (pairs_text (first ∷ pairs)) pair (length_pairs_text first pairs)
     ∙ sym (ap (λ texts. join_with_byte 44 (pair_text first ∷ texts)) (map_push pair_text pairs pair)
     ∙ join_push 44 (pair_text first) (map pair_text pairs) (pair_text pair))
-
--- parameters with one pair more
-pub ArePairs-push : (pairs : List (List ℕ × List ℕ)) (pair : List ℕ × List ℕ) → ArePairs pairs → IsPair pair
-    → All (λ other. other.0 ≢ pair.0) pairs → length (pairs_text (pairs ++ pair ∷ [])) ≤ 127 → ArePairs (pairs ++ pair ∷ [])
-ArePairs-push pairs pair h is_pair others short = record {
-  each = All-push IsPair pairs pair h.each is_pair;
-  once = all_pairs_push (λ first second. first.0 ≢ second.0) pairs pair h.once others;
-  short = short;
-}
 
 -- the last of some parameters
 pub record IsLast (pairs : List (List ℕ × List ℕ)) (pair : List ℕ × List ℕ) : Type 0 where
@@ -100,13 +91,11 @@ pub record IsAdded {E : Type 0} (r : Result (Unit {0}) E) (pairs : List (List �
   pub kept : IsPairsText text
   pub exact : IsOk r ↔ ArePairs (pairs ++ pair ∷ [])
   pub ok : OnOk r (pairs_of text ≡ pairs ++ pair ∷ [])
-  pub unchanged : OnErr r (pairs_of text ≡ pairs)
 
 with_pair-kept : (pairs : List (List ℕ × List ℕ)) (pair : List ℕ × List ℕ) (text : List ℕ) → IsPairsText text → pairs_of text ≡ pairs
     → with_pair text pair ≡ pairs_text (pairs ++ pair ∷ [])
 with_pair-kept pairs pair text h view =
-    let each : All IsPair pairs = rw view at h.pairs.each in
-    ap (λ t. with_pair t pair) (sym h.whole ∙ ap pairs_text view) ∙ with_pair-pairs_text pairs pair each
+    ap (λ t. with_pair t pair) (sym h.whole ∙ ap pairs_text view) ∙ with_pair-pairs_text pairs pair
 
 pub added : {E : Type 0} (r : Result (Unit {0}) E) (pairs : List (List ℕ × List ℕ)) (pair : List ℕ × List ℕ)
     (old new : List ℕ) → IsPairsText old → pairs_of old ≡ pairs → IsPair pair → All (λ other. other.0 ≢ pair.0) pairs
@@ -115,12 +104,16 @@ pub added : {E : Type 0} (r : Result (Unit {0}) E) (pairs : List (List ℕ × Li
 added (Ok u) pairs pair old new h view is_pair others exact ok unchanged =
     let text = with_pair-kept pairs pair old h view in
     let before : ArePairs pairs = rw view at h.pairs in
-    let after = ArePairs-push pairs pair before is_pair others (rw text at (exact.0 refl)) in
+    let after : ArePairs (pairs ++ pair ∷ []) = record {
+      each = All-push IsPair pairs pair before.each is_pair;
+      once = all_pairs_push (λ first second. first.0 ≢ second.0) pairs pair before.once others;
+      short = rw text at (exact.0 refl);
+    } in
     let kept = kept_as_text new (pairs ++ pair ∷ []) (ok ∙ text) after in
-    record { kept = kept.0; exact = (λ _. after, λ _. refl); ok = kept.1; unchanged = tt }
+    record { kept = kept.0; exact = (λ _. after, λ _. refl); ok = kept.1 }
 added (Err e) pairs pair old new h view is_pair others exact ok unchanged =
     let exact_after = λ (after : ArePairs (pairs ++ pair ∷ [])). exact.1 (rw (with_pair-kept pairs pair old h view) after.short) in
-    record { kept = rw unchanged h; exact = (λ e. absurd (false≢true e), exact_after); ok = tt; unchanged = rw unchanged view }
+    record { kept = rw unchanged h; exact = (λ e. absurd (false≢true e), exact_after); ok = tt }
 
 -- a piece with something after its first `=` is the text of its pair
 pub pair_text-pair_of : (piece : List ℕ) → 0 < length (after_first (λ b. b == 61) piece) → pair_text (pair_of piece) ≡ piece
@@ -152,10 +145,9 @@ next_of_pairs pairs params pieces piece k h all read below at =
     subst ArePairs front (ArePairs-take (k + 1) pairs h)
 
 -- no parameters have an empty text
-pub no_pairs : (text : List ℕ) (pairs : List (List ℕ × List ℕ)) → length text ≡ 0 → ArePairs pairs → text ≡ pairs_text pairs → pairs ≡ []
-no_pairs text [] empty h e = refl
-no_pairs text (pair ∷ pairs) empty h e =
-    absurd (omega (arith, ap length e, length_pairs_text pair pairs (All-head IsPair pair pairs h.each)))
+pub no_pairs : (text : List ℕ) (pairs : List (List ℕ × List ℕ)) → length text ≡ 0 → text ≡ pairs_text pairs → pairs ≡ []
+no_pairs text [] empty e = refl
+no_pairs text (pair ∷ pairs) empty e = absurd (omega (arith, ap length e, length_pairs_text pair pairs))
 
 -- others are the pairs of the pieces of their text
 pub pairs_of_pieces : (text : List ℕ) (pairs : List (List ℕ × List ℕ)) → 0 < length text → ArePairs pairs

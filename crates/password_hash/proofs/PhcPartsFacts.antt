@@ -1,12 +1,12 @@
 -- The parts of a PHC text.
 use Rattle.std.proofs.lemmas.Str.Pattern.{contains_char}
-use Rattle.std.proofs.Common.{◌≡◌, ◌≢◌, ℕ, suc, ◌+◌, ◌*◌, ◌/◌, ◌%◌, ◌^◌, ◌<◌, ◌==◌, false, List, [], ◌∷◌}
+use Rattle.std.proofs.Common.{◌≡◌, ◌≢◌, ℕ, suc, ◌+◌, ◌*◌, ◌/◌, ◌%◌, ◌<◌, ◌==◌, false, List, [], ◌∷◌}
 use Rattle.std.proofs.Common.{◌++◌, length, get_or, codes, slice_index, refl, sym, ap, subst, ◌∙◌, arith}
 use Rattle.std.specs.Prelude.{All, IfSome, Option, None, Some, decimal}
 use Rattle.std.specs.List.{AllByRecursion as ByRecursion}
 use Rattle.std.specs.List.{slice_split, join_with_byte}
-use Rattle.std.proofs.lemmas.List.{append_assoc, append-nil, length-append, get_or_at}
-use Rattle.std.proofs.lemmas.List.Splits.{join_with_byte-slice_split, slice_split_none, length-slice_split}
+use Rattle.std.proofs.lemmas.List.{append-nil, length-append, get_or_at}
+use Rattle.std.proofs.lemmas.List.Splits.{join_with_byte-slice_split, length-slice_split}
 use Rattle.std.proofs.lemmas.Bool.{eq-eqb, false≢true}
 use Rattle.std.proofs.lemmas.List.Elements.{All-head, All-get_or, All-from_recursion}
 use Rattle.base64.specs.Rfc4648.{encode_symbols}
@@ -14,12 +14,12 @@ use Rattle.base64.specs.GeneralPurpose.{IsBytes}
 use Rattle.base64.specs.Engines.{standard_no_pad}
 use Rattle.password_hash.specs.Letters.{is_value_letter}
 use Rattle.password_hash.specs.Pairs.{pairs_text}
-use Rattle.password_hash.specs.Phc.{base64, version_part, params_part, key_part, IsSalt, IsKey, IsSaltAndKey}
+use Rattle.password_hash.specs.Phc.{base64, version_part, params_part, key_part, IsKey, IsSaltAndKey}
 use Rattle.password_hash.specs.Decimal.{IsDecimal}
 use Rattle.password_hash.specs.PhcParts.{IsVersion, LackVersion, LackEquals}
 use Rattle.password_hash.proofs.Base64Facts.{base64_injective}
-use Rattle.password_hash.proofs.DecimalFacts.{decimal_of, IsDecimal-decimal}
-use Rattle.password_hash.proofs.PairsFacts.{Lacks, letters_lack}
+use Rattle.password_hash.proofs.DecimalFacts.{IsDecimal-decimal}
+use Rattle.password_hash.proofs.PairsFacts.{Lacks, equals_of_pairs, letters_lack}
 
 -- the symbols of six bits of a table
 symbols_hold : (P : ℕ → Type 0) (t : List ℕ) → ((v : ℕ) → v < 64 → P (slice_index t v)) → (m : List ℕ) → IsBytes m
@@ -36,16 +36,11 @@ symbols_hold P t each (a ∷ b ∷ []) h =
 symbols_hold P t each (a ∷ b ∷ c ∷ m) h =
     let small_a : a < 256 = h 0 in
     let small_b : b < 256 = h 1 in
-    let small_c : c < 256 = h 2 in (
-      each (a / 4) (omega arith),
-      (
-        each (a % 4 * 16 + b / 16) (omega arith),
-        (
-          each (b % 16 * 4 + c / 64) (omega arith),
-          (each (c % 64) (omega arith), symbols_hold P t each m (λ i. h (suc (suc (suc i))))),
-        ),
-      ),
-    )
+    let small_c : c < 256 = h 2 in
+    let first = each (a / 4) (omega arith) in
+    let second = each (a % 4 * 16 + b / 16) (omega arith) in
+    let third = each (b % 16 * 4 + c / 64) (omega arith) in
+    (first, (second, (third, (each (c % 64) (omega arith), symbols_hold P t each m (λ i. h (suc (suc (suc i))))))))
 
 -- Base64 lacks a byte that is no letter of values
 pub base64_lacks : (c : ℕ) → is_value_letter c ≡ false → (bytes : List ℕ) → IsBytes bytes → Lacks c (base64 bytes)
@@ -76,20 +71,6 @@ version_next digits after (Some number) others h none e =
     let same : digits ≡ decimal number = cc in
     let left : after ≡ others = cc in
     record { number = number; is_version = refl; is_decimal = rw same (IsDecimal-decimal number h); left = left }
-
--- what is read of a part with `v=`
-pub version_read : (parts : List (List ℕ)) (part digits : List ℕ) (after : List (List ℕ)) (number : ℕ)
-    → parts ≡ part ∷ after → part ≡ codes "v=" ++ digits → IsDecimal digits number
-    → (parts ≡ (codes "v=" ++ decimal number) ∷ after) × (number < 2 ^ 32)
-version_read parts part digits after number e is h =
-    (e ∙ ap (λ first. first ∷ after) (is ∙ ap (λ rest. codes "v=" ++ rest) (decimal_of digits number h)), h.small)
-
--- the text of parameters has a `=`
-pub equals_of_pairs : (pair : List ℕ × List ℕ) (pairs : List (List ℕ × List ℕ))
-    → (rest : List ℕ) × (pairs_text (pair ∷ pairs) ≡ pair.0 ++ (61 ∷ rest))
-equals_of_pairs pair [] = (pair.1, refl)
-equals_of_pairs pair (next ∷ pairs) =
-    (pair.1 ++ (44 ∷ pairs_text (next ∷ pairs)), append_assoc pair.0 (61 ∷ pair.1) (44 ∷ pairs_text (next ∷ pairs)))
 
 -- a part without `=` is no text of parameters
 pub no_params : (part : List ℕ) (after : List (List ℕ)) (params : List (List ℕ × List ℕ)) (others : List (List ℕ))
@@ -151,20 +132,6 @@ same_salt_and_key parts (Some salt) (Some salt') key key' h h' =
     same_key (Some a) (Some b) ha hb e =
         let letters : base64 a ≡ base64 b = cc in
         ap (λ key. Some key) (base64_injective a b ha.are_bytes hb.are_bytes letters)
-
--- what is read of a salt and a key
-pub salt_and_key_read : (parts : List (List ℕ)) (part letters salt key : List ℕ)
-    → parts ≡ part ∷ slice_split (λ b. b == 36) letters → part ≡ base64 salt → IsSalt salt → letters ≡ base64 key
-    → IsKey key → IsSaltAndKey parts (Some salt) (Some key)
-salt_and_key_read parts part letters salt key e is_salt salt_allowed is_key key_allowed =
-    let alone : slice_split (λ b. b == 36) letters ≡ letters ∷ [] =
-    slice_split_none (λ b. b == 36) letters (rw is_key (base64_lacks 36 refl key key_allowed.are_bytes)) in
-    record {
-      whole = e ∙ rw (alone, is_salt, is_key) refl;
-      salt_bytes = salt_allowed;
-      key_bytes = key_allowed;
-      key_after_salt = refl;
-    }
 
 -- the parameters, taken off the parts
 pub ruleset params = (contains_char, no_params, params_next)

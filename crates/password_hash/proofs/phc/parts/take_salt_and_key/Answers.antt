@@ -1,7 +1,8 @@
-use Rattle.std.proofs.Common.{◌≡◌, ◌∷◌, ◌==◌, Some, ap, ◌∙◌}
+use Rattle.std.proofs.Common.{◌≡◌, ◌∷◌, ◌==◌, Some, refl, ap, ◌∙◌}
 use Rattle.std.specs.List.{slice_split}
+use Rattle.std.proofs.lemmas.List.Splits.{slice_split_none}
 use Rattle.password_hash.specs.Parts.{parts_left}
-use Rattle.password_hash.proofs.PhcPartsFacts.{key_next, salt_and_key_read, same_salt_and_key}
+use Rattle.password_hash.proofs.PhcPartsFacts.{base64_lacks, key_next, same_salt_and_key}
 use Rattle.password_hash.proofs.phc.parts.take_salt_and_key.Goals as goal
 use Rattle.password_hash.proofs.phc.parts.take_salt_and_key.Goals.{In-Some-after}
 
@@ -14,8 +15,14 @@ returns-clause-found c =
     let at = (goal.at.returns-clause-found c).In-Some-after in
     let salt = c.in_ok-salt.ensures in
     let key = c.in_ok-key.ensures in
-    salt_and_key_read (parts_left c.args.left) c.first_part.result.0.now c.in-Some-after.letters.now c.in_ok-salt.salt
-    c.in_ok-key.key (front at) salt.letters salt.bytes key.letters key.bytes
+    let none = base64_lacks 36 refl c.in_ok-key.key key.bytes.are_bytes in
+    let alone = slice_split_none (λ b. b == 36) c.in-Some-after.letters.now (rw key.letters none) in
+    record {
+      whole = front at ∙ rw (alone, salt.letters, key.letters) refl;
+      salt_bytes = salt.bytes;
+      key_bytes = key.bytes;
+      key_after_salt = refl;
+    }
 
 pub returns-in_err-key-clause-only : goal.returns-in_err-key-clause-only
 returns-in_err-key-clause-only c = λ salt key h.

@@ -2,8 +2,8 @@ use Rattle.std.proofs.Common.{◌≡◌, ◌++◌, ◌∷◌, ℕ, List, Option,
 use Rattle.password_hash.specs.Parts.{parts_left}
 use Rattle.password_hash.specs.Phc.{version_part}
 use Rattle.password_hash.specs.PhcParts.{IsVersion, LackVersion}
-use Rattle.password_hash.proofs.DecimalFacts.{reads_decimal}
-use Rattle.password_hash.proofs.PhcPartsFacts.{HasVersion, version_next, version_read}
+use Rattle.password_hash.proofs.DecimalFacts.{decimal_of, reads_decimal}
+use Rattle.password_hash.proofs.PhcPartsFacts.{HasVersion, version_next}
 use Rattle.password_hash.proofs.phc.parts.take_version.Goals as goal
 use Rattle.password_hash.proofs.phc.parts.take_version.Goals.{In-Some-strip_prefix}
 
@@ -30,9 +30,9 @@ returns-in_err-version-clause-only c = λ version others is_version none e.
 pub returns-clause-found : goal.returns-clause-found
 returns-clause-found c =
     let at = (goal.at.returns-clause-found c).In-Some-strip_prefix in
-    version_read (parts_left c.args.left) c.first_part.result.0.now c.in-Some-strip_prefix.digits.now
-    (parts_left c.first_part.result.1) c.in_ok-version.version (front at) (begins at)
-    (reads_decimal _ _ c.in_ok-version.ensures.gives).found
+    let is = (reads_decimal _ _ c.in_ok-version.ensures.gives).found in
+    let digits = decimal_of c.in-Some-strip_prefix.digits.now c.in_ok-version.version is in
+    (front at ∙ ap (λ part. part ∷ parts_left c.first_part.result.1) (begins at ∙ ap (λ rest. codes "v=" ++ rest) digits), is.small)
 
 pub returns-clause-only : goal.returns-clause-only
 returns-clause-only c = λ version others is_version none e.

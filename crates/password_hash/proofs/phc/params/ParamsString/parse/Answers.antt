@@ -14,7 +14,7 @@ use Rattle.password_hash.proofs.phc.params.ParamsString.parse.Goals.{In-None}
 pub returns-then-is_empty-clause-only : goal.returns-then-is_empty-clause-only
 returns-then-is_empty-clause-only c = λ pairs h e.
     let empty : length c.args.text.now ≡ 0 = grind (arith, nat_tests) in
-    ap (λ params. Ok params) (c.new-params.ensures.value ∙ sym (no_pairs c.args.text.now pairs empty h e))
+    ap (λ params. Ok params) (c.new-params.ensures.value ∙ sym (no_pairs c.args.text.now pairs empty e))
 
 pub loop-pair-preserved : goal.loop-pair-preserved
 loop-pair-preserved c =
