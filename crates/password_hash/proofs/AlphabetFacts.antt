@@ -1,8 +1,10 @@
 -- The alphabet's table: each letter has its value, and no other byte has one.
-use Rattle.std.proofs.Common.{◌≡◌, ◌≢◌, ap, refl, ℕ, ◌+◌, ◌-◌, ◌<◌, true, cond, ◌&&◌, not, nat_le, nat_lt, eqb, Option, Some, None, get_or}
-use Rattle.std.specs.Option.{option_eq}
-use Rattle.std.proofs.lemmas.Bool.{agree_below_at, eqb-true, ltb-true, eqb-false, not-true, and_parts, false≢true}
+use Rattle.std.proofs.Common.{◌≡◌, ◌≢◌, ◌∙◌, sym, map, ap, refl, arith, ℕ, ◌+◌, ◌-◌, ◌<◌, true, cond, ◌&&◌, not, nat_le, nat_lt}
+use Rattle.std.proofs.Common.{eqb, Option, Some, None, get_or}
+use Rattle.std.specs.List.{range_with_len}
+use Rattle.std.proofs.lemmas.Bool.{agree_below_at, eqb-true, ltb-true, eqb-false, not-true, and_parts}
 use Rattle.std.proofs.lemmas.Bool.Decides.{nat_tests}
+use Rattle.std.proofs.lemmas.List.FromFn.{get_or-map-range_with_len}
 use Rattle.std.proofs.lemmas.List.Quantifiers.{position-Some}
 use Rattle.password_hash.specs.Crypt64.{alphabet, letter, letter_value}
 
@@ -13,25 +15,21 @@ value_by_range byte =
     (cond (nat_le 65 byte && nat_le byte 90) (Some (byte - 65 + 12))
     (cond (nat_le 97 byte && nat_le byte 122) (Some (byte - 97 + 38)) None))
 
-same_option : (o p : Option ℕ) → option_eq eqb o p ≡ true → o ≡ p
-same_option None None h = refl
-same_option None (Some y) h = absurd (false≢true h)
-same_option (Some x) None h = absurd (false≢true h)
-same_option (Some x) (Some y) h = ap Some (eqb-true x y h)
+-- two functions that agree at each number below n are listed alike
+agree_at : (f g : ℕ → Option ℕ) (n value : ℕ) → map f (range_with_len 0 n) ≡ map g (range_with_len 0 n) → value < n → f value ≡ g value
+agree_at f g n value same below =
+    sym (get_or-map-range_with_len f 0 n value value None below (omega arith)) ∙ ap (λ answers. get_or answers value None) same
+    ∙ get_or-map-range_with_len g 0 n value value None below (omega arith)
 
 -- the ranges give each byte its value
 pub value_of_byte : (byte : ℕ) → byte < 256 → letter_value byte ≡ value_by_range byte
 unfolding letter_value
-value_of_byte byte below =
-    same_option (letter_value byte) (value_by_range byte)
-    (agree_below_at (λ b. option_eq eqb (letter_value b) (value_by_range b)) (λ _. true) 256 byte refl below)
+value_of_byte byte below = agree_at letter_value value_by_range 256 byte refl below
 
 -- the value of a value's letter
 pub letter_value-letter : (value : ℕ) → value < 64 → letter_value (letter value) ≡ Some value
 unfolding letter letter_value
-letter_value-letter value below =
-    same_option (letter_value (letter value)) (Some value)
-    (agree_below_at (λ v. option_eq eqb (letter_value (letter v)) (Some v)) (λ _. true) 64 value refl below)
+letter_value-letter value below = agree_at (λ v. letter_value (letter v)) Some 64 value refl below
 
 -- a letter has a value below 64, and is that value's letter
 pub letter-of_value : (byte value : ℕ) → letter_value byte ≡ Some value → (value < 64) × (letter value ≡ byte)

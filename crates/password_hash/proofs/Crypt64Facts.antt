@@ -1,7 +1,7 @@
 -- What follows from the definitions of crypt Base64.
 use Rattle.std.proofs.Math.Seq.{drop-length}
-use Rattle.std.proofs.Common.{◌≡◌, ◌≢◌, ◌∙◌, sym, ap, refl, arith, ℕ, zero, suc, ◌+◌, ◌-◌, ◌*◌, ◌/◌, ◌%◌, ◌^◌, ◌<◌, ◌≤◌}
-use Rattle.std.proofs.Common.{Option, Some, None, List, [], ◌∷◌, ◌++◌, length, drop, get_or, append_assoc}
+use Rattle.std.proofs.Common.{◌≡◌, ◌≢◌, sym, ap, refl, arith, ℕ, zero, suc, ◌+◌, ◌-◌, ◌*◌, ◌/◌, ◌%◌, ◌^◌, ◌<◌, ◌≤◌}
+use Rattle.std.proofs.Common.{Option, Some, None, List, [], ◌∷◌, ◌++◌, length, drop, get_or}
 use Rattle.std.proofs.Common.{length-drop}
 use Rattle.std.proofs.Math.Nat.{pow-suc, pow-le-pow_right}
 use Rattle.std.specs.List.{All}
@@ -126,11 +126,7 @@ crypt64_of-plain (a ∷ b ∷ c ∷ rest) =
     All-append IsPlain (letters_of 4 (a + 256 * b + 65536 * c)) (crypt64_of rest)
     (letters_of-plain 4 (a + 256 * b + 65536 * c)) (crypt64_of-plain rest)
 
--- a loop over the letters: one goes from those that are left to those that are done
-
-pub letter_done : (done left left' all : List ℕ) (x : ℕ) → done ++ left ≡ all → left ≡ x ∷ left' → (done ++ (x ∷ [])) ++ left' ≡ all
-letter_done done left left' all x same next = append_assoc done (x ∷ []) left' ∙ ap (λ more. done ++ more) (sym next) ∙ same
-
+-- so is the first letter that is left
 pub letter-is_plain : (pending number x : ℕ) (bytes left' : List ℕ) → letters_of pending number ++ crypt64_of bytes ≡ x ∷ left' → IsPlain x
 letter-is_plain pending number x bytes left' next =
     All-head IsPlain x left' (All-same IsPlain (x ∷ left') _ (sym next) (All-append IsPlain (letters_of pending number)

@@ -19,11 +19,6 @@ use Rattle.password_hash.proofs.PartsFacts.{parts_of-parts_text, parts_text-part
 no_dollar : (field : List ℕ) → IsField field → All (λ byte. (byte == dollar) ≡ false) field
 no_dollar field is = All-weaker (λ byte. byte ≢ dollar) (λ byte. (byte == dollar) ≡ false) (λ byte other. ne_eqb byte dollar other) field is
 
--- an id is without a dollar
-pub IsField-id : (id : List ℕ) → IsId id → IsField id
-IsField-id id is = All-weaker (λ byte. (byte == dollar) ≡ false) (λ byte. byte ≢ dollar)
-    (λ byte other. eqb-false byte dollar other) id (letters_lack is_identifier_letter dollar refl id is.1)
-
 -- the letters of bytes are without a dollar
 pub IsField-crypt64_of : (bytes : List ℕ) → IsField (crypt64_of bytes)
 IsField-crypt64_of bytes = All-weaker IsPlain (λ byte. byte ≢ dollar) (λ byte plain. plain.1) (crypt64_of bytes) (crypt64_of-plain bytes)
@@ -31,11 +26,11 @@ IsField-crypt64_of bytes = All-weaker IsPlain (λ byte. byte ≢ dollar) (λ byt
 -- the parts of an MCF text
 pub parts_of-IsMcfText : (text id : List ℕ) (fields : List (List ℕ)) → IsMcfText text id fields → parts_of text ≡ [] ∷ id ∷ fields
 parts_of-IsMcfText text id fields is =
-    let parts : All IsField ([] ∷ id ∷ fields) =
-    All-cons IsField [] (id ∷ fields) (All-nil (λ byte. byte ≢ dollar))
-    (All-cons IsField id fields (IsField-id id is.is_id) is.are_fields) in
-    parts_of-parts_text text [] (id ∷ fields) (All-weaker IsField (Lacks dollar) no_dollar ([] ∷ id ∷ fields) parts)
-    (ap (λ text. dollar ∷ text) is.written)
+    let none : All (Lacks dollar) ([] ∷ id ∷ fields) =
+    All-cons (Lacks dollar) [] (id ∷ fields) (All-nil (λ byte. (byte == dollar) ≡ false))
+    (All-cons (Lacks dollar) id fields (letters_lack is_identifier_letter dollar refl id is.is_id.1)
+    (All-weaker IsField (Lacks dollar) no_dollar fields is.are_fields)) in
+    parts_of-parts_text text [] (id ∷ fields) none (ap (λ text. dollar ∷ text) is.written)
 
 -- no part of a text has a dollar
 are_fields-slice_split : (text : List ℕ) → All IsField (parts_of text)

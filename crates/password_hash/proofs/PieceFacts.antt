@@ -1,7 +1,6 @@
 -- Facts on the letters of a piece of bytes: of whole groups of three bytes, or of all that are left.
-use Rattle.std.proofs.Common.{◌≡◌, ◌∙◌, ap, refl, arith, inl, inr, ℕ, ◌+◌, ◌*◌, ◌/◌, ◌<◌, ◌≤◌, List}
+use Rattle.std.proofs.Common.{◌≡◌, ◌∙◌, ap, refl, arith, ℕ, ◌+◌, ◌*◌, ◌/◌, ◌<◌, ◌≤◌, List}
 use Rattle.std.proofs.Common.{length, take, drop, length-drop}
-use Rattle.std.proofs.lemmas.Bool.{cases_lt}
 use Rattle.std.proofs.lemmas.List.Elements.{All-take, All-drop}
 use Rattle.password_hash.specs.Crypt64.{Crypt64, IsPiece, encoded_len}
 use Rattle.password_hash.proofs.GroupFacts.{crypt64_of-cut, length-crypt64_of}
@@ -24,7 +23,4 @@ pub piece_inside : (all letters : List ℕ) (at n : ℕ) → Crypt64 all letters
     → at / 3 * 4 + encoded_len n ≤ length letters
 piece_inside all letters at n is piece =
     let letters_are : length letters ≡ encoded_len (length all) = ap length is.encoding ∙ length-crypt64_of all in
-    elim (cases_lt (at + n) (length all)) [
-      | inl below ↦ omega (arith, piece.begins, piece.ends below)
-      | inr ends ↦ omega (arith, piece.begins, piece.inside)
-    ]
+    omega (arith, letters_are, piece.begins, piece.inside, piece.ends)
