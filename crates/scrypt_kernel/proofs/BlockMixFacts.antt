@@ -10,20 +10,12 @@ use Rattle.scrypt_kernel.specs.BlockMix.{block_mix, chain, y}
 use Rattle.scrypt_kernel.specs.Diagonal.{AreInverse, IsBlockMixBy, permuted}
 use Rattle.scrypt_kernel.proofs.PartFacts.{halves_all, length-part, length-parts, part_after, part_of_parts, take_both}
 use Rattle.scrypt_kernel.proofs.SalsaFacts.{length-salsa20_8}
-use Rattle.scrypt_kernel.proofs.OrderFacts.{block_in, block_out, in_then_out, length-permuted, out_then_in, standard_of, zip_out}
+use Rattle.scrypt_kernel.proofs.OrderFacts.{block_in, length-permuted, out_then_in, standard_of, zip_in}
 
 -- one more step of the chain
 pub chain_more : (b : List ℕ) (i : ℕ) → chain b (i + 1) ≡ salsa20_8 (xor_words (chain b i) (block b i))
 unfolding chain
 chain_more b i = rw add-one refl
-
--- a list whose blocks are those of the block mix
-pub block_mix_all : (b x : List ℕ) (r : ℕ) → r ≡ length b / 32 → length x ≡ 2 * r * 16
-    → ((k : ℕ) → k < r → block x k ≡ y b (2 * k))
-    → ((k : ℕ) → k < r → block x (r + k) ≡ y b (2 * k + 1)) → x ≡ block_mix b
-unfolding block_mix
-block_mix_all b x r is long even odd =
-    rw (← is) (halves_all (λ k. y b (2 * k)) (λ k. y b (2 * k + 1)) 16 r x long even odd)
 
 pub length-chain : (b : List ℕ) → 16 ≤ length b → length b % 16 ≡ 0 → (i : ℕ) → i * 16 ≤ length b → length (chain b i) ≡ 16
 unfolding chain
@@ -64,54 +56,37 @@ module _ (b : List ℕ) (some : 0 < length b) (whole : length b % 32 ≡ 0) wher
       ∙ part_of_parts (λ k. y b (2 * k + 1)) 16 0 r k [] (λ k h. length-y (2 * (0 + k) + 1) (omega arith)) inside
       ∙ ap (λ i. y b (2 * i + 1)) (zero-add k)
 
--- the chain of words in another order
-module _ (p q : List ℕ) (inverse : AreInverse p q) (input : List ℕ) where
-  -- block k in this order
-  pub block_is_in : (k : ℕ) → k * 16 + 16 ≤ length input → block input k ≡ permuted p (block (permuted q input) k)
-  block_is_in k room =
-      let size : length (block input k) ≡ 16 = length-part 16 k input room in
-      sym (out_then_in p q inverse (block input k) (omega arith)) ∙ ap (permuted p) (sym (block_out p q inverse input k room))
-
-  -- it begins with the last block
-  pub last_block_in : 16 ≤ length input → length input % 16 ≡ 0
-      → last_block input ≡ permuted p (last_block (permuted q input))
-  last_block_in some whole =
-      let long : length (permuted q input) ≡ length input = length-permuted q input in
-      rw long (block_is_in (length input / 16 - 1) (omega arith))
-
-  -- and goes on with the core
-  pub next_in_chain : (x : List ℕ) (i : ℕ) → 16 ≤ length input → length input % 16 ≡ 0 → i * 16 + 16 ≤ length input
-      → x ≡ permuted p (chain (permuted q input) i)
-      → permuted p (salsa20_8 (permuted q (xor_words x (block input i)))) ≡ permuted p (chain (permuted q input) (i + 1))
-  next_in_chain x i some whole room is =
-      let b = permuted q input in
-      let long : length b ≡ length input = length-permuted q input in
-      let one : length x ≡ 16 = ap length is ∙ length-permuted p _ ∙ length-chain b (omega arith) (omega arith) i (omega arith) in
-      let two : length (block input i) ≡ 16 = length-part 16 i input room in
-      ap (λ z. permuted p (salsa20_8 z)) (zip_out p q inverse bit_xor x (block input i) (one ∙ sym two) (omega arith)
-      ∙ ap₂ xor_words (standard_of p q inverse x (chain b i) (omega arith) is) (sym (block_out p q inverse input i room)))
-      ∙ ap (permuted p) (sym (chain_more b i))
+-- the core of words in another order
+abbrev pub core_in : List ℕ → List ℕ → List ℕ → List ℕ
+core_in p q x = permuted p (salsa20_8 (permuted q x))
 
 -- the block mix of words in another order, by the core in that order
 module _ (p q : List ℕ) (inverse : AreInverse p q) (b : List ℕ) (some : 0 < length b) (whole : length b % 32 ≡ 0) where
-  pub block_mix_by : IsBlockMixBy (λ x. permuted p (salsa20_8 (permuted q x))) (permuted p b) (permuted p (block_mix b))
+  next_in : (i : ℕ) → i * 16 + 16 ≤ length b
+      → permuted p (chain b (i + 1)) ≡ core_in p q (xor_words (permuted p (chain b i)) (block (permuted p b) i))
+  next_in i room =
+      let z = chain b i in
+      let w = block b i in
+      let one : length z ≡ 16 = length-chain b (omega arith) (omega arith) i (omega arith) in
+      let same : length z ≡ length w = one ∙ sym (length-part 16 i b room) in
+      let long = length-zip2 bit_xor z w same in
+      let joined = ap (xor_words (permuted p z)) (block_in p q inverse b i room) ∙ zip_in p q inverse bit_xor z w same (omega arith) in
+      let back = standard_of p q inverse _ (xor_words z w) (omega (arith, long, ap length joined, length-permuted p (xor_words z w))) joined in
+      ap (permuted p) (chain_more b i ∙ ap salsa20_8 (sym back))
+
+  pub block_mix_by : IsBlockMixBy (core_in p q) (permuted p b) (permuted p (block_mix b))
   unfolding chain
   block_mix_by =
-      let input = permuted p b in
-      let long : length input ≡ length b = length-permuted p b in
+      let long : length (permuted p b) ≡ length b = length-permuted p b in
       let mixed : length (block_mix b) ≡ length b = length-block_mix b some whole in
-      let back : permuted q input ≡ b = in_then_out p q inverse b (omega arith) in
       record {
         x = λ i. permuted p (chain b i);
-        first = ap (λ z. permuted p (last_block z)) (sym back) ∙ sym (last_block_in p q inverse input (omega arith) (omega arith));
-        next = λ i h. ap (λ z. permuted p (chain z (i + 1))) (sym back)
-            ∙ sym (next_in_chain p q inverse input (permuted p (chain b i)) i (omega arith) (omega arith) (omega arith)
-            (ap (λ z. permuted p (chain z i)) (sym back)));
+        first = rw long (sym (block_in p q inverse b (length b / 16 - 1) (omega arith)));
+        next = λ i h. next_in i (omega arith);
         long = length-permuted p (block_mix b) ∙ mixed ∙ sym long;
         even = λ k h. block_in p q inverse (block_mix b) k (omega arith) ∙ ap (permuted p) (even_block b some whole k (omega arith));
-        odd = λ k h. ap (λ n. block (permuted p (block_mix b)) (n / 32 + k)) long
-            ∙ block_in p q inverse (block_mix b) (length b / 32 + k) (omega arith)
-            ∙ ap (permuted p) (odd_block b some whole k (omega arith));
+        odd = λ k h. rw long (block_in p q inverse (block_mix b) (length b / 32 + k) (omega arith)
+            ∙ ap (permuted p) (odd_block b some whole k (omega arith)));
       }
 
 -- the block mix is a block mix by the core
@@ -148,59 +123,68 @@ block_mix_by_once f b out other whole one two =
     (λ k h. two.odd k h ∙ sym (same_x one two (2 * k + 1 + 1) (omega arith))) in
     first ∙ sym second
 
--- after i turns of two steps each, of r, of the block mix of words in another order: X is x, and what was
--- written is in output
-pub record AfterTurns (p q input : List ℕ) (r i : ℕ) (x output : List ℕ) : Type 0 where
-  pub chained : x ≡ permuted p (chain (permuted q input) (2 * i))
-  pub even : (k : ℕ) → k < i → block output k ≡ permuted p (y (permuted q input) (2 * k))
-  pub odd : (k : ℕ) → k < i → block output (r + k) ≡ permuted p (y (permuted q input) (2 * k + 1))
+-- X before step i of the block mix of b with f in place of the core
+unfoldable pub chain_by : (List ℕ → List ℕ) → List ℕ → ℕ → List ℕ
+chain_by f b zero = last_block b
+chain_by f b (suc i) = f (xor_words (chain_by f b i) (block b i))
 
-module _ (p q : List ℕ) (inverse : AreInverse p q) (input : List ℕ) (r : ℕ) (is : r ≡ length input / 32)
-    (some : 0 < length input) (whole : length input % 32 ≡ 0) where
+chain_by_more : (f : List ℕ → List ℕ) (b : List ℕ) (i : ℕ) → chain_by f b (i + 1) ≡ f (xor_words (chain_by f b i) (block b i))
+unfolding chain_by
+chain_by_more f b i = rw add-one refl
+
+-- after i turns of two steps each, of r: X is x, and what was written is in output
+pub record AfterTurns (f : List ℕ → List ℕ) (b : List ℕ) (r i : ℕ) (x output : List ℕ) : Type 0 where
+  pub chained : x ≡ chain_by f b (2 * i)
+  pub even : (k : ℕ) → k < i → block output k ≡ chain_by f b (2 * k + 1)
+  pub odd : (k : ℕ) → k < i → block output (r + k) ≡ chain_by f b (2 * k + 1 + 1)
+
+module _ (f : List ℕ → List ℕ) (b : List ℕ) (r : ℕ) where
   -- before the first turn
-  pub no_turn : (x output : List ℕ) → x ≡ block input (2 * r - 1) → AfterTurns p q input r 0 x output
-  unfolding chain
-  no_turn x output first =
-      let last : 2 * r - 1 ≡ length input / 16 - 1 = omega arith in
-      record {
-        chained = first ∙ ap (λ k. block input k) last ∙ last_block_in p q inverse input (omega arith) (omega arith);
-        even = λ k h. absurd (omega arith);
-        odd = λ k h. absurd (omega arith);
-      }
+  pub no_turn : (x output : List ℕ) → 2 * r ≡ length b / 16 → x ≡ block b (2 * r - 1) → AfterTurns f b r 0 x output
+  unfolding chain_by
+  no_turn x output is first = record {
+    chained = rw is at first;
+    even = λ k h. absurd (omega arith);
+    odd = λ k h. absurd (omega arith);
+  }
 
   -- one more turn, whose steps give x1 and x2
-  pub one_more_turn : (i : ℕ) (x output x1 output1 x2 output2 : List ℕ) → i < r → AfterTurns p q input r i x output
-      → x1 ≡ permuted p (salsa20_8 (permuted q (xor_words x (block input (2 * i)))))
+  pub one_more_turn : (i : ℕ) (x output x1 output1 x2 output2 : List ℕ) → i < r → AfterTurns f b r i x output
+      → x1 ≡ f (xor_words x (block b (2 * i)))
       → block output1 i ≡ x1 → ((k : ℕ) → k ≢ i → block output1 k ≡ block output k)
-      → x2 ≡ permuted p (salsa20_8 (permuted q (xor_words x1 (block input (2 * i + 1)))))
+      → x2 ≡ f (xor_words x1 (block b (2 * i + 1)))
       → block output2 (r + i) ≡ x2 → ((k : ℕ) → k ≢ r + i → block output2 k ≡ block output1 k)
-      → AfterTurns p q input r (i + 1) x2 output2
+      → AfterTurns f b r (i + 1) x2 output2
   one_more_turn i x output x1 output1 x2 output2 inside before is1 written1 others1 is2 written2 others2 =
-      let b = permuted q input in
-      let next = next_in_chain p q inverse input in
-      let first : x1 ≡ permuted p (y b (2 * i)) = is1 ∙ next x (2 * i) (omega arith) (omega arith) (omega arith) before.chained in
-      let second : x2 ≡ permuted p (y b (2 * i + 1)) = is2 ∙ next x1 (2 * i + 1) (omega arith) (omega arith) (omega arith) first in
+      let first : x1 ≡ chain_by f b (2 * i + 1) = rw (chain_by_more, ← before.chained) is1 in
+      let second : x2 ≡ chain_by f b (2 * i + 1 + 1) = rw (chain_by_more f b (2 * i + 1), ← first) is2 in
       let even_next : 2 * i + 1 + 1 ≡ 2 * (i + 1) = omega arith in
       record {
-        chained = second ∙ ap (λ n. permuted p (chain b n)) even_next;
+        chained = rw even_next at second;
         even = λ k h. grind (arith, others2 k, others1 k, before.even k);
         odd = λ k h. grind (arith, others2 (r + k), others1 (r + k), before.odd k);
       }
 
   -- after the last turn
-  pub all_turns : (i : ℕ) (x output : List ℕ) → i ≡ r → length output ≡ length input → AfterTurns p q input r i x output
-      → output ≡ permuted p (block_mix (permuted q input))
-  all_turns i x output done size after =
-      let b = permuted q input in
-      let long : length b ≡ length input = length-permuted q input in
-      let size_out : length (permuted q output) ≡ length output = length-permuted q output in
-      let standard = λ (k n : ℕ) (h : k * 16 + 16 ≤ length output) (is : block output k ≡ permuted p (chain b n)).
-      let one : length (block output k) ≡ 16 = length-part 16 k output h in
-      block_out p q inverse output k h ∙ standard_of p q inverse (block output k) (chain b n) (omega arith) is in
-      let mixed : permuted q output ≡ block_mix b = block_mix_all b (permuted q output) r (omega arith) (omega arith)
-      (λ k h. standard k (2 * k + 1) (omega arith) (after.even k (omega arith)))
-      (λ k h. standard (r + k) (2 * k + 1 + 1) (omega arith) (after.odd k (omega arith))) in
-      sym (out_then_in p q inverse output (omega arith)) ∙ ap (permuted p) mixed
+  pub all_turns : (i : ℕ) (x output : List ℕ) → r ≡ length b / 32 → i ≡ r → length output ≡ length b → AfterTurns f b r i x output
+      → IsBlockMixBy f b output
+  unfolding chain_by
+  all_turns i x output is done long after = record {
+    x = chain_by f b;
+    first = refl;
+    next = λ i h. chain_by_more f b i;
+    long = long;
+    even = λ k h. after.even k (omega arith);
+    odd = λ k h. rw (← is) (after.odd k (omega arith));
+  }
+
+-- the block mix by the core in another order is that of the words in standard order
+pub mixed_in : (p q : List ℕ) → AreInverse p q → (input output : List ℕ) → 0 < length input → length input % 32 ≡ 0
+    → IsBlockMixBy (core_in p q) input output → output ≡ permuted p (block_mix (permuted q input))
+mixed_in p q inverse input output some whole by_core =
+    let long : length (permuted q input) ≡ length input = length-permuted q input in
+    let standard = block_mix_by p q inverse (permuted q input) (omega arith) (omega arith) in
+    block_mix_by_once (core_in p q) input output _ whole by_core (rw (out_then_in p q inverse input (omega arith)) at standard)
 
 -- a row that is mixed from row i of those before it, and written behind them
 pub mixed_behind : (p q words front row next rest : List ℕ) (s i n : ℕ) → length front + length next ≡ n → front ≡ words

@@ -1,44 +1,36 @@
-use Rattle.std.proofs.Common.{ℕ, ◌/◌, length, refl, arith}
+use Rattle.std.proofs.Common.{◌/◌, length, refl, arith}
 use Rattle.scrypt_kernel.proofs.CountFacts.{counted_both, counted_none}
-use Rattle.scrypt_kernel.specs.Diagonal.{inverse_pivot, pivot}
 use Rattle.scrypt_kernel.proofs.OrderFacts.{diagonal_inverse}
-use Rattle.scrypt_kernel.proofs.BlockMixFacts.{all_turns, no_turn, one_more_turn}
+use Rattle.scrypt_kernel.proofs.BlockMixFacts.{all_turns, mixed_in, no_turn, one_more_turn}
 use Rattle.scrypt_kernel.proofs.block_mix.pair.mix_pair.Goals as goal
 
 pub steps-init : goal.steps-init
-steps-init g c =
-    let r : ℕ = length c.args.output.now / 32 in
-    record {
-      counted = counted_none _ _ _ (omega arith);
-      mixed = no_turn pivot inverse_pivot diagonal_inverse (g.I.Input.words c.args.input.now) r
-          (omega arith) (omega arith) (omega arith) _ _ c.block-x.ensures;
-      other_mixed = no_turn pivot inverse_pivot diagonal_inverse (g.I.Input.words c.args.other_input.now) r
-          (omega arith) (omega arith) (omega arith) _ _ c.block-other_x.ensures;
-    }
+steps-init g c = record {
+  counted = counted_none _ _ _ (omega arith);
+  mixed = no_turn _ _ (length c.args.output.now / 32) _ _ (omega arith) c.block-x.ensures;
+  other_mixed = no_turn _ _ (length c.args.output.now / 32) _ _ (omega arith) c.block-other_x.ensures;
+}
 
 pub steps-preserved : goal.steps-preserved
 steps-preserved g c =
-    let r : ℕ = length c.args.output.now / 32 in
     let one = c.step.ensures in
     let two = c.step-in-steps.ensures in
     record {
       counted = counted_both _ (counted_both _ c.steps.invariant.counted one.counted refl) two.counted (omega arith);
-      mixed = one_more_turn pivot inverse_pivot diagonal_inverse _ r (omega arith) (omega arith) (omega arith)
-          _ _ _ _ _ _ _ (omega arith) c.steps.invariant.mixed
+      mixed = one_more_turn _ _ _ _ _ _ _ _ _ _ (omega arith) c.steps.invariant.mixed
           one.value c.put_block.ensures.written c.put_block.ensures.others
           two.value c.put_block-in-steps-2.ensures.written c.put_block-in-steps-2.ensures.others;
-      other_mixed = one_more_turn pivot inverse_pivot diagonal_inverse _ r (omega arith) (omega arith) (omega arith)
-          _ _ _ _ _ _ _ (omega arith) c.steps.invariant.other_mixed
+      other_mixed = one_more_turn _ _ _ _ _ _ _ _ _ _ (omega arith) c.steps.invariant.other_mixed
           one.other_value c.put_block-in-steps.ensures.written c.put_block-in-steps.ensures.others
           two.other_value c.put_block-in-steps-3.ensures.written c.put_block-in-steps-3.ensures.others;
     }
 
 pub returns-clause-value : goal.returns-clause-value
 returns-clause-value g c =
-    all_turns pivot inverse_pivot diagonal_inverse (g.I.Input.words c.args.input.now) (length c.args.output.now / 32)
-    (omega arith) (omega arith) (omega arith) c.steps.i _ c.steps.output (omega arith) (omega arith) c.steps.invariant.mixed
+    mixed_in _ _ diagonal_inverse (g.I.Input.words c.args.input.now) c.steps.output (omega arith) (omega arith)
+    (all_turns _ _ _ _ _ _ (omega arith) (omega arith) (omega arith) c.steps.invariant.mixed)
 
 pub returns-clause-other_value : goal.returns-clause-other_value
 returns-clause-other_value g c =
-    all_turns pivot inverse_pivot diagonal_inverse (g.I.Input.words c.args.other_input.now) (length c.args.output.now / 32)
-    (omega arith) (omega arith) (omega arith) c.steps.i _ c.steps.other_output (omega arith) (omega arith) c.steps.invariant.other_mixed
+    mixed_in _ _ diagonal_inverse (g.I.Input.words c.args.other_input.now) c.steps.other_output (omega arith) (omega arith)
+    (all_turns _ _ _ _ _ _ (omega arith) (omega arith) (omega arith) c.steps.invariant.other_mixed)
