@@ -19,11 +19,11 @@ returns g c =
     let size : length c.fill.new.x ≡ length x = omega arith in
     let blocks : length x / 32 ≡ r = omega arith in
     let starts = filled_starts p q g.met.O.Order.inverse w x _ c.fill.new.x n c.args.s whole is c.fill.ensures.filled size in
-    let walked = c.take_steps.ensures.walked w (rw c.words.ensures.value starts) in
+    let walked = rw c.words.ensures.value at c.take_steps.ensures.walked in
     record {
       value = c.write_out.ensures
           ∙ ap bytes_of (ro_mixed p q g.met.O.Order.inverse w x _ c.fill.new.x n c.args.s whole is
-          c.fill.ensures.filled size _ (λ b starts. (c.take_steps.ensures.walked b (rw c.words.ensures.value starts)).value) (omega arith));
+          c.fill.ensures.filled size _ (λ b starts. (walked b starts).value) (omega arith));
       room = c.fill.ensures.room;
-      counted = filled_and_walked (2 ^ n) (length x) _ r _ blocks size c.fill.ensures.counted walked.counted;
+      counted = filled_and_walked (2 ^ n) (length x) _ r _ blocks size c.fill.ensures.counted (walked w starts).counted;
     }

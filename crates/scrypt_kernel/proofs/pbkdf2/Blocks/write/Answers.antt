@@ -29,8 +29,7 @@ pub returns : goal.returns
 returns c = record {
   value = λ password salt derived.
       let at : ℕ = 32 * c.args.skipped in
-      let count : length (pbkdf2_from password salt at (length c.args.out.now)) ≡ length c.args.out.now =
-      length-map-range_with_len (pbkdf2_byte password salt) at (length c.args.out.now) in
+      let long = length-map-range_with_len (pbkdf2_byte password salt) at (length c.args.out.now) in
       ext_get_or 0 c.loop-i.out (pbkdf2_from password salt at (length c.args.out.now)) (omega arith) (λ k h.
       c.loop-i.invariant password salt derived k (omega (arith, c.div_ceil-i-end.ensures)) (omega arith)
       ∙ sym (get_or-map-range_with_len (pbkdf2_byte password salt) at (length c.args.out.now) k (at + k) 0 (omega arith) refl));

@@ -12,7 +12,7 @@ returns-clause-value c =
     let long : length w ≡ length c.read_in.new.x = sym (ap length read ∙ length-permuted pivot w) in
     c.write_out.ensures ∙ ap bytes_of (ro_mixed pivot inverse_pivot diagonal_inverse w c.read_in.new.x _ c.fill_pair.new.x c.args.log_n 0
     (omega arith) read c.fill_pair.ensures.filled (omega arith) _
-    (λ b starts. c.take_steps_pair.ensures.walked b (rw c.words-v.ensures.value starts)) (omega arith))
+    (rw c.words-v.ensures.value at c.take_steps_pair.ensures.walked) (omega arith))
 
 pub returns-clause-other_value : goal.returns-clause-other_value
 returns-clause-other_value c =
@@ -21,4 +21,4 @@ returns-clause-other_value c =
     let long : length w ≡ length c.read_in-2.new.x = sym (ap length read ∙ length-permuted pivot w) in
     c.write_out-2.ensures ∙ ap bytes_of (ro_mixed pivot inverse_pivot diagonal_inverse w c.read_in-2.new.x _ c.fill_pair.new.other_x
     c.args.log_n 0 (omega arith) read c.fill_pair.ensures.other_filled (omega arith) _
-    (λ b starts. c.take_steps_pair.ensures.other_walked b (rw c.words-other_v.ensures.value starts)) (omega arith))
+    (rw c.words-other_v.ensures.value at c.take_steps_pair.ensures.other_walked) (omega arith))
