@@ -12,17 +12,8 @@ use Rattle.scrypt_kernel.specs.Words.{bytes_of, part, words_of}
 use Rattle.scrypt_kernel.specs.RoMix.{ro_mix}
 use Rattle.scrypt.specs.Key.{mixed_chunk, mixed_chunks}
 use Rattle.scrypt.specs.ChunkOrder.{NamesEachOnce, mixed_in_order, with_chunk_mixed}
-use Rattle.scrypt_kernel.proofs.RoMixFacts.{length-ro_mix}
-use Rattle.scrypt_kernel.proofs.WordFacts.{length-bytes_of}
+use Rattle.scrypt.proofs.KeyFacts.{length-mixed_chunk}
 use Rattle.scrypt_kernel.proofs.PartFacts.{length-part, part_put_same, part_put_other, parts_all, parts_apart}
-
--- a chunk keeps its length
-pub length-mixed_chunk : (b : List ℕ) (log_n r i : ℕ) → 0 < r → i * (128 * r) + 128 * r ≤ length b → length (mixed_chunk b log_n r i) ≡ 128 * r
-length-mixed_chunk b log_n r i some room =
-    let long : length (part (128 * r) b i) ≡ 128 * r = length-part (128 * r) i b room in
-    let x : List ℕ = words_of (part (128 * r) b i) in
-    let words : length x ≡ 32 * r = length-map-range_with_len _ 0 _ ∙ omega arith in
-    length-bytes_of (ro_mix x log_n) ∙ omega (arith, length-ro_mix x (omega arith) (omega arith) log_n)
 
 -- B with one chunk replaced, part by part
 module _ (b : List ℕ) (log_n r p i : ℕ) (some : 0 < r) (long : length b ≡ p * (128 * r)) (inside : i < p) where

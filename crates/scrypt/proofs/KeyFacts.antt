@@ -1,11 +1,12 @@
 -- Facts on the chunks of B, which are mixed one after another.
-use Rattle.std.proofs.Common.{◌≡◌, ◌≢◌, ℕ, ◌<◌, ◌≤◌, ◌+◌, ◌*◌, List, [], ◌++◌, length, take, drop, slice_index}
-use Rattle.std.proofs.Common.{refl, sym, ap, ap₂, subst, ◌∙◌, arith, below_more, length-append}
-use Rattle.std.proofs.lemmas.List.{append-nil, drop_at, length-drop, length-take-le, nil_from_length, take-append-le}
+use Rattle.std.proofs.Common.{◌≡◌, ℕ, zero, suc, ◌<◌, ◌≤◌, ◌+◌, ◌*◌, List, [], ◌++◌, length, take, drop, slice_index}
+use Rattle.std.proofs.Common.{refl, sym, ap, ap₂, subst, ◌∙◌, arith, add-zero, zero-add, append_assoc, length-append, take_all}
+use Rattle.std.specs.List.{flat_map, range_with_len}
+use Rattle.std.proofs.lemmas.List.{append-nil, drop-drop, drop_at, length-drop, nil_from_length, take-append-le, take_at}
 use Rattle.std.proofs.lemmas.Slice.{drop-put_mid, take-put_mid}
-use Rattle.std.proofs.lemmas.List.FromFn.{take-map-range_with_len}
-use borrow.Rule.Slice.PartMut.{put_mid, same_len_mid}
-use Rattle.scrypt_kernel.specs.Words.{bytes_of, words_of}
+use Rattle.std.proofs.lemmas.List.FromFn.{length-map-range_with_len, take-map-range_with_len}
+use borrow.Rule.Slice.PartMut.{put_mid}
+use Rattle.scrypt_kernel.specs.Words.{bytes_of, part, words_of}
 use Rattle.scrypt_kernel.specs.RoMix.{ro_mix}
 use Rattle.scrypt_kernel.specs.Hmac.{padded_key}
 use Rattle.scrypt_kernel.specs.Pbkdf2.{pbkdf2}
@@ -13,74 +14,108 @@ use Rattle.scrypt.specs.Accepted.{Parameters}
 use Rattle.scrypt.specs.KeyOfParams.{key_by}
 use Rattle.scrypt.specs.Key.{derived_key, mixed_chunk, mixed_chunks}
 use Rattle.scrypt.specs.Mixing.{AreMixed}
-use Rattle.scrypt_kernel.proofs.PartFacts.{part_append_front, part_of_slice, part_put_same, part_put_other, parts_all, parts_apart}
+use Rattle.scrypt_kernel.proofs.PartFacts.{length-part, length-parts, part_after, part_append_front, part_of_slice, parts_apart}
+use Rattle.scrypt_kernel.proofs.RoMixFacts.{length-ro_mix}
+use Rattle.scrypt_kernel.proofs.WordFacts.{length-bytes_of}
 use Rattle.scrypt_kernel.proofs.Pbkdf2Facts.{length-pbkdf2, padded_digest, padded_zero_byte, pbkdf2-are_bytes, same_pbkdf2}
 
--- chunk i, of a list of p chunks
-pub chunk_inside : (r p r' a i len : ℕ) → r' ≡ r → a ≡ i * (128 * r') → i < p → len ≡ p * (128 * r) → a + 128 * r' ≤ len
-chunk_inside r p r' a i len r_is at below long =
-    let apart = parts_apart (128 * r') i p below in
-    let whole : len ≡ p * (128 * r') = long ∙ ap (λ m. p * (128 * m)) (sym r_is) in
-    omega (arith, apart, whole, at)
+-- lists that are made one after another, each of a number
 
--- one more chunk, mixed in place
-pub mixed_more : (b x ys : List ℕ) (log_n r i a n : ℕ) → a ≡ i * (128 * r) → n ≡ 128 * r
-    → length ys ≡ 128 * r → a + 128 * r ≤ length x
-    → ys ≡ bytes_of (ro_mix (words_of (take n (drop a x))) log_n)
-    → AreMixed b log_n r i x → AreMixed b log_n r (i + 1) (put_mid a n x ys)
-mixed_more b x ys log_n r i a n at size full room mixed before =
-    let s : ℕ = 128 * r in
-    let source = part_of_slice s i x a n at size ∙ before.rest i (omega arith) in
-    let made : ys ≡ mixed_chunk b log_n r i = mixed ∙ ap (λ z. bytes_of (ro_mix (words_of z) log_n)) source in
-    let others = λ (k : ℕ) (other : k ≢ i). part_put_other s i x ys a n at size full room k other in
+made_append : (f : ℕ → List ℕ) (a n b m : ℕ) → a + n ≡ b
+    → flat_map f (range_with_len a (n + m)) ≡ flat_map f (range_with_len a n) ++ flat_map f (range_with_len b m)
+made_append f a zero b m next = let same : a ≡ b = omega arith in rw (zero-add, same) refl
+made_append f a (suc n) b m next =
+    let count : suc n + m ≡ suc (n + m) = omega arith in
+    rw count (ap (λ z. f a ++ z) (made_append f (a + 1) n b m (omega arith)) ∙ sym (append_assoc (f a) _ _))
+
+pub made_alike : (f g : ℕ → List ℕ) (a b n : ℕ) → ((i : ℕ) → i < n → f (a + i) ≡ g (b + i))
+    → flat_map f (range_with_len a n) ≡ flat_map g (range_with_len b n)
+made_alike f g a b zero same = refl
+made_alike f g a b (suc n) same =
+    let first : f a ≡ g b = ap f (sym (add-zero a)) ∙ same 0 (omega arith) ∙ ap g (add-zero b) in
+    ap₂ (λ y z. y ++ z) first (made_alike f g (a + 1) (b + 1) n (λ i below.
+    let place : a + 1 + i ≡ a + suc i = omega arith in
+    let other : b + 1 + i ≡ b + suc i = omega arith in
+    rw (place, other) (same (suc i) (omega arith))))
+
+-- no chunk is mixed at first
+pub none_mixed : (b : List ℕ) (log_n r : ℕ) → AreMixed b log_n r 0 b
+none_mixed b log_n r =
+    let none : 0 * (128 * r) ≡ 0 = omega arith in
+    record { done = ap (λ n. take n b) none; rest = refl }
+
+-- m more chunks, mixed in place as a slice of n bytes from a on
+pub mixed_more : {b x ys : List ℕ} {log_n r i : ℕ} (m a n : ℕ) → a ≡ i * (128 * r) → n ≡ m * (128 * r)
+    → length ys ≡ n → a + n ≤ length x → ys ≡ flat_map (mixed_chunk b log_n r) (range_with_len i m)
+    → AreMixed b log_n r i x → AreMixed b log_n r (i + m) (put_mid a n x ys)
+mixed_more {b} {x} {ys} {log_n} {r} {i} m a n at size full room made before =
+    let end : (i + m) * (128 * r) ≡ a + n = omega arith in
+    let there = rw (← at) at before.done in
+    let rest = rw (← at) at before.rest in
     record {
-      done = below_more _ _
-          (λ k h. let other : k ≢ i = omega arith in others k other ∙ before.done k h)
-          (part_put_same s i x ys a n at size full room ∙ made);
-      rest = λ k h. let other : k ≢ i = omega arith in others k other ∙ before.rest k (omega arith);
+      done = ap (λ k. take k (put_mid a n x ys)) end ∙ take-put_mid a n x ys (a + n) (omega arith) (omega arith) ∙ ap₂ (λ y z. y ++ z) there made
+          ∙ sym (made_append (mixed_chunk b log_n r) 0 i i m (zero-add i));
+      rest = rw end (drop-put_mid a n x ys (a + n) (omega arith) (omega arith) full
+          ∙ sym (drop-drop n a x) ∙ ap (drop n) rest ∙ drop-drop n a b);
     }
 
-pub length-part_at : (a s : ℕ) (x : List ℕ) → a + s ≤ length x → length (take s (drop a x)) ≡ s
-length-part_at a s x room = length-take-le s (drop a x) (omega (arith, length-drop a x))
+regrouped : (p u v w : List ℕ) → p ++ ((u ++ v) ++ w) ≡ (p ++ (u ++ [])) ++ (v ++ w)
+regrouped p u v w = simp (append_assoc, append-nil)
 
--- two more chunks, mixed in place: one ends where front ends, and the other begins where back begins
-pub mixed_pair : (b x front back one other : List ℕ) (log_n r i a n m : ℕ) → x ≡ front ++ back → a ≡ i * (128 * r)
-    → length front ≡ a + 128 * r → n ≡ 128 * r → m ≡ 128 * r → 128 * r ≤ length back
-    → length one ≡ 128 * r → length other ≡ 128 * r
-    → one ≡ bytes_of (ro_mix (words_of (take n (drop a front))) log_n)
-    → other ≡ bytes_of (ro_mix (words_of (take m back)) log_n)
-    → AreMixed b log_n r i x → AreMixed b log_n r (i + 1 + 1) (put_mid a n front one ++ (other ++ drop m back))
-mixed_pair b x front back one other log_n r i a n m is at size_front size size_other room long long_other mixed mixed_other before =
+-- two more, of which the one ends where front ends, and the other begins where back begins
+pub mixed_pair : {b x one other : List ℕ} {log_n r i : ℕ} (front back : List ℕ) (a n : ℕ) → a ≡ i * (128 * r) → n ≡ 128 * r → x ≡ front ++ back
+    → length front ≡ a + n → n ≤ length back → length one ≡ n → length other ≡ n
+    → one ≡ bytes_of (ro_mix (words_of (take n (drop a front))) log_n) → other ≡ bytes_of (ro_mix (words_of (take n back)) log_n)
+    → AreMixed b log_n r i x → AreMixed b log_n r (i + 2) (put_mid a n front one ++ (other ++ drop n back))
+mixed_pair {b} {x} {one} {other} {log_n} {r} {i} front back a n at size is long room full full_other mixed mixed_other before =
     let s : ℕ = 128 * r in
+    let mix = λ (z : List ℕ). bytes_of (ro_mix (words_of z) log_n) in
     let all : length x ≡ length front + length back = ap length is ∙ length-append front back in
-    let source : take n (drop a front) ≡ take s (drop a x) =
-    part_of_slice s i front a n at size ∙ sym (part_append_front s i front back (omega (arith, size_front, at)))
-    ∙ sym (part_of_slice s i (front ++ back) a s at refl) ∙ ap (λ z. take s (drop a z)) (sym is) in
-    let x1 = put_mid a s x one in
-    let rest : drop (a + s) x1 ≡ back =
-    drop-put_mid a s x one (a + s) (omega arith) (omega (arith, all, size_front)) long
-    ∙ ap (drop (a + s)) is ∙ drop_at front back (a + s) size_front in
-    let start : take (a + s) x1 ≡ take a front ++ one =
-    take-put_mid a s x one (a + s) (omega (arith, long)) (omega (arith, all, size_front))
-    ∙ ap (λ z. take a z ++ one) is ∙ ap (λ z. z ++ one) (take-append-le a front back (omega (arith, size_front))) in
-    let whole : length x1 ≡ length x = same_len_mid a s x one (long ∙ sym (length-part_at a s x (omega (arith, all, size_front)))) in
-    let next : a + s ≡ (i + 1) * s = omega (arith, at) in
-    let once = mixed_more b x one log_n r i a s at refl long (omega (arith, all, size_front))
-    (mixed ∙ ap (λ z. bytes_of (ro_mix (words_of z) log_n)) source) before in
-    let twice = mixed_more b x1 other log_n r (i + 1) (a + s) s next refl long_other (omega (arith, whole, all, size_front, room))
-    (mixed_other ∙ ap (λ z. bytes_of (ro_mix (words_of z) log_n)) (ap (λ k. take k back) size_other ∙ ap (take s) (sym rest))) once in
-    let none : drop n (drop a front) ≡ [] =
-    nil_from_length _ (omega (arith, length-drop n (drop a front), length-drop a front, size_front, size)) in
-    let made : put_mid (a + s) s x1 other ≡ put_mid a n front one ++ (other ++ drop m back) =
-    ap₂ (λ u v. u ++ (other ++ v)) (start ∙ ap (λ z. take a front ++ z) (sym (append-nil one) ∙ ap (λ z. one ++ z) (sym none)))
-    (ap (drop s) rest ∙ ap (λ k. drop k back) (sym size_other)) in
-    subst (AreMixed b log_n r (i + 1 + 1)) made twice
+    let end : drop (a + n) x ≡ back = ap (drop (a + n)) is ∙ drop_at front back (a + n) long in
+    let chunk : take n (drop a front) ≡ part s b i =
+    part_of_slice s i front a n at size ∙ sym (part_append_front s i front back (omega (arith, at, size, long)))
+    ∙ ap (λ z. part s z i) (sym is) ∙ ap (take s) before.rest in
+    let after : drop (a + n) x ≡ drop (a + n) b = sym (drop-drop n a x) ∙ ap (drop n) (rw (← at) at before.rest) ∙ drop-drop n a b in
+    let other_chunk : take n back ≡ part s b (i + 1) =
+    ap (take n) (sym end ∙ after) ∙ part_of_slice s (i + 1) b (a + n) n (omega (arith, at, size)) size in
+    let none : drop n (drop a front) ≡ [] = nil_from_length _ (omega (arith, length-drop n (drop a front), length-drop a front, long)) in
+    let start : take a x ≡ take a front = ap (take a) is ∙ take-append-le a front back (omega (arith, long)) in
+    let place : a + (n + n) ≡ a + n + n = omega arith in
+    let rest : drop (n + n) (drop a x) ≡ drop n back =
+    drop-drop (n + n) a x ∙ ap (λ k. drop k x) place ∙ sym (drop-drop n (a + n) x) ∙ ap (drop n) end in
+    let put : put_mid a (n + n) x (one ++ other) ≡ put_mid a n front one ++ (other ++ drop n back) =
+    ap₂ (λ p w. p ++ ((one ++ other) ++ w)) start rest ∙ regrouped (take a front) one other (drop n back)
+    ∙ ap (λ z. (take a front ++ (one ++ z)) ++ (other ++ drop n back)) (sym none) in
+    subst (AreMixed b log_n r (i + 2)) put (mixed_more 2 a (n + n) at (omega (arith, size))
+    (length-append one other ∙ omega (arith, full, full_other)) (omega (arith, all, long, room))
+    (ap₂ (λ y z. y ++ z) (mixed ∙ ap mix chunk) (sym (append-nil other) ∙ ap (λ z. z ++ []) (mixed_other ∙ ap mix other_chunk))) before)
 
 -- all p chunks
-pub chunks_are : (b x : List ℕ) (log_n r p i : ℕ) → i ≡ p → length x ≡ p * (128 * r) → AreMixed b log_n r i x
-    → x ≡ mixed_chunks b log_n r p
-chunks_are b x log_n r p i all long mixed =
-    parts_all (mixed_chunk b log_n r) (128 * r) p x long (λ k inside. mixed.done k (omega (arith, all, inside)))
+pub all_mixed : {b x : List ℕ} {log_n r : ℕ} (p : ℕ) → length x ≡ p * (128 * r) → AreMixed b log_n r p x → x ≡ mixed_chunks b log_n r p
+all_mixed {b} {x} {log_n} {r} p long mixed = sym (take_all (p * (128 * r)) x (omega arith)) ∙ mixed.done
+
+-- a chunk keeps its length
+pub length-mixed_chunk : (b : List ℕ) (log_n r i : ℕ) → 0 < r → i * (128 * r) + 128 * r ≤ length b → length (mixed_chunk b log_n r i) ≡ 128 * r
+length-mixed_chunk b log_n r i some room =
+    let long : length (part (128 * r) b i) ≡ 128 * r = length-part (128 * r) i b room in
+    let x : List ℕ = words_of (part (128 * r) b i) in
+    let words : length x ≡ 32 * r = length-map-range_with_len _ 0 _ ∙ omega arith in
+    length-bytes_of (ro_mix x log_n) ∙ omega (arith, length-ro_mix x (omega arith) (omega arith) log_n)
+
+-- the chunks of two derivations, mixed as one list
+pub both_mixed : (b w x : List ℕ) (log_n r p q : ℕ) → 0 < r → length b ≡ p * (128 * r) → x ≡ mixed_chunks (b ++ w) log_n r (p + q)
+    → (take (p * (128 * r)) x ≡ mixed_chunks b log_n r p) × (drop (p * (128 * r)) x ≡ mixed_chunks w log_n r q)
+both_mixed b w x log_n r p q some long is =
+    let s : ℕ = 128 * r in
+    let inside : (i : ℕ) → i < p → i * s + s ≤ length b = λ i below. omega (arith, parts_apart s i p below) in
+    let mixed = λ (z : List ℕ). bytes_of (ro_mix (words_of z) log_n) in
+    let all : x ≡ mixed_chunks b log_n r p ++ mixed_chunks w log_n r q =
+    is ∙ made_append (mixed_chunk (b ++ w) log_n r) 0 p p q (zero-add p) ∙ ap₂ (λ y z. y ++ z)
+    (made_alike _ _ 0 0 p (λ i below. ap mixed (part_append_front s (0 + i) b w (inside (0 + i) (omega arith)))))
+    (made_alike _ _ p 0 q (λ i below. rw zero-add (ap mixed (part_after s p i b w long)))) in
+    let count : length (mixed_chunks b log_n r p) ≡ p * s =
+    length-parts (mixed_chunk b log_n r) s 0 p (λ i below. length-mixed_chunk b log_n r (0 + i) some (inside (0 + i) (omega arith))) in
+    (ap (take (p * s)) all ∙ take_at _ _ (p * s) count, ap (drop (p * s)) all ∙ drop_at _ _ (p * s) count)
 
 -- a shorter key is the beginning of a longer one
 pub key_prefix : (password salt : List ℕ) (log_n r p m n : ℕ) → m ≤ n

@@ -9,6 +9,7 @@ use Rattle.scrypt_kernel.specs.RoMix.{integerify, ro_mix, row, walk}
 use Rattle.scrypt_kernel.specs.Table.{extra_rows, recomputed_rows}
 use Rattle.scrypt_kernel.proofs.RoMixFacts.{row_after}
 use Rattle.scrypt.specs.Key.{derived_key, mixed_chunk}
+use Rattle.scrypt.proofs.KeyFacts.{made_alike}
 use Rattle.scrypt.specs.ThinKey.{recomputed_row, thin_chunk, thin_key, thin_walk}
 
 recomputed_row_is : (b : List ℕ) (s j : ℕ) → recomputed_row b s j ≡ row b j
@@ -24,19 +25,14 @@ thin_walk_is b log_n s (suc k) =
     let x = walk b log_n k in
     ap next (thin_walk_is b log_n s k) ∙ ap (λ z. block_mix (xor_words x z)) (recomputed_row_is b s (integerify x % 2 ^ log_n))
 
-same_parts : (f g : ℕ → List ℕ) (a n : ℕ) → ((i : ℕ) → f i ≡ g i) → flat_map f (range_with_len a n) ≡ flat_map g (range_with_len a n)
-same_parts f g a zero same = refl
-same_parts f g a (suc n) same =
-    ap (λ z. z ++ flat_map f (range_with_len (a + 1) n)) (same a) ∙ ap (λ z. g a ++ z) (same_parts f g (a + 1) n same)
-
 -- the key is the same
 pub thin_key_is : (password salt : List ℕ) (log_n r p s n : ℕ)
     → thin_key password salt log_n r p s n ≡ derived_key password salt log_n r p n
 unfolding thin_key derived_key ro_mix
 thin_key_is password salt log_n r p s n =
     let b = pbkdf2 password salt (p * (128 * r)) in
-    ap (λ z. pbkdf2 password z n) (same_parts (thin_chunk b log_n s r) (mixed_chunk b log_n r) 0 p
-    (λ i. ap bytes_of (thin_walk_is (words_of (part (128 * r) b i)) log_n s (2 ^ log_n))))
+    ap (λ z. pbkdf2 password z n) (made_alike (thin_chunk b log_n s r) (mixed_chunk b log_n r) 0 0 p
+    (λ i below. ap bytes_of (thin_walk_is (words_of (part (128 * r) b (0 + i))) log_n s (2 ^ log_n))))
 
 at_most : (b : List ℕ) (log_n s k : ℕ) → extra_rows b log_n s k ≤ k * (2 ^ s - 1)
 unfolding extra_rows

@@ -363,8 +363,8 @@ pub(crate) fn mix_one<M: Memory>(
     ensures mixed { (b : List ℕ) → AreMixed b params.now.log_n params.now.r i chunks.old
         → AreMixed b params.now.log_n params.now.r (i + 1) chunks.new }
     ensures room { M.room rows.old ≤ M.room rows.new }
-    ensures counted { AreCounted
-        (thin_ro_mix_cost (words_of (part (128 * params.now.r) chunks.old i)) params.now.log_n s params.now.r) cores.old cores.new }
+    ensures counted { AreCounted (thin_ro_mix_cost (words_of (part (128 * params.now.r) chunks.old i)) params.now.log_n s params.now.r)
+        cores.old cores.new }
 {
     let chunk_len = 128 * params.r() as usize;
     let at = i * chunk_len;

@@ -1,6 +1,6 @@
-use Rattle.std.proofs.Common.{◌*◌, refl, arith}
+use Rattle.std.proofs.Common.{◌≡◌, ◌*◌, arith}
 use Rattle.scrypt.specs.Cost.{extra_rows_of_chunks}
-use Rattle.scrypt.proofs.KeyFacts.{chunks_are}
+use Rattle.scrypt.proofs.KeyFacts.{all_mixed, none_mixed}
 use Rattle.scrypt.proofs.CostFacts.{counted_chunk}
 use Rattle.scrypt_kernel.proofs.PartFacts.{parts_apart}
 use Rattle.scrypt.proofs.derivation.mix_chunks.Goals as goal
@@ -8,7 +8,7 @@ use Rattle.scrypt.proofs.derivation.mix_chunks.Goals as goal
 pub chunks-init : goal.chunks-init
 unfolding extra_rows_of_chunks
 chunks-init g c = record {
-  mixed = record { done = λ k h. absurd (omega arith); rest = λ k h. refl };
+  mixed = none_mixed c.args.chunks.now c.args.params.now.log_n c.args.params.now.r;
   room = omega arith;
   counted = record { all = omega arith; lanes = omega arith };
 }
@@ -19,18 +19,15 @@ mix_one-requires-clause-inside g c =
 
 pub chunks-preserved : goal.chunks-preserved
 chunks-preserved g c =
-    let r = c.args.params.now.r in
-    let log_n = c.args.params.now.log_n in
-    let i = c.chunks.i in
-    let b = c.args.chunks.now in
     let before = c.chunks.invariant in
     record {
-      mixed = c.mix_one.ensures.mixed b before.mixed;
+      mixed = c.mix_one.ensures.mixed c.args.chunks.now before.mixed;
       room = omega (arith, before.room, c.mix_one.ensures.room);
-      counted = counted_chunk b log_n c.args.s r i before.counted (rw (before.mixed.rest i (omega arith)) at c.mix_one.ensures.counted);
+      counted = counted_chunk c.args.chunks.now c.args.params.now.log_n c.args.s c.args.params.now.r c.chunks.i before.counted
+          (rw before.mixed.rest at c.mix_one.ensures.counted);
     }
 
 pub returns-clause-value : goal.returns-clause-value
 returns-clause-value g c =
-    chunks_are c.args.chunks.now _ c.args.params.now.log_n c.args.params.now.r c.args.params.now.p c.chunks.i
-    (omega arith) (omega (arith, c.requires.chunks)) c.chunks.invariant.mixed
+    let all : c.chunks.i ≡ c.args.params.now.p = omega arith in
+    all_mixed c.args.params.now.p (omega (arith, c.requires.chunks)) (rw all at c.chunks.invariant.mixed)

@@ -1,8 +1,7 @@
-use Rattle.std.proofs.Common.{◌≡◌, ◌∙◌, ◌+◌, ◌++◌, ap, ap₂, arith}
-use Rattle.std.proofs.lemmas.List.{take-append-drop}
+use Rattle.std.proofs.Common.{◌≡◌, ◌∙◌, ◌+◌, ◌++◌, ap, ap₂, arith, drop, take}
 use Rattle.scrypt.specs.Key.{mixed_chunks}
 use Rattle.scrypt.proofs.ComparingFacts.{right_by_parts}
-use Rattle.scrypt.proofs.TwoVerdictsFacts.{both_mixed}
+use Rattle.scrypt.proofs.KeyFacts.{both_mixed}
 use Rattle.scrypt.proofs.verifying.two.are_keys_of.Goals as goal
 use Rattle.scrypt.proofs.verifying.two.are_keys_of.Goals.{After-split_at}
 
@@ -15,10 +14,14 @@ mixed_at c =
     let others = c.args.others.now.params in
     let b = c.derive_chunks.new.chunks in
     let w = c.derive_chunks-2.new.chunks in
+    let x = c.mix_pairs.new.chunks in
     let count : c.p.result + c.p-2.result ≡ params.p + others.p = ap₂ (λ i j. i + j) c.p.ensures.value c.p-2.ensures.value in
-    both_mixed b w _ _ params others c.known.ensures.0 c.requires.alike (omega arith) (omega arith) (omega arith) (omega arith)
-    (ap₂ (λ i j. i ++ j) c.split_at.ensures.front c.split_at.ensures.back ∙ take-append-drop c.of-len.result.chunks c.mix_pairs.new.chunks
-    ∙ c.mix_pairs.ensures.value ∙ ap (mixed_chunks (b ++ w) params.log_n params.r) count)
+    let both = both_mixed b w x params.log_n params.r params.p others.p c.known.ensures.0 (omega arith)
+    (c.mix_pairs.ensures.value ∙ ap (mixed_chunks (b ++ w) params.log_n params.r) count) in (
+      c.split_at.ensures.front ∙ ap (λ n. take n x) c.of-len.ensures.chunks ∙ both.0,
+      c.split_at.ensures.back ∙ ap (λ n. drop n x) c.of-len.ensures.chunks ∙ both.1
+          ∙ ap₂ (λ log_n r. mixed_chunks w log_n r others.p) c.requires.alike.0 c.requires.alike.1,
+    )
 
 pub returns-clause-exact : goal.returns-clause-exact
 returns-clause-exact c s are =
