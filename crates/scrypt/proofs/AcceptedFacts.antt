@@ -135,3 +135,6 @@ pub ruleset small_lens = (small_log_n, small_chunks, small_rows)
 
 -- the number of cores is small
 pub ruleset small_cores = (small_blocks, small_factor, small_cost)
+
+-- how numbers are read as parameters
+pub ruleset reading_numbers = (checked_is, not_checked)

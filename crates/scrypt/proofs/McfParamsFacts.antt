@@ -64,15 +64,6 @@ pub field_says : (field : List ℕ) (first log_n : ℕ) (r p : Option ℕ) → s
 unfolding field_params
 field_says field first log_n r p is ascii log_n_is r_is p_is = rw (is, lt-ltb first 128 ascii, log_n_is, r_is, p_is) refl
 
-pub not_ascii : (field : List ℕ) (first : ℕ) → slice_index field 0 ≡ first → 128 ≤ first → field_params field ≡ Err EncodingInvalid
-unfolding field_params
-not_ascii field first is large = rw (is, le-ltb first 128 large) refl
-
--- without r no numbers are there
-pub no_p : (log_n : ℕ) (r : Option ℕ) → of_numbers log_n r None ≡ Err EncodingInvalid
-no_p log_n None = refl
-no_p log_n (Some r) = refl
-
 -- the error of a field
 
 pub field_fault : (field : List ℕ) → IfErr (field_params field) IsFault

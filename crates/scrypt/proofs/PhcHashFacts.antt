@@ -1,41 +1,20 @@
 -- Facts on PHC hashes of scrypt.
-use Rattle.std.proofs.Common.{◌≡◌, ◌≢◌, ℕ, List, codes, refl, rules, ap, ◌∙◌, arith, lit≤, Ok, Err, true, false}
-use Rattle.std.specs.Prelude.{IfErr, IfSome, is_some}
-use Rattle.std.specs.Str.{bytes_eq}
-use Rattle.std.proofs.lemmas.Slice.Eq.{bytes_eq-Decides}
+use Rattle.std.proofs.Common.{◌≡◌, ℕ, List, refl, rules, arith, lit≤, Ok}
+use Rattle.std.specs.Prelude.{IfErr, IfSome}
 use Rattle.password_hash.specs.Phc.{IsHashText, IsSalt, hash_text}
-use Rattle.password_hash.specs.Refusal.{Algorithm, Version}
 use Rattle.password_hash.specs.declared.phc.hash.PasswordHash.{PasswordHash}
 use Rattle.scrypt.specs.Accepted.{AreAccepted, IsStoredLen, Parameters, without_len}
 use Rattle.scrypt.specs.KeyOfParams.{key_by}
-use Rattle.scrypt.specs.PhcParams.{params_of_pairs}
 use Rattle.scrypt.specs.PhcHash.{IsMadeHash, phc_params, read_phc}
 use Rattle.scrypt.specs.Hashing.{key_len_or_default}
 use Rattle.scrypt.specs.Reading.{NamesNoPassword}
-use Rattle.scrypt.proofs.AcceptedFacts.{key_len_or_default_stored, not_true, small_params}
+use Rattle.scrypt.proofs.AcceptedFacts.{key_len_or_default_stored, small_params}
 use Rattle.scrypt.proofs.KeyFacts.{key_by-are_bytes, length-key_by}
 use Rattle.scrypt.proofs.PhcParamsFacts.{three_pairs}
 use Rattle.scrypt.proofs.PhcReadingFacts.{pairs_fault, written_read}
 use Rattle.scrypt.proofs.ReadingFacts.{IsFault, faults, no_password}
 
--- the parameters of a hash
-
-pub other_algorithm : (hash : PasswordHash) → hash.algorithm ≢ codes "scrypt" → phc_params hash ≡ Err Algorithm
-unfolding phc_params
-other_algorithm hash other =
-    rw (not_true (bytes_eq hash.algorithm (codes "scrypt")) (λ is. other ((bytes_eq-Decides hash.algorithm (codes "scrypt")).0 is))) refl
-
--- of scrypt
-module _ (hash : PasswordHash) (is : hash.algorithm ≡ codes "scrypt") where
-  pub versioned : is_some hash.version ≡ true → phc_params hash ≡ Err Version
-  unfolding phc_params
-  versioned some = rw (is, some) refl
-
-  pub unversioned : is_some hash.version ≡ false → phc_params hash ≡ params_of_pairs hash.params
-  unfolding phc_params
-  unversioned none = rw (is, none) refl
-
--- their error
+-- the error of the parameters of a hash
 pub params_fault : (hash : PasswordHash) → IfErr (phc_params hash) IsFault
 unfolding phc_params
 params_fault hash = search (rules, faults, pairs_fault)
@@ -47,10 +26,9 @@ params_none hash = no_password (phc_params hash) (params_fault hash)
 pub made_read : (c : Parameters) (password salt : List ℕ) (hash : PasswordHash) → AreAccepted c.log_n c.r c.p
     → IsMadeHash c password salt hash
     → read_phc hash ≡ Ok (record { params = without_len c; salt = salt; key = key_by c password salt (key_len_or_default c) })
+unfolding phc_params
 made_read c password salt hash fits made =
-    let params : phc_params hash ≡ Ok (without_len c) =
-    unversioned hash made.algorithm (ap is_some made.version) ∙ ap params_of_pairs made.params ∙ written_read c fits in
-    rw (params, made.salt_is, made.key_is) refl
+    rw (made.algorithm, made.version, made.params, written_read c fits, made.salt_is, made.key_is) refl
 
 -- a made hash has a text
 pub made_is_text : (c : Parameters) (password salt : List ℕ) (hash : PasswordHash) → AreAccepted c.log_n c.r c.p

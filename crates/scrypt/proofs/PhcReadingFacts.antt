@@ -1,15 +1,12 @@
 -- Facts on parameters as they are read from PHC pairs.
-use Rattle.std.proofs.Common.{◌≡◌, ◌≢◌, ℕ, ◌^◌, ◌<◌, ◌≤◌, List, [], ◌∷◌, codes, refl, rules, sym, ap, ◌∙◌, arith, Ok, Err, Some, None}
-use Rattle.std.specs.Prelude.{IfErr, IfSome, Option, Result, ok_or}
-use Rattle.std.specs.Str.{bytes_eq}
+use Rattle.std.proofs.Common.{◌≡◌, ℕ, ◌^◌, ◌<◌, ◌≤◌, List, [], ◌∷◌, codes, refl, rules, ap, arith, Ok, Err, Some, None}
+use Rattle.std.specs.Prelude.{IfErr, IfSome, Option, ok_or}
 use Rattle.std.proofs.lemmas.Bool.Decides.{nat_tests}
-use Rattle.std.proofs.lemmas.Slice.Eq.{bytes_eq-Decides}
 use Rattle.password_hash.specs.Decimal.{IsDecimal, decimal_below}
-use Rattle.password_hash.specs.Refusal.{Refusal, ParamInvalid, ParamsInvalid}
+use Rattle.password_hash.specs.Refusal.{ParamInvalid}
 use Rattle.password_hash.proofs.DecimalFacts.{IsDecimal-decimal, decimal_found, decimal_only}
 use Rattle.scrypt.specs.Accepted.{AreAccepted, Parameters, without_len}
-use Rattle.scrypt.specs.Reading.{◌and_then◌, checked}
-use Rattle.scrypt.proofs.AcceptedFacts.{checked_is, not_true, small_params}
+use Rattle.scrypt.proofs.AcceptedFacts.{checked_is, small_params}
 use Rattle.scrypt.proofs.ReadingFacts.{IsFault, checked_fault, faults}
 use Rattle.scrypt.specs.PhcParams.{params_of_pairs, read_pairs, written_pairs}
 
@@ -46,40 +43,8 @@ no_number name limit text fits none =
     at None found = refl
     at (Some n) found = absurd (none n found)
 
--- the first pair
-
-module _ (log_n r p : ℕ) (pair : List ℕ × List ℕ) (rest : List (List ℕ × List ℕ)) where
-  pub ln_step : {number : Result ℕ Refusal} {left : List (List ℕ × List ℕ)} {out : Result Parameters Refusal}
-      → left ≡ pair ∷ rest → read_pairs log_n r p left ≡ out → pair.0 ≡ codes "ln"
-      → number ≡ ok_or (decimal_below 256 pair.1) (ParamInvalid (codes "ln")) → (number and_then λ n. read_pairs n r p rest) ≡ out
-  unfolding read_pairs
-  ln_step steps so_far is told =
-      ap (λ z. z and_then λ n. read_pairs n r p rest) told ∙ sym (ap (read_pairs log_n r p) steps ∙ rw is refl) ∙ so_far
-
-  pub r_step : {number : Result ℕ Refusal} {left : List (List ℕ × List ℕ)} {out : Result Parameters Refusal}
-      → left ≡ pair ∷ rest → read_pairs log_n r p left ≡ out → pair.0 ≡ codes "r"
-      → number ≡ ok_or (decimal_below (2 ^ 32) pair.1) (ParamInvalid (codes "r")) → (number and_then λ n. read_pairs log_n n p rest) ≡ out
-  unfolding read_pairs
-  r_step steps so_far is told =
-      ap (λ z. z and_then λ n. read_pairs log_n n p rest) told ∙ sym (ap (read_pairs log_n r p) steps ∙ rw is refl) ∙ so_far
-
-  pub p_step : {number : Result ℕ Refusal} {left : List (List ℕ × List ℕ)} {out : Result Parameters Refusal}
-      → left ≡ pair ∷ rest → read_pairs log_n r p left ≡ out → pair.0 ≡ codes "p"
-      → number ≡ ok_or (decimal_below (2 ^ 32) pair.1) (ParamInvalid (codes "p")) → (number and_then λ n. read_pairs log_n r n rest) ≡ out
-  unfolding read_pairs
-  p_step steps so_far is told =
-      ap (λ z. z and_then λ n. read_pairs log_n r n rest) told ∙ sym (ap (read_pairs log_n r p) steps ∙ rw is refl) ∙ so_far
-
-  pub unknown_read : pair.0 ≢ codes "ln" → pair.0 ≢ codes "r" → pair.0 ≢ codes "p" → read_pairs log_n r p (pair ∷ rest) ≡ Err ParamsInvalid
-  unfolding read_pairs
-  unknown_read no_ln no_r no_p =
-      let differs = λ (name : List ℕ) (no : pair.0 ≢ name).
-      not_true (bytes_eq pair.0 name) (λ is. no ((bytes_eq-Decides pair.0 name).0 is)) in
-      rw (differs (codes "ln") no_ln, differs (codes "r") no_r, differs (codes "p") no_p) refl
-
-pub none_left : (log_n r p : ℕ) → read_pairs log_n r p [] ≡ checked log_n r p
-unfolding read_pairs
-none_left log_n r p = refl
+-- how the number of a value is read
+pub ruleset numbers = (number_taken, number_large, no_number)
 
 -- parameters that were written are read
 pub written_read : (c : Parameters) → AreAccepted c.log_n c.r c.p → params_of_pairs (written_pairs c) ≡ Ok (without_len c)

@@ -8,12 +8,8 @@ use Rattle.password_hash.proofs.OneReading.{one_reading}
 use Rattle.password_hash.specs.Mcf.{IsMcfText, fields_of}
 use Rattle.password_hash.specs.Parts.{parts_of}
 use Rattle.password_hash.specs.Phc.{IsHashText}
-use Rattle.password_hash.specs.Refusal.{Refusal, EncodingInvalid, PasswordInvalid, refusal}
-use Rattle.password_hash.specs.declared.error.Error.{Error}
-use Rattle.password_hash.specs.declared.error.Error.TheVariants as error
+use Rattle.password_hash.specs.Refusal.{Refusal, EncodingInvalid, PasswordInvalid}
 use Rattle.password_hash.specs.declared.phc.hash.PasswordHash.{PasswordHash}
-use Rattle.password_hash.specs.declared.mcf.hash_ref.PasswordHashRef.{PasswordHashRef}
-use Rattle.password_hash.specs.McfViews.{borrowed_text}
 use Rattle.scrypt.specs.McfHash.{mcf_id, read_fields, read_mcf}
 use Rattle.scrypt.specs.PhcHash.{phc_params, read_phc}
 use Rattle.scrypt.specs.Accepted.{Parameters}
@@ -24,8 +20,8 @@ use Rattle.scrypt.specs.StoredRead.{IsHashOf, stored_text}
 use Rattle.scrypt.specs.declared.stored_hash.Format.{Format}
 use Rattle.scrypt.specs.declared.stored_hash.Format.TheVariants.{Mcf, Phc}
 use Rattle.scrypt.proofs.AcceptedFacts.{not_true}
-use Rattle.scrypt.proofs.McfHashFacts.{fields_fault, is_mcf, mcf_fault, read_seven}
-use Rattle.scrypt.proofs.PhcHashFacts.{params_fault}
+use Rattle.scrypt.proofs.McfHashFacts.{fields_fault, is_mcf, mcf_fault, mcf_none, read_seven}
+use Rattle.scrypt.proofs.PhcHashFacts.{params_fault, params_none}
 use Rattle.scrypt.proofs.ReadingFacts.{IsFault, mapped_refused, no_password, part_fault}
 
 -- the text of a hash that was read is read so
@@ -36,15 +32,6 @@ reads_as text (Phc hash params) read = phc read.0 read.1
 pub reads_text : (text : List ℕ) (format : Format) → IsHashOf text format → Reads (stored_text text format).text (stored_text text format)
 reads_text text (Mcf hash) read = mcf read.0
 reads_text text (Phc hash params) read = phc read.0 read.1
-
--- what is read of the hash in its format
-pub whole_of_mcf : (text : List ℕ) (format : Format) (read : StoredText) (hash : PasswordHashRef) → IsHashOf text format
-    → stored_text text format ≡ read → format ≡ Mcf hash → read_mcf (borrowed_text hash) ≡ read.whole
-whole_of_mcf text format read hash invariant view is = ap read_mcf (rw is at invariant).1 ∙ ap (λ z. z.whole) (rw is at view)
-
-pub whole_of_phc : (text : List ℕ) (format : Format) (read : StoredText) (hash : PasswordHash) (params : Result Parameters Error)
-    → stored_text text format ≡ read → format ≡ Phc hash params → read_phc hash ≡ read.whole
-whole_of_phc text format read hash params view is = ap (λ z. z.whole) (rw is at view)
 
 -- a text is read as one hash
 pub read_once : (text : List ℕ) (one other : StoredText) → Reads text one → Reads text other → one ≡ other
@@ -99,10 +86,6 @@ whole_once text one other (by_hash differs is) (unread differs' none) = absurd (
 whole_once text one other (unread differs none) (by_fields seven) = absurd (false≢true (sym differs ∙ seven))
 whole_once text one other (unread differs none) (by_hash differs' is) = absurd (none (_, is))
 whole_once text one other (unread differs none) (unread differs' none') = refl
-
--- a text that is not read has the reading of its error
-pub none_read : (text : List ℕ) (e : Error) → ¬ IsStoredText text → e ≡ error.EncodingInvalid → HasReading text (Err (refusal e))
-none_read text e none is = rw is (of_none text none)
 
 -- the parameters and the whole of a hash
 
@@ -172,3 +155,9 @@ made_mcf text is = mcf (mcf_is_seven (is_mcf is).1)
 pub made_phc : (text : List ℕ) (hash : PasswordHash) → IsHashText text hash → hash.algorithm ≡ codes "scrypt"
     → Reads text (of_phc text hash)
 made_phc text hash is named = phc (scrypt_is_phc is named) is
+
+-- a text has one reading
+pub ruleset one_reading_of_text = (read_once, whole_once, of_hash, of_none)
+
+-- the errors of reading
+pub ruleset errors_of_reading = (mcf_none, params_none, stored_none, whole_of_text)

@@ -95,7 +95,7 @@ pub fn made_hashes_are_accepted()
 {}
 
 /// Every text has at most one reading: the text of a stored hash that of the hash, and any other text `EncodingInvalid`.
-#[tactic(auto, using(crate::proofs::StoredHashFacts::read_once, crate::proofs::StoredHashFacts::whole_once, crate::proofs::StoredHashFacts::of_hash, crate::proofs::StoredHashFacts::of_none))]
+#[tactic(auto, using(crate::proofs::StoredHashFacts::one_reading_of_text))]
 pub fn stored_texts_have_one_reading()
     ensures whole { (text : List ℕ) (one other : Result Stored Refusal) → HasReading text one → HasReading text other → one ≡ other }
     ensures hash { (text : List ℕ) (one other : StoredText) → Reads text one → Reads text other → one ≡ other }
@@ -145,7 +145,7 @@ pub fn verdicts_compare_keys()
 
 /// Reading a `$7$` text, or the parameters of a PHC hash or of a stored hash, never gives `PasswordInvalid`; and no
 /// reading gives `OutOfMemory`, `TooCostly` or `KeyTooShort`, which come after it.
-#[tactic(auto, using(crate::proofs::McfHashFacts::mcf_none, crate::proofs::PhcHashFacts::params_none, crate::proofs::StoredHashFacts::stored_none, crate::proofs::StoredHashFacts::whole_of_text))]
+#[tactic(auto, using(crate::proofs::StoredHashFacts::errors_of_reading))]
 pub fn reading_names_no_password()
     ensures mcf { (text : List ℕ) → NamesNoPassword (read_mcf text) }
     ensures params { (hash : PasswordHash) → NamesNoPassword (phc_params hash) }

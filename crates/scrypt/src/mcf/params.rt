@@ -17,7 +17,7 @@ use password_hash::{Error, Result};
 /// `p` has fewer than five bytes or a byte outside the alphabet. Otherwise returns `ParamsInvalid`
 /// if [`Params::new`] does not accept the parameters. A first byte below 128 that is outside the
 /// alphabet reads as `log_n` 255, so the error is `ParamsInvalid`, not `EncodingInvalid`.
-#[tactic(auto, using(crate::proofs::McfParamsFacts::reading_field))]
+#[tactic(auto, using(crate::proofs::McfParamsFacts::reading_field), unfolding(crate::specs::McfParams::field_params))]
 pub fn decode_params_and_salt(text: &str) -> Result<(Params, &[u8])>
     ensures params { IfOk result (λ read. field_params text.now ≡ Ok read.0) }
     ensures salt { IfOk result (λ read. read.1.now ≡ drop 11 text.now) }

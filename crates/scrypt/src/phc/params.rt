@@ -31,6 +31,7 @@ impl TryFrom<&ParamsString> for Params {
 }
 
 // Reads `ln`, `r` and `p`.
+#[tactic(auto, using(crate::proofs::AcceptedFacts::reading_numbers), unfolding(crate::specs::PhcParams::read_pairs))]
 fn params_of_pairs(text: &ParamsString) -> Result<Params>
     ensures { told result ≡ params_of_pairs text.now }
 {
@@ -52,7 +53,7 @@ fn params_of_pairs(text: &ParamsString) -> Result<Params>
 }
 
 // Returns the value of `ln`, a decimal of at most 255.
-#[tactic(auto, using(crate::proofs::PhcReadingFacts::number_taken, crate::proofs::PhcReadingFacts::number_large, crate::proofs::PhcReadingFacts::no_number))]
+#[tactic(auto, using(crate::proofs::PhcReadingFacts::numbers))]
 fn log_n_of(value: Value<'_>) -> Result<u8>
     ensures { told result ≡ ok_or (decimal_below 256 (value_text value.entry)) (ParamInvalid (codes "ln")) }
 {
@@ -67,7 +68,7 @@ fn log_n_of(value: Value<'_>) -> Result<u8>
 }
 
 // Returns the value of a parameter, a decimal.
-#[tactic(auto, using(crate::proofs::PhcReadingFacts::number_taken, crate::proofs::PhcReadingFacts::number_large, crate::proofs::PhcReadingFacts::no_number))]
+#[tactic(auto, using(crate::proofs::PhcReadingFacts::numbers))]
 fn number_of(value: Value<'_>, name: &'static str) -> Result<u32>
     ensures { told result ≡ ok_or (decimal_below (2 ^ 32) (value_text value.entry)) (ParamInvalid name.now) }
 {

@@ -44,6 +44,7 @@ pub(crate) fn parts_of_phc<'a>(hash: &'a PasswordHash, params: &Result<Params>) 
 ///
 /// Returns the first of these errors: `Algorithm` if the algorithm is not `scrypt`, `Version` if
 /// there is a version, and the errors of reading the parameters.
+#[tactic(auto, unfolding(crate::specs::PhcHash::phc_params))]
 pub(crate) fn read_params(hash: &PasswordHash) -> Result<Params>
     ensures { told result ≡ phc_params hash.now }
 {

@@ -1,9 +1,9 @@
-use Rattle.std.proofs.Common.{◌≡◌, ℕ, ◌∙◌, ap, refl, sym, drop, None, Some}
+use Rattle.std.proofs.Common.{◌≡◌, ℕ, ◌∙◌, ap, refl, sym, drop, Some}
 use Rattle.std.specs.Prelude.{Option, slice_index}
-use Rattle.std.proofs.lemmas.Bool.{ltb-true, ltb-false}
+use Rattle.std.proofs.lemmas.Bool.{ltb-true}
 use Rattle.scrypt.specs.McfParams.{field_params, five_letter_number}
 use Rattle.scrypt.proofs.AcceptedFacts.{checked_is, not_checked}
-use Rattle.scrypt.proofs.McfParamsFacts.{field_says, no_p, not_ascii, of_numbers, to_the_end}
+use Rattle.scrypt.proofs.McfParamsFacts.{field_says, of_numbers, to_the_end}
 use Rattle.scrypt.proofs.mcf.params.decode_params_and_salt.Goals as goal
 use Rattle.scrypt.proofs.mcf.params.decode_params_and_salt.Goals.{After-decode64_uint32}
 
@@ -17,22 +17,6 @@ field_at c r p r_is p_is =
     field_says c.args.text.now c.in-Some.first.now c.unwrap_or-log_n.result r p first
     (ltb-true c.in-Some.first.now 128 (sym c.is_ascii.ensures ∙ c.if-not-is_ascii.false))
     (rw (← c.value.ensures.value) (sym c.unwrap_or-log_n.ensures)) r_is p_is
-
-pub returns-then-not-is_ascii-clause-err : goal.returns-then-not-is_ascii-clause-err
-returns-then-not-is_ascii-clause-err c =
-    not_ascii _ c.in-Some.first.now (sym (rw (← c.as_bytes-bytes.ensures.value) (c.in-Some.ensures.item.3.1 0)))
-    (ltb-false c.in-Some.first.now 128 (sym c.is_ascii.ensures ∙ c.if-not-is_ascii.true))
-
-pub returns-in_default-decode64_uint32-clause-err : goal.returns-in_default-decode64_uint32-clause-err
-returns-in_default-decode64_uint32-clause-err c =
-    field_at (goal.at.returns-in_default-decode64_uint32-clause-err c).After-decode64_uint32 None _
-    (ap five_letter_number (sym (to_the_end _ _ 1 c.as_bytes-bytes.ensures.value)) ∙ c.in_default-decode64_uint32.ensures.none) refl
-
-pub returns-in_default-decode64_uint32-2-clause-err : goal.returns-in_default-decode64_uint32-2-clause-err
-returns-in_default-decode64_uint32-2-clause-err c =
-    field_at (goal.at.returns-in_default-decode64_uint32-2-clause-err c).After-decode64_uint32 _ None refl
-    (ap five_letter_number (sym (to_the_end _ _ 6 c.as_bytes-bytes.ensures.value)) ∙ c.in_default-decode64_uint32-2.ensures.none)
-    ∙ no_p c.unwrap_or-log_n.result _
 
 pub returns-in-Ok-new-clause-params : goal.returns-in-Ok-new-clause-params
 returns-in-Ok-new-clause-params c =

@@ -1,9 +1,5 @@
-use Rattle.std.proofs.Common.{refl}
 use Rattle.scrypt.proofs.ReadingFacts.{weaker_read}
 use Rattle.scrypt.proofs.stored_hash.StoredHash.needs_rehash.Goals as goal
 
 pub returns-in-Ok : goal.returns-in-Ok
 returns-in-Ok c = record { weaker = weaker_read c.args.wanted.now _ c.in-Ok.parts _ c.in-Ok.ensures.ok c.is_below.ensures }
-
-pub returns-in-Err : goal.returns-in-Err
-returns-in-Err c = record { weaker = rw c.in-Err.ensures.err refl }

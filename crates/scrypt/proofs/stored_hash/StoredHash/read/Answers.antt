@@ -1,5 +1,5 @@
 use Rattle.std.proofs.lemmas.Bool.{false≢true}
-use Rattle.scrypt.proofs.StoredHashFacts.{none_read, of_hash, reads_as}
+use Rattle.scrypt.proofs.StoredHashFacts.{of_hash, of_none, reads_as}
 use Rattle.scrypt.proofs.stored_hash.StoredHash.read.Goals as goal
 
 pub returns-in-Ok-clause-ok : goal.returns-in-Ok-clause-ok
@@ -10,4 +10,4 @@ returns-in-Ok-clause-reading c = of_hash _ _ (reads_as c.args.text.now c.in-Ok.f
 
 pub returns-in-Err-clause-reading : goal.returns-in-Err-clause-reading
 returns-in-Err-clause-reading c =
-    none_read c.args.text.now c.in-Err.error (λ stored. false≢true (c.in-Err.ensures.exact.1 stored)) c.in-Err.ensures.err
+    rw c.in-Err.ensures.err (of_none c.args.text.now (λ stored. false≢true (c.in-Err.ensures.exact.1 stored)))

@@ -1,10 +1,6 @@
-use Rattle.std.proofs.Common.{inl, refl}
 use Rattle.scrypt.proofs.stored_hash.StoredHash.verify.Goals as goal
 
 pub returns-in-Ok : goal.returns-in-Ok
 returns-in-Ok c =
     let read = c.in-Ok.ensures.ok in
     record { verdict = rw read.2 (c.verify_allocating.ensures.verdict read.0 read.1) }
-
-pub returns-in-Err : goal.returns-in-Err
-returns-in-Err c = record { verdict = rw c.in-Err.ensures.err (inl refl) }

@@ -4,10 +4,5 @@ use Rattle.scrypt.proofs.mcf.verifying.ScryptPasswordVerifierPasswordHashRef.ver
 pub verify_allocating-requires : goal.verify_allocating-requires
 verify_allocating-requires c = let read = c.in-Ok.ensures.ok in record { parts = (read.0, read.1) }
 
-pub returns-in-Ok : goal.returns-in-Ok
-returns-in-Ok c =
-    let read = c.in-Ok.ensures.ok in
-    record { verdict = rw read.2 (c.verify_allocating.ensures.verdict read.0 read.1) }
-
 pub returns-in-Err : goal.returns-in-Err
 returns-in-Err c = record { verdict = rw c.in-Err.ensures.err (inl refl) }
