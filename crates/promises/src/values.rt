@@ -1,7 +1,8 @@
-//! Parameters are what they were made of, and equality is equality.
+//! Parameters are what they were made of; and what no clause of the library states, since it is derived: a clone is the
+//! same value, and equality is equality.
 
-ghost use Rattle.std.specs.Prelude.{◌≡◌, ◌↔◌, ◌^◌, IsTrue, IfOk, IsOk};
-ghost use Rattle.scrypt.specs.Accepted.{recommended_parameters, without_len};
+ghost use Rattle.std.specs.Prelude.{◌≡◌, ◌↔◌, IsTrue, IfOk, IsOk};
+ghost use Rattle.scrypt.specs.Accepted.{without_len};
 
 use scrypt::{BufferLens, DeriveError, Params, Scrypt};
 use std::alloc::AllocError;
@@ -14,27 +15,6 @@ pub fn made_again(params: &Params) -> Params
         unreachable!();
     };
     made
-}
-
-/// The number N of parameters is 2 to the power of `log_n`.
-pub fn number_of_rows(params: &Params) -> u64
-    ensures power { result ≡ 2 ^ params.now.log_n }
-{
-    params.n()
-}
-
-/// Defaults are the recommended parameters, with no length.
-pub fn default_params() -> Params
-    ensures recommended { result ≡ recommended_parameters }
-{
-    Params::default()
-}
-
-/// A hasher by default, and a new one, has the recommended parameters.
-pub fn default_hasher() -> Scrypt
-    ensures recommended { result ≡ recommended_parameters }
-{
-    Scrypt::default()
 }
 
 /// A clone of parameters is the same value.
@@ -51,13 +31,6 @@ pub fn clone_hasher(hasher: &Scrypt) -> Result<Scrypt, AllocError>
     ensures ok { IsOk result }
 {
     hasher.clone()
-}
-
-/// Parameters are equal exactly if all four are.
-pub fn are_params_equal(one: &Params, other: &Params) -> bool
-    ensures exact { IsTrue result ↔ (one.now ≡ other.now) }
-{
-    one == other
 }
 
 /// Hashers are equal exactly if their parameters are.
