@@ -47,12 +47,6 @@ two_left_uncounted (Ok s) (Ok other) before after left =
 two_left_uncounted (Ok s) (Err why) before after turn = in_turn_uncounted (Ok s) (Err why) before after turn
 two_left_uncounted (Err why) other before after turn = in_turn_uncounted (Err why) other before after turn
 
--- beside a text that cannot be read, one is verified after the other
-pub in_turn_left : (reading : Result Stored Refusal) (why : Refusal) (before after : Work)
-    → two.AreLeftInTurn AreLeft reading (Err why) before after → AreTwoLeft reading (Err why) before after
-in_turn_left (Ok s) why before after turn = turn
-in_turn_left (Err _) why before after turn = turn
-
 -- a verdict doesn't depend on the count
 pub verdict_uncounted : (w : Work) (password : List ℕ) (reading : Result Stored Refusal)
     → verdict_in w password reading ≡ verdict_in (uncounted w) password reading

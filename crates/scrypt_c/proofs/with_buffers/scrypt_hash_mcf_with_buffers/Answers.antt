@@ -5,7 +5,9 @@ use Rattle.scrypt.specs.McfHash.{IsMadeHash}
 use Rattle.scrypt_c.proofs.MadeFacts.{written_by}
 use Rattle.scrypt_c.specs.Made.{wanted}
 use Rattle.scrypt_c.proofs.with_buffers.scrypt_hash_mcf_with_buffers.Goals as goal
-use Rattle.scrypt_c.proofs.with_buffers.scrypt_hash_mcf_with_buffers.Goals.{then-is_ok, then-is_ok-via-then-is_ok, then-is_ok-via-else-is_ok+then-text-len, else-is_ok+else-text-len}
+use Rattle.scrypt_c.proofs.with_buffers.scrypt_hash_mcf_with_buffers.Goals.{then-is_ok, then-is_ok-via-then-is_ok}
+use Rattle.scrypt_c.proofs.with_buffers.scrypt_hash_mcf_with_buffers.Goals.{then-is_ok-via-else-is_ok+then-text-len}
+use Rattle.scrypt_c.proofs.with_buffers.scrypt_hash_mcf_with_buffers.Goals.{else-is_ok+else-text-len}
 
 pub returns-clause-made : goal.returns-clause-made
 returns-clause-made c zero =
@@ -26,6 +28,7 @@ returns-clause-size c short =
     let enough = rw c.in-Ok.ensures.value at c.hash_with_buffers-hashed.ensures.exact in
     let room = rw c.in-Ok.ensures.value at c.hash_len-len.ensures.value in
     let made = c.hash_len-len.ensures.made c.args.password.now in
+    let is_made = rw c.in-Ok.ensures.value at made.1 in
     let status : c.buffers_status.result ≡ pos 12 = search rules in
     let refused : IsOk c.hash_with_buffers-hashed.result → ⊥ = λ ok. let done = c.buffers_status.ensures.ok.1 ok in absurd cc in
     let old = c.hash_with_buffers-hashed.auto.text in
@@ -33,7 +36,7 @@ returns-clause-size c short =
       | then-is_ok w ↦ elim w.then-is_ok.branch [
         | then-is_ok-via-then-is_ok v ↦ absurd (refused (sym c.is_ok.ensures.value ∙ v.if-is_ok.true))
         | then-is_ok-via-else-is_ok+then-text-len v ↦ (
-          λ long. (made.0, rw c.in-Ok.ensures.value at made.1, w.text_len-is ∙ sym made.2, omega (arith, w.text_len-is, v.if-text-len.true, old)),
+          λ long. (made.0, is_made, w.text_len-is ∙ sym made.2, omega (arith, w.text_len-is, v.if-text-len.true, old)),
           λ fits. absurd (omega (arith, room, fits, v.if-text-len.true, old)),
         )
       ]
