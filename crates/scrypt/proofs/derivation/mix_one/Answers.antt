@@ -1,6 +1,5 @@
 use Rattle.std.proofs.Common.{◌≡◌, ◌≤◌, ◌+◌, ◌-◌, ◌*◌, ◌/◌, ℕ, List, length, take, drop, ap, sym, ◌∙◌, arith}
 use Rattle.std.proofs.lemmas.List.{append-nil, length-drop, length-take-le}
-use Rattle.scrypt_kernel.specs.Count.{AreCounted}
 use Rattle.scrypt_kernel.specs.Words.{part}
 use Rattle.scrypt.specs.Mixing.{AreMixed}
 use Rattle.scrypt.proofs.KeyFacts.{mixed_more}
@@ -21,12 +20,10 @@ returns g c =
     let long : length (take n (drop a x)) ≡ n = length-take-le n (drop a x) (omega (arith, length-drop a x, room)) in
     let blocks : length (take n (drop a x)) / 128 ≡ r = omega (arith, long, size) in
     let chunk : take n (drop a x) ≡ part (128 * r) x i = part_of_slice (128 * r) i x a n at size in
-    let counted : AreCounted _ c.args.cores.now c.mix_chunk.new.cores =
-    record { all = c.mix_chunk.ensures.all; lanes = omega (arith, c.mix_chunk.ensures.lanes) } in
     record {
       mixed = λ b before.
           mixed_more 1 a n at (omega (arith, size)) (c.mix_chunk.auto.b ∙ long) room
           ((rw (c.log_n.ensures.value, chunk, before.rest) at c.mix_chunk.ensures.value) ∙ sym (append-nil _)) before;
       room = c.mix_chunk.ensures.room;
-      counted = rw (c.log_n.ensures.value, blocks, chunk) at counted;
+      counted = rw (c.log_n.ensures.value, blocks, chunk) at c.mix_chunk.ensures.counted;
     }
