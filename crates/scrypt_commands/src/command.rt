@@ -140,7 +140,7 @@ fn verify_command<'a>(text: &'a str) -> Result<Command<'a>, CliError>
 }
 
 // Returns the command that makes the hash of this text again, with these parameters and the salt of these digits.
-#[tactic(auto, using(crate::proofs::OutcomeFacts::unread_within), unfolding(crate::specs::Command::command_request))]
+#[tactic(auto, using(crate::proofs::OutcomeFacts::unread_bounded), unfolding(crate::specs::Command::command_request))]
 fn rehash_command<'a>(
     alloc: Global,
     format: Format,
