@@ -1,10 +1,10 @@
 -- What follows from the definition of MCF texts: each has one id and one list of fields, and texts put together by parts are MCF texts.
-use Rattle.std.proofs.Common.{◌≡◌, ◌≢◌, inl, inr, ◌∙◌, sym, ap, subst, refl, ℕ, ◌<◌, Bool, true, false, not, ◌↔◌}
-use Rattle.std.proofs.Common.{IsTrue, Result, Ok, Err, IsErrOf, IfErr, ◌==◌, List, [], ◌∷◌, ◌++◌, length, get_or}
+use Rattle.std.proofs.Common.{◌≡◌, ◌≢◌, inl, inr, ◌∙◌, sym, ap, subst, refl, ℕ, false}
+use Rattle.std.proofs.Common.{Result, Ok, Err, IsErrOf, IfErr, ◌==◌, List, [], ◌∷◌, ◌++◌}
 use Rattle.std.specs.List.{All, onto_first}
-use Rattle.std.proofs.lemmas.Bool.{ne_eqb, eqb-false, cases_Bool, false≢true}
+use Rattle.std.proofs.lemmas.Bool.{ne_eqb, eqb-false, cases_Bool}
 use Rattle.std.proofs.lemmas.List.{append-nil}
-use Rattle.std.proofs.lemmas.List.Elements.{All-nil, All-cons, All-head, All-tail, All-weaker, All-push, All-from_get_or}
+use Rattle.std.proofs.lemmas.List.Elements.{All-nil, All-cons, All-head, All-tail, All-weaker, All-push}
 use Rattle.password_hash.specs.declared.mcf.Error.{Error}
 use Rattle.password_hash.specs.declared.mcf.Error.TheVariants.{EncodingInvalid, OutOfMemory}
 use Rattle.password_hash.specs.Crypt64.{crypt64_of}
@@ -104,18 +104,6 @@ IsMcfText-pushed text new field written is good =
 pub IsMcfText-of_id : (new id : List ℕ) → new ≡ dollar ∷ id → IsId id → IsMcfText new (id_of new) (fields_of new)
 IsMcfText-of_id new id written is =
     IsMcfText-read new (id, [], record { is_id = is; are_fields = All-nil IsField; written = written ∙ sym (append-nil (dollar ∷ id)) })
-
--- a search for a dollar tells whether a text is a field
-pub IsField-search : (found : Bool) (text : List ℕ) → (found ≡ true → (k : ℕ) × (k < length text) × (get_or text k 0 ≡ dollar))
-    → ((k : ℕ) → k < length text → get_or text k 0 ≡ dollar → found ≡ true) → IsTrue (not found) ↔ IsField text
-IsField-search true text some none = (
-  λ wrong. absurd (false≢true wrong),
-  λ field. let at = some refl in absurd (field at.0 0 at.1 at.2),
-)
-IsField-search false text some none = (
-  λ _. All-from_get_or (λ byte. byte ≢ dollar) text 0 (λ k below is. false≢true (none k below is)),
-  λ _. refl,
-)
 
 -- an error that is not the one is the other
 pub only_memory : {T : Type 0} (r : Result T Error) → (IsErrOf r EncodingInvalid → ⊥) → IfErr r (λ e. e ≡ OutOfMemory)

@@ -4,7 +4,7 @@ use Rattle.std.proofs.Common.{get_or, refl, sym, ap, subst, ◌∙◌, arith}
 use Rattle.std.specs.Prelude.{◌↔◌, All, Result, Ok, Err, IsOk, OnOk, OnErr}
 use Rattle.std.specs.List.{join_with_byte, slice_split, after_first, position_or_len}
 use Rattle.std.proofs.lemmas.Bool.{eqb-true, false≢true}
-use Rattle.std.proofs.lemmas.List.{append_assoc, length-append, get_or_append_left, get_or_push}
+use Rattle.std.proofs.lemmas.List.{append-nil, append_assoc, length-append, get_or_append_left, get_or_push}
 use Rattle.std.proofs.lemmas.List.{length_push, take-append-drop, length-take, get_or-take, take_more, take-map}
 use Rattle.std.proofs.lemmas.List.{map-append, map_push, length-drop}
 use Rattle.std.proofs.lemmas.List.Sums.{split_at_first, passes_at_first}
@@ -19,13 +19,13 @@ use Rattle.password_hash.specs.Pairs.{IsPair, pair_text, pairs_text, ArePairs, p
 use Rattle.password_hash.proofs.PairsFacts.{length_pairs_text}
 use Rattle.password_hash.proofs.PairsFacts.{pairs_of-pairs_text, pairs_of_some, kept_as_text, pairs_eq-Decides}
 
--- a row with one more piece
-join_push : (c : ℕ) (first : List ℕ) (pieces : List (List ℕ)) (last : List ℕ)
-    → join_with_byte c ((first ∷ pieces) ++ last ∷ []) ≡ join_with_byte c (first ∷ pieces) ++ (c ∷ last)
-join_push c first [] last = refl
-join_push c first (next ∷ pieces) last =
-    ap (λ rest. first ++ (c ∷ rest)) (join_push c next pieces last)
-    ∙ sym (append_assoc first (c ∷ join_with_byte c (next ∷ pieces)) (c ∷ last))
+-- two rows of pieces in a row
+join_append : (c : ℕ) (first : List ℕ) (pieces : List (List ℕ)) (next : List ℕ) (others : List (List ℕ))
+    → join_with_byte c ((first ∷ pieces) ++ next ∷ others) ≡ join_with_byte c (first ∷ pieces) ++ (c ∷ join_with_byte c (next ∷ others))
+join_append c first [] next others = refl
+join_append c first (second ∷ pieces) next others =
+    ap (λ rest. first ++ (c ∷ rest)) (join_append c second pieces next others)
+    ∙ sym (append_assoc first (c ∷ join_with_byte c (second ∷ pieces)) (c ∷ join_with_byte c (next ∷ others)))
 
 with_pair_some : (text : List ℕ) (pair : List ℕ × List ℕ) → 0 < length text → with_pair text pair ≡ text ++ (44 ∷ pair_text pair)
 with_pair_some [] pair some = absurd (omega arith)
@@ -38,7 +38,7 @@ with_pair-pairs_text [] pair = refl
 with_pair-pairs_text (first ∷ pairs) pair =
     with_pair_some (pairs_text (first ∷ pairs)) pair (length_pairs_text first pairs)
     ∙ sym (ap (λ texts. join_with_byte 44 (pair_text first ∷ texts)) (map_push pair_text pairs pair)
-    ∙ join_push 44 (pair_text first) (map pair_text pairs) (pair_text pair))
+    ∙ join_append 44 (pair_text first) (map pair_text pairs) (pair_text pair) [])
 
 -- the last of some parameters
 pub record IsLast (pairs : List (List ℕ × List ℕ)) (pair : List ℕ × List ℕ) : Type 0 where
@@ -57,15 +57,12 @@ last_pair pairs pair h =
 
 length_front : (c : ℕ) (xs ys : List (List ℕ)) → length (join_with_byte c xs) ≤ length (join_with_byte c (xs ++ ys))
 length_front c [] ys = omega arith
-length_front c (x ∷ []) [] = omega arith
-length_front c (x ∷ []) (y ∷ ys) = omega (arith, length-append x (c ∷ join_with_byte c (y ∷ ys)))
-length_front c (x ∷ next ∷ xs) ys =
-    omega (
-      arith,
-      length_front c (next ∷ xs) ys,
-      length-append x (c ∷ join_with_byte c (next ∷ xs)),
-      length-append x (c ∷ join_with_byte c ((next ∷ xs) ++ ys)),
-    )
+length_front c (x ∷ xs) [] = omega (arith, ap (λ pieces. length (join_with_byte c pieces)) (append-nil (x ∷ xs)))
+length_front c (x ∷ xs) (y ∷ ys) = omega (
+  arith,
+  ap length (join_append c x xs y ys),
+  length-append (join_with_byte c (x ∷ xs)) (c ∷ join_with_byte c (y ∷ ys)),
+)
 
 -- the first of some parameters
 pub ArePairs-take : (n : ℕ) (pairs : List (List ℕ × List ℕ)) → ArePairs pairs → ArePairs (take n pairs)

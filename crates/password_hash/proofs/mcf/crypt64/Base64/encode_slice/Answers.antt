@@ -15,7 +15,8 @@ loop-letter-init c = record { front = search rules; back = refl; within = omega 
 -- there is a place for each letter
 room : (c : In-Some) → c.loop-letter.len < length c.loop-letter.out
 room c =
-    let letters = ap (λ left. take c.loop-letter.len c.loop-letter.out ++ left) (sym c.in-Some.ensures.steps) ∙ c.loop-letter.invariant.front in
+    let done = take c.loop-letter.len c.loop-letter.out in
+    let letters = ap (λ left. done ++ left) (sym c.in-Some.ensures.steps) ∙ c.loop-letter.invariant.front in
     omega (arith, simp (length-append, length-take) at (ap length letters), length-crypt64_of c.args.bytes.now)
 
 pub bounds-out-len : goal.bounds-out-len
