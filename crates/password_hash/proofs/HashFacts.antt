@@ -63,18 +63,16 @@ parts_lack text hash h =
     (params_lack hash.params h.params) (salt_and_key_lack 36 refl hash.salt hash.hash h.salt h.key)))
 
 -- the text of parameters does not begin with `v=`, since no name is `v`
-pairs_no_version : (pair : List ℕ × List ℕ) (params : List (List ℕ × List ℕ)) → IsPair pair → LacksVersion (pairs_text (pair ∷ params))
-pairs_no_version pair params h rest e =
-    let equals = equals_of_pairs pair params in
-    let name = cut_at_first 61 pair.0 equals.0 (letters_lack is_identifier_letter 61 refl pair.0 h.name.letters) in
-    let v = cut_at_first 61 (codes "v") rest (All-from_recursion (λ b. (b == 61) ≡ false) (codes "v") (refl, tt)) in
-    h.no_version (sym name.0 ∙ ap (before_first (λ b. b == 61)) (sym equals.1 ∙ e) ∙ v.0)
-
 params_no_version : (params : List (List ℕ × List ℕ)) → ArePairs params → LackVersion (params_part params)
 params_no_version [] h = All-nil LacksVersion
 params_no_version (pair ∷ params) h =
-    All-from_recursion LacksVersion (pairs_text (pair ∷ params) ∷ [])
-    (pairs_no_version pair params (All-head IsPair pair params h.each), tt)
+    let is : IsPair pair = All-head IsPair pair params h.each in
+    let equals = equals_of_pairs pair params in
+    let name = cut_at_first 61 pair.0 equals.0 (letters_lack is_identifier_letter 61 refl pair.0 is.name.letters) in
+    let none : Lacks 61 (codes "v") = All-from_recursion (λ b. (b == 61) ≡ false) (codes "v") (refl, tt) in
+    let text : LacksVersion (pairs_text (pair ∷ params)) = λ rest e.
+    is.no_version (sym name.0 ∙ ap (before_first (λ b. b == 61)) (sym equals.1 ∙ e) ∙ (cut_at_first 61 (codes "v") rest none).0) in
+    All-from_recursion LacksVersion (pairs_text (pair ∷ params) ∷ []) (text, tt)
 
 -- nor does what has no `=`
 lacking_no_version : (parts : List (List ℕ)) → LackEquals parts → LackVersion parts

@@ -26,19 +26,14 @@ letters_lack p c is_none xs h =
     let other = λ (x : ℕ) (is_one : p x ≡ true). ne_eqb x c (λ e. false≢true (sym is_none ∙ (rw e at is_one))) in
     All-weaker (λ x. p x ≡ true) (λ x. (x == c) ≡ false) other xs (AllPass-from_list_all p xs h)
 
--- the first c comes after bytes that lack it
-pub position_at : (c : ℕ) (xs ys : List ℕ) → Lacks c xs → position_or_len (λ b. b == c) (xs ++ (c ∷ ys)) ≡ length xs
-position_at c xs ys none =
-    position_or_len_is (λ b. b == c) (xs ++ (c ∷ ys)) (length xs) 0
-    (omega (arith, length-append xs (c ∷ ys)))
-    (λ k below. rw (get_or_append_left xs (c ∷ ys) 0 k below) (All-get_or (λ b. (b == c) ≡ false) xs k 0 below none))
-    (λ _. rw (get_or_at xs c ys 0 (length xs) refl) (eq-eqb c c refl))
-
--- so a text is cut at it
+-- a text is cut at the first c, after bytes that lack it
 pub cut_at_first : (c : ℕ) (xs ys : List ℕ) → Lacks c xs
     → (before_first (λ b. b == c) (xs ++ (c ∷ ys)) ≡ xs) × (after_first (λ b. b == c) (xs ++ (c ∷ ys)) ≡ ys)
 cut_at_first c xs ys none =
-    let at = position_at c xs ys none in
+    let at : position_or_len (λ b. b == c) (xs ++ (c ∷ ys)) ≡ length xs =
+    position_or_len_is (λ b. b == c) (xs ++ (c ∷ ys)) (length xs) 0 (omega (arith, length-append xs (c ∷ ys)))
+    (λ k below. rw (get_or_append_left xs (c ∷ ys) 0 k below) (All-get_or (λ b. (b == c) ≡ false) xs k 0 below none))
+    (λ _. rw (get_or_at xs c ys 0 (length xs) refl) (eq-eqb c c refl)) in
     let regrouped : xs ++ (c ∷ ys) ≡ (xs ++ (c ∷ [])) ++ ys = sym (append_assoc xs (c ∷ []) ys) in
     (rw at (take_at xs (c ∷ ys) (length xs) refl), rw (at, regrouped) (drop_at (xs ++ (c ∷ [])) ys (length xs + 1) (length_push xs c)))
 
