@@ -2,7 +2,7 @@
 use Rattle.std.specs.Prelude.{◌≡◌, ℕ, ◌+◌, Bool, true, if◌then◌else◌}
 use Rattle.scrypt_kernel.specs.declared.cores.CoreCount.{CoreCount}
 
--- n more cores were run, which are all SIMD cores if simd is true, and otherwise none
+-- n more cores were run: all of them SIMD cores if simd is true, and none of them otherwise
 pub record AreCountedAs (simd : Bool) (n : ℕ) (before after : CoreCount) : Type 0 where
   pub all : after.all ≡ before.all + n
   pub lanes : after.lanes ≡ before.lanes + (if simd then n else 0)

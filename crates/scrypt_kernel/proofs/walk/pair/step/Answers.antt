@@ -1,14 +1,9 @@
-use Rattle.std.proofs.Common.{◌≡◌, ◌<◌, ◌≤◌, ◌+◌, ◌-◌, ◌*◌, ◌/◌, ◌^◌, ℕ, List, refl, ap, ap₂, arith, ◌∙◌}
+use Rattle.std.proofs.Common.{◌≡◌, ◌/◌, ◌^◌, ℕ, List, refl, ap₂, arith, ◌∙◌}
 use Rattle.scrypt_kernel.specs.Words.{part}
 use Rattle.scrypt_kernel.specs.Diagonal.{inverse_pivot, pivot}
 use Rattle.scrypt_kernel.proofs.OrderFacts.{diagonal_inverse}
-use Rattle.scrypt_kernel.proofs.WalkFacts.{kept_inside, next_step_kept}
+use Rattle.scrypt_kernel.proofs.WalkFacts.{next_step_kept}
 use Rattle.scrypt_kernel.proofs.walk.pair.step.Goals as goal
-
-row_inside : (log_n j size len : ℕ) → j < 2 ^ log_n → len ≡ 2 ^ (log_n - 0) * size → j * size + size ≤ len
-row_inside log_n j size len inside long =
-    let there : j / 1 ≡ j = omega arith in
-    omega (arith, ap (λ i. (i + 1) * size) there, kept_inside 0 log_n j size len (omega arith) inside long)
 
 -- each row is kept
 same_row : (n size j : ℕ) (v : List ℕ) → n ≡ size → part n v j ≡ part size v (j / 2 ^ 0)
@@ -20,11 +15,6 @@ returns-clause-value c =
     rw c.mix_pair.ensures.value (next_step_kept pivot inverse_pivot diagonal_inverse c.args.v.now c.args.x.now
     c.part-taken.result.now j.result c.requires.lens j.ensures.value j.ensures.inside
     (c.part-taken.ensures.value ∙ same_row _ _ j.result c.args.v.now refl) (omega arith) (omega arith))
-
-pub part-other_taken-requires : goal.part-other_taken-requires
-part-other_taken-requires c =
-    let j = c.integerify_diagonal-2 in
-    rw (← c.requires.same) (row_inside c.args.log_n j.result _ _ j.ensures.inside c.requires.other_lens.rows)
 
 pub returns-clause-other_value : goal.returns-clause-other_value
 returns-clause-other_value c =
