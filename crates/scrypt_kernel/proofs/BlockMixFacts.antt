@@ -69,9 +69,9 @@ module _ (p q : List ℕ) (inverse : AreInverse p q) (b : List ℕ) (some : 0 < 
       let w = block b i in
       let one : length z ≡ 16 = length-chain b (omega arith) (omega arith) i (omega arith) in
       let same : length z ≡ length w = one ∙ sym (length-part 16 i b room) in
-      let long = length-zip2 bit_xor z w same in
+      let size : length (permuted p (xor_words z w)) ≡ 16 = length-permuted p _ ∙ length-zip2 bit_xor z w same ∙ one in
       let joined = ap (xor_words (permuted p z)) (block_in p q inverse b i room) ∙ zip_in p q inverse bit_xor z w same (omega arith) in
-      let back = standard_of p q inverse _ (xor_words z w) (omega (arith, long, ap length joined, length-permuted p (xor_words z w))) joined in
+      let back = standard_of p q inverse _ (xor_words z w) (omega (arith, ap length joined)) joined in
       ap (permuted p) (chain_more b i ∙ ap salsa20_8 (sym back))
 
   pub block_mix_by : IsBlockMixBy (core_in p q) (permuted p b) (permuted p (block_mix b))

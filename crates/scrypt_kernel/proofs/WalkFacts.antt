@@ -86,8 +86,9 @@ module _ (p q : List ℕ) (inverse : AreInverse p q) {log_n s y spare : ℕ} (ke
       let t : ℕ = 2 ^ s in
       let kept_row : j / t * t < 2 ^ log_n = omega (arith, div-mul-le_self j t, inside) in
       let there : j / t * t + j % t ≡ j = omega arith in
-      let taken = row_after_in p q inverse b low (j / t * t) (j % t) (omega (arith, lens.row.whole)) (below ∙ keeps.each (j / t) kept_row) in
-      next_step_in p q inverse b log_n k x u j (omega (arith, lens.row.whole)) same is names
+      let whole : length x % 16 ≡ 0 = omega (arith, lens.row.whole) in
+      let taken = row_after_in p q inverse b low (j / t * t) (j % t) (omega arith) (below ∙ keeps.each (j / t) kept_row) in
+      next_step_in p q inverse b log_n k x u j whole same is names
       (mixed ∙ taken ∙ ap (λ i. permuted p (row b i)) there)
 
   -- u is the kept row itself

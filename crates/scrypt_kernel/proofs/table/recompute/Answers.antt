@@ -18,7 +18,8 @@ pairs-init g c =
       | then-n-eq0 w ↦
           let one = more _ _ _ w.mix.new.output 0 1 _ first refl w.mix.ensures.value w.mix.ensures.counted (omega arith) refl in
           let two = w.mix-then-n-eq0.ensures in
-          rw (w.x-is, w.cores-is) (more _ _ _ _ 1 _ _ one (omega arith) two.value two.counted (omega arith) (omega (arith, w.if-n-eq0.true)))
+          rw (w.x-is, w.cores-is)
+          (more _ _ _ _ 1 _ _ one (omega arith) two.value two.counted (omega arith) (omega (arith, w.if-n-eq0.true)))
       | else-n-eq0 w ↦
           let one = w.mix-else-n-eq0.ensures in
           rw (w.x-is, w.cores-is) (more _ _ _ _ 0 _ _ first refl one.value one.counted (omega arith) (omega (arith, w.if-n-eq0.false)))

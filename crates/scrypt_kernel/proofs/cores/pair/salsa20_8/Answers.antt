@@ -17,5 +17,6 @@ returns-clause-other c =
     core_of_rounds c.args.y.now c.put_all-2.new.x c.told-y (omega arith)
     {from = second (c.both-a.result, c.both-b.result, c.both-c.result, c.both-d.result)}
     (rw (c.both-a.ensures.other, c.both-b.ensures.other, c.both-c.ensures.other, c.both-d.ensures.other) refl)
-    c.double_round-once.ensures.other c.double_round-twice.ensures.other c.double_round-thrice.ensures.other c.double_round-all.ensures.other
+    c.double_round-once.ensures.other c.double_round-twice.ensures.other
+    c.double_round-thrice.ensures.other c.double_round-all.ensures.other
     (c.put_all-2.ensures ∙ rw (c.other.ensures, c.other-2.ensures, c.other-3.ensures, c.other-4.ensures) (simp drop-zip2))

@@ -17,5 +17,6 @@ returns-clause-value c =
     let high : get_or x (at + 13) 0 < 2 ^ 32 = search rules in
     let long = length-permuted inverse_pivot x in
     let words = first_words x at (omega arith) (omega arith) in
-    let number = integerify_low (standard_order x) at c.args.log_n (omega arith) (omega arith) (omega arith) (rw words.0 low) (rw words.1 high) in
+    let number = integerify_low (standard_order x) at c.args.log_n (omega arith) (omega arith) (omega arith)
+    (rw words.0 low) (rw words.1 high) in
     c.low_bits.ensures.value ∙ sym (number ∙ ap₂ (λ u w. (u + 2 ^ 32 * w) % 2 ^ c.args.log_n) words.0 words.1)
