@@ -1,13 +1,12 @@
 -- Facts on the chunks of B, mixed one after another in any order.
-use Rattle.std.proofs.Common.{◌≡◌, ◌≢◌, ℕ, ◌<◌, ◌≤◌, ◌+◌, ◌-◌, ◌*◌, List, [], ◌∷◌, ◌++◌, length, take, drop, nat_eq, cond}
-use Rattle.std.proofs.Common.{refl, sym, ap, ◌∙◌, arith, inl, inr, zero-add, length-append}
+use Rattle.std.proofs.Common.{◌≡◌, ◌≢◌, ℕ, ◌<◌, ◌≤◌, ◌+◌, ◌*◌, List, [], ◌∷◌, ◌++◌, length, take, drop, nat_eq, cond}
+use Rattle.std.proofs.Common.{refl, sym, ap, ◌∙◌, arith, inl, inr, zero-add}
 use Rattle.std.specs.List.{All, count_by}
 use Rattle.std.proofs.lemmas.Bool.{cases_Bool, eqb-true, eqb-false}
-use Rattle.std.proofs.lemmas.List.{drop-drop, length-drop, length-take-le}
+use Rattle.std.proofs.lemmas.List.{drop-drop}
 use Rattle.std.proofs.lemmas.List.Elements.{All-head, All-tail}
-use Rattle.std.proofs.lemmas.List.FromFn.{length-map-range_with_len}
 use Rattle.std.proofs.lemmas.List.Sums.{sum_by-cons}
-use borrow.Rule.Slice.PartMut.{put_mid}
+use borrow.Rule.Slice.PartMut.{put_mid, same_len_mid}
 use Rattle.scrypt_kernel.specs.Words.{bytes_of, part, words_of}
 use Rattle.scrypt_kernel.specs.RoMix.{ro_mix}
 use Rattle.scrypt.specs.Key.{mixed_chunk, mixed_chunks}
@@ -31,11 +30,7 @@ module _ (b : List ℕ) (log_n r p i : ℕ) (some : 0 < r) (long : length b ≡ 
 
   pub length-mixed : length (with_chunk_mixed log_n r b i) ≡ p * (128 * r)
   length-mixed =
-      let a : ℕ = i * (128 * r) in
-      let front : length (take a b) ≡ a = length-take-le a b (omega (arith, room)) in
-      let back : length (drop ((i + 1) * (128 * r)) b) ≡ length b - (i + 1) * (128 * r) = length-drop _ b in
-      let middle = length-append (mixed_chunk b log_n r i) (drop ((i + 1) * (128 * r)) b) in
-      length-append (take a b) _ ∙ omega (arith, front, back, middle, full, room)
+      ap length put ∙ same_len_mid (i * (128 * r)) (128 * r) b (mixed_chunk b log_n r i) (full ∙ sym (length-part (128 * r) i b room)) ∙ long
 
   pub part_mixed : part (128 * r) (with_chunk_mixed log_n r b i) i ≡ mixed_chunk b log_n r i
   part_mixed =
@@ -47,35 +42,26 @@ module _ (b : List ℕ) (log_n r p i : ℕ) (some : 0 < r) (long : length b ≡ 
       ap (λ x. part (128 * r) x k) put
       ∙ part_put_other (128 * r) i b (mixed_chunk b log_n r i) (i * (128 * r)) (128 * r) refl refl full room k other
 
--- how often a chunk is named by a list that is not empty
-counted : (k i : ℕ) (order : List ℕ) → count_by (nat_eq k) (i ∷ order) ≡ cond (nat_eq k i) 1 0 + count_by (nat_eq k) order
-counted k i order = sum_by-cons (λ j. cond (nat_eq k j) 1 0) i order
-
-length-in_order : (log_n r p : ℕ) → 0 < r → (order b : List ℕ) → length b ≡ p * (128 * r) → All (λ i. i < p) order
-    → length (mixed_in_order log_n r b order) ≡ p * (128 * r)
-length-in_order log_n r p some [] b long below = long
-length-in_order log_n r p some (i ∷ order) b long below =
-    let inside = All-head (λ i. i < p) i order below in
-    length-in_order log_n r p some order _ (length-mixed b log_n r p i some long inside) (All-tail (λ i. i < p) i order below)
-
--- a chunk that is not named stays, and one that is named once is mixed
-record IsDone (log_n r k : ℕ) (b order : List ℕ) : Type 0 where
+-- the length stays, a chunk that is not named stays, and one that is named once is mixed
+record IsDone (log_n r p k : ℕ) (b order : List ℕ) : Type 0 where
+  long : length (mixed_in_order log_n r b order) ≡ p * (128 * r)
   none : count_by (nat_eq k) order ≡ 0 → part (128 * r) (mixed_in_order log_n r b order) k ≡ part (128 * r) b k
   once : count_by (nat_eq k) order ≡ 1 → part (128 * r) (mixed_in_order log_n r b order) k ≡ mixed_chunk b log_n r k
 
 done_in_order : (log_n r p k : ℕ) → 0 < r → (order b : List ℕ) → length b ≡ p * (128 * r) → All (λ i. i < p) order
-    → IsDone log_n r k b order
-done_in_order log_n r p k some [] b long below = record { none = λ _. refl; once = λ one. absurd (omega (arith, one)) }
+    → IsDone log_n r p k b order
+done_in_order log_n r p k some [] b long below = record { long = long; none = λ _. refl; once = λ one. absurd (omega (arith, one)) }
 done_in_order log_n r p k some (i ∷ order) b long below =
     let inside : i < p = All-head (λ i. i < p) i order below in
     let rest = done_in_order log_n r p k some order (with_chunk_mixed log_n r b i) (length-mixed b log_n r p i some long inside)
     (All-tail (λ i. i < p) i order below) in
-    let more = counted k i order in
+    let more = sum_by-cons (λ j. cond (nat_eq k j) 1 0) i order in
     elim (cases_Bool (nat_eq k i)) [
       | inl hit ↦
           let same : k ≡ i = eqb-true k i hit in
           let named : count_by (nat_eq k) (i ∷ order) ≡ 1 + count_by (nat_eq k) order = more ∙ rw hit refl in
           record {
+            long = rest.long;
             none = λ zero. absurd (omega (arith, named, zero));
             once = λ one. rest.none (omega (arith, named, one)) ∙ rw same (part_mixed b log_n r p i some long inside);
           }
@@ -83,6 +69,7 @@ done_in_order log_n r p k some (i ∷ order) b long below =
           let kept = part_kept b log_n r p i some long inside k (eqb-false k i miss) in
           let passed : count_by (nat_eq k) (i ∷ order) ≡ count_by (nat_eq k) order = more ∙ rw miss (zero-add _) in
           record {
+            long = rest.long;
             none = λ zero. rest.none (omega (arith, passed, zero)) ∙ kept;
             once = λ one. rest.once (omega (arith, passed, one)) ∙ ap (λ z. bytes_of (ro_mix (words_of z) log_n)) kept;
           }
@@ -92,6 +79,6 @@ done_in_order log_n r p k some (i ∷ order) b long below =
 pub any_order : (b order : List ℕ) (log_n r p : ℕ) → 0 < r → length b ≡ p * (128 * r) → NamesEachOnce p order
     → mixed_in_order log_n r b order ≡ mixed_chunks b log_n r p
 any_order b order log_n r p some long names =
-    parts_all (mixed_chunk b log_n r) (128 * r) p (mixed_in_order log_n r b order)
-    (length-in_order log_n r p some order b long names.below)
-    (λ k inside. (done_in_order log_n r p k some order b long names.below).once (names.once k inside))
+    let done = λ (k : ℕ). done_in_order log_n r p k some order b long names.below in
+    parts_all (mixed_chunk b log_n r) (128 * r) p (mixed_in_order log_n r b order) (done 0).long
+    (λ k inside. (done k).once (names.once k inside))

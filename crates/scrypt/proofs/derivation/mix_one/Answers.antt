@@ -1,7 +1,6 @@
-use Rattle.std.proofs.Common.{◌≡◌, ◌≤◌, ◌+◌, ◌-◌, ◌*◌, ◌/◌, ℕ, List, length, take, drop, ap, sym, ◌∙◌, arith}
+use Rattle.std.proofs.Common.{◌≡◌, ◌≤◌, ◌+◌, ◌-◌, ◌*◌, ◌/◌, ℕ, length, take, drop, ap, sym, ◌∙◌, arith}
 use Rattle.std.proofs.lemmas.List.{append-nil, length-drop, length-take-le}
 use Rattle.scrypt_kernel.specs.Words.{part}
-use Rattle.scrypt.specs.Mixing.{AreMixed}
 use Rattle.scrypt.proofs.KeyFacts.{mixed_more}
 use Rattle.scrypt_kernel.proofs.PartFacts.{part_of_slice}
 use Rattle.scrypt.proofs.derivation.mix_one.Goals as goal

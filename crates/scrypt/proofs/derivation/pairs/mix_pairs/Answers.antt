@@ -1,5 +1,4 @@
 use Rattle.std.proofs.Common.{◌≡◌, ◌+◌, ◌*◌, arith}
-use Rattle.scrypt.specs.Cost.{ro_mix_cost}
 use Rattle.scrypt_kernel.proofs.PartFacts.{parts_apart}
 use Rattle.scrypt_kernel.proofs.WalkFacts.{whole_cost}
 use Rattle.scrypt.proofs.CostFacts.{counted_more}
