@@ -4,7 +4,7 @@ use Rattle.std.proofs.Common.{Some, Ok, true, ◌∙◌, refl, sym, ap, ap₂, a
 use Rattle.std.specs.Prelude.{All, IfSome, codes, nat_lt}
 use Rattle.std.proofs.lemmas.Bool.{lt-ltb}
 use Rattle.std.specs.Str.{IsAscii}
-use Rattle.std.proofs.lemmas.List.{append-nil, drop_all, drop_at, take_at, drop-drop}
+use Rattle.std.proofs.lemmas.List.{append-nil, drop_all, drop_at, take_at}
 use Rattle.std.proofs.lemmas.List.Elements.{All-nil, All-cons, All-append, All-from_get_or, All-head, All-tail, All-weaker}
 use borrow.Rule.Slice.PartMut.{put_mid}
 use Rattle.password_hash.specs.Crypt64.{letter, letters_of, crypt64_of, encoded_len}
@@ -46,18 +46,6 @@ put_after_dollar (first ∷ out) letters new count written =
     ∙ ap (λ rest. dollar ∷ rest)
     (written ∙ ap (λ room. letters ++ drop (length letters) room) (to_the_end (dollar ∷ out) (dollar ∷ out) 1 refl)
     ∙ filled letters out (omega arith))
-
--- letters written after the front of a text
-pub put_after_front : (front text letters new : List ℕ) → length front ≡ 14 → 14 ≤ length text
-    → new ≡ letters ++ drop (length letters) (take (length (front ++ drop 14 text) - 14) (drop 14 (front ++ drop 14 text)))
-    → put_mid 14 (length (front ++ drop 14 text) - 14) (front ++ drop 14 text) new ≡ front ++ (letters ++ drop (14 + length letters) text)
-put_after_front front text letters new count inside written =
-    let whole : 14 ≤ length (front ++ drop 14 text) = omega (arith, length-append front (drop 14 text), count) in
-    put_to_the_end 14 (front ++ drop 14 text) new whole
-    ∙ ap (λ z. z ++ new) (take_at front (drop 14 text) 14 count)
-    ∙ ap (λ z. front ++ z) (written ∙ ap (λ z. letters ++ drop (length letters) z)
-    (to_the_end (front ++ drop 14 text) (front ++ drop 14 text) 14 refl ∙ drop_at front (drop 14 text) 14 count)
-    ∙ ap (λ z. letters ++ z) (drop-drop (length letters) 14 text))
 
 -- a place of a list of ASCII bytes, or after it
 ascii_by_index : (text : List ℕ) → All (λ byte. byte < 128) text → IsAscii text

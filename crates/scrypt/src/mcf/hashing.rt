@@ -1,6 +1,7 @@
 // Making `$7$` hashes.
 
-ghost use Rattle.std.specs.Prelude.{◌≡◌, ◌↔◌, ◌+◌, ◌<◌, ◌≤◌, ◌∷◌, ◌++◌, ℕ, List, None, All, length, drop, replicate, IsTrue, IfOk, IfErr, take, IsErrOf, IsOk, OnErr, OnOk};
+ghost use Rattle.std.specs.Prelude.{◌≡◌, ◌↔◌, ◌+◌, ◌<◌, ◌≤◌, ◌∷◌, ◌++◌};
+ghost use Rattle.std.specs.Prelude.{ℕ, List, None, All, length, drop, replicate, IsTrue, IfOk, IfErr, take, IsErrOf, IsOk, OnErr, OnOk};
 ghost use Rattle.std.specs.Option.{option_map};
 ghost use Rattle.std.specs.Str.{IsAscii};
 ghost use Rattle.password_hash.specs.Crypt64.{crypt64_of, encoded_len};
@@ -119,8 +120,9 @@ fn write_params_and_salt(out: &mut [u8], params: &Params, salt: &[u8])
     requires { length out.old ≡ made_text_len params.now (length salt.now) }
     ensures { IsBegun params.now salt.now out.new }
 {
-    out[..PARAMS_LEN].copy_from_slice(&params_letters(params));
-    let Ok(_) = Base64::Crypt.encode_slice(salt, &mut out[PARAMS_LEN..]) else {
+    let (front, rest) = out.split_at_mut(PARAMS_LEN);
+    front.copy_from_slice(&params_letters(params));
+    let Ok(_) = Base64::Crypt.encode_slice(salt, rest) else {
         unreachable!();
     };
 }
