@@ -53,8 +53,8 @@ mixed_more {b} {x} {ys} {log_n} {r} {i} m a n at size full room made before =
     let there = rw (← at) at before.done in
     let rest = rw (← at) at before.rest in
     record {
-      done = ap (λ k. take k (put_mid a n x ys)) end ∙ take-put_mid a n x ys (a + n) (omega arith) (omega arith) ∙ ap₂ (λ y z. y ++ z) there made
-          ∙ sym (made_append (mixed_chunk b log_n r) 0 i i m (zero-add i));
+      done = ap (λ k. take k (put_mid a n x ys)) end ∙ take-put_mid a n x ys (a + n) (omega arith) (omega arith)
+          ∙ ap₂ (λ y z. y ++ z) there made ∙ sym (made_append (mixed_chunk b log_n r) 0 i i m (zero-add i));
       rest = rw end (drop-put_mid a n x ys (a + n) (omega arith) (omega arith) full
           ∙ sym (drop-drop n a x) ∙ ap (drop n) rest ∙ drop-drop n a b);
     }
@@ -63,8 +63,8 @@ regrouped : (p u v w : List ℕ) → p ++ ((u ++ v) ++ w) ≡ (p ++ (u ++ [])) +
 regrouped p u v w = simp (append_assoc, append-nil)
 
 -- two more, of which the one ends where front ends, and the other begins where back begins
-pub mixed_pair : {b x one other : List ℕ} {log_n r i : ℕ} (front back : List ℕ) (a n : ℕ) → a ≡ i * (128 * r) → n ≡ 128 * r → x ≡ front ++ back
-    → length front ≡ a + n → n ≤ length back → length one ≡ n → length other ≡ n
+pub mixed_pair : {b x one other : List ℕ} {log_n r i : ℕ} (front back : List ℕ) (a n : ℕ) → a ≡ i * (128 * r) → n ≡ 128 * r
+    → x ≡ front ++ back → length front ≡ a + n → n ≤ length back → length one ≡ n → length other ≡ n
     → one ≡ bytes_of (ro_mix (words_of (take n (drop a front))) log_n) → other ≡ bytes_of (ro_mix (words_of (take n back)) log_n)
     → AreMixed b log_n r i x → AreMixed b log_n r (i + 2) (put_mid a n front one ++ (other ++ drop n back))
 mixed_pair {b} {x} {one} {other} {log_n} {r} {i} front back a n at size is long room full full_other mixed mixed_other before =
@@ -95,7 +95,8 @@ pub all_mixed : {b x : List ℕ} {log_n r : ℕ} (p : ℕ) → length x ≡ p * 
 all_mixed {b} {x} {log_n} {r} p long mixed = sym (take_all (p * (128 * r)) x (omega arith)) ∙ mixed.done
 
 -- a chunk keeps its length
-pub length-mixed_chunk : (b : List ℕ) (log_n r i : ℕ) → 0 < r → i * (128 * r) + 128 * r ≤ length b → length (mixed_chunk b log_n r i) ≡ 128 * r
+pub length-mixed_chunk : (b : List ℕ) (log_n r i : ℕ) → 0 < r → i * (128 * r) + 128 * r ≤ length b
+    → length (mixed_chunk b log_n r i) ≡ 128 * r
 length-mixed_chunk b log_n r i some room =
     let long : length (part (128 * r) b i) ≡ 128 * r = length-part (128 * r) i b room in
     let x : List ℕ = words_of (part (128 * r) b i) in

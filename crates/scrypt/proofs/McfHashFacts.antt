@@ -56,7 +56,8 @@ pub record IsTextOf (text : List ℕ) (s : Stored) : Type 0 where
 key_is : {letters key : List ℕ} → read_key (letters ∷ []) ≡ Ok key → Crypt64 key letters
 key_is {letters} {key} is =
     let read = both_read (ok_or (decoded letters) EncodingInvalid) _ is in
-    encoded_is key letters (at (decoded letters) read.1 ∙ ap Some cc (ok_if (is_output_len (length read.0)) (Ok read.0) OutputSize read.2).1)
+    encoded_is key letters
+    (at (decoded letters) read.1 ∙ ap Some cc (ok_if (is_output_len (length read.0)) (Ok read.0) OutputSize read.2).1)
   where
     at : (found : Option (List ℕ)) {key : List ℕ} → ok_or found EncodingInvalid ≡ Ok key → found ≡ Some key
     at None is = absurd cc

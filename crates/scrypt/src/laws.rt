@@ -1,6 +1,7 @@
 //! Laws of the definitions. Each function does nothing at run time: its contract is the law.
 
-ghost use Rattle.std.specs.Prelude.{◌≡◌, ◌≢◌, ◌⊎◌, ◌↔◌, false, ℕ, ◌-◌, ◌*◌, ◌%◌, ◌^◌, ◌<◌, ◌≤◌, List, [], ◌∷◌, ◌++◌, length, take, Option, Result, Ok, Err, IfSome, IsSome, Some, All};
+ghost use Rattle.std.specs.Prelude.{◌≡◌, ◌≢◌, ◌⊎◌, ◌↔◌, false, ℕ, ◌-◌, ◌*◌, ◌%◌, ◌^◌, ◌<◌, ◌≤◌, List, [], ◌∷◌, ◌++◌};
+ghost use Rattle.std.specs.Prelude.{length, take, Option, Result, Ok, Err, IfSome, IsSome, Some, All};
 ghost use Rattle.sha2.specs.Sha256.{sha256};
 ghost use Rattle.password_hash.specs.Crypt64.{Crypt64, crypt64_of, letter_value, letters_of};
 ghost use Rattle.password_hash.specs.Mcf.{IsMcfText};
@@ -13,7 +14,8 @@ ghost use Rattle.scrypt_kernel.specs.BlockMix.{block_mix};
 ghost use Rattle.scrypt_kernel.specs.Salsa.{salsa20_8};
 ghost use Rattle.scrypt.specs.ChunkOrder.{NamesEachOnce, mixed_in_order};
 ghost use Rattle.scrypt.specs.KeyOfParams.{key_by};
-ghost use Rattle.scrypt_kernel.specs.Diagonal.{AreInverse, IsBlockMixBy, diagonal_core, diagonal_order, inverse_pivot, pivot, standard_order};
+ghost use Rattle.scrypt_kernel.specs.Diagonal.{AreInverse, IsBlockMixBy, diagonal_core, diagonal_order};
+ghost use Rattle.scrypt_kernel.specs.Diagonal.{inverse_pivot, pivot, standard_order};
 ghost use Rattle.scrypt.specs.Key.{derived_key, mixed_chunks};
 ghost use Rattle.scrypt.specs.ThinKey.{thin_key};
 ghost use Rattle.scrypt.specs.Cost.{cost, thin_cost};

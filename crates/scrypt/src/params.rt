@@ -208,7 +208,8 @@ impl PartialEq for Params {
     ghost eq = { parameters_eq };
 
     ghost laws = { partial_equiv_from_equiv (and_equiv
-        (and_equiv (on_equiv (λ (c : Parameters). c.output_len) (options_equiv nat_eq_equiv)) (on_equiv (λ (c : Parameters). c.log_n) nat_eq_equiv))
+        (and_equiv (on_equiv (λ (c : Parameters). c.output_len) (options_equiv nat_eq_equiv))
+        (on_equiv (λ (c : Parameters). c.log_n) nat_eq_equiv))
         (and_equiv (on_equiv (λ (c : Parameters). c.r) nat_eq_equiv) (on_equiv (λ (c : Parameters). c.p) nat_eq_equiv))) };
 
     /// Returns whether the four are equal: the optional length, `log_n`, `r` and `p`.

@@ -1,6 +1,7 @@
 // Making PHC hashes.
 
-ghost use Rattle.std.specs.Prelude.{◌≡◌, ◌↔◌, ℕ, List, ◌≤◌, length, true, None, Some, unwrap_or, IsTrue, drop, IfErr, IfOk, IsErrOf, IsOk, OnErr, OnOk};
+ghost use Rattle.std.specs.Prelude.{◌≡◌, ◌↔◌, ℕ, List, ◌≤◌};
+ghost use Rattle.std.specs.Prelude.{length, true, None, Some, unwrap_or, IsTrue, drop, IfErr, IfOk, IsErrOf, IsOk, OnErr, OnOk};
 ghost use Rattle.std.specs.Option.{option_map};
 ghost use Rattle.scrypt.specs.Hashing.{key_len_or_default};
 ghost use Rattle.scrypt.specs.KeyOfParams.{key_by};

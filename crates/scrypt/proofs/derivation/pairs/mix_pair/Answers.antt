@@ -11,7 +11,8 @@ returns-clause-mixed c b before =
     let len : length split.result.0.now - a ≡ 128 * c.r.result = omega (arith, split.ensures.front_len) in
     let size : 128 * c.r.result ≡ 128 * c.args.params.now.r = ap (λ r. 128 * r) c.r.ensures.value in
     let at : a ≡ c.args.i * (128 * c.args.params.now.r) = ap (λ n. c.args.i * n) size in
-    let long = length-take-le (length split.result.0.now - a) (drop a split.result.0.now) (omega (arith, length-drop a split.result.0.now)) in
+    let front = split.result.0.now in
+    let long = length-take-le (length front - a) (drop a front) (omega (arith, length-drop a front)) in
     let room : 128 * c.r.result ≤ length split.result.1.now = omega (arith, split.ensures.back_len, at, size, c.requires.inside) in
     rw len (mixed_pair _ _ a (128 * c.r.result) at size split.ensures.value split.ensures.front_len room
     (mixed.auto.b ∙ long ∙ len) (mixed.auto.other_b ∙ length-take-le _ split.result.1.now room)

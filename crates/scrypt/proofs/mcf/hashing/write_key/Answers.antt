@@ -17,8 +17,9 @@ pub write_key_letters-requires : goal.write_key_letters-requires
 write_key_letters-requires c =
     let at = c.key_at in
     let letters = length-crypt64_of c.args.key.now ∙ ap encoded_len c.requires.key_len in
+    let same = ap (λ key. length (crypt64_of key)) c.as_bytes.ensures.value in
     ap length (to_the_end c.args.text.now c.args.text.now at.result refl)
-    ∙ omega (arith, length-drop at.result c.args.text.now, c.requires.len, at.ensures.len, letters, ap (λ key. length (crypt64_of key)) c.as_bytes.ensures.value)
+    ∙ omega (arith, length-drop at.result c.args.text.now, c.requires.len, at.ensures.len, letters, same)
 
 -- the whole text
 text_at : (c : After-write_key_letters) → put_mid c.key_at.result (length c.args.text.now - c.key_at.result) c.args.text.now
