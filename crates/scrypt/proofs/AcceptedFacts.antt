@@ -2,7 +2,6 @@
 use Rattle.scrypt.specs.Accepted.{AreAccepted, IsOutputLen, IsStoredLen, Parameters, are_accepted, is_output_len, parameters_eq}
 use Rattle.password_hash.specs.Refusal.{ParamsInvalid}
 use Rattle.scrypt.specs.Reading.{checked}
-use Rattle.scrypt.specs.Hashing.{key_len_or_default}
 use Rattle.scrypt_kernel.specs.Pbkdf2.{max_output_len}
 use Rattle.std.specs.Prelude.{Bool, IfSome, Option, Some, None, Result, Ok, Err, if◌then◌else◌, nat_eq, nat_le, unwrap_or}
 use Rattle.std.specs.Bool.{Decides}
@@ -95,14 +94,11 @@ small_cost blocks p few small =
     omega (arith, product, grouped)
 
 -- the words of the table, and those of a table that keeps fewer rows
-small_table : (log_n r : ℕ) → 128 * r * 2 ^ log_n < 2 ^ 64 → 2 ^ log_n * (32 * r) < 2 ^ 62
-small_table log_n r fits = omega arith
-
 pub small_rows : (log_n log_rows r : ℕ) → log_rows ≤ log_n → 128 * r * 2 ^ log_n < 2 ^ 64 → 2 ^ log_rows * (32 * r) < 2 ^ 62
 small_rows log_n log_rows r fewer fits =
     let rows : 2 ^ log_rows ≤ 2 ^ log_n = pow_mono fewer in
     let product = mul-le-mul_right (32 * r) rows in
-    omega (arith, product, small_table log_n r fits)
+    omega (arith, product, fits)
 
 option_decided : (first second : Option ℕ) → Decides (option_eq nat_eq first second) (first ≡ second)
 option_decided None None = (λ _. refl, λ _. refl)
@@ -123,12 +119,9 @@ parameters_decided a b =
     )
 
 -- the length of a key that hashing makes is one that is stored
-stored_or_32 : (len : Option ℕ) → IfSome len IsStoredLen → IsStoredLen (unwrap_or len 32)
-stored_or_32 None fits = (lit≤ tt, lit≤ tt)
-stored_or_32 (Some len) fits = fits
-
-pub key_len_or_default_stored : (c : Parameters) → IfSome c.output_len IsStoredLen → IsStoredLen (key_len_or_default c)
-key_len_or_default_stored c fits = stored_or_32 c.output_len fits
+pub key_len_stored : (len : Option ℕ) → IfSome len IsStoredLen → IsStoredLen (unwrap_or len 32)
+key_len_stored None fits = (lit≤ tt, lit≤ tt)
+key_len_stored (Some len) fits = fits
 
 -- the lengths of the buffers are small
 pub ruleset small_lens = (small_log_n, small_chunks, small_rows)

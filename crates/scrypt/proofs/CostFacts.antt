@@ -2,10 +2,10 @@
 use Rattle.std.proofs.Common.{◌≡◌, ℕ, zero, suc, ◌+◌, ◌*◌, ◌^◌, List, refl, ap, ◌∙◌, arith, add-one}
 use Rattle.scrypt_kernel.specs.Words.{part, words_of}
 use Rattle.scrypt_kernel.specs.Count.{AreCounted}
-use Rattle.scrypt_kernel.specs.Table.{extra_rows, thin_ro_mix_cost}
+use Rattle.scrypt_kernel.specs.Table.{extra_rows}
 use Rattle.scrypt_kernel.specs.declared.cores.CoreCount.{CoreCount}
 use Rattle.scrypt_kernel.proofs.WalkFacts.{extra_rows-whole}
-use Rattle.scrypt.specs.Cost.{cost, extra_rows_of_chunks, ro_mix_cost, thin_chunks_cost}
+use Rattle.scrypt.specs.Cost.{cost, extra_rows_of_chunks, thin_chunks_cost}
 
 none_of_chunks : (b : List ℕ) (log_n r i : ℕ) → extra_rows_of_chunks b log_n 0 r i ≡ 0
 unfolding extra_rows_of_chunks
@@ -22,7 +22,7 @@ whole_table_cost b log_n r p =
     ap (λ e. cost log_n r p + 2 * r * e) none ∙ omega arith
 
 -- one more chunk
-more_chunks : (b : List ℕ) (log_n s r i : ℕ) → extra_rows_of_chunks b log_n s r (i + 1)
+pub more_chunks : (b : List ℕ) (log_n s r i : ℕ) → extra_rows_of_chunks b log_n s r (i + 1)
     ≡ extra_rows_of_chunks b log_n s r i + extra_rows (words_of (part (128 * r) b i)) log_n s (2 ^ log_n)
 unfolding extra_rows_of_chunks
 more_chunks b log_n s r i = rw add-one refl
@@ -30,10 +30,3 @@ more_chunks b log_n s r i = rw add-one refl
 -- the count of both
 pub counted_more : {x y z : CoreCount} {n m all : ℕ} → AreCounted n x y → AreCounted m y z → n + m ≡ all → AreCounted all x z
 counted_more until more sum = record { all = omega arith; lanes = omega arith }
-
--- the count after one more chunk
-pub counted_chunk : (b : List ℕ) (log_n s r i : ℕ) {x y z : CoreCount}
-    → AreCounted (ro_mix_cost log_n r * i + 2 * r * extra_rows_of_chunks b log_n s r i) x y
-    → AreCounted (thin_ro_mix_cost (words_of (part (128 * r) b i)) log_n s r) y z
-    → AreCounted (ro_mix_cost log_n r * (i + 1) + 2 * r * extra_rows_of_chunks b log_n s r (i + 1)) x z
-counted_chunk b log_n s r i until one = counted_more until one (rw (more_chunks b log_n s r i) (omega arith))

@@ -20,7 +20,7 @@ use Rattle.scrypt.proofs.KeyFacts.{key_by-are_bytes, length-key_by}
 use Rattle.scrypt.specs.McfParams.{five_letter_number, params_letters, params_text, field_params}
 use Rattle.scrypt.specs.McfHash.{IsMadeHash, made_text_len, mcf_id, read_mcf}
 use Rattle.scrypt.specs.Hashing.{key_len_or_default}
-use Rattle.scrypt.proofs.AcceptedFacts.{checked_is, key_len_or_default_stored, small_params, small_log_n}
+use Rattle.scrypt.proofs.AcceptedFacts.{checked_is, key_len_stored, small_params, small_log_n}
 use Rattle.scrypt.proofs.McfParamsFacts.{five_letter_number_letters_of, of_numbers, to_the_end}
 use Rattle.scrypt.proofs.McfHashFacts.{key_read, read_seven, text_of}
 use Rattle.scrypt.proofs.PhcHashFacts.{made_is_text}
@@ -121,7 +121,7 @@ stored_text c password salt good stored =
 pub made_text : (c : Parameters) (password salt : List ℕ) → AreAccepted c.log_n c.r c.p → IfSome c.output_len IsStoredLen
     → IsMadeHash c password salt (params_text c ++ (crypt64_of salt
     ++ dollar ∷ crypt64_of (key_by c password (crypt64_of salt) (key_len_or_default c))))
-made_text c password salt good fits = stored_text c password salt good (key_len_or_default_stored c fits)
+made_text c password salt good fits = stored_text c password salt good (key_len_stored c.output_len fits)
 
 -- every byte of it is ASCII
 pub text_ascii : (c : Parameters) (salt key : List ℕ) → AreAccepted c.log_n c.r c.p

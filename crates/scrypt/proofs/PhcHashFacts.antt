@@ -8,7 +8,7 @@ use Rattle.scrypt.specs.KeyOfParams.{key_by}
 use Rattle.scrypt.specs.PhcHash.{IsMadeHash, phc_params, read_phc}
 use Rattle.scrypt.specs.Hashing.{key_len_or_default}
 use Rattle.scrypt.specs.Reading.{NamesNoPassword}
-use Rattle.scrypt.proofs.AcceptedFacts.{key_len_or_default_stored, small_params}
+use Rattle.scrypt.proofs.AcceptedFacts.{key_len_stored, small_params}
 use Rattle.scrypt.proofs.KeyFacts.{key_by-are_bytes, length-key_by}
 use Rattle.scrypt.proofs.PhcParamsFacts.{three_pairs}
 use Rattle.scrypt.proofs.PhcReadingFacts.{pairs_fault, written_read}
@@ -35,7 +35,7 @@ pub made_is_text : (c : Parameters) (password salt : List ℕ) (hash : PasswordH
     → IfSome c.output_len IsStoredLen → IsSalt salt → IsMadeHash c password salt hash → IsHashText (hash_text hash) hash
 made_is_text c password salt hash fits len salted made =
     let small = small_params c.log_n c.r c.p fits in
-    let stored = key_len_or_default_stored c len in
+    let stored = key_len_stored c.output_len len in
     let long = length-key_by c password salt (key_len_or_default c) in
     record {
       whole = refl;

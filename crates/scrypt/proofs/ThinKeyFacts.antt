@@ -33,15 +33,12 @@ thin_key_is password salt log_n r p s n =
     ap (λ z. pbkdf2 password z n) (made_alike (thin_chunk b log_n s r) (mixed_chunk b log_n r) 0 0 p
     (λ i below. ap bytes_of (thin_walk_is (words_of (part (128 * r) b (0 + i))) log_n s (2 ^ log_n))))
 
-at_most : (b : List ℕ) (log_n s k : ℕ) → extra_rows b log_n s k ≤ k * (2 ^ s - 1)
+-- k steps of the walk recompute at most 2 ^ s - 1 rows each
+pub extra_rows_at_most : (b : List ℕ) (log_n s k : ℕ) → extra_rows b log_n s k ≤ k * (2 ^ s - 1)
 unfolding extra_rows
-at_most b log_n s zero = omega arith
-at_most b log_n s (suc k) =
-    let before = at_most b log_n s k in
+extra_rows_at_most b log_n s zero = omega arith
+extra_rows_at_most b log_n s (suc k) =
+    let before = extra_rows_at_most b log_n s k in
     let some = pow_pos s in
     let next : recomputed_rows s (integerify (walk b log_n k) % 2 ^ log_n) ≤ 2 ^ s - 1 = omega arith in
     omega arith
-
--- the walk recomputes at most 2 ^ s - 1 rows in each of its N steps
-pub extra_rows_at_most : (b : List ℕ) (log_n s : ℕ) → extra_rows b log_n s (2 ^ log_n) ≤ 2 ^ log_n * (2 ^ s - 1)
-extra_rows_at_most b log_n s = at_most b log_n s (2 ^ log_n)
