@@ -7,6 +7,7 @@ use Rattle.password_hash.specs.declared.mcf.field.Field.{Field}
 use Rattle.password_hash.specs.declared.mcf.fields.Fields.{Fields}
 use Rattle.scrypt.specs.McfHash.{read_fields, read_key, read_mcf}
 use Rattle.password_hash.specs.Refusal.{Refusal}
+use Rattle.scrypt.specs.Accepted.{Parameters}
 use Rattle.scrypt.specs.Reading.{◌and_then◌, Stored}
 use Rattle.scrypt.proofs.McfHashFacts.{key_read, key_refused, no_key, read_other, read_seven}
 use Rattle.scrypt.proofs.ReadingFacts.{refused_first}
@@ -20,16 +21,18 @@ fields_at c are =
     read_seven c.fields-fields.ensures.reading (sym c.id.ensures.value ∙ c.is_mcf.ensures.0 c.if-not-is_mcf.false)
     ∙ ap read_fields are
 
+-- the hash with these parameters and this salt, if there is a key
+abbrev with_key : Parameters → List ℕ → Result (List ℕ) Refusal → Result Stored Refusal
+with_key params salt key = key and_then λ key. Ok (record { params = params; salt = salt; key = key })
+
 -- and of those after the first, whose parameters are accepted
 rest_at : (c : After-next-2) {after : List (List ℕ)} {key : Result (List ℕ) Refusal} → fields_left c.next.new.self ≡ after
-    → read_key after ≡ key
-    → read_mcf (borrowed_text c.args.hash.now) ≡ key and_then λ key. Ok (record { params = c.in-Ok.read.0; salt = c.in-Ok.read.1.now; key = key })
+    → read_key after ≡ key → read_mcf (borrowed_text c.args.hash.now) ≡ with_key c.in-Ok.read.0 c.in-Ok.read.1.now key
 rest_at c {after} is read =
     read_seven c.fields-fields.ensures.reading (sym c.id.ensures.value ∙ c.is_mcf.ensures.0 c.if-not-is_mcf.false)
     ∙ ap read_fields (c.in-Some.ensures.steps ∙ ap₂ (λ z zs. z ∷ zs) (sym c.as_str.ensures.value) is)
-    ∙ ap₂ (λ params salt. params and_then λ c. read_key after and_then λ key. Ok (record { params = c; salt = salt; key = key }))
-    c.in-Ok.ensures.params (sym c.in-Ok.ensures.salt)
-    ∙ ap (λ key. key and_then λ key. Ok (record { params = c.in-Ok.read.0; salt = c.in-Ok.read.1.now; key = key })) read
+    ∙ ap₂ (λ params salt. params and_then λ c. with_key c salt (read_key after)) c.in-Ok.ensures.params (sym c.in-Ok.ensures.salt)
+    ∙ ap (with_key c.in-Ok.read.0 c.in-Ok.read.1.now) read
 
 -- whether there is another field
 
