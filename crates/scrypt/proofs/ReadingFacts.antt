@@ -165,15 +165,25 @@ same_verdict w w' chunks table scratch password (Err why) = refl
 
 -- within limits
 
--- a hash whose parameters need too much
-pub too_costly : (limits : Limits) (reading : Result Stored Refusal) (c : Parameters) (n : ℕ)
-    → Ok (c, n) ≡ mapped {B = Parameters × ℕ} (λ s. (s.params, length s.key)) reading → are_within limits c ≡ false
-    → Err TooCostly ≡ mapped (λ s. s.params) (within limits reading)
-too_costly limits (Err why) c n is costly = absurd cc
-too_costly limits (Ok s) c n is costly =
+-- a hash with these parameters and a key of this length
+whole_read : (reading : Result Stored Refusal) (c : Parameters) (n : ℕ)
+    → Ok (c, n) ≡ mapped {B = Parameters × ℕ} (λ s. (s.params, length s.key)) reading
+    → (s : Stored) × (reading ≡ Ok s) × (s.params ≡ c) × (length s.key ≡ n)
+whole_read (Err why) c n is = absurd cc
+whole_read (Ok s) c n is =
     let one : Parameters × ℕ = (c, n) in
     let other : Parameters × ℕ = (s.params, length s.key) in
-    let pairs : one ≡ other = cc in
-    let same : c ≡ s.params = ap (λ (pair : Parameters × ℕ). pair.0) pairs in
-    let costs : are_within limits s.params ≡ false = ap (are_within limits) (sym same) ∙ costly in
-    rw costs refl
+    let pairs : other ≡ one = cc in
+    (s, refl, ap (λ (pair : Parameters × ℕ). pair.0) pairs, ap (λ (pair : Parameters × ℕ). pair.1) pairs)
+
+module _ (limits : Limits) (reading : Result Stored Refusal) (c : Parameters) (n : ℕ)
+    (is : Ok (c, n) ≡ mapped {B = Parameters × ℕ} (λ s. (s.params, length s.key)) reading) where
+  -- its parameters need too much
+  pub too_costly : are_within limits c ≡ false → Err TooCostly ≡ mapped (λ s. s.params) (within limits reading)
+  too_costly costly = let read = whole_read reading c n is in rw (read.1, read.2, costly) refl
+
+  -- it is within the limits
+  pub allowed : are_within limits c ≡ true → limits.least_key_len ≤ n → Ok c ≡ mapped (λ s. s.params) (within limits reading)
+  allowed cheap long =
+      let read = whole_read reading c n is in
+      rw (read.1, read.2, cheap, read.3, (leb_decided limits.least_key_len n).1 long) (ap Ok (sym read.2))
