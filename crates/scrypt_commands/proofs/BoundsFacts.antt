@@ -11,7 +11,7 @@ use Rattle.scrypt_commands.specs.Bounds.{after_prefix, command_of, completed, la
 use Rattle.scrypt_commands.specs.Bounds.{with_option}
 use Rattle.hex.specs.Hex.{encode_lower}
 use Rattle.scrypt_commands.specs.declared.bounds.Bounds.{Bounds}
-use Rattle.scrypt_commands.proofs.ArgsFacts.{not_true}
+use Rattle.std.proofs.lemmas.Bool.{false_from_ne_true}
 
 -- what `strip_prefix` gives
 pub prefix_stripped : (prefix text : List ℕ) (rest : Option (Bor (List ℕ)))
@@ -19,7 +19,7 @@ pub prefix_stripped : (prefix text : List ℕ) (rest : Option (Bor (List ℕ)))
     → after_prefix prefix text ≡ option_map (λ x. x.now) rest
 unfolding after_prefix
 prefix_stripped prefix text None none =
-    rw (not_true _ (λ same. none (drop (length prefix) text) (begins same))) refl
+    rw (false_from_ne_true _ (λ same. none (drop (length prefix) text) (begins same))) refl
   where
     begins : bytes_eq (take (length prefix) text) prefix ≡ true → text ≡ prefix ++ drop (length prefix) text
     begins same = subst (λ front. text ≡ front ++ drop (length prefix) text) ((bytes_eq-Decides (take (length prefix) text) prefix).0 same)

@@ -11,7 +11,8 @@ use Rattle.scrypt.specs.Accepted.{Parameters}
 use Rattle.scrypt.specs.Hashing.{by_algorithm, by_memory, by_salt, by_version}
 use Rattle.scrypt.specs.PhcHash.{HashIsRefused, IsMadeHash, IsSaltLen}
 use Rattle.scrypt.specs.declared.limits.Limits.{Limits}
-use Rattle.scrypt_commands.proofs.CommandFacts.{between_decided, fails}
+use Rattle.std.proofs.lemmas.Bool.{false_from_ne_true}
+use Rattle.scrypt_commands.proofs.CommandFacts.{between_decided}
 use Rattle.scrypt_commands.specs.Bounds.{bounds_of, command_of}
 use Rattle.scrypt_commands.specs.Command.{AreRefused, request_of}
 use Rattle.scrypt_commands.specs.CliError.{error_line, error_of, status_of}
@@ -48,7 +49,7 @@ phc_refused c password salt error why (by_version h i) is = absurd cc
 phc_refused c password salt error why (by_memory h i j) is = inl cc
 phc_refused c password salt error why (by_salt h i none) is =
     let same : SaltInvalid ≡ error = cc in
-    rw (← same) (inr (refl, rw (fails _ (salt_len_decided (length salt)) none) refl))
+    rw (← same) (inr (refl, rw (false_from_ne_true _ (λ fits. none ((salt_len_decided (length salt)).0 fits))) refl))
 
 -- what holds of every input holds of that of a reader
 pub on_any_input : (known : Option (List ℕ)) (P : List ℕ → Type 0) → ((input : List ℕ) → P input) → OnInput known P

@@ -32,15 +32,10 @@ help_text = codes "scrypt_tool: scrypt keys (RFC 7914) and password hashes\n"
     ++ codes "\n"
     ++ codes "Statuses: 0 done or ok, 1 no, 2 refused, 3 out of memory, 4 input or output failed.\n"
 
--- the text that a word asks for
-unfoldable pub text_for : List ℕ → Option (List ℕ)
-text_for word =
-    if bytes_eq word (codes "--help") then Some help_text
-    else if bytes_eq word (codes "--version") then Some version_text
-    else None
-
 -- the text that the first argument asks for
-abbrev pub information_of : List (List ℕ) → Option (List ℕ)
+unfoldable pub information_of : List (List ℕ) → Option (List ℕ)
 information_of words = do
   (word, words) ← first_word words
-  text_for word
+  if bytes_eq word (codes "--help") then Some help_text
+      else if bytes_eq word (codes "--version") then Some version_text
+      else None

@@ -4,7 +4,7 @@ ghost use Rattle.std.specs.Prelude.{◌≡◌, ◌⊎◌, IsTrue, false, option_
 ghost use Rattle.std.specs.Io.KnownBytes.{Appends, Keeps};
 ghost use Rattle.scrypt_commands.specs.Args.{texts_of};
 ghost use Rattle.scrypt_commands.specs.CliError.{error_line};
-ghost use Rattle.scrypt_commands.specs.Information.{information_of, text_for};
+ghost use Rattle.scrypt_commands.specs.Information.{information_of};
 ghost use Rattle.scrypt_commands.specs.declared.error.CliError.TheVariants.{OutputFailed};
 
 use crate::args::first_word;
@@ -40,18 +40,11 @@ Statuses: 0 done or ok, 1 no, 2 refused, 3 out of memory, 4 input or output fail
 ";
 
 /// Returns the text that the first argument asks for, if that is `--help` or `--version`.
+#[tactic(auto, using(crate::proofs::ArgsFacts::other), unfolding(crate::specs::Information::information_of))]
 pub fn information(args: &[String]) -> Option<&'static str>
     ensures value { option_map (λ text. text.now) result ≡ information_of (texts_of args.now) }
 {
     let (word, _) = first_word(args)?;
-    text_for(word)
-}
-
-// Returns the text that a word asks for.
-#[tactic(auto, using(crate::proofs::ArgsFacts::other), unfolding(crate::specs::Information::text_for))]
-fn text_for(word: &str) -> Option<&'static str>
-    ensures { option_map (λ text. text.now) result ≡ text_for word.now }
-{
     match word {
         "--help" => Some(HELP),
         "--version" => Some(VERSION),
