@@ -1,7 +1,5 @@
 -- How bytes are read.
 pub mod TextFacts
--- The status of verifying.
-pub mod VerdictFacts
 -- What verifying leaves in the caller's buffers.
 pub mod InBuffersFacts
 -- New hashes, as they are read back from the caller's buffer.
