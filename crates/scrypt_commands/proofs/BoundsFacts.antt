@@ -1,15 +1,14 @@
 -- The options before a command.
-use Rattle.std.proofs.Common.{[], ◌∷◌, map, String, string_bytes, ap, ◌∙◌, ◌≡◌, ◌++◌, ℕ}
+use Rattle.std.proofs.Common.{◌∷◌, map, String, string_bytes, ◌≡◌, ◌++◌, ℕ}
 use Rattle.std.proofs.Common.{List, None, Option, Some, length, take, drop, refl, subst, sym, bytes_eq, true}
 use Rattle.std.specs.Borrow.{Bor}
 use Rattle.std.specs.Global.{Global}
-use Rattle.std.specs.Prelude.{IfOk, Result, Ok, Err, if◌then◌else◌, MatchOption, codes, option_map}
+use Rattle.std.specs.Prelude.{MatchOption, option_map}
 use Rattle.std.specs.Str.Pattern.{FindsTextPrefix, StripsPrefix}
 use Rattle.std.proofs.lemmas.List.{nil_from_length, take-append-drop, take_at}
 use Rattle.std.proofs.lemmas.Slice.Eq.{bytes_eq-Decides}
-use Rattle.scrypt_commands.specs.Bounds.{after_prefix, command_of, completed, lacks_salt, options_of}
+use Rattle.scrypt_commands.specs.Bounds.{after_prefix, options_of}
 use Rattle.scrypt_commands.specs.Bounds.{with_option}
-use Rattle.hex.specs.Hex.{encode_lower}
 use Rattle.scrypt_commands.specs.declared.bounds.Bounds.{Bounds}
 use Rattle.std.proofs.lemmas.Bool.{false_from_ne_true}
 
@@ -46,15 +45,6 @@ pub command_left : (bounds : Option Bounds) (args rest : List (String Global)) (
     → options_of bounds (map string_bytes args) ≡ (bounds, map string_bytes args)
 unfolding options_of
 command_left bounds args rest word are is = rw (are, is) refl
-
--- what the program adds to its arguments
-
-pub all_completed : {A E : Type 0} (texts : A → List (List ℕ)) (args words : List (List ℕ)) (salt : List ℕ) (out : Result A E)
-    → IfOk out (λ made. texts made ≡ codes "--usual-limits" ∷ words) → length salt ≡ 16
-    → words ≡ (if lacks_salt (command_of args) then args ++ encode_lower salt ∷ [] else args)
-    → IfOk out (λ made. (salt : List ℕ) × (length salt ≡ 16) × (texts made ≡ completed args salt))
-all_completed texts args words salt (Ok made) is len same = (salt, len, is ∙ ap (λ words. codes "--usual-limits" ∷ words) same)
-all_completed texts args words salt (Err e) is len same = tt
 
 -- the options that are left, by the first word
 pub ruleset options = (none_left, one_left, command_left)
