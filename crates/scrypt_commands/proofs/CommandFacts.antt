@@ -1,7 +1,7 @@
 -- The tests of parameters and lengths.
-use Rattle.std.proofs.Common.{◌≤◌, ◌&&◌, ℕ, Option, Some, None}
+use Rattle.std.proofs.Common.{ℕ, Option, Some, None}
 use Rattle.std.proofs.Common.{refl, arith}
-use Rattle.std.specs.Prelude.{IfSome, nat_le}
+use Rattle.std.specs.Prelude.{IfSome}
 use Rattle.std.specs.Bool.{Decides}
 use Rattle.std.proofs.lemmas.Bool.Decides.{Decides-and, nat_tests}
 use Rattle.scrypt.specs.Accepted.{AreAccepted, IsOutputLen, IsStoredLen, are_accepted, is_output_len}
@@ -10,18 +10,14 @@ use Rattle.scrypt_commands.specs.Command.{is_stored_len}
 use Rattle.scrypt_commands.specs.Steps.{AreParamsAccepted}
 use Rattle.scrypt_commands.specs.declared.args.UncheckedParams.{UncheckedParams}
 
--- a number between two bounds
-pub between_decided : (low high n : ℕ) → Decides (nat_le low n && nat_le n high) ((low ≤ n) × (n ≤ high))
-between_decided low high n = grind (arith, nat_tests)
-
 pub output_len_decided : (n : ℕ) → Decides (is_output_len n) (IsOutputLen n)
 unfolding is_output_len
-output_len_decided n = between_decided 1 _ n
+output_len_decided n = grind (arith, nat_tests)
 
 stored_len_decided : (len : Option ℕ) → Decides (is_stored_len len) (IfSome len IsStoredLen)
 unfolding is_stored_len
 stored_len_decided None = (λ _. tt, λ _. refl)
-stored_len_decided (Some len) = between_decided 10 64 len
+stored_len_decided (Some len) = grind (arith, nat_tests)
 
 accepted_decided : (log_n r p : ℕ) → Decides (are_accepted log_n r p) (AreAccepted log_n r p)
 unfolding are_accepted

@@ -12,7 +12,7 @@ use Rattle.scrypt.specs.Hashing.{by_algorithm, by_memory, by_salt, by_version}
 use Rattle.scrypt.specs.PhcHash.{HashIsRefused, IsMadeHash, IsSaltLen}
 use Rattle.scrypt.specs.declared.limits.Limits.{Limits}
 use Rattle.std.proofs.lemmas.Bool.{false_from_ne_true}
-use Rattle.scrypt_commands.proofs.CommandFacts.{between_decided}
+use Rattle.std.proofs.lemmas.Bool.Decides.{nat_tests}
 use Rattle.scrypt_commands.specs.Bounds.{bounds_of, command_of}
 use Rattle.scrypt_commands.specs.Command.{AreRefused, request_of}
 use Rattle.scrypt_commands.specs.CliError.{error_line, error_of, status_of}
@@ -32,7 +32,7 @@ use Rattle.scrypt_commands.specs.declared.error.CliError.TheVariants.{InputFaile
 
 salt_len_decided : (n : ℕ) → Decides (is_salt_len n) (IsSaltLen n)
 unfolding is_salt_len
-salt_len_decided n = between_decided 1 64 n
+salt_len_decided n = grind (arith, nat_tests)
 
 -- the text of a PHC hash that was made
 pub phc_made : (c : Parameters) (password salt text : List ℕ) (hash : PasswordHash) → IsMadeHash c password salt hash

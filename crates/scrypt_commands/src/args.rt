@@ -178,8 +178,7 @@ fn optional_len(args: &[String]) -> Option<Option<usize>>
     if args.is_empty() {
         return Some(None);
     }
-    let len = parse_len(last_word(args)?)?;
-    Some(Some(len))
+    Some(Some(parse_len(last_word(args)?)?))
 }
 
 /// Returns the first word, and the words after it.

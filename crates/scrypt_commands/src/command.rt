@@ -4,7 +4,7 @@ ghost use Rattle.std.specs.Prelude.{◌≡◌, ◌↔◌, Err, IfOk, IfErr, IsOk
 ghost use Rattle.password_hash.specs.Refusal as refusals;
 ghost use Rattle.hex.specs.Hex.{decode_of};
 ghost use Rattle.scrypt.specs.StoredHash.{HasReading, IsStoredText, Reads};
-ghost use Rattle.scrypt_commands.specs.Args.{MakeArgs, RehashArgs, VerifyArgs, texts_of};
+ghost use Rattle.scrypt_commands.specs.Args.{MakeArgs, RehashArgs, texts_of};
 ghost use Rattle.scrypt_commands.specs.Command.{command_request, has_allowed_len, params_of, request_of, salt_and_params, salt_of};
 ghost use Rattle.scrypt_commands.specs.Steps.{AreParamsAccepted, Gives, IsCommandFor};
 ghost use Rattle.scrypt_commands.specs.declared.error.CliError.TheVariants.{EncodingInvalid};
@@ -43,6 +43,7 @@ impl<'a> Command<'a> {
     ///
     /// Returns the error of the first of these that is wrong: `Usage`, `SaltNotHex`,
     /// `InvalidParams`, `InvalidOutputLen`, and `EncodingInvalid`. Returns `OutOfMemory` if the allocation of the salt fails.
+    #[tactic(auto, using(crate::proofs::OutcomeFacts::unread_bounded), unfolding(crate::specs::Command::command_request))]
     pub fn from_args(alloc: Global, args: &'a [String]) -> Result<Command<'a>, CliError>
         ensures command { IsCommandFor (request_of (texts_of args.now)) result }
     {
@@ -55,7 +56,10 @@ impl<'a> Command<'a> {
                 unchecked,
                 salt_hex,
             } => make_command(alloc, target, unchecked, salt_hex),
-            Args::Verify { text } => verify_command(text),
+            Args::Verify { text } => {
+                let hash = stored_hash(text)?;
+                Ok(Command::Verify { hash })
+            }
             Args::Rehash {
                 format,
                 unchecked,
@@ -128,17 +132,6 @@ fn has_allowed_len(target: Target) -> bool
     }
 }
 
-// Returns the command that verifies against the hash of this text.
-#[tactic(auto, using(crate::proofs::OutcomeFacts::unread_bounded), unfolding(crate::specs::Command::command_request))]
-fn verify_command<'a>(text: &'a str) -> Result<Command<'a>, CliError>
-    ensures { IsCommandFor (command_request (VerifyArgs text.now)) result }
-{
-    match stored_hash(text) {
-        Ok(hash) => Ok(Command::Verify { hash }),
-        Err(error) => Err(error),
-    }
-}
-
 // Returns the command that makes the hash of this text again, with these parameters and the salt of these digits.
 #[tactic(auto, using(crate::proofs::OutcomeFacts::unread_bounded), unfolding(crate::specs::Command::command_request))]
 fn rehash_command<'a>(
@@ -151,15 +144,13 @@ fn rehash_command<'a>(
     ensures { IsCommandFor (command_request (RehashArgs format unchecked salt_hex.now text.now)) result }
 {
     let (salt, params) = salt_and_params(alloc, unchecked, salt_hex)?;
-    match stored_hash(text) {
-        Ok(hash) => Ok(Command::Rehash {
-            format,
-            params,
-            salt,
-            hash,
-        }),
-        Err(error) => Err(error),
-    }
+    let hash = stored_hash(text)?;
+    Ok(Command::Rehash {
+        format,
+        params,
+        salt,
+        hash,
+    })
 }
 
 // Returns the hash of a text.
