@@ -30,7 +30,8 @@ module _ (b : List ℕ) (log_n r p i : ℕ) (some : 0 < r) (long : length b ≡ 
 
   pub length-mixed : length (with_chunk_mixed log_n r b i) ≡ p * (128 * r)
   length-mixed =
-      ap length put ∙ same_len_mid (i * (128 * r)) (128 * r) b (mixed_chunk b log_n r i) (full ∙ sym (length-part (128 * r) i b room)) ∙ long
+      let same = full ∙ sym (length-part (128 * r) i b room) in
+      ap length put ∙ same_len_mid (i * (128 * r)) (128 * r) b (mixed_chunk b log_n r i) same ∙ long
 
   pub part_mixed : part (128 * r) (with_chunk_mixed log_n r b i) i ≡ mixed_chunk b log_n r i
   part_mixed =

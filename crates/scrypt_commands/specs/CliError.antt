@@ -4,9 +4,9 @@ use Rattle.password_hash.specs.Refusal.{Refusal}
 use Rattle.password_hash.specs.Refusal as refusals
 use Rattle.scrypt_commands.specs.declared.error.CliError.{CliError}
 use Rattle.scrypt_commands.specs.declared.error.CliError.TheVariants.{Usage, SaltNotHex, InvalidParams, InvalidOutputLen, Algorithm}
-use Rattle.scrypt_commands.specs.declared.error.CliError.TheVariants.{EncodingInvalid, OutputSize, LnInvalid, RInvalid, PInvalid, ParamsInvalid}
-use Rattle.scrypt_commands.specs.declared.error.CliError.TheVariants.{SaltInvalid, Version, TooCostly, KeyTooShort, OutOfMemory, InputFailed}
-use Rattle.scrypt_commands.specs.declared.error.CliError.TheVariants.{OutputFailed}
+use Rattle.scrypt_commands.specs.declared.error.CliError.TheVariants.{EncodingInvalid, OutputSize, LnInvalid, RInvalid, PInvalid}
+use Rattle.scrypt_commands.specs.declared.error.CliError.TheVariants.{ParamsInvalid, SaltInvalid, Version, TooCostly, KeyTooShort}
+use Rattle.scrypt_commands.specs.declared.error.CliError.TheVariants.{OutOfMemory, InputFailed, OutputFailed}
 
 -- the exit status
 abbrev pub status_of : CliError → ℕ
