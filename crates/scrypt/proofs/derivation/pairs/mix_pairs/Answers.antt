@@ -1,12 +1,21 @@
-use Rattle.std.proofs.Common.{◌≡◌, ◌+◌, ◌*◌, arith}
+use Rattle.std.proofs.Common.{◌≡◌, ◌+◌, ◌-◌, ◌*◌, arith}
 use Rattle.scrypt_kernel.proofs.PartFacts.{parts_apart}
 use Rattle.scrypt_kernel.proofs.WalkFacts.{whole_cost}
 use Rattle.scrypt.proofs.CostFacts.{counted_more}
+use Rattle.scrypt.proofs.KeyFacts.{all_mixed}
 use Rattle.scrypt.proofs.derivation.pairs.mix_pairs.Goals as goal
 
 pub mix_pair-requires-clause-inside : goal.mix_pair-requires-clause-inside
 mix_pair-requires-clause-inside c =
     omega (arith, parts_apart (128 * c.args.params.now.r) (2 * c.pairs.k + 1) c.args.count (omega arith))
+
+-- the search finds this too: it is here so that a body that leaves the last chunk out is refused by this goal
+pub returns-then-count-eq1-clause-value : goal.returns-then-count-eq1-clause-value
+returns-then-count-eq1-clause-value c =
+    let place : c.args.count - 1 ≡ 2 * c.pairs.k = omega arith in
+    let last : c.args.count - 1 + 1 ≡ c.args.count = omega arith in
+    all_mixed c.args.count (omega (arith, c.mix_one.auto.chunks, c.pairs.auto.chunks, c.requires.chunks))
+    (rw last at (c.mix_one.ensures.mixed c.args.chunks.now (rw place c.pairs.invariant.mixed)))
 
 pub returns-then-count-eq1-clause-counted : goal.returns-then-count-eq1-clause-counted
 returns-then-count-eq1-clause-counted c =
