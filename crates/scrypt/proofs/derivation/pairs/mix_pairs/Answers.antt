@@ -9,7 +9,12 @@ pub mix_pair-requires-clause-inside : goal.mix_pair-requires-clause-inside
 mix_pair-requires-clause-inside c =
     omega (arith, parts_apart (128 * c.args.params.now.r) (2 * c.pairs.k + 1) c.args.count (omega arith))
 
--- the search finds this too: it is here so that a body that leaves the last chunk out is refused by this goal
+-- the search finds these two too: they are here so that a body that cuts the table elsewhere, and one that leaves the last
+-- chunk out, are refused by them
+pub mix_pair-requires-clause-table : goal.mix_pair-requires-clause-table
+mix_pair-requires-clause-table c =
+    omega (arith, c.pairs.auto.table, c.split_at_mut-table.ensures.front_len, c.of.ensures.table)
+
 pub returns-then-count-eq1-clause-value : goal.returns-then-count-eq1-clause-value
 returns-then-count-eq1-clause-value c =
     let place : c.args.count - 1 ≡ 2 * c.pairs.k = omega arith in

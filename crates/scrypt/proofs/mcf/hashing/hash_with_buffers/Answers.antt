@@ -11,3 +11,7 @@ returns-in_default-clause-err c = search (rules, by_memory)
 
 pub write_key-requires-clause-key_len : goal.write_key-requires-clause-key_len
 write_key-requires-clause-key_len c = ap length c.key_in_buffers-key.ensures.value ∙ length-key_by c.args.params.now _ _ _
+
+-- the search finds this too: it is here so that a body that counts elsewhere is refused by this goal
+pub returns-clause-done : goal.returns-clause-done
+returns-clause-done c = c.key_in_buffers-key.ensures.done

@@ -7,3 +7,7 @@ returns-in_default-clause-err c = search (rules, by_salt)
 
 pub returns-in_default-used_lens-clause-err : goal.returns-in_default-used_lens-clause-err
 returns-in_default-used_lens-clause-err c = search (rules, by_memory)
+
+-- the search finds this too: it is here so that a body that counts elsewhere is refused by this goal
+pub returns-clause-done : goal.returns-clause-done
+returns-clause-done c = c.key_in_buffers-key.ensures.done
