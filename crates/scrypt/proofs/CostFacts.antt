@@ -1,9 +1,7 @@
 -- Facts on the cores of a derivation.
 use Rattle.std.proofs.Common.{◌≡◌, ℕ, zero, suc, ◌+◌, ◌*◌, ◌^◌, List, refl, ap, ◌∙◌, arith, add-one}
 use Rattle.scrypt_kernel.specs.Words.{part, words_of}
-use Rattle.scrypt_kernel.specs.Count.{AreCounted}
 use Rattle.scrypt_kernel.specs.Table.{extra_rows}
-use Rattle.scrypt_kernel.specs.declared.cores.CoreCount.{CoreCount}
 use Rattle.scrypt_kernel.proofs.WalkFacts.{extra_rows-whole}
 use Rattle.scrypt.specs.Cost.{cost, extra_rows_of_chunks, thin_chunks_cost}
 
@@ -26,7 +24,3 @@ pub more_chunks : (b : List ℕ) (log_n s r i : ℕ) → extra_rows_of_chunks b 
     ≡ extra_rows_of_chunks b log_n s r i + extra_rows (words_of (part (128 * r) b i)) log_n s (2 ^ log_n)
 unfolding extra_rows_of_chunks
 more_chunks b log_n s r i = rw add-one refl
-
--- the count of both
-pub counted_more : {x y z : CoreCount} {n m all : ℕ} → AreCounted n x y → AreCounted m y z → n + m ≡ all → AreCounted all x z
-counted_more until more sum = record { all = omega arith; lanes = omega arith }

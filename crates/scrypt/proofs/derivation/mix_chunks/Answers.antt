@@ -1,7 +1,8 @@
 use Rattle.std.proofs.Common.{◌≡◌, ◌*◌, arith}
 use Rattle.scrypt.specs.Cost.{extra_rows_of_chunks}
 use Rattle.scrypt.proofs.KeyFacts.{all_mixed, none_mixed}
-use Rattle.scrypt.proofs.CostFacts.{counted_more, more_chunks}
+use Rattle.scrypt_kernel.proofs.CountFacts.{counted_both}
+use Rattle.scrypt.proofs.CostFacts.{more_chunks}
 use Rattle.scrypt_kernel.proofs.PartFacts.{parts_apart}
 use Rattle.scrypt.proofs.derivation.mix_chunks.Goals as goal
 
@@ -23,7 +24,7 @@ chunks-preserved g c =
     record {
       mixed = c.mix_one.ensures.mixed c.args.chunks.now before.mixed;
       room = omega (arith, before.room, c.mix_one.ensures.room);
-      counted = counted_more before.counted (rw before.mixed.rest at c.mix_one.ensures.counted) (rw more_chunks (omega arith));
+      counted = counted_both _ before.counted (rw before.mixed.rest at c.mix_one.ensures.counted) (rw more_chunks (omega arith));
     }
 
 pub returns-clause-value : goal.returns-clause-value
