@@ -42,7 +42,7 @@ params_lack (pair ∷ params) h =
     let texts = join_lacks 36 44 refl (map pair_text (pair ∷ params)) (texts_lack 36 refl refl refl (pair ∷ params) h.each) in
     All-from_recursion (Lacks 36) (pairs_text (pair ∷ params) ∷ []) (texts, tt)
 
--- neither a salt nor a key has a byte that is no letter of values
+-- neither a salt nor a key has a byte that is not a letter of values
 salt_and_key_lack : (c : ℕ) → is_value_letter c ≡ false → (salt key : Option (List ℕ)) → IfSome salt IsSalt → IfSome key IsKey
     → All (Lacks c) (salt_and_key_parts salt key)
 salt_and_key_lack c other None key hs hk = All-nil (Lacks c)

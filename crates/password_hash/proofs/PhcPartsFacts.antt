@@ -42,7 +42,7 @@ symbols_hold P t each (a ∷ b ∷ c ∷ m) h =
     let third = each (b % 16 * 4 + c / 64) (omega arith) in
     (first, (second, (third, (each (c % 64) (omega arith), symbols_hold P t each m (λ i. h (suc (suc (suc i))))))))
 
--- Base64 lacks a byte that is no letter of values
+-- Base64 lacks each byte that is not a letter of values
 pub base64_lacks : (c : ℕ) → is_value_letter c ≡ false → (bytes : List ℕ) → IsBytes bytes → Lacks c (base64 bytes)
 base64_lacks c other bytes h =
     let table : List ℕ = standard_no_pad.encode_table in
