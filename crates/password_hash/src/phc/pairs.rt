@@ -31,7 +31,6 @@ impl<'a> Iterator for Pairs<'a> {
 
     ghost remaining = { item_count (λ left. left) };
 
-    #[tactic(auto, using(crate::proofs::PairsFacts::first_pair))]
     fn next(&mut self) -> Option<(Ident, Value<'a>)> {
         if self.left.is_empty() {
             return None;
