@@ -1,7 +1,6 @@
 use Rattle.std.proofs.Common.{◌≡◌, ◌<◌, ◌==◌, ◌++◌, ◌∷◌, [], ◌∙◌, ℕ, List, length, map, Ok, Bor, ap, sym, refl, lit<, arith}
 use Rattle.std.specs.List.{join_with_byte, slice_split}
-use Rattle.std.proofs.lemmas.Bool.{false≢true}
-use Rattle.std.proofs.lemmas.Bool.Decides.{nat_tests}
+use Rattle.std.proofs.lemmas.Bool.{eqb-true, eqb-false, false≢true}
 use Rattle.std.proofs.lemmas.List.{map_push}
 use Rattle.std.proofs.lemmas.List.Splits.{join_with_byte-slice_split}
 use Rattle.std.proofs.lemmas.Iterator.Splits.{YieldsList-from_str_split}
@@ -13,7 +12,7 @@ use Rattle.password_hash.proofs.phc.params.ParamsString.parse.Goals.{In-None}
 
 pub returns-then-is_empty-clause-only : goal.returns-then-is_empty-clause-only
 returns-then-is_empty-clause-only c = λ pairs h e.
-    let empty : length c.args.text.now ≡ 0 = grind (arith, nat_tests) in
+    let empty : length c.args.text.now ≡ 0 = eqb-true _ _ (sym c.if-is_empty.ensures) in
     ap (λ params. Ok params) (c.new-params.ensures.value ∙ sym (no_pairs c.args.text.now pairs empty e))
 
 pub loop-pair-preserved : goal.loop-pair-preserved
@@ -29,7 +28,7 @@ loop-pair-preserved c =
 
 pub returns-in_err-add-clause-only : goal.returns-in_err-add-clause-only
 returns-in_err-add-clause-only c = λ pairs h e.
-    let some : 0 < length c.args.text.now = grind (arith, nat_tests) in
+    let some : 0 < length c.args.text.now = omega (arith, eqb-false _ _ (sym c.if-is_empty.ensures)) in
     let k : ℕ = length c.loop-pair.yielded in
     let source = YieldsList-from_str_split 44 c.args.text.now (lit< tt) (cc) (cc) (cc) in
     let so_far = YieldsList-so_far source c.loop-pair.yielded _ c.loop-pair.yielded_by in
@@ -55,5 +54,5 @@ returns-clause-text c =
 
 pub returns-clause-only : goal.returns-clause-only
 returns-clause-only c = λ pairs h e.
-    let some : 0 < length c.args.text.now = grind (arith, nat_tests) in
+    let some : 0 < length c.args.text.now = omega (arith, eqb-false _ _ (sym c.if-is_empty.ensures)) in
     ap (λ params. Ok params) (read (goal.at.returns-clause-only c).In-None ∙ sym (pairs_of_pieces c.args.text.now pairs some h e))
