@@ -217,6 +217,3 @@ begins-rest letters bytes rest begins (all, is) =
 pub begins-stuck : (letters bytes rest : List ℕ) → Begins letters bytes rest → (IsCrypt64 rest → rest ≡ [])
     → IsCrypt64 letters → rest ≡ []
 begins-stuck letters bytes rest begins stuck is = stuck (begins-rest letters bytes rest begins is)
-
--- letters, group by group
-pub ruleset groups = (begins_none, begins_more, begins-end, begins-stuck)

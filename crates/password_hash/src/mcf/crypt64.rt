@@ -36,7 +36,6 @@ impl Base64 {
     /// Returns `EncodingInvalid`, without allocating, if `letters` are not an encoding: one of them
     /// is not in the alphabet, the last group has only one letter, or bits above the last byte are
     /// set. Returns `OutOfMemory` if the allocation fails.
-    #[tactic(auto, using(crate::proofs::GroupFacts::groups))]
     pub fn decode_vec(self, alloc: Global, letters: &str) -> Result<Vec<u8>>
         ensures ok { IfOk result (λ bytes. Crypt64 bytes.items letters.now) }
         ensures invalid { IsErrOf result Error.EncodingInvalid ↔ (¬ IsCrypt64 letters.now) }
@@ -91,7 +90,6 @@ impl Base64 {
 }
 
 /// Returns the number of bytes that `letters` encode, or `None` if they are not an encoding.
-#[tactic(auto, using(crate::proofs::GroupFacts::groups))]
 pub(super) fn decoded_len(letters: &[u8]) -> Option<usize>
     ensures { MatchOption result (¬ IsCrypt64 letters.now)
         (λ n. (bytes : List ℕ) × Crypt64 bytes letters.now × (length bytes ≡ n)) }

@@ -1,9 +1,12 @@
-use Rattle.std.proofs.Common.{◌≡◌, sym, ap, arith, [], length, length-append, ◌++◌, take}
+use Rattle.std.proofs.Common.{◌≡◌, refl, sym, ap, arith, [], length, length-append, ◌++◌, take}
 use Rattle.std.proofs.lemmas.Bool.{eqb-true}
 use Rattle.std.proofs.lemmas.Bool.Decides.{nat_tests}
 use Rattle.std.proofs.lemmas.List.{nil_from_length}
-use Rattle.password_hash.proofs.GroupFacts.{begins_more, begins-end, begins-stuck}
+use Rattle.password_hash.proofs.GroupFacts.{begins_none, begins_more, begins-end, begins-stuck}
 use Rattle.password_hash.proofs.mcf.crypt64.decoded_len.Goals as goal
+
+pub loop-group-init : goal.loop-group-init
+loop-group-init c = record { begins = ([], begins_none _, refl); fits = omega arith }
 
 pub loop-group-preserved : goal.loop-group-preserved
 loop-group-preserved c =

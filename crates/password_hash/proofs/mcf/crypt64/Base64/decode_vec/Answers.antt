@@ -1,6 +1,9 @@
 use Rattle.password_hash.specs.Crypt64.{IsCrypt64}
-use Rattle.password_hash.proofs.GroupFacts.{begins_more, begins-end, begins-stuck}
+use Rattle.password_hash.proofs.GroupFacts.{begins_none, begins_more, begins-end, begins-stuck}
 use Rattle.password_hash.proofs.mcf.crypt64.Base64.decode_vec.Goals as goal
+
+pub loop-group-init : goal.loop-group-init
+loop-group-init c = rw (c.in_ok-bytes.ensures.items, c.as_bytes-rest.ensures.value) (begins_none _)
 
 pub loop-group-preserved : goal.loop-group-preserved
 loop-group-preserved c =
