@@ -20,11 +20,6 @@ fn texts_of_errors(rt: HostRuntime) -> Result<(), Fail> {
         assert_eq!(rt; error.to_string(alloc)?.as_str(), text);
     }
     for (text, wanted) in [
-        (
-            mcf::Error::EncodingInvalid.to_string(alloc)?,
-            "invalid encoding",
-        ),
-        (mcf::Error::OutOfMemory.to_string(alloc)?, "out of memory"),
         (kdf::Error::Refused.to_string(alloc)?, "refused key length"),
         (kdf::Error::OutOfMemory.to_string(alloc)?, "out of memory"),
     ] {

@@ -1,5 +1,5 @@
 -- An error by its value: the name in it is a list of bytes, wherever it is in memory.
-use Rattle.std.specs.Prelude.{ℕ, List, codes, Option, None, Some, Result, Ok, Err}
+use Rattle.std.specs.Prelude.{◌≡◌, ◌⊎◌, ℕ, List, codes, Option, None, Some, Result, Ok, Err}
 use Rattle.password_hash.specs.declared.error.Error.{Error}
 use Rattle.password_hash.specs.declared.error.Error.TheVariants as error
 
@@ -35,6 +35,10 @@ refusal error.KeyTooShort = KeyTooShort
 abbrev pub told : {T : Type 0} → Result T Error → Result T Refusal
 told (Ok x) = Ok x
 told (Err e) = Err (refusal e)
+
+-- the errors of making, decoding and extending an MCF text
+abbrev pub IsInvalidOrMemory : Error → Type 0
+IsInvalidOrMemory e = (e ≡ error.EncodingInvalid) ⊎ (e ≡ error.OutOfMemory)
 
 -- what the errors of verifying within limits print; the texts of the others are not specified
 abbrev pub error_text : Error → Option (List ℕ)
