@@ -46,7 +46,6 @@ pub(crate) fn take_steps<O: Order>(
 }
 
 // Step 3 for one `i`: j = Integerify (X) mod N, T = X xor V[j], X = scryptBlockMix (T).
-#[tactic(auto, using(crate::proofs::WordFacts::xor_lengths))]
 #[inline(always)]
 fn step<O: Order>(
     x: &[u32],
