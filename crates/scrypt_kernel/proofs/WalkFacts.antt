@@ -140,22 +140,20 @@ module _ (p q : List ℕ) (inverse : AreInverse p q) (b : List ℕ) (log_n s siz
         counted = counted_both _ until.counted (rw (standard, same) at counted) (rw (extra_rows-more b log_n s k) (omega arith));
       }
 
--- the words w of a chunk after all steps: put into the order p, a table filled from them, and the walk
-module _ (p q : List ℕ) (inverse : AreInverse p q) (w x kept last : List ℕ) (log_n s : ℕ) (whole : length w % 16 ≡ 0)
-    (is : x ≡ permuted p w) (fill : IsFilled p q log_n s x kept last) (same : length last ≡ length x) where
-  pub filled_starts : StartsWalk p w log_n s kept last
-  filled_starts =
-      let input = standard_of p q inverse x w (omega (arith, ap length is, length-permuted p w)) is in
-      let P : List ℕ → Type 0 = λ z. KeepsRows p z s (length x) (2 ^ log_n) kept in
-      record {
-        rows = rw (← same) at (subst P input fill.rows);
-        start = fill.after ∙ ap (λ z. permuted p (row z (2 ^ log_n))) input;
-      }
+-- the walk over a table that is filled from x, and what scryptROMix makes of x
+module _ (p q x kept last : List ℕ) (log_n s : ℕ) (fill : IsFilled p q log_n s x kept last) (same : length last ≡ length x) where
+  pub filled_starts : StartsWalk p (permuted q x) log_n s kept last
+  filled_starts = record { rows = rw same fill.rows; start = fill.after }
 
-  pub ro_mixed : (end : List ℕ) → IsWalked p log_n s kept last (2 ^ log_n) end → length end ≡ length x → permuted q end ≡ ro_mix w log_n
+  pub ro_mixed : (end : List ℕ) → IsWalked p log_n s kept last (2 ^ log_n) end → end ≡ permuted p (ro_mix (permuted q x) log_n)
   unfolding ro_mix
-  ro_mixed end walked long =
-      standard_of p q inverse end _ (omega (arith, ap length is, length-permuted p w)) (walked w filled_starts)
+  ro_mixed end walked = walked _ filled_starts
+
+-- the words w of a chunk, put into the order p, mixed there and put back
+pub mixed_back : (p q : List ℕ) → AreInverse p q → (w x end : List ℕ) (log_n : ℕ) → length x % 16 ≡ 0 → x ≡ permuted p w
+    → length end ≡ length x → end ≡ permuted p (ro_mix (permuted q x) log_n) → permuted q end ≡ ro_mix w log_n
+mixed_back p q inverse w x end log_n whole is same mixed =
+    standard_of p q inverse end _ (rw same whole) mixed ∙ ap (λ z. ro_mix z log_n) (standard_of p q inverse x w whole is)
 
 -- the cores of the fill and of the walk
 pub filled_and_walked : {simd : Bool} {before filled after : CoreCount} (rows size words r e : ℕ) → size / 32 ≡ r → words ≡ size

@@ -1,10 +1,12 @@
 //! scryptROMix (RFC 7914, section 5) of two chunks at once.
 
-ghost use Rattle.std.specs.Prelude.{◌≡◌, ◌+◌, ◌*◌, ◌/◌, ◌<◌, ◌≤◌, length};
+ghost use Rattle.std.specs.Prelude.{◌≡◌, ◌+◌, ◌*◌, ◌/◌, ◌^◌, ◌<◌, ◌≤◌, length};
 ghost use Rattle.scrypt_kernel.specs.Words.{bytes_of, words_of};
 ghost use Rattle.scrypt_kernel.specs.Count.{AreCounted};
 ghost use Rattle.scrypt_kernel.specs.RoMix.{ro_mix};
 ghost use Rattle.scrypt_kernel.specs.RoMixCost.{AreBytesOfB, ro_mix_cost, scratch_words, table_words};
+ghost use Rattle.scrypt_kernel.specs.Diagonal.{diagonal_order, standard_order};
+ghost use Rattle.scrypt_kernel.specs.KeptRows.{IsRowLen};
 
 use crate::CoreCount;
 use crate::memory::{Buffer, Memory};
@@ -41,11 +43,38 @@ pub fn mix_two_chunks(
     let words = b.len() / 4;
     let (x, rest) = t.split_at_mut(words);
     let (other_x, rest) = rest.split_at_mut(words);
-    let (y, rest) = rest.split_at_mut(words);
-    let other_y = &mut rest[..words];
     // Step 1: X = B.
     read_in::<Diagonal>(b, x);
     read_in::<Diagonal>(other_b, other_x);
+    mix_words(x, other_x, v, other_v, rest, log_n, cores);
+    // Step 4: B' = X.
+    write_out::<Diagonal>(x, b);
+    write_out::<Diagonal>(other_x, other_b);
+}
+
+// Steps 2 and 3 of both, on words in diagonal order. X is in `x` before the call and after it, and that
+// of the other in `other_x`. The scratch `t` has room for two rows.
+fn mix_words(
+    x: &mut [u32],
+    other_x: &mut [u32],
+    v: &mut [u32],
+    other_v: &mut [u32],
+    t: &mut [u32],
+    log_n: u8,
+    cores: &mut CoreCount,
+)
+    requires row { IsRowLen (length x.old) }
+    requires same { length other_x.old ≡ length x.old }
+    requires small { log_n ≤ 56 }
+    requires table { 2 ^ log_n * length x.old ≤ length v.old }
+    requires other_table { 2 ^ log_n * length x.old ≤ length other_v.old }
+    requires scratch { 2 * length x.old ≤ length t.old }
+    ensures value { x.new ≡ diagonal_order (ro_mix (standard_order x.old) log_n) }
+    ensures other_value { other_x.new ≡ diagonal_order (ro_mix (standard_order other_x.old) log_n) }
+    ensures counted { AreCounted (2 * ro_mix_cost log_n (length x.old / 32)) cores.old cores.new }
+{
+    let (y, rest) = t.split_at_mut(x.len());
+    let other_y = &mut rest[..x.len()];
     // Step 2: for i = 0 to N - 1 do V[i] = X, X = scryptBlockMix (X).
     let mut rows = Buffer::new(v);
     let mut other_rows = Buffer::new(other_v);
@@ -53,7 +82,4 @@ pub fn mix_two_chunks(
     // Step 3: for i = 0 to N - 1 do j = Integerify (X) mod N, T = X xor V[j], X = scryptBlockMix (T).
     let (v, other_v) = (rows.words(), other_rows.words());
     take_steps_pair(x, other_x, v, other_v, y, other_y, log_n, cores);
-    // Step 4: B' = X.
-    write_out::<Diagonal>(x, b);
-    write_out::<Diagonal>(other_x, other_b);
 }
