@@ -47,7 +47,6 @@ pub(crate) fn take_steps_pair(
 }
 
 // Step 3 of both for one `i`: j = Integerify (X) mod N, T = X xor V[j], X = scryptBlockMix (T).
-#[tactic(auto, using(crate::proofs::WordFacts::xor_lengths, std::proofs::lemmas::Nat::rows))]
 #[inline(always)]
 fn step(
     x: &[u32],

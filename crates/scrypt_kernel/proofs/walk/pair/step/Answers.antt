@@ -1,13 +1,38 @@
-use Rattle.std.proofs.Common.{◌≡◌, ◌/◌, ◌^◌, ℕ, List, refl, ap₂, arith, ◌∙◌}
+use Rattle.std.proofs.Common.{◌≡◌, ◌+◌, ◌-◌, ◌*◌, ◌<◌, ◌/◌, ◌^◌, ◌≤◌, ℕ, List, length, refl, ap₂, sym, arith, ◌∙◌}
 use Rattle.scrypt_kernel.specs.Words.{part}
 use Rattle.scrypt_kernel.specs.Diagonal.{inverse_pivot, pivot}
 use Rattle.scrypt_kernel.proofs.OrderFacts.{diagonal_inverse}
-use Rattle.scrypt_kernel.proofs.WalkFacts.{next_step_kept}
+use Rattle.scrypt_kernel.proofs.WordFacts.{length-xor}
+use Rattle.scrypt_kernel.proofs.WalkFacts.{kept_inside, next_step_kept}
 use Rattle.scrypt_kernel.proofs.walk.pair.step.Goals as goal
 
 -- each row is kept
 same_row : (n size j : ℕ) (v : List ℕ) → n ≡ size → part n v j ≡ part size v (j / 2 ^ 0)
 same_row n size j v same = let there : j ≡ j / 1 = omega arith in ap₂ (λ n j. part n v j) same there
+
+-- and is in the table
+row_inside : (log_n size j len n : ℕ) → j < 2 ^ log_n → len ≡ 2 ^ (log_n - 0) * size → n ≡ size → j * n + n ≤ len
+row_inside log_n size j len n inside rows same =
+    let place : j / 1 ≡ j = omega arith in
+    let kept = rw place at (kept_inside 0 log_n j size len (omega arith) inside rows) in
+    rw same (omega arith)
+
+pub part-taken-requires : goal.part-taken-requires
+part-taken-requires c =
+    row_inside c.args.log_n (length c.args.x.now) _ _ _ c.integerify_diagonal.ensures.inside c.requires.lens.rows refl
+
+pub part-other_taken-requires : goal.part-other_taken-requires
+part-other_taken-requires c =
+    row_inside c.args.log_n (length c.args.other_x.now) _ _ _ c.integerify_diagonal-2.ensures.inside c.requires.other_lens.rows (sym c.requires.same)
+
+pub mix_pair-requires-clause-same : goal.mix_pair-requires-clause-same
+mix_pair-requires-clause-same c =
+    length-xor c.args.x.now _ (sym c.part-taken.ensures.len) ∙ sym (c.prefetch_row.auto.spare ∙ c.requires.lens.scratch)
+
+pub mix_pair-requires-clause-other_same : goal.mix_pair-requires-clause-other_same
+mix_pair-requires-clause-other_same c =
+    length-xor c.args.other_x.now _ (c.requires.same ∙ sym c.part-other_taken.ensures.len) ∙ c.requires.same
+    ∙ sym (c.prefetch_row.auto.spare ∙ c.requires.lens.scratch)
 
 pub returns-clause-value : goal.returns-clause-value
 returns-clause-value c =
