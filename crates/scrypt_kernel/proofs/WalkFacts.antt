@@ -10,11 +10,11 @@ use Rattle.scrypt_kernel.specs.BlockMix.{block_mix}
 use Rattle.scrypt_kernel.specs.RoMix.{integerify, ro_mix, row, walk}
 use Rattle.scrypt_kernel.specs.RoMixCost.{ro_mix_cost}
 use Rattle.scrypt_kernel.specs.Table.{extra_rows, recomputed_rows, thin_ro_mix_cost}
-use Rattle.scrypt_kernel.specs.KeptRows.{AfterSteps, AreWalkLens, IsFilled, IsNext, IsWalked, KeepsRows, StartsWalk}
+use Rattle.scrypt_kernel.specs.KeptRows.{AfterSteps, AreWalkLens, IsFilled, IsNext, IsWalked, StartsWalk}
 use Rattle.scrypt_kernel.specs.Diagonal.{AreInverse, permuted}
 use Rattle.scrypt_kernel.proofs.CountFacts.{counted_both, counted_none}
 use Rattle.scrypt_kernel.proofs.PartFacts.{length-part}
-use Rattle.scrypt_kernel.proofs.OrderFacts.{length-permuted, standard_of}
+use Rattle.scrypt_kernel.proofs.OrderFacts.{standard_of}
 use Rattle.scrypt_kernel.proofs.RoMixFacts.{HoldsRows, next_step_in, row_after_in, row_zero_in}
 
 -- a table's number of kept rows, of which m is the last

@@ -1,4 +1,4 @@
-use Rattle.std.proofs.Common.{◌≡◌, ℕ, ◌%◌, ◌/◌, ◌^◌, length, ap, ◌∙◌, arith}
+use Rattle.std.proofs.Common.{◌≡◌, ◌%◌, ◌/◌, ◌^◌, length, ap, ◌∙◌, arith}
 use Rattle.scrypt_kernel.specs.Words.{bytes_of, words_of}
 use Rattle.scrypt_kernel.specs.Diagonal.{permuted}
 use Rattle.scrypt_kernel.proofs.OrderFacts.{standard_of}
@@ -22,6 +22,6 @@ returns g c =
           ∙ ap bytes_of (mixed_back p q g.met.O.Order.inverse w x c.take_steps.new.x c.args.log_n whole c.read_in.ensures (omega arith)
           (ro_mixed p q x _ c.fill.new.x c.args.log_n c.args.s c.fill.ensures.filled c.fill.auto.x _ (λ b starts. (walked b starts).value)));
       room = c.fill.ensures.room;
-      counted = filled_and_walked (2 ^ c.args.log_n) (length x) _ (length c.args.b.now / 128) _ blocks c.fill.auto.x c.fill.ensures.counted
-          (rw standard at counted);
+      counted = filled_and_walked (2 ^ c.args.log_n) (length x) _ (length c.args.b.now / 128) _ blocks c.fill.auto.x
+          c.fill.ensures.counted (rw standard at counted);
     }

@@ -1,4 +1,4 @@
-use Rattle.std.proofs.Common.{◌≡◌, ℕ, Bool, ◌+◌, ◌*◌, ◌/◌, ◌%◌, ◌^◌, ◌≤◌, length, refl, sym, ap, ◌∙◌, arith}
+use Rattle.std.proofs.Common.{◌≡◌, ℕ, Bool, ◌+◌, ◌*◌, ◌/◌, ◌%◌, ◌^◌, length, refl, sym, ap, ◌∙◌, arith}
 use Rattle.std.proofs.lemmas.List.{length-take-le}
 use Rattle.std.proofs.lemmas.Nat.{one_shl}
 use Rattle.scrypt_kernel.specs.declared.cores.CoreCount.{CoreCount}
@@ -37,8 +37,8 @@ pub returns-then-missing-eq0-clause-counted : goal.returns-then-missing-eq0-clau
 returns-then-missing-eq0-clause-counted g c =
     let j = c.integerify-j in
     let missing = ap (λ n. j.result % n) (one_shl c.args.s 64 (omega arith)) ∙ ap (λ j. j % 2 ^ c.args.s) j.ensures.value in
-    counted_step 0 _ _ (length c.args.x.now) _ (sym c.if-missing-eq0.true ∙ missing) refl (c.prefetch_row.auto.spare ∙ c.requires.lens.scratch)
-    (counted_none _ _ _ (omega arith)) c.mix.ensures.counted
+    counted_step 0 _ _ (length c.args.x.now) _ (sym c.if-missing-eq0.true ∙ missing) refl
+    (c.prefetch_row.auto.spare ∙ c.requires.lens.scratch) (counted_none _ _ _ (omega arith)) c.mix.ensures.counted
 
 pub slice_bounds-row-end : goal.slice_bounds-row-end
 slice_bounds-row-end g c = c.requires.lens.room (some_missing _ _ c.if-missing-eq0.false)

@@ -23,7 +23,8 @@ part-taken-requires c =
 
 pub part-other_taken-requires : goal.part-other_taken-requires
 part-other_taken-requires c =
-    row_inside c.args.log_n (length c.args.other_x.now) _ _ _ c.integerify_diagonal-2.ensures.inside c.requires.other_lens.rows (sym c.requires.same)
+    row_inside c.args.log_n (length c.args.other_x.now) _ _ _ c.integerify_diagonal-2.ensures.inside c.requires.other_lens.rows
+    (sym c.requires.same)
 
 pub mix_pair-requires-clause-same : goal.mix_pair-requires-clause-same
 mix_pair-requires-clause-same c =
