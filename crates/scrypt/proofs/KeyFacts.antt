@@ -118,6 +118,10 @@ both_mixed b w x log_n r p q some long is =
     length-parts (mixed_chunk b log_n r) s 0 p (λ i below. length-mixed_chunk b log_n r (0 + i) some (inside (0 + i) (omega arith))) in
     (ap (take (p * s)) all ∙ take_at _ _ (p * s) count, ap (drop (p * s)) all ∙ drop_at _ _ (p * s) count)
 
+-- they are as long as the chunks of both
+pub length-both : (b w : List ℕ) (r p q : ℕ) → length b ≡ p * (128 * r) → length w ≡ q * (128 * r) → length (b ++ w) ≡ (p + q) * (128 * r)
+length-both b w r p q long other = length-append b w ∙ omega arith
+
 -- a shorter key is the beginning of a longer one
 pub key_prefix : (password salt : List ℕ) (log_n r p m n : ℕ) → m ≤ n
     → derived_key password salt log_n r p m ≡ take m (derived_key password salt log_n r p n)

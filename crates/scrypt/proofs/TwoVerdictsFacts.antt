@@ -1,13 +1,13 @@
 -- Facts on two derivations at once.
-use Rattle.std.proofs.Common.{◌≡◌, ◌∙◌, ℕ, ◌≤◌, ◌*◌, List, length, Ok, Err, true, false, refl, sym, ap₂, arith}
+use Rattle.std.proofs.Common.{◌≡◌, ◌∙◌, ℕ, ◌≤◌, ◌+◌, ◌*◌, List, length, Ok, Err, true, false, refl, sym, ap₂, arith}
 use Rattle.std.specs.Prelude.{Result, ⊤}
 use Rattle.std.specs.Bool.{Decides}
 use Rattle.std.proofs.lemmas.Bool.Decides.{Decides-and, Decides-eqb}
 use Rattle.password_hash.specs.Refusal.{Refusal}
 use Rattle.scrypt.specs.Accepted.{Parameters}
-use Rattle.scrypt.specs.Cost.{scratch_words, table_words}
+use Rattle.scrypt.specs.Cost.{cost, scratch_words, table_words}
 use Rattle.scrypt.specs.Reading.{Stored, verdict}
-use Rattle.scrypt.specs.TwoVerdicts.{AreAlike, AreDone, AreLeft, AreLeftInTurn, both_chunks_bytes, hold_two}
+use Rattle.scrypt.specs.TwoVerdicts.{AreAlike, AreDone, AreLeft, AreLeftInTurn, both_chunks_bytes, both_cost, hold_two}
 use Rattle.scrypt.specs.WorkInBuffers.{Work, has_room, verdict_in}
 use Rattle.scrypt.proofs.AcceptedFacts.{leb_decided}
 use Rattle.scrypt.proofs.ReadingFacts.{room_enough}
@@ -20,6 +20,10 @@ unfolding hold_two
 hold_two_decided c other chunks table scratch =
     Decides-and _ _ (Decides-and _ _ (Decides-eqb _ _) (Decides-eqb _ _))
     (Decides-and _ _ (leb_decided _ _) (Decides-and _ _ (leb_decided _ _) (leb_decided _ _)))
+
+-- the cores of both, whose chunks are mixed as those of one
+pub cost_of_both : (c other : Parameters) (n : ℕ) → AreAlike c other → n ≡ c.p + other.p → cost c.log_n c.r n ≡ both_cost c other
+cost_of_both c other n alike sum = rw (← alike.0, ← alike.1, sum) (omega arith)
 
 -- it has room for each of them
 pub room_for_each : (c other : Parameters) (w : Work) → hold_two c other w.chunks w.table w.scratch ≡ true

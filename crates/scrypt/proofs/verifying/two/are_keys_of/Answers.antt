@@ -1,7 +1,9 @@
-use Rattle.std.proofs.Common.{◌≡◌, ◌∙◌, ◌+◌, ◌++◌, ap, ap₂, arith, drop, take}
+use Rattle.std.proofs.Common.{◌≡◌, ◌∙◌, ◌+◌, ◌*◌, ◌++◌, ap, ap₂, arith, drop, length, subst, take}
+use Rattle.scrypt_kernel.specs.Count.{AreCounted}
 use Rattle.scrypt.specs.Key.{mixed_chunks}
 use Rattle.scrypt.proofs.ComparingFacts.{right_by_parts}
-use Rattle.scrypt.proofs.KeyFacts.{both_mixed}
+use Rattle.scrypt.proofs.KeyFacts.{both_mixed, length-both}
+use Rattle.scrypt.proofs.TwoVerdictsFacts.{cost_of_both}
 use Rattle.scrypt.proofs.verifying.two.are_keys_of.Goals as goal
 use Rattle.scrypt.proofs.verifying.two.are_keys_of.Goals.{After-split_at}
 
@@ -32,3 +34,27 @@ pub returns-clause-other_exact : goal.returns-clause-other_exact
 returns-clause-other_exact c s are =
     right_by_parts c.args.other_password.now _ _ s c.args.others.now c.is_derived_key-other_same.result are c.derive_chunks-2.ensures.value
     (mixed_at (goal.at.returns-clause-other_exact c).After-split_at).1 (c.is_derived_key-other_same.ensures.exact s are)
+
+pub derive_chunks-requires : goal.derive_chunks-requires
+derive_chunks-requires c = record { chunks = c.split_at_mut-front.ensures.front_len ∙ c.of-len.ensures.chunks }
+
+pub derive_chunks-requires-2 : goal.derive_chunks-requires-2
+derive_chunks-requires-2 c =
+    record { chunks = omega (arith, c.split_at_mut-front.ensures.back_len, c.requires.chunks, c.of-len.ensures.chunks) }
+
+pub mix_pairs-requires-clause-chunks : goal.mix_pairs-requires-clause-chunks
+mix_pairs-requires-clause-chunks c =
+    let params = c.args.parts.now.params in
+    let others = c.args.others.now.params in
+    let front = c.derive_chunks.auto.chunks ∙ c.split_at_mut-front.ensures.front_len ∙ c.of-len.ensures.chunks in
+    let back : length c.derive_chunks-2.new.chunks ≡ others.p * (128 * others.r) =
+    omega (arith, c.derive_chunks-2.auto.chunks, c.split_at_mut-front.ensures.back_len, c.requires.chunks, c.of-len.ensures.chunks) in
+    rw (c.p.ensures.value, c.p-2.ensures.value)
+    (length-both _ _ params.r params.p others.p front (rw (← c.requires.alike.1) at back))
+
+pub returns-clause-counted : goal.returns-clause-counted
+returns-clause-counted c =
+    let params = c.args.parts.now.params in
+    let others = c.args.others.now.params in
+    subst (λ n. AreCounted n c.args.cores.now c.mix_pairs.new.cores)
+    (cost_of_both params others _ c.requires.alike (ap₂ (λ i j. i + j) c.p.ensures.value c.p-2.ensures.value)) c.mix_pairs.ensures.counted
