@@ -32,7 +32,7 @@ pub enum Args<'a> {
 }
 
 /// What is made of a password.
-#[derive(Clone, Copy, Debug, PartialEq, Eq)]
+#[derive(Clone, Copy)]
 pub enum Target {
     /// a key of `len` bytes
     Key { len: usize },
@@ -41,7 +41,7 @@ pub enum Target {
 }
 
 /// A format of hash texts.
-#[derive(Clone, Copy, Debug, PartialEq, Eq)]
+#[derive(Clone, Copy)]
 pub enum Format {
     /// the PHC string format
     Phc,
@@ -50,7 +50,7 @@ pub enum Format {
 }
 
 /// The parameters LOG_N, R and P, and the length of the key of a hash, if one is named. They may not be accepted.
-#[derive(Clone, Copy, Debug, PartialEq, Eq)]
+#[derive(Clone, Copy)]
 pub struct UncheckedParams {
     pub log_n: u8,
     pub r: u32,

@@ -8,7 +8,7 @@ use crate::args::parse_len;
 use scrypt::{BufferLens, Limits, Params};
 
 /// What a stored hash may need.
-#[derive(Clone, Copy, Debug, PartialEq, Eq)]
+#[derive(Clone, Copy)]
 pub struct Bounds {
     /// the most bytes of memory
     pub most_bytes: usize,

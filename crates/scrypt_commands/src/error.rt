@@ -11,7 +11,7 @@ use scrypt::{DeriveError, InvalidParams};
 use std::alloc::AllocError;
 
 /// Why a run ends without an answer.
-#[derive(Clone, Copy, Debug, PartialEq, Eq)]
+#[derive(Clone, Copy)]
 pub enum CliError {
     /// The arguments are not those of a command, or one is not a decimal below its bound.
     Usage,

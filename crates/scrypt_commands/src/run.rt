@@ -148,7 +148,7 @@ pub(crate) fn end<F: Write>(error: CliError, errors: &mut F) -> Exit
 {
     Exit {
         status: error.status(),
-        input_failed: error == CliError::InputFailed,
+        input_failed: matches!(error, CliError::InputFailed),
         error_written: errors.write_all(error.line().as_bytes()).is_ok(),
     }
 }
