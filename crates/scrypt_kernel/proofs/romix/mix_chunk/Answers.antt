@@ -20,7 +20,8 @@ returns g c =
     record {
       value = c.write_out.ensures
           ∙ ap bytes_of (mixed_back p q g.met.O.Order.inverse w x c.take_steps.new.x c.args.log_n whole c.read_in.ensures (omega arith)
-          (ro_mixed p q x _ c.fill.new.x c.args.log_n c.args.s c.fill.ensures.filled c.fill.auto.x _ (λ b starts. (walked b starts).value)));
+          (ro_mixed p q x _ c.fill.new.x c.args.log_n c.args.s c.fill.ensures.filled c.fill.auto.x _
+          (λ b starts. (walked b starts).value)));
       room = c.fill.ensures.room;
       counted = filled_and_walked (2 ^ c.args.log_n) (length x) _ (length c.args.b.now / 128) _ blocks c.fill.auto.x
           c.fill.ensures.counted (rw standard at counted);

@@ -5,7 +5,9 @@ use Rattle.password_hash.proofs.phc.pairs.PairsIterator.next.Goals as goal
 use Rattle.password_hash.proofs.phc.pairs.PairsIterator.next.Goals.{After-cut}
 
 first : (c : After-cut) → IsFirstPair c.self.inside.left.now c.cut.result.0.now c.cut.result.1.now
-first c = first_pair _ _ _ c.self.invariant (omega (arith, eqb-false _ _ (sym c.if-is_empty.ensures))) c.cut.ensures.before c.cut.ensures.after
+first c =
+    let some = eqb-false _ _ (sym c.if-is_empty.ensures) in
+    first_pair _ _ _ c.self.invariant (omega (arith, some)) c.cut.ensures.before c.cut.ensures.after
 
 pub unreachable-requires : goal.unreachable-requires
 unreachable-requires c =
