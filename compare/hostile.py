@@ -157,9 +157,7 @@ def printed_within(verdict):
     """The same within limits, where a wrong password is not an error."""
     if verdict in ("Ok", "PasswordInvalid"):
         return "Ok(true)" if verdict == "Ok" else "Ok(false)"
-    if verdict in ("TooCostly", "KeyTooShort"):
-        return f"Err({verdict})"
-    return f"Err(Hash({printed(verdict)[4:-1]}))"
+    return printed(verdict)
 
 
 def random_params(rng):
