@@ -29,7 +29,7 @@ static size_t usable(uint8_t *block) {
 }
 
 /* Writes zeros, in a way that the compiler may not optimize away. Whole cache lines are written through the cache, where the
- * next call finds them: memset, which writes so many past it, takes a third longer for the table of (14, 8, 1). */
+ * next call finds them: memset takes a third longer for the table of (14, 8, 1). */
 static void overwrite(uint8_t *block, size_t len) {
   const __m128i zeros = _mm_setzero_si128();
   size_t lines = (uintptr_t)block % CACHE_LINE == 0 ? len / CACHE_LINE * CACHE_LINE : 0, i;
