@@ -1,8 +1,8 @@
 -- Facts on the chunks of B, which are mixed one after another.
 use Rattle.std.proofs.Common.{◌≡◌, ℕ, zero, suc, ◌<◌, ◌≤◌, ◌+◌, ◌*◌, List, [], ◌++◌, length, take, drop, slice_index}
-use Rattle.std.proofs.Common.{refl, sym, ap, ap₂, subst, ◌∙◌, arith, add-zero, zero-add, append_assoc, length-append, take_all}
+use Rattle.std.proofs.Common.{refl, sym, ap, ap₂, ◌∙◌, arith, add-zero, zero-add, append_assoc, length-append, take_all}
 use Rattle.std.specs.List.{flat_map, range_with_len}
-use Rattle.std.proofs.lemmas.List.{append-nil, drop-drop, drop_at, length-drop, nil_from_length, take-append-le, take_at}
+use Rattle.std.proofs.lemmas.List.{append-nil, drop-drop, drop_at, take_at}
 use Rattle.std.proofs.lemmas.Slice.{drop-put_mid, take-put_mid}
 use Rattle.std.proofs.lemmas.List.FromFn.{length-map-range_with_len, take-map-range_with_len}
 use borrow.Rule.Slice.PartMut.{put_mid}
@@ -14,7 +14,7 @@ use Rattle.scrypt.specs.Accepted.{Parameters}
 use Rattle.scrypt.specs.KeyOfParams.{key_by}
 use Rattle.scrypt.specs.Key.{derived_key, mixed_chunk, mixed_chunks}
 use Rattle.scrypt.specs.Mixing.{AreMixed}
-use Rattle.scrypt_kernel.proofs.PartFacts.{length-part, length-parts, part_after, part_append_front, part_of_slice, parts_apart}
+use Rattle.scrypt_kernel.proofs.PartFacts.{length-part, length-parts, part_after, part_append_front, parts_apart}
 use Rattle.scrypt_kernel.proofs.RoMixFacts.{length-ro_mix}
 use Rattle.scrypt_kernel.proofs.WordFacts.{length-bytes_of}
 use Rattle.scrypt_kernel.proofs.Pbkdf2Facts.{length-pbkdf2, padded_digest, padded_zero_byte, pbkdf2-are_bytes, same_pbkdf2}
@@ -59,36 +59,49 @@ mixed_more {b} {x} {ys} {log_n} {r} {i} m a n at size full room made before =
           ∙ sym (drop-drop n a x) ∙ ap (drop n) rest ∙ drop-drop n a b);
     }
 
-regrouped : (p u v w : List ℕ) → p ++ ((u ++ v) ++ w) ≡ (p ++ (u ++ [])) ++ (v ++ w)
-regrouped p u v w = simp (append_assoc, append-nil)
-
--- two more, of which the one ends where front ends, and the other begins where back begins
-pub mixed_pair : {b x one other : List ℕ} {log_n r i : ℕ} (front back : List ℕ) (a n : ℕ) → a ≡ i * (128 * r) → n ≡ 128 * r
-    → x ≡ front ++ back → length front ≡ a + n → n ≤ length back → length one ≡ n → length other ≡ n
-    → one ≡ bytes_of (ro_mix (words_of (take n (drop a front))) log_n) → other ≡ bytes_of (ro_mix (words_of (take n back)) log_n)
-    → AreMixed b log_n r i x → AreMixed b log_n r (i + 2) (put_mid a n front one ++ (other ++ drop n back))
-mixed_pair {b} {x} {one} {other} {log_n} {r} {i} front back a n at size is long room full full_other mixed mixed_other before =
+-- the chunk after those that are in front
+pub mixed_next : {b : List ℕ} {log_n r i : ℕ} (front one rest mixed : List ℕ) → length front ≡ i * (128 * r) → length one ≡ 128 * r
+    → length mixed ≡ 128 * r → mixed ≡ bytes_of (ro_mix (words_of one) log_n) → AreMixed b log_n r i (front ++ (one ++ rest))
+    → AreMixed b log_n r (i + 1) ((front ++ mixed) ++ rest)
+mixed_next {b} {log_n} {r} {i} front one rest mixed long size full is before =
     let s : ℕ = 128 * r in
-    let mix = λ (z : List ℕ). bytes_of (ro_mix (words_of z) log_n) in
-    let all : length x ≡ length front + length back = ap length is ∙ length-append front back in
-    let end : drop (a + n) x ≡ back = ap (drop (a + n)) is ∙ drop_at front back (a + n) long in
-    let chunk : take n (drop a front) ≡ part s b i =
-    part_of_slice s i front a n at size ∙ sym (part_append_front s i front back (omega (arith, at, size, long)))
-    ∙ ap (λ z. part s z i) (sym is) ∙ ap (take s) before.rest in
-    let after : drop (a + n) x ≡ drop (a + n) b = sym (drop-drop n a x) ∙ ap (drop n) (rw (← at) at before.rest) ∙ drop-drop n a b in
-    let other_chunk : take n back ≡ part s b (i + 1) =
-    ap (take n) (sym end ∙ after) ∙ part_of_slice s (i + 1) b (a + n) n (omega (arith, at, size)) size in
-    let none : drop n (drop a front) ≡ [] = nil_from_length _ (omega (arith, length-drop n (drop a front), length-drop a front, long)) in
-    let start : take a x ≡ take a front = ap (take a) is ∙ take-append-le a front back (omega (arith, long)) in
-    let place : a + (n + n) ≡ a + n + n = omega arith in
-    let rest : drop (n + n) (drop a x) ≡ drop n back =
-    drop-drop (n + n) a x ∙ ap (λ k. drop k x) place ∙ sym (drop-drop n (a + n) x) ∙ ap (drop n) end in
-    let put : put_mid a (n + n) x (one ++ other) ≡ put_mid a n front one ++ (other ++ drop n back) =
-    ap₂ (λ p w. p ++ ((one ++ other) ++ w)) start rest ∙ regrouped (take a front) one other (drop n back)
-    ∙ ap (λ z. (take a front ++ (one ++ z)) ++ (other ++ drop n back)) (sym none) in
-    subst (AreMixed b log_n r (i + 2)) put (mixed_more 2 a (n + n) at (omega (arith, size))
-    (length-append one other ∙ omega (arith, full, full_other)) (omega (arith, all, long, room))
-    (ap₂ (λ y z. y ++ z) (mixed ∙ ap mix chunk) (sym (append-nil other) ∙ ap (λ z. z ++ []) (mixed_other ∙ ap mix other_chunk))) before)
+    let end : (i + 1) * s ≡ i * s + s = omega arith in
+    let done : front ≡ mixed_chunks b log_n r i = sym (take_at front (one ++ rest) (i * s) long) ∙ before.done in
+    let left : one ++ rest ≡ drop (i * s) b = sym (drop_at front (one ++ rest) (i * s) long) ∙ before.rest in
+    let chunk : one ≡ part s b i = sym (take_at one rest s size) ∙ ap (take s) left in
+    let made : mixed ≡ mixed_chunk b log_n r i ++ [] = is ∙ ap (λ z. bytes_of (ro_mix (words_of z) log_n)) chunk ∙ sym (append-nil _) in
+    let both : length (front ++ mixed) ≡ (i + 1) * s = length-append front mixed ∙ omega arith in
+    record {
+      done = take_at (front ++ mixed) rest ((i + 1) * s) both ∙ ap₂ (λ y z. y ++ z) done made
+          ∙ sym (made_append (mixed_chunk b log_n r) 0 i i 1 (zero-add i));
+      rest = drop_at (front ++ mixed) rest ((i + 1) * s) both ∙ sym (drop_at one rest s size) ∙ ap (drop s) left
+          ∙ drop-drop s (i * s) b ∙ ap (λ k. drop k b) (sym end);
+    }
+
+regrouped : (p u v w : List ℕ) → p ++ (u ++ (v ++ w)) ≡ (p ++ (u ++ v)) ++ w
+regrouped p u v w = simp append_assoc
+
+-- the next two, and the next three
+module _ {b : List ℕ} {log_n r i : ℕ} (front one two : List ℕ) {mixed other : List ℕ} (long : length front ≡ i * (128 * r))
+    (size : length one ≡ 128 * r) (other_size : length two ≡ 128 * r) (full : length mixed ≡ 128 * r) (other_full : length other ≡ 128 * r)
+    (is : mixed ≡ bytes_of (ro_mix (words_of one) log_n)) (other_is : other ≡ bytes_of (ro_mix (words_of two) log_n)) where
+  pub mixed_two : (rest : List ℕ) → AreMixed b log_n r i (front ++ (one ++ (two ++ rest)))
+      → AreMixed b log_n r (i + 2) (front ++ (mixed ++ (other ++ rest)))
+  mixed_two rest before =
+      let next : i + 1 + 1 ≡ i + 2 = omega arith in
+      let begun : length (front ++ mixed) ≡ (i + 1) * (128 * r) = length-append front mixed ∙ omega arith in
+      rw (next, append_assoc, append_assoc) at (mixed_next (front ++ mixed) two rest other begun other_size other_full other_is
+      (mixed_next front one (two ++ rest) mixed long size full is before))
+
+  pub mixed_three : (three rest : List ℕ) {third : List ℕ} → length three ≡ 128 * r → length third ≡ 128 * r
+      → third ≡ bytes_of (ro_mix (words_of three) log_n) → AreMixed b log_n r i (front ++ (one ++ (two ++ (three ++ rest))))
+      → AreMixed b log_n r (i + 3) (front ++ (mixed ++ (other ++ (third ++ rest))))
+  mixed_three three rest {third} third_size third_full third_is before =
+      let next : i + 2 + 1 ≡ i + 3 = omega arith in
+      let begun : length (front ++ (mixed ++ other)) ≡ (i + 2) * (128 * r) =
+      length-append front (mixed ++ other) ∙ omega (arith, length-append mixed other) in
+      rw (next, append_assoc, append_assoc, append_assoc) at (mixed_next (front ++ (mixed ++ other)) three rest third begun third_size
+      third_full third_is (rw (regrouped front mixed other (three ++ rest)) at (mixed_two (three ++ rest) before)))
 
 -- all p chunks
 pub all_mixed : {b x : List ℕ} {log_n r : ℕ} (p : ℕ) → length x ≡ p * (128 * r) → AreMixed b log_n r p x → x ≡ mixed_chunks b log_n r p

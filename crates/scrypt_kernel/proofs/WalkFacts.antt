@@ -1,6 +1,7 @@
 -- Facts on the walk over a table that keeps some rows, or all of them.
-use Rattle.std.proofs.Common.{◌≡◌, Bool, ℕ, zero, suc, ◌<◌, ◌≤◌, ◌+◌, ◌-◌, ◌*◌, ◌/◌, ◌%◌, ◌^◌, List, length, refl, sym, ap}
-use Rattle.std.proofs.Common.{ap₂, subst, ◌∙◌, arith, add-one}
+use Rattle.std.proofs.Common.{◌≡◌, Bool, ℕ, zero, suc, ◌<◌, ◌≤◌, ◌+◌, ◌-◌, ◌*◌, ◌/◌, ◌%◌, ◌^◌, List, ◌++◌, length, refl, sym, ap}
+use Rattle.std.proofs.Common.{ap₂, subst, ◌∙◌, arith, add-one, inl, inr, length-append}
+use Rattle.std.proofs.lemmas.Bool.{cases_lt}
 use Rattle.std.proofs.lemmas.Nat.{one_shl, pow-add, pow_pos, shr_below}
 use Rattle.std.proofs.Math.Nat.{div-mul-le_self, lt_of_mul-lt-mul_left, mul-le-mul_right}
 use Rattle.scrypt_kernel.specs.Words.{part, xor_words}
@@ -13,7 +14,7 @@ use Rattle.scrypt_kernel.specs.Table.{extra_rows, recomputed_rows, thin_ro_mix_c
 use Rattle.scrypt_kernel.specs.KeptRows.{AfterSteps, AreWalkLens, IsFilled, IsNext, IsWalked, StartsWalk}
 use Rattle.scrypt_kernel.specs.Diagonal.{AreInverse, permuted}
 use Rattle.scrypt_kernel.proofs.CountFacts.{counted_both, counted_none}
-use Rattle.scrypt_kernel.proofs.PartFacts.{length-part}
+use Rattle.scrypt_kernel.proofs.PartFacts.{length-part, part_after, part_append_front, parts_apart}
 use Rattle.scrypt_kernel.proofs.OrderFacts.{standard_of}
 use Rattle.scrypt_kernel.proofs.RoMixFacts.{HoldsRows, next_step_in, row_after_in, row_zero_in}
 
@@ -48,6 +49,43 @@ filled p q inverse log_n s m size x v last end small fits count same whole held 
       };
       after = end_is ∙ row_after_in p q inverse (permuted q x) last (m * t) t (omega arith) source
           ∙ ap (λ n. permuted p (row (permuted q x) n)) there;
+    }
+
+-- half of the rows
+pub half_of_rows : (log_n : ℕ) → 0 < log_n → 2 ^ log_n ≡ 2 * 2 ^ (log_n - 1)
+half_of_rows log_n some = let parts : log_n ≡ 1 + (log_n - 1) = omega arith in ap (λ n. 2 ^ n) parts ∙ pow-add 2 1 (log_n - 1)
+
+pub half_counted : (log_n : ℕ) → 0 < log_n → log_n ≤ 56 → 1 * 2 ^ (log_n - 1) % 2 ^ 64 ≡ 2 ^ (log_n - 1)
+half_counted log_n some small = one_shl (log_n - 1) 64 (omega arith)
+
+-- the halves of a filled table, of which the second goes on with the row after the first
+pub filled_halves : (p q : List ℕ) → AreInverse p q → (log_n : ℕ) (x v y w last : List ℕ) → 0 < log_n → length x % 16 ≡ 0
+    → length y ≡ length x → IsFilled p q (log_n - 1) 0 x v y → IsFilled p q (log_n - 1) 0 y w last → IsFilled p q log_n 0 x (v ++ w) last
+filled_halves p q inverse log_n x v y w last some whole same one two =
+    let half : ℕ = 2 ^ (log_n - 1) in
+    let double : 2 ^ log_n ≡ half + half = half_of_rows log_n some ∙ omega arith in
+    let every : log_n - 1 - 0 ≡ log_n - 1 = omega arith in
+    let all : log_n - 0 ≡ log_n = omega arith in
+    let front : length v ≡ half * length x = rw every at one.len in
+    let back : length w ≡ half * length x = rw (every, same) at two.len in
+    let after : (k : ℕ) → permuted p (row (permuted q y) k) ≡ permuted p (row (permuted q x) (half + k)) =
+    λ k. row_after_in p q inverse (permuted q x) y half k (rw same whole) one.after in
+    record {
+      len = length-append v w ∙ rw (all, double) (omega (arith, front, back));
+      rows = record {
+        each = λ m h. elim (cases_lt m half) [
+          | inl lt ↦
+              part_append_front (length x) m v w (omega (arith, front, parts_apart (length x) m half lt))
+              ∙ one.rows.each m (omega arith)
+          | inr ge ↦
+              let k : ℕ = m - half in
+              let place : m ≡ half + k = omega arith in
+              let there : half + k * 1 ≡ m * 1 = omega arith in
+              ap (part (length x) (v ++ w)) place ∙ part_after (length x) half k v w front
+              ∙ rw same at (two.rows.each k (omega (arith, double, h))) ∙ after (k * 1) ∙ ap (λ n. permuted p (row (permuted q x) n)) there
+        ];
+      };
+      after = two.after ∙ after half ∙ ap (λ n. permuted p (row (permuted q x) n)) (sym double);
     }
 
 -- the kept row below row j
@@ -107,11 +145,7 @@ two_steps p log_n s size k kept start x y z one two long before b starts =
 -- the steps of all turns, two in each
 pub all_steps : (log_n k : ℕ) → 0 < log_n → log_n ≤ 56 → k ≡ 1 * 2 ^ (log_n - 1) % 2 ^ 64 → 2 * k ≡ 2 ^ log_n
 all_steps log_n k some small is =
-    let half : ℕ = log_n - 1 in
-    let shifted = one_shl half 64 (omega arith) in
-    let parts : log_n ≡ 1 + half = omega arith in
-    let double : 2 ^ log_n ≡ 2 ^ 1 * 2 ^ half = ap (λ n. 2 ^ n) parts ∙ pow-add 2 1 half in
-    omega (arith, is, shifted, double)
+    omega (arith, is, half_counted log_n some small, half_of_rows log_n some)
 
 -- before the first step
 pub no_step : (p b : List ℕ) (log_n s : ℕ) (simd : Bool) (cores : CoreCount) (kept x : List ℕ) → StartsWalk p b log_n s kept x

@@ -1,6 +1,6 @@
 -- Only functions that scrypt does not export cite this: the rows that a table keeps, and the walk over
 -- them.
-use Rattle.std.specs.Prelude.{◌≡◌, Bool, ℕ, ◌+◌, ◌-◌, ◌*◌, ◌/◌, ◌%◌, ◌^◌, ◌<◌, ◌≤◌, List, length}
+use Rattle.std.specs.Prelude.{◌≡◌, Bool, ℕ, ◌+◌, ◌-◌, ◌*◌, ◌/◌, ◌%◌, ◌^◌, ◌<◌, ◌≤◌, List, ◌++◌, length, take, drop}
 use Rattle.scrypt_kernel.specs.Words.{part}
 use Rattle.scrypt_kernel.specs.declared.cores.CoreCount.{CoreCount}
 use Rattle.scrypt_kernel.specs.Count.{AreCountedAs}
@@ -22,6 +22,10 @@ pub record IsFilled (p q : List ℕ) (log_n s : ℕ) (x kept last : List ℕ) : 
   pub len : length kept ≡ 2 ^ (log_n - s) * length x
   pub rows : KeepsRows p (permuted q x) s (length x) (2 ^ log_n) kept
   pub after : last ≡ permuted p (row (permuted q x) (2 ^ log_n))
+
+-- v from its place n on, and then what is before that place
+abbrev pub rotated : ℕ → List ℕ → List ℕ
+rotated n v = drop n v ++ take n v
 
 -- x is X before the walk for the input b, and kept holds the rows of b that the table keeps
 pub record StartsWalk (p b : List ℕ) (log_n s : ℕ) (kept x : List ℕ) : Type 0 where

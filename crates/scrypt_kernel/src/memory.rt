@@ -7,8 +7,6 @@ ghost use Rattle.scrypt_kernel.specs.Count.{AreCountedAs};
 ghost use Rattle.scrypt_kernel.specs.BlockMix.{block_mix};
 ghost use Rattle.scrypt_kernel.specs.Diagonal.{permuted};
 
-pub(crate) mod pair;
-
 use crate::block_mix::mix;
 use crate::order::Order;
 use crate::{CoreCount, words};

@@ -10,6 +10,7 @@ ghost use Rattle.scrypt_kernel.specs.RoMixCost.{AreBytesOfB, AreRoMixLens, AreTh
 ghost use Rattle.scrypt_kernel.specs.RoMixCost.{scratch_words, table_words, thin_scratch_words};
 
 pub mod pair;
+pub mod three;
 
 use crate::CoreCount;
 use crate::memory::{Buffer, Memory};

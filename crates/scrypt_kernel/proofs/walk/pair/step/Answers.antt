@@ -1,7 +1,10 @@
-use Rattle.std.proofs.Common.{◌≡◌, ◌+◌, ◌-◌, ◌*◌, ◌<◌, ◌/◌, ◌^◌, ◌≤◌, ℕ, List, length, refl, ap₂, sym, arith, ◌∙◌}
+use Rattle.std.proofs.Common.{◌≡◌, ◌+◌, ◌-◌, ◌*◌, ◌<◌, ◌/◌, ◌%◌, ◌^◌, ◌≤◌, ℕ, List, length, refl, ap₂, sym, arith, ◌∙◌}
+use Rattle.std.proofs.lemmas.Nat.{mod_below, one_shl, pow_pos}
 use Rattle.scrypt_kernel.specs.Words.{part}
+use Rattle.scrypt_kernel.specs.KeptRows.{rotated}
 use Rattle.scrypt_kernel.specs.Diagonal.{inverse_pivot, pivot}
 use Rattle.scrypt_kernel.proofs.OrderFacts.{diagonal_inverse}
+use Rattle.scrypt_kernel.proofs.PartFacts.{length-rotated, part_rotated}
 use Rattle.scrypt_kernel.proofs.WordFacts.{length-xor}
 use Rattle.scrypt_kernel.proofs.WalkFacts.{kept_inside, next_step_kept}
 use Rattle.scrypt_kernel.proofs.walk.pair.step.Goals as goal
@@ -21,10 +24,15 @@ pub part-taken-requires : goal.part-taken-requires
 part-taken-requires c =
     row_inside c.args.log_n (length c.args.x.now) _ _ _ c.integerify_diagonal.ensures.inside c.requires.lens.rows refl
 
+-- the number of all rows
+rows_are : (log_n : ℕ) → log_n ≤ 56 → 1 * 2 ^ log_n % 2 ^ 64 ≡ 2 ^ log_n
+rows_are log_n small = one_shl log_n 64 (omega arith)
+
 pub part-other_taken-requires : goal.part-other_taken-requires
 part-other_taken-requires c =
-    row_inside c.args.log_n (length c.args.other_x.now) _ _ _ c.integerify_diagonal-2.ensures.inside c.requires.other_lens.rows
-    (sym c.requires.same)
+    rw (rows_are c.args.log_n c.requires.lens.small)
+    (row_inside c.args.log_n (length c.args.other_x.now) _ _ _ (mod_below _ (2 ^ c.args.log_n) (pow_pos c.args.log_n))
+    c.requires.other_lens.rows (sym c.requires.same))
 
 pub mix_pair-requires-clause-same : goal.mix_pair-requires-clause-same
 mix_pair-requires-clause-same c =
@@ -44,7 +52,23 @@ returns-clause-value c =
 
 pub returns-clause-other_value : goal.returns-clause-other_value
 returns-clause-other_value c =
-    let j = c.integerify_diagonal-2 in
-    rw c.mix_pair.ensures.other_value (next_step_kept pivot inverse_pivot diagonal_inverse c.args.other_v.now c.args.other_x.now
-    c.part-other_taken.result.now j.result c.requires.other_lens j.ensures.value j.ensures.inside
-    (c.part-other_taken.ensures.value ∙ same_row _ _ j.result c.args.other_v.now (omega arith)) (omega arith) (omega arith))
+    let j = c.integerify_diagonal-other_j in
+    let rows : ℕ = 2 ^ c.args.log_n in
+    let size : ℕ = length c.args.x.now in
+    let lens = c.requires.other_lens in
+    let every : c.args.log_n - 0 ≡ c.args.log_n = omega arith in
+    let all : length c.args.other_v.now ≡ rows * size = rw (every, c.requires.same) at lens.rows in
+    let long = length-rotated size rows c.args.start c.args.other_v.now all c.requires.start in
+    let place = rw (rows_are c.args.log_n lens.small) at c.part-other_taken.ensures.value in
+    let turned = part_rotated size rows c.args.start c.args.other_v.now all c.requires.start j.result j.ensures.inside in
+    rw c.mix_pair.ensures.other_value (next_step_kept pivot inverse_pivot diagonal_inverse
+    (rotated (c.args.start * size) c.args.other_v.now) c.args.other_x.now c.part-other_taken.result.now j.result
+    (record {
+      row = lens.row;
+      small = lens.small;
+      spacing = lens.spacing;
+      scratch = lens.scratch;
+      room = lens.room;
+      rows = rw (every, c.requires.same) long;
+    }) j.ensures.value j.ensures.inside
+    (place ∙ turned ∙ same_row _ _ j.result _ (omega arith)) (omega arith) (omega arith))

@@ -23,8 +23,8 @@ pairs-preserved c =
     let more = two_steps pivot c.args.log_n 0 in
     record {
       walked = more _ _ _ _ _ _ _ (rw c.pairs.auto.x at one.value) (rw long at two.value) refl before.walked;
-      other_walked = more _ _ _ _ _ _ _ (rw c.pairs.auto.other_x at one.other_value) (rw other_long at two.other_value) refl
-          before.other_walked;
+      other_walked = more _ _ _ _ _ _ _ (rw (c.pairs.auto.other_x, c.pairs.auto.x) at one.other_value)
+          (rw (other_long, long) at two.other_value) refl before.other_walked;
       counted = counted_both _ (counted_both _ before.counted (rw c.pairs.auto.x at one.counted) refl)
           (rw long at two.counted) (omega arith);
     }
