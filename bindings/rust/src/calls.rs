@@ -30,12 +30,12 @@ pub struct RawMemory {
     _inside: [u8; 0],
 }
 
-// The calls that make a hash in kept memory, one for each format.
-macro_rules! hash_calls {
-    ($($name:ident),*) => {
+// The calls that derive a key: arguments before the password, and those after the parameters.
+macro_rules! deriving_calls {
+    ($($name:ident($($before:ident: $first:ty)?; $($after:ident: $last:ty),*);)*) => {
         extern "C" {
             $(pub fn $name(
-                memory: *mut RawMemory,
+                $($before: $first,)?
                 password: *const u8,
                 password_len: usize,
                 salt: *const u8,
@@ -43,16 +43,17 @@ macro_rules! hash_calls {
                 log_n: u8,
                 r: u32,
                 p: u32,
-                key_len: usize,
-                text: *mut c_char,
-                capacity: usize,
-                text_len: *mut usize,
+                $($after: $last),*
             ) -> c_int;)*
         }
     };
 }
 
-hash_calls!(scrypt_hash_phc_in, scrypt_hash_mcf_in);
+deriving_calls! {
+    scrypt_kdf_mapped(; output: *mut u8, output_len: usize);
+    scrypt_hash_phc_in(memory: *mut RawMemory; key_len: usize, text: *mut c_char, capacity: usize, text_len: *mut usize);
+    scrypt_hash_mcf_in(memory: *mut RawMemory; key_len: usize, text: *mut c_char, capacity: usize, text_len: *mut usize);
+}
 
 extern "C" {
     pub fn scrypt_buffer_lens(
@@ -63,17 +64,6 @@ extern "C" {
         chunks: *mut usize,
         table: *mut usize,
         scratch: *mut usize,
-    ) -> c_int;
-    pub fn scrypt_kdf_mapped(
-        password: *const u8,
-        password_len: usize,
-        salt: *const u8,
-        salt_len: usize,
-        log_n: u8,
-        r: u32,
-        p: u32,
-        output: *mut u8,
-        output_len: usize,
     ) -> c_int;
     pub fn scrypt_verify_in(
         memory: *mut RawMemory,
