@@ -71,7 +71,8 @@ static char *repeated(const char *front, char it, size_t len) {
 }
 
 /* The answer of each call has to be the hash, or the failure token and the error. */
-static void all_calls(const char *phrase, const char *setting, const char *hash, int error, const char *why) {
+static void all_calls(const char *phrase_of, const char *setting_of, const char *hash, int error, const char *why) {
+  char *phrase = phrase_of == NULL ? NULL : exact(phrase_of), *setting = exact(setting_of);
   struct crypt_data *room = calloc(1, sizeof *room);
   void *data = NULL;
   int size = 0;
@@ -90,30 +91,27 @@ static void all_calls(const char *phrase, const char *setting, const char *hash,
   check((crypt_ra(phrase, setting, &data, &size) != NULL) == (hash != NULL), why);
   free(data);
   free(room);
+  free(phrase);
+  free(setting);
 }
 
 static void hashes(void) {
   size_t i;
   for (i = 0; i < sizeof HASHED / sizeof *HASHED; i++) {
-    char *phrase = exact("password"), *setting = exact(HASHED[i].setting);
-    const char *hash = HASHED[i].hash == NULL ? exact(crypt(phrase, setting)) : HASHED[i].hash;
+    char *setting = exact(HASHED[i].setting);
+    char *hash = exact(HASHED[i].hash == NULL ? crypt("password", setting) : HASHED[i].hash);
     check(crypt_checksalt(setting) == CRYPT_SALT_OK, HASHED[i].why);
-    all_calls(phrase, setting, hash, 0, HASHED[i].why);
-    check(strncmp(hash, HASHED[i].setting, strlen("$7$4")) == 0, HASHED[i].why);
-    if (HASHED[i].hash == NULL) free((char *)hash);
-    free(phrase);
+    all_calls("password", setting, hash, 0, HASHED[i].why);
+    check(strncmp(hash, setting, strlen("$7$4")) == 0, HASHED[i].why);
+    free(hash);
     free(setting);
   }
 }
 
 static void refusals(void) {
   size_t i;
-  for (i = 0; i < sizeof REFUSED / sizeof *REFUSED; i++) {
-    char *phrase = exact("password"), *setting = exact(REFUSED[i].setting);
-    all_calls(phrase, setting, NULL, REFUSED[i].error, REFUSED[i].why);
-    free(phrase);
-    free(setting);
-  }
+  for (i = 0; i < sizeof REFUSED / sizeof *REFUSED; i++)
+    all_calls("password", REFUSED[i].setting, NULL, REFUSED[i].error, REFUSED[i].why);
   all_calls(NULL, COSTS, NULL, EINVAL, "no phrase");
   check(strcmp(crypt("password", "*0"), "*1") == 0, "a failure token is answered by another");
   check(crypt_checksalt(COSTS "s:lt$") == CRYPT_SALT_INVALID, "checksalt of a colon");
