@@ -1,5 +1,7 @@
 //! Makes hashes in both formats, verifies passwords by them, and tries each refusal.
 
+mod refused;
+
 use scrypt_c::{scrypt, DeriveError, Error, Format, Hasher, Options, Params};
 use std::collections::HashSet;
 
@@ -80,28 +82,13 @@ fn refused_salts() {
 #[test]
 fn refused_texts() {
     let hasher = in_format(Format::Phc);
-    const KEY: &str = "AAAAAAAAAAAAAAAAAAAA";
-    for (why, text, wanted) in [
+    let others = [
         ("no text", "", Error::EncodingInvalid),
         ("no field", "$7$", Error::EncodingInvalid),
-        ("not ASCII", "$scrypt$ln=ä", Error::EncodingInvalid),
-        ("another algorithm", "$argon2$c2FsdHNhbHQ$", Error::Algorithm),
-        ("a version", "$scrypt$v=1$c2FsdHNhbHQ$", Error::Version),
-        ("ln above 255", "$scrypt$ln=256$c2FsdHNhbHQ$", Error::ParamInvalid),
-        ("r of 8 in 32 bits", "$scrypt$ln=4,r=4294967304,p=1$c2FsdHNhbHQ$", Error::ParamInvalid),
-        (
-            "p of 1 in 64 bits",
-            "$scrypt$ln=4,r=8,p=18446744073709551617$c2FsdHNhbHQ$",
-            Error::ParamInvalid,
-        ),
-        ("a product of 0", "$scrypt$ln=4,r=65536,p=65536$c2FsdHNhbHQ$", Error::ParamsInvalid),
-        ("ln of 57", "$scrypt$ln=57$c2FsdHNhbHQ$", Error::ParamsInvalid),
         ("an empty key", "$7$26..../....salt$", Error::OutputSize),
-    ] {
-        let text = match wanted {
-            Error::EncodingInvalid | Error::OutputSize => text.to_string(),
-            _ => format!("{text}{KEY}"),
-        };
+    ];
+    let others = others.map(|(why, text, wanted)| (why, text.to_string(), wanted));
+    for (why, text, wanted) in refused::phc_texts().into_iter().chain(others) {
         assert_eq!(hasher.verify(&text, ""), Err(wanted), "{why}");
         assert_eq!(hasher.needs_rehash(&text), Err(wanted), "{why}");
         assert!(wanted.is_invalid_hash(), "{why}");
@@ -109,8 +96,8 @@ fn refused_texts() {
     let none = "$scrypt$ln=4,r=8,p=1";
     assert_eq!(hasher.verify(none, ""), Err(Error::PasswordInvalid), "no salt and no key");
     assert_eq!(hasher.needs_rehash(none), Ok(true), "no salt and no key");
-    let large = format!("$scrypt$ln=56,r=1,p=1$c2FsdHNhbHQ${KEY}");
-    assert_eq!(hasher.verify(&large, ""), Err(Error::TooCostly), "a table of 2^63 bytes");
+    let large = "$scrypt$ln=56,r=1,p=1$c2FsdHNhbHQ$AAAAAAAAAAAAAAAAAAAA";
+    assert_eq!(hasher.verify(large, ""), Err(Error::TooCostly), "a table of 2^63 bytes");
 }
 
 #[test]
