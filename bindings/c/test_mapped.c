@@ -2,13 +2,11 @@
  * system refuses. */
 #define _DEFAULT_SOURCE
 #include "check.h"
+#include "child.h"
 #include "scrypt_c.h"
 
 #include <stdio.h>
 #include <string.h>
-#include <sys/resource.h>
-#include <sys/wait.h>
-#include <unistd.h>
 
 static void keys_of_the_rfc(void) {
   static const struct {
@@ -84,27 +82,16 @@ static void refusals(void) {
 /* In a child that may take 64 MiB more than it has, a table of 1 GiB is refused, and one of 16 MiB is not. */
 static int in_little_memory(void) {
   uint8_t key[4] = {1, 2, 3, 4};
-  unsigned long pages = 0;
-  struct rlimit most;
-  FILE *file = fopen("/proc/self/statm", "r");
-  if (file == NULL || fscanf(file, "%lu", &pages) != 1) return 2;
-  fclose(file);
-  most.rlim_cur = most.rlim_max = (rlim_t)pages * (rlim_t)sysconf(_SC_PAGESIZE) + ((rlim_t)64 << 20);
-  if (setrlimit(RLIMIT_AS, &most) != 0) return 3;
+  if (!limit_space((size_t)64 << 20)) return 3;
   if (scrypt_kdf_mapped(b(""), 0, b(""), 0, 20, 8, 1, key, 4) != SCRYPT_OUT_OF_MEMORY) return 4;
   if (memcmp(key, "\1\2\3\4", 4) != 0) return 5;
   return scrypt_kdf_mapped(b(""), 0, b(""), 0, 14, 8, 1, key, 4) == SCRYPT_OK ? 0 : 6;
 }
 
 int main(void) {
-  int status = -1;
-  pid_t child;
   keys_of_the_rfc();
   keys_as_scrypt_kdf();
   refusals();
-  child = fork();
-  if (child == 0) _exit(in_little_memory());
-  check(child > 0 && waitpid(child, &status, 0) == child, "a child");
-  check(WIFEXITED(status) && WEXITSTATUS(status) == 0, "a mapping that is refused");
+  in_a_child(in_little_memory, "a mapping that is refused");
   return failed;
 }

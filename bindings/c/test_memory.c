@@ -2,13 +2,11 @@
  * system that refuses memory. */
 #define _DEFAULT_SOURCE
 #include "check.h"
+#include "child.h"
 #include "scrypt_c.h"
 
 #include <string.h>
-#include <sys/resource.h>
-#include <sys/wait.h>
 #include <time.h>
-#include <unistd.h>
 
 /* Whether a checker watches this run, which takes memory and time of its own. */
 #ifdef __SANITIZE_ADDRESS__
@@ -19,15 +17,6 @@
 
 static scrypt_memory *bounded(void) { return scrypt_memory_new(SCRYPT_MOST_BYTES, SCRYPT_MOST_WORK); }
 
-/* The size of this process in bytes: which 0 is its address space, and 1 what of it is in memory. */
-static size_t process_size(int which) {
-  unsigned long pages[2] = {0, 0};
-  FILE *file = fopen("/proc/self/statm", "r");
-  if (file == NULL || fscanf(file, "%lu %lu", &pages[0], &pages[1]) != 2) return 0;
-  fclose(file);
-  return (size_t)pages[which] * (size_t)sysconf(_SC_PAGESIZE);
-}
-
 /* Growing, shrinking and growing again, in one memory. */
 static const struct {
   uint8_t log_n;
@@ -36,6 +25,24 @@ static const struct {
 } PARAMS[] = {{4, 1, 1, 64}, {14, 8, 1, 32}, {0, 1, 1, 1},      {10, 8, 16, 64}, {4, 7, 2, 33},
               {15, 8, 1, 64}, {1, 1, 3, 31}, {2, 1, 20000, 64}, {12, 7, 2, 100}};
 
+typedef int hash_call(const uint8_t *, size_t, const uint8_t *, size_t, uint8_t, uint32_t, uint32_t, size_t, char *,
+                      size_t, size_t *);
+typedef int hash_in_call(scrypt_memory *, const uint8_t *, size_t, const uint8_t *, size_t, uint8_t, uint32_t, uint32_t,
+                         size_t, char *, size_t, size_t *);
+
+/* A hash made in memory is the one made without it, and accepts its password and no other. */
+static void check_hashes(hash_call *make, scrypt_memory *memory, hash_in_call *make_in, uint8_t log_n, uint32_t r,
+                         uint32_t p, const char *format) {
+  char text[SCRYPT_PHC_CAPACITY], same[SCRYPT_PHC_CAPACITY];
+  size_t text_len = 0, same_len = 0;
+  check(make(b("pw"), 2, b("salt"), 4, log_n, r, p, 32, text, sizeof text, &text_len) == SCRYPT_OK, format);
+  check(make_in(memory, b("pw"), 2, b("salt"), 4, log_n, r, p, 32, same, sizeof same, &same_len) == SCRYPT_OK, format);
+  check(text_len == same_len && memcmp(text, same, text_len) == 0, format);
+  check(scrypt_verify_in(memory, b("pw"), 2, text, text_len) == SCRYPT_OK, format);
+  check(scrypt_verify_in(memory, b("PW"), 2, text, text_len) == SCRYPT_MISMATCH, "another password");
+  check(scrypt_verify_in(memory, b(""), 0, text, text_len) == SCRYPT_MISMATCH, "no password");
+}
+
 static void results_as_without(void) {
   scrypt_memory *memory = bounded();
   uint8_t one[100], other[100];
@@ -43,25 +50,13 @@ static void results_as_without(void) {
   for (i = 0; i < sizeof PARAMS / sizeof PARAMS[0]; i++) {
     uint8_t log_n = PARAMS[i].log_n;
     uint32_t r = PARAMS[i].r, p = PARAMS[i].p;
-    char text[SCRYPT_PHC_CAPACITY], same[SCRYPT_PHC_CAPACITY];
-    size_t text_len = 0, same_len = 0;
     memset(one, 7, sizeof one);
     memset(other, 7, sizeof other);
     check(scrypt_kdf(b("pw"), 2, b("salt"), 4, log_n, r, p, one, PARAMS[i].len) == SCRYPT_OK, "kdf");
     check(scrypt_kdf_in(memory, b("pw"), 2, b("salt"), 4, log_n, r, p, other, PARAMS[i].len) == SCRYPT_OK, "kdf in");
     check(memcmp(one, other, sizeof one) == 0, "the key of scrypt_kdf, and nothing after it");
-    check(scrypt_hash_phc(b("pw"), 2, b("salt"), 4, log_n, r, p, 32, text, sizeof text, &text_len) == SCRYPT_OK, "phc");
-    check(scrypt_hash_phc_in(memory, b("pw"), 2, b("salt"), 4, log_n, r, p, 32, same, sizeof same, &same_len) ==
-              SCRYPT_OK, "phc in");
-    check(text_len == same_len && memcmp(text, same, text_len) == 0, "the text of scrypt_hash_phc");
-    check(scrypt_verify_in(memory, b("pw"), 2, text, text_len) == SCRYPT_OK, "the password");
-    check(scrypt_verify_in(memory, b("PW"), 2, text, text_len) == SCRYPT_MISMATCH, "another password");
-    check(scrypt_hash_mcf(b("pw"), 2, b("salt"), 4, log_n, r, p, 32, text, sizeof text, &text_len) == SCRYPT_OK, "mcf");
-    check(scrypt_hash_mcf_in(memory, b("pw"), 2, b("salt"), 4, log_n, r, p, 32, same, sizeof same, &same_len) ==
-              SCRYPT_OK, "mcf in");
-    check(text_len == same_len && memcmp(text, same, text_len) == 0, "the text of scrypt_hash_mcf");
-    check(scrypt_verify_in(memory, b("pw"), 2, text, text_len) == SCRYPT_OK, "the password of a $7$ hash");
-    check(scrypt_verify_in(memory, b(""), 0, text, text_len) == SCRYPT_MISMATCH, "no password");
+    check_hashes(scrypt_hash_phc, memory, scrypt_hash_phc_in, log_n, r, p, "PHC");
+    check_hashes(scrypt_hash_mcf, memory, scrypt_hash_mcf_in, log_n, r, p, "MCF");
   }
   check(scrypt_kdf_in(memory, NULL, 0, NULL, 0, 4, 1, 1, one, 4) == SCRYPT_OK, "NULL with length 0");
   check(memcmp(one, "\x77\xd6\x57\x62", 4) == 0, "the first key of RFC 7914, section 12");
@@ -299,9 +294,7 @@ static int in_little_memory(void) {
   int status = -1, other_status = -1;
   uint8_t key[4] = {1, 2, 3, 4};
   scrypt_memory *memory = bounded();
-  struct rlimit most;
-  most.rlim_cur = most.rlim_max = (rlim_t)process_size(0) + ((rlim_t)64 << 20);
-  if (setrlimit(RLIMIT_AS, &most) != 0) return 3;
+  if (!limit_space((size_t)64 << 20)) return 3;
   if (scrypt_kdf_in(memory, b(""), 0, b(""), 0, 17, 8, 1, key, 4) != SCRYPT_OUT_OF_MEMORY) return 4;
   if (memcmp(key, "\1\2\3\4", 4) != 0) return 5;
   if (scrypt_kdf_in(memory, b(""), 0, b(""), 0, 14, 8, 1, key, 4) != SCRYPT_OK) return 6;
@@ -330,8 +323,7 @@ static void many_calls(int count, int is_watched) {
 }
 
 int main(int argc, char **argv) {
-  int status = -1, small = argc > 1 && strcmp(argv[1], "small") == 0, is_watched = IS_WATCHED || small;
-  pid_t child;
+  int small = argc > 1 && strcmp(argv[1], "small") == 0, is_watched = IS_WATCHED || small;
   results_as_without();
   bounds();
   hostile_hashes(is_watched);
@@ -340,9 +332,6 @@ int main(int argc, char **argv) {
   can_use();
   two_at_once();
   many_calls(is_watched ? 1000 : 100000, is_watched);
-  child = fork();
-  if (child == 0) _exit(in_little_memory());
-  check(child > 0 && waitpid(child, &status, 0) == child, "a child");
-  check(WIFEXITED(status) && WEXITSTATUS(status) == 0, "a mapping that is refused");
+  in_a_child(in_little_memory, "a mapping that is refused");
   return failed;
 }

@@ -2,12 +2,10 @@
  * which the limits of this test have room, and not for the table. Each call that allocates touches little memory then. */
 #define _DEFAULT_SOURCE
 #include "check.h"
+#include "child.h"
 #include "scrypt_c.h"
 
 #include <string.h>
-#include <sys/resource.h>
-#include <sys/wait.h>
-#include <unistd.h>
 
 /* What the limits allow beyond what the process has, what a call may touch, and the seconds of processor for all. */
 enum { MORE_GIB = 4, TOUCHED_KIB = 4096, SECONDS = 5 };
@@ -72,25 +70,18 @@ static const struct {
     {"scrypt_verify_two_in", verify_two_in},
 };
 
-/* The address space of this process in bytes, and the most of its memory that was touched, in KiB. */
-static rlim_t space(void) {
-  unsigned long pages = 0;
-  FILE *file = fopen("/proc/self/statm", "r");
-  if (file == NULL || fscanf(file, "%lu", &pages) != 1) return 0;
-  fclose(file);
-  return (rlim_t)pages * (rlim_t)sysconf(_SC_PAGESIZE);
-}
+/* The most memory that this process has touched, in KiB. */
 static long touched(void) {
   struct rusage usage;
   return getrusage(RUSAGE_SELF, &usage) == 0 ? usage.ru_maxrss : 0;
 }
 
-static int limit(int what, rlim_t most) {
-  const struct rlimit limits = {most, most};
-  return setrlimit(what, &limits) == 0;
+static int limit_seconds(void) {
+  const struct rlimit most = {SECONDS, SECONDS};
+  return setrlimit(RLIMIT_CPU, &most) == 0;
 }
 
-static int is_refused(const char *name, int (*call)(void)) {
+static void check_refused(const char *name, int (*call)(void)) {
   long before = touched();
   int status;
   memset(key, 7, sizeof key);
@@ -100,41 +91,38 @@ static int is_refused(const char *name, int (*call)(void)) {
   check(status == SCRYPT_OUT_OF_MEMORY, name);
   check(key[0] == 7 && text[0] == '!' && text_len == 77, name);
   check(touched() - before < TOUCHED_KIB, name);
-  return !failed;
 }
 
 /* In a child: address space for the chunks, and not for a table. */
-static int are_refused(void) {
+static int within_limits(void) {
   size_t i;
   memory = scrypt_memory_new(SIZE_MAX, UINT64_MAX);
-  if (!limit(RLIMIT_CPU, SECONDS) || !limit(RLIMIT_AS, space() + ((rlim_t)MORE_GIB << 30))) return 0;
-  for (i = 0; i < sizeof CALLS / sizeof CALLS[0]; i++) is_refused(CALLS[i].name, CALLS[i].call);
+  if (!limit_seconds() || !limit_space((size_t)MORE_GIB << 30)) return 2;
+  for (i = 0; i < sizeof CALLS / sizeof CALLS[0]; i++) check_refused(CALLS[i].name, CALLS[i].call);
   scrypt_memory_free(memory);
-  return !failed;
+  return failed;
 }
 
 /* In a child: no room for the recommended table of 128 MiB. */
-static int is_new_refused(void) {
-  if (!limit(RLIMIT_CPU, SECONDS) || !limit(RLIMIT_AS, space() + ((rlim_t)64 << 20))) return 0;
-  return is_refused("scrypt_hash_new", hash_new);
+static int new_within_limits(void) {
+  if (!limit_seconds() || !limit_space((size_t)64 << 20)) return 2;
+  check_refused("scrypt_hash_new", hash_new);
+  return failed;
 }
 
 /* Without limits: no system has 2^63 bytes. */
-static int are_refused_by_the_system(void) {
-  if (!limit(RLIMIT_CPU, SECONDS)) return 0;
-  return is_refused("kdf", kdf) && is_refused("phc", phc) && is_refused("mcf", mcf) && is_refused("verify", verify_mcf);
-}
-
-static void in_a_child(int (*test)(void), const char *name) {
-  int status = -1;
-  pid_t child = fork();
-  if (child == 0) _exit(test() ? 0 : 1);
-  check(child > 0 && waitpid(child, &status, 0) == child && WIFEXITED(status) && WEXITSTATUS(status) == 0, name);
+static int without_limits(void) {
+  if (!limit_seconds()) return 2;
+  check_refused("kdf", kdf);
+  check_refused("phc", phc);
+  check_refused("mcf", mcf);
+  check_refused("verify", verify_mcf);
+  return failed;
 }
 
 int main(void) {
-  in_a_child(are_refused, "within limits");
-  in_a_child(is_new_refused, "a new hash within limits");
-  in_a_child(are_refused_by_the_system, "without limits");
+  in_a_child(within_limits, "within limits");
+  in_a_child(new_within_limits, "a new hash within limits");
+  in_a_child(without_limits, "without limits");
   return failed;
 }

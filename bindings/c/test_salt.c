@@ -2,6 +2,7 @@
  * does scrypt_hash_new. */
 #define _DEFAULT_SOURCE
 #include "check.h"
+#include "child.h"
 #include "scrypt_c.h"
 
 #include <errno.h>
@@ -11,8 +12,6 @@
 #include <string.h>
 #include <sys/prctl.h>
 #include <sys/syscall.h>
-#include <sys/wait.h>
-#include <unistd.h>
 
 static void drawn(void) {
   uint8_t one[18] = {0}, other[18] = {0}, none = 7;
@@ -49,13 +48,8 @@ static int refused(void) {
 }
 
 int main(void) {
-  int status = -1;
-  pid_t child;
   drawn();
   many();
-  child = fork();
-  if (child == 0) _exit(refused());
-  check(child > 0 && waitpid(child, &status, 0) == child, "a child");
-  check(WIFEXITED(status) && WEXITSTATUS(status) == 0, "a system without random bytes");
+  in_a_child(refused, "a system without random bytes");
   return failed;
 }
