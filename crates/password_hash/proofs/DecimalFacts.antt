@@ -1,7 +1,6 @@
 -- Decimal digits.
-use Rattle.std.proofs.Common.{◌≡◌, ◌≢◌, ◌&&◌, ℕ, ◌^◌, ◌<◌, ◌≤◌, true, false, nat_lt, IsTrue, List, [], ◌∷◌}
-use Rattle.std.proofs.Common.{length, get_or, slice_index, Option, None, Some, Result, Ok, Err, refl, sym}
-use Rattle.std.proofs.Common.{ap, ◌∙◌, arith, inl, inr}
+use Rattle.std.proofs.Common.{◌≡◌, ◌≢◌, ◌&&◌, ℕ, ◌^◌, ◌<◌, ◌≤◌, true, false, nat_lt, IsTrue, List, [], ◌∷◌, length, get_or, slice_index}
+use Rattle.std.proofs.Common.{Option, None, Some, Result, Ok, Err, refl, sym, ap, ◌∙◌, arith, inl, inr}
 use Rattle.std.specs.Prelude.{decimal, IfSome}
 use Rattle.std.specs.List.{list_all}
 use Rattle.std.specs.Result.{OkIff, result_ok}

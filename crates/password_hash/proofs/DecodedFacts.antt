@@ -24,8 +24,7 @@ bytes_of_number-are_bytes : (count number : ℕ) → AreBytes (bytes_of_number c
 unfolding bytes_of_number
 bytes_of_number-are_bytes zero number = All-nil (λ b. b < 256)
 bytes_of_number-are_bytes (suc count) number =
-    All-cons (λ b. b < 256) (number % 256) (bytes_of_number count (number / 256)) (omega arith)
-    (bytes_of_number-are_bytes count (number / 256))
+    All-cons (λ b. b < 256) (number % 256) _ (omega arith) (bytes_of_number-are_bytes count (number / 256))
 
 -- letters that encode bytes are decoded as these
 pub decoded_is : (bytes letters : List ℕ) → Crypt64 bytes letters → decoded letters ≡ Some bytes

@@ -21,20 +21,17 @@ join_lacks : (c separator : ℕ) → (separator == c) ≡ false → (pieces : Li
 join_lacks c separator other [] h = All-nil (λ b. (b == c) ≡ false)
 join_lacks c separator other (piece ∷ []) h = All-head (Lacks c) piece [] h
 join_lacks c separator other (piece ∷ next ∷ pieces) h =
-    All-append (λ b. (b == c) ≡ false) piece (separator ∷ join_with_byte separator (next ∷ pieces))
-    (All-head (Lacks c) piece (next ∷ pieces) h)
-    (All-cons (λ b. (b == c) ≡ false) separator (join_with_byte separator (next ∷ pieces)) other
+    All-append (λ b. (b == c) ≡ false) piece _ (All-head (Lacks c) piece (next ∷ pieces) h)
+    (All-cons (λ b. (b == c) ≡ false) separator _ other
     (join_lacks c separator other (next ∷ pieces) (All-tail (Lacks c) piece (next ∷ pieces) h)))
 
 version_lacks : (version : Option ℕ) → IsVersion version → All (Lacks 36) (version_part version)
 version_lacks None h = All-nil (Lacks 36)
 version_lacks (Some number) h =
-    All-from_recursion (Lacks 36) ((codes "v=" ++ decimal number) ∷ []) (
-      All-append (λ b. (b == 36) ≡ false) (codes "v=") (decimal number)
-          (All-from_recursion (λ b. (b == 36) ≡ false) (codes "v=") (refl, (refl, tt)))
-          (letters_lack is_value_letter 36 refl (decimal number) (IsValue-decimal number h).letters),
-      tt,
-    )
+    let equals = All-from_recursion (λ b. (b == 36) ≡ false) (codes "v=") (refl, (refl, tt)) in
+    let digits = letters_lack is_value_letter 36 refl (decimal number) (IsValue-decimal number h).letters in
+    let whole = All-append (λ b. (b == 36) ≡ false) (codes "v=") (decimal number) equals digits in
+    All-from_recursion (Lacks 36) ((codes "v=" ++ decimal number) ∷ []) (whole, tt)
 
 params_lack : (params : List (List ℕ × List ℕ)) → ArePairs params → All (Lacks 36) (params_part params)
 params_lack [] h = All-nil (Lacks 36)
@@ -55,12 +52,10 @@ salt_and_key_lack c other (Some salt) (Some key) hs hk =
 -- no part of a hash has a `$`
 pub parts_lack : (text : List ℕ) (hash : PasswordHash) → IsHashText text hash → All (Lacks 36) (hash_parts hash)
 parts_lack text hash h =
-    All-cons (Lacks 36) hash.algorithm (version_part hash.version ++ (params_part hash.params ++ salt_and_key_parts hash.salt hash.hash))
-    (letters_lack is_identifier_letter 36 refl hash.algorithm h.algorithm.letters)
-    (All-append (Lacks 36) (version_part hash.version) (params_part hash.params ++ salt_and_key_parts hash.salt
-    hash.hash) (version_lacks hash.version h.version)
-    (All-append (Lacks 36) (params_part hash.params) (salt_and_key_parts hash.salt hash.hash)
-    (params_lack hash.params h.params) (salt_and_key_lack 36 refl hash.salt hash.hash h.salt h.key)))
+    All-cons (Lacks 36) hash.algorithm _ (letters_lack is_identifier_letter 36 refl hash.algorithm h.algorithm.letters)
+    (All-append (Lacks 36) (version_part hash.version) _ (version_lacks hash.version h.version)
+    (All-append (Lacks 36) (params_part hash.params) _ (params_lack hash.params h.params)
+    (salt_and_key_lack 36 refl hash.salt hash.hash h.salt h.key)))
 
 -- the text of parameters does not begin with `v=`, since no name is `v`
 params_no_version : (params : List (List ℕ × List ℕ)) → ArePairs params → LackVersion (params_part params)

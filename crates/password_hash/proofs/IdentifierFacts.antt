@@ -13,11 +13,8 @@ use Rattle.password_hash.specs.Letters.{is_identifier_letter}
 -- an identifier is ASCII
 pub identifier_ascii : (xs : List ℕ) → IsTrue (list_all is_identifier_letter xs) → IsAscii xs
 identifier_ascii xs h =
-    IsAscii-from_all xs (All-weaker (λ b. is_identifier_letter b ≡ true) (λ b. b < 128) small xs
-    (AllPass-from_list_all is_identifier_letter xs h))
-  where
-    small : (b : ℕ) → is_identifier_letter b ≡ true → b < 128
-    small b h = grind (arith, nat_tests)
+    let small : (b : ℕ) → is_identifier_letter b ≡ true → b < 128 = λ b is. grind (arith, nat_tests) in
+    IsAscii-from_all xs (All-weaker _ (λ b. b < 128) small xs (AllPass-from_list_all is_identifier_letter xs h))
 
 -- what `from_utf8` answers of ASCII bytes
 pub ascii_is_text : {T E : Type 0} (P : T → Type 0) (Q : E → Type 0) (bs : List ℕ) (r : Result T E)

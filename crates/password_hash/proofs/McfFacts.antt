@@ -27,8 +27,7 @@ IsField-crypt64_of bytes = All-weaker IsPlain (λ byte. byte ≢ dollar) (λ byt
 -- the parts of an MCF text
 pub parts_of-IsMcfText : (text id : List ℕ) (fields : List (List ℕ)) → IsMcfText text id fields → parts_of text ≡ [] ∷ id ∷ fields
 parts_of-IsMcfText text id fields is =
-    let none : All (Lacks dollar) ([] ∷ id ∷ fields) =
-    All-cons (Lacks dollar) [] (id ∷ fields) (All-nil (λ byte. (byte == dollar) ≡ false))
+    let none = All-cons (Lacks dollar) [] (id ∷ fields) (All-nil (λ byte. (byte == dollar) ≡ false))
     (All-cons (Lacks dollar) id fields (letters_lack is_identifier_letter dollar refl id is.is_id.1)
     (All-weaker IsField (Lacks dollar) no_dollar fields is.are_fields)) in
     parts_of-parts_text text [] (id ∷ fields) none (ap (λ text. dollar ∷ text) is.written)
@@ -42,8 +41,7 @@ are_fields-slice_split (byte ∷ text) = elim (cases_Bool (byte == dollar)) [
 ]
   where
     onto : (parts : List (List ℕ)) → byte ≢ dollar → All IsField parts → All IsField (onto_first byte parts)
-    onto [] other each = All-cons IsField (byte ∷ []) [] (All-cons (λ b. b ≢ dollar) byte [] other
-        (All-nil (λ b. b ≢ dollar))) (All-nil IsField)
+    onto [] other each = All-cons IsField (byte ∷ []) [] (All-cons (λ b. b ≢ dollar) byte [] other (All-nil _)) (All-nil IsField)
     onto (part ∷ parts) other each =
         All-cons IsField (byte ∷ part) parts
         (All-cons (λ b. b ≢ dollar) byte part other (All-head IsField part parts each)) (All-tail IsField part parts each)

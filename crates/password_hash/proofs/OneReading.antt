@@ -1,6 +1,5 @@
 -- A text has at most one reading.
-use Rattle.std.proofs.Common.{◌≡◌, ℕ, ◌==◌, List, [], ◌∷◌, ◌++◌, drop}
-use Rattle.std.proofs.Common.{refl, sym, ap, subst, ◌∙◌}
+use Rattle.std.proofs.Common.{◌≡◌, ℕ, ◌==◌, List, [], ◌∷◌, ◌++◌, drop, refl, sym, ap, subst, ◌∙◌}
 use Rattle.std.specs.Prelude.{All, Option, None, Some, decimal}
 use Rattle.std.specs.List.{slice_split}
 use Rattle.std.proofs.lemmas.Bool.{false≢true, eq-eqb}
@@ -8,8 +7,7 @@ use Rattle.std.proofs.lemmas.List.Elements.{All-head}
 use Rattle.password_hash.specs.Crypt64.{Crypt64}
 use Rattle.password_hash.specs.Pairs.{pairs_text, ArePairs}
 use Rattle.password_hash.specs.PhcParts.{IsVersion, LackVersion, LackEquals}
-use Rattle.password_hash.specs.Phc.{version_part, params_part, salt_and_key_parts, hash_parts}
-use Rattle.password_hash.specs.Phc.{hash_text, IsHashText}
+use Rattle.password_hash.specs.Phc.{version_part, params_part, salt_and_key_parts, hash_parts, hash_text, IsHashText}
 use Rattle.password_hash.specs.declared.phc.hash.PasswordHash.{PasswordHash}
 use Rattle.password_hash.proofs.DecimalFacts.{IsDecimal-decimal}
 use Rattle.password_hash.proofs.DecodedFacts.{decoded_is}

@@ -1,7 +1,7 @@
 -- Pairs and their text.
 use Rattle.std.proofs.Common.{◌≡◌, ℕ, suc, ◌+◌, ◌<◌, ◌==◌, Bool, true, false, IsTrue, List, [], ◌∷◌, ◌++◌}
 use Rattle.std.proofs.Common.{length, map, refl, sym, ap, subst, ◌∙◌, arith}
-use Rattle.std.specs.Prelude.{All}
+use Rattle.std.specs.Prelude.{All, nat_eq}
 use Rattle.std.specs.List.{list_all, join_with_byte, slice_split, before_first, after_first, position_or_len}
 use Rattle.std.proofs.lemmas.Bool.{and_parts, ne_eqb, eq-eqb, false≢true}
 use Rattle.std.proofs.lemmas.List.{take_all, drop_all, take_at, drop_at, append_assoc, length-append, length-drop}
@@ -10,7 +10,6 @@ use Rattle.std.proofs.lemmas.List.Sums.{position_or_len_is, AllPass-from_list_al
 use Rattle.std.proofs.lemmas.List.Splits.{slice_split_none, slice_split_at}
 use Rattle.std.proofs.lemmas.List.Elements.{All-cons, All-head, All-tail, All-append, All-get_or, All-map, All-weaker}
 use Rattle.std.specs.Bool.{Decides}
-use Rattle.std.specs.Prelude.{nat_eq}
 use Rattle.std.specs.Cmp.Lexicographic.{pointwise}
 use Rattle.std.proofs.lemmas.Slice.Eq.{bytes_eq-Decides, slice_eq-Decides}
 use Rattle.password_hash.specs.Letters.{IsIdentifier, is_identifier_letter, is_value_letter}
@@ -64,8 +63,7 @@ pub slice_split-join : (c : ℕ) (piece : List ℕ) (pieces : List (List ℕ)) �
     → slice_split (λ b. b == c) (join_with_byte c (piece ∷ pieces)) ≡ piece ∷ pieces
 slice_split-join c piece [] none = slice_split_none (λ b. b == c) piece (All-head (Lacks c) piece [] none)
 slice_split-join c piece (next ∷ pieces) none =
-    slice_split_at (λ b. b == c) piece c (join_with_byte c (next ∷ pieces)) (All-head (Lacks c) piece (next ∷ pieces)
-    none) (eq-eqb c c refl)
+    slice_split_at (λ b. b == c) piece c _ (All-head (Lacks c) piece (next ∷ pieces) none) (eq-eqb c c refl)
     ∙ ap (λ rest. piece ∷ rest) (slice_split-join c next pieces (All-tail (Lacks c) piece (next ∷ pieces) none))
 
 -- each text of a pair lacks a byte that no pair has

@@ -1,23 +1,20 @@
 -- One more pair at the end, and the pairs of a text in turn.
 use Rattle.std.proofs.Common.{◌≡◌, ◌≢◌, ℕ, ◌+◌, ◌<◌, ◌≤◌, ◌==◌, Bool, List, [], ◌∷◌, ◌++◌, min, length, take, drop, map}
 use Rattle.std.proofs.Common.{get_or, refl, sym, ap, subst, ◌∙◌, arith}
-use Rattle.std.specs.Prelude.{◌↔◌, All, Result, Ok, Err, IsOk, OnOk, OnErr}
+use Rattle.std.specs.Prelude.{◌↔◌, All, Result, Ok, Err, IsOk, OnOk, OnErr, nat_eq}
 use Rattle.std.specs.List.{join_with_byte, slice_split, after_first, position_or_len}
 use Rattle.std.proofs.lemmas.Bool.{eqb-true, false≢true}
-use Rattle.std.proofs.lemmas.List.{append-nil, append_assoc, length-append, get_or_append_left, get_or_push}
-use Rattle.std.proofs.lemmas.List.{length_push, take-append-drop, length-take, get_or-take, take_more, take-map}
-use Rattle.std.proofs.lemmas.List.{map-append, map_push, length-drop}
+use Rattle.std.proofs.lemmas.List.{append-nil, append_assoc, length-append, get_or_append_left, get_or_push, length_push, take-append-drop}
+use Rattle.std.proofs.lemmas.List.{length-take, get_or-take, take_more, take-map, map-append, map_push, length-drop}
 use Rattle.std.proofs.lemmas.List.Sums.{split_at_first, passes_at_first}
 use Rattle.std.proofs.lemmas.List.Elements.{All-head, All-push, All-tail, All-take}
 use Rattle.std.proofs.lemmas.List.Quantifiers.{all_pairs_push}
 use Rattle.std.specs.Bool.{Decides}
-use Rattle.std.specs.Prelude.{nat_eq}
 use Rattle.std.specs.Cmp.Lexicographic.{pointwise}
 use Rattle.std.proofs.lemmas.Bool.Decides.{same_from_decides}
 use Rattle.std.proofs.lemmas.Slice.Eq.{bytes_eq-Decides}
 use Rattle.password_hash.specs.Pairs.{IsPair, pair_text, pairs_text, ArePairs, pair_of, pairs_of, pair_eq, with_pair, IsPairsText}
-use Rattle.password_hash.proofs.PairsFacts.{length_pairs_text}
-use Rattle.password_hash.proofs.PairsFacts.{pairs_of-pairs_text, pairs_of_some, kept_as_text, pairs_eq-Decides}
+use Rattle.password_hash.proofs.PairsFacts.{length_pairs_text, pairs_of-pairs_text, pairs_of_some, kept_as_text, pairs_eq-Decides}
 
 -- two rows of pieces in a row
 join_append : (c : ℕ) (first : List ℕ) (pieces : List (List ℕ)) (next : List ℕ) (others : List (List ℕ))

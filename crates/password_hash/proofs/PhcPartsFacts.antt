@@ -3,8 +3,7 @@ use Rattle.std.proofs.lemmas.Str.Pattern.{contains_char}
 use Rattle.std.proofs.Common.{◌≡◌, ◌≢◌, ℕ, suc, ◌+◌, ◌*◌, ◌/◌, ◌%◌, ◌<◌, ◌==◌, false, List, [], ◌∷◌}
 use Rattle.std.proofs.Common.{◌++◌, length, get_or, codes, slice_index, refl, sym, ap, subst, ◌∙◌, arith}
 use Rattle.std.specs.Prelude.{All, IfSome, Option, None, Some, decimal}
-use Rattle.std.specs.List.{AllByRecursion as ByRecursion}
-use Rattle.std.specs.List.{slice_split, join_with_byte}
+use Rattle.std.specs.List.{AllByRecursion as ByRecursion, slice_split, join_with_byte}
 use Rattle.std.proofs.lemmas.List.{append-nil, length-append, get_or_at}
 use Rattle.std.proofs.lemmas.List.Splits.{join_with_byte-slice_split, length-slice_split}
 use Rattle.std.proofs.lemmas.Bool.{eq-eqb, false≢true}
@@ -26,20 +25,14 @@ symbols_hold : (P : ℕ → Type 0) (t : List ℕ) → ((v : ℕ) → v < 64 →
     → ByRecursion P (encode_symbols t m)
 unfolding encode_symbols
 symbols_hold P t each [] h = tt
-symbols_hold P t each (a ∷ []) h =
-    let small_a : a < 256 = h 0 in
-    (each (a / 4) (omega arith), (each (a % 4 * 16) (omega arith), tt))
+symbols_hold P t each (a ∷ []) h = (each (a / 4) (omega (arith, h 0)), (each (a % 4 * 16) (omega arith), tt))
 symbols_hold P t each (a ∷ b ∷ []) h =
-    let small_a : a < 256 = h 0 in
-    let small_b : b < 256 = h 1 in
-    (each (a / 4) (omega arith), (each (a % 4 * 16 + b / 16) (omega arith), (each (b % 16 * 4) (omega arith), tt)))
+    let second = each (a % 4 * 16 + b / 16) (omega (arith, h 1)) in
+    (each (a / 4) (omega (arith, h 0)), (second, (each (b % 16 * 4) (omega arith), tt)))
 symbols_hold P t each (a ∷ b ∷ c ∷ m) h =
-    let small_a : a < 256 = h 0 in
-    let small_b : b < 256 = h 1 in
-    let small_c : c < 256 = h 2 in
-    let first = each (a / 4) (omega arith) in
-    let second = each (a % 4 * 16 + b / 16) (omega arith) in
-    let third = each (b % 16 * 4 + c / 64) (omega arith) in
+    let first = each (a / 4) (omega (arith, h 0)) in
+    let second = each (a % 4 * 16 + b / 16) (omega (arith, h 1)) in
+    let third = each (b % 16 * 4 + c / 64) (omega (arith, h 2)) in
     (first, (second, (third, (each (c % 64) (omega arith), symbols_hold P t each m (λ i. h (suc (suc (suc i))))))))
 
 -- Base64 lacks each byte that is not a letter of values

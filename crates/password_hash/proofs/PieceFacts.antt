@@ -1,6 +1,5 @@
 -- Facts on the letters of a piece of bytes: of whole groups of three bytes, or of all that are left.
-use Rattle.std.proofs.Common.{◌≡◌, ◌∙◌, ap, refl, arith, ℕ, ◌+◌, ◌*◌, ◌/◌, ◌<◌, ◌≤◌, List}
-use Rattle.std.proofs.Common.{length, take, drop, length-drop}
+use Rattle.std.proofs.Common.{◌≡◌, ◌∙◌, ap, refl, arith, ℕ, ◌+◌, ◌*◌, ◌/◌, ◌<◌, ◌≤◌, List, length, take, drop, length-drop}
 use Rattle.std.proofs.lemmas.List.Elements.{All-take, All-drop}
 use Rattle.password_hash.specs.Crypt64.{Crypt64, IsPiece, encoded_len}
 use Rattle.password_hash.proofs.GroupFacts.{crypt64_of-cut, length-crypt64_of}

@@ -2,7 +2,6 @@
 use Rattle.std.proofs.Common.{◌≡◌, refl, ℕ, ◌-◌, ◌<◌, ◌≤◌, Bool, true, nat_eq, List, ◌++◌, length, drop, replicate}
 use Rattle.std.proofs.Common.{slice_index, arith, rules, length-append}
 use Rattle.std.specs.Cmp.Lexicographic.{pointwise}
-use Rattle.std.proofs.lemmas.Grind.{same_number_lists}
 use Rattle.std.proofs.lemmas.List.{length-replicate, drop-replicate}
 use Rattle.std.proofs.lemmas.Slice.Eq.{bytes_eq-Decides}
 use Rattle.std.proofs.Math.Seq.{take-append_seam}
@@ -19,10 +18,6 @@ stored least most new xs e some fits =
       whole = grind (arith, length-append, length-replicate);
       zeros = rw (take-append_seam xs (replicate (most - length xs) 0)) refl;
     })
-
--- lists with the same bytes at each place
-pub same_bytes : (xs ys : List ℕ) → length xs ≡ length ys → ((k : ℕ) → k < length xs → slice_index xs k ≡ slice_index ys k) → xs ≡ ys
-same_bytes xs ys = same_number_lists xs ys
 
 -- a test of two lists, by what it tells
 pub tested : (xs ys : List ℕ) (r : Bool) → (r ≡ true → xs ≡ ys) × (xs ≡ ys → r ≡ true) → r ≡ pointwise nat_eq xs ys

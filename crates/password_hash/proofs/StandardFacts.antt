@@ -1,7 +1,6 @@
 -- Texts, read and printed by the definitions alone, so that a wrong letter, order or bound in a
 -- definition does not check.
-use Rattle.std.proofs.Common.{◌≡◌, ◌+◌, ◌*◌, ◌%◌, ℕ}
-use Rattle.std.proofs.Common.{Option, List, [], ◌∷◌, ◌++◌, map, replicate, codes, None, Some, refl}
+use Rattle.std.proofs.Common.{◌≡◌, ◌+◌, ◌*◌, ◌%◌, ℕ, Option, List, [], ◌∷◌, ◌++◌, map, replicate, codes, None, Some, refl}
 use Rattle.std.specs.Prelude.{All}
 use Rattle.std.specs.Char.{digit_value}
 use Rattle.std.specs.Fmt.{digits}
@@ -12,8 +11,7 @@ use Rattle.password_hash.specs.Decimal.{decimal_below, has_plus_or_leading_zero}
 use Rattle.password_hash.specs.Mcf.{IsMcf, IsMcfText, id_of}
 use Rattle.password_hash.specs.Phc.{hash_text, IsHashText}
 use Rattle.password_hash.specs.declared.phc.hash.PasswordHash.{PasswordHash}
-use Rattle.password_hash.proofs.TextTests.{all_shown, hash_text_shown, has_no_id}
-use Rattle.password_hash.proofs.TextTests.{is_hash_text, is_mcf_text, mcf_text_shown, no_id_shown}
+use Rattle.password_hash.proofs.TextTests.{all_shown, hash_text_shown, has_no_id, is_hash_text, is_mcf_text, mcf_text_shown, no_id_shown}
 
 -- the bytes that hexadecimal digits spell, two for each
 abbrev bytes : List ℕ → List ℕ

@@ -83,7 +83,7 @@ impl<const LEAST: usize, const MOST: usize> Eq for ShortBytes<LEAST, MOST> {
 }
 
 /// Returns whether these are the same bytes. Every byte is compared, also after a difference.
-#[tactic(auto, using(crate::proofs::ShortBytesFacts::same_bytes))]
+#[tactic(auto, using(std::proofs::lemmas::Grind::same_number_lists))]
 pub(super) fn are_same(a: &[u8], b: &[u8]) -> bool
     ensures { (result ≡ true) ↔ (a.now ≡ b.now) }
 {

@@ -6,8 +6,7 @@ use Rattle.password_hash.specs.declared.phc.value.Value.{Value}
 use Rattle.password_hash.specs.Value.{value_text}
 use Rattle.password_hash.proofs.ParamsFacts.{IsAdded, added, last_pair}
 use Rattle.password_hash.proofs.phc.params.ParamsString.add.Goals as goal
-use Rattle.password_hash.proofs.phc.params.ParamsString.add.Goals.{After-push_pair}
-use Rattle.password_hash.proofs.phc.params.ParamsString.add.Goals.{then-not-is_pair-via-then-not-is_pair}
+use Rattle.password_hash.proofs.phc.params.ParamsString.add.Goals.{After-push_pair, then-not-is_pair-via-then-not-is_pair}
 use Rattle.password_hash.proofs.phc.params.ParamsString.add.Goals.{then-not-is_pair-via-else-not-is_pair+then-is_some}
 
 -- a name that was found is not new
