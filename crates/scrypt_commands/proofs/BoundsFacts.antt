@@ -7,8 +7,7 @@ use Rattle.std.specs.Prelude.{MatchOption, option_map}
 use Rattle.std.specs.Str.Pattern.{FindsTextPrefix, StripsPrefix}
 use Rattle.std.proofs.lemmas.List.{nil_from_length, take-append-drop, take_at}
 use Rattle.std.proofs.lemmas.Slice.Eq.{bytes_eq-Decides}
-use Rattle.scrypt_commands.specs.Bounds.{after_prefix, options_of}
-use Rattle.scrypt_commands.specs.Bounds.{with_option}
+use Rattle.scrypt_commands.specs.Bounds.{after_prefix, options_of, with_option}
 use Rattle.scrypt_commands.specs.declared.bounds.Bounds.{Bounds}
 use Rattle.std.proofs.lemmas.Bool.{false_from_ne_true}
 

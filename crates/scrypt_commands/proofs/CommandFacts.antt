@@ -1,12 +1,10 @@
 -- The tests of parameters and lengths.
-use Rattle.std.proofs.Common.{ℕ, Option, Some, None}
-use Rattle.std.proofs.Common.{refl, arith}
+use Rattle.std.proofs.Common.{ℕ, Option, Some, None, refl, arith}
 use Rattle.std.specs.Prelude.{IfSome}
 use Rattle.std.specs.Bool.{Decides}
 use Rattle.std.proofs.lemmas.Bool.Decides.{Decides-and, nat_tests}
 use Rattle.scrypt.specs.Accepted.{AreAccepted, IsOutputLen, IsStoredLen, are_accepted, is_output_len}
-use Rattle.scrypt_commands.specs.Command.{are_params_accepted}
-use Rattle.scrypt_commands.specs.Command.{is_stored_len}
+use Rattle.scrypt_commands.specs.Command.{are_params_accepted, is_stored_len}
 use Rattle.scrypt_commands.specs.Steps.{AreParamsAccepted}
 use Rattle.scrypt_commands.specs.declared.args.UncheckedParams.{UncheckedParams}
 

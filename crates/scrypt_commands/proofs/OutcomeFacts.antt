@@ -16,14 +16,12 @@ use Rattle.std.proofs.lemmas.Bool.Decides.{nat_tests}
 use Rattle.scrypt_commands.specs.Bounds.{bounds_of, command_of}
 use Rattle.scrypt_commands.specs.Command.{AreRefused, request_of}
 use Rattle.scrypt_commands.specs.CliError.{error_line, error_of, status_of}
-use Rattle.scrypt_commands.specs.Outcome.{new_outcome, rehash_outcome, verdict_outcome, wrong_outcome, HasOutcome}
-use Rattle.scrypt_commands.specs.Outcome.{HasOutcomeOf}
+use Rattle.scrypt_commands.specs.Outcome.{new_outcome, rehash_outcome, verdict_outcome, wrong_outcome, HasOutcome, HasOutcomeOf, bounded}
+use Rattle.scrypt_commands.specs.Outcome.{OnInput, Outcome, OutcomeIs, is_salt_len, new_hash, phc_text, refusal_of}
 use Rattle.scrypt_commands.specs.declared.bounds.Bounds.{Bounds}
 use Rattle.scrypt_commands.specs.declared.command.Command.{Command}
-use Rattle.scrypt_commands.specs.Outcome.{bounded, OnInput, Outcome, OutcomeIs, is_salt_len, new_hash, phc_text, refusal_of}
-use Rattle.scrypt_commands.specs.Steps.{Answers, command_outcome, answer_line, answer_status, right_of, wrong_or_error}
-use Rattle.scrypt_commands.specs.Steps.{Ends, FailsWith, IsCommandFor}
-use Rattle.scrypt_commands.specs.Steps.{no_input, no_memory, no_output, refused}
+use Rattle.scrypt_commands.specs.Steps.{Answers, command_outcome, answer_line, answer_status, right_of, wrong_or_error, Ends, FailsWith}
+use Rattle.scrypt_commands.specs.Steps.{IsCommandFor, no_input, no_memory, no_output, refused}
 use Rattle.scrypt_commands.specs.declared.answer.Answer.{Answer}
 use Rattle.scrypt_commands.specs.declared.answer.Answer.TheVariants.{Verdict}
 use Rattle.scrypt_commands.specs.declared.args.Format.TheVariants.{Phc}

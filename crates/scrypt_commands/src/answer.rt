@@ -7,8 +7,7 @@ ghost use Rattle.scrypt.specs.Reading.{verdict, weaker};
 ghost use Rattle.scrypt_commands.specs.Bounds.{rehash_limits, verify_limits};
 ghost use Rattle.scrypt_commands.specs.Command.{has_allowed_len};
 ghost use Rattle.scrypt_commands.specs.Outcome.{IsAnswer, bounded, new_hash, new_text};
-ghost use Rattle.scrypt_commands.specs.Steps.{Answers, Gives, IsPossible, answer_line, answer_status};
-ghost use Rattle.scrypt_commands.specs.Steps.{command_outcome, right_of};
+ghost use Rattle.scrypt_commands.specs.Steps.{Answers, Gives, IsPossible, answer_line, answer_status, command_outcome, right_of};
 ghost use Rattle.scrypt_commands.specs.declared.args.Target.TheVariants.{Key};
 ghost use Rattle.scrypt_commands.specs.declared.error.CliError.TheVariants.{OutOfMemory};
 

@@ -89,6 +89,7 @@ fn with_option(bounds: Option<Bounds>, word: &str) -> Option<Option<Bounds>>
 }
 
 // Returns the bounds with the one that an option names.
+#[tactic(auto, unfolding(crate::specs::Bounds::with_number))]
 fn with_number(bounds: Bounds, word: &str) -> Option<Bounds>
     ensures { result ≡ with_number bounds word.now }
 {

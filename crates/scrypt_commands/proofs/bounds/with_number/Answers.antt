@@ -2,10 +2,6 @@ use Rattle.std.proofs.Common.{◌∙◌, refl, sym}
 use Rattle.scrypt_commands.specs.Bounds.{with_number}
 use Rattle.scrypt_commands.proofs.bounds.with_number.Goals as goal
 
-pub returns-in-Some : goal.returns-in-Some
-unfolding with_number
-returns-in-Some c = rw (sym c.number.ensures ∙ c.in-Some.is) refl
-
 pub returns-in-Some-number : goal.returns-in-Some-number
 unfolding with_number
 returns-in-Some-number c =
@@ -18,11 +14,3 @@ returns-in_ok-number-in-None-number c = rw (
   sym c.number-in-None.ensures ∙ c.in-None-number.is,
   sym c.number-in-None-number.ensures ∙ c.in_ok-number-in-None-number.was,
 ) refl
-
-pub returns-in_err-number-in-None-number : goal.returns-in_err-number-in-None-number
-unfolding with_number
-returns-in_err-number-in-None-number c = rw (
-  sym c.number.ensures ∙ c.in-None.is,
-  sym c.number-in-None.ensures ∙ c.in-None-number.is,
-  sym c.number-in-None-number.ensures ∙ c.in_err-number-in-None-number.was,
-) c.from_residual.ensures
