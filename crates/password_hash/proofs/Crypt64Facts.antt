@@ -40,22 +40,17 @@ with_digit-Some (Some low) (Some high) number h = (low, high, refl, refl, cc)
 pub letters_of-number_of : (letters : List ℕ) (number : ℕ) → number_of letters ≡ Some number
     → (letters_of (length letters) number ≡ letters) × (number < 64 ^ length letters)
 unfolding letters_of number_of
-letters_of-number_of [] number h = (refl, omega (arith, zero_from_some number h))
-  where
-    zero_from_some : (n : ℕ) → Some 0 ≡ Some n → 0 ≡ n
-    zero_from_some n e = cc
+letters_of-number_of [] number h =
+    let said : Some 0 ≡ Some number = h in
+    let zero : 0 ≡ number = cc in
+    (refl, omega arith)
 letters_of-number_of (first ∷ letters) number h =
-    let parts = with_digit-Some (letter_value first) (number_of letters) number h in
-    let low = parts.0 in
-    let high = parts.1 in
-    let digit = letter-of_value first low parts.2 in
-    let rest = letters_of-number_of letters high parts.3 in
-    let below : low < 64 = digit.0 in
-    let is : number ≡ low + 64 * high = parts.4 in
+    let (low, high, value, above, is) = with_digit-Some (letter_value first) (number_of letters) number h in
+    let (below, digit) = letter-of_value first low value in
+    let (rest, fits) = letters_of-number_of letters high above in
     let remainder : number % 64 ≡ low = omega arith in
     let quotient : number / 64 ≡ high = omega arith in
-    let fits : high < 64 ^ length letters = rest.1 in
-    (rw (remainder, quotient, digit.1, rest.0) refl, rw (pow-suc 64 (length letters)) (omega arith))
+    (rw (remainder, quotient, digit, rest) refl, rw (pow-suc 64 (length letters)) (omega arith))
 
 -- reading letters one by one, from the last to the first
 

@@ -1,9 +1,10 @@
 -- Pairs and their text.
 use Rattle.std.proofs.Common.{◌≡◌, ℕ, suc, ◌+◌, ◌<◌, ◌==◌, Bool, true, false, IsTrue, List, [], ◌∷◌, ◌++◌}
 use Rattle.std.proofs.Common.{length, map, refl, sym, ap, subst, ◌∙◌, arith}
-use Rattle.std.specs.Prelude.{All, nat_eq}
+use Rattle.std.specs.Prelude.{All}
 use Rattle.std.specs.List.{list_all, join_with_byte, slice_split, before_first, after_first, position_or_len}
-use Rattle.std.proofs.lemmas.Bool.{and_parts, ne_eqb, eq-eqb, false≢true}
+use Rattle.std.proofs.lemmas.Bool.Decides.{Decides-and, Decides-like}
+use Rattle.std.proofs.lemmas.Bool.{ne_eqb, eq-eqb, false≢true}
 use Rattle.std.proofs.lemmas.List.{take_all, drop_all, take_at, drop_at, append_assoc, length-append, length-drop}
 use Rattle.std.proofs.lemmas.List.{get_or_append_left, get_or_at, length_push}
 use Rattle.std.proofs.lemmas.List.Sums.{position_or_len_is, AllPass-from_list_all}
@@ -155,12 +156,8 @@ first_pair text pair rest h some before after =
 
 pair_eq-Decides : (first second : List ℕ × List ℕ) → Decides (pair_eq first second) (first ≡ second)
 pair_eq-Decides first second =
-    let names = bytes_eq-Decides first.0 second.0 in
-    let values = bytes_eq-Decides first.1 second.1 in (
-      λ e. let both = and_parts (pointwise nat_eq first.0 second.0) (pointwise nat_eq first.1 second.1) e in
-          λ i. (names.0 both.0 i, values.0 both.1 i),
-      λ e. rw (names.1 (ap (λ p. p.0) e), values.1 (ap (λ p. p.1) e)) refl,
-    )
+    Decides-like (pair_eq first second) (λ both i. (both.0 i, both.1 i)) (λ e. (ap (λ p. p.0) e, ap (λ p. p.1) e))
+    (Decides-and _ _ (bytes_eq-Decides first.0 second.0) (bytes_eq-Decides first.1 second.1))
 
 -- the test of lists of pairs decides
 pub pairs_eq-Decides : (xs ys : List (List ℕ × List ℕ)) → Decides (pointwise pair_eq xs ys) (xs ≡ ys)

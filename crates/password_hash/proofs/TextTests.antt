@@ -73,9 +73,9 @@ names_shown : (pairs : List (List ℕ × List ℕ)) → names_differ pairs ≡ t
 names_shown [] h = λ i j d before inside. absurd (omega arith)
 names_shown (pair ∷ pairs) h =
     let others = λ (other : List ℕ × List ℕ). differ pair.0 other.0 in
-    let parts = and_parts (list_all others pairs) (names_differ pairs) h in
-    AllPairs-cons Differ pair pairs (all_shown others (Differ pair) (λ other. differ_shown pair.0 other.0) pairs
-    parts.0) (names_shown pairs parts.1)
+    let (first, rest) = and_parts (list_all others pairs) (names_differ pairs) h in
+    AllPairs-cons Differ pair pairs (all_shown others (Differ pair) (λ other. differ_shown pair.0 other.0) pairs first)
+    (names_shown pairs rest)
 
 abbrev are_pairs : List (List ℕ × List ℕ) → Bool
 are_pairs pairs = list_all is_pair pairs && (names_differ pairs && nat_le (length (pairs_text pairs)) 127)
@@ -108,11 +108,9 @@ abbrev pub is_hash_text : List ℕ × PasswordHash → Bool
 is_hash_text row = is_printed row && are_parts row.1
 
 pub hash_text_shown : (row : List ℕ × PasswordHash) → is_hash_text row ≡ true → IsHashText row.0 row.1
-hash_text_shown (text, hash) h = shown (and_parts (is_printed (text, hash)) (are_parts hash) h).0
-    (and_parts (is_printed (text, hash)) (are_parts hash) h).1
-  where
-    shown : is_printed (text, hash) ≡ true → are_parts hash ≡ true → IsHashText text hash
-    shown printed parts = record {
+hash_text_shown (text, hash) h =
+    let (printed, parts) = and_parts (is_printed (text, hash)) (are_parts hash) h in
+    record {
       whole = (bytes_eq-Decides text (hash_text hash)).0 (grind arith);
       algorithm = identifier_shown hash.algorithm (grind arith);
       version = if_some_shown (λ n. nat_lt n 4294967296) (λ n. n < 2 ^ 32) (λ n. ltb-true n 4294967296) hash.version (grind arith);

@@ -1,8 +1,6 @@
-use Rattle.std.proofs.Common.{◌≡◌, refl, sym, ap, arith, [], length, length-append, ◌++◌, take}
-use Rattle.std.proofs.lemmas.Bool.{eqb-true}
+use Rattle.std.proofs.Common.{◌≡◌, refl, ap, arith, [], length, length-append, ◌++◌, take}
 use Rattle.std.proofs.lemmas.Bool.Decides.{nat_tests}
-use Rattle.std.proofs.lemmas.List.{nil_from_length}
-use Rattle.password_hash.proofs.GroupFacts.{begins_none, begins_more, begins-end, begins-stuck}
+use Rattle.password_hash.proofs.GroupFacts.{begins_none, begins_more, begins-stuck}
 use Rattle.password_hash.proofs.mcf.crypt64.decoded_len.Goals as goal
 
 pub loop-group-init : goal.loop-group-init
@@ -20,12 +18,6 @@ loop-group-preserved c =
       );
       fits = omega (arith, c.loop-group.invariant.fits, c.in-Some.ensures.shorter, ap length c.as_bytes.ensures);
     }
-
-pub returns-then-is_empty : goal.returns-then-is_empty
-returns-then-is_empty c =
-    let before = c.loop-group.invariant.begins in
-    let none : c.loop-group.rest.now ≡ [] = nil_from_length _ (eqb-true _ _ (sym c.if-is_empty.ensures)) in
-    (before.0, begins-end _ _ _ before.1 none, before.2)
 
 pub returns-else-is_empty : goal.returns-else-is_empty
 returns-else-is_empty c = λ is.

@@ -1,6 +1,6 @@
-use Rattle.std.proofs.Common.{◌≡◌, ◌≢◌, ◌++◌, ℕ, List, map, ap, sym, ◌∙◌, rules}
-use Rattle.std.proofs.lemmas.List.{append_assoc, append-nil, map_push}
-use Rattle.std.proofs.lemmas.List.Elements.{All-push, All-same}
+use Rattle.std.proofs.Common.{◌≢◌, ◌++◌, ℕ, List, map, ap, sym, ◌∙◌, rules}
+use Rattle.std.proofs.lemmas.List.{append_assoc, map_push}
+use Rattle.std.proofs.lemmas.List.Elements.{All-push}
 use Rattle.std.proofs.lemmas.Slice.Eq.{bytes_eq-Decides}
 use Rattle.password_hash.specs.Value.{item_pair}
 use Rattle.password_hash.proofs.phc.params.ParamsString.get.Goals as goal
@@ -14,10 +14,3 @@ loop-ident-preserved c =
       others = rw map_push (All-push (λ pair. pair.0 ≢ c.args.name.now) seen pair c.loop-ident.invariant.others other);
       rest = rw (map_push, append_assoc) (ap (λ rest. seen ++ rest) (sym c.in-Some.ensures.steps) ∙ c.loop-ident.invariant.rest);
     }
-
-pub returns-clause-none : goal.returns-clause-none
-returns-clause-none c =
-    let seen = map item_pair c.loop-ident.yielded in
-    let all : c.args.self.now ≡ seen =
-    sym (sym (append-nil seen) ∙ ap (λ rest. seen ++ rest) (sym c.in-None.ensures.steps.0) ∙ c.loop-ident.invariant.rest) in
-    All-same (λ pair. pair.0 ≢ c.args.name.now) c.args.self.now seen all c.loop-ident.invariant.others
