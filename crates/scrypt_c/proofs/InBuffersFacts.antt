@@ -1,6 +1,6 @@
 -- What verifying leaves in the caller's buffers, one hash and two.
-use Rattle.std.proofs.Common.{◌≡◌, ℕ, List, Ok, Err, true, false, refl, ap}
-use Rattle.std.specs.Prelude.{Bool, MatchBool, Result}
+use Rattle.std.proofs.Common.{◌≡◌, ◌∙◌, ℕ, List, Ok, Err, true, false, refl, ap}
+use Rattle.std.specs.Prelude.{Bool, MatchBool, Result, ℤ, ⊤}
 use Rattle.password_hash.specs.Refusal.{Refusal}
 use Rattle.scrypt.specs.Accepted.{Parameters}
 use Rattle.scrypt.specs.Reading.{Stored}
@@ -8,6 +8,7 @@ use Rattle.scrypt.specs.TwoVerdicts as two
 use Rattle.scrypt.specs.TwoVerdicts.{hold_two}
 use Rattle.scrypt.specs.WorkInBuffers.{IsDone, IsLeft, Work, has_room, verdict_in}
 use Rattle.scrypt_c.specs.InBuffers.{AreBothUsed, AreLeft, AreTwoLeft, AreUsed, buffers}
+use Rattle.scrypt_c.specs.Statuses.{buffers_status}
 
 -- the buffers without the count
 abbrev uncounted : Work → Work
@@ -47,8 +48,9 @@ two_left_uncounted (Ok s) (Ok other) before after left =
 two_left_uncounted (Ok s) (Err why) before after turn = in_turn_uncounted (Ok s) (Err why) before after turn
 two_left_uncounted (Err why) other before after turn = in_turn_uncounted (Err why) other before after turn
 
--- a verdict doesn't depend on the count
-pub verdict_uncounted : (w : Work) (password : List ℕ) (reading : Result Stored Refusal)
-    → verdict_in w password reading ≡ verdict_in (uncounted w) password reading
-verdict_uncounted w password (Ok s) = rw (has_room_uncounted s.params w) refl
-verdict_uncounted w password (Err why) = refl
+-- the status of a verdict doesn't depend on the count
+pub status_uncounted : {out : Result ⊤ Refusal} {status : ℤ} (w : Work) (password : List ℕ) (reading : Result Stored Refusal)
+    → status ≡ buffers_status out → out ≡ verdict_in w password reading
+    → status ≡ buffers_status (verdict_in (uncounted w) password reading)
+status_uncounted w password (Ok s) is verdict = rw (has_room_uncounted s.params w) (is ∙ ap buffers_status verdict)
+status_uncounted w password (Err why) is verdict = is ∙ ap buffers_status verdict

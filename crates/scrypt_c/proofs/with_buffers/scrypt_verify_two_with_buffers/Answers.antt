@@ -1,16 +1,11 @@
-use Rattle.std.proofs.Common.{◌≡◌, ◌∙◌, ap, rules}
-use Rattle.scrypt.specs.WorkInBuffers.{verdict_in}
-use Rattle.scrypt_c.proofs.InBuffersFacts.{two_left_uncounted, verdict_uncounted}
-use Rattle.scrypt_c.specs.InBuffers.{buffers}
-use Rattle.scrypt_c.specs.Statuses.{buffers_status}
+use Rattle.std.proofs.Common.{rules}
+use Rattle.scrypt_c.proofs.InBuffersFacts.{status_uncounted, two_left_uncounted}
 use Rattle.scrypt_c.proofs.with_buffers.scrypt_verify_two_with_buffers.Goals as goal
 
 pub returns-in-Ok-Ok-clause-status : goal.returns-in-Ok-Ok-clause-status
 returns-in-Ok-Ok-clause-status c =
-    let before = buffers c.args.chunks.now c.args.table.now c.args.scratch.now in
-    let status : c.buffers_status-in-Ok-Ok.result ≡ buffers_status (verdict_in before c.args.password.now c.in-Ok-Ok.hash.whole) =
-    c.buffers_status-in-Ok-Ok.ensures.status
-    ∙ ap buffers_status (c.verify_two.ensures.verdict ∙ verdict_uncounted _ c.args.password.now c.in-Ok-Ok.hash.whole) in
+    let status = status_uncounted _ c.args.password.now c.in-Ok-Ok.hash.whole c.buffers_status-in-Ok-Ok.ensures.status
+    c.verify_two.ensures.verdict in
     (c.in-Ok-Ok.hash, c.in-Ok-Ok.ensures.ok, search rules)
 
 pub returns-in-Ok-Ok-clause-left : goal.returns-in-Ok-Ok-clause-left
@@ -24,10 +19,8 @@ returns-in-Ok-Ok-clause-left c = (
 
 pub returns-in-Ok-Ok-clause-other_status : goal.returns-in-Ok-Ok-clause-other_status
 returns-in-Ok-Ok-clause-other_status c =
-    let before = buffers c.args.chunks.now c.args.table.now c.args.scratch.now in
-    let status : c.buffers_status.result ≡ buffers_status (verdict_in before c.args.other_password.now c.in-Ok-Ok.other.whole) =
-    c.buffers_status.ensures.status
-    ∙ ap buffers_status (c.verify_two.ensures.other_verdict ∙ verdict_uncounted _ c.args.other_password.now c.in-Ok-Ok.other.whole) in
+    let status = status_uncounted _ c.args.other_password.now c.in-Ok-Ok.other.whole c.buffers_status.ensures.status
+    c.verify_two.ensures.other_verdict in
     (c.in-Ok-Ok.other, c.in-Ok-Ok.ensures'.ok, search rules)
 
 pub returns-in_default-Err-clause-status : goal.returns-in_default-Err-clause-status
