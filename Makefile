@@ -56,7 +56,7 @@ KEEP = python3 -B release/keep_verdict.py
 
 # The libraries below the program, each after those that it uses. Where all are built already, rt doesn't read all
 # sources once more before it begins with the program. With four processors and 12 GB of free memory, the two lowest,
-# which need nothing of each other and take as long as each other, are proved side by side, with three jobs each. The others
+# which need nothing of each other and take about as long, are proved side by side, with three jobs each. The others
 # have as many jobs as rt chooses.
 LIBRARIES = proved-password_hash proved-scrypt_kernel proved-scrypt proved-scrypt_commands
 HAS_ROOM = $(shell test $$(nproc) -ge 4 && awk '/^MemAvailable/ && $$2 > 12000000 { print "yes" }' /proc/meminfo)
