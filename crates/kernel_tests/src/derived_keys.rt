@@ -7,6 +7,7 @@ use scrypt::{
 };
 use std::alloc::Global;
 use std::test::Fail;
+use test_support::holds;
 use test_support::vectors::{
     DIGEST_OF_65, LONG_PASSWORD_KEY, RFC_KEY_1, RFC_KEY_2, RFC_KEY_3, SHORT_PASSWORD_KEY,
 };
@@ -48,10 +49,10 @@ fn the_first_key_by_other_calls(rt: HostRuntime) -> Result<(), Fail> {
     let (alloc, params) = (rt.alloc(), Params::new(4, 1, 1)?);
     let mut key = [0u8; 64];
     scrypt_counted(alloc, b"", b"", &params, &mut key, &mut CoreCount::new())?;
-    assert_eq!(rt; encode(alloc, key)?.as_str(), RFC_KEY_1, "counted");
+    holds(encode(alloc, key)?.as_str() == RFC_KEY_1, "counted")?;
     let mut key = [0u8; 64];
     key_by(alloc, &Scrypt::new_with_params(params), &mut key)?;
-    assert_eq!(rt; encode(alloc, key)?.as_str(), RFC_KEY_1, "by the trait");
+    holds(encode(alloc, key)?.as_str() == RFC_KEY_1, "by the trait")?;
     Ok(())
 }
 
@@ -84,13 +85,13 @@ fn passwords_that_share_a_key(rt: HostRuntime) -> Result<(), Fail> {
         (&digest, LONG_PASSWORD_KEY, "its digest"),
     ] {
         let key = key_of(rt.alloc(), password, b"", (4, 1, 1))?;
-        assert_eq!(rt; key.as_str(), wanted, "{reason}");
+        holds(key.as_str() == wanted, reason)?;
     }
     Ok(())
 }
 
 #[test]
-fn lengths_of_keys(rt: HostRuntime) {
+fn lengths_of_keys() -> Result<(), Fail> {
     for &(len, allowed, reason) in &[
         (0, false, "an empty key is refused"),
         (1, true, "the shortest key"),
@@ -98,8 +99,9 @@ fn lengths_of_keys(rt: HostRuntime) {
         (137_438_953_441, false, "one byte of block 2^32"),
         (137_438_953_471, false, "all but one byte of block 2^32"),
     ] {
-        assert_eq!(rt; output_len_ok(len), allowed, "{reason}");
+        holds(output_len_ok(len) == allowed, reason)?;
     }
+    Ok(())
 }
 
 #[test]
@@ -107,14 +109,23 @@ fn refusals(rt: HostRuntime) -> Result<(), Fail> {
     let alloc = rt.alloc();
     let small = Params::new(4, 1, 1)?;
     let refused = scrypt(alloc, b"", b"", &small, &mut []);
-    assert_eq!(rt; refused, Err(DeriveError::InvalidOutputLen));
+    holds(
+        refused == Err(DeriveError::InvalidOutputLen),
+        "refused == Err(DeriveError::InvalidOutputLen)",
+    )?;
     let refused = key_by(alloc, &Scrypt::from(small), &mut []);
-    assert_eq!(rt; refused, Err(kdf::Error::Refused));
+    holds(
+        refused == Err(kdf::Error::Refused),
+        "refused == Err(kdf::Error::Refused)",
+    )?;
     // Its table would have 2^63 bytes, more than any machine has.
     let huge = Params::new(56, 1, 1)?;
     let mut output = [0xaau8; 32];
     let refused = scrypt(alloc, b"", b"", &huge, &mut output);
-    assert_eq!(rt; refused, Err(DeriveError::OutOfMemory));
-    assert_eq!(rt; output, [0xaa; 32]);
+    holds(
+        refused == Err(DeriveError::OutOfMemory),
+        "refused == Err(DeriveError::OutOfMemory)",
+    )?;
+    holds(output == [0xaa; 32], "output == [0xaa; 32]")?;
     Ok(())
 }

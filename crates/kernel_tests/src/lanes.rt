@@ -6,39 +6,53 @@ use scrypt::block_mix::lanes::{scrypt_block_mix, shuffle_in, shuffle_out};
 use scrypt::block_mix::pivot::pivots_are_inverse;
 use scrypt::block_mix::plain;
 use std::test::Fail;
+use test_support::holds;
 use test_support::vectors::{CORE_INPUT, CORE_OUTPUT};
 
 #[test]
-fn shuffles_of_the_places(rt: HostRuntime) {
+fn shuffles_of_the_places() -> Result<(), Fail> {
     pivots_are_inverse();
     let places = [0, 1, 2, 3, 4, 5, 6, 7, 8, 9, 10, 11, 12, 13, 14, 15];
     let mut x: [u32; 16] = places;
     shuffle_in(&mut x);
-    assert_eq!(rt; x, [0, 5, 10, 15, 4, 9, 14, 3, 8, 13, 2, 7, 12, 1, 6, 11]);
+    holds(
+        x == [0, 5, 10, 15, 4, 9, 14, 3, 8, 13, 2, 7, 12, 1, 6, 11],
+        "x == [0, 5, 10, 15, 4, 9, 14, 3, 8, 13, 2, 7, 12, 1, 6, 11]",
+    )?;
     let mut x: [u32; 16] = places;
     shuffle_out(&mut x);
-    assert_eq!(rt; x, [0, 13, 10, 7, 4, 1, 14, 11, 8, 5, 2, 15, 12, 9, 6, 3]);
+    holds(
+        x == [0, 13, 10, 7, 4, 1, 14, 11, 8, 5, 2, 15, 12, 9, 6, 3],
+        "x == [0, 13, 10, 7, 4, 1, 14, 11, 8, 5, 2, 15, 12, 9, 6, 3]",
+    )?;
+    Ok(())
 }
 
 #[test]
-fn block_mixes_begin_with_the_core(rt: HostRuntime) -> Result<(), Fail> {
+fn block_mixes_begin_with_the_core() -> Result<(), Fail> {
     // The second block is zeros, so the first step takes the first block alone.
     let mut cores = CoreCount::new();
     let mut input = [0u32; 32];
     input[..16].copy_from_slice(&words_of(CORE_INPUT)?);
     let mut output = [0u32; 32];
     plain::scrypt_block_mix(&input, &mut output, &mut cores);
-    assert_eq!(rt; &output[..16], words_of(CORE_OUTPUT)?.as_slice());
+    holds(
+        &output[..16] == words_of(CORE_OUTPUT)?.as_slice(),
+        "&output[..16] == words_of(CORE_OUTPUT)?.as_slice()",
+    )?;
     shuffle_in(&mut input);
     scrypt_block_mix(&input, &mut output, &mut cores);
     shuffle_out(&mut output);
-    assert_eq!(rt; &output[..16], words_of(CORE_OUTPUT)?.as_slice());
+    holds(
+        &output[..16] == words_of(CORE_OUTPUT)?.as_slice(),
+        "&output[..16] == words_of(CORE_OUTPUT)?.as_slice()",
+    )?;
     Ok(())
 }
 
 // On the words 0, 1, 2, .., for each small r.
 #[test]
-fn block_mixes_in_both_orders(rt: HostRuntime) {
+fn block_mixes_in_both_orders() -> Result<(), Fail> {
     let mut cores = CoreCount::new();
     for r in 1..6 {
         let (mut words, mut mixed, mut expected) = ([0u32; 160], [0u32; 160], [0u32; 160]);
@@ -52,12 +66,13 @@ fn block_mixes_in_both_orders(rt: HostRuntime) {
         shuffle_in(input);
         scrypt_block_mix(input, output, &mut cores);
         shuffle_out(output);
-        assert_eq!(rt; mixed, expected);
+        holds(mixed == expected, "mixed == expected")?;
     }
+    Ok(())
 }
 
 #[test]
-fn ten_block_mixes_of_sums(rt: HostRuntime) {
+fn ten_block_mixes_of_sums() -> Result<(), Fail> {
     let mut cores = CoreCount::new();
     let mut bytes = [0u8; 128];
     let mut next = 0u8;
@@ -75,8 +90,8 @@ fn ten_block_mixes_of_sums(rt: HostRuntime) {
         shuffle_out(&mut input);
         shuffle_out(&mut output);
         plain::scrypt_block_mix(&input, &mut again, &mut cores);
-        assert_eq!(rt; again, expected);
-        assert_eq!(rt; output, expected);
+        holds(again == expected, "again == expected")?;
+        holds(output == expected, "output == expected")?;
         for i in 0..32 {
             let four = output[i].to_le_bytes();
             for k in 0..4 {
@@ -84,4 +99,5 @@ fn ten_block_mixes_of_sums(rt: HostRuntime) {
             }
         }
     }
+    Ok(())
 }

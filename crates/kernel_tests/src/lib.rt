@@ -1,6 +1,5 @@
 //! Tests of derived keys and of the kernel, of what no contract can say: that calls succeed if memory is available, that
-//! the standards' vectors are computed, and how much each call allocates. That of the first promise is here too, since a
-//! crate with tests is proved twice.
+//! the standards' vectors are computed, and how much each call allocates.
 #![tactic(auto)]
 
 #[cfg(test)]
@@ -9,8 +8,6 @@ mod allocations;
 mod buffers;
 #[cfg(test)]
 mod derived_keys;
-#[cfg(test)]
-mod headline;
 #[cfg(test)]
 mod lanes;
 #[cfg(test)]

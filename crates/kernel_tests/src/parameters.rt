@@ -2,9 +2,10 @@
 
 use scrypt::{BufferLens, InvalidParams, Params, Scrypt};
 use std::test::Fail;
+use test_support::holds;
 
 #[test]
-fn accepted_parameters(rt: HostRuntime) {
+fn accepted_parameters() -> Result<(), Fail> {
     for &(log_n, r, p, accepted, reason) in &[
         (0, 1, 1, true, "the smallest parameters"),
         (56, 1, 1, true, "the greatest N"),
@@ -26,7 +27,7 @@ fn accepted_parameters(rt: HostRuntime) {
         ),
     ] {
         let made = Params::new(log_n, r, p);
-        assert_eq!(rt; made.is_ok(), accepted, "{reason}");
+        holds(made.is_ok() == accepted, reason)?;
     }
     for &(len, accepted, reason) in &[
         (9, false, "a stored key has at least 10 bytes"),
@@ -35,8 +36,9 @@ fn accepted_parameters(rt: HostRuntime) {
         (65, false, "a stored key has at most 64 bytes"),
     ] {
         let made = Params::new_with_output_len(17, 8, 1, len);
-        assert_eq!(rt; made.is_ok(), accepted, "{reason}");
+        holds(made.is_ok() == accepted, reason)?;
     }
+    Ok(())
 }
 
 // log_n, r, s, the length of the table, and the reason for the row. A whole table has no s.
@@ -55,11 +57,17 @@ const TABLES: [(u8, u32, Option<u8>, Option<usize>, &str); 5] = [
 ];
 
 #[test]
-fn buffer_lengths(rt: HostRuntime) -> Result<(), Fail> {
+fn buffer_lengths() -> Result<(), Fail> {
     for &(log_n, r, s, table, reason) in &TABLES {
         let params = Params::new(log_n, r, 1)?;
-        assert_eq!(rt; (params.log_n(), params.r(), params.p()), (log_n, r, 1));
-        assert_eq!(rt; params.n(), 1u64 << u32::from(log_n).min(63));
+        holds(
+            (params.log_n(), params.r(), params.p()) == (log_n, r, 1),
+            "(params.log_n(), params.r(), params.p()) == (log_n, r, 1)",
+        )?;
+        holds(
+            params.n() == 1u64 << u32::from(log_n).min(63),
+            "params.n() == 1u64 << u32::from(log_n).min(63)",
+        )?;
         let (lens, rows) = match s {
             None => (Some(BufferLens::of(&params)), 2),
             Some(s) => (BufferLens::thin(&params, s), 3),
@@ -72,26 +80,41 @@ fn buffer_lengths(rt: HostRuntime) -> Result<(), Fail> {
                 scratch: 32 * rows * r.min(8) as usize,
             }),
         };
-        assert_eq!(rt; lens, wanted, "{reason}");
+        holds(lens == wanted, reason)?;
     }
     Ok(())
 }
 
 #[test]
 #[allow(deprecated)]
-fn recommended_parameters(rt: HostRuntime) -> Result<(), Fail> {
+fn recommended_parameters() -> Result<(), Fail> {
     let bare = Params::new(17, 8, 1)?;
     let sized = Params::new_with_output_len(17, 8, 1, 32)?;
-    assert_ne!(rt; bare, sized);
-    assert_eq!(rt; bare, Params::RECOMMENDED);
-    assert_eq!(rt; Params::recommended(), Params::RECOMMENDED);
-    assert_eq!(rt; Params::default(), Params::RECOMMENDED);
-    assert_eq!(rt; Scrypt::new(), Scrypt::from(bare));
-    assert_eq!(rt; Scrypt::default(), Scrypt::new_with_params(bare));
-    assert_ne!(rt; Scrypt::default(), Scrypt::new_with_params(sized));
-    assert_eq!(rt;
-        Params::new_with_output_len(57, 8, 1, 32),
-        Err(InvalidParams)
-    );
+    holds(bare != sized, "bare != sized")?;
+    holds(bare == Params::RECOMMENDED, "bare == Params::RECOMMENDED")?;
+    holds(
+        Params::recommended() == Params::RECOMMENDED,
+        "Params::recommended() == Params::RECOMMENDED",
+    )?;
+    holds(
+        Params::default() == Params::RECOMMENDED,
+        "Params::default() == Params::RECOMMENDED",
+    )?;
+    holds(
+        Scrypt::new() == Scrypt::from(bare),
+        "Scrypt::new() == Scrypt::from(bare)",
+    )?;
+    holds(
+        Scrypt::default() == Scrypt::new_with_params(bare),
+        "Scrypt::default() == Scrypt::new_with_params(bare)",
+    )?;
+    holds(
+        Scrypt::default() != Scrypt::new_with_params(sized),
+        "Scrypt::default() != Scrypt::new_with_params(sized)",
+    )?;
+    holds(
+        Params::new_with_output_len(57, 8, 1, 32) == Err(InvalidParams),
+        "Params::new_with_output_len(57, 8, 1, 32) == Err(InvalidParams)",
+    )?;
     Ok(())
 }

@@ -6,6 +6,7 @@ use scrypt::hmac::hmac_sha256;
 use scrypt::pbkdf2::pbkdf2_one;
 use scrypt::{CoreCount, salsa};
 use std::test::Fail;
+use test_support::holds;
 use test_support::vectors::{CORE_INPUT, CORE_OUTPUT, HMAC_BY_LONG_KEY, HMAC_OF_JEFE, PBKDF2_KEY};
 
 /// Reads the words of these bytes, four each in little-endian order.
@@ -31,32 +32,44 @@ fn hmac_and_pbkdf2_vectors(rt: HostRuntime) -> Result<(), Fail> {
     let alloc = rt.alloc();
     // The text may be cut in two.
     let jefe = hmac_sha256(b"Jefe", b"what do ya want ", b"for nothing?");
-    assert_eq!(rt; encode(alloc, jefe)?.as_str(), HMAC_OF_JEFE);
+    holds(
+        encode(alloc, jefe)?.as_str() == HMAC_OF_JEFE,
+        "encode(.., jefe)?.as_str() == HMAC_OF_JEFE",
+    )?;
     let long = hmac_sha256(
         &[0xaa; 131],
         b"Test Using Larger Than Block-Size Key - Hash Key First",
         b"",
     );
-    assert_eq!(rt; encode(alloc, long)?.as_str(), HMAC_BY_LONG_KEY);
+    holds(
+        encode(alloc, long)?.as_str() == HMAC_BY_LONG_KEY,
+        "encode(.., long)?.as_str() == HMAC_BY_LONG_KEY",
+    )?;
     let mut out = [0u8; 64];
     pbkdf2_one(b"passwd", b"salt", &mut out);
-    assert_eq!(rt; encode(alloc, out)?.as_str(), PBKDF2_KEY);
+    holds(
+        encode(alloc, out)?.as_str() == PBKDF2_KEY,
+        "encode(.., out)?.as_str() == PBKDF2_KEY",
+    )?;
     Ok(())
 }
 
 #[test]
-fn salsa20_8_vectors(rt: HostRuntime) -> Result<(), Fail> {
+fn salsa20_8_vectors() -> Result<(), Fail> {
     let mut cores = CoreCount::new();
     let mut x = words_of(CORE_INPUT)?;
     salsa::core(&mut x, &mut cores);
-    assert_eq!(rt; x, words_of(CORE_OUTPUT)?);
+    holds(x == words_of(CORE_OUTPUT)?, "x == words_of(CORE_OUTPUT)?")?;
     let mut diagonal = words_of(CORE_INPUT)?;
     shuffle_in(&mut diagonal);
     core(&mut diagonal, &mut cores);
     shuffle_out(&mut diagonal);
-    assert_eq!(rt; diagonal, words_of(CORE_OUTPUT)?);
+    holds(
+        diagonal == words_of(CORE_OUTPUT)?,
+        "diagonal == words_of(CORE_OUTPUT)?",
+    )?;
     let mut zeros = [0u32; 16];
     salsa::core(&mut zeros, &mut cores);
-    assert_eq!(rt; zeros, [0; 16]);
+    holds(zeros == [0; 16], "zeros == [0; 16]")?;
     Ok(())
 }

@@ -6,20 +6,21 @@ use scrypt::romix::{
     integerify_diagonal, integerify_plain, plain_ro_mix, scrypt_ro_mix, thin_ro_mix,
 };
 use std::test::Fail;
+use test_support::holds;
 use test_support::vectors::{RO_MIX_INPUT, RO_MIX_OUTPUT};
 
 // The buffers may hold anything before the call.
 #[test]
-fn ro_mix_vector(rt: HostRuntime) -> Result<(), Fail> {
+fn ro_mix_vector() -> Result<(), Fail> {
     let wanted = <[u8; 128]>::from_hex(RO_MIX_OUTPUT)?;
     let mut cores = CoreCount::new();
     for fill in [0, u32::MAX] {
         let mut fast = <[u8; 128]>::from_hex(RO_MIX_INPUT)?;
         scrypt_ro_mix(&mut fast, &mut [fill; 512], &mut [fill; 64], 4, &mut cores);
-        assert_eq!(rt; fast, wanted);
+        holds(fast == wanted, "fast == wanted")?;
         let mut plain = <[u8; 128]>::from_hex(RO_MIX_INPUT)?;
         plain_ro_mix(&mut plain, &mut [fill; 512], &mut [fill; 64], 4, &mut cores);
-        assert_eq!(rt; plain, wanted);
+        holds(plain == wanted, "plain == wanted")?;
         // One row in 4 is kept.
         let mut thin = <[u8; 128]>::from_hex(RO_MIX_INPUT)?;
         thin_ro_mix(
@@ -30,29 +31,30 @@ fn ro_mix_vector(rt: HostRuntime) -> Result<(), Fail> {
             2,
             &mut cores,
         );
-        assert_eq!(rt; thin, wanted);
+        holds(thin == wanted, "thin == wanted")?;
     }
     Ok(())
 }
 
 #[test]
-fn ro_mix_of_zeros(rt: HostRuntime) {
+fn ro_mix_of_zeros() -> Result<(), Fail> {
     let mut cores = CoreCount::new();
     let mut b = [0u8; 128];
     scrypt_ro_mix(&mut b, &mut [1; 32], &mut [2; 64], 0, &mut cores);
-    assert_eq!(rt; b, [0; 128]);
+    holds(b == [0; 128], "b == [0; 128]")?;
     scrypt_ro_mix(&mut b, &mut [3; 512], &mut [4; 64], 4, &mut cores);
-    assert_eq!(rt; b, [0; 128]);
+    holds(b == [0; 128], "b == [0; 128]")?;
     plain_ro_mix(&mut b, &mut [5; 32], &mut [6; 64], 0, &mut cores);
-    assert_eq!(rt; b, [0; 128]);
+    holds(b == [0; 128], "b == [0; 128]")?;
     plain_ro_mix(&mut b, &mut [7; 512], &mut [8; 64], 4, &mut cores);
-    assert_eq!(rt; b, [0; 128]);
+    holds(b == [0; 128], "b == [0; 128]")?;
+    Ok(())
 }
 
 // The second word of the last block is at 17 in standard order, and at 29 in diagonal order. No run reaches a log_n
 // above 32, so the index beyond 32 bits is shown here alone.
 #[test]
-fn integerify_beyond_32_bits(rt: HostRuntime) {
+fn integerify_beyond_32_bits() -> Result<(), Fail> {
     let mut plain = [9u32; 32];
     plain[16] = 5;
     plain[17] = 3;
@@ -65,7 +67,8 @@ fn integerify_beyond_32_bits(rt: HostRuntime) {
         (33, 4_294_967_301, "one bit of the second word"),
         (56, 12_884_901_893, "all bits of the greatest log_n"),
     ] {
-        assert_eq!(rt; integerify_plain(&plain, log_n), row, "{reason}");
-        assert_eq!(rt; integerify_diagonal(&diagonal, log_n), row, "{reason}");
+        holds(integerify_plain(&plain, log_n) == row, reason)?;
+        holds(integerify_diagonal(&diagonal, log_n) == row, reason)?;
     }
+    Ok(())
 }

@@ -1,14 +1,14 @@
 -- Facts on scryptBlockMix.
-use Rattle.std.proofs.Common.{◌≡◌, ◌≢◌, ℕ, zero, suc, ◌+◌, ◌-◌, ◌*◌, ◌/◌, ◌%◌, ◌<◌, ◌≤◌, List, [], ◌++◌, length, take, zero-add}
-use Rattle.std.proofs.Common.{bit_xor, add-one, refl, sym, ap, ap₂, ◌∙◌, arith}
+use Rattle.std.proofs.Common.{◌≡◌, ◌≢◌, ℕ, zero, suc, ◌+◌, ◌-◌, ◌*◌, ◌/◌, ◌%◌, ◌<◌, ◌≤◌, List, [], length, zero-add}
+use Rattle.std.proofs.Common.{bit_xor, add-one, refl, sym, ap, ◌∙◌, arith}
 use Rattle.std.proofs.lemmas.List.{append-nil, length-append}
 use Rattle.std.proofs.lemmas.Simd.{length-zip2}
 use Rattle.std.specs.List.{flat_map, range_with_len}
-use Rattle.scrypt_kernel.specs.Words.{block, last_block, part, xor_words}
+use Rattle.scrypt_kernel.specs.Words.{block, last_block, xor_words}
 use Rattle.scrypt_kernel.specs.Salsa.{salsa20_8}
 use Rattle.scrypt_kernel.specs.BlockMix.{block_mix, chain, y}
 use Rattle.scrypt_kernel.specs.Diagonal.{AreInverse, IsBlockMixBy, permuted}
-use Rattle.scrypt_kernel.proofs.PartFacts.{halves_all, length-part, length-parts, part_after, part_of_parts, take_both}
+use Rattle.scrypt_kernel.proofs.PartFacts.{halves_all, length-part, length-parts, part_after, part_of_parts}
 use Rattle.scrypt_kernel.proofs.SalsaFacts.{length-salsa20_8}
 use Rattle.scrypt_kernel.proofs.OrderFacts.{block_in, length-permuted, out_then_in, standard_of, zip_in}
 
@@ -185,11 +185,3 @@ mixed_in p q inverse input output some whole by_core =
     let long : length (permuted q input) ≡ length input = length-permuted q input in
     let standard = block_mix_by p q inverse (permuted q input) (omega arith) (omega arith) in
     block_mix_by_once (core_in p q) input output _ whole by_core (rw (out_then_in p q inverse input (omega arith)) at standard)
-
--- a row that is mixed from row i of those before it, and written behind them
-pub mixed_behind : (p q words front row next rest : List ℕ) (s i n : ℕ) → length front + length next ≡ n → front ≡ words
-    → row ≡ part s front i → next ≡ permuted p (block_mix (permuted q row))
-    → take n (front ++ (next ++ rest)) ≡ words ++ permuted p (block_mix (permuted q (part s words i)))
-mixed_behind p q words front row next rest s i n long is row_is mixed =
-    take_both front next rest n long
-    ∙ ap₂ (λ a b. a ++ b) is (mixed ∙ ap (λ z. permuted p (block_mix (permuted q z))) (row_is ∙ ap (λ z. part s z i) is))

@@ -1,19 +1,18 @@
 -- Facts on vectors of four lanes, and on a block in diagonal order as four of them.
 use Rattle.std.proofs.Common.{◌≡◌, ℕ, ◌<◌, ◌+◌, ◌-◌, ◌*◌, ◌/◌, ◌%◌, ◌^◌, List, [], ◌∷◌, ◌++◌, length, bit_or, bit_xor}
-use Rattle.std.proofs.Common.{get_or, arith, refl, sym, ap, ap₂, subst, ◌∙◌, add-zero, Fits, replicate, append_assoc, zero, suc}
+use Rattle.std.proofs.Common.{get_or, arith, refl, sym, ap, ap₂, subst, ◌∙◌, add-zero, Fits, replicate, append_assoc, zero, suc, inl, inr, length-append, take_all, drop, ◌≤◌}
+use Rattle.std.proofs.lemmas.Bool.{cases_lt}
 use Rattle.std.proofs.lemmas.List.{append-nil}
 use Rattle.std.specs.Int.{w32, rotate_left}
 use Rattle.std.specs.Int.Bits.{and_shifted, xor_assoc, xor_disjoint}
-use Rattle.std.specs.Simd.Lanes.{Each1, zip2}
+use Rattle.std.specs.Simd.Lanes.{Each1, pick_l, zip2}
 use Rattle.std.proofs.lemmas.Nat.{mod-pow-add, mod_low, or_shifted, pow_pos, shl-shr, shr_below}
 use Rattle.std.proofs.lemmas.List.FromFn.{fill_by_all}
-use Rattle.std.proofs.lemmas.Simd.{length-zip2}
-use Rattle.scrypt_kernel.specs.Words.{add32, part}
+use Rattle.scrypt_kernel.specs.Words.{add32, block, part}
 use Rattle.scrypt_kernel.specs.Salsa.{double_round, quarter_round, salsa20_8}
-use Rattle.scrypt_kernel.specs.Diagonal.{diagonal_order, inverse_pivot, permuted, pivot, standard_order}
-use Rattle.scrypt_kernel.specs.Lanes.{lanes_of, quarter_rounds, turned, xor_rotated}
-use Rattle.scrypt_kernel.proofs.WordFacts.{drop-zip2, take-zip2}
-use Rattle.scrypt_kernel.proofs.PartFacts.{parts_all}
+use Rattle.scrypt_kernel.specs.Diagonal.{diagonal_core, diagonal_order, diagonal_round, inverse_pivot, permuted, pivot, standard_order}
+use Rattle.scrypt_kernel.specs.Lanes.{AreFourEach, lanes_of, quarter_rounds, turned, turned_left, xor_rotated}
+use Rattle.scrypt_kernel.proofs.PartFacts.{length-part, part-take, part_of_block, parts_all}
 use Rattle.scrypt_kernel.proofs.OrderFacts.{diagonal_inverse, in_then_out, length-permuted, out_then_in, zip_in}
 use Rattle.scrypt_kernel.proofs.SalsaFacts.{length-double_round}
 
@@ -101,51 +100,99 @@ joined lanes = lanes.0 ++ lanes.1 ++ lanes.2 ++ lanes.3
 joined_lanes : (x : List ℕ) → length x ≡ 16 → joined (lanes_of x) ≡ x
 joined_lanes x long = simp append_assoc (sym (simp append-nil at (parts_all (part 4 x) 4 4 x long (λ k h. refl))))
 
--- a block in diagonal order after a double round
-abbrev pub round : List ℕ → List ℕ
-round x = diagonal_order (double_round (standard_order x))
+-- a block is its four rows of lanes, which are four each
+pub lanes_joined : (l : List ℕ × List ℕ × List ℕ × List ℕ) (x : List ℕ) → length x ≡ 16 → l ≡ lanes_of x → joined l ≡ x
+lanes_joined l x long is = ap joined is ∙ joined_lanes x long
 
--- the lanes of a block that is in standard order
-abbrev diagonals : List ℕ → List ℕ × List ℕ × List ℕ × List ℕ
-diagonals s = lanes_of (diagonal_order s)
+pub length-joined : (l : List ℕ × List ℕ × List ℕ × List ℕ) → AreFourEach l → length (joined l) ≡ 16
+length-joined l four =
+    let one = length-append l.0 l.1 in
+    let two = length-append (l.0 ++ l.1) l.2 in
+    let three = length-append ((l.0 ++ l.1) ++ l.2) l.3 in
+    omega (arith, one, two, three, four.a, four.b, four.c, four.d)
 
--- a double round of them
-next_round : (s : List ℕ) → length s ≡ 16 → lanes_of (round (joined (diagonals s))) ≡ diagonals (double_round s)
+pub length-round : (x : List ℕ) → length (diagonal_round x) ≡ length x
+length-round x = length-permuted pivot _ ∙ length-double_round _ ∙ length-permuted inverse_pivot x
+
+-- an operation on lists that are joined
+zip2-append : (f : ℕ → ℕ → ℕ) (a b x y : List ℕ) → length a ≡ length b → zip2 f (a ++ x) (b ++ y) ≡ zip2 f a b ++ zip2 f x y
+zip2-append f [] [] x y same = refl
+zip2-append f [] (b ∷ bs) x y same = absurd (omega arith)
+zip2-append f (a ∷ us) [] x y same = absurd (omega arith)
+zip2-append f (a ∷ us) (b ∷ bs) x y same = ap (λ z. f a b ∷ z) (zip2-append f us bs x y (omega arith))
+
+-- an operation on the lanes of two blocks
+pub zip_joined : (f : ℕ → ℕ → ℕ) (l m : List ℕ × List ℕ × List ℕ × List ℕ) → AreFourEach l → AreFourEach m
+    → joined (zip2 f l.0 m.0, zip2 f l.1 m.1, zip2 f l.2 m.2, zip2 f l.3 m.3) ≡ zip2 f (joined l) (joined m)
+zip_joined f l m four_l four_m =
+    let same = four_l.a ∙ sym four_m.a in
+    let both : length (l.0 ++ l.1) ≡ length (m.0 ++ m.1) =
+    omega (arith, length-append l.0 l.1, length-append m.0 m.1, same, four_l.b, four_m.b) in
+    let three : length ((l.0 ++ l.1) ++ l.2) ≡ length ((m.0 ++ m.1) ++ m.2) =
+    omega (arith, length-append (l.0 ++ l.1) l.2, length-append (m.0 ++ m.1) m.2, both, four_l.c, four_m.c) in
+    sym (zip2-append f ((l.0 ++ l.1) ++ l.2) ((m.0 ++ m.1) ++ m.2) l.3 m.3 three
+    ∙ ap (λ z. z ++ zip2 f l.3 m.3) (zip2-append f (l.0 ++ l.1) (m.0 ++ m.1) l.2 m.2 both
+    ∙ ap (λ z. z ++ zip2 f l.2 m.2) (zip2-append f l.0 m.0 l.1 m.1 same)))
+
+-- a double round of a block that is in standard order
+next_round : (s : List ℕ) → length s ≡ 16 → diagonal_round (diagonal_order s) ≡ diagonal_order (double_round s)
 next_round s long =
-    ap (λ z. lanes_of (round z)) (joined_lanes (diagonal_order s) (length-permuted pivot s ∙ long))
-    ∙ ap (λ z. diagonals (double_round z)) (in_then_out pivot inverse_pivot diagonal_inverse s (omega arith))
+    ap (λ z. diagonal_order (double_round z)) (in_then_out pivot inverse_pivot diagonal_inverse s (omega arith))
 
--- the sums of two times four vectors
-abbrev pub sums : List ℕ × List ℕ × List ℕ × List ℕ → List ℕ × List ℕ × List ℕ × List ℕ → List ℕ × List ℕ × List ℕ × List ℕ
-sums l m = (zip2 add32 l.0 m.0, zip2 add32 l.1 m.1, zip2 add32 l.2 m.2, zip2 add32 l.3 m.3)
-
-lanes-sums : (x y : List ℕ) → sums (lanes_of x) (lanes_of y) ≡ lanes_of (zip2 add32 x y)
-lanes-sums x y = simp (take-zip2, drop-zip2)
-
--- a block is the core of another if its lanes are the sums of that one's lanes before and after four double rounds
-pub core_of_rounds : (x y : List ℕ) → length x ≡ 16 → length y ≡ 16 → {from once twice thrice turned : List ℕ × List ℕ × List ℕ × List ℕ}
-    → from ≡ lanes_of x → once ≡ lanes_of (round (joined from)) → twice ≡ lanes_of (round (joined once))
-    → thrice ≡ lanes_of (round (joined twice)) → turned ≡ lanes_of (round (joined thrice)) → lanes_of y ≡ sums from turned
-    → y ≡ diagonal_order (salsa20_8 (standard_order x))
+-- the core is the sum of a block and of what four double rounds make of it
+pub core_of_rounds : (x : List ℕ) → length x ≡ 16
+    → zip2 add32 x (diagonal_round (diagonal_round (diagonal_round (diagonal_round x)))) ≡ diagonal_core x
 unfolding salsa20_8
-core_of_rounds x y long_x long_y is_from is_once is_twice is_thrice is_turned summed =
+core_of_rounds x long =
     let s = standard_order x in
     let s1 = double_round s in
     let s2 = double_round s1 in
     let s3 = double_round s2 in
     let s4 = double_round s3 in
-    let next = λ (lanes : List ℕ × List ℕ × List ℕ × List ℕ) (s : List ℕ) (long : length s ≡ 16) (is : lanes ≡ diagonals s).
-    ap (λ l. lanes_of (round (joined l))) is ∙ next_round s long in
-    let long : length s ≡ 16 = length-permuted inverse_pivot x ∙ long_x in
-    let long1 : length s1 ≡ 16 = length-double_round s ∙ long in
+    let long0 : length s ≡ 16 = length-permuted inverse_pivot x ∙ long in
+    let long1 : length s1 ≡ 16 = length-double_round s ∙ long0 in
     let long2 : length s2 ≡ 16 = length-double_round s1 ∙ long1 in
     let long3 : length s3 ≡ 16 = length-double_round s2 ∙ long2 in
     let long4 : length s4 ≡ 16 = length-double_round s3 ∙ long3 in
-    let same : length s ≡ length s4 = omega arith in
-    let long_sum : length (zip2 add32 s s4) ≡ 16 = length-zip2 add32 s s4 same ∙ long in
-    let first = is_from ∙ ap lanes_of (sym (out_then_in pivot inverse_pivot diagonal_inverse x (omega arith))) in
-    let last = is_turned ∙ next _ s3 long3 (is_thrice ∙ next _ s2 long2 (is_twice ∙ next _ s1 long1 (is_once ∙ next _ s long first))) in
-    sym (joined_lanes y long_y)
-    ∙ ap joined (summed ∙ ap₂ sums first last ∙ lanes-sums (diagonal_order s) (diagonal_order s4)
-    ∙ ap lanes_of (zip_in pivot inverse_pivot diagonal_inverse add32 s s4 same (omega arith)))
-    ∙ joined_lanes (diagonal_order (zip2 add32 s s4)) (length-permuted pivot _ ∙ long_sum)
+    let rounds = ap (λ z. diagonal_round (diagonal_round z)) (next_round s1 long1)
+    ∙ ap diagonal_round (next_round s2 long2) ∙ next_round s3 long3 in
+    ap₂ (zip2 add32) (sym (out_then_in pivot inverse_pivot diagonal_inverse x (omega arith))) rounds
+    ∙ zip_in pivot inverse_pivot diagonal_inverse add32 s s4 (long0 ∙ sym long4) (omega arith)
+
+-- what holds of 0 and of 1 holds of each number below 2
+pub below_two : (P : ℕ → Type 0) → P 0 → P 1 → (k : ℕ) → k < 2 → P k
+below_two P none one k h =
+    elim (cases_lt k 1) [
+      | inl lt ↦ let is : 0 ≡ k = omega arith in subst P is none
+      | inr ge ↦ let is : 1 ≡ k = omega arith in subst P is one
+    ]
+
+pub eight_lanes : (P : List ℕ → Type 0) → ((a0 a1 a2 a3 b0 b1 b2 b3 : ℕ) → P (a0 ∷ a1 ∷ a2 ∷ a3 ∷ b0 ∷ b1 ∷ b2 ∷ b3 ∷ []))
+    → (x : List ℕ) → length x ≡ 8 → P x
+eight_lanes P p x long = subst P (sym (fill_by_all (λ k. get_or x k 0) x 8 0 long (λ k h. refl))) (p _ _ _ _ _ _ _ _)
+
+-- the lanes that are picked by `places`, of part k of a vector, are turned to the left by n places
+abbrev pub AreTurned : ℕ → List ℕ → List ℕ → ℕ → Type 0
+AreTurned n places x k = part 4 (pick_l 0 (x ++ x) places) k ≡ turned_left n (part 4 x k)
+
+-- a block in vectors of four lanes
+pub block_of_lanes : (x a b c d : List ℕ) → length x ≡ 16 → a ≡ part 4 x 0 → b ≡ part 4 x 1 → c ≡ part 4 x 2 → d ≡ part 4 x 3
+    → joined (part 4 a 0, part 4 b 0, part 4 c 0, part 4 d 0) ≡ x
+block_of_lanes x a b c d long is_a is_b is_c is_d =
+    let whole = λ (v : List ℕ) (k : ℕ) (inside : k < 4) (is : v ≡ part 4 x k).
+    take_all 4 v (omega (arith, ap length is, length-part 4 k x (omega arith))) ∙ is in
+    lanes_joined (part 4 a 0, part 4 b 0, part 4 c 0, part 4 d 0) x long (rw (whole a 0 (omega arith) is_a, whole b 1 (omega arith) is_b, whole c 2 (omega arith) is_c, whole d 3 (omega arith) is_d) refl)
+
+-- a block of a list is the lanes that are there
+pub block_lanes : (x : List ℕ) (i : ℕ) → i * 16 + 16 ≤ length x → {a b c d : List ℕ} → a ≡ part 4 x (4 * i) → b ≡ part 4 x (4 * i + 1)
+    → c ≡ part 4 x (4 * i + 2) → d ≡ part 4 x (4 * i + 3) → joined (a, b, c, d) ≡ block x i
+block_lanes x i room {a} {b} {c} {d} is_a is_b is_c is_d =
+    let lanes = λ (j : ℕ) (inside : j < 4). part-take 4 j 16 (drop (i * 16) x) (omega arith) ∙ part_of_block x i j in
+    let none : 4 * i + 0 ≡ 4 * i = omega arith in
+    lanes_joined (a, b, c, d) (block x i) (length-part 16 i x room)
+    (rw (
+      is_a ∙ sym (ap (part 4 x) none) ∙ sym (lanes 0 (omega arith)),
+      is_b ∙ sym (lanes 1 (omega arith)),
+      is_c ∙ sym (lanes 2 (omega arith)),
+      is_d ∙ sym (lanes 3 (omega arith)),
+    ) refl)

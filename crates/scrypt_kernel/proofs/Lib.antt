@@ -8,8 +8,6 @@ pub mod PartFacts
 pub mod OrderFacts
 -- Facts on vectors of four lanes, and on a block in diagonal order as four of them.
 pub mod LaneFacts
--- Facts on two blocks at once, in vectors of eight lanes.
-pub mod PairFacts
 -- Facts on the Salsa20/8 core.
 pub mod SalsaFacts
 -- Facts on scryptBlockMix.
@@ -20,6 +18,8 @@ pub mod IntegerifyFacts
 pub mod RoMixFacts
 -- Facts on the walk over a table that keeps some rows, or all of them.
 pub mod WalkFacts
+-- Facts on the words and the bytes of several chunks.
+pub mod ChunkFacts
 -- Facts on HMAC and PBKDF2.
 pub mod Pbkdf2Facts
 -- The standards' own vectors, computed by the definitions, so that a wrong step or constant in a definition does not check.

@@ -10,7 +10,7 @@ use Rattle.std.specs.List.{list_all, range_with_len}
 use Rattle.std.specs.Prelude.{IsTrue, nat_lt}
 use Rattle.std.specs.Simd.Lanes.{zip2}
 use Rattle.std.proofs.lemmas.Simd.{length-zip2, get_or-zip2}
-use Rattle.scrypt_kernel.specs.Words.{block}
+use Rattle.scrypt_kernel.specs.Words.{block, part}
 use Rattle.scrypt_kernel.specs.Diagonal.{AreInverse, inverse_pivot, permuted, pivot}
 use Rattle.scrypt_kernel.proofs.PartFacts.{length-part}
 
@@ -55,21 +55,19 @@ permuted_back p q inside back x whole =
     grind (arith, get_or-permuted, length-permuted))
 
 module _ (p : List ℕ) (inside : IsWithin p) where
-  pub block_permuted : (x : List ℕ) (k : ℕ) → k * 16 + 16 ≤ length x
-      → block (permuted p x) k ≡ permuted p (block x k)
-  block_permuted x k room =
-      let one : length (block (permuted p x) k) ≡ 16 = length-part 16 k (permuted p x) (omega (arith, length-permuted p x)) in
-      let two : length (block x k) ≡ 16 = length-part 16 k x room in
-      ext_get_or 0 _ _ (one ∙ sym (length-permuted p (block x k) ∙ two)) (λ i h.
-      let below : i < 16 = omega arith in
-      let place_of : (k * 16 + i) % 16 ≡ i = omega arith in
-      let at : 16 * ((k * 16 + i) / 16) + get_or p i 0 ≡ k * 16 + get_or p i 0 = omega arith in
-      let same_place : i % 16 ≡ i = omega arith in
-      let first : 16 * (i / 16) + get_or p i 0 ≡ get_or p i 0 = omega arith in
-      let left = get_or-permuted p x (k * 16 + i) (omega arith) in
-      let right = get_or-permuted p (block x k) i (omega arith) in
-      get_or-take 16 _ i 0 below ∙ get_or-drop (k * 16) (permuted p x) i 0 ∙ left ∙ rw (place_of, at)
-      (sym (right ∙ rw (same_place, first) (get_or-take 16 _ _ 0 (inside i) ∙ get_or-drop (k * 16) x _ 0))))
+  pub part_permuted : (s k : ℕ) (x : List ℕ) → s % 16 ≡ 0 → k * s + s ≤ length x → part s (permuted p x) k ≡ permuted p (part s x k)
+  part_permuted s k x whole room =
+      let size : s ≡ s / 16 * 16 = omega arith in
+      let blocks : k * s ≡ k * (s / 16) * 16 = ap (λ n. k * n) size ∙ omega arith in
+      let one = length-part s k (permuted p x) (omega (arith, length-permuted p x)) in
+      let two = length-part s k x room in
+      ext_get_or 0 _ _ (one ∙ sym (length-permuted p (part s x k) ∙ two)) (λ i h.
+      let below : i < s = omega (arith, one, h) in
+      let place_of : (k * s + i) % 16 ≡ i % 16 = omega (arith, blocks) in
+      let at : 16 * ((k * s + i) / 16) + get_or p (i % 16) 0 ≡ k * s + (16 * (i / 16) + get_or p (i % 16) 0) = omega (arith, blocks) in
+      get_or-take s _ i 0 below ∙ get_or-drop (k * s) (permuted p x) i 0 ∙ get_or-permuted p x (k * s + i) (omega arith) ∙ rw (place_of, at)
+      (sym (get_or-permuted p (part s x k) i (omega (arith, two)) ∙ get_or-take s _ _ 0 (omega (arith, inside (i % 16), below, whole))
+      ∙ get_or-drop (k * s) x _ 0)))
 
   -- an operation word by word
   pub zip_permuted : (f : ℕ → ℕ → ℕ) (x y : List ℕ) → length x ≡ length y → length x % 16 ≡ 0
@@ -114,10 +112,7 @@ module _ (p q : List ℕ) (inverse : AreInverse p q) where
   out_then_in x whole = permuted_back q p (within p inverse.places) (undoes q p inverse.redone) x whole
 
   pub block_in : (x : List ℕ) (k : ℕ) → k * 16 + 16 ≤ length x → block (permuted p x) k ≡ permuted p (block x k)
-  block_in x k room = block_permuted p (within p inverse.places) x k room
-
-  pub block_out : (x : List ℕ) (k : ℕ) → k * 16 + 16 ≤ length x → block (permuted q x) k ≡ permuted q (block x k)
-  block_out x k room = block_permuted q (within q inverse.inverse_places) x k room
+  block_in x k room = part_permuted p (within p inverse.places) 16 k x refl room
 
   -- the words whose permutation is x
   pub standard_of : (x w : List ℕ) → length x % 16 ≡ 0 → x ≡ permuted p w → permuted q x ≡ w

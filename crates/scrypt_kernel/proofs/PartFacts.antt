@@ -1,9 +1,9 @@
 -- Facts on a list that is cut into parts of s elements each.
-use Rattle.std.proofs.Common.{◌≡◌, ◌≢◌, ℕ, zero, suc, ◌<◌, ◌≤◌, ◌+◌, ◌*◌, ◌-◌, ◌%◌, List, ◌++◌, length, get_or, take, drop, refl}
+use Rattle.std.proofs.Common.{◌≡◌, ◌≢◌, ℕ, zero, suc, ◌<◌, ◌≤◌, ◌+◌, ◌*◌, List, ◌++◌, length, get_or, take, drop, refl}
 use Rattle.std.proofs.Common.{sym, ap, ap₂, ◌∙◌, take_all, arith, rules, inl, inr, add-zero, zero-add, append_assoc}
-use Rattle.std.proofs.Math.Nat.{add-mod_left, mod-eq_of_lt, mul-le-mul_right}
+use Rattle.std.proofs.Math.Nat.{mul-le-mul_right}
 use Rattle.std.proofs.lemmas.Bool.{cases_lt}
-use Rattle.std.proofs.lemmas.List.{take_at, drop_at, drop-drop, take-append-drop, length-take-le, places, same_lists}
+use Rattle.std.proofs.lemmas.List.{take_at, drop-drop, take-append-drop, length-take-le, places, same_lists}
 use Rattle.std.proofs.lemmas.List.{length-append, length-drop, nil_from_length}
 use Rattle.std.proofs.lemmas.Slice.{drop-put_mid}
 use Rattle.std.proofs.lemmas.List.FromFn.{fill_by_all}
@@ -12,17 +12,14 @@ use borrow.Rule.Slice.PartMut.{put_mid}
 use Rattle.std.specs.List.{flat_map, range_with_len}
 use Rattle.std.proofs.Math.Seq.{take-add}
 use Rattle.scrypt_kernel.specs.Words.{block, part}
-use Rattle.scrypt_kernel.specs.KeptRows.{rotated}
+use Rattle.scrypt_kernel.specs.Parts.{AreParts, part_of}
+use Rattle.scrypt_kernel.specs.declared.parts.Parts.{Parts}
 
 -- a later part begins where an earlier one has ended, or later
 pub parts_apart : (s j k : ℕ) → j < k → j * s + s ≤ k * s
 parts_apart s j k h =
     let le : suc j ≤ k = omega arith in
     omega (arith, mul-le-mul_right s le)
-
--- a slice that is a part
-pub part_of_slice : (s k : ℕ) (x : List ℕ) (a n : ℕ) → a ≡ k * s → n ≡ s → take n (drop a x) ≡ part s x k
-part_of_slice s k x a n at size = rw (at, size) refl
 
 pub length-part : (s k : ℕ) (x : List ℕ) → k * s + s ≤ length x → length (part s x k) ≡ s
 length-part s k x room = length-take-le s (drop (k * s) x) (omega (arith, length-drop (k * s) x))
@@ -128,60 +125,12 @@ part_of_parts f s a (suc n) (suc k) ys long inside =
 pub take_both : (xs ys rest : List ℕ) (n : ℕ) → length xs + length ys ≡ n → take n (xs ++ (ys ++ rest)) ≡ xs ++ ys
 take_both xs ys rest n long = same_lists _ _ (search (rules, places)) (λ i d h. grind (arith, places))
 
--- two lists, in the other order
-pub rotated_both : (a b : List ℕ) (n : ℕ) → length a ≡ n → rotated n (a ++ b) ≡ b ++ a
-rotated_both a b n long = ap₂ (λ x y. x ++ y) (drop_at a b n long) (take_at a b n long)
-
--- the first, the middle two, and the last of four lists
-module _ (a b c d : List ℕ) (n : ℕ) (first : length a ≡ n) (second : length b ≡ n) (third : length c ≡ n) where
-  pub first_of_four : take n ((a ++ b) ++ (c ++ d)) ≡ a
-  first_of_four = same_lists _ _ (search (rules, places)) (λ i e h. grind (arith, places))
-
-  pub middle_of_four : take (3 * n - n) (drop n ((a ++ b) ++ (c ++ d))) ≡ b ++ c
-  middle_of_four = same_lists _ _ (search (rules, places)) (λ i e h. grind (arith, places))
-
-  pub last_of_four : drop (3 * n) ((a ++ b) ++ (c ++ d)) ≡ d
-  last_of_four = same_lists _ _ (search (rules, places)) (λ i e h. grind (arith, places))
-
 -- the parts of a list, with more appended to it
 pub part_append_front : (s k : ℕ) (xs ys : List ℕ) → k * s + s ≤ length xs → part s (xs ++ ys) k ≡ part s xs k
 part_append_front s k xs ys room = same_lists _ _ (search (rules, places)) (λ i d h. grind (arith, places))
 
-pub part_append_last : (s k : ℕ) (xs ys : List ℕ) → length xs ≡ k * s → length ys ≡ s → part s (xs ++ ys) k ≡ ys
-part_append_last s k xs ys long size = same_lists _ _ (search (rules, places)) (λ i d h. grind (arith, places))
-
--- a list of parts that begins with part n, and goes on with the first one after the last
-module _ (s rows n : ℕ) (v : List ℕ) (long : length v ≡ rows * s) (below : n < rows) where
-  pub length-rotated : length (rotated (n * s) v) ≡ rows * s
-  length-rotated =
-      let apart = parts_apart s n rows below in
-      length-append (drop (n * s) v) (take (n * s) v)
-      ∙ omega (arith, length-drop (n * s) v, length-take-le (n * s) v (omega arith))
-
-  pub part_rotated : (j : ℕ) → j < rows → part s v ((j + n) % rows) ≡ part s (rotated (n * s) v) j
-  part_rotated j inside =
-      let others : ℕ = rows - n in
-      let parts : rows ≡ n + others = omega arith in
-      let product : rows * s ≡ n * s + others * s = ap (λ r. r * s) parts ∙ omega arith in
-      let rest : length (drop (n * s) v) ≡ others * s = length-drop (n * s) v ∙ omega (arith, product, long) in
-      elim (cases_lt (j + n) rows) [
-        | inl lt ↦
-            let room = parts_apart s (j + n) rows lt in
-            let place : (j + n) * s ≡ n * s + j * s = omega arith in
-            ap (part s v) (mod-eq_of_lt lt) ∙ ap (λ a. take s (drop a v)) place ∙ sym (ap (take s) (drop-drop (j * s) (n * s) v))
-            ∙ sym (part_append_front s j (drop (n * s) v) (take (n * s) v) (omega (arith, rest, product, room)))
-        | inr ge ↦
-            let k : ℕ = j + n - rows in
-            let whole : j + n ≡ rows + k = omega arith in
-            let place : others + k ≡ j = omega arith in
-            ap (λ i. part s v (i % rows)) whole ∙ ap (part s v) (add-mod_left rows k ∙ mod-eq_of_lt (omega arith))
-            ∙ sym (part-take s k (n * s) v (parts_apart s k n (omega arith)))
-            ∙ sym (part_after s others k (drop (n * s) v) (take (n * s) v) rest)
-            ∙ ap (part s (rotated (n * s) v)) place
-      ]
-
 -- part i of the words from block k on
-part_of_block : (x : List ℕ) (k i : ℕ) → part 4 (drop (k * 16) x) i ≡ part 4 x (4 * k + i)
+pub part_of_block : (x : List ℕ) (k i : ℕ) → part 4 (drop (k * 16) x) i ≡ part 4 x (4 * k + i)
 part_of_block x k i =
     let place : k * 16 + i * 4 ≡ (4 * k + i) * 4 = omega arith in
     ap (take 4) (drop-drop (i * 4) (k * 16) x ∙ ap (λ n. drop n x) place)
@@ -195,3 +144,15 @@ block_same x z j k each =
 pub block_alone : (w x : List ℕ) (k : ℕ) → length w ≡ 16 → ((i : ℕ) → i < 4 → part 4 w i ≡ part 4 x (4 * k + i)) → w ≡ block x k
 block_alone w x k long each =
     sym (take_all 16 w (omega arith)) ∙ take_parts 4 4 w (drop (k * 16) x) (λ i h. each i h ∙ sym (part_of_block x k i))
+
+-- a part of several is inside
+pub part_inside : (s k n len : ℕ) → k < n → n * s ≤ len → k * s + s ≤ len
+part_inside s k n len below room = let apart = parts_apart s k n below in omega arith
+
+pub length-part_of : (parts : Parts) (n k : ℕ) → AreParts n parts → k < n → length (part_of parts k) ≡ parts.len
+length-part_of parts n k all below =
+    length-take-le parts.len _ (omega (arith, length-drop (get_or parts.starts k 0) parts.words.now, all.inside k below))
+
+-- the only part
+pub only_part : (s : ℕ) (x : List ℕ) → length x ≡ s → part s x 0 ≡ x
+only_part s x long = let none : 0 * s ≡ 0 = omega arith in rw none (take_all s x (omega arith))

@@ -1,6 +1,6 @@
 -- Facts on scryptROMix.
 use Rattle.std.proofs.Common.{◌≡◌, Bool, ℕ, zero, suc, ◌<◌, ◌+◌, ◌*◌, ◌/◌, ◌%◌, ◌^◌, List, [], ◌++◌, length, bit_xor, refl}
-use Rattle.std.proofs.Common.{sym, ap, ap₂, ◌∙◌, arith, add-one, add-zero, below_more, length-append}
+use Rattle.std.proofs.Common.{sym, ap, ap₂, ◌∙◌, arith, add-one, add-zero, length-append}
 use Rattle.std.proofs.lemmas.Simd.{length-zip2}
 use Rattle.scrypt_kernel.specs.Words.{part, xor_words}
 use Rattle.scrypt_kernel.specs.declared.cores.CoreCount.{CoreCount}
@@ -11,7 +11,12 @@ use Rattle.scrypt_kernel.specs.Diagonal.{AreInverse, permuted}
 use Rattle.scrypt_kernel.proofs.BlockMixFacts.{length-block_mix}
 use Rattle.scrypt_kernel.proofs.OrderFacts.{length-permuted, out_then_in, standard_of, zip_out}
 use Rattle.scrypt_kernel.proofs.CountFacts.{counted_both, counted_none}
-use Rattle.scrypt_kernel.proofs.PartFacts.{length-part, part_append_front, part_append_last, parts_apart}
+use Rattle.scrypt_kernel.specs.KeptRows.{AddsRow, mixed_in, place}
+use Rattle.scrypt_kernel.proofs.PartFacts.{length-part, part-take, part_after, part_append_front, part_inside, parts_apart}
+use Rattle.std.proofs.Common.{◌≤◌, take, drop, inl, inr}
+use Rattle.std.proofs.lemmas.Bool.{cases_lt}
+use Rattle.std.proofs.lemmas.List.{drop-drop}
+use Rattle.std.proofs.Math.Nat.{mul-le-mul_right}
 
 -- the rows after a row are rows
 pub row_after : (b : List ℕ) (i k : ℕ) → row (row b i) k ≡ row b (i + k)
@@ -42,15 +47,51 @@ module _ (b : List ℕ) (some : 0 < length b) (whole : length b % 32 ≡ 0) wher
   unfolding ro_mix
   length-ro_mix log_n = length-walk log_n _
 
--- n rows of b, one in t and each of this size, in the order p
-pub record HoldsRows (p b : List ℕ) (size t n : ℕ) (v : List ℕ) : Type 0 where
-  pub len : length v ≡ n * size
-  pub each : (k : ℕ) → k < n → part size v k ≡ permuted p (row b (k * t))
+pub length-mixed_in : (p q x : List ℕ) (i : ℕ) → 0 < length x → length x % 32 ≡ 0 → length (mixed_in p q i x) ≡ length x
+length-mixed_in p q x i some whole =
+    let standard : length (permuted q x) ≡ length x = length-permuted q x in
+    length-permuted p _ ∙ length-row (permuted q x) (omega (arith, standard)) (omega (arith, standard)) i ∙ standard
 
--- after i block mixes of rows of b of this size, in the order p: X is x, and the cores are counted
-pub record AfterMixes (p b : List ℕ) (size : ℕ) (simd : Bool) (before : CoreCount) (i : ℕ) (x : List ℕ) (after : CoreCount) : Type 0 where
-  pub value : x ≡ permuted p (row b i)
-  pub counted : AreCountedAs simd (i * (2 * (size / 32))) before after
+-- rows of n chunks whose parts are those of x, one row in t, each with s words of each chunk
+pub record HoldsRows (p q : List ℕ) (n s t rows : ℕ) (x v : List ℕ) : Type 0 where
+  pub len : length v ≡ rows * (n * s)
+  pub each : (m k : ℕ) → m < rows → k < n → part s v (place n m k) ≡ mixed_in p q (m * t) (part s x k)
+
+-- after i block mixes of each part of kept: x is what they made, and the cores are counted
+pub record AfterMixes (p q : List ℕ) (n s : ℕ) (simd : Bool) (before : CoreCount) (i : ℕ) (kept x : List ℕ) (after : CoreCount) : Type 0 where
+  pub value : (k : ℕ) → k < n → part s x k ≡ mixed_in p q i (part s kept k)
+  pub counted : AreCountedAs simd (i * (n * (2 * (s / 32)))) before after
+
+-- a block mix is the row after one
+pub one_mix : (p q x : List ℕ) → permuted p (block_mix (permuted q x)) ≡ mixed_in p q 1 x
+unfolding row
+one_mix p q x = refl
+
+-- part k of row m of n chunks is inside, of so many rows
+pub place_inside : (n s m rows k : ℕ) → k < n → m < rows → place n m k * s + s ≤ rows * (n * s)
+place_inside n s m rows k below inside =
+    let apart = parts_apart n m rows inside in
+    let next : suc (place n m k) ≤ rows * n = omega arith in
+    omega (arith, mul-le-mul_right s next)
+
+-- part k of row m
+pub part_of_row : (n s m k : ℕ) (v : List ℕ) → k < n → part s (part (n * s) v m) k ≡ part s v (place n m k)
+part_of_row n s m k v below =
+    let at : m * (n * s) + k * s ≡ place n m k * s = omega arith in
+    part-take s k (n * s) (drop (m * (n * s)) v) (parts_apart s k n below)
+    ∙ ap (take s) (drop-drop (k * s) (m * (n * s)) v ∙ ap (λ a. drop a v) at)
+
+pub length-part_of_row : (n s k : ℕ) (x : List ℕ) → k < n → length x ≡ n * s → length (part s x k) ≡ s
+length-part_of_row n s k x below long = length-part s k x (part_inside s k n (length x) below (omega arith))
+
+-- a row that is appended
+pub adds_row : (f : List ℕ → List ℕ) (n s m : ℕ) (before after added : List ℕ) → length before ≡ (m + 1) * (n * s) → after ≡ before ++ added
+    → length added ≡ n * s → ((k : ℕ) → k < n → part s added k ≡ f (part s (part (n * s) before m) k)) → AddsRow f n s m before after
+adds_row f n s m before after added long is row_long each = rw is (record {
+  len = length-append before added ∙ omega arith;
+  kept = λ i h. part_append_front s i before added (omega (arith, parts_apart s i ((m + 1) * n) h, long));
+  added = λ k h. part_after s ((m + 1) * n) k before added (omega arith) ∙ each k h ∙ ap f (part_of_row n s m k before h);
+})
 
 -- the row after one that is in another order
 module _ (p q : List ℕ) (inverse : AreInverse p q) where
@@ -66,53 +107,53 @@ module _ (p q : List ℕ) (inverse : AreInverse p q) where
       ap (λ z. permuted p (row z n)) (standard_of p q inverse x (row b i) whole is) ∙ ap (permuted p) (row_after b i n)
 
   -- before the first block mix, and after one more
-  module _ (b : List ℕ) (size : ℕ) (whole : size % 32 ≡ 0) {simd : Bool} {begin : CoreCount} where
-    pub no_mix : (x : List ℕ) → x ≡ permuted p b → AfterMixes p b size simd begin 0 x begin
-    unfolding row
-    no_mix x is = record { value = is; counted = counted_none _ _ _ (omega arith) }
+  module _ (n s : ℕ) (whole : s % 32 ≡ 0) {simd : Bool} {begin : CoreCount} (kept : List ℕ) (long : length kept ≡ n * s) where
+    pub no_mix : AfterMixes p q n s simd begin 0 kept kept begin
+    no_mix = record {
+      value = λ k h. row_zero_in (part s kept k) (omega (arith, length-part_of_row n s k kept h long));
+      counted = counted_none _ _ _ (omega arith);
+    }
 
-    pub one_more_mix : (before after : CoreCount) (x y : List ℕ) (i n len : ℕ) → AfterMixes p b size simd begin i x before
-        → length x ≡ size → y ≡ permuted p (block_mix (permuted q x)) → AreCountedAs simd (2 * (len / 32)) before after → len ≡ size
-        → n ≡ i + 1 → AfterMixes p b size simd begin n y after
-    unfolding row
-    one_more_mix before after x y i n len until long mixed counted same is = rw is (record {
-      value = mixed ∙ row_after_in b x i 1 (omega arith) until.value;
-      counted = counted_both _ until.counted (rw same at counted) (omega arith);
+    pub one_more_mix : (before after : CoreCount) (x y : List ℕ) (i j : ℕ) → AfterMixes p q n s simd begin i kept x before
+        → length x ≡ n * s → ((k : ℕ) → k < n → part s y k ≡ mixed_in p q 1 (part s x k))
+        → AreCountedAs simd (n * (2 * (s / 32))) before after → j ≡ i + 1 → AfterMixes p q n s simd begin j kept y after
+    one_more_mix before after x y i j until same mixed counted is = rw is (record {
+      value = λ k h. mixed k h ∙ row_after_in (permuted q (part s kept k)) (part s x k) i 1
+          (omega (arith, length-part_of_row n s k x h same)) (until.value k h);
+      counted = counted_both _ until.counted counted (omega arith);
     })
 
   -- the first row of a table
-  pub first_row : (x none v : List ℕ) (s t : ℕ) → length x ≡ s → s % 32 ≡ 0 → none ≡ [] → v ≡ none ++ x
-      → HoldsRows p (permuted q x) s t 1 v
-  first_row x cleared v s t size whole empty added =
+  pub first_row : (n s t : ℕ) (x none v : List ℕ) → length x ≡ n * s → s % 32 ≡ 0 → none ≡ [] → v ≡ none ++ x → HoldsRows p q n s t 1 x v
+  first_row n s t x cleared v size whole empty added =
       let is : v ≡ x = rw empty at added in
       let none : 0 * t ≡ 0 = omega arith in
       record {
         len = ap length is ∙ omega arith;
-        each = λ k h.
-            let zero : k ≡ 0 = omega arith in
-            rw (zero, none)
-            (ap (λ z. part s z 0) is ∙ part_append_last s 0 [] x (omega arith) size ∙ row_zero_in x (omega arith));
+        each = λ m k first h.
+            let zero : m ≡ 0 = omega arith in
+            let at : 0 * n + k ≡ k = omega arith in
+            rw (zero, none, at) (ap (λ z. part s z k) is ∙ row_zero_in (part s x k) (omega (arith, length-part_of_row n s k x h size)));
       }
 
   -- and one more, which is t rows after the last
-  pub more_rows : (b v v' : List ℕ) (s t i : ℕ) → 0 < s → s % 32 ≡ 0 → HoldsRows p b s t (i + 1) v
-      → v' ≡ v ++ permuted p (row (permuted q (part s v i)) t) → HoldsRows p b s t (i + 1 + 1) v'
-  more_rows b v v' s t i some whole held added =
-      let last = part s v i in
-      let next = permuted p (row (permuted q last) t) in
-      let row_long : length last ≡ s = length-part s i v (omega (arith, held.len)) in
-      let in_long : length (permuted q last) ≡ s = length-permuted q last ∙ row_long in
-      let next_long : length next ≡ s =
-      length-permuted p (row (permuted q last) t) ∙ length-row (permuted q last) (omega arith) (omega arith) t ∙ in_long in
-      let there : i * t + t ≡ (i + 1) * t = omega arith in
-      rw added (record {
-        len = length-append v next ∙ omega (arith, held.len);
-        each = below_more _ _
-            (λ k h. let apart = parts_apart s k (i + 1) h in
-            part_append_front s k v next (omega (arith, held.len)) ∙ held.each k h)
-            (part_append_last s (i + 1) v next held.len next_long ∙ row_after_in b last (i * t) t (omega arith) (held.each i (omega arith))
-            ∙ ap (λ n. permuted p (row b n)) there);
-      })
+  pub more_rows : (n s t i : ℕ) (x v v' : List ℕ) → s % 32 ≡ 0 → HoldsRows p q n s t (i + 1) x v
+      → AddsRow (mixed_in p q t) n s i v v' → HoldsRows p q n s t (i + 1 + 1) x v'
+  more_rows n s t i x v v' whole held added = record {
+    len = added.len ∙ omega arith;
+    each = λ m k inside h. elim (cases_lt m (i + 1)) [
+      | inl lt ↦
+          let apart = parts_apart n m (i + 1) lt in
+          added.kept (place n m k) (omega arith) ∙ held.each m k lt h
+      | inr ge ↦
+          let last : m ≡ i + 1 = omega arith in
+          let there : i * t + t ≡ (i + 1) * t = omega arith in
+          let room = place_inside n s i (i + 1) k h (omega arith) in
+          let row_long = length-part s (place n i k) v (omega (arith, held.len, room)) in
+          rw last (added.added k h ∙ row_after_in (permuted q (part s x k)) (part s v (place n i k)) (i * t) t
+          (omega (arith, row_long)) (held.each i k (omega arith) h) ∙ ap (λ r. mixed_in p q r (part s x k)) there)
+    ];
+  }
 
   -- the step after one, which takes in row j
   pub next_step_in : (b : List ℕ) (log_n k : ℕ) (x u : List ℕ) (j : ℕ) → length x % 16 ≡ 0 → length u ≡ length x

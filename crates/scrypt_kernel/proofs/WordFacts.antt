@@ -1,7 +1,6 @@
 -- Facts on lists of words.
-use Rattle.std.proofs.Common.{◌≡◌, ℕ, zero, suc, ◌<◌, ◌≤◌, ◌+◌, ◌*◌, List, [], ◌∷◌, length, take, drop}
-use Rattle.std.proofs.Common.{bit_xor, refl, get_or, set, sym, ap, ◌∙◌, arith}
-use Rattle.std.proofs.lemmas.Grind.{common_steps}
+use Rattle.std.proofs.Common.{◌≡◌, ℕ, zero, suc, ◌<◌, ◌≤◌, ◌*◌, List, [], ◌∷◌, length, take, drop}
+use Rattle.std.proofs.Common.{bit_xor, refl, get_or, sym, ap, ◌∙◌, arith}
 use Rattle.std.proofs.lemmas.List.{ext_get_or, places}
 use Rattle.std.specs.Simd.Lanes.{zip2}
 use Rattle.std.proofs.lemmas.Simd.{length-zip2, get_or-zip2}
@@ -23,14 +22,6 @@ pub ruleset xor_lengths = (length-xor)
 pub record IsMerged (f : ℕ → ℕ → ℕ) (x0 y : List ℕ) (i : ℕ) (x : List ℕ) : Type 0 where
   pub below : (k : ℕ) → k < i → get_or x k 0 ≡ f (get_or x0 k 0) (get_or y k 0)
   pub above : (k : ℕ) → i ≤ k → get_or x k 0 ≡ get_or x0 k 0
-
--- one more place
-pub merged_more : (f : ℕ → ℕ → ℕ) (x0 y : List ℕ) (i : ℕ) (x : List ℕ) → i < length x → IsMerged f x0 y i x
-    → IsMerged f x0 y (i + 1) (set x i (f (get_or x i 0) (get_or y i 0)))
-merged_more f x0 y i x inside held = record {
-  below = λ k h. grind (arith, common_steps, held.below k, held.above k);
-  above = λ k h. grind (arith, common_steps, held.above k);
-}
 
 zip2-nil : (f : ℕ → ℕ → ℕ) (x : List ℕ) → zip2 f x [] ≡ []
 zip2-nil f [] = refl

@@ -3,7 +3,7 @@
 -- standard's: it is how the SIMD core computes.
 use Rattle.std.specs.Prelude.{◌≡◌, ℕ, ◌+◌, ◌*◌, ◌/◌, ◌%◌, ◌<◌, List, [], ◌∷◌, map, length, slice_index, nat_lt, IsTrue}
 use Rattle.scrypt_kernel.specs.Words.{block, last_block, xor_words}
-use Rattle.scrypt_kernel.specs.Salsa.{salsa20_8}
+use Rattle.scrypt_kernel.specs.Salsa.{double_round, salsa20_8}
 use Rattle.std.specs.List.{list_all, range_with_len}
 
 -- pivot[i] is the standard index of the word that diagonal order has at index i
@@ -37,6 +37,10 @@ pub record AreInverse (p q : List ℕ) : Type 0 where
 -- the core on a block in diagonal order
 abbrev pub diagonal_core : List ℕ → List ℕ
 diagonal_core x = diagonal_order (salsa20_8 (standard_order x))
+
+-- a double round on a block in diagonal order
+abbrev pub diagonal_round : List ℕ → List ℕ
+diagonal_round x = diagonal_order (double_round (standard_order x))
 
 -- out is the block mix of b with f in place of the core, and x i is X before step i
 pub record IsBlockMixBy (f : List ℕ → List ℕ) (b out : List ℕ) : Type 0 where

@@ -1,9 +1,7 @@
 -- Only functions that scrypt does not export cite this: the rows that a table keeps, and the walk over
 -- them.
-use Rattle.std.specs.Prelude.{◌≡◌, Bool, ℕ, ◌+◌, ◌-◌, ◌*◌, ◌/◌, ◌%◌, ◌^◌, ◌<◌, ◌≤◌, List, ◌++◌, length, take, drop}
+use Rattle.std.specs.Prelude.{◌≡◌, ℕ, ◌+◌, ◌-◌, ◌*◌, ◌/◌, ◌%◌, ◌^◌, ◌<◌, ◌≤◌, List, length}
 use Rattle.scrypt_kernel.specs.Words.{part}
-use Rattle.scrypt_kernel.specs.declared.cores.CoreCount.{CoreCount}
-use Rattle.scrypt_kernel.specs.Count.{AreCountedAs}
 use Rattle.scrypt_kernel.specs.RoMix.{row, walk}
 use Rattle.scrypt_kernel.specs.Diagonal.{permuted}
 use Rattle.scrypt_kernel.specs.Table.{extra_rows}
@@ -13,47 +11,58 @@ pub record IsRowLen (n : ℕ) : Type 0 where
   pub some : 0 < n
   pub whole : n % 32 ≡ 0
 
--- of the rows 0 to n - 1 for the input b, each of this size and in the order p, those are kept
-pub record KeepsRows (p b : List ℕ) (s size n : ℕ) (kept : List ℕ) : Type 0 where
-  pub each : (m : ℕ) → m * 2 ^ s < n → part size kept m ≡ permuted p (row b (m * 2 ^ s))
+-- the row that is t rows after x, in the order p, which q undoes
+abbrev pub mixed_in : List ℕ → List ℕ → ℕ → List ℕ → List ℕ
+mixed_in p q t x = permuted p (row (permuted q x) t)
 
--- kept holds the rows that a table keeps of those for x, which is in the order p, and last is the row after all rows
-pub record IsFilled (p q : List ℕ) (log_n s : ℕ) (x kept last : List ℕ) : Type 0 where
-  pub len : length kept ≡ 2 ^ (log_n - s) * length x
-  pub rows : KeepsRows p (permuted q x) s (length x) (2 ^ log_n) kept
-  pub after : last ≡ permuted p (row (permuted q x) (2 ^ log_n))
+-- A row of a table has s words for each of n chunks, one after another. So the table is cut into parts of
+-- s words, and row m of chunk k is this part.
+abbrev pub place : ℕ → ℕ → ℕ → ℕ
+place n m k = m * n + k
 
--- v from its place n on, and then what is before that place
-abbrev pub rotated : ℕ → List ℕ → List ℕ
-rotated n v = drop n v ++ take n v
+-- row m, the last one, is followed by one more, each of whose n parts is f of that part of row m
+pub record AddsRow (f : List ℕ → List ℕ) (n s m : ℕ) (before after : List ℕ) : Type 0 where
+  pub len : length after ≡ (m + 2) * (n * s)
+  pub kept : (i : ℕ) → i < (m + 1) * n → part s after i ≡ part s before i
+  pub added : (k : ℕ) → k < n → part s after (place n (m + 1) k) ≡ f (part s before (place n m k))
 
--- x is X before the walk for the input b, and kept holds the rows of b that the table keeps
-pub record StartsWalk (p b : List ℕ) (log_n s : ℕ) (kept x : List ℕ) : Type 0 where
-  pub rows : KeepsRows p b s (length x) (2 ^ log_n) kept
-  pub start : x ≡ permuted p (row b (2 ^ log_n))
+-- of the rows 0 to rows - 1 of chunk k of n, for its input b, those are kept whose number is a multiple of
+-- 2 ^ spacing
+pub record KeepsRows (p b : List ℕ) (n k s spacing rows : ℕ) (kept : List ℕ) : Type 0 where
+  pub each : (m : ℕ) → m * 2 ^ spacing < rows → part s kept (place n m k) ≡ permuted p (row b (m * 2 ^ spacing))
 
--- the lengths in a walk: X has x words, the X after it y, a row that is recomputed spare, and the kept rows v
-pub record AreWalkLens (log_n s x y spare v : ℕ) : Type 0 where
-  pub row : IsRowLen x
+-- kept holds the rows that a table keeps of those for the parts of x, which are in the order p, and last is the
+-- row after all rows
+pub record IsFilled (p q : List ℕ) (n s log_n spacing : ℕ) (x kept last : List ℕ) : Type 0 where
+  pub len : length kept ≡ 2 ^ (log_n - spacing) * (n * s)
+  pub rows : (k : ℕ) → k < n → KeepsRows p (permuted q (part s x k)) n k s spacing (2 ^ log_n) kept
+  pub after : (k : ℕ) → k < n → part s last k ≡ mixed_in p q (2 ^ log_n) (part s x k)
+
+-- part k of x is X before the walk for the input b, and kept holds the rows of b that the table keeps
+pub record StartsWalk (p b : List ℕ) (n k s log_n spacing : ℕ) (kept x : List ℕ) : Type 0 where
+  pub rows : KeepsRows p b n k s spacing (2 ^ log_n) kept
+  pub start : part s x k ≡ permuted p (row b (2 ^ log_n))
+
+-- the lengths in a walk: X has x words, s for each of n chunks, each row whose
+-- number is a multiple of 2 ^ t is kept, the X after it has y words, a row that is recomputed
+-- spare, and the kept rows v. Rows are recomputed for one chunk alone.
+pub record AreWalkLens (n s log_n t x y spare v : ℕ) : Type 0 where
+  pub some : 0 < n
+  pub row : IsRowLen s
   pub small : log_n ≤ 56
-  pub spacing : s ≤ log_n
+  pub spacing : t ≤ log_n
+  pub chunks : x ≡ n * s
   pub scratch : y ≡ x
-  pub room : 0 < s → x ≤ spare
-  pub rows : v ≡ 2 ^ (log_n - s) * x
+  pub alone : 0 < t → n ≡ 1
+  pub room : 0 < t → s ≤ spare
+  pub rows : v ≡ 2 ^ (log_n - t) * (n * s)
 
--- y is the X after x, for each input whose rows, of this size, are kept and whose walk reaches x
-abbrev pub IsNext : List ℕ → ℕ → ℕ → ℕ → List ℕ → List ℕ → List ℕ → Type 0
-IsNext p log_n s size kept x y =
-    (b : List ℕ) (k : ℕ) → KeepsRows p b s size (2 ^ log_n) kept → x ≡ permuted p (walk b log_n k)
-    → y ≡ permuted p (walk b log_n (k + 1))
+-- in part k y is the X after x, for each input whose rows are kept and whose walk reaches x
+abbrev pub IsNext : List ℕ → ℕ → ℕ → ℕ → ℕ → ℕ → List ℕ → List ℕ → List ℕ → Type 0
+IsNext p n k s log_n spacing kept x y =
+    (b : List ℕ) (i : ℕ) → KeepsRows p b n k s spacing (2 ^ log_n) kept → part s x k ≡ permuted p (walk b log_n i)
+    → part s y k ≡ permuted p (walk b log_n (i + 1))
 
--- x is X after k steps from `start`, for each input whose walk begins there
-abbrev pub IsWalked : List ℕ → ℕ → ℕ → List ℕ → List ℕ → ℕ → List ℕ → Type 0
-IsWalked p log_n s kept start k x = (b : List ℕ) → StartsWalk p b log_n s kept start → x ≡ permuted p (walk b log_n k)
-
--- after k steps of the walk for the input b, over rows of this size: X is x, and the cores of k block
--- mixes and of the rows that were recomputed are counted
-pub record AfterSteps (p b : List ℕ) (log_n s size : ℕ) (simd : Bool) (before : CoreCount) (k : ℕ) (x : List ℕ) (after : CoreCount)
-    : Type 0 where
-  pub value : x ≡ permuted p (walk b log_n k)
-  pub counted : AreCountedAs simd ((k + extra_rows b log_n s k) * (2 * (size / 32))) before after
+-- the cores of i steps of the walk for the input b of the first chunk, and of the rows that were recomputed
+abbrev pub steps_cost : List ℕ → ℕ → ℕ → ℕ → ℕ → ℕ → ℕ
+steps_cost b n s log_n spacing i = (i + extra_rows b log_n spacing i) * (n * (2 * (s / 32)))

@@ -1,6 +1,6 @@
--- Only functions that scrypt does not export cite this: a block in diagonal order as four vectors of four
--- lanes.
-use Rattle.std.specs.Prelude.{ℕ, List, ◌++◌, map, take, drop, slice_index, bit_xor}
+-- Only functions that scrypt does not export cite this: blocks in diagonal order as four vectors, with four
+-- lanes of each block.
+use Rattle.std.specs.Prelude.{◌≡◌, ℕ, ◌-◌, List, ◌++◌, if◌then◌else◌, nat_lt, length, map, take, drop, slice_index, bit_xor}
 use Rattle.std.specs.Int.{w32, rotate_left}
 use Rattle.std.specs.List.{range_with_len}
 use Rattle.std.specs.Simd.Lanes.{zip2}
@@ -10,6 +10,17 @@ use Rattle.scrypt_kernel.specs.Salsa.{quarter_round}
 -- a block as the lanes of four vectors
 abbrev pub lanes_of : List ℕ → List ℕ × List ℕ × List ℕ × List ℕ
 lanes_of x = (part 4 x 0, part 4 x 1, part 4 x 2, part 4 x 3)
+
+-- those of block k, where `lanes` gives those of a vector
+abbrev pub at : {V : Type 0} → (V → ℕ → List ℕ) → V × V × V × V → ℕ → List ℕ × List ℕ × List ℕ × List ℕ
+at lanes x k = (lanes x.0 k, lanes x.1 k, lanes x.2 k, lanes x.3 k)
+
+-- four lanes of each vector
+pub record AreFourEach (x : List ℕ × List ℕ × List ℕ × List ℕ) : Type 0 where
+  pub a : length x.0 ≡ 4
+  pub b : length x.1 ≡ 4
+  pub c : length x.2 ≡ 4
+  pub d : length x.3 ≡ 4
 
 -- the words of x, and those of y rotated to the left by k bits, joined by exclusive or
 abbrev pub xor_rotated : ℕ → List ℕ → List ℕ → List ℕ
@@ -35,3 +46,7 @@ turned_left k x = drop k x ++ take k x
 -- the left by one, two and three places, and d and b change places
 abbrev pub turned : List ℕ × List ℕ × List ℕ × List ℕ → List ℕ × List ℕ × List ℕ × List ℕ
 turned (a, b, c, d) = (a, turned_left 1 d, turned_left 2 c, turned_left 3 b)
+
+-- block k of those of two vectors, of which the first has n blocks
+abbrev pub of_both : ℕ → (ℕ → List ℕ) → (ℕ → List ℕ) → ℕ → List ℕ
+of_both n x y k = if nat_lt k n then x k else y (k - n)

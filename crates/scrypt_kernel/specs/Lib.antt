@@ -27,8 +27,10 @@ pub mod HmacState
 pub mod Pbkdf2State
 -- the lanes of the SIMD core
 pub mod Lanes
--- the lanes of two blocks at once
-pub mod Pair
+-- blocks side by side
+pub mod Side
+-- parts of the same length
+pub mod Parts
 -- the rows that a table keeps, and the walk over them
 pub mod KeptRows
 -- a caller's buffer that a table is in

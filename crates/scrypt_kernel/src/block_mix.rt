@@ -1,7 +1,7 @@
 //! scryptBlockMix (RFC 7914, section 4).
 
 ghost use Rattle.std.specs.Prelude.{◌≡◌, ℕ, ◌+◌, ◌*◌, ◌/◌, ◌%◌, ◌<◌, ◌≤◌, List, length};
-ghost use Rattle.scrypt_kernel.specs.Words.{block, xor_words};
+ghost use Rattle.scrypt_kernel.specs.Words.{block, part, xor_words};
 ghost use Rattle.scrypt_kernel.specs.Salsa.{salsa20_8};
 ghost use Rattle.scrypt_kernel.specs.Count.{AreCountedAs};
 ghost use Rattle.scrypt_kernel.specs.BlockMix.{block_mix};
@@ -9,83 +9,100 @@ ghost use Rattle.scrypt_kernel.specs.KeptRows.{IsRowLen};
 ghost use Rattle.scrypt_kernel.specs.Diagonal.{permuted};
 
 pub mod lanes;
-pub mod pair;
 pub mod pivot;
 pub mod plain;
 
 use crate::CoreCount;
 use crate::order::Order;
-use crate::words::{block_at, put_block, xor_blocks};
+use crate::parts::Parts;
 
-// The words that a block mix reads, block by block.
+// The words that a block mix reads, block by block: a row of each chunk.
 pub(crate) trait Input {
-    // all of them
-    ghost words: { Self → List ℕ };
+    // whether there are n rows of s words
+    ghost are_rows: { Self → ℕ → ℕ → Type 0 };
 
-    // Block `k`.
-    fn block(&self, k: usize) -> [u32; 16]
-        requires { 16 * k + 16 ≤ length (words self.now) }
-        ensures { result ≡ block (words self.now) k };
+    // row k
+    ghost words: { Self → ℕ → List ℕ };
+
+    // Block `i` of each row. A row has `s` words.
+    fn read<O: Order>(&self, i: usize, s: usize) -> O
+        requires rows { are_rows self.now O.count s }
+        requires inside { 16 * i + 16 ≤ s }
+        ensures value { (k : ℕ) → k < O.count → O.held result k ≡ block (words self.now k) i }
+        ensures long { (k : ℕ) → k < O.count → length (words self.now k) ≡ s };
 }
 
-impl<'a> Input for &'a [u32] {
-    ghost words = { λ x. x.now };
+impl<'a> Input for Parts<'a> {
+    ghost use Rattle.scrypt_kernel.specs.Parts.{AreRows, part_of};
+
+    ghost are_rows = { λ x n s. AreRows n s x };
+
+    ghost words = { λ x k. part_of x k };
 
     #[inline(always)]
-    fn block(&self, k: usize) -> [u32; 16] {
-        block_at(*self, k)
+    fn read<O: Order>(&self, i: usize, _s: usize) -> O {
+        O::read(self, i)
     }
 }
 
-// The exclusive or of two lists of the same length. It is computed as the block mix reads it, and
-// is never in memory as a whole.
+// The exclusive or of two rows of each chunk. It is computed as the block mix reads it, and is never
+// in memory as a whole.
 #[derive(Clone, Copy)]
 pub(crate) struct Xor<'a> {
-    pub(crate) x: &'a [u32],
-    pub(crate) y: &'a [u32],
-    ghost same: { length x.now ≡ length y.now },
+    pub(crate) x: Parts<'a>,
+    pub(crate) y: Parts<'a>,
 }
 
 impl<'a> Input for Xor<'a> {
-    ghost words = { λ a. xor_words a.x.now a.y.now };
+    ghost use Rattle.scrypt_kernel.specs.Parts.{AreRows, part_of};
 
-    #[tactic(auto, using(crate::proofs::WordFacts::xor_lengths))]
+    ghost are_rows = { λ a n s. AreRows n s a.x × AreRows n s a.y };
+
+    ghost words = { λ a k. xor_words (part_of a.x k) (part_of a.y k) };
+
     #[inline(always)]
-    fn block(&self, k: usize) -> [u32; 16] {
-        xor_blocks(&block_at(self.x, k), &block_at(self.y, k))
+    fn read<O: Order>(&self, i: usize, _s: usize) -> O {
+        let x: O = O::read(&self.x, i);
+        x.xor(O::read(&self.y, i))
     }
 }
 
-// The block mix of words in the order `O`: B is `input`, and B' is `output`.
+// The block mix of each row, in the order `O`: B is `input`, and B' is `output`.
 #[inline(always)]
-pub(crate) fn mix<O: Order, I: Input>(input: &I, output: &mut [u32], cores: &mut CoreCount)
-    requires same { length (I.words input.now) ≡ length output.old }
-    requires row { IsRowLen (length output.old) }
-    ensures value { output.new
-        ≡ permuted O.pivot (block_mix (permuted O.inverse_pivot (I.words input.now))) }
-    ensures counted { AreCountedAs O.simd (2 * (length output.old / 32)) cores.old cores.new }
+pub(crate) fn mix<O: Order, I: Input>(
+    input: &I,
+    output: &mut [u32],
+    s: usize,
+    cores: &mut CoreCount,
+)
+    requires rows { I.are_rows input.now O.count s }
+    requires output { length output.old ≡ O.count * s }
+    requires row { IsRowLen s }
+    ensures value { (k : ℕ) → k < O.count → part s output.new k
+        ≡ permuted O.pivot (block_mix (permuted O.inverse_pivot (I.words input.now k))) }
+    ensures counted { AreCountedAs O.simd (O.count * (2 * (s / 32))) cores.old cores.new }
 {
-    let r = output.len() / 32;
+    let r = s / 32;
     // Step 1: X = B[2 * r - 1].
-    let mut x = input.block(2 * r - 1);
+    let mut x: O = input.read(2 * r - 1, s);
     // Step 2: for i = 0 to 2 * r - 1 do T = X xor B[i], X = Salsa (T), Y[i] = X.
     // Step 3: B' = (Y[0], Y[2], .., Y[2 * r - 2], Y[1], Y[3], .., Y[2 * r - 1]).
     'steps: for i in 0..r {
-        step::<O, I>(&mut x, input, 2 * i, cores);
-        put_block(output, i, &x);
-        step::<O, I>(&mut x, input, 2 * i + 1, cores);
-        put_block(output, r + i, &x);
+        x = step::<O, I>(x, input, 2 * i, s, cores);
+        x.write(output, s, i);
+        x = step::<O, I>(x, input, 2 * i + 1, s, cores);
+        x.write(output, s, r + i);
     }
 }
 
-// Step 2 for one `i`, but for Y[i]: T = X xor B[i], X = Salsa (T).
+// Step 2 for one `i`, except Y[i] = X: T = X xor B[i], X = Salsa (T).
 #[inline(always)]
-fn step<O: Order, I: Input>(x: &mut [u32; 16], input: &I, i: usize, cores: &mut CoreCount)
-    requires { 16 * i + 16 ≤ length (I.words input.now) }
-    ensures value { x.new ≡ permuted O.pivot (salsa20_8
-        (permuted O.inverse_pivot (xor_words x.old (block (I.words input.now) i)))) }
-    ensures counted { AreCountedAs O.simd 1 cores.old cores.new }
+fn step<O: Order, I: Input>(x: O, input: &I, i: usize, s: usize, cores: &mut CoreCount) -> O
+    requires rows { I.are_rows input.now O.count s }
+    requires inside { 16 * i + 16 ≤ s }
+    ensures value { (k : ℕ) → k < O.count → O.held result k ≡ permuted O.pivot (salsa20_8
+        (permuted O.inverse_pivot (xor_words (O.held x k) (block (I.words input.now k) i)))) }
+    ensures counted { AreCountedAs O.simd O.count cores.old cores.new }
 {
-    *x = xor_blocks(x, &input.block(i));
-    O::core(x, cores);
+    x.xor(input.read(i, s)).core(cores)
 }

@@ -7,7 +7,6 @@ ghost use Rattle.scrypt_kernel.specs.Salsa.{salsa20_8};
 ghost use Rattle.scrypt_kernel.specs.Diagonal.{diagonal_core};
 
 pub mod lanes;
-pub mod pair;
 pub mod salsa;
 
 use std::marker::Model;

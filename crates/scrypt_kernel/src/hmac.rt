@@ -39,6 +39,7 @@ impl Hmac {
     }
 
     // Returns HMAC of the text followed by `tail`.
+    #[tactic(auto, unfolding(crate::specs::Hmac::hmac_sha256))]
     pub(crate) fn finish(&self, tail: &[u8]) -> [u8; 32]
         ensures { (secret text : List ℕ) → HoldsText self.now secret text
             → result ≡ hmac_sha256 secret (text ++ tail.now) }
@@ -52,6 +53,7 @@ impl Hmac {
 }
 
 // Returns the key in a block of 64 bytes: the key, or its digest if it is longer, and then zeros.
+#[tactic(auto, using(crate::proofs::Pbkdf2Facts::padded_short))]
 fn padded_key(key: &[u8]) -> [u8; 64]
     ensures { result ≡ padded_key key.now }
 {

@@ -10,6 +10,7 @@ mod cores;
 pub mod hmac;
 pub mod memory;
 pub mod order;
+pub mod parts;
 pub mod pbkdf2;
 mod prefetch;
 pub mod romix;

@@ -2,14 +2,14 @@
 
 ghost use Rattle.std.specs.Prelude.{◌≡◌, ℕ, ◌+◌, ◌*◌, ◌/◌, ◌%◌, ◌<◌, ◌≤◌, List, [], ◌++◌, length};
 ghost use Rattle.std.specs.Vec.{vec_capacity, vec_len};
-ghost use Rattle.scrypt_kernel.specs.Words.{part};
 ghost use Rattle.scrypt_kernel.specs.Count.{AreCountedAs};
-ghost use Rattle.scrypt_kernel.specs.BlockMix.{block_mix};
-ghost use Rattle.scrypt_kernel.specs.Diagonal.{permuted};
+ghost use Rattle.scrypt_kernel.specs.KeptRows.{AddsRow, IsRowLen, mixed_in};
 
+use crate::CoreCount;
 use crate::block_mix::mix;
 use crate::order::Order;
-use crate::{CoreCount, words};
+use crate::parts::Parts;
+use crate::words::part;
 
 /// Memory for rows of words, and the rows that are in it.
 pub trait Memory {
@@ -36,16 +36,16 @@ pub trait Memory {
 
     /// Appends the block mix of row `i`, the last one, as row `i + 1`, and counts its cores.
     ///
-    /// A row has `spare.len()` words. What `spare` holds after the call is unspecified.
-    fn append_mix<O: Order>(&mut self, i: usize, spare: &mut [u32], cores: &mut CoreCount)
-        requires some { 0 < length spare.old }
-        requires whole { length spare.old % 32 ≡ 0 }
-        requires last { length (words self.old) ≡ (i + 1) * length spare.old }
-        requires room { (i + 2) * length spare.old ≤ room self.old }
-        ensures words { words self.new ≡ words self.old ++ permuted O.pivot
-            (block_mix (permuted O.inverse_pivot (part (length spare.old) (words self.old) i))) }
+    /// A row has `spare.len()` words, which are `s` words for each chunk. What `spare` holds after the
+    /// call is unspecified.
+    fn append_mix<O: Order>(&mut self, i: usize, s: usize, spare: &mut [u32], cores: &mut CoreCount)
+        requires row { IsRowLen s }
+        requires chunks { length spare.old ≡ O.count * s }
+        requires last { length (words self.old) ≡ (i + 1) * (O.count * s) }
+        requires room { (i + 2) * (O.count * s) ≤ room self.old }
+        ensures words { AddsRow (mixed_in O.pivot O.inverse_pivot 1) O.count s i (words self.old) (words self.new) }
         ensures room { room self.old ≤ room self.new }
-        ensures counted { AreCountedAs O.simd (2 * (length spare.old / 32)) cores.old cores.new };
+        ensures counted { AreCountedAs O.simd (O.count * (2 * (s / 32))) cores.old cores.new };
 }
 
 /// The caller's buffer. Each row is mixed straight into its place.
@@ -94,12 +94,19 @@ impl<'a> Memory for Buffer<'a> {
     }
 
     #[inline(always)]
-    fn append_mix<O: Order>(&mut self, i: usize, spare: &mut [u32], cores: &mut CoreCount) {
-        let s = spare.len();
+    fn append_mix<O: Order>(
+        &mut self,
+        i: usize,
+        s: usize,
+        spare: &mut [u32],
+        cores: &mut CoreCount,
+    ) {
+        let row_len = spare.len();
         let memory = &mut *self.memory;
         let (rows, rest) = memory.split_at_mut(self.len);
-        mix::<O, &[u32]>(&words::part(s, rows, i), &mut rest[..s], cores);
-        self.len += s;
+        let last = Parts::of(part(row_len, rows, i), s, O::count());
+        mix::<O, Parts<'_>>(&last, &mut rest[..row_len], s, cores);
+        self.len += row_len;
     }
 }
 
@@ -125,8 +132,15 @@ impl Memory for Vec<u32> {
     }
 
     #[inline(always)]
-    fn append_mix<O: Order>(&mut self, i: usize, spare: &mut [u32], cores: &mut CoreCount) {
-        mix::<O, &[u32]>(&words::part(spare.len(), self.as_slice(), i), spare, cores);
+    fn append_mix<O: Order>(
+        &mut self,
+        i: usize,
+        s: usize,
+        spare: &mut [u32],
+        cores: &mut CoreCount,
+    ) {
+        let last = Parts::of(part(spare.len(), self.as_slice(), i), s, O::count());
+        mix::<O, Parts<'_>>(&last, spare, s, cores);
         self.extend_from_slice(spare).unwrap();
     }
 }

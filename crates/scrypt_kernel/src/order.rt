@@ -1,26 +1,42 @@
-//! The orders in which the words of a block can be kept.
+//! The orders that the words of a block can be in while it is mixed.
 
-ghost use Rattle.std.specs.Prelude.{◌≡◌, Bool, ℕ, ◌+◌, ◌*◌, ◌%◌, ◌^◌, ◌<◌, ◌≤◌, List, length};
+ghost use Rattle.std.specs.Prelude.{◌≡◌, ◌≢◌, Bool, ℕ, ◌+◌, ◌*◌, ◌%◌, ◌^◌, ◌<◌, ◌≤◌, List, length};
+ghost use Rattle.scrypt_kernel.specs.Words.{block, part, xor_words};
 ghost use Rattle.scrypt_kernel.specs.Salsa.{salsa20_8};
 ghost use Rattle.scrypt_kernel.specs.Count.{AreCountedAs};
 ghost use Rattle.scrypt_kernel.specs.RoMix.{integerify};
 ghost use Rattle.scrypt_kernel.specs.Diagonal.{AreInverse, permuted};
+ghost use Rattle.scrypt_kernel.specs.Parts.{AreParts, part_of};
 
 pub mod diagonal;
 pub mod standard;
 
 use crate::CoreCount;
+use crate::parts::Parts;
 
-/// An order of the words in each block, and what scryptROMix computes in it.
-pub trait Order {
+/// The block X of a block mix (RFC 7914, section 4), or one of each chunk of a group, which are mixed
+/// at once. Its type is the order of the words, and how many chunks there are.
+pub trait Order: Copy {
     // pivot[i] is the standard index of the word stored at index i
     ghost pivot: { List ℕ };
 
     // inverse_pivot[i] is the index at which the word of standard index i is stored
     ghost inverse_pivot: { List ℕ };
 
-    // whether its cores are SIMD cores
+    // whether its cores are counted as SIMD cores
     ghost simd: { Bool };
+
+    // how many blocks, one of each chunk
+    ghost count: { ℕ };
+
+    // the words of block k
+    ghost held: { Self → ℕ → List ℕ };
+
+    /// Returns how many blocks there are, from one to four.
+    fn count() -> usize
+        ensures value { result ≡ count }
+        ensures some { 0 < result }
+        ensures few { result ≤ 4 };
 
     /// Puts words from standard order into this one.
     fn shuffle_in(x: &mut [u32])
@@ -40,16 +56,35 @@ pub trait Order {
         ensures value { result ≡ integerify (permuted inverse_pivot x.now) % 2 ^ log_n }
         ensures inside { result < 2 ^ log_n };
 
-    /// Replaces a block by its Salsa20/8 core, and counts it.
-    fn core(x: &mut [u32; 16], cores: &mut CoreCount)
-        ensures value { x.new ≡ permuted pivot (salsa20_8 (permuted inverse_pivot x.old)) }
-        ensures counted { AreCountedAs simd 1 cores.old cores.new };
+    /// Reads block `i` of each part.
+    fn read(parts: &Parts<'_>, i: usize) -> Self
+        requires all { AreParts count parts.now }
+        requires inside { 16 * i + 16 ≤ parts.now.len }
+        ensures value { (k : ℕ) → k < count → held result k ≡ block (part_of parts.now k) i };
+
+    /// Writes the blocks as block `i` of the parts of `x`, which is cut into parts of `s` words.
+    fn write(self, x: &mut [u32], s: usize, i: usize)
+        requires all { count * s ≤ length x.old }
+        requires inside { 16 * i + 16 ≤ s }
+        ensures written { (k : ℕ) → k < count → block (part s x.new k) i ≡ held self k }
+        ensures others { (k j : ℕ) → k < count → j ≢ i → block (part s x.new k) j ≡ block (part s x.old k) j };
+
+    /// Returns the Salsa20/8 core of each block (RFC 7914, section 3), and counts these cores.
+    fn core(self, cores: &mut CoreCount) -> Self
+        ensures value { (k : ℕ) → k < count → held result k
+            ≡ permuted pivot (salsa20_8 (permuted inverse_pivot (held self k))) }
+        ensures counted { AreCountedAs simd count cores.old cores.new };
+
+    /// Returns the exclusive or of each block with that of `y`.
+    fn xor(self, y: Self) -> Self
+        ensures value { (k : ℕ) → k < count → held result k ≡ xor_words (held self k) (held y k) };
 
     ghost inverse: { AreInverse pivot inverse_pivot };
 }
 
 // Returns the low `log_n` bits of the little-endian number that begins with these two words.
 #[inline(always)]
+#[tactic(auto, using(crate::proofs::IntegerifyFacts::low_bits))]
 fn low_bits(first: u32, second: u32, log_n: u8) -> usize
     requires { log_n ≤ 56 }
     ensures value { result ≡ (first + 2 ^ 32 * second) % 2 ^ log_n }

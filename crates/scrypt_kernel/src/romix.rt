@@ -1,16 +1,14 @@
 //! scryptROMix (RFC 7914, section 5).
 
-ghost use Rattle.std.specs.Prelude.{◌≡◌, ◌+◌, ◌-◌, ◌*◌, ◌/◌, ◌%◌, ◌<◌, ◌≤◌, false, length};
-ghost use Rattle.scrypt_kernel.specs.Words.{bytes_of, words_of};
+ghost use Rattle.std.specs.Prelude.{◌≡◌, ℕ, ◌+◌, ◌-◌, ◌*◌, ◌/◌, ◌%◌, ◌^◌, ◌<◌, ◌≤◌, false, length};
+ghost use Rattle.scrypt_kernel.specs.Words.{bytes_of, part, words_of};
 ghost use Rattle.scrypt_kernel.specs.Count.{AreCounted, AreCountedAs};
 ghost use Rattle.scrypt_kernel.specs.RoMix.{ro_mix};
 ghost use Rattle.scrypt_kernel.specs.Diagonal.{permuted};
+ghost use Rattle.scrypt_kernel.specs.KeptRows.{AreWalkLens};
 ghost use Rattle.scrypt_kernel.specs.Table.{thin_ro_mix_cost};
 ghost use Rattle.scrypt_kernel.specs.RoMixCost.{AreBytesOfB, AreRoMixLens, AreThinLens, ro_mix_cost};
 ghost use Rattle.scrypt_kernel.specs.RoMixCost.{scratch_words, table_words, thin_scratch_words};
-
-pub mod pair;
-pub mod three;
 
 use crate::CoreCount;
 use crate::memory::{Buffer, Memory};
@@ -22,44 +20,73 @@ pub use crate::order::standard::integerify_plain;
 use crate::table::fill;
 use crate::walk::take_steps;
 use crate::words::{read_words, write_words};
+use std::simd::u32x4;
 
-/// Replaces the bytes of `b` by their scryptROMix, with words in the order `O` and a table in `rows`
-/// that keeps each row whose number is a multiple of `2^s`. Counts the cores: `4 * N * r`, and
-/// `2 * r` more for each row that is recomputed.
+/// Replaces each chunk of `b` by its scryptROMix. All of them are mixed at once, with words in the order `O`,
+/// which has a block for each. They share one table, `rows`, which keeps each row whose number is a multiple
+/// of `2^s`. Counts the cores: `4 * N * r` for each chunk, and `2 * r` more for each row that is recomputed.
 ///
-/// `b` has `128 * r` bytes with `r` at least 1, `rows` has room for `32 * r * 2^(log_n - s)` words,
-/// the scratch `t` has `64 * r` words, or `96 * r` unless `s` is 0, `log_n` is at most 56, and `s` at
-/// most `log_n`. It does not matter what `rows` and `t` hold before the call, and what they hold
-/// after it is unspecified.
-pub fn mix_chunk<O: Order, M: Memory>(
+/// A chunk has `128 * r` bytes with `r` at least 1. For each chunk, `rows` has room for
+/// `32 * r * 2^(log_n - s)` words, and the scratch `t` for `64 * r` words. `log_n` is at most 56. Unless `s`
+/// is 0, there is one chunk, `s` is at most `log_n`, and `t` has `96 * r` words. It does not matter what
+/// `rows` and `t` hold before the call, and what they hold after it is unspecified.
+pub fn mix_chunks<O: Order, M: Memory>(
     b: &mut [u8],
+    r: usize,
     rows: &mut M,
     t: &mut [u32],
     log_n: u8,
     s: u8,
     cores: &mut CoreCount,
 )
-    requires input { AreBytesOfB (length b.old) log_n }
+    requires some { 0 < r }
+    requires chunks { length b.old ≡ O.count * (128 * r) }
+    requires small { log_n ≤ 56 }
     requires spacing { s ≤ log_n }
-    requires room { table_words (log_n - s) (length b.old / 128) ≤ M.room rows.old }
-    requires scratch { scratch_words (length b.old / 128) ≤ length t.old }
-    requires spare { 0 < s → thin_scratch_words (length b.old / 128) ≤ length t.old }
-    ensures value { b.new ≡ bytes_of (ro_mix (words_of b.old) log_n) }
+    requires alone { 0 < s → O.count ≡ 1 }
+    requires room { O.count * table_words (log_n - s) r ≤ M.room rows.old }
+    requires scratch { O.count * scratch_words r ≤ length t.old }
+    requires spare { 0 < s → thin_scratch_words r ≤ length t.old }
+    ensures value { (k : ℕ) → k < O.count
+        → part (128 * r) b.new k ≡ bytes_of (ro_mix (words_of (part (128 * r) b.old k)) log_n) }
     ensures room { M.room rows.old ≤ M.room rows.new }
     ensures counted { AreCountedAs O.simd
-        (thin_ro_mix_cost (words_of b.old) log_n s (length b.old / 128)) cores.old cores.new }
+        (O.count * thin_ro_mix_cost (words_of (part (128 * r) b.old 0)) log_n s r) cores.old cores.new }
 {
-    let words = b.len() / 4;
-    let (x, rest) = t.split_at_mut(words);
-    let (y, spare) = rest.split_at_mut(words);
+    let n = O::count();
+    let len = 32 * r;
+    let (x, rest) = t.split_at_mut(n * len);
+    let (y, spare) = rest.split_at_mut(n * len);
     // Step 1: X = B.
     read_in::<O>(b, x);
-    // Step 2: for i = 0 to N - 1 do V[i] = X, X = scryptBlockMix (X).
-    fill::<O, M>(rows, x, y, log_n, s, cores);
-    // Step 3: for i = 0 to N - 1 do j = Integerify (X) mod N, T = X xor V[j], X = scryptBlockMix (T).
-    take_steps::<O>(x, rows.words(), y, spare, log_n, s, cores);
+    fill_and_walk::<O, M>(rows, x, y, spare, len, log_n, s, cores);
     // Step 4: B' = X.
     write_out::<O>(x, b);
+}
+
+// Steps 2 and 3, for X in `x` before and after. What `y` and `spare` hold after the call is unspecified.
+fn fill_and_walk<O: Order, M: Memory>(
+    rows: &mut M,
+    x: &mut [u32],
+    y: &mut [u32],
+    spare: &mut [u32],
+    len: usize,
+    log_n: u8,
+    s: u8,
+    cores: &mut CoreCount,
+)
+    requires lens { AreWalkLens O.count len log_n s (length x.old) (length y.old) (length spare.old) (2 ^ (log_n - s) * (O.count * len)) }
+    requires room { 2 ^ (log_n - s) * (O.count * len) ≤ M.room rows.old }
+    ensures value { (k : ℕ) → k < O.count
+        → part len x.new k ≡ permuted O.pivot (ro_mix (permuted O.inverse_pivot (part len x.old k)) log_n) }
+    ensures room { M.room rows.old ≤ M.room rows.new }
+    ensures counted { AreCountedAs O.simd
+        (O.count * thin_ro_mix_cost (permuted O.inverse_pivot (part len x.old 0)) log_n s (len / 32)) cores.old cores.new }
+{
+    // Step 2: for i = 0 to N - 1 do V[i] = X, X = scryptBlockMix (X).
+    fill::<O, M>(rows, x, y, len, log_n, s, cores);
+    // Step 3: for i = 0 to N - 1 do j = Integerify (X) mod N, T = X xor V[j], X = scryptBlockMix (T).
+    take_steps::<O>(x, rows.words(), y, spare, len, log_n, s, cores);
 }
 
 // Reads the words of `b` in the order `O`.
@@ -88,12 +115,14 @@ fn write_out<O: Order>(x: &mut [u32], b: &mut [u8])
 /// `b` has `128 * r` bytes with `r` at least 1, the table `v` has `32 * r * N` words, the scratch
 /// `t` has `64 * r` words, and `log_n` is at most 56. It does not matter what `v` and `t` hold
 /// before the call, and what they hold after it is unspecified.
+#[tactic(auto, using(crate::proofs::ChunkFacts::mixed_alone))]
 pub fn scrypt_ro_mix(b: &mut [u8], v: &mut [u32], t: &mut [u32], log_n: u8, cores: &mut CoreCount)
     requires lens { AreRoMixLens log_n (length b.old) (length v.old) (length t.old) }
     ensures value { b.new ≡ bytes_of (ro_mix (words_of b.old) log_n) }
     ensures counted { AreCounted (ro_mix_cost log_n (length b.old / 128)) cores.old cores.new }
 {
-    mix_chunk::<Diagonal, Buffer<'_>>(b, &mut Buffer::new(v), t, log_n, 0, cores);
+    let r = b.len() / 128;
+    mix_chunks::<Diagonal<u32x4>, Buffer<'_>>(b, r, &mut Buffer::new(v), t, log_n, 0, cores);
 }
 
 /// Does what [`scrypt_ro_mix`] does, with a table that keeps each row whose number is a multiple of
@@ -103,6 +132,7 @@ pub fn scrypt_ro_mix(b: &mut [u8], v: &mut [u32], t: &mut [u32], log_n: u8, core
 /// `b` has `128 * r` bytes with `r` at least 1, the table `v` has `32 * r * 2^(log_n - s)` words,
 /// the scratch `t` has `96 * r` words, `log_n` is at most 56, and `s` at most `log_n`. It does not
 /// matter what `v` and `t` hold before the call, and what they hold after it is unspecified.
+#[tactic(auto, using(crate::proofs::ChunkFacts::mixed_alone))]
 pub fn thin_ro_mix(
     b: &mut [u8],
     v: &mut [u32],
@@ -116,17 +146,20 @@ pub fn thin_ro_mix(
     ensures counted { AreCounted
         (thin_ro_mix_cost (words_of b.old) log_n s (length b.old / 128)) cores.old cores.new }
 {
-    mix_chunk::<Diagonal, Buffer<'_>>(b, &mut Buffer::new(v), t, log_n, s, cores);
+    let r = b.len() / 128;
+    mix_chunks::<Diagonal<u32x4>, Buffer<'_>>(b, r, &mut Buffer::new(v), t, log_n, s, cores);
 }
 
 /// Does what [`scrypt_ro_mix`] does, with block mixes on words in standard order: no core is
 /// counted as a SIMD core.
 ///
 /// The lengths are those of [`scrypt_ro_mix`].
+#[tactic(auto, using(crate::proofs::ChunkFacts::mixed_alone))]
 pub fn plain_ro_mix(b: &mut [u8], v: &mut [u32], t: &mut [u32], log_n: u8, cores: &mut CoreCount)
     requires lens { AreRoMixLens log_n (length b.old) (length v.old) (length t.old) }
     ensures value { b.new ≡ bytes_of (ro_mix (words_of b.old) log_n) }
     ensures counted { AreCountedAs false (ro_mix_cost log_n (length b.old / 128)) cores.old cores.new }
 {
-    mix_chunk::<Standard, Buffer<'_>>(b, &mut Buffer::new(v), t, log_n, 0, cores);
+    let r = b.len() / 128;
+    mix_chunks::<Standard, Buffer<'_>>(b, r, &mut Buffer::new(v), t, log_n, 0, cores);
 }

@@ -1,19 +1,18 @@
 //! The table of scryptROMix (RFC 7914, section 5, step 2), which keeps each row of V whose number is
 //! a multiple of `2^s`. With `s` of 0 it is the whole V.
+//!
+//! Several chunks share a table, whose rows have `len` words of each chunk, one after another.
 
-ghost use Rattle.std.specs.Prelude.{◌≡◌, ◌+◌, ◌-◌, ◌*◌, ◌/◌, ◌%◌, ◌^◌, ◌<◌, ◌≤◌, ◌++◌, length};
+ghost use Rattle.std.specs.Prelude.{◌≡◌, ℕ, ◌+◌, ◌-◌, ◌*◌, ◌/◌, ◌%◌, ◌^◌, ◌<◌, ◌≤◌, length};
 ghost use Rattle.scrypt_kernel.specs.Words.{part};
 ghost use Rattle.scrypt_kernel.specs.Count.{AreCountedAs};
-ghost use Rattle.scrypt_kernel.specs.RoMix.{row};
-ghost use Rattle.scrypt_kernel.specs.KeptRows.{IsFilled, IsRowLen};
-ghost use Rattle.scrypt_kernel.specs.Diagonal.{permuted};
-
-pub(crate) mod pair;
+ghost use Rattle.scrypt_kernel.specs.KeptRows.{AddsRow, IsFilled, IsRowLen, mixed_in};
 
 use crate::CoreCount;
 use crate::block_mix::mix;
 use crate::memory::Memory;
 use crate::order::Order;
+use crate::parts::Parts;
 use crate::words::part;
 
 /// Step 2: for i = 0 to N - 1 do V[i] = X, X = scryptBlockMix (X).
@@ -23,26 +22,35 @@ pub(crate) fn fill<O: Order, M: Memory>(
     rows: &mut M,
     x: &mut [u32],
     y: &mut [u32],
+    len: usize,
     log_n: u8,
     s: u8,
     cores: &mut CoreCount,
 )
-    requires row { IsRowLen (length x.old) }
+    requires row { IsRowLen len }
+    requires chunks { length x.old ≡ O.count * len }
     requires scratch { length y.old ≡ length x.old }
     requires small { log_n ≤ 56 }
     requires spacing { s ≤ log_n }
-    requires room { 2 ^ (log_n - s) * length x.old ≤ M.room rows.old }
+    requires room { 2 ^ (log_n - s) * (O.count * len) ≤ M.room rows.old }
     ensures room { M.room rows.old ≤ M.room rows.new }
-    ensures filled { IsFilled O.pivot O.inverse_pivot log_n s x.old (M.words rows.new) x.new }
-    ensures counted { AreCountedAs O.simd (2 ^ log_n * (2 * (length x.old / 32))) cores.old cores.new }
+    ensures filled { IsFilled O.pivot O.inverse_pivot O.count len log_n s x.old (M.words rows.new) x.new }
+    ensures counted { AreCountedAs O.simd (2 ^ log_n * (O.count * (2 * (len / 32)))) cores.old cores.new }
 {
     rows.clear();
     rows.append(x);
     let last = (1usize << (log_n - s)) - 1;
     'rows: for m in 0..last {
-        append_next::<O, M>(rows, m, s, x, y, cores);
+        append_next::<O, M>(rows, m, len, s, x, y, cores);
     }
-    recompute::<O>(part(x.len(), rows.words(), last), 1usize << s, x, y, cores);
+    recompute::<O>(
+        part(x.len(), rows.words(), last),
+        len,
+        1usize << s,
+        x,
+        y,
+        cores,
+    );
 }
 
 // Appends the row that is `2^s` rows after the last one, which is the kept row `m`. What `x` and `y`
@@ -51,25 +59,33 @@ pub(crate) fn fill<O: Order, M: Memory>(
 fn append_next<O: Order, M: Memory>(
     rows: &mut M,
     m: usize,
+    len: usize,
     s: u8,
     x: &mut [u32],
     y: &mut [u32],
     cores: &mut CoreCount,
 )
-    requires row { IsRowLen (length x.old) }
+    requires row { IsRowLen len }
+    requires chunks { length x.old ≡ O.count * len }
     requires scratch { length y.old ≡ length x.old }
     requires small { s ≤ 56 }
-    requires last { length (M.words rows.old) ≡ (m + 1) * length x.old }
-    requires room { (m + 2) * length x.old ≤ M.room rows.old }
-    ensures words { M.words rows.new ≡ M.words rows.old ++ permuted O.pivot
-        (row (permuted O.inverse_pivot (part (length x.old) (M.words rows.old) m)) (2 ^ s)) }
+    requires last { length (M.words rows.old) ≡ (m + 1) * (O.count * len) }
+    requires room { (m + 2) * (O.count * len) ≤ M.room rows.old }
+    ensures words { AddsRow (mixed_in O.pivot O.inverse_pivot (2 ^ s)) O.count len m (M.words rows.old) (M.words rows.new) }
     ensures room { M.room rows.old ≤ M.room rows.new }
-    ensures counted { AreCountedAs O.simd (2 ^ s * (2 * (length x.old / 32))) cores.old cores.new }
+    ensures counted { AreCountedAs O.simd (2 ^ s * (O.count * (2 * (len / 32)))) cores.old cores.new }
 {
     if s == 0 {
-        rows.append_mix::<O>(m, x, cores);
+        rows.append_mix::<O>(m, len, x, cores);
     } else {
-        recompute::<O>(part(x.len(), rows.words(), m), 1usize << s, x, y, cores);
+        recompute::<O>(
+            part(x.len(), rows.words(), m),
+            len,
+            1usize << s,
+            x,
+            y,
+            cores,
+        );
         rows.append(x);
     }
 }
@@ -79,27 +95,42 @@ fn append_next<O: Order, M: Memory>(
 /// `n` is at least 1. What `y` holds after the call is unspecified.
 pub(crate) fn recompute<O: Order>(
     kept: &[u32],
+    len: usize,
     n: usize,
     x: &mut [u32],
     y: &mut [u32],
     cores: &mut CoreCount,
 )
     requires count { 0 < n }
-    requires row { IsRowLen (length kept.now) }
+    requires row { IsRowLen len }
+    requires chunks { length kept.now ≡ O.count * len }
     requires same { length x.old ≡ length kept.now }
     requires scratch { length y.old ≡ length kept.now }
-    ensures value { x.new ≡ permuted O.pivot (row (permuted O.inverse_pivot kept.now) n) }
-    ensures counted { AreCountedAs O.simd (n * (2 * (length kept.now / 32))) cores.old cores.new }
+    ensures value { (k : ℕ) → k < O.count → part len x.new k ≡ mixed_in O.pivot O.inverse_pivot n (part len kept.now k) }
+    ensures counted { AreCountedAs O.simd (n * (O.count * (2 * (len / 32)))) cores.old cores.new }
 {
     if n % 2 == 0 {
-        mix::<O, &[u32]>(&kept, y, cores);
-        mix::<O, &[u32]>(&&*y, x, cores);
+        mix_row::<O>(kept, y, len, cores);
+        mix_row::<O>(y, x, len, cores);
     } else {
-        mix::<O, &[u32]>(&kept, x, cores);
+        mix_row::<O>(kept, x, len, cores);
     }
     // An even number of block mixes is left, which end in `x`.
     'pairs: for _k in 0..(n - 1) / 2 {
-        mix::<O, &[u32]>(&&*x, y, cores);
-        mix::<O, &[u32]>(&&*y, x, cores);
+        mix_row::<O>(x, y, len, cores);
+        mix_row::<O>(y, x, len, cores);
     }
+}
+
+// The row after the row `x`.
+#[inline(always)]
+#[tactic(auto, using(crate::proofs::RoMixFacts::one_mix))]
+fn mix_row<O: Order>(x: &[u32], y: &mut [u32], len: usize, cores: &mut CoreCount)
+    requires row { IsRowLen len }
+    requires chunks { length x.now ≡ O.count * len }
+    requires same { length y.old ≡ length x.now }
+    ensures value { (k : ℕ) → k < O.count → part len y.new k ≡ mixed_in O.pivot O.inverse_pivot 1 (part len x.now k) }
+    ensures counted { AreCountedAs O.simd (O.count * (2 * (len / 32))) cores.old cores.new }
+{
+    mix::<O, Parts<'_>>(&Parts::of(x, len, O::count()), y, len, cores);
 }

@@ -28,6 +28,7 @@ pub(crate) fn write_words(words: &[u32], bytes: &mut [u8])
 
 /// Adds `y` to `x`, word by word.
 #[inline(always)]
+#[tactic(auto, using(crate::proofs::WordFacts::zip2_all))]
 pub(crate) fn add_words(x: &mut [u32], y: &[u32])
     requires { length x.old ≡ length y.now }
     ensures { x.new ≡ add_words x.old y.now }
@@ -49,6 +50,7 @@ pub(crate) fn part(s: usize, x: &[u32], k: usize) -> &[u32]
 
 /// Returns block `k` of `x`.
 #[inline(always)]
+#[tactic(auto, using(crate::proofs::PartFacts::block_alone))]
 pub(crate) fn block_at(x: &[u32], k: usize) -> [u32; 16]
     requires { 16 * k + 16 ≤ length x.now }
     ensures { result ≡ block x.now k }
@@ -62,6 +64,7 @@ pub(crate) fn block_at(x: &[u32], k: usize) -> [u32; 16]
 
 /// Writes `from` as block `k` of `x`.
 #[inline(always)]
+#[tactic(auto, using(crate::proofs::PartFacts::block_alone))]
 pub(crate) fn put_block(x: &mut [u32], k: usize, from: &[u32; 16])
     requires { 16 * k + 16 ≤ length x.old }
     ensures written { block x.new k ≡ from.now }
@@ -101,4 +104,17 @@ pub(crate) fn put_lanes(x: &mut [u32], k: usize, from: u32x4)
     ensures others { (j : ℕ) → j ≢ k → part 4 x.new j ≡ part 4 x.old j }
 {
     from.copy_to_slice(&mut x[4 * k..4 * k + 4]);
+}
+
+/// Writes four lanes as vector `j` of part `k` of `x`, which is cut into parts of `s` words.
+#[inline(always)]
+#[tactic(auto, using(crate::proofs::PartFacts::part_put_other))]
+pub(crate) fn put_in_part(x: &mut [u32], s: usize, k: usize, j: usize, from: u32x4)
+    requires inside { 4 * j + 4 ≤ s }
+    requires room { k * s + s ≤ length x.old }
+    ensures written { part 4 (part s x.new k) j ≡ from }
+    ensures others { (i : ℕ) → i ≢ j → part 4 (part s x.new k) i ≡ part 4 (part s x.old k) i }
+    ensures parts { (i : ℕ) → i ≢ k → part s x.new i ≡ part s x.old i }
+{
+    put_lanes(&mut x[k * s..k * s + s], j, from);
 }

@@ -10,6 +10,8 @@ use crate::block_mix::mix;
 pub use crate::cores::lanes::core;
 use crate::order::diagonal::Diagonal;
 pub use crate::order::diagonal::{shuffle_in, shuffle_out};
+use crate::parts::Parts;
+use std::simd::u32x4;
 
 /// Writes the block mix of `input` to `output`, both in diagonal order, and counts its `2 * r`
 /// cores, all of them as SIMD cores (RFC 7914, section 4).
@@ -23,5 +25,6 @@ pub fn scrypt_block_mix(input: &[u32], output: &mut [u32], cores: &mut CoreCount
     ensures value { output.new ≡ diagonal_order (block_mix (standard_order input.now)) }
     ensures counted { AreCounted (2 * (length input.now / 32)) cores.old cores.new }
 {
-    mix::<Diagonal, &[u32]>(&input, output, cores);
+    let s = input.len();
+    mix::<Diagonal<u32x4>, Parts<'_>>(&Parts::of(input, s, 1), output, s, cores);
 }

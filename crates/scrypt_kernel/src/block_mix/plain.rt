@@ -7,6 +7,7 @@ ghost use Rattle.scrypt_kernel.specs.BlockMix.{block_mix};
 use crate::CoreCount;
 use crate::block_mix::mix;
 use crate::order::standard::Standard;
+use crate::parts::Parts;
 
 /// Writes the block mix of `input` to `output`, and counts its `2 * r` cores (RFC 7914, section 4).
 ///
@@ -19,5 +20,6 @@ pub fn scrypt_block_mix(input: &[u32], output: &mut [u32], cores: &mut CoreCount
     ensures value { output.new ≡ block_mix input.now }
     ensures counted { AreCountedAs false (2 * (length input.now / 32)) cores.old cores.new }
 {
-    mix::<Standard, &[u32]>(&input, output, cores);
+    let s = input.len();
+    mix::<Standard, Parts<'_>>(&Parts::of(input, s, 1), output, s, cores);
 }

@@ -1,14 +1,18 @@
-//! The Salsa20/8 core (RFC 7914, section 3) on words in diagonal order, four lanes at a time.
+//! The Salsa20/8 core (RFC 7914, section 3) on words in diagonal order, of one block or of several
+//! side by side. Each vector has four lanes of every block.
 
-ghost use Rattle.std.specs.Prelude.{◌≡◌, ◌+◌, ◌*◌, ◌<◌, ◌++◌};
-ghost use Rattle.scrypt_kernel.specs.Salsa.{double_round, salsa20_8};
+ghost use Rattle.std.specs.Prelude.{◌≡◌, ◌≢◌, ℕ, ◌+◌, ◌*◌, ◌/◌, ◌<◌, ◌≤◌, ◌++◌, List, length};
+ghost use Rattle.scrypt_kernel.specs.Words.{add_words, part, xor_words};
+ghost use Rattle.scrypt_kernel.specs.Salsa.{salsa20_8};
 ghost use Rattle.scrypt_kernel.specs.Count.{AreCounted};
-ghost use Rattle.scrypt_kernel.specs.Diagonal.{diagonal_order, standard_order};
-ghost use Rattle.scrypt_kernel.specs.Lanes.{lanes_of, quarter_rounds, turned, xor_rotated};
+ghost use Rattle.scrypt_kernel.specs.Diagonal.{diagonal_core, diagonal_order, standard_order};
+ghost use Rattle.scrypt_kernel.specs.Lanes.{AreFourEach, at, quarter_rounds, turned, turned_left, xor_rotated};
+ghost use Rattle.scrypt_kernel.specs.Parts.{AreParts, part_of};
 
 use crate::cores::CoreCount;
-use crate::words::{lanes, put_lanes};
-use std::simd::{Simd, u32x4};
+use crate::parts::Parts;
+use crate::words::{lanes, put_in_part, put_lanes};
+use std::simd::{Simd, u32x4, u32x8};
 
 /// Replaces the 16 words, which are in diagonal order, by their Salsa20/8 core in diagonal order, and
 /// counts it as a SIMD core (RFC 7914, section 3).
@@ -17,68 +21,379 @@ pub fn core(x: &mut [u32; 16], cores: &mut CoreCount)
     ensures value { x.new ≡ diagonal_order (salsa20_8 (standard_order x.old)) }
     ensures counted { AreCounted 1 cores.old cores.new }
 {
-    let from = *x;
-    salsa20_8(x);
-    *cores = CoreCount::after_core(cores, &from, x);
+    let from = Diagonal {
+        a: lanes(x, 0),
+        b: lanes(x, 1),
+        c: lanes(x, 2),
+        d: lanes(x, 3),
+    };
+    *x = from.mixed(cores).block(0);
 }
 
-#[inline(always)]
-fn salsa20_8(x: &mut [u32; 16])
-    ensures { x.new ≡ diagonal_order (salsa20_8 (standard_order x.old)) }
-{
-    let (a, b, c, d) = (lanes(x, 0), lanes(x, 1), lanes(x, 2), lanes(x, 3));
-    let once = double_round(a, b, c, d);
-    let twice = double_round(once.0, once.1, once.2, once.3);
-    let thrice = double_round(twice.0, twice.1, twice.2, twice.3);
-    let all = double_round(thrice.0, thrice.1, thrice.2, thrice.3);
-    put_all(x, a + all.0, b + all.1, c + all.2, d + all.3);
+/// A block, or several side by side, with the words in diagonal order, as four vectors.
+#[derive(Clone, Copy)]
+pub struct Diagonal<V> {
+    pub(crate) a: V,
+    pub(crate) b: V,
+    pub(crate) c: V,
+    pub(crate) d: V,
 }
 
-// Writes the lanes of four vectors, one vector after another.
-#[inline(always)]
-pub(super) fn put_all(x: &mut [u32; 16], a: u32x4, b: u32x4, c: u32x4, d: u32x4)
-    ensures { lanes_of x.new ≡ (a, b, c, d) }
-{
-    put_lanes(x, 0, a);
-    put_lanes(x, 1, b);
-    put_lanes(x, 2, c);
-    put_lanes(x, 3, d);
+impl<V: Lanes> Diagonal<V> {
+    ghost use Rattle.std.specs.Prelude.{◌≡◌, ℕ, ◌<◌};
+    ghost use Rattle.scrypt_kernel.specs.Count.{AreCounted};
+    ghost use Rattle.scrypt_kernel.specs.Diagonal.{diagonal_core, diagonal_round};
+    ghost use Rattle.scrypt_kernel.specs.Side.{AreWhole, block_of};
+
+    /// Returns the Salsa20/8 core of each block, and counts them as SIMD cores.
+    #[inline(always)]
+    pub(crate) fn mixed(self, cores: &mut CoreCount) -> Diagonal<V>
+        ensures value { (k : ℕ) → k < V.count → block_of V.lanes result k ≡ diagonal_core (block_of V.lanes self k) }
+        ensures counted { AreCounted V.count cores.old cores.new }
+    {
+        let mixed = self.salsa20_8();
+        self.count(&mixed, cores);
+        mixed
+    }
+
+    // Counts the cores whose inputs are these blocks and whose outputs are those of `mixed`. The compiler
+    // removes it, since a count has no bytes.
+    fn count(&self, mixed: &Diagonal<V>, cores: &mut CoreCount)
+        requires { (k : ℕ) → k < V.count → block_of V.lanes mixed.now k ≡ diagonal_core (block_of V.lanes self.now k) }
+        ensures { AreCounted V.count cores.old cores.new }
+    {
+        'each: for k in 0..V::count() {
+            *cores = CoreCount::after_core(cores, &self.block(k), &mixed.block(k));
+        }
+    }
+
+    #[inline(always)]
+    fn salsa20_8(self) -> Diagonal<V>
+        ensures whole { (k : ℕ) → k < V.count → AreWhole V.lanes self k }
+        ensures value { (k : ℕ) → k < V.count → block_of V.lanes result k ≡ diagonal_core (block_of V.lanes self k) }
+    {
+        let once = self.double_round();
+        let twice = once.double_round();
+        let thrice = twice.double_round();
+        let all = thrice.double_round();
+        Diagonal {
+            a: self.a.plus(all.a),
+            b: self.b.plus(all.b),
+            c: self.c.plus(all.c),
+            d: self.d.plus(all.d),
+        }
+    }
+
+    // A double round is two turns: the first is the columns, and the second the rows.
+    #[inline(always)]
+    fn double_round(self) -> Diagonal<V>
+        ensures whole { (k : ℕ) → k < V.count → AreWhole V.lanes self k }
+        ensures value { (k : ℕ) → k < V.count → block_of V.lanes result k ≡ diagonal_round (block_of V.lanes self k) }
+        ensures still_whole { (k : ℕ) → k < V.count → AreWhole V.lanes result k }
+    {
+        let (a, b, c, d) = turn(self.a, self.b, self.c, self.d);
+        let (a, b, c, d) = turn(a, b, c, d);
+        Diagonal { a, b, c, d }
+    }
+
+    /// Returns block `k`.
+    fn block(&self, k: usize) -> [u32; 16]
+        requires { k < V.count }
+        ensures { result ≡ block_of V.lanes self.now k }
+    {
+        let mut words = [0u32; 16];
+        put_lanes(&mut words, 0, self.a.four(k));
+        put_lanes(&mut words, 1, self.b.four(k));
+        put_lanes(&mut words, 2, self.c.four(k));
+        put_lanes(&mut words, 3, self.d.four(k));
+        words
+    }
 }
 
-// A double round is two turns: the first is the columns, and the second the rows.
-#[inline(always)]
-fn double_round(a: u32x4, b: u32x4, c: u32x4, d: u32x4) -> (u32x4, u32x4, u32x4, u32x4)
-    ensures { result
-        ≡ lanes_of (diagonal_order (double_round (standard_order (a ++ b ++ c ++ d)))) }
-{
-    let (a, b, c, d) = turn(a, b, c, d);
-    turn(a, b, c, d)
+/// A vector with four lanes of each block of a group.
+pub trait Lanes: Copy {
+    // how many blocks
+    ghost count: { ℕ };
+
+    // the lanes of block k
+    ghost lanes: { Self → ℕ → List ℕ };
+
+    /// Returns how many blocks there are.
+    fn count() -> usize
+        ensures value { result ≡ count }
+        ensures some { 0 < result }
+        ensures few { result ≤ 4 };
+
+    /// Reads four words of each part, from part `first` on: those at places `4 * j` to `4 * j + 3`.
+    fn read(parts: &Parts<'_>, first: usize, j: usize) -> Self
+        requires all { AreParts (first + count) parts.now }
+        requires inside { 4 * j + 4 ≤ parts.now.len }
+        ensures { (k : ℕ) → k < count → lanes result k ≡ part 4 (part_of parts.now (first + k)) j };
+
+    /// Writes them to these places of the parts of `x`, which is cut into parts of `s` words.
+    #[inline]
+    fn write(self, x: &mut [u32], s: usize, j: usize)
+        requires all { count * s ≤ length x.old }
+        requires inside { 4 * j + 4 ≤ s }
+        ensures written { (k : ℕ) → k < count → part 4 (part s x.new k) j ≡ lanes self k }
+        ensures others { (k i : ℕ) → i ≢ j → part 4 (part s x.new k) i ≡ part 4 (part s x.old k) i }
+    {
+        'parts: for k in 0..Self::count() {
+            put_in_part(x, s, k, j, self.four(k));
+        }
+    }
+
+    /// Adds word by word.
+    fn plus(self, y: Self) -> Self
+        ensures { (k : ℕ) → lanes result k ≡ add_words (lanes self k) (lanes y k) };
+
+    /// The exclusive or.
+    fn xor(self, y: Self) -> Self
+        ensures four { (k : ℕ) → k < count → ((length (lanes self k) ≡ 4) × (length (lanes y k) ≡ 4)) }
+        ensures value { (k : ℕ) → lanes result k ≡ xor_words (lanes self k) (lanes y k) };
+
+    /// The exclusive or of each word with that of `y` rotated to the left by `bits` bits.
+    fn xor_rotated(self, y: Self, bits: u32) -> Self
+        requires { (0 < bits) × (bits < 32) }
+        ensures four { (k : ℕ) → k < count → length (lanes self k) ≡ 4 }
+        ensures value { (k : ℕ) → lanes result k ≡ xor_rotated bits (lanes self k) (lanes y k) };
+
+    /// Turns the lanes of each block to the left: those of `d` by one place, those of `c` by two, and
+    /// those of `b` by three.
+    fn turned(b: Self, c: Self, d: Self) -> (Self, Self, Self)
+        ensures { (k : ℕ) → k < count
+            → ((lanes result.0 k ≡ turned_left 1 (lanes d k))
+            × (lanes result.1 k ≡ turned_left 2 (lanes c k))
+            × (lanes result.2 k ≡ turned_left 3 (lanes b k))) };
+
+    /// Returns the lanes of block `k`.
+    fn four(self, k: usize) -> u32x4
+        requires { k < count }
+        ensures { result ≡ lanes self k };
 }
 
-// Four quarter rounds at once, one in each lane. Then the lanes are turned: from the columns of the
-// block they become the rows, and the other way round.
-#[inline(always)]
-fn turn(a: u32x4, b: u32x4, c: u32x4, d: u32x4) -> (u32x4, u32x4, u32x4, u32x4)
-    ensures { result ≡ turned (quarter_rounds a b c d) }
-{
-    let (a, b, c, d) = quarter_round(a, b, c, d);
-    (
-        a,
-        d.rotate_elements_left::<1>(),
-        c.rotate_elements_left::<2>(),
-        b.rotate_elements_left::<3>(),
-    )
+/// One of the two vectors of [`Both`].
+pub trait Half: Lanes {
+    /// States that it has at most two blocks. Does nothing at run time.
+    fn few()
+        ensures { Self.count ≤ 2 };
 }
 
+impl Lanes for u32x4 {
+    ghost count = { 1 };
+
+    ghost lanes = { λ v k. part 4 v k };
+
+    #[inline]
+    fn count() -> usize {
+        1
+    }
+
+    #[inline]
+    fn read(parts: &Parts<'_>, first: usize, j: usize) -> u32x4 {
+        lanes(parts.part(first), j)
+    }
+
+    #[inline]
+    fn plus(self, y: u32x4) -> u32x4 {
+        plus(self, y)
+    }
+
+    #[inline]
+    fn xor(self, y: u32x4) -> u32x4 {
+        xor(self, y)
+    }
+
+    #[inline]
+    fn xor_rotated(self, y: u32x4, bits: u32) -> u32x4 {
+        xor_rotated(self, y, bits)
+    }
+
+    #[inline]
+    fn turned(b: u32x4, c: u32x4, d: u32x4) -> (u32x4, u32x4, u32x4) {
+        (
+            d.rotate_elements_left::<1>(),
+            c.rotate_elements_left::<2>(),
+            b.rotate_elements_left::<3>(),
+        )
+    }
+
+    #[inline]
+    fn four(self, k: usize) -> u32x4 {
+        four_of(self, k)
+    }
+}
+
+impl Half for u32x4 {
+    fn few() {}
+}
+
+impl Lanes for u32x8 {
+    ghost count = { 2 };
+
+    ghost lanes = { λ v k. part 4 v k };
+
+    #[inline]
+    fn count() -> usize {
+        2
+    }
+
+    #[inline]
+    fn read(parts: &Parts<'_>, first: usize, j: usize) -> u32x8 {
+        let x = lanes(parts.part(first), j);
+        let y = lanes(parts.part(first + 1), j);
+        x.shuffle(y, [0, 1, 2, 3, 4, 5, 6, 7])
+    }
+
+    #[inline]
+    fn plus(self, y: u32x8) -> u32x8 {
+        plus(self, y)
+    }
+
+    #[inline]
+    fn xor(self, y: u32x8) -> u32x8 {
+        xor(self, y)
+    }
+
+    #[inline]
+    fn xor_rotated(self, y: u32x8, bits: u32) -> u32x8 {
+        xor_rotated(self, y, bits)
+    }
+
+    #[inline]
+    fn turned(b: u32x8, c: u32x8, d: u32x8) -> (u32x8, u32x8, u32x8) {
+        (
+            d.swizzle([1, 2, 3, 0, 5, 6, 7, 4]),
+            c.swizzle([2, 3, 0, 1, 6, 7, 4, 5]),
+            b.swizzle([3, 0, 1, 2, 7, 4, 5, 6]),
+        )
+    }
+
+    #[inline]
+    fn four(self, k: usize) -> u32x4 {
+        four_of(self, k)
+    }
+}
+
+impl Half for u32x8 {
+    fn few() {}
+}
+
+/// The lanes of the blocks of two vectors.
+#[derive(Clone, Copy)]
+pub struct Both<A, B> {
+    pub(crate) a: A,
+    pub(crate) b: B,
+}
+
+impl<A: Half, B: Half> Lanes for Both<A, B> {
+    ghost use Rattle.std.specs.Prelude.{ℕ, ◌+◌};
+    ghost use Rattle.scrypt_kernel.specs.Lanes.{of_both};
+
+    ghost count = { A.count + B.count };
+
+    ghost lanes = { λ v k. of_both A.count (A.lanes v.a) (B.lanes v.b) k };
+
+    #[inline]
+    fn count() -> usize {
+        A::few();
+        B::few();
+        A::count() + B::count()
+    }
+
+    #[inline]
+    fn read(parts: &Parts<'_>, first: usize, j: usize) -> Both<A, B> {
+        Both {
+            a: A::read(parts, first, j),
+            b: B::read(parts, first + A::count(), j),
+        }
+    }
+
+    #[inline]
+    fn plus(self, y: Both<A, B>) -> Both<A, B> {
+        Both {
+            a: self.a.plus(y.a),
+            b: self.b.plus(y.b),
+        }
+    }
+
+    #[inline]
+    fn xor(self, y: Both<A, B>) -> Both<A, B> {
+        Both {
+            a: self.a.xor(y.a),
+            b: self.b.xor(y.b),
+        }
+    }
+
+    #[inline]
+    fn xor_rotated(self, y: Both<A, B>, bits: u32) -> Both<A, B> {
+        Both {
+            a: self.a.xor_rotated(y.a, bits),
+            b: self.b.xor_rotated(y.b, bits),
+        }
+    }
+
+    #[inline]
+    fn turned(b: Both<A, B>, c: Both<A, B>, d: Both<A, B>) -> (Both<A, B>, Both<A, B>, Both<A, B>) {
+        let x = A::turned(b.a, c.a, d.a);
+        let y = B::turned(b.b, c.b, d.b);
+        (
+            Both { a: x.0, b: y.0 },
+            Both { a: x.1, b: y.1 },
+            Both { a: x.2, b: y.2 },
+        )
+    }
+
+    #[inline]
+    fn four(self, k: usize) -> u32x4 {
+        if k < A::count() {
+            self.a.four(k)
+        } else {
+            self.b.four(k - A::count())
+        }
+    }
+}
+
+// Adds word by word.
 #[inline(always)]
-fn quarter_round(a: u32x4, b: u32x4, c: u32x4, d: u32x4) -> (u32x4, u32x4, u32x4, u32x4)
-    ensures { result ≡ quarter_rounds a b c d }
+fn plus<const N: usize>(x: Simd<u32, N>, y: Simd<u32, N>) -> Simd<u32, N>
+    ensures { (k : ℕ) → part 4 result k ≡ add_words (part 4 x.entry k) (part 4 y.entry k) }
 {
-    let b = xor_rotated(b, a + d, 7);
-    let c = xor_rotated(c, b + a, 9);
-    let d = xor_rotated(d, c + b, 13);
-    let a = xor_rotated(a, d + c, 18);
-    (a, b, c, d)
+    x + y
+}
+
+// The exclusive or.
+#[inline(always)]
+fn xor<const N: usize>(x: Simd<u32, N>, y: Simd<u32, N>) -> Simd<u32, N>
+    ensures four { (k : ℕ) → 4 * k + 4 ≤ N → ((length (part 4 x.entry k) ≡ 4) × (length (part 4 y.entry k) ≡ 4)) }
+    ensures value { (k : ℕ) → part 4 result k ≡ xor_words (part 4 x.entry k) (part 4 y.entry k) }
+{
+    x ^ y
+}
+
+// Part `k` of the lanes, which are cut into parts of four.
+#[inline(always)]
+fn four_of<const N: usize>(x: Simd<u32, N>, k: usize) -> u32x4
+    requires { 4 * k + 4 ≤ N }
+    ensures { result ≡ part 4 x.entry k }
+{
+    lanes(&x.to_array(), k)
+}
+
+// Four quarter rounds of each block at once, one in each lane. Then the lanes are turned: from the
+// columns of the block they become the rows, and the other way round.
+#[inline(always)]
+fn turn<V: Lanes>(a: V, b: V, c: V, d: V) -> (V, V, V, V)
+    ensures four { (k : ℕ) → k < V.count → AreFourEach (V.lanes a k, V.lanes b k, V.lanes c k, V.lanes d k) }
+    ensures value { (k : ℕ) → k < V.count
+        → at V.lanes result k ≡ turned (quarter_rounds (V.lanes a k) (V.lanes b k) (V.lanes c k) (V.lanes d k)) }
+{
+    let b = b.xor_rotated(a.plus(d), 7);
+    let c = c.xor_rotated(b.plus(a), 9);
+    let d = d.xor_rotated(c.plus(b), 13);
+    let a = a.xor_rotated(d.plus(c), 18);
+    let (d, c, b) = V::turned(b, c, d);
+    (a, d, c, b)
 }
 
 // The exclusive or of `x` with the lanes of `y`, each rotated to the left by `k` bits. The two parts of
@@ -86,9 +401,10 @@ fn quarter_round(a: u32x4, b: u32x4, c: u32x4, d: u32x4) -> (u32x4, u32x4, u32x4
 // or of the parts first. The part that is used last is computed first, so that the other one, for
 // which the next step waits, needs no copy.
 #[inline(always)]
-pub(super) fn xor_rotated<const N: usize>(x: Simd<u32, N>, y: Simd<u32, N>, k: u32) -> Simd<u32, N>
+fn xor_rotated<const N: usize>(x: Simd<u32, N>, y: Simd<u32, N>, k: u32) -> Simd<u32, N>
     requires { (0 < k) × (k < 32) }
-    ensures { result ≡ xor_rotated k x.entry y.entry }
+    ensures four { (i : ℕ) → 4 * i + 4 ≤ N → length (part 4 x.entry i) ≡ 4 }
+    ensures value { (i : ℕ) → part 4 result i ≡ xor_rotated k (part 4 x.entry i) (part 4 y.entry i) }
 {
     let right = y >> Simd::<u32, N>::splat(32 - k);
     let left = y << Simd::<u32, N>::splat(k);

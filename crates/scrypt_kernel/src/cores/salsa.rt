@@ -9,6 +9,7 @@ use crate::words::add_words;
 
 /// Replaces the 16 words by their Salsa20/8 core, and counts it (RFC 7914, section 3).
 #[inline(always)]
+#[tactic(auto, unfolding(crate::specs::Salsa::salsa20_8))]
 pub fn core(x: &mut [u32; 16], cores: &mut CoreCount)
     ensures value { x.new ≡ salsa20_8 x.old }
     ensures counted { AreCountedAs false 1 cores.old cores.new }
@@ -24,6 +25,7 @@ pub fn core(x: &mut [u32; 16], cores: &mut CoreCount)
 }
 
 #[inline(always)]
+#[tactic(auto, unfolding(crate::specs::Salsa::double_round))]
 fn double_round(x: &mut [u32; 16])
     ensures { x.new ≡ double_round x.old }
 {

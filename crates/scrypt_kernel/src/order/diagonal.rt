@@ -4,15 +4,17 @@
 //! another, so the words of each column are in the same lane of four vectors. Word 0 stays at place
 //! 0, and word 1 is at place 13.
 
-ghost use Rattle.std.specs.Prelude.{◌≡◌, ◌≢◌, ℕ, ◌+◌, ◌-◌, ◌*◌, ◌%◌, ◌^◌, ◌<◌, ◌≤◌, length, IsTrue, nat_lt, refl, slice_index, true};
+ghost use Rattle.std.specs.Prelude.{◌≡◌, ◌≢◌, ℕ, ◌+◌, ◌-◌, ◌*◌, ◌%◌, ◌^◌, ◌<◌, ◌≤◌, List, length, IsTrue, nat_lt, refl, slice_index, true};
 ghost use Rattle.std.specs.List.{list_all};
 ghost use Rattle.scrypt_kernel.specs.Words.{block};
 ghost use Rattle.scrypt_kernel.specs.RoMix.{integerify};
 ghost use Rattle.scrypt_kernel.specs.Diagonal.{AreInverse, diagonal_order, inverse_pivot, permuted, pivot, standard_order};
 
 use crate::CoreCount;
-use crate::cores::lanes;
+use crate::cores::lanes::Lanes;
+pub use crate::cores::lanes::{Both, Diagonal};
 use crate::order::{Order, low_bits};
+use crate::parts::Parts;
 use crate::words::{part, put_block};
 
 /// The place in standard order of the word at each place in diagonal order.
@@ -38,15 +40,23 @@ pub fn pivots_are_inverse()
     ensures inverse_places { INVERSE_PIVOT_ABCD ≡ inverse_pivot }
 {}
 
-/// The words in diagonal order.
-pub struct Diagonal;
+impl<V: Lanes> Order for Diagonal<V> {
+    ghost use Rattle.scrypt_kernel.specs.Side.{block_of};
 
-impl Order for Diagonal {
     ghost pivot = { pivot };
 
     ghost inverse_pivot = { inverse_pivot };
 
     ghost simd = { true };
+
+    ghost count = { V.count };
+
+    ghost held = { λ x k. block_of V.lanes x k };
+
+    #[inline(always)]
+    fn count() -> usize {
+        V::count()
+    }
 
     fn shuffle_in(x: &mut [u32]) {
         shuffle_in(x);
@@ -62,8 +72,36 @@ impl Order for Diagonal {
     }
 
     #[inline(always)]
-    fn core(x: &mut [u32; 16], cores: &mut CoreCount) {
-        lanes::core(x, cores);
+    fn read(parts: &Parts<'_>, i: usize) -> Diagonal<V> {
+        Diagonal {
+            a: V::read(parts, 0, 4 * i),
+            b: V::read(parts, 0, 4 * i + 1),
+            c: V::read(parts, 0, 4 * i + 2),
+            d: V::read(parts, 0, 4 * i + 3),
+        }
+    }
+
+    #[inline(always)]
+    fn write(self, x: &mut [u32], s: usize, i: usize) {
+        self.a.write(x, s, 4 * i);
+        self.b.write(x, s, 4 * i + 1);
+        self.c.write(x, s, 4 * i + 2);
+        self.d.write(x, s, 4 * i + 3);
+    }
+
+    #[inline(always)]
+    fn core(self, cores: &mut CoreCount) -> Diagonal<V> {
+        self.mixed(cores)
+    }
+
+    #[inline(always)]
+    fn xor(self, y: Diagonal<V>) -> Diagonal<V> {
+        Diagonal {
+            a: self.a.xor(y.a),
+            b: self.b.xor(y.b),
+            c: self.c.xor(y.c),
+            d: self.d.xor(y.d),
+        }
     }
 
     ghost inverse = { record { places = refl; inverse_places = refl; undone = refl; redone = refl } };
@@ -119,6 +157,7 @@ fn permute(x: &mut [u32], pivot: &[usize; 16])
 }
 
 // Permutes block `k` only.
+#[tactic(auto, using(crate::proofs::OrderFacts::block_by_places))]
 fn permute_block(x: &mut [u32], k: usize, pivot: &[usize; 16])
     requires inside { 16 * k + 16 ≤ length x.old }
     requires places { IsTrue (list_all (λ j. nat_lt j 16) pivot.now) }

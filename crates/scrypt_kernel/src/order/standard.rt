@@ -1,15 +1,20 @@
 //! The order of the standard.
 
-ghost use Rattle.std.specs.Prelude.{◌≡◌, ◌%◌, ◌^◌, ◌<◌, ◌≤◌, false, length, refl};
+ghost use Rattle.std.specs.Prelude.{◌≡◌, ℕ, ◌%◌, ◌^◌, ◌<◌, ◌≤◌, List, false, length, refl};
 ghost use Rattle.std.specs.List.{range_with_len};
 ghost use Rattle.scrypt_kernel.specs.RoMix.{integerify};
 
 use crate::CoreCount;
 use crate::cores::salsa;
 use crate::order::{Order, low_bits};
+use crate::parts::Parts;
+use crate::words::{block_at, put_block, xor_blocks};
 
-/// The words in the order of the standard.
-pub struct Standard;
+/// A block with its words in the order of the standard.
+#[derive(Clone, Copy)]
+pub struct Standard {
+    words: [u32; 16],
+}
 
 impl Order for Standard {
     ghost pivot = { range_with_len 0 16 };
@@ -18,18 +23,52 @@ impl Order for Standard {
 
     ghost simd = { false };
 
+    ghost count = { 1 };
+
+    ghost held = { λ x _. x.words };
+
+    #[inline(always)]
+    fn count() -> usize {
+        1
+    }
+
+    #[tactic(auto, using(crate::proofs::OrderFacts::permuted_in_place))]
     fn shuffle_in(_x: &mut [u32]) {}
 
+    #[tactic(auto, using(crate::proofs::OrderFacts::permuted_in_place))]
     fn shuffle_out(_x: &mut [u32]) {}
 
     #[inline(always)]
+    #[tactic(auto, using(crate::proofs::OrderFacts::permuted_in_place))]
     fn integerify(x: &[u32], log_n: u8) -> usize {
         integerify_plain(x, log_n)
     }
 
     #[inline(always)]
-    fn core(x: &mut [u32; 16], cores: &mut CoreCount) {
-        salsa::core(x, cores);
+    fn read(parts: &Parts<'_>, i: usize) -> Standard {
+        Standard {
+            words: block_at(parts.part(0), i),
+        }
+    }
+
+    #[inline(always)]
+    fn write(self, x: &mut [u32], s: usize, i: usize) {
+        put_block(&mut x[..s], i, &self.words);
+    }
+
+    #[inline(always)]
+    #[tactic(auto, using(crate::proofs::OrderFacts::permuted_in_place))]
+    fn core(self, cores: &mut CoreCount) -> Standard {
+        let mut words = self.words;
+        salsa::core(&mut words, cores);
+        Standard { words }
+    }
+
+    #[inline(always)]
+    fn xor(self, y: Standard) -> Standard {
+        Standard {
+            words: xor_blocks(&self.words, &y.words),
+        }
     }
 
     ghost inverse = { record { places = refl; inverse_places = refl; undone = refl; redone = refl } };
@@ -40,6 +79,7 @@ impl Order for Standard {
 ///
 /// The length of `x` is a positive multiple of 16, and `log_n` is at most 56.
 #[inline(always)]
+#[tactic(auto, using(crate::proofs::IntegerifyFacts::integerify_low))]
 pub fn integerify_plain(x: &[u32], log_n: u8) -> usize
     requires some { 0 < length x.now }
     requires whole { length x.now % 16 ≡ 0 }

@@ -1,10 +1,14 @@
-use Rattle.std.proofs.Common.{◌*◌}
+use Rattle.std.proofs.Common.{ℕ, ◌*◌, ◌<◌}
+use Rattle.scrypt_kernel.specs.Words.{part}
 use Rattle.scrypt_kernel.specs.Count.{AreCountedAs}
 use Rattle.scrypt_kernel.proofs.BlockMixFacts.{AfterTurns, core_in}
 use Rattle.scrypt_kernel.proofs.block_mix.mix.Given as goal
 
 abbrev pub invariant-steps : goal.invariant-steps
-invariant-steps g l = record {
-  counted : AreCountedAs g.O.Order.simd (2 * l.i) l.initial.cores l.cores;
-  mixed : AfterTurns (core_in g.O.Order.pivot g.O.Order.inverse_pivot) (g.I.Input.words l.input) l.r l.i l.x l.output;
-}
+invariant-steps g l =
+    let o = g.O.Order in
+    record {
+      counted : AreCountedAs o.simd (o.count * (2 * l.i)) l.initial.cores l.cores;
+      mixed : (k : ℕ) → k < o.count
+          → AfterTurns (core_in o.pivot o.inverse_pivot) (g.I.Input.words l.input k) l.r l.i (o.held l.x k) (part l.s l.output k);
+    }

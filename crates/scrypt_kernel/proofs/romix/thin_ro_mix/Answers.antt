@@ -1,4 +1,8 @@
+use Rattle.std.proofs.Common.{◌/◌, length}
+use Rattle.scrypt_kernel.proofs.ChunkFacts.{counted_alone, only_chunk}
 use Rattle.scrypt_kernel.proofs.romix.thin_ro_mix.Goals as goal
 
 pub returns-clause-counted : goal.returns-clause-counted
-returns-clause-counted c = c.mix_chunk.ensures.counted
+returns-clause-counted c =
+    counted_alone _ c.args.b.now c.args.log_n c.args.s (length c.args.b.now / 128)
+    (only_chunk c.args.b.now c.requires.lens.input.whole) c.mix_chunks.ensures.counted

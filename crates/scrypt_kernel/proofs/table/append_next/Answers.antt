@@ -1,6 +1,16 @@
-use Rattle.scrypt_kernel.specs.RoMix.{row}
+use Rattle.std.proofs.Common.{◌^◌, arith, ap, ◌∙◌}
+use Rattle.std.proofs.lemmas.Nat.{one_shl}
+use Rattle.scrypt_kernel.specs.Words.{part}
+use Rattle.scrypt_kernel.specs.KeptRows.{mixed_in}
+use Rattle.scrypt_kernel.proofs.RoMixFacts.{adds_row}
 use Rattle.scrypt_kernel.proofs.table.append_next.Goals as goal
 
-pub returns-then-s-eq0-clause-words : goal.returns-then-s-eq0-clause-words
-unfolding row
-returns-then-s-eq0-clause-words g c = rw c.if-s-eq0.true c.append_mix.ensures.words
+pub returns-else-s-eq0-clause-words : goal.returns-else-s-eq0-clause-words
+returns-else-s-eq0-clause-words g c =
+    let p = g.O.Order.pivot in
+    let q = g.O.Order.inverse_pivot in
+    let row_is = rw (c.requires.chunks, c.words.ensures.value) at c.part.ensures.value in
+    let mixed = rw (one_shl c.args.s 64 (omega arith)) at c.recompute.ensures.value in
+    adds_row (mixed_in p q (2 ^ c.args.s)) g.O.Order.count c.args.len c.args.m _ _ c.recompute.new.x c.requires.last c.append.ensures.words
+    (c.recompute.auto.x ∙ c.requires.chunks)
+    (λ k h. mixed k h ∙ ap (λ z. mixed_in p q (2 ^ c.args.s) (part c.args.len z k)) row_is)

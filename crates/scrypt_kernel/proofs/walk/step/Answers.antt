@@ -1,87 +1,103 @@
-use Rattle.std.proofs.Common.{◌≡◌, ℕ, Bool, ◌+◌, ◌*◌, ◌/◌, ◌%◌, ◌^◌, length, refl, sym, ap, ◌∙◌, arith}
-use Rattle.std.proofs.lemmas.List.{length-take-le}
-use Rattle.std.proofs.lemmas.Nat.{one_shl}
+use Rattle.std.proofs.Common.{◌≡◌, ℕ, Bool, ◌+◌, ◌*◌, ◌/◌, ◌%◌, ◌^◌, take, drop, refl, sym, ap, ap₂, ◌∙◌, arith, List}
+use Rattle.std.proofs.lemmas.Nat.{mod_below, one_shl, pow_pos}
 use Rattle.scrypt_kernel.specs.declared.cores.CoreCount.{CoreCount}
 use Rattle.scrypt_kernel.specs.Count.{AreCountedAs}
-use Rattle.scrypt_kernel.specs.RoMix.{row}
+use Rattle.scrypt_kernel.specs.Words.{part, xor_words}
+use Rattle.scrypt_kernel.specs.RoMix.{integerify}
+use Rattle.scrypt_kernel.specs.BlockMix.{block_mix}
 use Rattle.scrypt_kernel.specs.Diagonal.{permuted}
+use Rattle.scrypt_kernel.specs.KeptRows.{mixed_in, place}
 use Rattle.scrypt_kernel.proofs.CountFacts.{counted_both, counted_none}
-use Rattle.scrypt_kernel.proofs.WordFacts.{length-xor}
-use Rattle.scrypt_kernel.proofs.WalkFacts.{kept_inside, next_step, next_step_kept, some_missing}
+use Rattle.scrypt_kernel.proofs.PartFacts.{length-part}
+use Rattle.scrypt_kernel.proofs.RoMixFacts.{length-part_of_row, part_of_row, row_zero_in}
+use Rattle.scrypt_kernel.proofs.WalkFacts.{all_kept, kept_place, missing_rows, next_step, some_missing}
 use Rattle.scrypt_kernel.proofs.walk.step.Goals as goal
 
--- the cores of a step: those of the n rows that are recomputed, and those of one more block mix
-counted_step : {simd : Bool} {before between after : CoreCount} (n k size kept y : ℕ) → n ≡ k → kept ≡ size → y ≡ size
-    → AreCountedAs simd (n * (2 * (kept / 32))) before between → AreCountedAs simd (2 * (y / 32)) between after
-    → AreCountedAs simd ((k + 1) * (2 * (size / 32))) before after
-counted_step n k size kept y same kept_long y_long rows mix =
-    counted_both _ (rw (same, kept_long) at rows) (rw y_long at mix) (omega arith)
+-- the cores of a step that recomputes so many rows
+counted_missing : {simd : Bool} {before after : CoreCount} (missing j mix : ℕ) → missing ≡ j
+    → AreCountedAs simd ((missing + 1) * mix) before after → AreCountedAs simd ((j + 1) * mix) before after
+counted_missing missing j mix is counted = rw is at counted
 
-pub part-kept-requires : goal.part-kept-requires
-part-kept-requires g c =
-    let inside = kept_inside _ c.args.log_n _ _ _ c.requires.lens.spacing c.integerify-j.ensures.inside c.requires.lens.rows in
-    omega (arith, inside)
+-- the block mix of a row and of another
+abbrev mix_of : List ℕ → List ℕ → List ℕ → List ℕ → List ℕ
+mix_of p q x y = permuted p (block_mix (permuted q (xor_words x y)))
 
-pub mix-requires-clause-same : goal.mix-requires-clause-same
-mix-requires-clause-same g c =
-    length-xor c.args.x.now _ (sym c.part-kept.ensures.len) ∙ sym (c.prefetch_row.auto.spare ∙ c.requires.lens.scratch)
+pub mix-requires-clause-rows : goal.mix-requires-clause-rows
+mix-requires-clause-rows g c =
+    let lens = c.requires.lens in
+    let few = rw c.count.ensures.value at c.count.ensures.few in (
+      record { len = c.of.ensures.len; all = rw c.count.ensures.value at c.of.ensures.all },
+      record {
+        len = c.new.ensures.len;
+        all = c.new.ensures.all g.O.Order.count few (λ k h. rw (c.take_rows-starts.ensures k h)
+            (kept_place _ _ _ _ _ k _ lens.spacing (mod_below _ (2 ^ c.args.log_n) (pow_pos c.args.log_n)) h lens.rows));
+      },
+    )
 
 pub returns-then-missing-eq0-clause-value : goal.returns-then-missing-eq0-clause-value
-returns-then-missing-eq0-clause-value g c =
-    let j = c.integerify-j in
-    let none : j.result % 2 ^ c.args.s ≡ 0 = ap (λ n. j.result % n) (sym (one_shl c.args.s 64 (omega arith))) ∙ c.if-missing-eq0.true in
-    rw c.mix.ensures.value (next_step_kept g.O.Order.pivot g.O.Order.inverse_pivot g.met.O.Order.inverse c.args.v.now c.args.x.now
-    c.part-kept.result.now j.result c.requires.lens j.ensures.value j.ensures.inside c.part-kept.ensures.value c.part-kept.ensures.len none)
+returns-then-missing-eq0-clause-value g c k h b i keeps is =
+    let p = g.O.Order.pivot in
+    let q = g.O.Order.inverse_pivot in
+    let n = g.O.Order.count in
+    let len = c.args.len in
+    let s = c.args.s in
+    let v = c.args.v.now in
+    let lens = c.requires.lens in
+    let number : ℕ → ℕ = λ k. integerify (permuted q (part len c.args.x.now k)) % 2 ^ c.args.log_n in
+    let inside = mod_below _ (2 ^ c.args.log_n) (pow_pos c.args.log_n) in
+    let j_is : c.integerify-j.result ≡ number 0 =
+    c.integerify-j.ensures.value ∙ ap (λ z. integerify (permuted q z) % 2 ^ c.args.log_n) c.part.ensures.value in
+    let none = all_kept n k s number lens.alone h (sym (missing_rows s _ _ (omega arith) j_is) ∙ c.if-missing-eq0.true) in
+    let at = place n (number k / 2 ^ s) k in
+    let low = part len v at in
+    let room = kept_place _ _ _ _ (number k) k _ lens.spacing inside h lens.rows in
+    let long = length-part len at v room in
+    let taken = c.new.ensures.parts k ∙ ap (λ a. take len (drop a v)) (c.take_rows-starts.ensures k h) in
+    let row = row_zero_in p q g.met.O.Order.inverse low (omega (arith, long, lens.row.whole)) in
+    c.mix.ensures.value k h ∙ ap₂ (mix_of p q) (c.of.ensures.parts k (omega (arith, h, c.count.ensures.value)))
+    (taken ∙ row ∙ ap (λ i. mixed_in p q i low) (sym none))
+    ∙ next_step p q g.met.O.Order.inverse n k len c.args.log_n s v (part len c.args.x.now k) low (number k) lens.row.some lens.row.whole
+    (length-part_of_row n len k c.args.x.now h lens.chunks) refl inside refl long b i keeps is
 
 pub returns-then-missing-eq0-clause-counted : goal.returns-then-missing-eq0-clause-counted
 returns-then-missing-eq0-clause-counted g c =
-    let j = c.integerify-j in
-    let missing = ap (λ n. j.result % n) (one_shl c.args.s 64 (omega arith)) ∙ ap (λ j. j % 2 ^ c.args.s) j.ensures.value in
-    counted_step 0 _ _ (length c.args.x.now) _ (sym c.if-missing-eq0.true ∙ missing) refl
-    (c.prefetch_row.auto.spare ∙ c.requires.lens.scratch) (counted_none _ _ _ (omega arith)) c.mix.ensures.counted
+    let q = g.O.Order.inverse_pivot in
+    let j_is = c.integerify-j.ensures.value ∙ ap (λ z. integerify (permuted q z) % 2 ^ c.args.log_n) c.part.ensures.value in
+    let none = sym (missing_rows c.args.s _ _ (omega arith) j_is) ∙ c.if-missing-eq0.true in
+    counted_both _ (counted_none _ 0 _ refl) c.mix.ensures.counted (rw none (omega arith))
 
-pub slice_bounds-row-end : goal.slice_bounds-row-end
-slice_bounds-row-end g c = c.requires.lens.room (some_missing _ _ c.if-missing-eq0.false)
-
-pub slice_bounds-row-end-else-missing-eq0 : goal.slice_bounds-row-end-else-missing-eq0
-slice_bounds-row-end-else-missing-eq0 g c =
-    sym (length-take-le (length c.args.x.now) c.args.spare.now (c.requires.lens.room (some_missing _ _ c.if-missing-eq0.false)))
-
-pub recompute-requires-clause-count : goal.recompute-requires-clause-count
-recompute-requires-clause-count g c = omega (arith, c.if-missing-eq0.false)
-
-pub recompute-requires-clause-same : goal.recompute-requires-clause-same
-recompute-requires-clause-same g c =
-    length-take-le (length c.args.x.now) c.args.spare.now (c.requires.lens.room (some_missing _ _ c.if-missing-eq0.false))
-    ∙ sym c.part-kept.ensures.len
-
-pub invariant_of-mix-else-missing-eq0 : goal.invariant_of-mix-else-missing-eq0
-invariant_of-mix-else-missing-eq0 g c =
-    let room = c.requires.lens.room (some_missing _ _ c.if-missing-eq0.false) in
-    record { same = sym (c.recompute.auto.x ∙ length-take-le (length c.args.x.now) c.args.spare.now room) }
-
-pub mix-requires-else-missing-eq0-clause-same : goal.mix-requires-else-missing-eq0-clause-same
-mix-requires-else-missing-eq0-clause-same g c =
-    let x = c.args.x.now in
-    let room = c.requires.lens.room (some_missing _ _ c.if-missing-eq0.false) in
-    let long : length c.recompute.new.x ≡ length x = c.recompute.auto.x ∙ length-take-le (length x) c.args.spare.now room in
-    length-xor x c.recompute.new.x (sym long) ∙ sym (c.recompute.auto.y ∙ c.prefetch_row.auto.spare ∙ c.requires.lens.scratch)
+pub part-kept-requires : goal.part-kept-requires
+part-kept-requires g c =
+    let lens = c.requires.lens in
+    let one = lens.alone (some_missing _ _ c.if-missing-eq0.false) in
+    let room = kept_place _ _ _ _ _ 0 _ lens.spacing c.integerify-j.ensures.inside (omega (arith, one)) lens.rows in
+    let inside = rw one at room in
+    rw (lens.chunks, one) (omega (arith, inside))
 
 pub returns-else-missing-eq0-clause-value : goal.returns-else-missing-eq0-clause-value
-returns-else-missing-eq0-clause-value g c =
-    let j = c.integerify-j in
+returns-else-missing-eq0-clause-value g c k h b i keeps is =
     let p = g.O.Order.pivot in
     let q = g.O.Order.inverse_pivot in
+    let n = g.O.Order.count in
+    let len = c.args.len in
+    let s = c.args.s in
+    let v = c.args.v.now in
+    let lens = c.requires.lens in
+    let j = c.integerify-j in
+    let one = lens.alone (some_missing _ _ c.if-missing-eq0.false) in
+    let first : 0 ≡ k = omega (arith, h, one) in
+    let j_is = j.ensures.value ∙ ap (λ z. integerify (permuted q z) % 2 ^ c.args.log_n) (c.part.ensures.value ∙ ap (part len c.args.x.now) first) in
     let kept = c.part-kept.result.now in
-    let room = c.requires.lens.room (some_missing _ _ c.if-missing-eq0.false) in
-    let long = c.recompute.auto.x ∙ length-take-le (length c.args.x.now) c.args.spare.now room in
-    rw c.mix-else-missing-eq0.ensures.value (next_step p q g.met.O.Order.inverse c.args.v.now c.args.x.now kept j.result c.requires.lens
-    j.ensures.value j.ensures.inside c.part-kept.ensures.value c.part-kept.ensures.len _ long
-    (c.recompute.ensures.value ∙ ap (λ n. permuted p (row (permuted q kept) (j.result % n))) (one_shl c.args.s 64 (omega arith))))
+    let below = ap (λ z. part len z k) (c.part-kept.ensures.value ∙ ap (λ m. part m v (j.result / 2 ^ s)) lens.chunks)
+    ∙ part_of_row n len (j.result / 2 ^ s) k v h in
+    c.mix_recomputed.ensures.value k h
+    ∙ ap (λ t. mix_of p q (part len c.args.x.now k) (mixed_in p q (j.result % t) (part len kept k))) (one_shl s 64 (omega arith))
+    ∙ next_step p q g.met.O.Order.inverse n k len c.args.log_n s v (part len c.args.x.now k) (part len kept k) j.result lens.row.some lens.row.whole
+    (length-part_of_row n len k c.args.x.now h lens.chunks) j_is j.ensures.inside below
+    (length-part_of_row n len k kept h (c.part-kept.ensures.len ∙ lens.chunks)) b i keeps is
 
 pub returns-else-missing-eq0-clause-counted : goal.returns-else-missing-eq0-clause-counted
 returns-else-missing-eq0-clause-counted g c =
-    let j = c.integerify-j in
-    let missing = ap (λ n. j.result % n) (one_shl c.args.s 64 (omega arith)) ∙ ap (λ j. j % 2 ^ c.args.s) j.ensures.value in
-    counted_step _ _ _ _ _ missing c.part-kept.ensures.len (c.recompute.auto.y ∙ c.prefetch_row.auto.spare ∙ c.requires.lens.scratch)
-    c.recompute.ensures.counted c.mix-else-missing-eq0.ensures.counted
+    let q = g.O.Order.inverse_pivot in
+    let j_is = c.integerify-j.ensures.value ∙ ap (λ z. integerify (permuted q z) % 2 ^ c.args.log_n) c.part.ensures.value in
+    counted_missing _ _ _ (missing_rows c.args.s _ _ (omega arith) j_is) c.mix_recomputed.ensures.counted

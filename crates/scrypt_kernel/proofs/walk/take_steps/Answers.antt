@@ -1,35 +1,57 @@
-use Rattle.std.proofs.Common.{◌≡◌, ◌*◌, ◌+◌, ◌^◌, length, refl, ◌∙◌, arith}
-use Rattle.scrypt_kernel.proofs.WalkFacts.{all_steps, no_step, one_more_step}
+use Rattle.std.proofs.Common.{◌≡◌, ◌*◌, ◌+◌, ◌^◌, length, refl, ◌∙◌, ap, arith}
+use Rattle.scrypt_kernel.specs.Words.{part}
+use Rattle.scrypt_kernel.specs.RoMix.{walk}
+use Rattle.scrypt_kernel.proofs.CountFacts.{counted_none}
+use Rattle.scrypt_kernel.proofs.WalkFacts.{all_steps, no_cost, one_more_counted}
 use Rattle.scrypt_kernel.proofs.walk.take_steps.Goals as goal
 
 pub pairs-init : goal.pairs-init
-pairs-init g c b starts = no_step g.O.Order.pivot b c.args.log_n c.args.s g.O.Order.simd _ _ _ starts
+unfolding walk
+pairs-init g c = record {
+  walked = λ k h b starts. starts.start;
+  counted = λ b starts. counted_none _ _ _ (no_cost b g.O.Order.count c.args.len c.args.log_n c.args.s);
+}
 
 pub pairs-preserved : goal.pairs-preserved
-pairs-preserved g c b starts =
+pairs-preserved g c =
+    let n = g.O.Order.count in
+    let i = 2 * c.pairs._k in
     let one = c.step-in-pairs.ensures in
     let two = c.step-in-pairs-2.ensures in
-    let more = one_more_step g.O.Order.pivot g.O.Order.inverse_pivot g.met.O.Order.inverse b c.args.log_n c.args.s (length c.args.x.now) in
-    let next : 2 * c.pairs._k + 1 + 1 ≡ 2 * (c.pairs._k + 1) = omega arith in
-    let first = more _ _ _ _ _ _ _ starts (c.pairs.invariant b starts) refl c.pairs.auto.x (omega arith) one.value one.counted in
-    rw (← next) (more _ _ _ _ _ _ _ starts first refl (omega arith) (omega arith) two.value two.counted)
+    let before = c.pairs.invariant in
+    let lens = c.requires.lens in
+    let inverse = g.met.O.Order.inverse in
+    let next : i + 1 + 1 ≡ 2 * (c.pairs._k + 1) = omega arith in
+    let long_x : length c.pairs.x ≡ n * c.args.len = omega (arith, c.pairs.auto.x, lens.chunks) in
+    let long_y : length c.step-in-pairs.new.y ≡ n * c.args.len = omega (arith, c.step-in-pairs.auto.y, c.pairs.auto.y, lens.scratch, lens.chunks) in
+    record {
+      walked = λ k h b starts. rw (← next) (two.value k h b (i + 1) starts.rows
+          (one.value k h b i starts.rows (before.walked k h b starts)));
+      counted = λ b starts.
+          let x = before.walked 0 lens.some b starts in
+          let y = one.value 0 lens.some b i starts.rows x in
+          rw (← next) (one_more_counted _ _ inverse b c.step-in-pairs.new.y n c.args.len c.args.log_n c.args.s (i + 1) lens.some long_y lens.row.whole
+          (one_more_counted _ _ inverse b c.pairs.x n c.args.len c.args.log_n c.args.s i lens.some long_x lens.row.whole (before.counted b starts) x one.counted)
+          y two.counted);
+    }
 
 pub returns-then-log_n-eq0 : goal.returns-then-log_n-eq0
-returns-then-log_n-eq0 g c = record {
-  walked = λ b starts.
-      let one = c.step.ensures in
-      let none : c.args.log_n ≡ 0 = c.if-log_n-eq0.true in
-      let single : 0 + 1 ≡ 2 ^ c.args.log_n = rw none refl in
-      rw (← single)
-      (one_more_step g.O.Order.pivot g.O.Order.inverse_pivot g.met.O.Order.inverse b c.args.log_n c.args.s
-      (length c.args.x.now) _ _ _ _ _ _ _
-      starts (no_step g.O.Order.pivot b c.args.log_n c.args.s g.O.Order.simd _ _ _ starts) refl refl (omega arith)
-      (λ b k keeps is. c.copy_from_slice.ensures.after ∙ one.value b k keeps is) one.counted);
-}
+unfolding walk
+returns-then-log_n-eq0 g c =
+    let n = g.O.Order.count in
+    let len = c.args.len in
+    let none : c.args.log_n ≡ 0 = c.if-log_n-eq0.true in
+    let single : 0 + 1 ≡ 2 ^ c.args.log_n = rw none refl in
+    let one = c.step.ensures in
+    let lens = c.requires.lens in
+    record {
+      walked = λ k h b starts. rw (← single)
+          (ap (λ z. part len z k) c.copy_from_slice.ensures.after ∙ one.value k h b 0 starts.rows starts.start);
+      counted = λ b starts. rw (← single) (one_more_counted _ _ g.met.O.Order.inverse b c.args.x.now n len c.args.log_n c.args.s 0
+          lens.some lens.chunks lens.row.whole (counted_none _ _ _ (no_cost b n len c.args.log_n c.args.s)) starts.start one.counted);
+    }
 
 pub returns : goal.returns
-returns g c = record {
-  walked = λ b starts.
-      let whole = all_steps c.args.log_n c.pairs._k (omega arith) (omega arith) (omega arith) in
-      rw (← whole) (c.pairs.invariant b starts);
-}
+returns g c =
+    let whole = all_steps c.args.log_n c.pairs._k (omega arith) (omega arith) (omega arith) in
+    rw (← whole) (record { walked = c.pairs.invariant.walked; counted = c.pairs.invariant.counted })

@@ -5,12 +5,6 @@ use Rattle.scrypt_kernel.proofs.PartFacts.{parts_same}
 use Rattle.scrypt_kernel.proofs.WordFacts.{part-zip2}
 use Rattle.scrypt_kernel.proofs.words.xor_blocks.Goals as goal
 
-pub loop-j-preserved : goal.loop-j-preserved
-loop-j-preserved c = record {
-  long = omega arith;
-  joined = λ i h. grind (arith, c.put_lanes.ensures.others i, c.loop-j.invariant.joined i);
-}
-
 pub returns : goal.returns
 returns c =
     let x = c.args.x.now in

@@ -1,11 +1,23 @@
-use Rattle.std.proofs.Common.{◌≡◌, length, arith, ◌∙◌}
+use Rattle.std.proofs.Common.{◌≡◌, ◌++◌, length, ◌∙◌, ap, arith}
 use Rattle.std.proofs.lemmas.List.{length-take-le}
-use Rattle.scrypt_kernel.proofs.BlockMixFacts.{mixed_behind}
+use Rattle.scrypt_kernel.specs.Words.{part}
+use Rattle.scrypt_kernel.specs.KeptRows.{mixed_in}
+use Rattle.scrypt_kernel.proofs.PartFacts.{take_both}
+use Rattle.scrypt_kernel.proofs.RoMixFacts.{adds_row, one_mix}
 use Rattle.scrypt_kernel.proofs.memory.BufferMemory.append_mix.Goals as goal
 
 pub returns-clause-words : goal.returns-clause-words
 returns-clause-words g c =
-    let s = length c.args.spare.now in
-    let full : length c.mix.new.output ≡ s = c.mix.auto.output ∙ length-take-le s _ (omega arith) in
-    mixed_behind g.O.Order.pivot g.O.Order.inverse_pivot _ c.split_at_mut-rows.result.0.now c.part.result.now c.mix.new.output _ s
-    c.args.i _ (omega arith) c.split_at_mut-rows.ensures.front c.part.ensures.value c.mix.ensures.value
+    let p = g.O.Order.pivot in
+    let q = g.O.Order.inverse_pivot in
+    let s = c.args.s in
+    let front = c.split_at_mut-rows in
+    let row_len = length c.args.spare.now in
+    let full : length c.mix.new.output ≡ row_len = c.mix.auto.output ∙ length-take-le row_len _ (omega arith) in
+    let row_is = rw c.requires.chunks at (c.part.ensures.value ∙ ap (λ z. part row_len z c.args.i) front.ensures.front) in
+    adds_row (mixed_in p q 1) g.O.Order.count s c.args.i _ _ c.mix.new.output c.requires.last
+    (take_both front.result.0.now c.mix.new.output _ _ (omega (arith, full, front.ensures.front_len))
+    ∙ ap (λ z. z ++ c.mix.new.output) front.ensures.front)
+    (full ∙ c.requires.chunks)
+    (λ k h. c.mix.ensures.value k h ∙ one_mix p q _
+    ∙ ap (mixed_in p q 1) (c.of-last.ensures.parts k (omega (arith, h, c.count.ensures.value)) ∙ ap (λ z. part s z k) row_is))

@@ -1,0 +1,110 @@
+#!/usr/bin/env python3
+"""Checks that the loops of Salsa20/8 cores keep their blocks in registers.
+
+usage: registers.py [LIBRARY..]
+
+Each LIBRARY is a shared or static library or an object, by default those of build/lib. The compiler drops an `inline(always)`
+without a word where a function grows too large. The keys stay the same, but each block then goes through memory, and one chunk
+takes up to 1.12 of the time, two up to 1.19.
+
+A loop of the block mix has two cores of each chunk that it mixes. It is known by its rotations, and how many chunks it mixes by
+their number. For each loop this counts the vector instructions, and those of them with an operand on the stack. It fails if
+there is no such loop, a loop calls a function, cores are outside of a loop, or a number is above its limit.
+"""
+
+import re
+import subprocess
+import sys
+from pathlib import Path
+
+BUILT = Path(__file__).parent.parent / "build" / "lib"
+
+# The limits of a loop by the number of its chunks: the vector instructions, and those with an operand on the stack. They are a
+# little above what was measured: for x86-64-v3 up to 404 and 0, 440 and 0, 852 and 12, 890 and 22; for x86-64-v2, whose
+# instructions overwrite an operand and whose vectors have four words, up to 528 and 0, 1082 and 24, 1688 and 78, 2410 and 355.
+# Blocks of three or four chunks that go through memory take 32 more, or those of x86-64-v2 48 and 64.
+LIMITS = {
+    "x86-64-v3": {1: (430, 0), 2: (470, 0), 3: (900, 28), 4: (940, 32)},
+    "x86-64-v2": {1: (560, 0), 2: (1140, 40), 3: (1780, 100), 4: (2550, 400)},
+}
+
+# A rotation by seven bits begins with this shift. A core has eight of each of its vectors, and a loop two cores.
+ROTATION = re.compile(r"v?pslld +\$0x7,")
+ROTATIONS = 16
+
+INSTRUCTION = re.compile(r" *([0-9a-f]+):\s+(.*)")
+JUMP = re.compile(r"j[a-z]+ +([0-9a-f]+)")
+VECTOR, ON_STACK = re.compile(r"%[xy]mm"), re.compile(r"\(%[re]sp")
+
+
+def sections(library):
+    """The instructions of each section of code, by their addresses. A library can have several objects."""
+    command = ["objdump", "-d", "--no-show-raw-insn", library]
+    text = subprocess.run(command, stdout=subprocess.PIPE, check=True, text=True).stdout
+    for section in re.split(r"^Disassembly of section ", text, flags=re.M)[1:]:
+        found = (INSTRUCTION.fullmatch(line.rstrip()) for line in section.splitlines())
+        yield {int(it[1], 16): it[2] for it in found if it}
+
+
+def inner_loops(code):
+    """The first and the last address of each loop that has no other loop in it: a jump back ends a loop."""
+    jumps = {at: int(it[1], 16) for at, it in ((at, JUMP.match(text)) for at, text in code.items()) if it}
+    loops = sorted(((to, at) for at, to in jumps.items() if to <= at and to in code), key=lambda it: it[1] - it[0])
+    inner = []
+    for first, last in loops:
+        if not any(first <= it[0] and it[1] <= last for it in inner):
+            inner.append((first, last))
+    return inner
+
+
+def wrong(chunks, level, texts, vectors, on_stack):
+    """What is wrong with a loop of cores, or nothing."""
+    if any(it.startswith("call") for it in texts):
+        return "calls a function, which was to be inlined"
+    if chunks not in LIMITS[level]:
+        return f"no limits are known for {chunks:g} chunks"
+    most_vectors, most_on_stack = LIMITS[level][chunks]
+    if vectors > most_vectors or on_stack > most_on_stack:
+        return f"above {most_vectors} vector instructions or {most_on_stack} on the stack"
+    return None
+
+
+def loops_of_cores(code):
+    """For each loop of cores of a section: its level of x86-64, its chunks, its numbers, and what is wrong with it."""
+    rotations = {at: text for at, text in code.items() if ROTATION.match(text)}
+    for first, last in inner_loops(code):
+        its = [text for at, text in rotations.items() if first <= at <= last]
+        if its:
+            texts = [text for at, text in code.items() if first <= at <= last]
+            level = "x86-64-v3" if its[0].startswith("v") else "x86-64-v2"
+            # A vector of 256 bits has words of two chunks.
+            chunks = sum(2 if "%ymm" in it else 1 for it in its) / ROTATIONS
+            vectors = [it for it in texts if VECTOR.search(it)]
+            counts = len(vectors), sum(bool(ON_STACK.search(it)) for it in vectors)
+            yield level, chunks, *counts, wrong(chunks, level, texts, *counts)
+            rotations = {at: text for at, text in rotations.items() if not first <= at <= last}
+    if rotations:
+        yield "", 0, 0, 0, f"{len(rotations)} rotations of cores outside of a loop"
+
+
+def check(library):
+    """Prints the loops of cores of a library, and returns how much is wrong."""
+    found = sorted((loop for code in sections(library) for loop in loops_of_cores(code)), key=lambda it: it[:4])
+    for level, chunks, vectors, on_stack, error in found:
+        loop = f"{level}, {chunks:g} at once: {vectors} vector instructions, {on_stack} on the stack" if chunks else "cores"
+        print(f"{library}: {loop}{': ' + error if error else ''}")
+    if not found:
+        print(f"{library}: no loop of cores")
+    return sum(loop[-1] is not None for loop in found) + (not found)
+
+
+def main():
+    built = [BUILT / "libscrypt_c.a", BUILT / "libscrypt_c.so", BUILT / "glibc-hwcaps/x86-64-v3/libscrypt_c.so.0"]
+    libraries = sys.argv[1:] or [it for it in built if it.exists()]
+    errors = sum(check(it) for it in libraries)
+    print(f"registers: {errors} errors in {len(libraries)} libraries")
+    sys.exit(1 if errors or not libraries else 0)
+
+
+if __name__ == "__main__":
+    main()

@@ -1,0 +1,99 @@
+-- Facts on the words and the bytes of several chunks.
+use Rattle.std.proofs.Common.{◌≡◌, Bool, ℕ, zero, suc, ◌<◌, ◌≤◌, ◌+◌, ◌*◌, ◌/◌, ◌%◌, List, [], ◌∷◌, ◌++◌, length, get_or, take, drop, refl, sym, ap, ◌∙◌, arith}
+use Rattle.std.proofs.lemmas.List.{ext_get_or, get_or-take, get_or-drop}
+use Rattle.std.proofs.lemmas.List.FromFn.{length-map-range_with_len, get_or-map-range_with_len}
+use Rattle.std.specs.Int.{w32, to_le_bytes}
+use Rattle.scrypt_kernel.specs.Words.{bytes_of, le_number, part, words_of}
+use Rattle.scrypt_kernel.specs.RoMix.{ro_mix}
+use Rattle.scrypt_kernel.specs.Diagonal.{AreInverse, permuted}
+use Rattle.scrypt_kernel.specs.declared.cores.CoreCount.{CoreCount}
+use Rattle.scrypt_kernel.specs.Count.{AreCountedAs}
+use Rattle.scrypt_kernel.specs.RoMixCost.{ro_mix_cost}
+use Rattle.scrypt_kernel.specs.Table.{thin_ro_mix_cost}
+use Rattle.scrypt_kernel.proofs.CountFacts.{counted_both, counted_none}
+use Rattle.scrypt_kernel.proofs.PartFacts.{length-part, only_part, part_inside}
+use Rattle.scrypt_kernel.proofs.OrderFacts.{length-permuted, part_permuted, standard_of, within}
+use Rattle.scrypt_kernel.proofs.WalkFacts.{whole_cost}
+use Rattle.scrypt_kernel.proofs.RoMixFacts.{part_of_row}
+
+-- the words of bytes
+length-words_of : (b : List ℕ) → length (words_of b) ≡ length b / 4
+length-words_of b = length-map-range_with_len _ 0 (length b / 4)
+
+get_or-words_of : (b : List ℕ) (i : ℕ) → i < length b / 4 → get_or (words_of b) i 0 ≡ le_number (part 4 b i)
+get_or-words_of b i h = get_or-map-range_with_len (λ i. le_number (part 4 b i)) 0 (length b / 4) i i 0 h (omega arith)
+
+-- those of part k, which has n words
+part_words : (n k : ℕ) (b : List ℕ) → k * (n * 4) + n * 4 ≤ length b → part n (words_of b) k ≡ words_of (part (n * 4) b k)
+part_words n k b room =
+    let one = length-part n k (words_of b) (omega (arith, length-words_of b)) in
+    let two = length-part (n * 4) k b room in
+    ext_get_or 0 _ _ (one ∙ sym (length-words_of (part (n * 4) b k) ∙ omega (arith, two))) (λ i h.
+    let inside : i < n = omega (arith, one, h) in
+    get_or-take n _ i 0 inside ∙ get_or-drop (k * n) (words_of b) i 0 ∙ get_or-words_of b (k * n + i) (omega arith)
+    ∙ ap le_number (sym (part_of_row n 4 k i b inside)) ∙ sym (get_or-words_of (part (n * 4) b k) i (omega (arith, two))))
+
+-- the bytes of the words from word n on, and those of the first n words
+drop_bytes : (n : ℕ) (x : List ℕ) → drop (n * 4) (bytes_of x) ≡ bytes_of (drop n x)
+drop_bytes zero x = refl
+drop_bytes (suc n) [] = let next : suc n * 4 ≡ suc (n * 4 + 3) = omega arith in rw next refl
+drop_bytes (suc n) (a ∷ x) = let next : suc n * 4 ≡ suc (suc (suc (suc (n * 4)))) = omega arith in rw next (drop_bytes n x)
+
+take_bytes : (n : ℕ) (x : List ℕ) → take (n * 4) (bytes_of x) ≡ bytes_of (take n x)
+take_bytes zero x = refl
+take_bytes (suc n) [] = let next : suc n * 4 ≡ suc (n * 4 + 3) = omega arith in rw next refl
+take_bytes (suc n) (a ∷ x) =
+    let next : suc n * 4 ≡ suc (suc (suc (suc (n * 4)))) = omega arith in
+    rw next (ap (λ z. to_le_bytes w32 a ++ z) (take_bytes n x))
+
+part_bytes : (n k : ℕ) (x : List ℕ) → part (n * 4) (bytes_of x) k ≡ bytes_of (part n x k)
+part_bytes n k x = let at : k * (n * 4) ≡ k * n * 4 = omega arith in rw (at, drop_bytes (k * n) x) (take_bytes n (drop (k * n) x))
+
+-- chunk k of bytes b: its words in the order p are x, whose scryptROMix is end, and the bytes of that are b'
+module _ (p q : List ℕ) (inverse : AreInverse p q) (n r k log_n : ℕ) (b x : List ℕ) (below : k < n) (long : length b ≡ n * (128 * r))
+    (read : x ≡ permuted p (words_of b)) where
+  -- the standard's words of the chunk
+  pub chunk_words : permuted q (part (32 * r) x k) ≡ words_of (part (128 * r) b k)
+  chunk_words =
+      let bytes : 128 * r ≡ 32 * r * 4 = omega arith in
+      let room = part_inside (32 * r * 4) k n (length b) below (omega (arith, long)) in
+      let part_long = length-part (32 * r) k x (omega (arith, ap length read, length-permuted p (words_of b), length-words_of b, room)) in
+      standard_of p q inverse (part (32 * r) x k) _ (omega (arith, part_long)) (ap (λ z. part (32 * r) z k) read
+      ∙ part_permuted p (within p inverse.places) (32 * r) k (words_of b) (omega arith) (omega (arith, length-words_of b, room))
+      ∙ ap (permuted p) (part_words (32 * r) k b room ∙ ap (λ s. words_of (part s b k)) (sym bytes)))
+
+  pub chunk_mixed : (end b' : List ℕ) → length end ≡ n * (32 * r) → b' ≡ bytes_of (permuted q end)
+      → part (32 * r) end k ≡ permuted p (ro_mix (permuted q (part (32 * r) x k)) log_n)
+      → part (128 * r) b' k ≡ bytes_of (ro_mix (words_of (part (128 * r) b k)) log_n)
+  chunk_mixed end b' end_long written mixed_in_order =
+      let bytes : 128 * r ≡ 32 * r * 4 = omega arith in
+      let room = part_inside (32 * r) k n (length end) below (omega arith) in
+      let mixed = standard_of p q inverse (part (32 * r) end k) (ro_mix (permuted q (part (32 * r) x k)) log_n)
+      (omega (arith, length-part (32 * r) k end room)) mixed_in_order in
+      ap (λ c. part (128 * r) c k) written ∙ ap (λ s. part s (bytes_of (permuted q end)) k) bytes ∙ part_bytes (32 * r) k (permuted q end)
+      ∙ ap bytes_of (part_permuted q (within q inverse.inverse_places) (32 * r) k end (omega arith) room
+      ∙ mixed ∙ ap (λ w. ro_mix w log_n) chunk_words)
+
+-- a chunk alone
+pub counted_alone : {simd : Bool} {before after : CoreCount} (b c : List ℕ) (log_n s r : ℕ) → b ≡ c
+    → AreCountedAs simd (1 * thin_ro_mix_cost (words_of b) log_n s r) before after
+    → AreCountedAs simd (thin_ro_mix_cost (words_of c) log_n s r) before after
+counted_alone {simd} {before} b c log_n s r is counted =
+    let cost : ℕ = thin_ro_mix_cost (words_of b) log_n s r in
+    let alone : AreCountedAs simd cost before _ = counted_both cost (counted_none simd 0 before refl) counted (omega arith) in
+    rw is at alone
+
+module _ (b : List ℕ) (whole : length b % 128 ≡ 0) where
+  pub only_chunk : part (128 * (length b / 128)) b 0 ≡ b
+  only_chunk = only_part (128 * (length b / 128)) b (omega arith)
+
+  pub mixed_alone : (b' : List ℕ) (log_n : ℕ) → length b' ≡ length b
+      → part (128 * (length b / 128)) b' 0 ≡ bytes_of (ro_mix (words_of (part (128 * (length b / 128)) b 0)) log_n)
+      → b' ≡ bytes_of (ro_mix (words_of b) log_n)
+  mixed_alone b' log_n same mixed =
+      sym (only_part (128 * (length b / 128)) b' (omega arith)) ∙ mixed ∙ ap (λ c. bytes_of (ro_mix (words_of c) log_n)) only_chunk
+
+  pub counted_whole : {simd : Bool} {before after : CoreCount} (log_n : ℕ)
+      → AreCountedAs simd (1 * thin_ro_mix_cost (words_of (part (128 * (length b / 128)) b 0)) log_n 0 (length b / 128)) before after
+      → AreCountedAs simd (ro_mix_cost log_n (length b / 128)) before after
+  counted_whole log_n counted = rw whole_cost at (counted_alone _ b log_n 0 (length b / 128) only_chunk counted)

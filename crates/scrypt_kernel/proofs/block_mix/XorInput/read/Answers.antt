@@ -1,0 +1,21 @@
+use Rattle.std.proofs.Common.{◌≡◌, length, bit_xor, sym, ap₂, ◌∙◌}
+use Rattle.std.proofs.lemmas.Simd.{length-zip2}
+use Rattle.scrypt_kernel.specs.Words.{xor_words}
+use Rattle.scrypt_kernel.specs.Parts.{part_of}
+use Rattle.scrypt_kernel.proofs.PartFacts.{length-part_of}
+use Rattle.scrypt_kernel.proofs.WordFacts.{part-zip2}
+use Rattle.scrypt_kernel.proofs.block_mix.XorInput.read.Goals as goal
+
+pub returns-clause-value : goal.returns-clause-value
+returns-clause-value g c k h =
+    let a = c.args.self.now in
+    c.xor.ensures.value k h ∙ ap₂ xor_words (c.read-x.ensures.value k h) (c.read.ensures.value k h)
+    ∙ sym (part-zip2 bit_xor 16 c.args.i (part_of a.x k) (part_of a.y k))
+
+pub returns-clause-long : goal.returns-clause-long
+returns-clause-long g c k h =
+    let a = c.args.self.now in
+    let rows = c.requires.rows in
+    let one : length (part_of a.x k) ≡ c.args._s = length-part_of a.x g.O.Order.count k rows.0.all h ∙ rows.0.len in
+    let two : length (part_of a.y k) ≡ c.args._s = length-part_of a.y g.O.Order.count k rows.1.all h ∙ rows.1.len in
+    length-zip2 bit_xor (part_of a.x k) (part_of a.y k) (one ∙ sym two) ∙ one
