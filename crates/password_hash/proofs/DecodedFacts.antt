@@ -1,6 +1,6 @@
 -- Letters of crypt Base64 are decoded as the bytes that they encode.
 use Rattle.std.proofs.Common.{◌≡◌, ℕ, zero, suc, ◌+◌, ◌*◌, ◌/◌, ◌%◌, ◌<◌, List, [], ◌∷◌, length, Some, None, true}
-use Rattle.std.proofs.Common.{◌∙◌, refl, ap, arith, inl, inr}
+use Rattle.std.proofs.Common.{◌∙◌, refl, sym, ap, arith, inl, inr}
 use Rattle.std.specs.Prelude.{Option, unwrap_or}
 use Rattle.std.specs.Str.{bytes_eq}
 use Rattle.std.proofs.lemmas.Bool.{cases_Bool}
@@ -58,3 +58,7 @@ not_decoded letters none = at (decoded letters) refl
     at : (answer : Option (List ℕ)) → decoded letters ≡ answer → decoded letters ≡ None
     at None is = is
     at (Some bytes) is = absurd (none (bytes, encoded_is bytes letters is))
+
+-- one text is the encoding of one list of bytes
+pub Crypt64-one : (letters xs ys : List ℕ) → Crypt64 xs letters → Crypt64 ys letters → xs ≡ ys
+Crypt64-one letters xs ys is is' = let both = sym (decoded_is xs letters is) ∙ decoded_is ys letters is' in cc

@@ -1,18 +1,17 @@
 -- A hash and the parts of its text.
 use Rattle.std.proofs.Common.{◌≡◌, ℕ, ◌==◌, false, List, [], ◌∷◌, ◌++◌, map, codes, refl, sym, ap, subst, ◌∙◌, arith}
 use Rattle.std.specs.Prelude.{All, Option, None, Some, IfSome, decimal}
-use Rattle.std.specs.List.{slice_split, join_with_byte, before_first}
+use Rattle.std.specs.List.{join_with_byte, before_first}
 use Rattle.std.proofs.lemmas.Bool.{false≢true}
 use Rattle.std.proofs.lemmas.List.Elements.{All-nil, All-cons, All-head, All-tail, All-append, All-from_recursion, All-get_or}
 use Rattle.password_hash.specs.Letters.{is_identifier_letter, is_value_letter}
 use Rattle.password_hash.specs.Pairs.{IsPair, pair_text, pairs_text, ArePairs}
 use Rattle.password_hash.specs.PhcParts.{IsVersion, LackVersion, LackEquals}
 use Rattle.password_hash.specs.Phc.{base64, version_part, params_part, salt_and_key_parts, hash_parts, IsSalt}
-use Rattle.password_hash.specs.Phc.{IsKey, IsSaltAndKey, IsHashText}
+use Rattle.password_hash.specs.Phc.{IsKey, IsHashText}
 use Rattle.password_hash.specs.declared.phc.hash.PasswordHash.{PasswordHash}
 use Rattle.password_hash.proofs.PairsFacts.{Lacks, letters_lack, texts_lack, cut_at_first, equals_of_pairs}
 use Rattle.password_hash.proofs.DecimalFacts.{IsValue-decimal}
-use Rattle.password_hash.proofs.PartsFacts.{parts_of-parts_text}
 use Rattle.password_hash.proofs.PhcPartsFacts.{LacksVersion, base64_lacks}
 
 -- a row of pieces that lack a byte lacks it, unless it separates them
@@ -40,7 +39,7 @@ params_lack (pair ∷ params) h =
     All-from_recursion (Lacks 36) (pairs_text (pair ∷ params) ∷ []) (texts, tt)
 
 -- neither a salt nor a key has a byte that is not a letter of values
-salt_and_key_lack : (c : ℕ) → is_value_letter c ≡ false → (salt key : Option (List ℕ)) → IfSome salt IsSalt → IfSome key IsKey
+pub salt_and_key_lack : (c : ℕ) → is_value_letter c ≡ false → (salt key : Option (List ℕ)) → IfSome salt IsSalt → IfSome key IsKey
     → All (Lacks c) (salt_and_key_parts salt key)
 salt_and_key_lack c other None key hs hk = All-nil (Lacks c)
 salt_and_key_lack c other (Some salt) None hs hk =
@@ -58,7 +57,7 @@ parts_lack text hash h =
     (salt_and_key_lack 36 refl hash.salt hash.hash h.salt h.key)))
 
 -- the text of parameters does not begin with `v=`, since no name is `v`
-params_no_version : (params : List (List ℕ × List ℕ)) → ArePairs params → LackVersion (params_part params)
+pub params_no_version : (params : List (List ℕ × List ℕ)) → ArePairs params → LackVersion (params_part params)
 params_no_version [] h = All-nil LacksVersion
 params_no_version (pair ∷ params) h =
     let is : IsPair pair = All-head IsPair pair params h.each in
@@ -70,34 +69,7 @@ params_no_version (pair ∷ params) h =
     All-from_recursion LacksVersion (pairs_text (pair ∷ params) ∷ []) (text, tt)
 
 -- nor does what has no `=`
-lacking_no_version : (parts : List (List ℕ)) → LackEquals parts → LackVersion parts
+pub lacking_no_version : (parts : List (List ℕ)) → LackEquals parts → LackVersion parts
 lacking_no_version parts h = λ k d below rest e.
     let equals = subst (Lacks 61) e (h k d below) in
     false≢true (sym (All-get_or (λ b. (b == 61) ≡ false) (codes "v=" ++ rest) 1 0 (omega arith) equals))
-
--- the parts of a text that is read as a hash
-pub record HasParts (part : List ℕ) (after : List (List ℕ)) (hash : PasswordHash) : Type 0 where
-  pub algorithm : part ≡ hash.algorithm
-  pub version_first : after ≡ version_part hash.version ++ (params_part hash.params ++ salt_and_key_parts hash.salt hash.hash)
-  pub lack_version : LackVersion (params_part hash.params ++ salt_and_key_parts hash.salt hash.hash)
-  pub lack_equals : LackEquals (salt_and_key_parts hash.salt hash.hash)
-  pub salt_and_key : IsSaltAndKey (salt_and_key_parts hash.salt hash.hash) hash.salt hash.hash
-
-pub parts_of_hash : (text rest part : List ℕ) (after : List (List ℕ)) (hash : PasswordHash) → IsHashText text hash
-    → text ≡ 36 ∷ rest → slice_split (λ b. b == 36) rest ≡ part ∷ after → HasParts part after hash
-parts_of_hash text rest part after hash h begins split =
-    let parts = parts_of-parts_text rest hash.algorithm
-    (version_part hash.version ++ (params_part hash.params ++ salt_and_key_parts hash.salt hash.hash))
-    (parts_lack text hash h) (sym begins ∙ h.whole) in
-    let both = sym split ∙ parts in
-    let first : part ≡ hash.algorithm = cc in
-    let left : after ≡ version_part hash.version ++ (params_part hash.params ++ salt_and_key_parts hash.salt hash.hash) = cc in
-    let no_equals = salt_and_key_lack 61 refl hash.salt hash.hash h.salt h.key in
-    record {
-      algorithm = first;
-      version_first = left;
-      lack_version = All-append LacksVersion (params_part hash.params) (salt_and_key_parts hash.salt hash.hash)
-          (params_no_version hash.params h.params) (lacking_no_version (salt_and_key_parts hash.salt hash.hash) no_equals);
-      lack_equals = no_equals;
-      salt_and_key = record { whole = refl; salt_bytes = h.salt; key_bytes = h.key; key_after_salt = h.key_after_salt };
-    }

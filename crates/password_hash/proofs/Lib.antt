@@ -16,6 +16,8 @@ pub mod PartsFacts
 pub mod PhcPartsFacts
 -- A hash and the parts of its text.
 pub mod HashFacts
+-- PHC texts are read as the hashes that they are printed of.
+pub mod PhcReadingFacts
 -- The alphabet's table: each letter has its value, and no other byte has one.
 pub mod AlphabetFacts
 -- What follows from the definitions of crypt Base64.
@@ -26,8 +28,6 @@ pub mod GroupFacts
 pub mod DecodedFacts
 -- What follows from the definition of MCF texts: each has one id and one list of fields, and texts put together by parts are MCF texts.
 pub mod McfFacts
--- A text has at most one reading.
-pub mod OneReading
 -- Facts on the letters of a piece of bytes: of whole groups of three bytes, or of all that are left.
 pub mod PieceFacts
 -- Tests of the definitions of texts that compute, and what each shows.

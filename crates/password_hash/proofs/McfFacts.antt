@@ -5,9 +5,8 @@ use Rattle.std.specs.List.{All, onto_first}
 use Rattle.std.proofs.lemmas.Bool.{ne_eqb, eqb-false, cases_Bool}
 use Rattle.std.proofs.lemmas.List.{append-nil}
 use Rattle.std.proofs.lemmas.List.Elements.{All-nil, All-cons, All-head, All-tail, All-weaker, All-push}
-use Rattle.password_hash.specs.Refusal.{IsInvalidOrMemory}
-use Rattle.password_hash.specs.declared.error.Error.{Error}
-use Rattle.password_hash.specs.declared.error.Error.TheVariants.{EncodingInvalid, OutOfMemory}
+use Rattle.password_hash.specs.declared.mcf.error.Error.{Error}
+use Rattle.password_hash.specs.declared.mcf.error.Error.TheVariants.{EncodingInvalid, OutOfMemory}
 use Rattle.password_hash.specs.Crypt64.{crypt64_of}
 use Rattle.password_hash.specs.Letters.{is_identifier_letter}
 use Rattle.password_hash.specs.Mcf.{IsId, IsField, IsMcfText, IsMcf, id_of, fields_of}
@@ -105,11 +104,10 @@ IsMcfText-of_id new id written is =
     IsMcfText-read new (id, [], record { is_id = is; are_fields = All-nil IsField; written = written ∙ sym (append-nil (dollar ∷ id)) })
 
 -- an error that is not the one is the other
-pub only_memory : {T : Type 0} (r : Result T Error) → IfErr r IsInvalidOrMemory → (IsErrOf r EncodingInvalid → ⊥)
-    → IfErr r (λ e. e ≡ OutOfMemory)
-only_memory (Ok x) either not_invalid = tt
-only_memory (Err e) (inl invalid) not_invalid = absurd (not_invalid (ap Err invalid))
-only_memory (Err e) (inr memory) not_invalid = memory
+pub only_memory : {T : Type 0} (r : Result T Error) → (IsErrOf r EncodingInvalid → ⊥) → IfErr r (λ e. e ≡ OutOfMemory)
+only_memory (Ok x) not_invalid = tt
+only_memory (Err EncodingInvalid) not_invalid = absurd (not_invalid refl)
+only_memory (Err OutOfMemory) not_invalid = refl
 
 -- the letters of bytes as one more field
 pub ruleset pushed = (IsField-crypt64_of, only_memory)

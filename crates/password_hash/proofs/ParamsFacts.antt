@@ -138,11 +138,6 @@ next_of_pairs pairs params pieces piece k h all read below at =
     ∙ (λ i. sym read i ++ pair_of (sym at i) ∷ []) in
     subst ArePairs front (ArePairs-take (k + 1) pairs h)
 
--- no parameters have an empty text
-pub no_pairs : (text : List ℕ) (pairs : List (List ℕ × List ℕ)) → length text ≡ 0 → text ≡ pairs_text pairs → pairs ≡ []
-no_pairs text [] empty e = refl
-no_pairs text (pair ∷ pairs) empty e = absurd (omega (arith, ap length e, length_pairs_text pair pairs))
-
 -- others are the pairs of the pieces of their text
 pub pairs_of_pieces : (text : List ℕ) (pairs : List (List ℕ × List ℕ)) → 0 < length text → ArePairs pairs
     → text ≡ pairs_text pairs → pairs ≡ map pair_of (slice_split (λ b. b == 44) text)

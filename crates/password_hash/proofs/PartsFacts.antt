@@ -1,13 +1,17 @@
 -- Texts of parts, each after a `$`.
-use Rattle.std.proofs.Common.{◌≡◌, ◌≢◌, ℕ, ◌<◌, ◌==◌, false, List, [], ◌∷◌, ◌++◌, length, get_or, refl, sym, ap, ◌∙◌}
-use Rattle.std.specs.Prelude.{All}
+use Rattle.std.proofs.Common.{◌≡◌, ◌≢◌, ℕ, ◌<◌, ◌==◌, false, true, List, [], ◌∷◌, ◌++◌, length, get_or, refl, sym, ap, ◌∙◌}
+use Rattle.std.proofs.Common.{None, Option, Some, bytes_eq, drop, subst, take}
+use Rattle.std.specs.Borrow.{Bor}
+use Rattle.std.specs.Prelude.{All, MatchOption, option_map}
 use Rattle.std.specs.List.{join_with_byte}
-use Rattle.std.proofs.lemmas.Bool.{ne_eqb}
+use Rattle.std.specs.Str.Pattern.{FindsTextPrefix, StripsPrefix}
+use Rattle.std.proofs.lemmas.Bool.{false_from_ne_true, ne_eqb}
 use Rattle.std.proofs.lemmas.Grind.{flat_map-append}
-use Rattle.std.proofs.lemmas.List.{append-nil}
+use Rattle.std.proofs.lemmas.List.{append-nil, take-append-drop, take_at}
+use Rattle.std.proofs.lemmas.Slice.Eq.{bytes_eq-Decides}
 use Rattle.std.proofs.lemmas.List.Splits.{join_with_byte-slice_split, slice_split_at, slice_split_none}
 use Rattle.std.proofs.lemmas.List.Elements.{All-from_get_or}
-use Rattle.password_hash.specs.Parts.{dollar, parts_text, parts_of}
+use Rattle.password_hash.specs.Parts.{after_prefix, dollar, parts_text, parts_of}
 use Rattle.password_hash.proofs.PairsFacts.{Lacks, slice_split-join}
 
 -- the text of parts is a `$` and the parts, joined by `$`
@@ -30,6 +34,11 @@ parts_of-parts_text text part parts none e =
     let same : text ≡ join_with_byte dollar (part ∷ parts) = cc in
     ap parts_of same ∙ slice_split-join dollar part parts none
 
+-- a text that begins with a `$` is that of its parts after it
+pub text_of_parts : (text part : List ℕ) (parts : List (List ℕ)) → parts_of text ≡ [] ∷ part ∷ parts → text ≡ parts_text (part ∷ parts)
+text_of_parts text part parts e =
+    sym (join_with_byte-slice_split dollar text) ∙ ap (join_with_byte dollar) e ∙ sym (parts_text-join part parts)
+
 -- the text of one part more
 pub parts_text-push : (parts : List (List ℕ)) (part : List ℕ) → parts_text (parts ++ part ∷ []) ≡ parts_text parts ++ dollar ∷ part
 parts_text-push parts part =
@@ -48,3 +57,18 @@ parts_of-first text part left e other =
 -- a text without `$` is its one part
 pub parts_of-only : (text : List ℕ) → ((i : ℕ) → i < length text → get_or text i 0 ≢ dollar) → parts_of text ≡ text ∷ []
 parts_of-only text other = slice_split_none (λ b. b == dollar) text (lacks_by_place text other)
+
+-- what `strip_prefix` gives
+pub prefix_stripped : (prefix text : List ℕ) (rest : Option (Bor (List ℕ)))
+    → MatchOption rest (FindsTextPrefix prefix text None) (λ x. StripsPrefix (FindsTextPrefix prefix) text x.now)
+    → after_prefix prefix text ≡ option_map (λ x. x.now) rest
+unfolding after_prefix
+prefix_stripped prefix text None none =
+    rw (false_from_ne_true _ (λ same. none (drop (length prefix) text) (begins same))) refl
+  where
+    begins : bytes_eq (take (length prefix) text) prefix ≡ true → text ≡ prefix ++ drop (length prefix) text
+    begins same = subst (λ front. text ≡ front ++ drop (length prefix) text) ((bytes_eq-Decides (take (length prefix) text) prefix).0 same)
+        (sym (take-append-drop (length prefix) text))
+prefix_stripped prefix text (Some x) (n, (is, split, boundary), rest, len) =
+    let front = subst (λ t. take (length prefix) t ≡ prefix) (sym split) (take_at prefix (drop n text) (length prefix) refl) in
+    rw ((bytes_eq-Decides (take (length prefix) text) prefix).1 front, rest, is) refl

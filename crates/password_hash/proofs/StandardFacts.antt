@@ -5,13 +5,17 @@ use Rattle.std.specs.Prelude.{All}
 use Rattle.std.specs.Char.{digit_value}
 use Rattle.std.specs.Fmt.{digits}
 use Rattle.std.specs.List.{range_with_len}
-use Rattle.base64.specs.Rfc4648.{encode_symbols}
+unfoldable pub use Rattle.base64.specs.Decode.{groups_bytes, groups_error, scan_steps}
+unfoldable pub use Rattle.base64.specs.GeneralPurpose.{decoded_of}
+unfoldable pub use Rattle.base64.specs.Rfc4648.{encode_symbols}
 use Rattle.password_hash.specs.Crypt64.{bytes_of_number, crypt64_of, decoded, letter, letter_value, letters_of, number_of}
 use Rattle.password_hash.specs.Decimal.{decimal_below, has_plus_or_leading_zero}
 use Rattle.password_hash.specs.Mcf.{IsMcf, IsMcfText, id_of}
-use Rattle.password_hash.specs.Phc.{hash_text, IsHashText}
+use Rattle.password_hash.specs.Phc.{hash_text}
+use Rattle.password_hash.specs.Parts.{after_prefix}
+use Rattle.password_hash.specs.PhcReading.{decoded_bytes, parsed_pairs, read_hash}
 use Rattle.password_hash.specs.declared.phc.hash.PasswordHash.{PasswordHash}
-use Rattle.password_hash.proofs.TextTests.{all_shown, hash_text_shown, has_no_id, is_hash_text, is_mcf_text, mcf_text_shown, no_id_shown}
+use Rattle.password_hash.proofs.TextTests.{all_shown, has_no_id, is_mcf_text, mcf_text_shown, no_id_shown}
 
 -- the bytes that hexadecimal digits spell, two for each
 abbrev bytes : List ℕ → List ℕ
@@ -59,9 +63,31 @@ hash_texts =
     ∷ read_as (codes "$scrypt$x=" ++ replicate 125 48) (codes "scrypt") None ((codes "x", replicate 125 48) ∷ []) None None
     ∷ []
 
-pub hash_texts_read : All (λ (row : List ℕ × PasswordHash). IsHashText row.0 row.1) hash_texts
-unfolding encode_symbols digits
-hash_texts_read = all_shown is_hash_text (λ (row : List ℕ × PasswordHash). IsHashText row.0 row.1) hash_text_shown hash_texts refl
+pub hash_texts_read : map (λ row. read_hash row.0) hash_texts ≡ map (λ row. Some row.1) hash_texts
+unfolding after_prefix decimal_below decoded_bytes decoded_of digits encode_symbols groups_bytes groups_error has_plus_or_leading_zero
+    parsed_pairs read_hash scan_steps
+hash_texts_read = refl
+
+-- texts that are not read
+abbrev refused_hash_texts : List (List ℕ)
+refused_hash_texts =
+    -- no algorithm, none after a `$`, a capital letter, a text before the first `$`, 33 letters
+    codes "" ∷ codes "$" ∷ codes "scrypt" ∷ codes "$Scrypt" ∷ codes "a$a" ∷ (36 ∷ replicate 33 97)
+    -- versions: none, a leading zero, a plus, 2 ^ 32, two, one after the parameters
+    ∷ codes "$a$v=" ∷ codes "$a$v=01" ∷ codes "$a$v=+1" ∷ codes "$a$v=4294967296" ∷ codes "$a$v=1$v=2" ∷ codes "$a$b=1$v=2"
+    -- parameters: no name, no value, no pair after a `,`, one name twice, the name `v`, another letter, two parts, 128 bytes
+    ∷ codes "$a$=1" ∷ codes "$a$b=" ∷ codes "$a$b=1," ∷ codes "$a$b=1,b=2" ∷ codes "$a$b=1,v=2" ∷ codes "$a$b=1=2" ∷ codes "$a$b=1$c=2"
+    ∷ (codes "$a$b=" ++ replicate 126 48)
+    -- salts: empty, a letter alone, a bit above the last byte, padding, 65 bytes
+    ∷ codes "$a$" ∷ codes "$a$a" ∷ codes "$a$aB" ∷ codes "$a$aA==" ∷ (codes "$a$" ++ replicate 87 65)
+    -- keys: empty, 9 bytes, a bit above the last byte, and a part after the key
+    ∷ codes "$a$aA$" ∷ codes "$a$aA$AAAAAAAAAAAA" ∷ codes "$a$aA$AAAAAAAAAAAAAB" ∷ codes "$a$aA$AAAAAAAAAAAAAA$aA"
+    ∷ []
+
+pub hash_texts_refused : map read_hash refused_hash_texts ≡ map (λ text. None) refused_hash_texts
+unfolding after_prefix decimal_below decoded_bytes decoded_of digits encode_symbols groups_bytes groups_error has_plus_or_leading_zero
+    parsed_pairs read_hash scan_steps
+hash_texts_refused = refl
 
 -- without a salt, a key is not printed
 pub key_not_printed :

@@ -16,6 +16,8 @@ pub mod Value
 pub mod Pairs
 -- PHC hashes, and their texts
 pub mod Phc
+-- how a PHC text is read
+pub mod PhcReading
 -- private: the parts of a PHC text, taken one by one
 pub mod PhcParts
 -- crypt Base64

@@ -1,5 +1,5 @@
 -- Texts that consist of parts, each after a `$`, as PHC and MCF texts do.
-use Rattle.std.specs.Prelude.{ℕ, ◌==◌, List, [], ◌∷◌, Option, None, Some}
+use Rattle.std.specs.Prelude.{ℕ, ◌==◌, bytes_eq, if◌then◌else◌, List, [], ◌∷◌, length, take, drop, Option, None, Some}
 use Rattle.std.specs.Borrow.{Bor}
 use Rattle.std.specs.List.{flat_map, slice_split}
 
@@ -19,3 +19,8 @@ parts_of text = slice_split (λ byte. byte == dollar) text
 abbrev pub parts_left : Option (Bor (List ℕ)) → List (List ℕ)
 parts_left None = []
 parts_left (Some text) = parts_of text.now
+
+-- what comes after this prefix
+unfoldable pub after_prefix : List ℕ → List ℕ → Option (List ℕ)
+after_prefix prefix text =
+    if bytes_eq (take (length prefix) text) prefix then Some (drop (length prefix) text) else None

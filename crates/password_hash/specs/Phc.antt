@@ -50,13 +50,6 @@ IsSalt salt = AreBytesFromTo 1 64 salt
 abbrev pub IsKey : List ℕ → Type 0
 IsKey key = AreBytesFromTo 10 64 key
 
--- the parts are a salt and a key, a salt alone, or none
-pub record IsSaltAndKey (parts : List (List ℕ)) (salt key : Option (List ℕ)) : Type 0 where
-  pub whole : parts ≡ salt_and_key_parts salt key
-  pub salt_bytes : IfSome salt IsSalt
-  pub key_bytes : IfSome key IsKey
-  pub key_after_salt : OnSome key (IsSome salt)
-
 -- the text is read as this hash
 pub record IsHashText (text : List ℕ) (hash : PasswordHash) : Type 0 where
   pub whole : text ≡ hash_text hash

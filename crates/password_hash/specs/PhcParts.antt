@@ -1,5 +1,5 @@
 -- Private: the parts of a PHC text, taken one by one from its front.
-use Rattle.std.specs.Prelude.{◌≡◌, ◌≢◌, ℕ, ◌^◌, ◌<◌, ◌==◌, false, List, ◌++◌, codes, All, Option, IfSome, IsSomeAnd}
+use Rattle.std.specs.Prelude.{◌≢◌, ℕ, ◌^◌, ◌<◌, ◌==◌, ◌≡◌, false, List, ◌++◌, codes, All, Option, IfSome}
 use Rattle.std.specs.Borrow.{Bor}
 use Rattle.password_hash.specs.Parts.{parts_left}
 
@@ -15,15 +15,6 @@ LackVersion parts = All (λ part. (rest : List ℕ) → part ≢ codes "v=" ++ r
 abbrev pub LackEquals : List (List ℕ) → Type 0
 LackEquals parts = All (λ part. All (λ b. (b == 61) ≡ false) part) parts
 
--- what was read is allowed and is at the front of the parts, and what is left is after it
-abbrev pub IsPrefix : {A : Type 0} → (A → List (List ℕ)) → (A → Type 0) → List (List ℕ)
-    → A × Option (Bor (List ℕ)) → Type 0
-IsPrefix shown IsAllowed parts read =
-    (parts ≡ shown read.0 ++ parts_left read.1) × IsAllowed read.0
-
--- if something allowed is at the front of the parts, with others after it, then it was read
-abbrev pub IsOnlyPrefix : {A : Type 0} → (A → List (List ℕ)) → (A → Type 0)
-    → (List (List ℕ) → Type 0) → List (List ℕ) → Option (A × Option (Bor (List ℕ))) → Type 0
-IsOnlyPrefix {A} shown IsAllowed AreOthers parts result =
-    (x : A) (others : List (List ℕ)) → IsAllowed x → AreOthers others → parts ≡ shown x ++ others
-    → IsSomeAnd result (λ read. (read.0 ≡ x) × (parts_left read.1 ≡ others))
+-- what was read of the front of a text, and the parts of what is left of it
+abbrev pub before_parts : {A : Type 0} → A × Option (Bor (List ℕ)) → A × List (List ℕ)
+before_parts (read, left) = (read, parts_left left)

@@ -3,6 +3,7 @@
 
 pub mod alphabet;
 mod crypt64;
+mod error;
 mod field;
 mod fields;
 mod group;
@@ -10,8 +11,8 @@ mod hash;
 mod hash_ref;
 mod letters;
 
-pub use crate::error::{Error, Result};
 pub use crypt64::Base64;
+pub use error::{Error, Result};
 pub use field::Field;
 pub use fields::Fields;
 pub use hash::PasswordHash;

@@ -2,7 +2,6 @@
 ghost use Rattle.std.specs.Prelude.{◌≡◌, ◌↔◌, ℕ, ◌+◌, ◌^◌, ◌<◌, ◌≤◌, List, ◌++◌, length, drop, string_bytes};
 ghost use Rattle.std.specs.Prelude.{IsTrue, IsOk, IfOk, OnOk, IfErr, OnErr, IsErrOf, MatchOption};
 ghost use Rattle.password_hash.specs.Crypt64.{Crypt64, IsCrypt64, crypt64_of, encoded_len};
-ghost use Rattle.password_hash.specs.Refusal.{IsInvalidOrMemory};
 
 use super::group::Group;
 use super::letters::Letters;
@@ -41,7 +40,6 @@ impl Base64 {
         ensures ok { IfOk result (λ bytes. Crypt64 bytes.items letters.now) }
         ensures invalid { IsErrOf result Error.EncodingInvalid ↔ (¬ IsCrypt64 letters.now) }
         ensures memory { IsErrOf result Error.OutOfMemory → IsCrypt64 letters.now }
-        ensures errors { IfErr result IsInvalidOrMemory }
     {
         let mut rest = letters.as_bytes();
         let Some(len) = decoded_len(rest) else {

@@ -1,7 +1,6 @@
 //! One field of an MCF text.
 ghost use Rattle.std.specs.Prelude.{◌≡◌, ◌↔◌, ℕ, List, length, take, drop, IsTrue, IfOk, IfErr, IsErrOf, MatchOption};
 ghost use Rattle.password_hash.specs.Crypt64.{Crypt64, IsCrypt64, IsPiece};
-ghost use Rattle.password_hash.specs.Refusal.{IsInvalidOrMemory};
 
 use super::crypt64::{Base64, decoded_len, is_encoding};
 use super::{Error, Result};
@@ -31,7 +30,6 @@ impl<'a> Field<'a> {
         ensures ok { IfOk result (λ bytes. Crypt64 bytes.items (field_text self.now)) }
         ensures invalid { IsErrOf result Error.EncodingInvalid ↔ (¬ IsCrypt64 (field_text self.now)) }
         ensures memory { IsErrOf result Error.OutOfMemory → IsCrypt64 (field_text self.now) }
-        ensures errors { IfErr result IsInvalidOrMemory }
     {
         encoding.decode_vec(alloc, self.text)
     }

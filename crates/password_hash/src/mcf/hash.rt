@@ -5,7 +5,6 @@ ghost use Rattle.std.specs.Cmp.Lexicographic.{pointwise, nat_list_eq_equiv};
 ghost use Rattle.password_hash.specs.Crypt64.{crypt64_of};
 ghost use Rattle.password_hash.specs.Mcf.{IsId, IsField, IsMcfText, IsMcf, id_of, fields_of};
 ghost use Rattle.password_hash.specs.Parts.{dollar};
-ghost use Rattle.password_hash.specs.Refusal.{IsInvalidOrMemory};
 
 use super::crypt64::Base64;
 use super::fields::{Fields, is_field};
@@ -54,7 +53,6 @@ impl PasswordHash {
         ensures accepted { OnOk result (IsMcf text.now) }
         ensures invalid { IsErrOf result Error.EncodingInvalid ↔ (¬ IsMcf text.now) }
         ensures memory { IsErrOf result Error.OutOfMemory → IsMcf text.now }
-        ensures errors { IfErr result IsInvalidOrMemory }
     {
         if !is_mcf(text) {
             return Err(Error::EncodingInvalid);
@@ -72,7 +70,6 @@ impl PasswordHash {
         ensures accepted { OnOk result (IsId id.now) }
         ensures invalid { IsErrOf result Error.EncodingInvalid ↔ (¬ IsId id.now) }
         ensures memory { IsErrOf result Error.OutOfMemory → IsId id.now }
-        ensures errors { IfErr result IsInvalidOrMemory }
     {
         if !is_id(id) {
             return Err(Error::EncodingInvalid);
@@ -92,7 +89,6 @@ impl PasswordHash {
         ensures accepted { OnOk result (IsField field.now) }
         ensures invalid { IsErrOf result Error.EncodingInvalid ↔ (¬ IsField field.now) }
         ensures memory { IsErrOf result Error.OutOfMemory → IsField field.now }
-        ensures errors { IfErr result IsInvalidOrMemory }
         ensures unchanged { OnErr result (self.new ≡ self.old) }
     {
         if !is_field(field) {

@@ -1,7 +1,6 @@
 //! The encoding of salts and keys: Base64 (RFC 4648, section 4) without padding.
-ghost use Rattle.std.specs.Prelude.{◌≡◌, ℕ, List, Some, IfSome};
-ghost use Rattle.password_hash.specs.Phc.{base64};
-ghost use Rattle.password_hash.specs.ShortBytes.{AreBytesFromTo};
+ghost use Rattle.std.specs.Prelude.{◌≡◌};
+ghost use Rattle.password_hash.specs.PhcReading.{decoded_bytes};
 
 use crate::phc::short_bytes::ShortBytes;
 use base64::engine::general_purpose::STANDARD_NO_PAD;
@@ -9,10 +8,7 @@ use base64::engine::general_purpose::STANDARD_NO_PAD;
 /// Decodes `letters` to `LEAST` to 64 bytes. Returns `None` if they are not an encoding, or one of
 /// fewer or more bytes.
 pub(super) fn decode<const LEAST: usize>(letters: &str) -> Option<ShortBytes<LEAST, 64>>
-    ensures letters { IfSome result (λ bytes. letters.now ≡ base64 bytes) }
-    ensures bytes { IfSome result (AreBytesFromTo LEAST 64) }
-    ensures only { (bytes : List ℕ) →
-        AreBytesFromTo LEAST 64 bytes → letters.now ≡ base64 bytes → result ≡ Some bytes }
+    ensures value { result ≡ decoded_bytes LEAST letters.now }
 {
     // The encoding of 64 bytes has 86 letters, which decode within 66 places.
     if letters.len() > 86 {

@@ -1,7 +1,7 @@
 //! A password hash in the PHC string format.
-ghost use Rattle.std.specs.Prelude.{◌≡◌, Some, IfSome, Ok, IfOk, IfErr};
-ghost use Rattle.password_hash.specs.Phc.{hash_text, IsHashText};
-ghost use Rattle.password_hash.specs.declared.phc.hash.PasswordHash.{PasswordHash};
+ghost use Rattle.std.specs.Prelude.{◌≡◌, IfOk, ok_or};
+ghost use Rattle.password_hash.specs.Phc.{hash_text};
+ghost use Rattle.password_hash.specs.PhcReading.{read_hash};
 ghost use Rattle.password_hash.specs.declared.error.Error.TheVariants.{EncodingInvalid};
 
 use crate::parts::first_part;
@@ -32,10 +32,9 @@ impl PasswordHash {
     /// a key needs a salt. The hash is printed as the same text.
     ///
     /// Returns `EncodingInvalid` if `text` does not have this form.
+    #[tactic(auto, using(crate::proofs::PhcReadingFacts::printed_back))]
     pub fn new(text: &str) -> Result<PasswordHash>
-        ensures ok { IfOk result (IsHashText text.now) }
-        ensures only { (hash : PasswordHash) → IsHashText text.now hash → result ≡ Ok hash }
-        ensures err { IfErr result (λ e. e ≡ EncodingInvalid) }
+        ensures value { result ≡ ok_or (read_hash text.now) EncodingInvalid }
         ensures printed_back { IfOk result (λ hash. hash_text hash ≡ text.now) }
     {
         match parse(text) {
@@ -47,8 +46,7 @@ impl PasswordHash {
 
 /// Parses a password hash. Returns `None` if `text` is not one.
 fn parse(text: &str) -> Option<PasswordHash>
-    ensures found { IfSome result (IsHashText text.now) }
-    ensures only { (hash : PasswordHash) → IsHashText text.now hash → result ≡ Some hash }
+    ensures value { result ≡ read_hash text.now }
 {
     let text = text.strip_prefix('$')?;
     let (algorithm, left) = first_part(text);

@@ -1,10 +1,11 @@
 //! The parameters of a hash.
 ghost use Rattle.std.specs.Prelude.{◌≡◌, ◌≢◌, ◌↔◌, ◌≤◌, ◌∷◌, ◌++◌, ℕ, List, [], length, All, Contains, decimal, true};
-ghost use Rattle.std.specs.Prelude.{IsOk, Ok, IfOk, IfErr, IfSome, IfNone, OnOk, OnErr};
+ghost use Rattle.std.specs.Prelude.{IsOk, IfErr, IfSome, IfNone, OnOk, OnErr, ok_or};
 ghost use Rattle.std.specs.Cmp.{and_equiv, on_equiv, partial_equiv_from_equiv};
 ghost use Rattle.std.specs.Cmp.Lexicographic.{lists_equiv, nat_list_eq_equiv, pointwise};
 ghost use Rattle.password_hash.specs.Letters.{IsValue};
 ghost use Rattle.password_hash.specs.Pairs.{ArePairs, IsPair, pair_eq, pairs_text, with_pair};
+ghost use Rattle.password_hash.specs.PhcReading.{parsed_pairs};
 ghost use Rattle.password_hash.specs.Value.{value_text};
 ghost use Rattle.password_hash.specs.declared.error.Error.TheVariants.{ParamsInvalid};
 
@@ -59,11 +60,7 @@ impl ParamsString {
     /// Returns `ParamsInvalid` if a name or a value is invalid, if a name occurs twice, or if
     /// `text` has more than 127 bytes.
     pub fn parse(text: &str) -> Result<ParamsString>
-        ensures text { IfOk result (λ params. text.now ≡ pairs_text params) }
-        ensures pairs { IfOk result ArePairs }
-        ensures only { (pairs : List (List ℕ × List ℕ)) →
-            ArePairs pairs → text.now ≡ pairs_text pairs → result ≡ Ok pairs }
-        ensures err { IfErr result (λ e. e ≡ ParamsInvalid) }
+        ensures value { result ≡ ok_or (parsed_pairs text.now) ParamsInvalid }
     {
         let mut params = ParamsString::new();
         if text.is_empty() {

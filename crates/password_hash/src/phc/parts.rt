@@ -2,11 +2,10 @@
 //!
 //! Each function takes what is left of the text: all that follows the `$` after the parts already
 //! read, or `None` after the last part. `None` as its result means that the text is not a PHC text.
-ghost use Rattle.std.specs.Prelude.{◌≡◌, ℕ, List, Option, Some, IfSome};
-ghost use Rattle.password_hash.specs.Pairs.{ArePairs};
+ghost use Rattle.std.specs.Prelude.{◌≡◌, option_map};
 ghost use Rattle.password_hash.specs.Parts.{parts_left};
-ghost use Rattle.password_hash.specs.PhcParts.{IsVersion, LackEquals, LackVersion, IsPrefix, IsOnlyPrefix};
-ghost use Rattle.password_hash.specs.Phc.{IsSaltAndKey, params_part, version_part};
+ghost use Rattle.password_hash.specs.PhcParts.{before_parts};
+ghost use Rattle.password_hash.specs.PhcReading.{params_and_rest, salt_and_key, version_and_rest};
 
 use crate::Version;
 use crate::decimal::read_decimal;
@@ -16,8 +15,7 @@ use crate::phc::{Output, ParamsString, Salt};
 
 /// Returns the version, if the next part begins with `v=`, and what is left of the text after it.
 pub(super) fn take_version(left: Option<&str>) -> Option<(Option<Version>, Option<&str>)>
-    ensures found { IfSome result (IsPrefix version_part IsVersion (parts_left left.entry)) }
-    ensures only { IsOnlyPrefix version_part IsVersion LackVersion (parts_left left.entry) result }
+    ensures value { option_map before_parts result ≡ version_and_rest (parts_left left.entry) }
 {
     let Some(text) = left else {
         return Some((None, None));
@@ -31,10 +29,8 @@ pub(super) fn take_version(left: Option<&str>) -> Option<(Option<Version>, Optio
 }
 
 /// Returns the parameters, if the next part has a `=`, and what is left of the text after them.
-#[tactic(auto, using(crate::proofs::PhcPartsFacts::params))]
 pub(super) fn take_params(left: Option<&str>) -> Option<(ParamsString, Option<&str>)>
-    ensures found { IfSome result (IsPrefix params_part ArePairs (parts_left left.entry)) }
-    ensures only { IsOnlyPrefix params_part ArePairs LackEquals (parts_left left.entry) result }
+    ensures value { option_map before_parts result ≡ params_and_rest (parts_left left.entry) }
 {
     let Some(text) = left else {
         return Some((ParamsString::new(), None));
@@ -52,19 +48,20 @@ pub(super) fn take_params(left: Option<&str>) -> Option<(ParamsString, Option<&s
 /// Returns the salt and the key after it, each if there is one. They are the last parts of the
 /// text.
 pub(super) fn take_salt_and_key(left: Option<&str>) -> Option<(Option<Salt>, Option<Output>)>
-    ensures found { IfSome result (λ read. IsSaltAndKey (parts_left left.entry) read.0 read.1) }
-    ensures only { (salt key : Option (List ℕ)) →
-        IsSaltAndKey (parts_left left.entry) salt key → result ≡ Some (salt, key) }
+    ensures value { result ≡ salt_and_key (parts_left left.entry) }
 {
     let Some(text) = left else {
         return Some((None, None));
     };
-    let (part, after) = first_part(text);
-    let salt = decode(part)?;
-    let Some(letters) = after else {
+    let (letters, after) = first_part(text);
+    let salt = decode(letters)?;
+    let Some(text) = after else {
         return Some((Some(Salt { bytes: salt }), None));
     };
-    // A `$` is not a letter of Base64, so a key is the last part.
+    let (letters, after) = first_part(text);
     let key = decode(letters)?;
+    if after.is_some() {
+        return None;
+    }
     Some((Some(Salt { bytes: salt }), Some(Output { bytes: key })))
 }

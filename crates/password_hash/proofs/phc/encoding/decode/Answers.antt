@@ -1,17 +1,53 @@
-use Rattle.std.proofs.Common.{length, ap, arith}
-use Rattle.password_hash.proofs.Base64Facts.{length-base64, refused, made_of_read}
+use Rattle.std.proofs.Common.{◌≡◌, ◌↔◌, ◌≤◌, ◌∙◌, ℕ, Err, List, None, Ok, Option, Some, length, ap, sym, arith, refl}
+use Rattle.std.specs.Prelude.{IfSome, IsSome}
+use Rattle.std.proofs.lemmas.Bool.{false≢true}
+use Rattle.base64.specs.declared.decode.DecodeError.{DecodeError}
+use Rattle.base64.specs.Engines.{standard_no_pad}
+use Rattle.base64.specs.GeneralPurpose.{IsBytes, decode_of}
+use Rattle.base64.proofs.EngineFacts.{decode_of_strict}
+use Rattle.password_hash.specs.Phc.{base64}
+use Rattle.password_hash.specs.PhcReading.{decoded_bytes}
+use Rattle.password_hash.specs.ShortBytes.{AreBytesFromTo}
+use Rattle.password_hash.proofs.Base64Facts.{decode_of-base64, length-base64}
+use Rattle.password_hash.proofs.PhcReadingFacts.{bytes_exact, none_exact}
 use Rattle.password_hash.proofs.phc.encoding.decode.Goals as goal
 
-pub returns-then-letters-gt86-clause-only : goal.returns-then-letters-gt86-clause-only
-returns-then-letters-gt86-clause-only g c = λ bytes are same.
-    absurd (omega (arith, ap length same, length-base64 bytes, are.fits))
+-- letters that do not encode bytes of these lengths
+none : (least : ℕ) (letters : List ℕ) → ((bytes : List ℕ) → AreBytesFromTo least 64 bytes → letters ≡ base64 bytes → ⊥)
+    → None ≡ decoded_bytes least letters
+none least letters other = sym (none_exact (λ bytes. AreBytesFromTo least 64 bytes × (letters ≡ base64 bytes))
+    (decoded_bytes least letters) (bytes_exact least letters) (λ bytes is. other bytes is.0 is.1))
 
-pub returns-in_default-clause-only : goal.returns-in_default-clause-only
-returns-in_default-clause-only g c = λ bytes are same.
-    absurd (refused _ bytes _ (rw c.as_bytes.ensures.value at c.in_default.ensures.err) are.are_bytes same)
+-- letters that are not decoded
+refused : (least : ℕ) (letters : List ℕ) (why : DecodeError) → decode_of standard_no_pad letters ≡ Err why
+    → None ≡ decoded_bytes least letters
+refused least letters why told = none least letters (λ bytes are same.
+    let both = sym told ∙ decode_of-base64 letters bytes are.are_bytes same in
+    cc)
+
+-- what is kept of the bytes that were read
+made : (least : ℕ) (letters read : List ℕ) (kept : Option (List ℕ)) → IsBytes letters
+    → decode_of standard_no_pad letters ≡ Ok read → (IsSome kept ↔ (least ≤ length read) × (length read ≤ 64))
+    → IfSome kept (λ bytes. bytes ≡ read) → IfSome kept (AreBytesFromTo least 64) → kept ≡ decoded_bytes least letters
+made least letters read None are told exact value bounds = none least letters (λ bytes within same.
+    let both = sym told ∙ decode_of-base64 letters bytes within.are_bytes same in
+    let all : read ≡ bytes = cc in
+    false≢true (exact.1 (rw all (within.enough, within.fits))))
+made least letters read (Some bytes) are told exact value bounds =
+    sym ((bytes_exact least letters bytes).1 (bounds, decode_of_strict standard_no_pad letters bytes (refl, refl) are (rw value told)))
+
+pub returns-then-letters-gt86 : goal.returns-then-letters-gt86
+returns-then-letters-gt86 g c = record {
+  value = none g.row.LEAST c.args.letters.now (λ bytes are same. omega (arith, ap length same, length-base64 bytes, are.fits));
+}
+
+pub returns-in_default : goal.returns-in_default
+returns-in_default g c = record {
+  value = refused g.row.LEAST c.args.letters.now _ (rw c.as_bytes.ensures.value at c.in_default.ensures.err);
+}
 
 pub returns : goal.returns
-returns g c =
-    let both = made_of_read g.row.LEAST c.args.letters.now _ c.new.result (λ i. omega (arith, c.type_inv.letters i))
-    (rw c.as_bytes.ensures.value at c.in-Ok.ensures.ok.0) c.new.ensures.exact c.new.ensures.value c.new.ensures.bytes in
-    record { letters = both.0; bytes = c.new.ensures.bytes; only = both.1 }
+returns g c = record {
+  value = made g.row.LEAST c.args.letters.now _ c.new.result (λ i. omega (arith, c.type_inv.letters i))
+      (rw c.as_bytes.ensures.value at c.in-Ok.ensures.ok.0) c.new.ensures.exact c.new.ensures.value c.new.ensures.bytes;
+}

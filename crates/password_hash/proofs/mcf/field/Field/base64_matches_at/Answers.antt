@@ -1,7 +1,7 @@
 use Rattle.std.proofs.Common.{◌≡◌, ◌+◌, ◌-◌, ◌*◌, ◌/◌, ◌≤◌, ap, arith, length}
 use Rattle.password_hash.specs.Crypt64.{encoded_len}
 use Rattle.password_hash.specs.McfViews.{field_text}
-use Rattle.password_hash.proofs.OneReading.{Crypt64-one}
+use Rattle.password_hash.proofs.DecodedFacts.{Crypt64-one}
 use Rattle.password_hash.proofs.PieceFacts.{letters_of_piece, piece_inside}
 use Rattle.password_hash.proofs.mcf.field.Field.base64_matches_at.Goals as goal
 use Rattle.password_hash.proofs.mcf.field.Field.base64_matches_at.Goals.{After-as_bytes-letters}

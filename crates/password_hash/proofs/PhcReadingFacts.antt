@@ -1,0 +1,367 @@
+-- PHC texts are read as the hashes that they are printed of.
+use Rattle.std.proofs.Common.{◌≡◌, ◌≢◌, ◌↔◌, ◌^◌, ◌<◌, ◌≤◌, ◌==◌, ℕ, zero, suc, Bool, false, true, not, List, [], ◌∷◌, ◌++◌}
+use Rattle.std.proofs.Common.{length, drop, get_or, take, codes, Option, None, Some, refl, sym, ap, subst, ◌∙◌, arith, inl, inr}
+use Rattle.std.specs.Borrow.{Bor}
+use Rattle.std.specs.Prelude.{AllPairs, IfSome, IsSome, MatchOption, OnSome, decimal, is_some, nat_le, nat_lt, option_and_then, option_map}
+use Rattle.std.specs.Bool.{Decides}
+use Rattle.std.specs.List.{list_all, list_any}
+use Rattle.std.specs.Str.{bytes_eq}
+use Rattle.std.specs.Str.Pattern.{FindsTextPrefix, StripsPrefix}
+use Rattle.std.proofs.lemmas.Bool.{cases_Bool, eq-eqb, false≢true, false_from_ne_true, ne_eqb}
+use Rattle.std.proofs.lemmas.Bool.Decides.{Decides-and, Decides-by_and, Decides-like, Decides-ltb, Decides-not, nat_tests}
+use Rattle.std.proofs.lemmas.List.{get_or_at, length-append, take-append-drop}
+use Rattle.std.proofs.lemmas.List.Elements.{All-append, All-from_get_or, All-head, All-nil}
+use Rattle.std.proofs.lemmas.List.Folds.{list_any_at, list_any_none}
+use Rattle.std.proofs.lemmas.List.Kept.{AllPairs-cons}
+use Rattle.std.proofs.lemmas.List.Splits.{length-slice_split, slice_split_at}
+use Rattle.std.proofs.lemmas.Slice.Eq.{bytes_eq-Decides}
+use Rattle.base64.specs.Engines.{standard_no_pad}
+use Rattle.base64.specs.GeneralPurpose.{IsBytes, decoded_of}
+use Rattle.password_hash.specs.Decimal.{IsDecimal, decimal_below}
+use Rattle.password_hash.specs.Letters.{IsIdentifier, IsValue}
+use Rattle.password_hash.specs.Pairs.{IsPair, ArePairs, pairs_of, pairs_text}
+use Rattle.password_hash.specs.Parts.{after_prefix, parts_left, parts_of, parts_text}
+use Rattle.password_hash.specs.Phc.{IsHashText, IsKey, IsSalt, base64, hash_parts, hash_text, params_part, salt_and_key_parts, version_part}
+use Rattle.password_hash.specs.PhcParts.{IsVersion, LackEquals, LackVersion}
+use Rattle.password_hash.specs.PhcReading.{are_bytes_from_to, are_pairs, decoded_bytes, hash_after, hash_of_parts, is_identifier, is_pair, is_value}
+use Rattle.password_hash.specs.PhcReading.{kept, names_differ, params_and_rest, parsed_pairs, read_hash, salt_and_key, version_and_rest, version_of}
+use Rattle.password_hash.specs.ShortBytes.{AreBytesFromTo}
+use Rattle.password_hash.specs.declared.phc.hash.PasswordHash.{PasswordHash}
+use Rattle.password_hash.proofs.Base64Facts.{decoded_of-base64}
+use Rattle.password_hash.proofs.DecimalFacts.{IsDecimal-decimal, decimal_found, decimal_of, decimal_only}
+use Rattle.password_hash.proofs.HashFacts.{lacking_no_version, params_no_version, parts_lack, salt_and_key_lack}
+use Rattle.password_hash.proofs.PairsFacts.{Lacks, equals_of_pairs, pairs_of-pairs_text}
+use Rattle.password_hash.proofs.PartsFacts.{parts_of-parts_text, prefix_stripped, text_of_parts}
+use Rattle.password_hash.proofs.PhcPartsFacts.{LacksVersion}
+
+-- the tests decide
+
+leb_decided : (m n : ℕ) → Decides (nat_le m n) (m ≤ n)
+leb_decided m n = grind (arith, nat_tests)
+
+pub identifier_decided : (text : List ℕ) → Decides (is_identifier text) (IsIdentifier text)
+identifier_decided text = (
+  λ h. record { some = grind (arith, nat_tests); short = grind (arith, nat_tests); letters = grind arith },
+  λ is. grind (arith, nat_tests, is.some, is.short, is.letters),
+)
+
+value_decided : (text : List ℕ) → Decides (is_value text) (IsValue text)
+value_decided text = (
+  λ h. record { some = grind (arith, nat_tests); letters = grind arith },
+  λ is. grind (arith, nat_tests, is.some, is.letters),
+)
+
+differ_decided : (xs ys : List ℕ) → Decides (not (bytes_eq xs ys)) (xs ≢ ys)
+differ_decided xs ys = Decides-not (bytes_eq xs ys) (bytes_eq-Decides xs ys)
+
+pair_decided : (pair : List ℕ × List ℕ) → Decides (is_pair pair) (IsPair pair)
+pair_decided pair = Decides-like (is_pair pair)
+    (λ h. record { name = h.0; no_version = h.1.0; value = h.1.1 })
+    (λ (is : IsPair pair). (is.name, (is.no_version, is.value)))
+    (Decides-and _ _ (identifier_decided pair.0) (Decides-and _ _ (differ_decided pair.0 (codes "v")) (value_decided pair.1)))
+
+abbrev Differ : List ℕ × List ℕ → List ℕ × List ℕ → Type 0
+Differ first second = first.0 ≢ second.0
+
+names_decided : (pairs : List (List ℕ × List ℕ)) → Decides (names_differ pairs) (AllPairs Differ pairs)
+names_decided [] = (λ _ i j d before inside. absurd (omega arith), λ _. refl)
+names_decided (pair ∷ pairs) =
+    let first = Decides-by_and _ (Differ pair) (list_all (λ (other : List ℕ × List ℕ). not (bytes_eq pair.0 other.0)))
+    (λ other. differ_decided pair.0 other.0) refl (λ _ _. refl) pairs in
+    Decides-like (names_differ (pair ∷ pairs)) (λ h. AllPairs-cons Differ pair pairs h.0 h.1)
+    (λ (h : AllPairs Differ (pair ∷ pairs)). (
+      λ k d below. h 0 (suc k) d (omega arith) (omega arith),
+      λ i j d before inside. h (suc i) (suc j) d (omega arith) (omega arith),
+    ))
+    (Decides-and _ _ first (names_decided pairs))
+
+pairs_decided : (pairs : List (List ℕ × List ℕ)) → Decides (are_pairs pairs) (ArePairs pairs)
+pairs_decided pairs = Decides-like (are_pairs pairs)
+    (λ h. record { each = h.0; once = h.1.0; short = h.1.1 })
+    (λ (are : ArePairs pairs). (are.each, (are.once, are.short)))
+    (Decides-and _ _ (Decides-by_and is_pair IsPair (list_all is_pair) pair_decided refl (λ _ _. refl) pairs)
+    (Decides-and _ _ (names_decided pairs) (leb_decided _ _)))
+
+bytes_decided : (xs : List ℕ) → Decides (list_all (λ byte. nat_lt byte 256) xs) (IsBytes xs)
+bytes_decided [] = (λ _ i. omega arith, λ _. refl)
+bytes_decided (x ∷ xs) = Decides-like (list_all (λ byte. nat_lt byte 256) (x ∷ xs)) each
+    (λ (h : IsBytes (x ∷ xs)). (h 0, λ i. h (suc i))) (Decides-and _ _ (Decides-ltb x 256) (bytes_decided xs))
+  where
+    each : (x < 256) × IsBytes xs → IsBytes (x ∷ xs)
+    each h zero = h.0
+    each h (suc i) = h.1 i
+
+pub within_decided : (least most : ℕ) (xs : List ℕ) → Decides (are_bytes_from_to least most xs) (AreBytesFromTo least most xs)
+within_decided least most xs = Decides-like (are_bytes_from_to least most xs)
+    (λ h. record { are_bytes = h.1.1; enough = h.0; fits = h.1.0 })
+    (λ (are : AreBytesFromTo least most xs). (are.enough, (are.fits, are.are_bytes)))
+    (Decides-and _ _ (leb_decided _ _) (Decides-and _ _ (leb_decided _ _) (bytes_decided xs)))
+
+-- what is kept of a candidate is what is allowed, if each allowed value is the candidate
+kept_exact : {X : Type 0} (p : X → Bool) (P : X → Type 0) (candidate : Option X) → ((x : X) → Decides (p x) (P x))
+    → ((x : X) → P x → candidate ≡ Some x) → (x : X) → (kept p candidate ≡ Some x) ↔ P x
+kept_exact p P None decided only x = (λ is. absurd cc, λ is. let e = only x is in absurd cc)
+kept_exact p P (Some y) decided only x = (
+  λ is. elim (cases_Bool (p y)) [
+    | inl passes ↦
+        let said = rw passes at is in
+        let same : y ≡ x = cc in
+        subst P same ((decided y).0 passes)
+    | inr fails ↦ let said = rw fails at is in absurd cc
+  ],
+  λ is.
+      let found = only x is in
+      let same : y ≡ x = cc in
+      rw (same, (decided x).1 is) refl,
+)
+
+pub pairs_exact : (text : List ℕ) (pairs : List (List ℕ × List ℕ))
+    → (parsed_pairs text ≡ Some pairs) ↔ (ArePairs pairs × (text ≡ pairs_text pairs))
+unfolding parsed_pairs
+pairs_exact text pairs = kept_exact _ (λ pairs. ArePairs pairs × (text ≡ pairs_text pairs)) (Some (pairs_of text))
+    (λ pairs. Decides-and _ _ (pairs_decided pairs) (bytes_eq-Decides text (pairs_text pairs)))
+    (λ pairs is. ap (λ pairs. Some pairs) (ap pairs_of is.1 ∙ pairs_of-pairs_text pairs is.0.each)) pairs
+
+pub bytes_exact : (least : ℕ) (letters bytes : List ℕ)
+    → (decoded_bytes least letters ≡ Some bytes) ↔ (AreBytesFromTo least 64 bytes × (letters ≡ base64 bytes))
+unfolding decoded_bytes
+bytes_exact least letters bytes =
+    kept_exact _ (λ bytes. AreBytesFromTo least 64 bytes × (letters ≡ base64 bytes)) (decoded_of standard_no_pad letters)
+    (λ bytes. Decides-and _ _ (within_decided least 64 bytes) (bytes_eq-Decides letters (base64 bytes)))
+    (λ bytes is. ap (decoded_of standard_no_pad) is.1 ∙ decoded_of-base64 bytes is.0.are_bytes) bytes
+
+-- without an allowed value there is none
+pub none_exact : {X : Type 0} (P : X → Type 0) (answer : Option X) → ((x : X) → (answer ≡ Some x) ↔ P x) → ((x : X) → ¬ P x)
+    → answer ≡ None
+none_exact P None exact none = refl
+none_exact P (Some x) exact none = absurd (none x ((exact x).0 refl))
+
+-- what the parts are printed of is read
+
+version_taken : (version : Option ℕ) (others : List (List ℕ)) → IsVersion version → LackVersion others
+    → version_and_rest (version_part version ++ others) ≡ Some (version, others)
+unfolding after_prefix
+version_taken None [] is none = refl
+version_taken None (part ∷ others) is none =
+    let other = false_from_ne_true (bytes_eq (take 2 part) (codes "v=")) (λ same.
+    All-head LacksVersion part others none (drop 2 part)
+    (sym (take-append-drop 2 part) ∙ ap (λ front. front ++ drop 2 part) ((bytes_eq-Decides (take 2 part) (codes "v=")).0 same))) in
+    rw other refl
+version_taken (Some number) others is none =
+    ap (option_map (λ version. (Some version, others))) (decimal_only (decimal number) number (IsDecimal-decimal number is))
+
+params_taken : (params : List (List ℕ × List ℕ)) (others : List (List ℕ)) → ArePairs params → LackEquals others
+    → params_and_rest (params_part params ++ others) ≡ Some (params, others)
+params_taken [] [] are none = refl
+params_taken [] (part ∷ others) are none =
+    rw (list_any_none (λ b. b == 61) part (All-head (Lacks 61) part others none)) refl
+params_taken (pair ∷ params) others are none =
+    let equals = equals_of_pairs pair params in
+    let has = list_any_at (λ b. b == 61) (pairs_text (pair ∷ params)) (length pair.0) 0
+    (omega (arith, ap length equals.1, length-append pair.0 (61 ∷ equals.0)))
+    (rw (equals.1, get_or_at pair.0 61 equals.0 0 (length pair.0) refl) refl) in
+    rw (has, (pairs_exact (pairs_text (pair ∷ params)) (pair ∷ params)).1 (are, refl)) refl
+
+salt_and_key_taken : (salt key : Option (List ℕ)) → IfSome salt IsSalt → IfSome key IsKey → OnSome key (IsSome salt)
+    → salt_and_key (salt_and_key_parts salt key) ≡ Some (salt, key)
+salt_and_key_taken None None is_salt is_key after = refl
+salt_and_key_taken None (Some key) is_salt is_key after = absurd (false≢true after)
+salt_and_key_taken (Some salt) None is_salt is_key after = rw ((bytes_exact 1 (base64 salt) salt).1 (is_salt, refl)) refl
+salt_and_key_taken (Some salt) (Some key) is_salt is_key after =
+    rw ((bytes_exact 1 (base64 salt) salt).1 (is_salt, refl), (bytes_exact 10 (base64 key) key).1 (is_key, refl)) refl
+
+pub hash_is_read : (text : List ℕ) (hash : PasswordHash) → IsHashText text hash → read_hash text ≡ Some hash
+unfolding read_hash
+hash_is_read text hash h =
+    let rest : List ℕ = drop 1 (hash_text hash) in
+    let last : List (List ℕ) = salt_and_key_parts hash.salt hash.hash in
+    let after : List (List ℕ) = params_part hash.params ++ last in
+    let split : parts_of rest ≡ hash_parts hash =
+    parts_of-parts_text rest hash.algorithm (version_part hash.version ++ after) (parts_lack text hash h) refl in
+    let whole : parts_of text ≡ [] ∷ hash_parts hash = ap parts_of h.whole
+    ∙ slice_split_at (λ b. b == 36) [] 36 rest (All-nil (λ b. (b == 36) ≡ false)) refl ∙ ap (λ parts. [] ∷ parts) split in
+    let no_equals = salt_and_key_lack 61 refl hash.salt hash.hash h.salt h.key in
+    let no_version = All-append LacksVersion (params_part hash.params) last (params_no_version hash.params h.params)
+    (lacking_no_version last no_equals) in
+    rw (
+      whole,
+      (identifier_decided hash.algorithm).1 h.algorithm,
+      version_taken hash.version after h.version no_version,
+      params_taken hash.params last h.params no_equals,
+      salt_and_key_taken hash.salt hash.hash h.salt h.key h.key_after_salt,
+    ) refl
+
+-- what is read of parts is allowed, and they are printed of it
+
+no_pairs : ArePairs []
+no_pairs = (pairs_decided []).0 refl
+
+version_read : (parts : List (List ℕ)) (read : Option ℕ × List (List ℕ)) → version_and_rest parts ≡ Some read
+    → IsVersion read.0 × (parts ≡ version_part read.0 ++ read.1)
+unfolding after_prefix
+version_read [] read is = let same : read ≡ (None, []) = cc in rw same (tt, refl)
+version_read (part ∷ after) read is = elim (cases_Bool (bytes_eq (take 2 part) (codes "v="))) [
+  | inl begins ↦
+      let front = ap (λ front. front ++ drop 2 part) (sym ((bytes_eq-Decides (take 2 part) (codes "v=")).0 begins)) ∙ take-append-drop 2 part in
+      digits front (decimal_below (2 ^ 32) (drop 2 part)) (decimal_found (drop 2 part)) (rw begins at is)
+  | inr other ↦
+      let said = rw other at is in
+      let same : read ≡ (None, part ∷ after) = cc in
+      rw same (tt, refl)
+]
+  where
+    digits : codes "v=" ++ drop 2 part ≡ part → (number : Option ℕ) → IfSome number (IsDecimal (drop 2 part))
+        → option_map (λ version. (Some version, after)) number ≡ Some read
+        → IsVersion read.0 × (part ∷ after ≡ version_part read.0 ++ read.1)
+    digits front None found is = absurd cc
+    digits front (Some number) found is =
+        let same : read ≡ (Some number, after) = cc in
+        rw same (found.small, ap (λ part. part ∷ after) (sym front ∙ ap (λ digits. codes "v=" ++ digits) (decimal_of (drop 2 part) number found)))
+
+params_read : (parts : List (List ℕ)) (read : List (List ℕ × List ℕ) × List (List ℕ)) → params_and_rest parts ≡ Some read
+    → ArePairs read.0 × (parts ≡ params_part read.0 ++ read.1)
+params_read [] read is = let same : read ≡ ([], []) = cc in rw same (no_pairs, refl)
+params_read (part ∷ after) read is = elim (cases_Bool (list_any (λ b. b == 61) part)) [
+  | inl has ↦ pairs has (parsed_pairs part) refl (rw has at is)
+  | inr other ↦
+      let said = rw other at is in
+      let same : read ≡ ([], part ∷ after) = cc in
+      rw same (no_pairs, refl)
+]
+  where
+    shown : (found : List (List ℕ × List ℕ)) → list_any (λ b. b == 61) part ≡ true → part ≡ pairs_text found
+        → part ∷ after ≡ params_part found ++ after
+    shown [] has text = absurd (false≢true (rw text at has))
+    shown (pair ∷ found) has text = ap (λ part. part ∷ after) text
+
+    pairs : list_any (λ b. b == 61) part ≡ true → (found : Option (List (List ℕ × List ℕ))) → parsed_pairs part ≡ found
+        → option_map (λ pairs. (pairs, after)) found ≡ Some read → ArePairs read.0 × (part ∷ after ≡ params_part read.0 ++ read.1)
+    pairs has None same is = absurd cc
+    pairs has (Some found) same is =
+        let one : read ≡ (found, after) = cc in
+        let exact = (pairs_exact part found).0 same in
+        rw one (exact.0, shown found has exact.1)
+
+-- the parts are a salt and a key, a salt alone, or none
+record AreSaltAndKey (parts : List (List ℕ)) (read : Option (List ℕ) × Option (List ℕ)) : Type 0 where
+  pub whole : parts ≡ salt_and_key_parts read.0 read.1
+  pub salt_bytes : IfSome read.0 IsSalt
+  pub key_bytes : IfSome read.1 IsKey
+  pub key_after_salt : OnSome read.1 (IsSome read.0)
+
+salt_and_key_read : (parts : List (List ℕ)) (read : Option (List ℕ) × Option (List ℕ)) → salt_and_key parts ≡ Some read
+    → AreSaltAndKey parts read
+salt_and_key_read [] read is =
+    let one : read ≡ (None, None) = cc in
+    rw one (record { whole = refl; salt_bytes = tt; key_bytes = tt; key_after_salt = tt })
+salt_and_key_read (letters ∷ []) read is = at (decoded_bytes 1 letters) refl is
+  where
+    at : (found : Option (List ℕ)) → decoded_bytes 1 letters ≡ found → option_map (λ salt. (Some salt, None)) found ≡ Some read
+        → AreSaltAndKey (letters ∷ []) read
+    at None same is = absurd cc
+    at (Some found) same is =
+        let one : read ≡ (Some found, None) = cc in
+        let exact = (bytes_exact 1 letters found).0 same in
+        rw (one, exact.1) (record { whole = refl; salt_bytes = exact.0; key_bytes = tt; key_after_salt = tt })
+salt_and_key_read (letters ∷ more ∷ []) read is = at (decoded_bytes 1 letters) (decoded_bytes 10 more) refl refl is
+  where
+    at : (first second : Option (List ℕ)) → decoded_bytes 1 letters ≡ first → decoded_bytes 10 more ≡ second
+        → option_and_then (λ salt. option_and_then (λ key. Some (Some salt, Some key)) second) first ≡ Some read
+        → AreSaltAndKey (letters ∷ more ∷ []) read
+    at None second same same' is = absurd cc
+    at (Some first) None same same' is = absurd cc
+    at (Some first) (Some second) same same' is =
+        let one : read ≡ (Some first, Some second) = cc in
+        let salt = (bytes_exact 1 letters first).0 same in
+        let key = (bytes_exact 10 more second).0 same' in
+        rw (one, salt.1, key.1) (record { whole = refl; salt_bytes = salt.0; key_bytes = key.0; key_after_salt = refl })
+salt_and_key_read (letters ∷ more ∷ last ∷ parts) read is = absurd cc
+
+-- the first step gave the value of the second
+first_step : {A B : Type 0} (o : Option A) (f : A → Option B) (b : B) → option_and_then f o ≡ Some b
+    → (a : A) × (o ≡ Some a) × (f a ≡ Some b)
+first_step None f b is = absurd cc
+first_step (Some a) f b is = (a, refl, is)
+
+pub read_is_hash : (text : List ℕ) (hash : PasswordHash) → read_hash text ≡ Some hash → IsHashText text hash
+unfolding read_hash
+read_is_hash text hash is = at (parts_of text) refl is
+  where
+    after : (algorithm : List ℕ) (parts : List (List ℕ)) → parts_of text ≡ [] ∷ algorithm ∷ parts → IsIdentifier algorithm
+        → hash_after algorithm parts ≡ Some hash → IsHashText text hash
+    after algorithm parts split named is =
+        let version = first_step (version_and_rest parts) _ hash is in
+        let params = first_step (params_and_rest version.0.1) _ hash version.2 in
+        let last = first_step (salt_and_key params.0.1) _ hash params.2 in
+        let is_version = version_read parts version.0 version.1 in
+        let are_pairs = params_read version.0.1 params.0 params.1 in
+        let both = salt_and_key_read params.0.1 last.0 last.1 in
+        let parts_are = is_version.1 ∙ ap (λ rest. version_part version.0.0 ++ rest)
+        (are_pairs.1 ∙ ap (λ rest. params_part params.0.0 ++ rest) both.whole) in
+        let made : record { algorithm = algorithm; version = version.0.0; params = params.0.0; salt = last.0.0; hash = last.0.1 } ≡ hash = cc in
+        rw (← made) (record {
+          whole = text_of_parts text algorithm parts split ∙ ap (λ parts. parts_text (algorithm ∷ parts)) parts_are;
+          algorithm = named;
+          version = is_version.0;
+          params = are_pairs.0;
+          salt = both.salt_bytes;
+          key = both.key_bytes;
+          key_after_salt = both.key_after_salt;
+        })
+
+    at : (parts : List (List ℕ)) → parts_of text ≡ parts → hash_of_parts parts ≡ Some hash → IsHashText text hash
+    at [] split is = absurd cc
+    at ([] ∷ []) split is = absurd cc
+    at ((byte ∷ first) ∷ []) split is = absurd cc
+    at ((byte ∷ first) ∷ algorithm ∷ parts) split is = absurd cc
+    at ([] ∷ algorithm ∷ parts) split is = elim (cases_Bool (is_identifier algorithm)) [
+      | inl named ↦ after algorithm parts split ((identifier_decided algorithm).0 named) (rw named at is)
+      | inr other ↦ let said = rw other at is in absurd cc
+    ]
+
+pub printed_back : (text : List ℕ) (hash : PasswordHash) → read_hash text ≡ Some hash → hash_text hash ≡ text
+printed_back text hash is = sym (read_is_hash text hash is).whole
+
+-- a text that begins with a `$` and these parts
+pub begun : (text rest part : List ℕ) (parts : List (List ℕ)) → text ≡ 36 ∷ rest → parts_of rest ≡ part ∷ parts
+    → read_hash text ≡ hash_of_parts ([] ∷ part ∷ parts)
+unfolding read_hash
+begun text rest part parts begins split = ap hash_of_parts (ap parts_of begins
+    ∙ slice_split_at (λ b. b == 36) [] 36 rest (All-nil (λ b. (b == 36) ≡ false)) refl ∙ ap (λ parts. [] ∷ parts) split)
+
+-- no other text is read
+pub not_begun : (text : List ℕ) → ((rest : List ℕ) → text ≢ 36 ∷ rest) → read_hash text ≡ None
+not_begun text none = none_exact (IsHashText text) (read_hash text) (λ hash. (read_is_hash text hash, hash_is_read text hash))
+    (λ hash is. none _ is.whole)
+
+pub none_is_read : (text : List ℕ) → ((hash : PasswordHash) → ¬ IsHashText text hash) → read_hash text ≡ None
+none_is_read text = none_exact (IsHashText text) (read_hash text) (λ hash. (read_is_hash text hash, hash_is_read text hash))
+
+-- two hashes with one text are one
+pub one_reading : (text : List ℕ) (a b : PasswordHash) → IsHashText text a → IsHashText text b → a ≡ b
+one_reading text a b ha hb = let both = sym (hash_is_read text a ha) ∙ hash_is_read text b hb in cc
+
+-- the version, taken off the parts
+pub version_given : (text part : List ℕ) (after : List (List ℕ)) (digits : Option (Bor (List ℕ))) → parts_of text ≡ part ∷ after
+    → MatchOption digits (FindsTextPrefix (codes "v=") part None) (λ x. StripsPrefix (FindsTextPrefix (codes "v=")) part x.now)
+    → version_and_rest (parts_of text) ≡ version_of (option_map (λ x. x.now) digits) after (part ∷ after)
+version_given text part after digits split found = rw (split, prefix_stripped (codes "v=") part digits found) refl
+
+-- a part with a `=`
+pub equals_found : (text : List ℕ) (found : Bool) → (found ≡ true → (k : ℕ) × (k < length text) × (get_or text k 0 ≡ 61))
+    × ((k : ℕ) → k < length text → get_or text k 0 ≡ 61 → found ≡ true) → found ≡ list_any (λ b. b == 61) text
+equals_found text true (at, other) =
+    let place = at refl in
+    sym (list_any_at (λ b. b == 61) text place.0 0 place.1 (eq-eqb _ 61 place.2))
+equals_found text false (at, other) = sym (list_any_none (λ b. b == 61) text
+    (All-from_get_or (λ b. (b == 61) ≡ false) text 0 (λ k below. ne_eqb (get_or text k 0) 61 (λ is. false≢true (other k below is)))))
+
+-- more parts than a salt and a key
+pub parts_left_over : (salt key : List ℕ) (left : Option (Bor (List ℕ))) → is_some left ≡ true
+    → salt_and_key (salt ∷ key ∷ parts_left left) ≡ None
+parts_left_over salt key None some = absurd (false≢true some)
+parts_left_over salt key (Some text) some = at (parts_of text.now) (omega (arith, length-slice_split (λ b. b == 36) text.now))
+  where
+    at : (parts : List (List ℕ)) → 0 < length parts → salt_and_key (salt ∷ key ∷ parts) ≡ None
+    at [] none = absurd (omega arith)
+    at (part ∷ parts) none = refl
