@@ -6,6 +6,7 @@ use scrypt::{Params, Scrypt};
 use std::alloc::Global;
 use std::test::Fail;
 use test_support::failing_allocations::{CallEnd, failing_allocations};
+use test_support::holds;
 use test_support::vectors::EMPTY_PASSWORD_HASH;
 
 // How a call ended by its answer, if a failure left everything as it was.
@@ -105,7 +106,7 @@ fn hashing_and_verifying(rt: HostRuntime) -> Result<(), Fail> {
         let allocations = failing_allocations(alloc, sizes, || {
             end_of_deriving(&call, alloc, &hasher, &phc_hash, &mcf_hash)
         })?;
-        assert_eq!(rt; allocations, sizes.len(), "{reason}");
+        holds(allocations == sizes.len(), reason)?;
     }
     Ok(())
 }
@@ -192,7 +193,7 @@ fn texts_letters_and_bytes(rt: HostRuntime) -> Result<(), Fail> {
         let allocations = failing_allocations(alloc, sizes, || {
             end_of_making(&call, alloc, text.as_str(), &bytes, &field)
         })?;
-        assert_eq!(rt; allocations, sizes.len(), "{reason}");
+        holds(allocations == sizes.len(), reason)?;
     }
     Ok(())
 }
@@ -283,7 +284,7 @@ fn refusals_without_memory(rt: HostRuntime) -> Result<(), Fail> {
                 CallEnd::Otherwise
             }
         })?;
-        assert_eq!(rt; allocations, 0, "{reason}");
+        holds(allocations == 0, reason)?;
     }
     Ok(())
 }

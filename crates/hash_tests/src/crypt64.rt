@@ -2,6 +2,7 @@
 
 use password_hash::mcf::{Base64, Error, PasswordHashRef};
 use std::test::Fail;
+use test_support::holds;
 
 // A salt that libxcrypt writes.
 const SALT: [u8; 16] = [
@@ -19,27 +20,32 @@ const LETTERS: [(&[u8], &str, &str); 3] = [
 fn letters_of_bytes(rt: HostRuntime) -> Result<(), Fail> {
     let alloc = rt.alloc();
     for &(bytes, letters, reason) in &LETTERS {
-        assert_eq!(rt;
-            Base64::Crypt.encode_string(alloc, bytes)?.as_str(),
-            letters,
-            "{reason}"
-        );
-        assert_eq!(rt;
-            Base64::Crypt.decode_vec(alloc, letters)?.as_slice(),
-            bytes,
-            "{reason}"
-        );
+        holds(
+            Base64::Crypt.encode_string(alloc, bytes)?.as_str() == letters,
+            reason,
+        )?;
+        holds(
+            Base64::Crypt.decode_vec(alloc, letters)?.as_slice() == bytes,
+            reason,
+        )?;
     }
     Ok(())
 }
 
 #[test]
-fn letters_in_a_slice(rt: HostRuntime) {
+fn letters_in_a_slice() -> Result<(), Fail> {
     let mut five = [0xaau8; 5];
     let refused = Base64::Crypt.encode_slice(&[1, 2, 3], &mut five[..3]);
-    assert_eq!(rt; (refused, five), (Err(Error::EncodingInvalid), [0xaa; 5]));
+    holds(
+        (refused, five) == (Err(Error::EncodingInvalid), [0xaa; 5]),
+        "(refused, five) == (Err(Error::EncodingInvalid), [0xaa; 5])",
+    )?;
     let written = Base64::Crypt.encode_slice(&[1, 2, 3], &mut five);
-    assert_eq!(rt; (written, five), (Ok(4), [b'/', b'6', b'k', b'.', 0xaa]));
+    holds(
+        (written, five) == (Ok(4), [b'/', b'6', b'k', b'.', 0xaa]),
+        "(written, five) == (Ok(4), [b'/', b'6', b'k', b'.', 0xaa])",
+    )?;
+    Ok(())
 }
 
 #[test]
@@ -68,9 +74,9 @@ fn letters_of_fields(rt: HostRuntime) -> Result<(), Fail> {
         let hash = PasswordHashRef::new(text)?;
         let field = hash.fields().next().ok_or("no field")?;
         let bytes = field.decode_base64(rt.alloc(), Base64::Crypt);
-        assert_eq!(rt; bytes.is_ok(), is_read, "{reason}");
-        assert_eq!(rt; field.base64_len().is_some(), is_read, "{reason}");
-        assert_eq!(rt; field.base64_matches(&[0xff]), is_read, "{reason}");
+        holds(bytes.is_ok() == is_read, reason)?;
+        holds(field.base64_len().is_some() == is_read, reason)?;
+        holds(field.base64_matches(&[0xff]) == is_read, reason)?;
     }
     Ok(())
 }

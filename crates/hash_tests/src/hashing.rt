@@ -10,6 +10,7 @@ use scrypt::laws::{made_hashes_are_accepted, rehashing_converges};
 use scrypt::phc::ALG_ID;
 use scrypt::{Params, Scrypt};
 use std::test::Fail;
+use test_support::holds;
 use test_support::vectors::{LONG_PASSWORD, LONG_PASSWORD_MCF, LONG_PASSWORD_PHC, PASSLIB_HASH};
 
 // A hasher with small costs.
@@ -21,14 +22,20 @@ fn small() -> Result<Scrypt, Fail> {
 fn phc_hashes(rt: HostRuntime) -> Result<(), Fail> {
     let (alloc, hasher) = (rt.alloc(), small()?);
     let made: phc::PasswordHash = hasher.hash_password_with_salt(alloc, LONG_PASSWORD, b"NaCl")?;
-    assert_eq!(rt; made, phc::PasswordHash::new(LONG_PASSWORD_PHC)?);
+    holds(
+        made == phc::PasswordHash::new(LONG_PASSWORD_PHC)?,
+        "made == phc::PasswordHash::new(LONG_PASSWORD_PHC)?",
+    )?;
     let made: phc::PasswordHash = Scrypt::new().hash_password_with_params(
         alloc,
         LONG_PASSWORD,
         b"NaCl",
         Params::new(4, 1, 1)?,
     )?;
-    assert_eq!(rt; made.to_string(alloc)?.as_str(), LONG_PASSWORD_PHC);
+    holds(
+        made.to_string(alloc)?.as_str() == LONG_PASSWORD_PHC,
+        "made.to_string(..)?.as_str() == LONG_PASSWORD_PHC",
+    )?;
     Ok(())
 }
 
@@ -36,14 +43,20 @@ fn phc_hashes(rt: HostRuntime) -> Result<(), Fail> {
 fn mcf_hashes(rt: HostRuntime) -> Result<(), Fail> {
     let (alloc, hasher) = (rt.alloc(), small()?);
     let made: mcf::PasswordHash = hasher.hash_password_with_salt(alloc, LONG_PASSWORD, b"NaCl")?;
-    assert_eq!(rt; made.as_str(), LONG_PASSWORD_MCF);
+    holds(
+        made.as_str() == LONG_PASSWORD_MCF,
+        "made.as_str() == LONG_PASSWORD_MCF",
+    )?;
     let made: mcf::PasswordHash = Scrypt::new().hash_password_with_params(
         alloc,
         LONG_PASSWORD,
         b"NaCl",
         Params::new(4, 1, 1)?,
     )?;
-    assert_eq!(rt; made.as_str(), LONG_PASSWORD_MCF);
+    holds(
+        made.as_str() == LONG_PASSWORD_MCF,
+        "made.as_str() == LONG_PASSWORD_MCF",
+    )?;
     Ok(())
 }
 
@@ -52,14 +65,14 @@ fn phc_hashes_with_drawn_salts(rt: HostRuntime) -> Result<(), Fail> {
     made_hashes_are_accepted();
     let (alloc, hasher) = (rt.alloc(), small()?);
     let drawn: phc::PasswordHash = hasher.hash_password(alloc, LONG_PASSWORD, [0xff; 16])?;
-    assert_eq!(rt;
-        hasher.verify_password(alloc, LONG_PASSWORD, &drawn),
-        Ok(())
-    );
-    assert_eq!(rt;
-        hasher.verify_password(alloc, b"a", &drawn),
-        Err(Error::PasswordInvalid)
-    );
+    holds(
+        hasher.verify_password(alloc, LONG_PASSWORD, &drawn) == Ok(()),
+        "hasher.verify_password(.., LONG_PASSWORD, &drawn) == Ok(())",
+    )?;
+    holds(
+        hasher.verify_password(alloc, b"a", &drawn) == Err(Error::PasswordInvalid),
+        "hasher.verify_password(.., b'a', &drawn) == Err(Error::PasswordInva..",
+    )?;
     Ok(())
 }
 
@@ -68,12 +81,18 @@ fn mcf_hashes_with_drawn_salts(rt: HostRuntime) -> Result<(), Fail> {
     let (alloc, hasher) = (rt.alloc(), small()?);
     let drawn: mcf::PasswordHash = hasher.hash_password(alloc, LONG_PASSWORD, [0xff; 16])?;
     let beginning = "$7$2/..../....zzzzzzzzzzzzzzzzzzzzz1$";
-    assert!(rt; drawn.as_str().starts_with(beginning));
-    assert_eq!(rt;
-        hasher.verify_password(alloc, LONG_PASSWORD, &drawn),
-        Ok(())
-    );
-    assert_eq!(rt; hasher.needs_rehash(&drawn), Ok(false));
+    holds(
+        drawn.as_str().starts_with(beginning),
+        "drawn.as_str().starts_with(beginning)",
+    )?;
+    holds(
+        hasher.verify_password(alloc, LONG_PASSWORD, &drawn) == Ok(()),
+        "hasher.verify_password(.., LONG_PASSWORD, &drawn) == Ok(())",
+    )?;
+    holds(
+        hasher.needs_rehash(&drawn) == Ok(false),
+        "hasher.needs_rehash(&drawn) == Ok(false)",
+    )?;
     Ok(())
 }
 
@@ -81,37 +100,46 @@ fn mcf_hashes_with_drawn_salts(rt: HostRuntime) -> Result<(), Fail> {
 fn borrowed_mcf_hashes(rt: HostRuntime) -> Result<(), Fail> {
     let (alloc, hasher) = (rt.alloc(), small()?);
     let hash = mcf::PasswordHashRef::new(LONG_PASSWORD_MCF)?;
-    assert_eq!(rt; hasher.verify_password(alloc, LONG_PASSWORD, &hash), Ok(()));
-    assert_eq!(rt;
-        hasher.verify_password(alloc, b"a", &hash),
-        Err(Error::PasswordInvalid)
-    );
+    holds(
+        hasher.verify_password(alloc, LONG_PASSWORD, &hash) == Ok(()),
+        "hasher.verify_password(.., LONG_PASSWORD, &hash) == Ok(())",
+    )?;
+    holds(
+        hasher.verify_password(alloc, b"a", &hash) == Err(Error::PasswordInvalid),
+        "hasher.verify_password(.., b'a', &hash) == Err(Error::PasswordInval..",
+    )?;
     Ok(())
 }
 
 #[test]
-fn phc_rehash_checks(rt: HostRuntime) -> Result<(), Fail> {
+fn phc_rehash_checks() -> Result<(), Fail> {
     rehashing_converges();
     let hash = phc::PasswordHash::new(LONG_PASSWORD_PHC)?;
-    assert_eq!(rt; small()?.needs_rehash(&hash), Ok(false));
-    assert_eq!(rt; Scrypt::new().needs_rehash(&hash), Ok(true));
+    holds(
+        small()?.needs_rehash(&hash) == Ok(false),
+        "small()?.needs_rehash(&hash) == Ok(false)",
+    )?;
+    holds(
+        Scrypt::new().needs_rehash(&hash) == Ok(true),
+        "Scrypt::new().needs_rehash(&hash) == Ok(true)",
+    )?;
     let without_key = phc::PasswordHash::new("$scrypt$ln=4$aA")?;
-    assert_eq!(rt;
-        small()?.needs_rehash(&without_key),
-        Err(Error::PasswordInvalid)
-    );
+    holds(
+        small()?.needs_rehash(&without_key) == Err(Error::PasswordInvalid),
+        "small()?.needs_rehash(&without_key) == Err(Error::PasswordInvalid)",
+    )?;
     Ok(())
 }
 
 #[test]
-fn mcf_rehash_checks(rt: HostRuntime) -> Result<(), Fail> {
+fn mcf_rehash_checks() -> Result<(), Fail> {
     for &(text, wanted, reason) in &[
         (LONG_PASSWORD_MCF, Ok(true), "cheaper than recommended"),
         ("$8$a", Err(Error::Algorithm), "another identifier"),
         ("$7$2/..../....$", Err(Error::OutputSize), "an empty key"),
     ] {
         let hash = mcf::PasswordHashRef::new(text)?;
-        assert_eq!(rt; Scrypt::new().needs_rehash(&hash), wanted, "{reason}");
+        holds(Scrypt::new().needs_rehash(&hash) == wanted, reason)?;
     }
     Ok(())
 }
@@ -171,7 +199,10 @@ fn customized_hashes(rt: HostRuntime) -> Result<(), Fail> {
         None,
         params,
     )?;
-    assert_eq!(rt; made.to_string(alloc)?.as_str(), LONG_PASSWORD_PHC);
+    holds(
+        made.to_string(alloc)?.as_str() == LONG_PASSWORD_PHC,
+        "made.to_string(..)?.as_str() == LONG_PASSWORD_PHC",
+    )?;
     let made: mcf::PasswordHash = Scrypt::new().hash_password_customized(
         alloc,
         LONG_PASSWORD,
@@ -180,32 +211,47 @@ fn customized_hashes(rt: HostRuntime) -> Result<(), Fail> {
         None,
         params,
     )?;
-    assert_eq!(rt; made.as_str(), LONG_PASSWORD_MCF);
+    holds(
+        made.as_str() == LONG_PASSWORD_MCF,
+        "made.as_str() == LONG_PASSWORD_MCF",
+    )?;
     Ok(())
 }
 
 #[test]
-fn costs_of_hashes(rt: HostRuntime) -> Result<(), Fail> {
+fn costs_of_hashes() -> Result<(), Fail> {
     let hash = phc::PasswordHash::new(PASSLIB_HASH)?;
-    assert_eq!(rt;
-        Params::try_from(&hash),
-        Ok(Params::new_with_output_len(16, 8, 1, 32)?)
-    );
-    assert_eq!(rt; Params::try_from(&hash.params), Ok(Params::new(16, 8, 1)?));
-    assert_eq!(rt;
-        Params::try_from(&ParamsString::new()),
-        Ok(Params::RECOMMENDED)
-    );
+    holds(
+        Params::try_from(&hash) == Ok(Params::new_with_output_len(16, 8, 1, 32)?),
+        "Params::try_from(&hash) == Ok(Params::new_with_output_len(16, 8, 1,..",
+    )?;
+    holds(
+        Params::try_from(&hash.params) == Ok(Params::new(16, 8, 1)?),
+        "Params::try_from(&hash.params) == Ok(Params::new(16, 8, 1)?)",
+    )?;
+    holds(
+        Params::try_from(&ParamsString::new()) == Ok(Params::RECOMMENDED),
+        "Params::try_from(&ParamsString::new()) == Ok(Params::RECOMMENDED)",
+    )?;
     Ok(())
 }
 
 #[test]
-fn costs_as_parameters(rt: HostRuntime) -> Result<(), Fail> {
+fn costs_as_parameters() -> Result<(), Fail> {
     let hash = phc::PasswordHash::new(PASSLIB_HASH)?;
     let params = Params::new_with_output_len(16, 8, 1, 32)?;
-    assert_ne!(rt; params, Params::new(16, 8, 1)?);
-    assert_eq!(rt; ParamsString::try_from(params)?.as_str(), "ln=16,r=8,p=1");
-    assert_eq!(rt; ParamsString::try_from(&params)?, hash.params);
-    assert_eq!(rt; hash.algorithm, ALG_ID);
+    holds(
+        params != Params::new(16, 8, 1)?,
+        "params != Params::new(16, 8, 1)?",
+    )?;
+    holds(
+        ParamsString::try_from(params)?.as_str() == "ln=16,r=8,p=1",
+        "ParamsString::try_from(params)?.as_str() == 'ln=16,r=8,p=1'",
+    )?;
+    holds(
+        ParamsString::try_from(&params)? == hash.params,
+        "ParamsString::try_from(&params)? == hash.params",
+    )?;
+    holds(hash.algorithm == ALG_ID, "hash.algorithm == ALG_ID")?;
     Ok(())
 }

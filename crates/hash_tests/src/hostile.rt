@@ -25,7 +25,8 @@ fn verdict(alloc: Global, text: &str) -> Result<Result<(), Error>, Fail> {
     };
     let owned = match mcf::PasswordHash::new(alloc, text) {
         Ok(hash) => scrypt.verify_password(alloc, b"", &hash),
-        Err(error) => Err(error),
+        Err(mcf::Error::EncodingInvalid) => Err(Error::EncodingInvalid),
+        Err(mcf::Error::OutOfMemory) => Err(Error::OutOfMemory),
     };
     if owned != borrowed {
         return Err("the two ways differ".into());

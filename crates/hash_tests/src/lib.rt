@@ -16,13 +16,13 @@ mod hashing;
 #[cfg(test)]
 mod hostile;
 #[cfg(test)]
+mod logins;
+#[cfg(test)]
 mod mcf_costs;
 #[cfg(test)]
 mod mcf_fields;
 #[cfg(test)]
 mod phc_texts;
-#[cfg(test)]
-mod two;
 #[cfg(test)]
 mod verdicts;
 #[cfg(test)]

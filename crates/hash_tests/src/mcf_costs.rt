@@ -4,9 +4,10 @@ use password_hash::Error::{self, EncodingInvalid, ParamsInvalid};
 use scrypt::Params;
 use scrypt::mcf::{decode_params_and_salt, decode64_uint32, encode64_uint32};
 use std::test::Fail;
+use test_support::holds;
 
 #[test]
-fn numbers_of_five_letters(rt: HostRuntime) {
+fn numbers_of_five_letters() -> Result<(), Fail> {
     for &(number, letters, reason) in &[
         (32, b"U....", "libxcrypt's r"),
         (1, b"/....", "the lowest digit comes first"),
@@ -14,19 +15,27 @@ fn numbers_of_five_letters(rt: HostRuntime) {
         (268_435_488, b"U...E", "the fifth letter counts"),
     ] {
         let mut out = [0; 5];
-        assert_eq!(rt; encode64_uint32(&mut out, number), Ok(()), "{reason}");
-        assert_eq!(rt; out, *letters, "{reason}");
-        assert_eq!(rt; decode64_uint32(letters), Ok(number), "{reason}");
+        holds(encode64_uint32(&mut out, number) == Ok(()), reason)?;
+        holds(out == *letters, reason)?;
+        holds(decode64_uint32(letters) == Ok(number), reason)?;
     }
+    Ok(())
 }
 
 #[test]
-fn numbers_of_no_five_letters(rt: HostRuntime) {
+fn numbers_of_no_five_letters() -> Result<(), Fail> {
     // From 2^30 on the number is taken modulo 2^30.
     let mut out = [0; 5];
-    assert_eq!(rt; encode64_uint32(&mut out, 1_073_741_824), Ok(()));
-    assert_eq!(rt; out, *b".....");
-    assert_eq!(rt; decode64_uint32(b"U..."), Err(EncodingInvalid));
+    holds(
+        encode64_uint32(&mut out, 1_073_741_824) == Ok(()),
+        "encode64_uint32(&mut out, 1_073_741_824) == Ok(())",
+    )?;
+    holds(out == *b".....", "out == *b'.....'")?;
+    holds(
+        decode64_uint32(b"U...") == Err(EncodingInvalid),
+        "decode64_uint32(b'U...') == Err(EncodingInvalid)",
+    )?;
+    Ok(())
 }
 
 // Texts, the costs that they encode, the salt after them, and the reason for the row.
@@ -65,22 +74,23 @@ fn refusal(text: &str) -> Option<Error> {
 }
 
 #[test]
-fn costs_and_salts(rt: HostRuntime) -> Result<(), Fail> {
+fn costs_and_salts() -> Result<(), Fail> {
     for &(text, (log_n, r, p), rest, reason) in &ACCEPTED {
         let Ok((params, salt)) = decode_params_and_salt(text) else {
             return Err("refused".into());
         };
-        assert_eq!(rt; params, Params::new(log_n, r, p)?, "{reason}");
-        assert_eq!(rt; salt, rest.as_bytes(), "{reason}");
+        holds(params == Params::new(log_n, r, p)?, reason)?;
+        holds(salt == rest.as_bytes(), reason)?;
     }
     Ok(())
 }
 
 #[test]
-fn refused_costs(rt: HostRuntime) {
+fn refused_costs() -> Result<(), Fail> {
     for &(text, refused, reason) in &REFUSED {
-        assert_eq!(rt; refusal(text), Some(refused), "{reason}");
+        holds(refusal(text) == Some(refused), reason)?;
     }
+    Ok(())
 }
 
 // Each letter of r and of p, replaced by a byte outside the alphabet.

@@ -2,6 +2,7 @@
 
 use password_hash::mcf::{Base64, Error, PasswordHash, PasswordHashRef};
 use std::test::Fail;
+use test_support::holds;
 
 // Whether a hash has these fields.
 fn has_fields(hash: &PasswordHashRef<'_>, wanted: &[&str]) -> bool {
@@ -20,11 +21,20 @@ fn ids_and_fields(rt: HostRuntime) -> Result<(), Fail> {
     let text = "$argon2-x$a$$\u{e9}";
     let fields = ["a", "", "\u{e9}"];
     let owned = PasswordHash::new(rt.alloc(), text)?;
-    assert_eq!(rt; (owned.as_str(), owned.id()), (text, "argon2-x"));
-    assert!(rt; has_fields(&owned.as_password_hash_ref(), &fields));
+    holds(
+        (owned.as_str(), owned.id()) == (text, "argon2-x"),
+        "(owned.as_str(), owned.id()) == (text, 'argon2-x')",
+    )?;
+    holds(
+        has_fields(&owned.as_password_hash_ref(), &fields),
+        "has_fields(&owned.as_password_hash_ref(), &fields)",
+    )?;
     let hash = PasswordHashRef::new(text)?;
-    assert_eq!(rt; (hash.as_str(), hash.id()), (text, "argon2-x"));
-    assert!(rt; has_fields(&hash, &fields));
+    holds(
+        (hash.as_str(), hash.id()) == (text, "argon2-x"),
+        "(hash.as_str(), hash.id()) == (text, 'argon2-x')",
+    )?;
+    holds(has_fields(&hash, &fields), "has_fields(&hash, &fields)")?;
     Ok(())
 }
 
@@ -33,12 +43,21 @@ fn refused_texts(rt: HostRuntime) -> Result<(), Fail> {
     let alloc = rt.alloc();
     let refused = Some(Error::EncodingInvalid);
     let text = "$7.a";
-    assert_eq!(rt; PasswordHashRef::new(text).err(), refused);
-    assert_eq!(rt; PasswordHash::new(alloc, text).err(), refused);
-    assert_eq!(rt; PasswordHash::from_id(alloc, "7.a").err(), refused);
+    holds(
+        PasswordHashRef::new(text).err() == refused,
+        "PasswordHashRef::new(text).err() == refused",
+    )?;
+    holds(
+        PasswordHash::new(alloc, text).err() == refused,
+        "PasswordHash::new(.., text).err() == refused",
+    )?;
+    holds(
+        PasswordHash::from_id(alloc, "7.a").err() == refused,
+        "PasswordHash::from_id(.., '7.a').err() == refused",
+    )?;
     let owned = String::from_str(alloc, text)?;
     let back = PasswordHash::from_string(owned).err().ok_or("kept")?;
-    assert_eq!(rt; back.as_str(), text);
+    holds(back.as_str() == text, "back.as_str() == text")?;
     Ok(())
 }
 
@@ -46,13 +65,16 @@ fn refused_texts(rt: HostRuntime) -> Result<(), Fail> {
 fn pushes(rt: HostRuntime) -> Result<(), Fail> {
     let alloc = rt.alloc();
     let mut hash = PasswordHash::from_id(alloc, "7")?;
-    assert_eq!(rt; hash.as_str(), "$7");
+    holds(hash.as_str() == "$7", "hash.as_str() == '$7'")?;
     hash.push_str("")?;
-    assert_eq!(rt; hash.as_str(), "$7$");
-    assert_eq!(rt; hash.push_str("a$b"), Err(Error::EncodingInvalid));
-    assert_eq!(rt; hash.as_str(), "$7$");
+    holds(hash.as_str() == "$7$", "hash.as_str() == '$7$'")?;
+    holds(
+        hash.push_str("a$b") == Err(Error::EncodingInvalid),
+        "hash.push_str('a$b') == Err(Error::EncodingInvalid)",
+    )?;
+    holds(hash.as_str() == "$7$", "hash.as_str() == '$7$'")?;
     hash.push_base64(&[0xff, 0xff], Base64::Crypt)?;
-    assert_eq!(rt; hash.as_str(), "$7$$zzD");
+    holds(hash.as_str() == "$7$$zzD", "hash.as_str() == '$7$$zzD'")?;
     Ok(())
 }
 
@@ -62,9 +84,9 @@ fn a_million_fields(rt: HostRuntime) -> Result<(), Fail> {
     let text = format!(in alloc; "$7{}", "$".repeat(alloc, 1_000_000)?)?;
     let mut count = 0u32;
     for field in PasswordHashRef::new(text.as_str())?.fields() {
-        assert!(rt; field.as_str().is_empty());
+        holds(field.as_str().is_empty(), "field.as_str().is_empty()")?;
         count = count.saturating_add(1);
     }
-    assert_eq!(rt; count, 1_000_000);
+    holds(count == 1_000_000, "count == 1_000_000")?;
     Ok(())
 }

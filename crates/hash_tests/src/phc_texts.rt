@@ -3,6 +3,7 @@
 use password_hash::Error;
 use password_hash::phc::{Ident, Output, ParamsString, PasswordHash, Salt};
 use std::test::Fail;
+use test_support::holds;
 use test_support::vectors::{PASSLIB_HASH, RFC_KEY_3_SHORT_HASH};
 
 // Texts of hashes, each of which is parsed and printed as the same text, and the reason for the row. More are in
@@ -24,9 +25,12 @@ const TEXTS: [(&str, &str); 4] = [
 fn texts_are_read_and_printed(rt: HostRuntime) -> Result<(), Fail> {
     for &(text, reason) in &TEXTS {
         let hash = PasswordHash::new(text)?;
-        assert_eq!(rt; hash.to_string(rt.alloc())?.as_str(), text, "{reason}");
+        holds(hash.to_string(rt.alloc())?.as_str() == text, reason)?;
     }
-    assert_eq!(rt; PasswordHash::new("$scrypt$"), Err(Error::EncodingInvalid));
+    holds(
+        PasswordHash::new("$scrypt$") == Err(Error::EncodingInvalid),
+        "PasswordHash::new('$scrypt$') == Err(Error::EncodingInvalid)",
+    )?;
     Ok(())
 }
 
@@ -43,10 +47,13 @@ fn parts_of_a_text(rt: HostRuntime) -> Result<(), Fail> {
         salt: Some(salt),
         hash: Some(key),
     };
-    assert_eq!(rt; made, hash);
+    holds(made == hash, "made == hash")?;
     // A key is printed only after a salt.
     made.salt = None;
-    assert_eq!(rt; made.to_string(rt.alloc())?.as_str(), "$scrypt$v=1$ln=1");
+    holds(
+        made.to_string(rt.alloc())?.as_str() == "$scrypt$v=1$ln=1",
+        "made.to_string(..)?.as_str() == '$scrypt$v=1$ln=1'",
+    )?;
     Ok(())
 }
 
@@ -72,22 +79,22 @@ const ADDED: [(&str, &str, &str, &str); 6] = [
 ];
 
 #[test]
-fn decimals_are_put_last(rt: HostRuntime) -> Result<(), Fail> {
+fn decimals_are_put_last() -> Result<(), Fail> {
     for &(text, name, wanted, reason) in &ADDED {
         let mut params = ParamsString::parse(text)?;
         let added = params.add_decimal(name, 1);
         if wanted == text {
-            assert_eq!(rt; added, Err(Error::ParamsInvalid), "{reason}");
+            holds(added == Err(Error::ParamsInvalid), reason)?;
         } else {
-            assert_eq!(rt; added, Ok(()), "{reason}");
+            holds(added == Ok(()), reason)?;
         }
-        assert_eq!(rt; params.as_str(), wanted, "{reason}");
+        holds(params.as_str() == wanted, reason)?;
     }
     Ok(())
 }
 
 #[test]
-fn pairs_in_their_order(rt: HostRuntime) -> Result<(), Fail> {
+fn pairs_in_their_order() -> Result<(), Fail> {
     let params = ParamsString::parse("r=8,ln=016")?;
     let mut pairs = params.iter();
     for &(name, text, number) in &[
@@ -97,11 +104,14 @@ fn pairs_in_their_order(rt: HostRuntime) -> Result<(), Fail> {
         let Some((ident, value)) = pairs.next() else {
             return Err("a pair is missing".into());
         };
-        assert_eq!(rt; (ident.as_str(), value.as_str()), (name, text));
-        assert_eq!(rt; value.decimal(), number);
+        holds(
+            (ident.as_str(), value.as_str()) == (name, text),
+            "(ident.as_str(), value.as_str()) == (name, text)",
+        )?;
+        holds(value.decimal() == number, "value.decimal() == number")?;
     }
-    assert!(rt; pairs.next().is_none());
+    holds(pairs.next().is_none(), "pairs.next().is_none()")?;
     let r = params.get("r").ok_or("no r")?;
-    assert_eq!(rt; r.as_str(), "8");
+    holds(r.as_str() == "8", "r.as_str() == '8'")?;
     Ok(())
 }

@@ -3,6 +3,7 @@
 use crate::verdicts::texts_in_buffers;
 use scrypt::{CoreCount, Params, StoredHash, mcf, phc};
 use std::test::Fail;
+use test_support::holds;
 use test_support::vectors::{LONG_PASSWORD, LONG_PASSWORD_MCF, LONG_PASSWORD_PHC};
 
 // Buffers that are one element longer than (4, 1, 1) needs, and hold no zeros.
@@ -13,7 +14,7 @@ const TABLE: [u32; 513] = [u32::MAX; 513];
 const SCRATCH: [u32; 65] = [u32::MAX; 65];
 
 #[test]
-fn phc_hashes(rt: HostRuntime) -> Result<(), Fail> {
+fn phc_hashes() -> Result<(), Fail> {
     let (mut chunks, mut table, mut scratch) = (CHUNKS, TABLE, SCRATCH);
     let hash = phc::hash_with_buffers(
         LONG_PASSWORD,
@@ -24,12 +25,15 @@ fn phc_hashes(rt: HostRuntime) -> Result<(), Fail> {
         &mut scratch,
         &mut CoreCount::new(),
     )?;
-    assert_eq!(rt; hash.to_array_string().as_str(), LONG_PASSWORD_PHC);
+    holds(
+        hash.to_array_string().as_str() == LONG_PASSWORD_PHC,
+        "hash.to_array_string().as_str() == LONG_PASSWORD_PHC",
+    )?;
     Ok(())
 }
 
 #[test]
-fn mcf_hashes(rt: HostRuntime) -> Result<(), Fail> {
+fn mcf_hashes() -> Result<(), Fail> {
     let (mut chunks, mut table, mut scratch) = (CHUNKS, TABLE, SCRATCH);
     let params = Params::new(4, 1, 1)?;
     let mut text = [b'!'; 64];
@@ -43,13 +47,19 @@ fn mcf_hashes(rt: HostRuntime) -> Result<(), Fail> {
         &mut scratch,
         &mut CoreCount::new(),
     )?;
-    assert_eq!(rt; text.get(..len), Some(LONG_PASSWORD_MCF.as_bytes()));
-    assert_eq!(rt; len, mcf::hash_len(&params, b"NaCl"));
+    holds(
+        text.get(..len) == Some(LONG_PASSWORD_MCF.as_bytes()),
+        "text.get(..len) == Some(LONG_PASSWORD_MCF.as_bytes())",
+    )?;
+    holds(
+        len == mcf::hash_len(&params, b"NaCl"),
+        "len == mcf::hash_len(&params, b'NaCl')",
+    )?;
     Ok(())
 }
 
 #[test]
-fn verdicts(rt: HostRuntime) -> Result<(), Fail> {
+fn verdicts() -> Result<(), Fail> {
     let (mut chunks, mut table, mut scratch) = (CHUNKS, TABLE, SCRATCH);
     let mut cores = CoreCount::new();
     let texts = texts_in_buffers("$7$3/..../....C3qEg/$r/", "a table of twice the length");
@@ -61,7 +71,7 @@ fn verdicts(rt: HostRuntime) -> Result<(), Fail> {
             &mut scratch,
             &mut cores,
         );
-        assert_eq!(rt; verdict, wanted, "{reason}");
+        holds(verdict == wanted, reason)?;
     }
     Ok(())
 }

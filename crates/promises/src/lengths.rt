@@ -3,16 +3,16 @@
 ghost use Rattle.std.specs.Prelude.{◌≡◌, ◌≤◌, length, IfOk, OnOk, IsOk};
 ghost use Rattle.scrypt.specs.McfHash.{IsMadeHash};
 ghost use Rattle.scrypt.specs.Reading.{IsVerdict, told};
-ghost use Rattle.scrypt.specs.StoredHash.{ByReading};
-ghost use Rattle.scrypt.specs.WithinLimits.{within};
+ghost use Rattle.scrypt.specs.StoredHash.{reading};
+ghost use Rattle.scrypt.specs.WithinLimits.{told_limited, within};
 ghost use Rattle.scrypt.specs.Count.{AreCounted};
 ghost use Rattle.scrypt.specs.Accepted.{IsOutputLen};
 ghost use Rattle.scrypt.specs.Cost.{thin_cost};
 ghost use Rattle.scrypt.specs.Key.{derived_key};
 
 use scrypt::{
-    BufferLens, CoreCount, Limits, Params, StoredHash, mcf, password_hash, scrypt_thin,
-    scrypt_with_buffers,
+    BufferLens, CoreCount, LimitedError, Limits, Params, StoredHash, mcf, password_hash,
+    scrypt_thin, scrypt_with_buffers,
 };
 use std::alloc::{AllocError, Global};
 
@@ -89,19 +89,19 @@ pub fn verdict_in_own_buffers(
     text: &str,
     password: &[u8],
     limits: &Limits,
-) -> password_hash::Result<()>
-    ensures verdict { ByReading text.now (λ reading. IsVerdict password.now (within limits.now reading) (told result)) }
+) -> Result<(), LimitedError>
+    ensures verdict { IsVerdict password.now (within limits.now (reading text.now)) (told_limited result) }
 {
     let hash = match StoredHash::read(text) {
         Ok(hash) => hash,
-        Err(error) => return Err(error),
+        Err(error) => return Err(LimitedError::Hash(error)),
     };
     let lens = match hash.buffer_lens_within(limits) {
         Ok(lens) => lens,
         Err(error) => return Err(error),
     };
     let Ok(mut own) = allocate(alloc, &lens) else {
-        return Err(password_hash::Error::OutOfMemory);
+        return Err(LimitedError::Hash(password_hash::Error::OutOfMemory));
     };
     let mut cores = CoreCount::new();
     hash.verify_within(

@@ -1,9 +1,12 @@
 -- Facts on the cores of a derivation.
-use Rattle.std.proofs.Common.{◌≡◌, ℕ, zero, suc, ◌+◌, ◌*◌, ◌^◌, List, refl, ap, ◌∙◌, arith, add-one}
+use Rattle.std.proofs.Common.{◌≡◌, ℕ, zero, suc, ◌<◌, ◌≤◌, ◌+◌, ◌*◌, ◌/◌, ◌^◌, List, refl, ap, ◌∙◌, arith, lit≤, add-one}
+use Rattle.std.proofs.Math.Nat.{div-mul-le_self, mul-le-mul_right, one-le-pow}
+use Rattle.std.proofs.lemmas.Nat.{le-div, mul-le}
+use Rattle.std.specs.Prelude.{◌↔◌}
 use Rattle.scrypt_kernel.specs.Words.{part, words_of}
 use Rattle.scrypt_kernel.specs.Table.{extra_rows}
 use Rattle.scrypt_kernel.proofs.WalkFacts.{extra_rows-whole}
-use Rattle.scrypt.specs.Cost.{cost, extra_rows_of_chunks, thin_chunks_cost}
+use Rattle.scrypt.specs.Cost.{cost, extra_rows_of_chunks, table_words, thin_chunks_cost}
 
 none_of_chunks : (b : List ℕ) (log_n r i : ℕ) → extra_rows_of_chunks b log_n 0 r i ≡ 0
 unfolding extra_rows_of_chunks
@@ -24,3 +27,14 @@ pub more_chunks : (b : List ℕ) (log_n s r i : ℕ) → extra_rows_of_chunks b 
     ≡ extra_rows_of_chunks b log_n s r i + extra_rows (words_of (part (128 * r) b i)) log_n s (2 ^ log_n)
 unfolding extra_rows_of_chunks
 more_chunks b log_n s r i = rw add-one refl
+
+-- there is room for one at least exactly if one fits
+pub room_for_one : (n one : ℕ) → 0 < one → (0 < n / one) ↔ (one ≤ n)
+room_for_one n one some = (
+  λ above. omega (arith, mul-le-mul_right one above, div-mul-le_self n one),
+  λ fits. le-div 1 n one some (omega (arith, fits)),
+)
+
+-- a table has a word at least
+pub some_table : (log_n r : ℕ) → 0 < r → 0 < table_words log_n r
+some_table log_n r some = mul-le 1 1 (2 ^ log_n) (32 * r) (one-le-pow log_n 2 (lit≤ tt)) (omega arith)

@@ -1,8 +1,10 @@
 -- Facts on the chunks of B, which are mixed one after another.
-use Rattle.std.proofs.Common.{◌≡◌, ℕ, zero, suc, ◌<◌, ◌≤◌, ◌+◌, ◌*◌, List, [], ◌++◌, length, take, drop, slice_index}
-use Rattle.std.proofs.Common.{refl, sym, ap, ap₂, ◌∙◌, arith, add-zero, zero-add, append_assoc, length-append, take_all}
+use Rattle.std.proofs.Common.{◌≡◌, ℕ, zero, suc, ◌<◌, ◌≤◌, ◌+◌, ◌*◌, List, ◌++◌, length, take, drop, slice_index}
+use Rattle.std.proofs.Common.{refl, sym, ap, ap₂, ◌∙◌, arith, add-zero, zero-add, append_assoc, take_all}
 use Rattle.std.specs.List.{flat_map, range_with_len}
-use Rattle.std.proofs.lemmas.List.{append-nil, drop-drop, drop_at, take_at}
+use Rattle.std.proofs.Math.Nat.{mul-le-mul_right}
+use Rattle.std.proofs.lemmas.Nat.{mul-le}
+use Rattle.std.proofs.lemmas.List.{drop-drop, drop_at, take_at}
 use Rattle.std.proofs.lemmas.Slice.{drop-put_mid, take-put_mid}
 use Rattle.std.proofs.lemmas.List.FromFn.{length-map-range_with_len, take-map-range_with_len}
 use borrow.Rule.Slice.PartMut.{put_mid}
@@ -14,7 +16,7 @@ use Rattle.scrypt.specs.Accepted.{Parameters}
 use Rattle.scrypt.specs.KeyOfParams.{key_by}
 use Rattle.scrypt.specs.Key.{derived_key, mixed_chunk, mixed_chunks}
 use Rattle.scrypt.specs.Mixing.{AreMixed}
-use Rattle.scrypt_kernel.proofs.PartFacts.{length-part, length-parts, part_after, part_append_front, parts_apart}
+use Rattle.scrypt_kernel.proofs.PartFacts.{length-part, length-parts, part-take, part_after, part_append_front, parts_apart, parts_from}
 use Rattle.scrypt_kernel.proofs.RoMixFacts.{length-ro_mix}
 use Rattle.scrypt_kernel.proofs.WordFacts.{length-bytes_of}
 use Rattle.scrypt_kernel.proofs.Pbkdf2Facts.{length-pbkdf2, padded_digest, padded_zero_byte, pbkdf2-are_bytes, same_pbkdf2}
@@ -59,49 +61,23 @@ mixed_more {b} {x} {ys} {log_n} {r} {i} m a n at size full room made before =
           ∙ sym (drop-drop n a x) ∙ ap (drop n) rest ∙ drop-drop n a b);
     }
 
--- the chunk after those that are in front
-pub mixed_next : {b : List ℕ} {log_n r i : ℕ} (front one rest mixed : List ℕ) → length front ≡ i * (128 * r) → length one ≡ 128 * r
-    → length mixed ≡ 128 * r → mixed ≡ bytes_of (ro_mix (words_of one) log_n) → AreMixed b log_n r i (front ++ (one ++ rest))
-    → AreMixed b log_n r (i + 1) ((front ++ mixed) ++ rest)
-mixed_next {b} {log_n} {r} {i} front one rest mixed long size full is before =
+-- chunk i
+pub part_at : (s i : ℕ) (x : List ℕ) → part s (drop (i * s) x) 0 ≡ part s x i
+part_at s i x =
+    let none : 0 * s ≡ 0 = omega arith in
+    ap (λ n. take s (drop n (drop (i * s) x))) none
+
+-- n chunks from i on, of which each becomes its scryptROMix
+pub mixed_group : (b x ys : List ℕ) (log_n r i n : ℕ) → length ys ≡ n * (128 * r)
+    → ((k : ℕ) → k < n → part (128 * r) ys k ≡ bytes_of (ro_mix (words_of (part (128 * r) (take (n * (128 * r)) (drop (i * (128 * r)) x)) k)) log_n))
+    → AreMixed b log_n r i x → ys ≡ flat_map (mixed_chunk b log_n r) (range_with_len i n)
+mixed_group b x ys log_n r i n long each before =
     let s : ℕ = 128 * r in
-    let end : (i + 1) * s ≡ i * s + s = omega arith in
-    let done : front ≡ mixed_chunks b log_n r i = sym (take_at front (one ++ rest) (i * s) long) ∙ before.done in
-    let left : one ++ rest ≡ drop (i * s) b = sym (drop_at front (one ++ rest) (i * s) long) ∙ before.rest in
-    let chunk : one ≡ part s b i = sym (take_at one rest s size) ∙ ap (take s) left in
-    let made : mixed ≡ mixed_chunk b log_n r i ++ [] = is ∙ ap (λ z. bytes_of (ro_mix (words_of z) log_n)) chunk ∙ sym (append-nil _) in
-    let both : length (front ++ mixed) ≡ (i + 1) * s = length-append front mixed ∙ omega arith in
-    record {
-      done = take_at (front ++ mixed) rest ((i + 1) * s) both ∙ ap₂ (λ y z. y ++ z) done made
-          ∙ sym (made_append (mixed_chunk b log_n r) 0 i i 1 (zero-add i));
-      rest = drop_at (front ++ mixed) rest ((i + 1) * s) both ∙ sym (drop_at one rest s size) ∙ ap (drop s) left
-          ∙ drop-drop s (i * s) b ∙ ap (λ k. drop k b) (sym end);
-    }
-
-regrouped : (p u v w : List ℕ) → p ++ (u ++ (v ++ w)) ≡ (p ++ (u ++ v)) ++ w
-regrouped p u v w = simp append_assoc
-
--- the next two, and the next three
-module _ {b : List ℕ} {log_n r i : ℕ} (front one two : List ℕ) {mixed other : List ℕ} (long : length front ≡ i * (128 * r))
-    (size : length one ≡ 128 * r) (other_size : length two ≡ 128 * r) (full : length mixed ≡ 128 * r) (other_full : length other ≡ 128 * r)
-    (is : mixed ≡ bytes_of (ro_mix (words_of one) log_n)) (other_is : other ≡ bytes_of (ro_mix (words_of two) log_n)) where
-  pub mixed_two : (rest : List ℕ) → AreMixed b log_n r i (front ++ (one ++ (two ++ rest)))
-      → AreMixed b log_n r (i + 2) (front ++ (mixed ++ (other ++ rest)))
-  mixed_two rest before =
-      let next : i + 1 + 1 ≡ i + 2 = omega arith in
-      let begun : length (front ++ mixed) ≡ (i + 1) * (128 * r) = length-append front mixed ∙ omega arith in
-      rw (next, append_assoc, append_assoc) at (mixed_next (front ++ mixed) two rest other begun other_size other_full other_is
-      (mixed_next front one (two ++ rest) mixed long size full is before))
-
-  pub mixed_three : (three rest : List ℕ) {third : List ℕ} → length three ≡ 128 * r → length third ≡ 128 * r
-      → third ≡ bytes_of (ro_mix (words_of three) log_n) → AreMixed b log_n r i (front ++ (one ++ (two ++ (three ++ rest))))
-      → AreMixed b log_n r (i + 3) (front ++ (mixed ++ (other ++ (third ++ rest))))
-  mixed_three three rest {third} third_size third_full third_is before =
-      let next : i + 2 + 1 ≡ i + 3 = omega arith in
-      let begun : length (front ++ (mixed ++ other)) ≡ (i + 2) * (128 * r) =
-      length-append front (mixed ++ other) ∙ omega (arith, length-append mixed other) in
-      rw (next, append_assoc, append_assoc, append_assoc) at (mixed_next (front ++ (mixed ++ other)) three rest third begun third_size
-      third_full third_is (rw (regrouped front mixed other (three ++ rest)) at (mixed_two (three ++ rest) before)))
+    parts_from (mixed_chunk b log_n r) s i n ys long (λ k h.
+    let place : i * s + k * s ≡ (i + k) * s = omega arith in
+    let chunk = part-take s k (n * s) (drop (i * s) x) (parts_apart s k n h) ∙ ap (λ z. part s z k) before.rest
+    ∙ ap (take s) (drop-drop (k * s) (i * s) b ∙ ap (λ a. drop a b) place) in
+    each k h ∙ ap (λ z. bytes_of (ro_mix (words_of z) log_n)) chunk)
 
 -- all p chunks
 pub all_mixed : {b x : List ℕ} {log_n r : ℕ} (p : ℕ) → length x ≡ p * (128 * r) → AreMixed b log_n r p x → x ≡ mixed_chunks b log_n r p
@@ -131,10 +107,6 @@ both_mixed b w x log_n r p q some long is =
     length-parts (mixed_chunk b log_n r) s 0 p (λ i below. length-mixed_chunk b log_n r (0 + i) some (inside (0 + i) (omega arith))) in
     (ap (take (p * s)) all ∙ take_at _ _ (p * s) count, ap (drop (p * s)) all ∙ drop_at _ _ (p * s) count)
 
--- they are as long as the chunks of both
-pub length-both : (b w : List ℕ) (r p q : ℕ) → length b ≡ p * (128 * r) → length w ≡ q * (128 * r) → length (b ++ w) ≡ (p + q) * (128 * r)
-length-both b w r p q long other = length-append b w ∙ omega arith
-
 -- a shorter key is the beginning of a longer one
 pub key_prefix : (password salt : List ℕ) (log_n r p m n : ℕ) → m ≤ n
     → derived_key password salt log_n r p m ≡ take m (derived_key password salt log_n r p n)
@@ -161,3 +133,16 @@ key_by-are_bytes c password salt n i = pbkdf2-are_bytes password _ n i
 
 -- the passwords of one key
 pub ruleset same_keys = (same_key, padded_digest, padded_zero_byte)
+
+-- group k of n chunks of s bytes each, of those from `first` on
+pub group_inside : (s n k groups first len : ℕ) → k < groups → (first + groups * n) * s ≤ len → (first + k * n) * s + n * s ≤ len
+group_inside s n k groups first len below room =
+    let apart = parts_apart n k groups below in
+    let inside : first + k * n + n ≤ first + groups * n = omega (arith, apart) in
+    omega (arith, room, mul-le-mul_right s inside)
+
+-- it begins at a place that a length can have
+pub group_small : (s n k groups first len : ℕ) → 0 < s → k < groups → (first + groups * n) * s ≤ len → first + k * n ≤ len
+group_small s n k groups first len some below room =
+    let apart = parts_apart n k groups below in
+    omega (arith, room, mul-le (first + groups * n) 1 (first + groups * n) s (omega arith) some)

@@ -12,8 +12,8 @@ pub mod ChunkFacts
 pub mod StandardFacts
 -- What follows from the reading of a hash: the verdict, and the memory that is left.
 pub mod ReadingFacts
--- Facts on two derivations at once.
-pub mod TwoVerdictsFacts
+-- Facts on several logins, whose keys are derived at once.
+pub mod LoginFacts
 -- Facts on two keys that are compared piece by piece.
 pub mod ComparingFacts
 -- Facts on parameters as PHC pairs.
@@ -28,7 +28,9 @@ pub mod McfParamsFacts
 pub mod McfHashFacts
 -- The text that hashing writes is that of the hash.
 pub mod McfTextFacts
--- Facts on stored hashes of either format: a text has one hash, and what holds of the hash holds of the text.
+-- Facts on stored hashes of either format: how their texts are read.
 pub mod StoredHashFacts
 -- Hashing is refused for one thing.
 pub mod HashingFacts
+-- Texts of stored hashes, read by the definitions alone.
+pub mod ReadingVectors

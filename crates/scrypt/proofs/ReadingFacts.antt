@@ -1,5 +1,5 @@
 -- What follows from the reading of a hash: the verdict, and the memory that is left.
-use Rattle.std.proofs.Common.{◌≡◌, ◌↔◌, ◌≢◌, ◌⊎◌, ◌∙◌, ℕ, ◌≤◌, List, length, Ok, Err, inl, inr, true, false, refl, sym, ap, ap₂, arith}
+use Rattle.std.proofs.Common.{nat_le, ◌≡◌, ◌↔◌, ◌≢◌, ◌⊎◌, ◌∙◌, ℕ, ◌≤◌, List, length, Ok, Err, inl, inr, true, false, refl, sym, ap, ap₂, arith}
 use Rattle.std.specs.Prelude.{Bool, IfErr, None, Option, Result, Some, if◌then◌else◌, ok_or, ⊤}
 use Rattle.std.specs.Bool.{Decides}
 use Rattle.std.proofs.lemmas.Bool.Decides.{Decides-and, same_from_decides}
@@ -18,7 +18,7 @@ use Rattle.scrypt.specs.Reading.{◌and_then◌, NamesNoPassword, Stored, checke
 use Rattle.scrypt.specs.InBuffers.{AreEnough}
 use Rattle.scrypt.specs.StoredParts.{HasParts}
 use Rattle.scrypt.specs.declared.stored_hash.parts.Parts.{Parts}
-use Rattle.scrypt.specs.Limits.{are_within}
+use Rattle.scrypt.specs.Limits.{are_within, buffers_bytes, work}
 use Rattle.scrypt.specs.WithinLimits.{within}
 use Rattle.scrypt.specs.declared.limits.Limits.{Limits}
 use Rattle.scrypt.specs.WorkInBuffers.{IsDone, IsVerifying, Work, has_room, verdict_in}
@@ -46,8 +46,8 @@ mapped_refused f (Err other) why is = let same : other ≡ why = cc in ap Err sa
 abbrev pub IsFault : Refusal → Type 0
 IsFault PasswordInvalid = ⊥
 IsFault OutOfMemory = ⊥
-IsFault TooCostly = ⊥
-IsFault KeyTooShort = ⊥
+IsFault (TooCostly bytes work) = ⊥
+IsFault (KeyTooShort key_len) = ⊥
 IsFault why = ⊤
 
 pub part_fault : {A B : Type 0} (f : A → B) (reading : Result A Refusal) → IfErr reading IsFault → IfErr (mapped f reading) IsFault
@@ -75,7 +75,7 @@ checked_fault log_n r p = if_fault (are_accepted log_n r p) _ _ tt tt
 pub ruleset faults = (checked_fault, if_fault, part_fault, some_fault, then_fault)
 
 pub no_password : {A : Type 0} (reading : Result A Refusal) → IfErr reading IsFault → NamesNoPassword reading
-no_password reading fault = (λ is. rw is at fault, (λ is. rw is at fault, λ is. rw is at fault, λ is. rw is at fault))
+no_password reading fault = (λ is. rw is at fault, (λ is. rw is at fault, λ bytes work is. rw is at fault, λ key_len is. rw is at fault))
 
 -- the password is right exactly if the stored key is its key
 pub right_decided : (password : List ℕ) (s : Stored)
@@ -179,11 +179,18 @@ whole_read (Ok s) c n is =
 module _ (limits : Limits) (reading : Result Stored Refusal) (c : Parameters) (n : ℕ)
     (is : Ok (c, n) ≡ mapped {B = Parameters × ℕ} (λ s. (s.params, length s.key)) reading) where
   -- its parameters need too much
-  pub too_costly : are_within limits c ≡ false → Err TooCostly ≡ mapped (λ s. s.params) (within limits reading)
+  pub too_costly : are_within limits c ≡ false → Err (TooCostly (buffers_bytes c.log_n c.r c.p) (work c.log_n c.r c.p))
+      ≡ mapped {B = Parameters × ℕ} (λ s. (s.params, length s.key)) (within limits reading)
   too_costly costly = let read = whole_read reading c n is in rw (read.1, read.2, costly) refl
 
+  -- its key is too short
+  pub too_short : are_within limits c ≡ true → nat_le limits.least_key_len n ≡ false
+      → Err (KeyTooShort n) ≡ mapped {B = Parameters × ℕ} (λ s. (s.params, length s.key)) (within limits reading)
+  too_short cheap short = let read = whole_read reading c n is in rw (read.1, read.2, cheap, read.3, short) refl
+
   -- it is within the limits
-  pub allowed : are_within limits c ≡ true → limits.least_key_len ≤ n → Ok c ≡ mapped (λ s. s.params) (within limits reading)
+  pub allowed : are_within limits c ≡ true → limits.least_key_len ≤ n
+      → Ok (c, n) ≡ mapped {B = Parameters × ℕ} (λ s. (s.params, length s.key)) (within limits reading)
   allowed cheap long =
       let read = whole_read reading c n is in
-      rw (read.1, read.2, cheap, read.3, (leb_decided limits.least_key_len n).1 long) (ap Ok (sym read.2))
+      rw (read.1, read.2, cheap, read.3, (leb_decided limits.least_key_len n).1 long) (ap₂ (λ d m. Ok (d, m)) (sym read.2) (sym read.3))

@@ -34,8 +34,6 @@ pub mod Reading
 -- verifying in the caller's buffers, in every format
 pub mod InBuffers
 pub mod WorkInBuffers
--- verifying two hashes in the caller's buffers
-pub mod TwoVerdicts
 -- parameters read from a PHC text
 pub mod PhcParams
 -- PHC hashes that are made, and those that are whole
@@ -50,6 +48,8 @@ pub mod McfHash
 pub mod StoredHash
 -- verifying within limits
 pub mod WithinLimits
+-- verifying several passwords in one memory
+pub mod Logins
 -- private: the chunks of B, mixed one after another
 pub mod Mixing
 -- private: a `$7$` text before its key is written

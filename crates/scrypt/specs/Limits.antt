@@ -1,5 +1,5 @@
 -- What a derivation may need: the bytes of its three buffers together, and its work.
-use Rattle.std.specs.Prelude.{ℕ, ◌+◌, ◌*◌, ◌&&◌, Bool, nat_le}
+use Rattle.std.specs.Prelude.{ℕ, ◌+◌, ◌-◌, ◌*◌, ◌/◌, ◌^◌, min, max, ◌&&◌, Bool, nat_le}
 use Rattle.scrypt.specs.Accepted.{Parameters}
 use Rattle.scrypt.specs.Cost.{chunks_bytes, cost, scratch_words, table_words}
 use Rattle.scrypt.specs.declared.limits.Limits.{Limits}
@@ -17,3 +17,18 @@ work log_n r p = cost log_n r p + 128 * (r * p)
 unfoldable pub are_within : Limits → Parameters → Bool
 are_within limits c =
     nat_le (buffers_bytes c.log_n c.r c.p) limits.most_bytes && nat_le (work c.log_n c.r c.p) limits.most_work
+
+-- How many tables and scratches a derivation with these parameters takes in so many bytes: one in any case, and more, at most
+-- four and at most p, while the three buffers together have no more bytes.
+unfoldable pub tables_within : ℕ → Parameters → ℕ
+tables_within most_bytes c = max 1
+    (min (min 4 c.p) ((most_bytes - chunks_bytes c.r c.p) / (4 * table_words c.log_n c.r + 4 * scratch_words c.r)))
+
+-- the limits of a hasher that makes hashes with these parameters and keys of n bytes: those limits, except that they admit
+-- such hashes, if 64 bits can say what these need
+abbrev pub limits_for_new : Limits → Parameters → ℕ → Limits
+limits_for_new usual c n = record {
+  most_bytes = min (max usual.most_bytes (buffers_bytes c.log_n c.r c.p)) (2 ^ 64 - 1);
+  most_work = min (max usual.most_work (work c.log_n c.r c.p)) (2 ^ 64 - 1);
+  least_key_len = min usual.least_key_len n;
+}

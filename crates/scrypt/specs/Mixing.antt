@@ -1,8 +1,9 @@
 -- Private: the chunks of B, mixed one after another, and the memory for it.
-use Rattle.std.specs.Prelude.{◌≡◌, ℕ, ◌-◌, ◌*◌, ◌<◌, ◌≤◌, List, take, drop}
+use Rattle.std.specs.Prelude.{◌≡◌, ℕ, ◌-◌, ◌*◌, ◌<◌, ◌≤◌, List, length, take, drop}
 use Rattle.scrypt.specs.Accepted.{Parameters}
-use Rattle.scrypt.specs.Cost.{scratch_words, table_words, thin_scratch_words}
+use Rattle.scrypt.specs.Cost.{chunks_bytes, scratch_words, table_words, thin_scratch_words}
 use Rattle.scrypt.specs.Key.{mixed_chunks}
+use Rattle.scrypt.specs.WorkInBuffers.{at_once}
 
 -- the first i chunks of x are those of b after scryptROMix, and the others are those of b
 pub record AreMixed (b : List ℕ) (log_n r i : ℕ) (x : List ℕ) : Type 0 where
@@ -15,3 +16,16 @@ pub record HasRoom (c : Parameters) (s room scratch : ℕ) : Type 0 where
   pub table : table_words (c.log_n - s) c.r ≤ room
   pub scratch_fits : scratch_words c.r ≤ scratch
   pub spare : 0 < s → thin_scratch_words c.r ≤ scratch
+
+-- room, in words, for w tables and w scratches, in which w chunks are mixed at a time
+pub record HasTables (log_n r w room scratch : ℕ) : Type 0 where
+  pub some : 0 < w
+  pub few : w ≤ 4
+  pub tables : w * table_words log_n r ≤ room
+  pub scratches : w * scratch_words r ≤ scratch
+
+-- of n chunks in these buffers, which are long enough for them, w are mixed at a time
+pub record IsWidth (log_n r n w : ℕ) (chunks table scratch : List ℕ) : Type 0 where
+  pub is : w ≡ at_once log_n r n (length table) (length scratch)
+  pub chunks_fit : chunks_bytes r n ≤ length chunks
+  pub memory : HasTables log_n r w (length table) (length scratch)

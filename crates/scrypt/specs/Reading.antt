@@ -53,7 +53,8 @@ weaker wanted reading = mapped (λ s. is_below wanted s.params (length s.key)) r
 
 -- reading returns none of the errors that come after it
 abbrev pub IsOfText : {A : Type 0} → Result A Refusal → Type 0
-IsOfText reading = (reading ≢ Err OutOfMemory) × (reading ≢ Err TooCostly) × (reading ≢ Err KeyTooShort)
+IsOfText reading = (reading ≢ Err OutOfMemory) × ((bytes work : ℕ) → reading ≢ Err (TooCostly bytes work))
+    × ((key_len : ℕ) → reading ≢ Err (KeyTooShort key_len))
 
 -- and not `PasswordInvalid` either
 abbrev pub NamesNoPassword : {A : Type 0} → Result A Refusal → Type 0

@@ -1,8 +1,10 @@
 -- Verifying within limits.
 use Rattle.std.specs.Prelude.{nat_le, if◌then◌else◌, length, Result, Ok, Err}
-use Rattle.password_hash.specs.Refusal.{Refusal, KeyTooShort, TooCostly}
-use Rattle.scrypt.specs.Limits.{are_within}
+use Rattle.password_hash.specs.Refusal.{Refusal, KeyTooShort, TooCostly, refusal}
+use Rattle.scrypt.specs.Limits.{are_within, buffers_bytes, work}
 use Rattle.scrypt.specs.Reading.{◌and_then◌, Stored}
+use Rattle.scrypt.specs.declared.errors.LimitedError.{LimitedError}
+use Rattle.scrypt.specs.declared.errors.LimitedError.TheVariants as error
 use Rattle.scrypt.specs.declared.limits.Limits.{Limits}
 
 -- The reading of a hash, within limits: the error of reading it is first, then that its parameters need more than one
@@ -10,5 +12,16 @@ use Rattle.scrypt.specs.declared.limits.Limits.{Limits}
 abbrev pub within : Limits → Result Stored Refusal → Result Stored Refusal
 within limits reading = reading and_then λ s.
     if are_within limits s.params
-    then (if nat_le limits.least_key_len (length s.key) then Ok s else Err KeyTooShort)
-    else Err TooCostly
+    then (if nat_le limits.least_key_len (length s.key) then Ok s else Err (KeyTooShort (length s.key)))
+    else Err (TooCostly (buffers_bytes s.params.log_n s.params.r s.params.p) (work s.params.log_n s.params.r s.params.p))
+
+-- the value of an error of a call with limits
+abbrev pub limited_refusal : LimitedError → Refusal
+limited_refusal (error.Hash e) = refusal e
+limited_refusal (error.TooCostly bytes work) = TooCostly bytes work
+limited_refusal (error.KeyTooShort key_len) = KeyTooShort key_len
+
+-- a result of a call with limits, with the value of its error
+abbrev pub told_limited : {T : Type 0} → Result T LimitedError → Result T Refusal
+told_limited (Ok x) = Ok x
+told_limited (Err e) = Err (limited_refusal e)

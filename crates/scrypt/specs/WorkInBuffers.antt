@@ -1,5 +1,5 @@
 -- The memory that a caller hands in for one derivation: the verdict in it, and what is left in it.
-use Rattle.std.specs.Prelude.{◌≡◌, ℕ, ◌≤◌, ◌*◌, ◌&&◌, Bool, nat_le, if◌then◌else◌, List, length, drop, MatchBool, Result, Ok, Err, ⊤}
+use Rattle.std.specs.Prelude.{◌≡◌, ℕ, ◌≤◌, ◌*◌, ◌/◌, min, ◌&&◌, Bool, nat_le, if◌then◌else◌, List, length, drop, MatchBool, Result, Ok, Err, ⊤}
 use Rattle.password_hash.specs.Refusal.{Refusal, OutOfMemory}
 use Rattle.password_hash.specs.declared.error.Error.{Error}
 use Rattle.scrypt_kernel.specs.Count.{AreCounted}
@@ -27,11 +27,14 @@ unfoldable pub has_room : Parameters → Work → Bool
 has_room c w = nat_le (chunks_bytes c.r c.p) (length w.chunks)
     && (nat_le (table_words c.log_n c.r) (length w.table) && nat_le (scratch_words c.r) (length w.scratch))
 
--- how many tables and scratches a derivation with these parameters uses of this table and this scratch: two, for two
--- chunks at a time, if it has more than one chunk and there is room for both
-unfoldable pub tables_used : Parameters → List ℕ → List ℕ → ℕ
-tables_used c table scratch = if nat_le 2 c.p
-    && (nat_le (2 * table_words c.log_n c.r) (length table) && nat_le (2 * scratch_words c.r) (length scratch)) then 2 else 1
+-- how many of n chunks of this N and r are mixed at a time in a table and a scratch of so many words: at most four, and as
+-- many as have a table and a scratch there
+unfoldable pub at_once : ℕ → ℕ → ℕ → ℕ → ℕ → ℕ
+at_once log_n r n table scratch = min (min (min 4 n) (table / table_words log_n r)) (scratch / scratch_words r)
+
+-- how many tables and scratches a derivation with these parameters uses of this table and this scratch
+abbrev pub tables_used : Parameters → List ℕ → List ℕ → ℕ
+tables_used c table scratch = at_once c.log_n c.r c.p (length table) (length scratch)
 
 -- so much of these buffers is used: all of the tables and the scratches, which are at least one
 pub record AreUsed (c : Parameters) (lens : BufferLens) (chunks table scratch : List ℕ) : Type 0 where

@@ -1,48 +1,57 @@
 // The three buffers of a derivation: the caller's, and allocated ones.
 
-ghost use Rattle.std.specs.Prelude.{◌≡◌, ◌↔◌, ◌*◌, ◌≤◌, length, if◌then◌else◌, IfOk, IfSome, IsSome, IsTrue};
+ghost use Rattle.std.specs.Prelude.{◌≡◌, ◌↔◌, ◌+◌, ◌*◌, ◌<◌, ◌≤◌, length, IfOk, IfSome, IsSome};
 ghost use Rattle.std.specs.Vec.{vec_capacity};
 ghost use Rattle.scrypt.specs.Cost.{chunks_bytes, scratch_words, table_words};
 ghost use Rattle.scrypt.specs.InBuffers.{AreEnough};
-ghost use Rattle.scrypt.specs.TwoVerdicts.{hold_two};
-ghost use Rattle.scrypt.specs.WorkInBuffers.{AreUsed, tables_used};
+ghost use Rattle.scrypt.specs.Mixing.{HasTables, IsWidth};
+ghost use Rattle.scrypt.specs.WorkInBuffers.{AreUsed, at_once};
 
 use crate::{BufferLens, Params};
 use std::alloc::{AllocError, Global};
 
-/// Returns whether a derivation in this table and this scratch mixes two chunks at a time.
-#[tactic(auto, unfolding(crate::specs::WorkInBuffers::tables_used))]
-pub(crate) fn uses_two_tables(params: &Params, table: &[u32], scratch: &[u32]) -> bool
-    ensures exact { tables_used params.now table.now scratch.now ≡ (if result then 2 else 1) }
-    ensures room { IsTrue result → 2 * table_words params.now.log_n params.now.r ≤ length table.now }
-    ensures spare { IsTrue result → 2 * scratch_words params.now.r ≤ length scratch.now }
+/// Returns how many of `count` chunks are mixed at a time in a table and a scratch of so many words: at
+/// most four, and as many as have a table and a scratch there.
+#[tactic(auto, unfolding(crate::specs::WorkInBuffers::at_once))]
+pub(crate) fn at_once(params: &Params, count: usize, table: usize, scratch: usize) -> usize
+    ensures exact { result ≡ at_once params.now.log_n params.now.r count table scratch }
+    ensures some { (0 < result) ↔ ((0 < count)
+        × (table_words params.now.log_n params.now.r ≤ table) × (scratch_words params.now.r ≤ scratch)) }
+    ensures memory { 0 < result → HasTables params.now.log_n params.now.r result table scratch }
 {
-    let two = BufferLens::two_tables(params);
-    params.p() >= 2 && two.table <= table.len() && two.scratch <= scratch.len()
+    let one = BufferLens::of(params);
+    params.known();
+    4usize
+        .min(count)
+        .min(table / one.table)
+        .min(scratch / one.scratch)
 }
 
-/// Returns whether two derivations are done at once in such buffers.
-#[tactic(auto, unfolding(crate::specs::TwoVerdicts::hold_two))]
-pub(crate) fn hold_two(
+/// Returns how many of `count` chunks are mixed at a time in these buffers, or `None` if a buffer is too
+/// short for them.
+pub(crate) fn width_in(
     params: &Params,
-    other: &Params,
+    count: u32,
     chunks: &[u8],
     table: &[u32],
     scratch: &[u32],
-) -> bool
-    ensures exact { result ≡ hold_two params.now other.now chunks.now table.now scratch.now }
+) -> Option<usize>
+    requires some { 0 < count }
+    ensures enough { IsSome result ↔ ((chunks_bytes params.now.r count ≤ length chunks.now)
+        × (table_words params.now.log_n params.now.r ≤ length table.now) × (scratch_words params.now.r ≤ length scratch.now)) }
+    ensures width { IfSome result (λ w. IsWidth params.now.log_n params.now.r count w chunks.now table.now scratch.now) }
 {
-    match BufferLens::two_derivations(params, other) {
-        Some(two) => {
-            two.chunks <= chunks.len() && two.table <= table.len() && two.scratch <= scratch.len()
-        }
-        None => false,
+    let width = at_once(params, count as usize, table.len(), scratch.len());
+    params.known();
+    let chunk_len = 128 * u128::from(params.r());
+    if width == 0 || u128::from(count) * chunk_len > chunks.len() as u128 {
+        return None;
     }
+    Some(width)
 }
 
-/// Returns how much of these buffers a derivation uses: the lengths of [`BufferLens::two_tables`] if `p` is at
-/// least 2 and the table and the scratch are that long, and otherwise those of [`BufferLens::of`]. Returns `None` if a
-/// buffer is too short.
+/// Returns how much of these buffers a derivation uses: the lengths of [`BufferLens::times`] for as many
+/// tables as it uses, which are at most four and at most `p`. Returns `None` if a buffer is too short.
 pub fn used_lens(
     params: &Params,
     chunks: &[u8],
@@ -52,14 +61,10 @@ pub fn used_lens(
     ensures enough { IsSome result ↔ AreEnough params.now chunks.now table.now scratch.now }
     ensures used { IfSome result (λ lens. AreUsed params.now lens chunks.now table.now scratch.now) }
 {
-    let lens = BufferLens::of(params);
-    if lens.chunks > chunks.len() || lens.table > table.len() || lens.scratch > scratch.len() {
-        return None;
+    match width_in(params, params.p(), chunks, table, scratch) {
+        Some(width) => Some(BufferLens::times(params, width)),
+        None => None,
     }
-    if uses_two_tables(params, table, scratch) {
-        return Some(BufferLens::two_tables(params));
-    }
-    Some(lens)
 }
 
 /// Buffers for one derivation.
@@ -73,12 +78,11 @@ pub(crate) struct Buffers {
 impl Buffers {
     /// Allocates the chunks, the table and the scratch, in this order. The table is empty, and grows
     /// within its capacity.
-    pub(crate) fn allocate(alloc: Global, params: &Params) -> Result<Buffers, AllocError>
-        ensures chunks { IfOk result (λ own. length own.chunks.items ≡ chunks_bytes params.now.r params.now.p) }
-        ensures table { IfOk result (λ own. table_words params.now.log_n params.now.r ≤ vec_capacity own.table) }
-        ensures scratch { IfOk result (λ own. length own.scratch.items ≡ scratch_words params.now.r) }
+    pub(crate) fn allocate(alloc: Global, lens: &BufferLens) -> Result<Buffers, AllocError>
+        ensures chunks { IfOk result (λ own. length own.chunks.items ≡ lens.now.chunks) }
+        ensures table { IfOk result (λ own. lens.now.table ≤ vec_capacity own.table) }
+        ensures scratch { IfOk result (λ own. length own.scratch.items ≡ lens.now.scratch) }
     {
-        let lens = BufferLens::of(params);
         let mut chunks = Vec::with_capacity(alloc, lens.chunks)?;
         let table = Vec::with_capacity(alloc, lens.table)?;
         let scratch = vec![in alloc; 0u32; lens.scratch]?;
@@ -91,5 +95,26 @@ impl Buffers {
             table,
             scratch,
         })
+    }
+
+    /// Allocates as many tables as [`BufferLens::tables_within`] returns, with as many scratches, and one
+    /// of each if that fails. Returns how many, too.
+    pub(crate) fn allocate_within(
+        alloc: Global,
+        params: &Params,
+        most_bytes: usize,
+    ) -> Result<(usize, Buffers), AllocError>
+        ensures chunks { IfOk result (λ got. length got.1.chunks.items ≡ chunks_bytes params.now.r params.now.p) }
+        ensures memory { IfOk result (λ got. HasTables params.now.log_n params.now.r got.0
+            (vec_capacity got.1.table) (length got.1.scratch.items)) }
+    {
+        let width = BufferLens::tables_within(params, most_bytes);
+        match Buffers::allocate(alloc, &BufferLens::times(params, width)) {
+            Ok(own) => Ok((width, own)),
+            Err(_) => match Buffers::allocate(alloc, &BufferLens::of(params)) {
+                Ok(own) => Ok((1, own)),
+                Err(error) => Err(error),
+            },
+        }
     }
 }

@@ -1,29 +1,23 @@
 // The derived key (RFC 7914, section 6).
 
 ghost use Rattle.std.specs.Prelude.{◌≡◌, ◌↔◌, ℕ, List, ◌+◌, ◌-◌, ◌*◌, ◌^◌, ◌<◌, ◌≤◌};
-ghost use Rattle.std.specs.Prelude.{length, IfSome, IsOk, IsSome, IsTrue, IsErrOf, OnOk, OnErr};
-ghost use Rattle.scrypt_kernel.specs.Count.{AreCounted};
+ghost use Rattle.std.specs.Prelude.{drop, length, IfSome, IsOk, IsSome, IsTrue, IsErrOf, OnOk, OnErr};
+ghost use Rattle.scrypt_kernel.specs.Count.{AreCounted, AreCountedAs};
 ghost use Rattle.scrypt_kernel.specs.Pbkdf2.{max_output_len, pbkdf2};
-ghost use Rattle.scrypt_kernel.specs.Table.{thin_ro_mix_cost};
-ghost use Rattle.scrypt_kernel.specs.Words.{part, words_of};
 ghost use Rattle.scrypt.specs.Accepted.{IsOutputLen};
 ghost use Rattle.scrypt.specs.Cost.{chunks_bytes, cost, scratch_words, table_words, thin_cost, thin_scratch_words};
-ghost use Rattle.scrypt.specs.Cost.{thin_chunks_cost};
-ghost use Rattle.scrypt.specs.Key.{derived_key, mixed_chunks};
-ghost use Rattle.scrypt.specs.Mixing.{AreMixed, HasRoom};
-ghost use Rattle.scrypt.specs.TwoVerdicts.{AreAlike, both_chunks_bytes};
+ghost use Rattle.scrypt.specs.Key.{derived_key};
+ghost use Rattle.scrypt.specs.Limits.{tables_within};
+ghost use Rattle.scrypt.specs.Mixing.{HasTables};
 ghost use Rattle.scrypt.specs.declared.errors.DeriveError.TheVariants.{InvalidOutputLen as BadLength, OutOfMemory};
 
-pub(crate) mod pairs;
-pub(crate) mod tables;
+pub(crate) mod mixing;
 
-use crate::buffers::Buffers;
-use crate::derivation::tables::Tables;
+use crate::buffers::{Buffers, at_once};
+use crate::derivation::mixing::{mix_all, mix_thin};
 use crate::{CoreCount, DeriveError, InvalidOutputLen, Params};
 use scrypt_kernel::memory::{Buffer, Memory};
-use scrypt_kernel::order::diagonal::Diagonal;
 use scrypt_kernel::pbkdf2::pbkdf2_one;
-use scrypt_kernel::romix::mix_chunk;
 use std::alloc::Global;
 
 /// The greatest length of an output in bytes (RFC 7914, section 6: `dkLen`).
@@ -59,46 +53,39 @@ impl BufferLens {
         BufferLens::with_rows(params, params.log_n(), 2)
     }
 
-    /// Returns the lengths for two chunks at a time: the table and the scratch are twice as long as
-    /// those of [`BufferLens::of`]. In buffers of these lengths or more a derivation with a `p` of at
-    /// least 2 takes about 0.7 of the time.
-    #[tactic(auto, using(crate::proofs::AcceptedFacts::small_lens))]
-    pub fn two_tables(params: &Params) -> BufferLens
+    /// Returns the lengths for so many chunks at a time, at most four: the table and the scratch are so
+    /// many times as long as those of [`BufferLens::of`]. A derivation with a `p` of 4 or more takes
+    /// about 0.4 of the time in four tables, 0.5 in three, and 0.6 in two.
+    pub fn times(params: &Params, tables: usize) -> BufferLens
+        requires few { tables ≤ 4 }
         ensures chunks { result.chunks ≡ chunks_bytes params.now.r params.now.p }
-        ensures table { result.table ≡ 2 * table_words params.now.log_n params.now.r }
-        ensures scratch { result.scratch ≡ 2 * scratch_words params.now.r }
+        ensures table { result.table ≡ tables * table_words params.now.log_n params.now.r }
+        ensures scratch { result.scratch ≡ tables * scratch_words params.now.r }
     {
         let one = BufferLens::of(params);
         params.known();
         BufferLens {
             chunks: one.chunks,
-            table: 2 * one.table,
-            scratch: 2 * one.scratch,
+            table: tables * one.table,
+            scratch: tables * one.scratch,
         }
     }
 
-    /// Returns the lengths for two derivations at once, or `None` if their `N` or their `r` differ: the
-    /// chunks of both, and the table and the scratch of [`BufferLens::two_tables`]. Their `p` may
-    /// differ.
-    #[tactic(auto, using(crate::proofs::AcceptedFacts::small_lens))]
-    pub fn two_derivations(params: &Params, other: &Params) -> Option<BufferLens>
-        ensures exact { IsSome result ↔ AreAlike params.now other.now }
-        ensures chunks { IfSome result (λ lens. lens.chunks ≡ both_chunks_bytes params.now other.now) }
-        ensures table { IfSome result (λ lens. lens.table ≡ 2 * table_words params.now.log_n params.now.r) }
-        ensures scratch { IfSome result (λ lens. lens.scratch ≡ 2 * scratch_words params.now.r) }
+    /// Returns how many tables a derivation takes if its three buffers may have `most_bytes` bytes together:
+    /// at most four and at most `p`, and one even if it has more bytes. The lengths are those of
+    /// [`BufferLens::times`].
+    #[tactic(auto, unfolding(crate::specs::Limits::tables_within))]
+    pub fn tables_within(params: &Params, most_bytes: usize) -> usize
+        ensures exact { result ≡ tables_within most_bytes params.now }
+        ensures some { 0 < result }
+        ensures few { result ≤ 4 }
     {
-        if params.log_n() != other.log_n() || params.r() != other.r() {
-            return None;
-        }
-        let two = BufferLens::two_tables(params);
-        let others = BufferLens::of(other);
+        let one = BufferLens::of(params);
         params.known();
-        other.known();
-        Some(BufferLens {
-            chunks: two.chunks + others.chunks,
-            table: two.table,
-            scratch: two.scratch,
-        })
+        let each = 4 * one.table as u128 + 4 * one.scratch as u128;
+        let room = (most_bytes as u128).saturating_sub(one.chunks as u128);
+        let most = u128::from(params.p().min(4));
+        (room / each).min(most).max(1) as usize
     }
 
     /// Returns the lengths for [`scrypt_thin`](crate::scrypt_thin) with a table that keeps one row
@@ -187,11 +174,51 @@ pub fn scrypt_counted(
     if !output_len_ok(output.len()) {
         return Err(DeriveError::InvalidOutputLen);
     }
-    let mut own = Buffers::allocate(alloc, params)?;
+    let mut own = Buffers::allocate(alloc, &BufferLens::of(params))?;
     derive_in::<Vec<u32>>(
         password,
         salt,
         params,
+        1,
+        &mut own.chunks,
+        &mut own.table,
+        &mut own.scratch,
+        output,
+        cores,
+    );
+    Ok(())
+}
+
+/// Does what [`scrypt_counted`] does, in buffers that may have `most_bytes` bytes together: with as many
+/// tables as [`BufferLens::tables_within`] returns, so that as many chunks are mixed at a time. If
+/// the system refuses them, it takes one table.
+///
+/// Returns `OutOfMemory` if an allocation for one table fails.
+pub fn scrypt_in_groups(
+    alloc: Global,
+    password: &[u8],
+    salt: &[u8],
+    params: &Params,
+    most_bytes: usize,
+    output: &mut [u8],
+    cores: &mut CoreCount,
+) -> Result<(), DeriveError>
+    ensures length { IsErrOf result BadLength ↔ ¬ IsOutputLen (length output.old) }
+    ensures value { OnOk result (output.new ≡ derived_key password.now salt.now
+        params.now.log_n params.now.r params.now.p (length output.old)) }
+    ensures counted { OnOk result (AreCounted (cost params.now.log_n params.now.r params.now.p) cores.old cores.new) }
+    ensures refused { OnErr result (output.new ≡ output.old) }
+    ensures uncounted { OnErr result (cores.new ≡ cores.old) }
+{
+    if !output_len_ok(output.len()) {
+        return Err(DeriveError::InvalidOutputLen);
+    }
+    let (width, mut own) = Buffers::allocate_within(alloc, params, most_bytes)?;
+    derive_in::<Vec<u32>>(
+        password,
+        salt,
+        params,
+        width,
         &mut own.chunks,
         &mut own.table,
         &mut own.scratch,
@@ -205,8 +232,8 @@ pub fn scrypt_counted(
 /// (RFC 7914, section 6).
 ///
 /// `chunks` has exactly the length of [`BufferLens::of`] in bytes, and `table` and `scratch` have at
-/// least its lengths in words. If they have at least those of [`BufferLens::two_tables`] and `p` is
-/// at least 2, two chunks are mixed at a time. It does not matter what the buffers hold before the
+/// least its lengths in words. As many chunks are mixed at a time as have a table and a scratch
+/// there, at most four ([`BufferLens::times`]). It does not matter what the buffers hold before the
 /// call, and what they hold after it is unspecified. `cores` counts the `4 * N * r * p` cores. Does
 /// not allocate.
 ///
@@ -236,9 +263,10 @@ pub fn scrypt_with_buffers(
     if !output_len_ok(output.len()) {
         return Err(InvalidOutputLen);
     }
-    let mut table = table;
-    derive_in::<&mut [u32]>(
-        password, salt, params, chunks, &mut table, scratch, output, cores,
+    let width = at_once(params, params.p() as usize, table.len(), scratch.len());
+    let mut rows = Buffer::new(table);
+    derive_in::<Buffer<'_>>(
+        password, salt, params, width, chunks, &mut rows, scratch, output, cores,
     );
     Ok(())
 }
@@ -285,34 +313,42 @@ pub fn scrypt_thin(
     }
     let mut rows = Buffer::new(table);
     derive_chunks(password, salt, params, chunks);
-    mix_chunks::<Buffer<'_>>(params, s, chunks, &mut rows, scratch, cores);
+    mix_thin::<Buffer<'_>>(params, s, chunks, &mut rows, scratch, cores);
     // Step 3: DK, with B as salt.
     pbkdf2_one(password, chunks, output);
     Ok(())
 }
 
-/// Steps 1 to 3, in any memory.
+/// Steps 1 to 3, in any memory, with `width` chunks at a time.
 #[tactic(auto, unfolding(crate::specs::Key::derived_key))]
-pub(crate) fn derive_in<T: Tables>(
+pub(crate) fn derive_in<M: Memory>(
     password: &[u8],
     salt: &[u8],
     params: &Params,
+    width: usize,
     chunks: &mut [u8],
-    tables: &mut T,
+    rows: &mut M,
     scratch: &mut [u32],
     output: &mut [u8],
     cores: &mut CoreCount,
 )
     requires chunks { length chunks.old ≡ chunks_bytes params.now.r params.now.p }
-    requires room { table_words params.now.log_n params.now.r ≤ T.room tables.old }
-    requires scratch { scratch_words params.now.r ≤ length scratch.old }
+    requires memory { HasTables params.now.log_n params.now.r width (M.room rows.old) (length scratch.old) }
     requires length { length output.old ≤ max_output_len }
     ensures value { output.new ≡ derived_key password.now salt.now
         params.now.log_n params.now.r params.now.p (length output.old) }
     ensures counted { AreCounted (cost params.now.log_n params.now.r params.now.p) cores.old cores.new }
 {
     derive_chunks(password, salt, params, chunks);
-    tables.mix(params, chunks, scratch, cores);
+    mix_all::<M>(
+        params,
+        params.p() as usize,
+        width,
+        chunks,
+        rows,
+        scratch,
+        cores,
+    );
     // Step 3: DK, with B as salt.
     pbkdf2_one(password, chunks, output);
 }
@@ -325,50 +361,4 @@ pub(crate) fn derive_chunks(password: &[u8], salt: &[u8], params: &Params, chunk
 {
     params.known();
     pbkdf2_one(password, salt, chunks);
-}
-
-/// Step 2, in any memory, with a table that keeps one row in `2^s`: each of the `p` chunks becomes its
-/// scryptROMix.
-fn mix_chunks<M: Memory>(
-    params: &Params,
-    s: u8,
-    chunks: &mut [u8],
-    rows: &mut M,
-    scratch: &mut [u32],
-    cores: &mut CoreCount,
-)
-    requires chunks { length chunks.old ≡ chunks_bytes params.now.r params.now.p }
-    requires memory { HasRoom params.now s (M.room rows.old) (length scratch.old) }
-    ensures value { chunks.new ≡ mixed_chunks chunks.old params.now.log_n params.now.r params.now.p }
-    ensures counted { AreCounted (thin_chunks_cost chunks.old params.now.log_n params.now.r params.now.p s)
-        cores.old cores.new }
-{
-    // Step 2: for i = 0 to p - 1 do B[i] = scryptROMix (r, B[i], N).
-    'chunks: for i in 0..params.p() as usize {
-        mix_one::<M>(params, s, i, chunks, rows, scratch, cores);
-    }
-}
-
-/// Step 2 for one `i`: B[i] = scryptROMix (r, B[i], N).
-pub(crate) fn mix_one<M: Memory>(
-    params: &Params,
-    s: u8,
-    i: usize,
-    chunks: &mut [u8],
-    rows: &mut M,
-    scratch: &mut [u32],
-    cores: &mut CoreCount,
-)
-    requires inside { i * (128 * params.now.r) + 128 * params.now.r ≤ length chunks.old }
-    requires memory { HasRoom params.now s (M.room rows.old) (length scratch.old) }
-    ensures mixed { (b : List ℕ) → AreMixed b params.now.log_n params.now.r i chunks.old
-        → AreMixed b params.now.log_n params.now.r (i + 1) chunks.new }
-    ensures room { M.room rows.old ≤ M.room rows.new }
-    ensures counted { AreCounted (thin_ro_mix_cost (words_of (part (128 * params.now.r) chunks.old i)) params.now.log_n s params.now.r)
-        cores.old cores.new }
-{
-    let chunk_len = 128 * params.r() as usize;
-    let at = i * chunk_len;
-    let chunk = &mut chunks[at..at + chunk_len];
-    mix_chunk::<Diagonal, M>(chunk, rows, scratch, params.log_n(), s, cores);
 }

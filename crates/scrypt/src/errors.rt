@@ -1,8 +1,9 @@
-//! The errors of a derivation and of its parameters.
+//! The errors of a derivation, of its parameters and of verifying within limits.
 
 ghost use Rattle.std.specs.Prelude.{◌≡◌, Some, codes};
-ghost use Rattle.scrypt.specs.ErrorText.{derive_error_text};
+ghost use Rattle.scrypt.specs.ErrorText.{derive_error_text, limited_error_text};
 ghost use Rattle.password_hash.specs.declared.kdf.Error.TheVariants.{Refused};
+ghost use Rattle.scrypt.specs.declared.errors.LimitedError.TheVariants.{Hash};
 ghost use Rattle.scrypt.specs.declared.errors.DeriveError.TheVariants.{InvalidOutputLen as BadLength, OutOfMemory};
 
 use password_hash::kdf;
@@ -81,5 +82,49 @@ impl From<InvalidOutputLen> for kdf::Error {
 
     fn from(_error: InvalidOutputLen) -> kdf::Error {
         kdf::Error::Refused
+    }
+}
+
+/// An error from a call with [`Limits`](crate::Limits). It says what the hash needs.
+#[derive(Clone, Copy, Debug, PartialEq, Eq)]
+pub enum LimitedError {
+    /// An error from reading or verifying the hash.
+    Hash(password_hash::Error),
+    /// The hash can be read, and its parameters need more than one of the limits.
+    TooCostly {
+        /// The bytes of the three buffers together, as [`Limits::most_bytes`](crate::Limits) counts them.
+        bytes: u128,
+        /// The work, as [`Params::work`](crate::Params::work) returns it.
+        work: u128,
+    },
+    /// The hash can be read and its parameters are within the limits, but its key is shorter than
+    /// they allow.
+    KeyTooShort {
+        /// The length of its key in bytes.
+        key_len: usize,
+    },
+}
+
+impl fmt::Display for LimitedError {
+    ghost output = { λ e. limited_error_text e };
+
+    fn fmt<W: fmt::Write>(&self, f: &mut fmt::Formatter<W>) -> fmt::Result {
+        match self {
+            LimitedError::Hash(error) => write!(f, "{error}"),
+            LimitedError::TooCostly { .. } => f.write_str(
+                "the parameters need more than is allowed",
+            ),
+            LimitedError::KeyTooShort { .. } => f.write_str("the key is shorter than is allowed"),
+        }
+    }
+}
+
+impl Error for LimitedError {}
+
+impl From<password_hash::Error> for LimitedError {
+    ghost from_gives = { λ error e. e ≡ Hash error };
+
+    fn from(error: password_hash::Error) -> LimitedError {
+        LimitedError::Hash(error)
     }
 }

@@ -4,18 +4,19 @@ ghost use Rattle.std.specs.Prelude.{◌≡◌, ◌↔◌, ◌+◌, ◌*◌, ◌�
 ghost use Rattle.std.specs.Option.{option_map};
 ghost use Rattle.scrypt_kernel.specs.Count.{AreCounted};
 ghost use Rattle.scrypt.specs.Accepted.{IsStoredLen};
-ghost use Rattle.scrypt.specs.Cost.{chunks_bytes, cost, scratch_words, table_words};
+ghost use Rattle.scrypt.specs.Cost.{chunks_bytes, cost};
 ghost use Rattle.scrypt.specs.Hashing.{IsCallRefused, IsNamedOrNone, key_len_or_default};
 ghost use Rattle.scrypt.specs.KeyOfParams.{key_by};
-ghost use Rattle.scrypt.specs.WorkInBuffers.{AreUsed, IsDone, work_in};
+ghost use Rattle.scrypt.specs.Mixing.{HasTables, IsWidth};
+ghost use Rattle.scrypt.specs.WorkInBuffers.{IsDone, work_in};
 ghost use Rattle.password_hash.specs.declared.error.Error.TheVariants.{OutOfMemory};
 
 use crate::buffers::Buffers;
 use crate::derivation::derive_in;
-use crate::derivation::tables::Tables;
 use crate::{BufferLens, CoreCount, Params};
 use password_hash::phc::Output;
 use password_hash::{Error, Result, Version};
+use scrypt_kernel::memory::{Buffer, Memory};
 use std::alloc::Global;
 
 /// Checks what a hashing call names beside its parameters.
@@ -71,12 +72,13 @@ pub(crate) fn key_allocating(
     ensures value { IfOk result (λ key. key ≡ key_by params.now password.now salt.now (key_len_or_default params.now)) }
     ensures memory { IfErr result (λ e. e ≡ OutOfMemory) }
 {
-    let mut own = Buffers::allocate(alloc, params)?;
+    let mut own = Buffers::allocate(alloc, &BufferLens::of(params))?;
     let mut cores = CoreCount::new();
     Ok(stored_key::<Vec<u32>>(
         password,
         salt,
         params,
+        1,
         &mut own.chunks,
         &mut own.table,
         &mut own.scratch,
@@ -84,41 +86,49 @@ pub(crate) fn key_allocating(
     ))
 }
 
-/// Derives the same key in the caller's buffers, of which it uses as much as `lens` has. Does not allocate.
+/// Derives the same key in the caller's buffers, with `width` chunks at a time. Does not allocate.
 pub(crate) fn key_in_buffers(
     password: &[u8],
     salt: &[u8],
     params: &Params,
-    lens: BufferLens,
+    width: usize,
     chunks: &mut [u8],
     table: &mut [u32],
     scratch: &mut [u32],
     cores: &mut CoreCount,
 ) -> Output
-    requires used { AreUsed params.now lens chunks.old table.old scratch.old }
+    requires width { IsWidth params.now.log_n params.now.r params.now.p width chunks.old table.old scratch.old }
     ensures value { result ≡ key_by params.now password.now salt.now (key_len_or_default params.now) }
     ensures done { IsDone params.now
         (work_in chunks.old table.old scratch.old cores.old) (work_in chunks.new table.new scratch.new cores.new) }
 {
-    let chunks = &mut chunks[..lens.chunks];
-    let mut table = &mut table[..lens.table];
-    let scratch = &mut scratch[..lens.scratch];
-    stored_key::<&mut [u32]>(password, salt, params, chunks, &mut table, scratch, cores)
+    let lens = BufferLens::times(params, width);
+    let mut rows = Buffer::new(&mut table[..lens.table]);
+    stored_key::<Buffer<'_>>(
+        password,
+        salt,
+        params,
+        width,
+        &mut chunks[..lens.chunks],
+        &mut rows,
+        &mut scratch[..lens.scratch],
+        cores,
+    )
 }
 
 // Derives it in any memory. Afterwards the chunks and the scratch are zeros.
-fn stored_key<T: Tables>(
+fn stored_key<M: Memory>(
     password: &[u8],
     salt: &[u8],
     params: &Params,
+    width: usize,
     chunks: &mut [u8],
-    tables: &mut T,
+    rows: &mut M,
     scratch: &mut [u32],
     cores: &mut CoreCount,
 ) -> Output
     requires chunks { length chunks.old ≡ chunks_bytes params.now.r params.now.p }
-    requires room { table_words params.now.log_n params.now.r ≤ T.room tables.old }
-    requires scratch { scratch_words params.now.r ≤ length scratch.old }
+    requires memory { HasTables params.now.log_n params.now.r width (M.room rows.old) (length scratch.old) }
     ensures value { result ≡ key_by params.now password.now salt.now (key_len_or_default params.now) }
     ensures counted { AreCounted (cost params.now.log_n params.now.r params.now.p) cores.old cores.new }
     ensures chunks { chunks.new ≡ replicate (chunks_bytes params.now.r params.now.p) 0 }
@@ -126,7 +136,9 @@ fn stored_key<T: Tables>(
 {
     let mut places = [0u8; Output::MAX_LENGTH];
     let key = &mut places[..key_len_or_default(params)];
-    derive_in::<T>(password, salt, params, chunks, tables, scratch, key, cores);
+    derive_in::<M>(
+        password, salt, params, width, chunks, rows, scratch, key, cores,
+    );
     chunks.fill(0);
     scratch.fill(0);
     let Ok(key) = Output::new(key) else {

@@ -1,10 +1,10 @@
 //! Laws of the definitions. Each function does nothing at run time: its contract is the law.
 
-ghost use Rattle.std.specs.Prelude.{◌≡◌, ◌≢◌, ◌⊎◌, ◌↔◌, false, ℕ, ◌-◌, ◌*◌, ◌%◌, ◌^◌, ◌<◌, ◌≤◌, List, [], ◌∷◌, ◌++◌};
+ghost use Rattle.std.specs.Prelude.{◌≡◌, ◌≢◌, ◌⊎◌, ◌↔◌, true, false, ℕ, ◌-◌, ◌*◌, ◌%◌, ◌^◌, ◌<◌, ◌≤◌, List, [], ◌∷◌, ◌++◌};
 ghost use Rattle.std.specs.Prelude.{length, take, Option, Result, Ok, Err, IfSome, IsSome, Some, All};
 ghost use Rattle.sha2.specs.Sha256.{sha256};
 ghost use Rattle.password_hash.specs.Crypt64.{Crypt64, crypt64_of, letter_value, letters_of};
-ghost use Rattle.password_hash.specs.Mcf.{IsMcfText};
+ghost use Rattle.password_hash.specs.Mcf.{IsMcfText, fields_of};
 ghost use Rattle.password_hash.specs.Parts.{dollar};
 ghost use Rattle.password_hash.specs.Phc.{IsHashText, IsSalt, hash_text};
 ghost use Rattle.password_hash.specs.Refusal.{Refusal, EncodingInvalid, PasswordInvalid};
@@ -21,13 +21,13 @@ ghost use Rattle.scrypt.specs.ThinKey.{thin_key};
 ghost use Rattle.scrypt.specs.Cost.{cost, thin_cost};
 ghost use Rattle.scrypt_kernel.specs.Table.{extra_rows};
 ghost use Rattle.scrypt.specs.McfParams.{params_letters, params_text, five_letter_number};
-ghost use Rattle.scrypt.specs.McfHash.{HashIsRefused as McfHashIsRefused, IsMadeHash as IsMadeMcf, read_mcf};
+ghost use Rattle.scrypt.specs.McfHash.{HashIsRefused as McfHashIsRefused, IsMadeHash as IsMadeMcf, read_fields, read_mcf};
 ghost use Rattle.scrypt.specs.Hashing.{key_len_or_default};
 ghost use Rattle.scrypt.specs.Accepted.{without_len};
 ghost use Rattle.scrypt.specs.PhcParams.{params_of_pairs, written_pairs};
 ghost use Rattle.scrypt.specs.PhcHash.{HashIsRefused, IsMadeHash, phc_params, read_phc};
 ghost use Rattle.scrypt.specs.Reading.{IsOfText, NamesNoPassword, Stored, verdict, weaker};
-ghost use Rattle.scrypt.specs.StoredHash.{HasReading, IsStoredText, Reads, StoredText};
+ghost use Rattle.scrypt.specs.StoredHash.{is_mcf_text, is_stored_text, params_reading, reading};
 
 /// A shorter key is the beginning of a longer one, for any two lengths.
 #[tactic(auto, using(crate::proofs::KeyFacts::key_prefix))]
@@ -96,23 +96,24 @@ pub fn made_hashes_are_accepted()
         ++ dollar ∷ crypt64_of (key_by c password (crypt64_of salt) (key_len_or_default c)))) }
 {}
 
-/// Every text has at most one reading: the text of a stored hash that of the hash, and any other text `EncodingInvalid`.
-#[tactic(auto, using(crate::proofs::StoredHashFacts::one_reading_of_text))]
-pub fn stored_texts_have_one_reading()
-    ensures whole { (text : List ℕ) (one other : Result Stored Refusal) → HasReading text one → HasReading text other → one ≡ other }
-    ensures hash { (text : List ℕ) (one other : StoredText) → Reads text one → Reads text other → one ≡ other }
-    ensures of_hash { (text : List ℕ) (hash : StoredText) → Reads text hash → HasReading text hash.whole }
-    ensures of_none { (text : List ℕ) → ¬ IsStoredText text → HasReading text (Err EncodingInvalid) }
+/// A text that is `$7` or begins with `$7$` is read by its fields, the text of a PHC hash as this hash, and the reading of
+/// any other text is `EncodingInvalid`.
+pub fn texts_are_read_in_their_format()
+    ensures mcf { (text : List ℕ) → is_mcf_text text ≡ true → reading text ≡ read_fields (fields_of text) }
+    ensures phc { (text : List ℕ) (hash : PasswordHash) → is_mcf_text text ≡ false → IsHashText text hash
+        → reading text ≡ read_phc hash }
+    ensures other { (text : List ℕ) → is_mcf_text text ≡ false → ((hash : PasswordHash) → ¬ IsHashText text hash)
+        → reading text ≡ Err EncodingInvalid }
+    ensures stored { (text : List ℕ) → is_stored_text text ≡ false
+        → (reading text ≡ Err EncodingInvalid) × (params_reading text ≡ Err EncodingInvalid) }
 {}
 
 /// The parameters of a stored hash are those of its reading, and so is the length of its key. An error of its
 /// parameters is the error of its reading.
 #[tactic(auto, using(crate::proofs::StoredHashFacts::params_of_whole, crate::proofs::StoredHashFacts::params_refused))]
 pub fn parameters_are_those_of_the_reading()
-    ensures whole { (text : List ℕ) (hash : StoredText) (s : Stored) → Reads text hash → hash.whole ≡ Ok s
-        → hash.params ≡ Ok (s.params, length s.key) }
-    ensures refused { (text : List ℕ) (hash : StoredText) (why : Refusal) → Reads text hash → hash.params ≡ Err why
-        → hash.whole ≡ Err why }
+    ensures whole { (text : List ℕ) (s : Stored) → reading text ≡ Ok s → params_reading text ≡ Ok (s.params, length s.key) }
+    ensures refused { (text : List ℕ) (why : Refusal) → params_reading text ≡ Err why → reading text ≡ Err why }
 {}
 
 /// The text of a hash made from a password with accepted parameters verifies against that password,
@@ -120,9 +121,9 @@ pub fn parameters_are_those_of_the_reading()
 pub fn made_texts_are_accepted()
     ensures phc { (c : Parameters) (password salt : List ℕ) (hash : PasswordHash) → AreAccepted c.log_n c.r c.p
         → IfSome c.output_len IsStoredLen → IsSalt salt → IsMadeHash c password salt hash
-        → (read : StoredText) × Reads (hash_text hash) read × (verdict password read.whole ≡ Ok tt) × (weaker c read.whole ≡ Ok false) }
+        → (verdict password (reading (hash_text hash)) ≡ Ok tt) × (weaker c (reading (hash_text hash)) ≡ Ok false) }
     ensures mcf { (c : Parameters) (password salt text : List ℕ) → IsMadeMcf c password salt text
-        → (read : StoredText) × Reads text read × (verdict password read.whole ≡ Ok tt) × (weaker c read.whole ≡ Ok false) }
+        → (verdict password (reading text) ≡ Ok tt) × (weaker c (reading text) ≡ Ok false) }
 {}
 
 /// For refused arguments, hashing has only one possible error.
@@ -151,8 +152,8 @@ pub fn verdicts_compare_keys()
 pub fn reading_names_no_password()
     ensures mcf { (text : List ℕ) → NamesNoPassword (read_mcf text) }
     ensures params { (hash : PasswordHash) → NamesNoPassword (phc_params hash) }
-    ensures stored { (text : List ℕ) (read : StoredText) → Reads text read → NamesNoPassword read.params }
-    ensures whole { (text : List ℕ) (reading : Result Stored Refusal) → HasReading text reading → IsOfText reading }
+    ensures stored { (text : List ℕ) → NamesNoPassword (params_reading text) }
+    ensures whole { (text : List ℕ) → IsOfText (reading text) }
 {}
 
 /// A hash that was made with the wanted parameters is not weaker than wanted.

@@ -22,6 +22,7 @@ pub mod errors;
 mod hashing;
 pub mod laws;
 mod limits;
+mod logins;
 pub mod mcf;
 mod params;
 pub mod phc;
@@ -33,10 +34,12 @@ mod wiping;
 pub use algorithm::Scrypt;
 pub use buffers::used_lens;
 pub use derivation::{
-    BufferLens, output_len_ok, scrypt, scrypt_counted, scrypt_thin, scrypt_with_buffers,
+    BufferLens, output_len_ok, scrypt, scrypt_counted, scrypt_in_groups, scrypt_thin,
+    scrypt_with_buffers,
 };
-pub use errors::{DeriveError, InvalidOutputLen, InvalidParams};
+pub use errors::{DeriveError, InvalidOutputLen, InvalidParams, LimitedError};
 pub use limits::Limits;
+pub use logins::{Keys, Login, Logins};
 pub use params::Params;
 pub use password_hash;
 pub use password_hash::kdf;

@@ -1,7 +1,7 @@
 // What a derivation may need.
 
 ghost use Rattle.std.specs.Prelude.{◌≡◌};
-ghost use Rattle.scrypt.specs.Limits.{are_within};
+ghost use Rattle.scrypt.specs.Limits.{are_within, limits_for_new};
 
 use crate::{BufferLens, Params};
 
@@ -18,17 +18,37 @@ pub struct Limits {
     pub least_key_len: usize,
 }
 
-const _: () = prove!(Limits::USUAL.most_bytes == 268435456 && Limits::USUAL.most_work == 16781312);
+const _: () = prove!(Limits::USUAL.most_bytes == 269484032 && Limits::USUAL.most_work == 16781312);
 
 const _: () = prove!(Limits::USUAL.least_key_len == 16);
 
 impl Limits {
-    /// 256 MiB, four times the work of the recommended parameters, and a key of 16 bytes.
+    /// A table of 256 MiB and the two smaller buffers, four times the work of the recommended parameters,
+    /// and a key of 16 bytes.
     pub const USUAL: Limits = Limits {
-        most_bytes: 256 << 20,
+        most_bytes: 257 << 20,
         most_work: 4 * 4 * ((1 << 17) + 32) * 8,
         least_key_len: 16,
     };
+
+    /// Returns the default limits of a hasher that makes hashes with these parameters and keys of `key_len`
+    /// bytes: the usual ones, except that they admit such hashes.
+    pub fn for_new(params: &Params, key_len: usize) -> Limits
+        ensures value { result ≡ limits_for_new Limits.USUAL params.now key_len }
+    {
+        let usual = Limits::USUAL;
+        let bytes = BufferLens::of(params).bytes();
+        let work = params.work();
+        Limits {
+            most_bytes: (usual.most_bytes as u128)
+                .max(bytes)
+                .min(u128::from(u64::MAX)) as usize,
+            most_work: u128::from(usual.most_work)
+                .max(work)
+                .min(u128::from(u64::MAX)) as u64,
+            least_key_len: usual.least_key_len.min(key_len),
+        }
+    }
 
     /// Returns whether a derivation with these parameters is within both limits, on memory and on work.
     #[tactic(auto, unfolding(crate::specs::Limits::are_within))]

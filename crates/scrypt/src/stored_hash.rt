@@ -1,17 +1,16 @@
 // Stored hashes of either format.
 
-ghost use Rattle.std.specs.Prelude.{◌≡◌, ◌≢◌, ◌↔◌, Err, IfErr, IfOk, IsOk};
+ghost use Rattle.std.specs.Prelude.{◌≡◌, ◌≢◌, ◌↔◌, Err, IfErr, IfOk, IsOk, IsTrue};
 ghost use Rattle.password_hash.specs.Refusal.{PasswordInvalid};
 ghost use Rattle.password_hash.specs.declared.error.Error.TheVariants.{EncodingInvalid};
 ghost use Rattle.scrypt.specs.Cost.{chunks_bytes, scratch_words, table_words};
 ghost use Rattle.scrypt.specs.Reading.{◌and_then◌, IsVerdict, mapped, told, weaker};
-ghost use Rattle.scrypt.specs.StoredHash.{HasReading, IsStoredText, Reads, is_mcf_text, key_len_or_zero};
+ghost use Rattle.scrypt.specs.StoredHash.{is_mcf_text, is_stored_text, key_len_or_zero, params_reading, reading};
 ghost use Rattle.scrypt.specs.StoredRead.{IsHashOf};
 ghost use Rattle.scrypt.specs.WorkInBuffers.{IsLeft, verdict_in, work_in};
 
 pub(crate) mod parts;
-mod two;
-mod within;
+pub(crate) mod within;
 
 use crate::phc::reading::read_params;
 use crate::rehashing::is_below;
@@ -38,12 +37,12 @@ enum Format<'a> {
 }
 
 impl<'a> Model for StoredHash<'a> {
-    ghost use Rattle.scrypt.specs.StoredHash.{StoredText};
-    ghost use Rattle.scrypt.specs.StoredRead.{IsHashOf, stored_text};
+    ghost use Rattle.std.specs.Prelude.{ℕ, List};
+    ghost use Rattle.scrypt.specs.StoredRead.{IsHashOf};
 
-    ghost Value = { StoredText };
+    ghost Value = { List ℕ };
 
-    ghost view = { λ a. stored_text a.text.now a.format };
+    ghost view = { λ a. a.text.now };
 
     ghost invariant = { λ a. IsHashOf a.text.now a.format };
 }
@@ -55,10 +54,11 @@ impl<'a> StoredHash<'a> {
     /// Returns `EncodingInvalid` if `text` is not one of its format. Errors of its parameters, its
     /// salt and its key are returned later, by the calls below.
     pub fn read(text: &'a str) -> Result<StoredHash<'a>>
-        ensures exact { IsOk result ↔ IsStoredText text.now }
-        ensures ok { IfOk result (Reads text.now) }
+        ensures exact { IsOk result ↔ IsTrue (is_stored_text text.now) }
+        ensures ok { IfOk result (λ hash. hash ≡ text.now) }
         ensures err { IfErr result (λ e. e ≡ EncodingInvalid) }
-        ensures reading { HasReading text.now (told result and_then λ hash. hash.whole) }
+        ensures reading { reading text.now ≡ told result and_then reading }
+        ensures params { params_reading text.now ≡ told result and_then params_reading }
     {
         match read_format(text) {
             Ok(format) => Ok(StoredHash { text, format }),
@@ -68,8 +68,8 @@ impl<'a> StoredHash<'a> {
 
     /// Returns the text that was read.
     pub fn as_str(&self) -> &'a str
-        ensures value { result.now ≡ self.now.text }
-        ensures reads { Reads self.now.text self.now }
+        ensures value { result.now ≡ self.now }
+        ensures stored { IsTrue (is_stored_text self.now) }
     {
         self.text
     }
@@ -80,7 +80,7 @@ impl<'a> StoredHash<'a> {
     /// Returns the first error of [`StoredHash::verify`] before it allocates, except
     /// `PasswordInvalid`.
     pub fn params(&self) -> Result<Params>
-        ensures value { told result ≡ mapped (λ read. read.0) self.now.params }
+        ensures value { told result ≡ mapped (λ read. read.0) (params_reading self.now) }
     {
         match self.params_and_key_len() {
             Ok((params, _)) => Ok(params),
@@ -92,7 +92,7 @@ impl<'a> StoredHash<'a> {
     ///
     /// Returns the same errors as [`StoredHash::params`].
     pub fn key_len(&self) -> Result<usize>
-        ensures value { told result ≡ mapped (λ read. read.1) self.now.params }
+        ensures value { told result ≡ mapped (λ read. read.1) (params_reading self.now) }
     {
         match self.params_and_key_len() {
             Ok((_, len)) => Ok(len),
@@ -105,7 +105,7 @@ impl<'a> StoredHash<'a> {
     ///
     /// Returns the errors of `Scrypt::verify_password` for the format, in the same order.
     pub fn verify(&self, alloc: Global, password: &[u8]) -> Result<()>
-        ensures verdict { IsVerdict password.now self.now.whole (told result) }
+        ensures verdict { IsVerdict password.now (reading self.now) (told result) }
     {
         match self.parts() {
             Ok(parts) => verify_allocating(alloc, password, &parts),
@@ -119,7 +119,7 @@ impl<'a> StoredHash<'a> {
     /// Returns the same errors as [`StoredHash::verify`] does before it allocates, in the same
     /// order.
     pub fn needs_rehash(&self, wanted: &Params) -> Result<bool>
-        ensures weaker { told result ≡ weaker wanted.now self.now.whole }
+        ensures weaker { told result ≡ weaker wanted.now (reading self.now) }
     {
         match self.parts() {
             Ok(parts) => Ok(is_below(wanted, &parts.params, parts.key_len)),
@@ -136,7 +136,7 @@ impl<'a> StoredHash<'a> {
           chunks = chunks_bytes read.0.r read.0.p;
           table = table_words read.0.log_n read.0.r;
           scratch = scratch_words read.0.r;
-        }) self.now.params }
+        }) (params_reading self.now) }
         ensures missing { told result ≢ Err PasswordInvalid }
     {
         let _ = self.as_str();
@@ -149,12 +149,11 @@ impl<'a> StoredHash<'a> {
     /// Verifies `password` as [`StoredHash::verify`] does, in the caller's buffers. Does not
     /// allocate.
     ///
-    /// Each buffer is at least as long as [`StoredHash::buffer_lens`] returns. If `p` is at least 2
-    /// and the table and the scratch are twice as long, two chunks are mixed at a time, which takes
-    /// about 0.7 of the time. Only the first elements of each buffer are used, as many as that. What
-    /// they hold before the call does not matter. Afterwards those of `chunks` and `scratch` are
-    /// zeros, and those of `table` are unspecified. `cores` counts the `4 * N * r * p` cores of the
-    /// hash's parameters.
+    /// Each buffer is at least as long as [`StoredHash::buffer_lens`] returns. As many chunks are
+    /// mixed at a time as have a table and a scratch there, at most four. Only the first elements of
+    /// each buffer are used, as many as [`used_lens`](crate::used_lens) returns. What they hold before
+    /// the call does not matter. Afterwards those of `chunks` and `scratch` are zeros, and those of
+    /// `table` are unspecified. `cores` counts the `4 * N * r * p` cores of the hash's parameters.
     ///
     /// Returns the same errors in the same order, `OutOfMemory` exactly if the hash can be read and
     /// a buffer is too short for it. Unless the keys are compared, the buffers and the count are
@@ -168,8 +167,8 @@ impl<'a> StoredHash<'a> {
         cores: &mut CoreCount,
     ) -> Result<()>
         ensures verdict { told result
-            ≡ verdict_in (work_in chunks.old table.old scratch.old cores.old) password.now self.now.whole }
-        ensures left { IsLeft self.now.whole
+            ≡ verdict_in (work_in chunks.old table.old scratch.old cores.old) password.now (reading self.now) }
+        ensures left { IsLeft (reading self.now)
             (work_in chunks.old table.old scratch.old cores.old) (work_in chunks.new table.new scratch.new cores.new) }
     {
         match self.parts() {
@@ -180,7 +179,7 @@ impl<'a> StoredHash<'a> {
 
     /// Returns what [`StoredHash::params`] and [`StoredHash::key_len`] return, read once.
     pub fn params_and_key_len(&self) -> Result<(Params, usize)>
-        ensures value { told result ≡ self.now.params }
+        ensures value { told result ≡ params_reading self.now }
     {
         match &self.format {
             Format::Mcf(_) => self.whole_params_and_key_len(),
@@ -195,7 +194,7 @@ impl<'a> StoredHash<'a> {
 // Reads a text in its format.
 fn read_format(text: &str) -> Result<Format<'_>>
     ensures ok { IfOk result (IsHashOf text.now) }
-    ensures exact { IsOk result ↔ IsStoredText text.now }
+    ensures exact { IsOk result ↔ IsTrue (is_stored_text text.now) }
     ensures err { IfErr result (λ e. e ≡ EncodingInvalid) }
 {
     if is_mcf_text(text.as_bytes()) {

@@ -3,24 +3,24 @@
 ghost use Rattle.std.specs.Prelude.{◌≡◌, ◌↔◌, ◌+◌, ◌*◌, ◌^◌, ◌≤◌, length, replicate, if◌then◌else◌, IsTrue, Err, Ok};
 ghost use Rattle.password_hash.specs.Refusal.{PasswordInvalid};
 ghost use Rattle.scrypt_kernel.specs.Count.{AreCounted};
-ghost use Rattle.scrypt.specs.Cost.{chunks_bytes, cost, scratch_words, table_words};
+ghost use Rattle.scrypt.specs.Cost.{chunks_bytes, cost};
+ghost use Rattle.scrypt.specs.Mixing.{HasTables};
 ghost use Rattle.scrypt.specs.Reading.{IsVerdict, Stored, is_right, told};
 ghost use Rattle.scrypt.specs.StoredParts.{ArePartsOf};
 ghost use Rattle.scrypt.specs.WorkInBuffers.{IsVerifying, work_in};
 
-pub(crate) mod two;
-
-use crate::buffers::{Buffers, used_lens};
+use crate::buffers::{Buffers, width_in};
 use crate::comparing::is_derived_key;
 use crate::derivation::derive_chunks;
-use crate::derivation::tables::Tables;
+use crate::derivation::mixing::mix_all;
 use crate::stored_hash::parts::Parts;
-use crate::{CoreCount, Params};
+use crate::{BufferLens, CoreCount};
 use password_hash::{Error, Result};
+use scrypt_kernel::memory::{Buffer, Memory};
 use std::alloc::Global;
 
-// Returns the verdict, given whether the derived key is the stored one.
-fn verdict(same: bool) -> Result<()>
+/// Returns the verdict, given whether the derived key is the stored one.
+pub(crate) fn verdict(same: bool) -> Result<()>
     ensures { told result ≡ (if same then Ok tt else Err PasswordInvalid) }
 {
     if same {
@@ -32,25 +32,26 @@ fn verdict(same: bool) -> Result<()>
 
 // Derives the key of the stored one's length, in any memory, and returns whether it is the stored
 // key. Afterwards the chunks and the scratch are zeros.
-fn is_key_of<T: Tables>(
+fn is_key_of<M: Memory>(
     password: &[u8],
     parts: &Parts<'_>,
+    width: usize,
     chunks: &mut [u8],
-    tables: &mut T,
+    rows: &mut M,
     scratch: &mut [u32],
     cores: &mut CoreCount,
 ) -> bool
     requires parts { (s : Stored) × ArePartsOf s parts.now }
     requires chunks { length chunks.old ≡ chunks_bytes parts.now.params.r parts.now.params.p }
-    requires room { table_words parts.now.params.log_n parts.now.params.r ≤ T.room tables.old }
-    requires scratch { scratch_words parts.now.params.r ≤ length scratch.old }
+    requires memory { HasTables parts.now.params.log_n parts.now.params.r width (M.room rows.old) (length scratch.old) }
     ensures exact { (s : Stored) → ArePartsOf s parts.now → result ≡ is_right password.now s }
     ensures counted { AreCounted (cost parts.now.params.log_n parts.now.params.r parts.now.params.p) cores.old cores.new }
     ensures chunks { chunks.new ≡ replicate (length chunks.old) 0 }
     ensures scratch { scratch.new ≡ replicate (length scratch.old) 0 }
 {
     derive_chunks(password, parts.salt, &parts.params, chunks);
-    tables.mix(&parts.params, chunks, scratch, cores);
+    let count = parts.params.p() as usize;
+    mix_all::<M>(&parts.params, count, width, chunks, rows, scratch, cores);
     let same = is_derived_key(password, chunks, parts);
     chunks.fill(0);
     scratch.fill(0);
@@ -65,11 +66,12 @@ pub(crate) fn verify_allocating(alloc: Global, password: &[u8], parts: &Parts<'_
     requires parts { (s : Stored) × ArePartsOf s parts.now }
     ensures verdict { (s : Stored) → ArePartsOf s parts.now → IsVerdict password.now (Ok s) (told result) }
 {
-    let mut own = Buffers::allocate(alloc, &parts.params)?;
+    let mut own = Buffers::allocate(alloc, &BufferLens::of(&parts.params))?;
     let mut cores = CoreCount::new();
     let same = is_key_of::<Vec<u32>>(
         password,
         parts,
+        1,
         &mut own.chunks,
         &mut own.table,
         &mut own.scratch,
@@ -94,12 +96,13 @@ pub(crate) fn verify_in_buffers(
     ensures verifying { (s : Stored) → ArePartsOf s parts.now → IsVerifying password.now (Ok s) result
         (work_in chunks.old table.old scratch.old cores.old) (work_in chunks.new table.new scratch.new cores.new) }
 {
-    let Some(lens) = used_lens(&parts.params, chunks, table, scratch) else {
+    let Some(width) = width_in(&parts.params, parts.params.p(), chunks, table, scratch) else {
         return Err(Error::OutOfMemory);
     };
+    let lens = BufferLens::times(&parts.params, width);
+    let mut rows = Buffer::new(&mut table[..lens.table]);
     let chunks = &mut chunks[..lens.chunks];
-    let mut table = &mut table[..lens.table];
     let scratch = &mut scratch[..lens.scratch];
-    let same = is_key_of::<&mut [u32]>(password, parts, chunks, &mut table, scratch, cores);
+    let same = is_key_of::<Buffer<'_>>(password, parts, width, chunks, &mut rows, scratch, cores);
     verdict(same)
 }

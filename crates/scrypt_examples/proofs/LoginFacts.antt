@@ -5,7 +5,7 @@ use Rattle.std.proofs.lemmas.Bool.Decides.{nat_tests}
 use Rattle.password_hash.specs.Refusal.{Refusal, KeyTooShort, TooCostly}
 use Rattle.scrypt.specs.Accepted.{Parameters}
 use Rattle.scrypt.specs.Cost.{cost}
-use Rattle.scrypt.specs.Limits.{are_within}
+use Rattle.scrypt.specs.Limits.{are_within, buffers_bytes, work}
 use Rattle.scrypt.specs.Reading.{Stored}
 use Rattle.scrypt.specs.WithinLimits.{within}
 use Rattle.scrypt.specs.WorkInBuffers.{IsDone, IsLeft, Work, has_room}
@@ -29,7 +29,8 @@ within_fits limits (Ok read) s is =
   where
     at : (cheap long : Bool) → (cheap ≡ true → cost read.params.log_n read.params.r read.params.p ≤ limits.most_work)
         → if◌then◌else◌ {A = Result Stored Refusal} cheap
-        (if◌then◌else◌ {A = Result Stored Refusal} long (Ok read) (Err KeyTooShort)) (Err TooCostly) ≡ Ok s
+        (if◌then◌else◌ {A = Result Stored Refusal} long (Ok read) (Err (KeyTooShort (length read.key))))
+        (Err (TooCostly (buffers_bytes read.params.log_n read.params.r read.params.p) (work read.params.log_n read.params.r read.params.p))) ≡ Ok s
         → cost s.params.log_n s.params.r s.params.p ≤ limits.most_work
     at true true fits is = let same : s ≡ read = cc in rw same (fits refl)
     at true false fits is = absurd cc

@@ -4,7 +4,7 @@ use Rattle.password_hash.specs.Refusal.{Refusal, PasswordInvalid}
 use Rattle.scrypt.specs.Accepted.{AreAccepted, Parameters}
 use Rattle.scrypt.specs.PhcHash.{IsMadeText}
 use Rattle.scrypt.specs.Reading.{verdict, weaker}
-use Rattle.scrypt.specs.StoredHash.{ByReading}
+use Rattle.scrypt.specs.StoredHash.{reading}
 use Rattle.scrypt_examples.specs.declared.login.Login.{Login}
 use Rattle.scrypt_examples.specs.declared.login.Login.TheVariants.{In, InWithNewText, Refused}
 
@@ -17,8 +17,8 @@ pub record AreWanted (c : Parameters) : Type 0 where
 -- in, and is not weaker than wanted.
 pub record IsEnrolled (wanted : Parameters) (password salt text : List ℕ) : Type 0 where
   pub made : IsMadeText wanted password salt text
-  pub accepts : ByReading text (λ reading. verdict password reading ≡ Ok tt)
-  pub strong : ByReading text (λ reading. weaker wanted reading ≡ Ok false)
+  pub accepts : verdict password (reading text) ≡ Ok tt
+  pub strong : weaker wanted (reading text) ≡ Ok false
 
 -- the password was let in
 abbrev pub lets_in : Login → Bool

@@ -1,14 +1,13 @@
 //! Logins by texts that somebody else may have written: a text that asks for too much is refused before any work.
 
 ghost use Rattle.std.specs.Prelude.{◌≡◌, ◌+◌, ◌≤◌};
-ghost use Rattle.scrypt.specs.Reading.{told};
-ghost use Rattle.scrypt.specs.StoredHash.{ByReading};
-ghost use Rattle.scrypt.specs.WithinLimits.{within};
+ghost use Rattle.scrypt.specs.StoredHash.{reading};
+ghost use Rattle.scrypt.specs.WithinLimits.{told_limited, within};
 ghost use Rattle.scrypt.specs.WorkInBuffers.{IsLeft, verdict_in, work_in};
 ghost use Rattle.scrypt_examples.specs.Login.{let_in};
 
-use password_hash::{Error, Result};
-use scrypt::{CoreCount, Limits, StoredHash};
+use password_hash::Error;
+use scrypt::{CoreCount, LimitedError, Limits, StoredHash};
 
 /// Whether the password is that of the stored text, in buffers that are kept from login to login.
 ///
@@ -23,20 +22,20 @@ pub fn log_in(
     table: &mut [u32],
     scratch: &mut [u32],
     cores: &mut CoreCount,
-) -> Result<bool>
-    ensures verdict { ByReading stored.now (λ reading. told result
-        ≡ let_in (verdict_in (work_in chunks.old table.old scratch.old cores.old) password.now (within limits.now reading))) }
-    ensures left { ByReading stored.now (λ reading. IsLeft (within limits.now reading)
-        (work_in chunks.old table.old scratch.old cores.old) (work_in chunks.new table.new scratch.new cores.new)) }
+) -> Result<bool, LimitedError>
+    ensures verdict { told_limited result ≡ let_in (verdict_in (work_in chunks.old table.old scratch.old cores.old)
+        password.now (within limits.now (reading stored.now))) }
+    ensures left { IsLeft (within limits.now (reading stored.now))
+        (work_in chunks.old table.old scratch.old cores.old) (work_in chunks.new table.new scratch.new cores.new) }
     ensures bounded { cores.new.all ≤ cores.old.all + limits.now.most_work }
 {
     let hash = match StoredHash::read(stored) {
         Ok(hash) => hash,
-        Err(error) => return Err(error),
+        Err(error) => return Err(LimitedError::Hash(error)),
     };
     match hash.verify_within(password, limits, chunks, table, scratch, cores) {
         Ok(()) => Ok(true),
-        Err(Error::PasswordInvalid) => Ok(false),
+        Err(LimitedError::Hash(Error::PasswordInvalid)) => Ok(false),
         Err(error) => Err(error),
     }
 }

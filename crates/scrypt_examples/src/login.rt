@@ -6,11 +6,11 @@ ghost use Rattle.password_hash.specs.declared.error.Error.TheVariants.{OutOfMemo
 ghost use Rattle.scrypt.specs.Accepted.{AreAccepted};
 ghost use Rattle.scrypt.specs.PhcHash.{IsSaltLen};
 ghost use Rattle.scrypt.specs.Reading.{verdict, weaker};
-ghost use Rattle.scrypt.specs.StoredHash.{ByReading};
+ghost use Rattle.scrypt.specs.StoredHash.{reading};
 ghost use Rattle.scrypt_examples.specs.Login.{AreWanted, IsEnrolled, let_in, lets_in, new_text};
 
 use password_hash::{Error, PasswordHasher, Result};
-use scrypt::laws::{made_texts_are_accepted, stored_texts_have_one_reading};
+use scrypt::laws::made_texts_are_accepted;
 use scrypt::phc::PasswordHash;
 use scrypt::{InvalidParams, Params, Scrypt, StoredHash};
 use std::alloc::Global;
@@ -65,7 +65,6 @@ impl Logins {
         ensures err { IfErr result (λ e. e ≡ OutOfMemory) }
     {
         made_texts_are_accepted();
-        stored_texts_have_one_reading();
         let hasher = Scrypt::new_with_params(self.wanted);
         let hash: PasswordHash = hasher.hash_password_with_salt(alloc, password, salt)?;
         Ok(hash.to_string(alloc)?)
@@ -81,14 +80,14 @@ impl Logins {
         password: &[u8],
         salt: [u8; 16],
     ) -> Result<Login>
-        ensures accepted { ByReading stored.now (λ reading. IfOk result (λ login.
-            let_in (verdict password.now reading) ≡ Ok (lets_in login))) }
-        ensures weaker { ByReading stored.now (λ reading. IfOk result (λ login. IsSome (new_text login)
-            ↔ ((verdict password.now reading ≡ Ok tt) × (weaker self.now.wanted reading ≡ Ok true)))) }
+        ensures accepted { IfOk result (λ login.
+            let_in (verdict password.now (reading stored.now)) ≡ Ok (lets_in login)) }
+        ensures weaker { IfOk result (λ login. IsSome (new_text login)
+            ↔ ((verdict password.now (reading stored.now) ≡ Ok tt) × (weaker self.now.wanted (reading stored.now) ≡ Ok true))) }
         ensures enrolled { IfOk result (λ login.
             IfSome (new_text login) (IsEnrolled self.now.wanted password.now salt)) }
-        ensures err { ByReading stored.now (λ reading. IfErr result (λ e.
-            (IsOk reading × (e ≡ OutOfMemory)) ⊎ (let_in (verdict password.now reading) ≡ Err (refusal e)))) }
+        ensures err { IfErr result (λ e. (IsOk (reading stored.now) × (e ≡ OutOfMemory))
+            ⊎ (let_in (verdict password.now (reading stored.now)) ≡ Err (refusal e))) }
     {
         let hash = match StoredHash::read(stored) {
             Ok(hash) => hash,

@@ -4,7 +4,7 @@ ghost use Rattle.std.specs.Prelude.{◌≡◌, ◌≢◌, ◌⊎◌, Err, Ok, If
 ghost use Rattle.password_hash.specs.Refusal.{PasswordInvalid, refusal};
 ghost use Rattle.password_hash.specs.declared.error.Error.TheVariants.{OutOfMemory};
 ghost use Rattle.scrypt.specs.Reading.{verdict};
-ghost use Rattle.scrypt.specs.StoredHash.{ByReading, HasReading, Reads, StoredText};
+ghost use Rattle.scrypt.specs.StoredHash.{params_reading, reading};
 ghost use Rattle.scrypt_examples.specs.Login.{IsEnrolled};
 
 use crate::hash::verify;
@@ -28,9 +28,8 @@ impl TextParams {
     ///
     /// Returns what reading the text refuses.
     pub fn of(text: &str) -> Result<TextParams>
-        ensures ok { IfOk result (λ read. (hash : StoredText) × Reads text.now hash
-            × (hash.params ≡ Ok (read.params, read.key_len))) }
-        ensures err { IfErr result (λ e. HasReading text.now (Err (refusal e)) × (refusal e ≢ PasswordInvalid)) }
+        ensures ok { IfOk result (λ read. params_reading text.now ≡ Ok (read.params, read.key_len)) }
+        ensures err { IfErr result (λ e. (reading text.now ≡ Err (refusal e)) × (refusal e ≢ PasswordInvalid)) }
     {
         parameters_are_those_of_the_reading();
         reading_names_no_password();
@@ -56,10 +55,10 @@ pub fn rewrite(
     password: &[u8],
     salt: [u8; 16],
 ) -> Result<String>
-    ensures accepted { ByReading text.now (λ reading. OnOk result (verdict password.now reading ≡ Ok tt)) }
+    ensures accepted { OnOk result (verdict password.now (reading text.now) ≡ Ok tt) }
     ensures enrolled { IfOk result (λ new. IsEnrolled wanted.now.wanted password.now salt (string_bytes new)) }
-    ensures err { ByReading text.now (λ reading. IfErr result (λ e.
-        (IsOk reading × (e ≡ OutOfMemory)) ⊎ (verdict password.now reading ≡ Err (refusal e)))) }
+    ensures err { IfErr result (λ e.
+        (IsOk (reading text.now) × (e ≡ OutOfMemory)) ⊎ (verdict password.now (reading text.now) ≡ Err (refusal e))) }
 {
     verify(alloc, text, password)?;
     wanted.enroll(alloc, password, salt)

@@ -1,14 +1,15 @@
 // Logins within limits, exactly and by one less; texts that ask for more than a service has are in `ci/hashes.py`.
 
 use crate::examples::vectors::{MCF, STORED};
-use password_hash::{Error, Result};
-use scrypt::{CoreCount, Limits};
+use password_hash::Error;
+use scrypt::{CoreCount, LimitedError, Limits};
 use scrypt_examples::bounded_login::log_in;
 use std::test::Fail;
+use test_support::holds;
 
 // A stored text, a password, the most bytes and work, what comes of it in the buffers of (4, 1, 1), and the
 // reason for the row. Those take 128 + 4 * 512 + 4 * 64 bytes and a work of 4 * (16 + 32).
-const LOGINS: [(&str, &str, usize, u64, Result<bool>, &str); 9] = [
+const LOGINS: [(&str, &str, usize, u64, Result<bool, LimitedError>, &str); 9] = [
     (
         STORED,
         "correct horse",
@@ -31,7 +32,10 @@ const LOGINS: [(&str, &str, usize, u64, Result<bool>, &str); 9] = [
         "correct horse",
         2431,
         192,
-        Err(Error::TooCostly),
+        Err(LimitedError::TooCostly {
+            bytes: 2432,
+            work: 192,
+        }),
         "a byte less",
     ),
     (
@@ -39,7 +43,10 @@ const LOGINS: [(&str, &str, usize, u64, Result<bool>, &str); 9] = [
         "correct horse",
         2432,
         191,
-        Err(Error::TooCostly),
+        Err(LimitedError::TooCostly {
+            bytes: 2432,
+            work: 192,
+        }),
         "a little work less",
     ),
     (
@@ -47,7 +54,7 @@ const LOGINS: [(&str, &str, usize, u64, Result<bool>, &str); 9] = [
         "",
         2432,
         192,
-        Err(Error::Version),
+        Err(LimitedError::Hash(Error::Version)),
         "a version, before the limits",
     ),
     (
@@ -55,7 +62,7 @@ const LOGINS: [(&str, &str, usize, u64, Result<bool>, &str); 9] = [
         "",
         2432,
         192,
-        Err(Error::KeyTooShort),
+        Err(LimitedError::KeyTooShort { key_len: 15 }),
         "a key of 15 bytes",
     ),
     (
@@ -63,7 +70,10 @@ const LOGINS: [(&str, &str, usize, u64, Result<bool>, &str); 9] = [
         "",
         2432,
         192,
-        Err(Error::TooCostly),
+        Err(LimitedError::TooCostly {
+            bytes: 4480,
+            work: 256,
+        }),
         "a costly text before a short key",
     ),
     (
@@ -71,13 +81,13 @@ const LOGINS: [(&str, &str, usize, u64, Result<bool>, &str); 9] = [
         "",
         4480,
         256,
-        Err(Error::OutOfMemory),
+        Err(LimitedError::Hash(Error::OutOfMemory)),
         "within the limits, and buffers that are too short",
     ),
 ];
 
 #[test]
-fn logins(rt: HostRuntime) -> std::result::Result<(), Fail> {
+fn logins(rt: HostRuntime) -> Result<(), Fail> {
     let (mut chunks, mut table, mut scratch) = ([0u8; 128], [0u32; 512], [0u32; 64]);
     for &(stored, password, most_bytes, most_work, wanted, reason) in &LOGINS {
         let login = log_in(
@@ -93,7 +103,7 @@ fn logins(rt: HostRuntime) -> std::result::Result<(), Fail> {
             &mut scratch,
             &mut CoreCount::new(),
         );
-        assert!(rt; login == wanted, "{reason}");
+        holds(login == wanted, reason)?;
     }
     Ok(())
 }

@@ -5,6 +5,7 @@ use password_hash::Error;
 use scrypt::InvalidParams;
 use scrypt_examples::login::{Login, Logins};
 use std::test::Fail;
+use test_support::holds;
 
 // A stored text, a password, log_n as wanted, whether the user is in, the new text, and the reason for the row.
 const LOGINS: [(&str, &str, u8, bool, Option<&str>, &str); 6] = [
@@ -49,23 +50,26 @@ fn logins(rt: HostRuntime) -> Result<(), Fail> {
     let alloc = rt.alloc();
     for &(stored, password, log_n, is_in, new, reason) in &LOGINS {
         let login = Logins::new(log_n, 1, 1)?.log_in(alloc, stored, password.as_bytes(), SALT)?;
-        assert_eq!(rt; !matches!(login, Login::Refused), is_in, "{reason}");
+        holds(!matches!(login, Login::Refused) == is_in, reason)?;
         let text = match &login {
             Login::InWithNewText(text) => Some(text.as_str()),
             _ => None,
         };
-        assert_eq!(rt; text, new, "{reason}");
+        holds(text == new, reason)?;
     }
     Ok(())
 }
 
 #[test]
 fn enrolled_texts_and_refusals(rt: HostRuntime) -> Result<(), Fail> {
-    assert_eq!(rt; Logins::new(4, 0, 1).err(), Some(InvalidParams));
+    holds(
+        Logins::new(4, 0, 1).err() == Some(InvalidParams),
+        "Logins::new(4, 0, 1).err() == Some(InvalidParams)",
+    )?;
     let logins = Logins::new(4, 1, 1)?;
     let enrolled = logins.enroll(rt.alloc(), b"correct horse", SALT)?;
-    assert_eq!(rt; enrolled.as_str(), NEW);
+    holds(enrolled.as_str() == NEW, "enrolled.as_str() == NEW")?;
     let refused = logins.log_in(rt.alloc(), "$7$2/..../....", b"", SALT);
-    assert!(rt; refused.err() == Some(Error::EncodingInvalid), "no key");
+    holds(refused.err() == Some(Error::EncodingInvalid), "no key")?;
     Ok(())
 }

@@ -6,26 +6,27 @@ use scrypt::Params;
 use scrypt_examples::login::Logins;
 use scrypt_examples::migration::{TextParams, rewrite};
 use std::test::Fail;
+use test_support::holds;
 
 #[test]
-fn costs_of_texts(rt: HostRuntime) -> Result<(), Fail> {
+fn costs_of_texts() -> Result<(), Fail> {
     let params = Params::new(4, 1, 1)?;
     for &(text, key_len, reason) in &[
         (SHORT_KEY, 16, "a PHC text with a short key"),
         ("$scrypt$ln=4,r=1,p=1", 0, "a PHC text without a key"),
         (MCF, 32, "a `$7$` text"),
     ] {
-        assert!(rt;
+        holds(
             TextParams::of(text) == Ok(TextParams { params, key_len }),
-            "{reason}"
-        );
+            reason,
+        )?;
     }
     for &(text, refused, reason) in &[
         ("$7", Error::EncodingInvalid, "no field"),
         ("$7$2...../....", Error::ParamsInvalid, "r is 0"),
         ("$argon2id$ln=4$aA", Error::Algorithm, "another algorithm"),
     ] {
-        assert!(rt; TextParams::of(text) == Err(refused), "{reason}");
+        holds(TextParams::of(text) == Err(refused), reason)?;
     }
     Ok(())
 }
@@ -59,7 +60,7 @@ fn rewritten_texts(rt: HostRuntime) -> Result<(), Fail> {
             Ok(text) => Ok(text.as_str()),
             Err(error) => Err(*error),
         };
-        assert_eq!(rt; told, new, "{reason}");
+        holds(told == new, reason)?;
     }
     Ok(())
 }

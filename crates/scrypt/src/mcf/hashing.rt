@@ -18,7 +18,7 @@ ghost use Rattle.password_hash.specs.Refusal.{refusal};
 ghost use Rattle.scrypt.specs.InBuffers.{AreEnough, IsCopiedTo};
 ghost use Rattle.scrypt.specs.WorkInBuffers.{IsDone, work_in};
 
-use crate::buffers::used_lens;
+use crate::buffers::width_in;
 use crate::hashing::{check_call, key_allocating, key_in_buffers, key_len_or_default};
 use crate::mcf::five_letters::five_letters;
 use crate::mcf::reading::is_mcf;
@@ -193,11 +193,11 @@ fn hash_of_text(text: Vec<u8>) -> PasswordHash
 /// the text of the hash to the front of `text`, and returns its length. Does not allocate.
 ///
 /// `text` is at least as long as [`hash_len`](crate::mcf::hash_len) returns, and each other buffer as
-/// [`BufferLens::of`](crate::BufferLens::of) returns for `params`. If `p` is at least 2 and the table
-/// and the scratch are as long as [`BufferLens::two_tables`](crate::BufferLens::two_tables) returns,
-/// two chunks are mixed at a time. Only the first elements of each buffer are used, as many as that.
-/// What they hold before the call does not matter. Afterwards those of `chunks` and `scratch` are
-/// zeros, and those of `table` are unspecified. `cores` counts the `4 * N * r * p` cores of `params`.
+/// [`BufferLens::of`](crate::BufferLens::of) returns for `params`. As many chunks are mixed at a time
+/// as have a table and a scratch there, at most four. Only the first elements of each buffer are
+/// used, as many as [`used_lens`](crate::used_lens) returns. What they hold before the call does not
+/// matter. Afterwards those of `chunks` and `scratch` are zeros, and those of `table` are
+/// unspecified. `cores` counts the `4 * N * r * p` cores of `params`.
 ///
 /// Returns `OutOfMemory` exactly if `text` or another buffer is too short, and then changes nothing.
 pub fn hash_with_buffers(
@@ -227,14 +227,14 @@ pub fn hash_with_buffers(
     if text.len() < len {
         return Err(Error::OutOfMemory);
     }
-    let Some(lens) = used_lens(params, chunks, table, scratch) else {
+    let Some(width) = width_in(params, params.p(), chunks, table, scratch) else {
         return Err(Error::OutOfMemory);
     };
     let text = &mut text[..len];
     write_params_and_salt(text, params, salt);
     let letters = salt_letters(text, salt);
     let key = key_in_buffers(
-        password, letters, params, lens, chunks, table, scratch, cores,
+        password, letters, params, width, chunks, table, scratch, cores,
     );
     write_key(text, params, salt, &key);
     Ok(len)

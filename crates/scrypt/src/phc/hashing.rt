@@ -11,7 +11,7 @@ ghost use Rattle.password_hash.specs.declared.error.Error.TheVariants.{OutOfMemo
 ghost use Rattle.scrypt.specs.InBuffers.{AreEnough};
 ghost use Rattle.scrypt.specs.WorkInBuffers.{IsDone, work_in};
 
-use crate::buffers::used_lens;
+use crate::buffers::width_in;
 use crate::hashing::{check_call, key_allocating, key_in_buffers};
 use crate::phc::ALG_ID;
 use crate::phc::params::written;
@@ -88,11 +88,10 @@ fn hash_of(params: &Params, salt: Salt, key: Output) -> PasswordHash
 /// allocate.
 ///
 /// Each buffer is at least as long as [`BufferLens::of`](crate::BufferLens::of) returns for `params`.
-/// If `p` is at least 2 and the table and the scratch are as long as
-/// [`BufferLens::two_tables`](crate::BufferLens::two_tables) returns, two chunks are mixed at a time.
-/// Only the first elements of each buffer are used, as many as that. What they hold before the call
-/// does not matter. Afterwards those of `chunks` and `scratch` are zeros, and those of `table` are
-/// unspecified. `cores` counts the `4 * N * r * p` cores of `params`.
+/// As many chunks are mixed at a time as have a table and a scratch there, at most four. Only the
+/// first elements of each buffer are used, as many as [`used_lens`](crate::used_lens) returns. What
+/// they hold before the call does not matter. Afterwards those of `chunks` and `scratch` are zeros,
+/// and those of `table` are unspecified. `cores` counts the `4 * N * r * p` cores of `params`.
 ///
 /// Returns `SaltInvalid` if `salt` does not have 1 to 64 bytes, and otherwise `OutOfMemory` exactly
 /// if a buffer is too short. On an error the buffers and the count are unchanged.
@@ -120,12 +119,12 @@ pub fn hash_with_buffers(
     let Ok(salt) = Salt::new(salt) else {
         return Err(Error::SaltInvalid);
     };
-    let Some(lens) = used_lens(params, chunks, table, scratch) else {
+    let Some(width) = width_in(params, params.p(), chunks, table, scratch) else {
         return Err(Error::OutOfMemory);
     };
     let letters = salt.as_bytes();
     let key = key_in_buffers(
-        password, letters, params, lens, chunks, table, scratch, cores,
+        password, letters, params, width, chunks, table, scratch, cores,
     );
     Ok(hash_of(params, salt, key))
 }

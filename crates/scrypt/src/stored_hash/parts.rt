@@ -3,6 +3,7 @@
 ghost use Rattle.std.specs.Prelude.{◌≡◌, ◌↔◌, ℕ, List, length, take, drop, IfErr, IfOk, IsTrue, Err};
 ghost use Rattle.password_hash.specs.Crypt64.{IsPiece};
 ghost use Rattle.password_hash.specs.Refusal.{refusal};
+ghost use Rattle.scrypt.specs.StoredHash.{reading};
 ghost use Rattle.scrypt.specs.StoredParts.{HasParts, IsKey};
 
 use super::{Format, StoredHash};
@@ -48,8 +49,8 @@ pub(crate) struct Parts<'a> {
 impl<'a> StoredHash<'a> {
     /// Returns the parts of the hash, or the error of reading it.
     pub(crate) fn parts(&self) -> Result<Parts<'_>>
-        ensures ok { IfOk result (HasParts self.now.whole) }
-        ensures err { IfErr result (λ e. self.now.whole ≡ Err (refusal e)) }
+        ensures ok { IfOk result (HasParts (reading self.now)) }
+        ensures err { IfErr result (λ e. reading self.now ≡ Err (refusal e)) }
     {
         match &self.format {
             Format::Mcf(hash) => parts_of_mcf(hash),

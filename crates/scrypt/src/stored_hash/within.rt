@@ -1,14 +1,17 @@
 // Verifying with stored hashes of either format within limits.
 
 ghost use Rattle.std.specs.Prelude.{◌≡◌, ◌↔◌, length, IsOk, IsTrue};
+ghost use Rattle.password_hash.specs.Refusal.{TooCostly};
+ghost use Rattle.scrypt.specs.Limits.{buffers_bytes, work};
 ghost use Rattle.scrypt.specs.Cost.{chunks_bytes, scratch_words, table_words};
 ghost use Rattle.scrypt.specs.Reading.{mapped, told};
-ghost use Rattle.scrypt.specs.WithinLimits.{within};
+ghost use Rattle.scrypt.specs.StoredHash.{reading};
+ghost use Rattle.scrypt.specs.WithinLimits.{limited_refusal, told_limited, within};
 ghost use Rattle.scrypt.specs.WorkInBuffers.{IsLeft, verdict_in, work_in};
 
 use super::StoredHash;
+use crate::errors::LimitedError;
 use crate::{BufferLens, CoreCount, Limits, Params};
-use password_hash::{Error, Result};
 
 impl<'a> StoredHash<'a> {
     /// Returns the lengths of the buffers for [`StoredHash::verify_within`]: what verifying needs,
@@ -18,15 +21,15 @@ impl<'a> StoredHash<'a> {
     /// read, `PasswordInvalid` for one without a salt or a key among them; `TooCostly` if its
     /// parameters need more than one of the limits; and `KeyTooShort` if its key is shorter than
     /// the limits allow.
-    pub fn buffer_lens_within(&self, limits: &Limits) -> Result<BufferLens>
-        ensures value { told result ≡ mapped (λ s. record {
+    pub fn buffer_lens_within(&self, limits: &Limits) -> Result<BufferLens, LimitedError>
+        ensures value { told_limited result ≡ mapped (λ s. record {
           chunks = chunks_bytes s.params.r s.params.p;
           table = table_words s.params.log_n s.params.r;
           scratch = scratch_words s.params.r;
-        }) (within limits.now self.now.whole) }
+        }) (within limits.now (reading self.now)) }
     {
-        match self.params_within(limits) {
-            Ok(params) => Ok(BufferLens::of(&params)),
+        match self.params_and_key_len_within(limits) {
+            Ok((params, _)) => Ok(BufferLens::of(&params)),
             Err(error) => Err(error),
         }
     }
@@ -45,50 +48,78 @@ impl<'a> StoredHash<'a> {
         table: &mut [u32],
         scratch: &mut [u32],
         cores: &mut CoreCount,
-    ) -> Result<()>
-        ensures verdict { told result ≡ verdict_in (work_in chunks.old table.old scratch.old cores.old)
-            password.now (within limits.now self.now.whole) }
-        ensures left { IsLeft (within limits.now self.now.whole)
+    ) -> Result<(), LimitedError>
+        ensures verdict { told_limited result ≡ verdict_in (work_in chunks.old table.old scratch.old cores.old)
+            password.now (within limits.now (reading self.now)) }
+        ensures left { IsLeft (within limits.now (reading self.now))
             (work_in chunks.old table.old scratch.old cores.old) (work_in chunks.new table.new scratch.new cores.new) }
     {
-        if let Err(error) = self.params_within(limits) {
+        if let Err(error) = self.params_and_key_len_within(limits) {
             return Err(error);
         }
-        self.verify_with_buffers(password, chunks, table, scratch, cores)
+        limited(self.verify_with_buffers(password, chunks, table, scratch, cores))
     }
 
     // Returns whether the hash can be read and is within the limits.
-    pub(super) fn is_within(&self, limits: &Limits) -> bool
-        ensures exact { IsTrue result ↔ IsOk (within limits.now self.now.whole) }
-        ensures same { IsTrue result → within limits.now self.now.whole ≡ self.now.whole }
+    pub(crate) fn is_within(&self, limits: &Limits) -> bool
+        ensures exact { IsTrue result ↔ IsOk (within limits.now (reading self.now)) }
+        ensures same { IsTrue result → within limits.now (reading self.now) ≡ reading self.now }
     {
-        self.params_within(limits).is_ok()
+        self.params_and_key_len_within(limits).is_ok()
     }
 
-    // Returns the parameters of a hash that is within the limits.
-    fn params_within(&self, limits: &Limits) -> Result<Params>
-        ensures { told result ≡ mapped (λ s. s.params) (within limits.now self.now.whole) }
+    /// Returns `log_n`, `r` and `p` of a hash that is within the limits, with no length, and the length of
+    /// its key in bytes. Does not allocate.
+    ///
+    /// Returns the same errors as [`StoredHash::buffer_lens_within`].
+    pub fn params_and_key_len_within(
+        &self,
+        limits: &Limits,
+    ) -> Result<(Params, usize), LimitedError>
+        ensures value { told_limited result
+            ≡ mapped (λ s. (s.params, length s.key)) (within limits.now (reading self.now)) }
     {
         let (params, key_len) = match self.whole_params_and_key_len() {
             Ok(read) => read,
-            Err(error) => return Err(error),
+            Err(error) => return Err(LimitedError::Hash(error)),
         };
         if !limits.allow(&params) {
-            return Err(Error::TooCostly);
+            return Err(too_costly(&params));
         }
         if key_len < limits.least_key_len {
-            return Err(Error::KeyTooShort);
+            return Err(LimitedError::KeyTooShort { key_len });
         }
-        Ok(params)
+        Ok((params, key_len))
     }
 
     // Returns the parameters of the hash and the length of its key, if it has a salt and a key.
-    pub(super) fn whole_params_and_key_len(&self) -> Result<(Params, usize)>
-        ensures { told result ≡ mapped (λ s. (s.params, length s.key)) self.now.whole }
+    pub(super) fn whole_params_and_key_len(&self) -> password_hash::Result<(Params, usize)>
+        ensures { told result ≡ mapped (λ s. (s.params, length s.key)) (reading self.now) }
     {
         match self.parts() {
             Ok(parts) => Ok((parts.params, parts.key_len)),
             Err(error) => Err(error),
         }
+    }
+}
+
+// Returns the error of parameters that need more than one of the limits.
+fn too_costly(params: &Params) -> LimitedError
+    ensures { limited_refusal result ≡ TooCostly (buffers_bytes params.now.log_n params.now.r params.now.p)
+        (work params.now.log_n params.now.r params.now.p) }
+{
+    LimitedError::TooCostly {
+        bytes: BufferLens::of(params).bytes(),
+        work: params.work(),
+    }
+}
+
+// Returns a verdict as one of a call with limits.
+pub(crate) fn limited(verdict: password_hash::Result<()>) -> Result<(), LimitedError>
+    ensures { told_limited result ≡ told verdict }
+{
+    match verdict {
+        Ok(()) => Ok(()),
+        Err(error) => Err(LimitedError::Hash(error)),
     }
 }

@@ -1,5 +1,5 @@
 use Rattle.std.proofs.Common.{◌∙◌, ap}
-use Rattle.password_hash.proofs.OneReading.{one_reading}
+use Rattle.password_hash.proofs.PhcReadingFacts.{one_reading}
 use Rattle.password_hash.specs.Phc.{hash_text}
 use Rattle.scrypt.specs.PhcHash.{read_phc}
 use Rattle.scrypt.specs.Reading.{verdict}

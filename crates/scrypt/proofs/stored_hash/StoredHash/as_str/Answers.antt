@@ -1,8 +1,9 @@
 use Rattle.std.proofs.Common.{subst}
-use Rattle.scrypt.specs.StoredHash.{Reads, StoredText}
-use Rattle.scrypt.proofs.StoredHashFacts.{reads_text}
+use Rattle.std.specs.Prelude.{IsTrue}
+use Rattle.scrypt.specs.StoredHash.{is_stored_text}
+use Rattle.scrypt.proofs.StoredHashFacts.{format_is_stored}
 use Rattle.scrypt.proofs.stored_hash.StoredHash.as_str.Goals as goal
 
-pub returns-clause-reads : goal.returns-clause-reads
-returns-clause-reads c =
-    subst (λ (z : StoredText). Reads z.text z) c.self.view_is (reads_text c.self.inside.text.now c.self.inside.format c.self.invariant)
+pub returns-clause-stored : goal.returns-clause-stored
+returns-clause-stored c =
+    subst (λ text. IsTrue (is_stored_text text)) c.self.view_is (format_is_stored _ c.self.inside.format c.self.invariant)

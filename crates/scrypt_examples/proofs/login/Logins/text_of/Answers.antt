@@ -19,9 +19,8 @@ returns-clause-enrolled c =
     } in
     let len : IfSome wanted.output_len IsStoredLen = rw are.no_len tt in
     let law = c.made_texts_are_accepted.ensures.phc wanted c.args.password.now c.args.salt.now hash are.accepted len salt made in
-    let reading = c.stored_texts_have_one_reading.ensures.of_hash _ law.0 law.1 in
     record {
       made = (hash, made, printed);
-      accepts = rw printed (law.0.whole, reading, law.2);
-      strong = rw printed (law.0.whole, reading, law.3);
+      accepts = rw printed law.0;
+      strong = rw printed law.1;
     }

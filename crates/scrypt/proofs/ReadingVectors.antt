@@ -1,0 +1,86 @@
+-- Texts of stored hashes, read by the definitions alone, so that a wrong bound, order or refusal in a definition does not
+-- check.
+use Rattle.std.proofs.Common.{◌≡◌, ℕ, List, [], ◌∷◌, map, codes, None, Ok, Err, refl}
+use Rattle.std.specs.Prelude.{Result}
+use Rattle.std.specs.Fmt.{digits}
+use Rattle.password_hash.specs.Crypt64.{bytes_of_number, crypt64_of, decoded, letter, letter_value, letters_of, number_of}
+use Rattle.password_hash.specs.Decimal.{decimal_below, has_plus_or_leading_zero}
+use Rattle.password_hash.specs.Parts.{after_prefix}
+use Rattle.password_hash.specs.PhcReading.{decoded_bytes, parsed_pairs, read_hash}
+use Rattle.password_hash.specs.Refusal.{Refusal, Algorithm, EncodingInvalid, OutputSize, ParamInvalid, ParamsInvalid, PasswordInvalid, Version}
+use Rattle.password_hash.proofs.StandardFacts.{decoded_of, encode_symbols, groups_bytes, groups_error, scan_steps}
+use Rattle.scrypt_kernel.proofs.StandardFacts.{bytes}
+use Rattle.scrypt.specs.Accepted.{are_accepted, is_output_len}
+use Rattle.scrypt.specs.McfHash.{read_mcf}
+use Rattle.scrypt.specs.McfParams.{field_params}
+use Rattle.scrypt.specs.PhcHash.{phc_params}
+use Rattle.scrypt.specs.PhcParams.{read_pairs}
+use Rattle.scrypt.specs.Reading.{Stored, checked}
+use Rattle.scrypt.specs.StoredHash.{is_mcf_text, reading}
+
+-- a text, and the parameters, the salt and the key that it is read as
+abbrev read_as : List ℕ → ℕ → ℕ → ℕ → List ℕ → List ℕ → List ℕ × Result Stored Refusal
+read_as text log_n r p salt key =
+    (text, Ok (record { params = record { log_n = log_n; r = r; p = p; output_len = None }; salt = salt; key = key }))
+
+-- a text, and the error of reading it
+abbrev refused : List ℕ → Refusal → List ℕ × Result Stored Refusal
+refused text why = (text, Err why)
+
+-- PHC texts: what is read, and then each refusal, of the grammar, the algorithm, the version, the parameters, and the salt
+-- and the key
+
+abbrev phc_readings : List (List ℕ × Result Stored Refusal)
+phc_readings =
+    -- `passlib`'s hash of `password`
+    read_as (codes "$scrypt$ln=16,r=8,p=1$aM15713r3Xsvxbi31lqr1Q$nFNh2CVHVjNldFVKDHDlm4CbdRSCdEBsjjJxD+iCs5E") 16 8 1
+    (bytes (codes "68cd79ef5debdd7b2fc5b8b7d65aabd5"))
+    (bytes (codes "9c5361d8254756336574554a0c70e59b809b75148274406c8e32710fe882b391"))
+    -- parameters in another order, and none, which are the recommended ones
+    ∷ read_as (codes "$scrypt$p=3,r=2,ln=1$aA$AAAAAAAAAAAAAA") 1 2 3 (codes "h") (bytes (codes "00000000000000000000"))
+    ∷ read_as (codes "$scrypt$aA$AAAAAAAAAAAAAA") 17 8 1 (codes "h") (bytes (codes "00000000000000000000"))
+    ∷ refused (codes "") EncodingInvalid
+    ∷ refused (codes "$scrypt$ln=1$aB$AAAAAAAAAAAAAA") EncodingInvalid
+    ∷ refused (codes "$argon2id$v=19$m=65536,t=2,p=1$aA$AAAAAAAAAAAAAA") Algorithm
+    ∷ refused (codes "$scrypt$v=1$ln=256$aA$AAAAAAAAAAAAAA") Version
+    ∷ refused (codes "$scrypt$ln=256$aA$AAAAAAAAAAAAAA") (ParamInvalid (codes "ln"))
+    ∷ refused (codes "$scrypt$ln=016$aA$AAAAAAAAAAAAAA") (ParamInvalid (codes "ln"))
+    ∷ refused (codes "$scrypt$ln=1,r=4294967296$aA$AAAAAAAAAAAAAA") (ParamInvalid (codes "r"))
+    ∷ refused (codes "$scrypt$ln=1,x=1,r=a$aA$AAAAAAAAAAAAAA") ParamsInvalid
+    ∷ refused (codes "$scrypt$ln=57$aA$AAAAAAAAAAAAAA") ParamsInvalid
+    ∷ refused (codes "$scrypt$r=0") ParamsInvalid
+    ∷ refused (codes "$scrypt$ln=1") PasswordInvalid
+    ∷ refused (codes "$scrypt$ln=1$aA") PasswordInvalid
+    -- an id that is not `7`
+    ∷ refused (codes "$8$2/..../....$r/") EncodingInvalid
+    ∷ []
+
+pub phc_texts_read : map (λ row. reading row.0) phc_readings ≡ map (λ row. row.1) phc_readings
+unfolding after_prefix are_accepted checked decimal_below decoded_bytes decoded_of digits encode_symbols groups_bytes groups_error
+    has_plus_or_leading_zero is_mcf_text parsed_pairs phc_params read_hash read_pairs reading scan_steps
+phc_texts_read = refl
+
+-- `$7$` texts: what is read, and then each refusal, of the eleven letters, the numbers, and the key
+
+abbrev mcf_readings : List (List ℕ × Result Stored Refusal)
+mcf_readings =
+    -- the first key of RFC 7914, section 12, of 32 bytes
+    read_as (codes "$7$2/..../....$rNxJWVHNv/mCNcgE/f6/L4zO6Fos5c2uTzhyzoisI62") 4 1 1 []
+    (bytes (codes "77d6576238657b203b19ca42c18a0497f16b4844e3074ae8dfdffa3fede21442"))
+    -- a key of one byte, and a salt that is no encoding
+    ∷ read_as (codes "$7$CU..../....Mq_Y$r/") 14 32 1 (codes "Mq_Y") (bytes (codes "77"))
+    ∷ refused (codes "$7") EncodingInvalid
+    ∷ refused (codes "$7$") EncodingInvalid
+    ∷ refused (codes "$7$*/...$r/") EncodingInvalid
+    ∷ refused (codes "$7$*/..../....$r/") ParamsInvalid
+    ∷ refused (codes "$7$2...../....$r/") ParamsInvalid
+    ∷ refused (codes "$7$2/..../....") EncodingInvalid
+    ∷ refused (codes "$7$2/..../....$r/$") EncodingInvalid
+    ∷ refused (codes "$7$2/..../....$rz") EncodingInvalid
+    ∷ refused (codes "$7$2/..../....$") OutputSize
+    ∷ []
+
+pub mcf_texts_read : map (λ row. reading row.0) mcf_readings ≡ map (λ row. row.1) mcf_readings
+unfolding are_accepted bytes_of_number checked crypt64_of decoded field_params is_mcf_text is_output_len letter letter_value letters_of
+    number_of read_mcf reading
+mcf_texts_read = refl

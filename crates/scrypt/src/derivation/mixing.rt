@@ -1,0 +1,155 @@
+// Step 2 of a derivation (RFC 7914, section 6): each chunk becomes its scryptROMix.
+
+ghost use Rattle.std.specs.Prelude.{◌≡◌, ℕ, List, ◌+◌, ◌-◌, ◌*◌, ◌<◌, ◌≤◌, drop, length};
+ghost use Rattle.scrypt_kernel.specs.Count.{AreCounted, AreCountedAs};
+ghost use Rattle.scrypt_kernel.specs.RoMixCost.{ro_mix_cost};
+ghost use Rattle.scrypt_kernel.specs.Table.{thin_ro_mix_cost};
+ghost use Rattle.scrypt_kernel.specs.Words.{part, words_of};
+ghost use Rattle.scrypt.specs.Cost.{chunks_bytes, cost, scratch_words, table_words, thin_chunks_cost, thin_scratch_words};
+ghost use Rattle.scrypt.specs.Key.{mixed_chunks};
+ghost use Rattle.scrypt.specs.Mixing.{AreMixed, HasRoom, HasTables};
+
+use crate::{CoreCount, Params};
+use scrypt_kernel::memory::Memory;
+use scrypt_kernel::order::Order;
+use scrypt_kernel::order::diagonal::{Both, Diagonal};
+use scrypt_kernel::romix;
+use std::simd::{u32x4, u32x8};
+
+/// Each of `count` chunks becomes its scryptROMix, `width` of them at a time, and then the rest. They are
+/// those of one derivation or of several, all with the `N` and the `r` of `params`.
+pub(crate) fn mix_all<M: Memory>(
+    params: &Params,
+    count: usize,
+    width: usize,
+    chunks: &mut [u8],
+    rows: &mut M,
+    scratch: &mut [u32],
+    cores: &mut CoreCount,
+)
+    requires chunks { length chunks.old ≡ chunks_bytes params.now.r count }
+    requires memory { HasTables params.now.log_n params.now.r width (M.room rows.old) (length scratch.old) }
+    ensures value { chunks.new ≡ mixed_chunks chunks.old params.now.log_n params.now.r count }
+    ensures counted { AreCounted (cost params.now.log_n params.now.r count) cores.old cores.new }
+{
+    let groups = count / width;
+    let rest = count % width;
+    mix_in_groups::<M>(params, width, 0, groups, chunks, rows, scratch, cores);
+    if rest > 0 {
+        mix_in_groups::<M>(params, rest, count - rest, 1, chunks, rows, scratch, cores);
+    }
+}
+
+// Mixes so many groups of `width` chunks from `first` on.
+fn mix_in_groups<M: Memory>(
+    params: &Params,
+    width: usize,
+    first: usize,
+    groups: usize,
+    chunks: &mut [u8],
+    rows: &mut M,
+    scratch: &mut [u32],
+    cores: &mut CoreCount,
+)
+    requires inside { (first + groups * width) * (128 * params.now.r) ≤ length chunks.old }
+    requires memory { HasTables params.now.log_n params.now.r width (M.room rows.old) (length scratch.old) }
+    ensures mixed { (b : List ℕ) → AreMixed b params.now.log_n params.now.r first chunks.old
+        → AreMixed b params.now.log_n params.now.r (first + groups * width) chunks.new }
+    ensures room { M.room rows.old ≤ M.room rows.new }
+    ensures counted { AreCounted (ro_mix_cost params.now.log_n params.now.r * (groups * width)) cores.old cores.new }
+{
+    match width {
+        1 => mix_groups::<Diagonal<u32x4>, M>(params, first, groups, chunks, rows, scratch, cores),
+        2 => mix_groups::<Diagonal<u32x8>, M>(params, first, groups, chunks, rows, scratch, cores),
+        3 => mix_groups::<Diagonal<Both<u32x8, u32x4>>, M>(
+            params, first, groups, chunks, rows, scratch, cores,
+        ),
+        _ => mix_groups::<Diagonal<Both<u32x8, u32x8>>, M>(
+            params, first, groups, chunks, rows, scratch, cores,
+        ),
+    }
+}
+
+// Mixes so many groups from `first` on, each of as many chunks as `O` holds blocks.
+fn mix_groups<O: Order, M: Memory>(
+    params: &Params,
+    first: usize,
+    groups: usize,
+    chunks: &mut [u8],
+    rows: &mut M,
+    scratch: &mut [u32],
+    cores: &mut CoreCount,
+)
+    requires inside { (first + groups * O.count) * (128 * params.now.r) ≤ length chunks.old }
+    requires table { O.count * table_words params.now.log_n params.now.r ≤ M.room rows.old }
+    requires scratch { O.count * scratch_words params.now.r ≤ length scratch.old }
+    ensures mixed { (b : List ℕ) → AreMixed b params.now.log_n params.now.r first chunks.old
+        → AreMixed b params.now.log_n params.now.r (first + groups * O.count) chunks.new }
+    ensures room { M.room rows.old ≤ M.room rows.new }
+    ensures counted { AreCountedAs O.simd (ro_mix_cost params.now.log_n params.now.r * (groups * O.count))
+        cores.old cores.new }
+{
+    params.known();
+    'groups: for k in 0..groups {
+        let i = first + k * O::count();
+        mix_group::<O, M>(params, 0, i, chunks, rows, scratch, cores);
+    }
+}
+
+/// Each of the `p` chunks becomes its scryptROMix, one after another, with a table that keeps one row in `2^s`.
+pub(crate) fn mix_thin<M: Memory>(
+    params: &Params,
+    s: u8,
+    chunks: &mut [u8],
+    rows: &mut M,
+    scratch: &mut [u32],
+    cores: &mut CoreCount,
+)
+    requires chunks { length chunks.old ≡ chunks_bytes params.now.r params.now.p }
+    requires memory { HasRoom params.now s (M.room rows.old) (length scratch.old) }
+    ensures value { chunks.new ≡ mixed_chunks chunks.old params.now.log_n params.now.r params.now.p }
+    ensures counted { AreCounted (thin_chunks_cost chunks.old params.now.log_n params.now.r params.now.p s)
+        cores.old cores.new }
+{
+    'chunks: for i in 0..params.p() as usize {
+        mix_group::<Diagonal<u32x4>, M>(params, s, i, chunks, rows, scratch, cores);
+    }
+}
+
+// Mixes the group of chunks from `i` on, as many as `O` holds blocks: B[i] = scryptROMix (r, B[i], N) for each.
+fn mix_group<O: Order, M: Memory>(
+    params: &Params,
+    s: u8,
+    i: usize,
+    chunks: &mut [u8],
+    rows: &mut M,
+    scratch: &mut [u32],
+    cores: &mut CoreCount,
+)
+    requires inside { i * (128 * params.now.r) + O.count * (128 * params.now.r) ≤ length chunks.old }
+    requires alone { 0 < s → O.count ≡ 1 }
+    requires spacing { s ≤ params.now.log_n }
+    requires table { O.count * table_words (params.now.log_n - s) params.now.r ≤ M.room rows.old }
+    requires scratch { O.count * scratch_words params.now.r ≤ length scratch.old }
+    requires spare { 0 < s → thin_scratch_words params.now.r ≤ length scratch.old }
+    ensures mixed { (b : List ℕ) → AreMixed b params.now.log_n params.now.r i chunks.old
+        → AreMixed b params.now.log_n params.now.r (i + O.count) chunks.new }
+    ensures room { M.room rows.old ≤ M.room rows.new }
+    ensures counted { AreCountedAs O.simd (O.count
+        * thin_ro_mix_cost (words_of (part (128 * params.now.r) (drop (i * (128 * params.now.r)) chunks.old) 0)) params.now.log_n s params.now.r)
+        cores.old cores.new }
+{
+    params.known();
+    let r = params.r() as usize;
+    let at = i * (128 * r);
+    let len = O::count() * (128 * r);
+    romix::mix_chunks::<O, M>(
+        &mut chunks[at..at + len],
+        r,
+        rows,
+        scratch,
+        params.log_n(),
+        s,
+        cores,
+    );
+}
