@@ -98,7 +98,7 @@ def written(share):
 LINES = [
     ("scrypt_tool ", {"hash", "key", "rehash", "verify", *options()}),
     ("scrypt_tool --ver", {"--version"}),
-    ("scrypt_tool --no-limits ver", {"verify"}),
+    ("scrypt_tool --usual-limits ver", {"verify"}),
     ("scrypt_tool --most-work=192 --least-key-len=10 rehash ", {"mcf", "phc"}),
     ("scrypt_tool ha", {"hash"}),
     ("scrypt_tool hash ", {"mcf", "phc"}),

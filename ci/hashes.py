@@ -151,7 +151,7 @@ def main():
     # Beginnings are not judged by their keys: a shorter one is the beginning of PHC's, and the empty password is wrong.
     cut = [(PHC[:at], hostile.verdict(PHC[:at], lambda *_: "PasswordInvalid")) for at in range(len(PHC))]
     texts = [*cut, *long, *((text, "EncodingInvalid") for text, _ in UNREAD)]
-    within = [(text, "TooCostly") for text in known.costly()]
+    within = [(text, hostile.verdict(text, hostile.compared_within)) for text in known.costly()]
     cases = verified(tool), made(tool), by_line(texts, program), by_line(within, program, "within")
     _, wrong = runs.report("hashes", itertools.chain(*cases))
     sys.exit(1 if wrong else 0)

@@ -8,6 +8,7 @@ compare/known.py.
 usage: program.py PROGRAM
 """
 
+import hashlib
 import itertools
 import os
 import subprocess
@@ -27,8 +28,19 @@ USAGE = (
     "usage: key LOG_N R P LEN SALT_HEX | hash phc|mcf LOG_N R P SALT_HEX [LEN] | verify HASH"
     " | rehash phc|mcf LOG_N R P LEN SALT_HEX HASH"
 )
-TOO_COSTLY = "hash refused: TooCostly, it needs more than --most-bytes or --most-work allows"
-KEY_TOO_SHORT = "hash refused: KeyTooShort, its key is shorter than --least-key-len allows"
+MISFIT = "an option is unknown, or does not fit the command: see --help"
+# By default 257 MiB, four times the work of (17, 8, 1), and keys of 16 bytes.
+USUAL_BYTES, USUAL_WORK = 269484032, 16781312
+
+
+def too_costly(needed, work, most_bytes=USUAL_BYTES, most_work=USUAL_WORK):
+    return f"hash refused: TooCostly, it needs {needed} bytes and work {work}, and --most-bytes is {most_bytes} and --most-work {most_work}"
+
+
+def key_too_short(key_len, least):
+    return f"hash refused: KeyTooShort, its key has {key_len} bytes, and --least-key-len is {least}"
+
+
 PASSLIB_SALT_AND_KEY = PASSLIB[PASSLIB.index("$aM") :]
 
 # Each row has the words between single blanks, the input, the status, the line, and the reason for the row.
@@ -47,25 +59,29 @@ ANSWERS = [
     ("hash mcf 14 32 1 986d90d343e07e4f7e00864f03040bf3", "pleaseletmein", 0, CRYPT, "libxcrypt's hash"),
     (f"verify {PASSLIB}", "password", 0, "ok", "the password of a PHC hash"),
     (f"verify {PASSLIB}", "invalid", 1, "no", "another password"),
-    (f"--least-key-len=10 verify {SHORT}", "pleaseletmein\n", 1, "no", "the password and a newline"),
+    (f"verify {SHORT}", "pleaseletmein\n", 1, "no", "the password and a newline"),
     ("verify $scrypt$ln=4$aA", "password", 1, "no", "without a key no password is right"),
     (f"verify {EMPTY}", "", 0, "ok", "the password of a `$7$` hash"),
     ("verify $7$86..../....sålt-ключ-塩$JBBPPL5zOCwvCfq6A/PJLkQvgCyERPLs/BfvPFtvhT4", "pässword", 0, "ok",
      "a salt that is not ASCII, by Python's hashlib"),
     (f"verify {EMPTY}", "\n", 1, "no", "another password"),
-    ("--least-key-len=1 verify $7$2/..../....$r/", "", 0, "ok", "a shorter key is the beginning of a longer one"),
+    ("verify $7$2/..../....$r/", "", 0, "ok", "a shorter key is the beginning of a longer one"),
     (f"verify {PLAIN}", "pleaseletmein", 0, "ok", "a salt may be a plain text"),
 ]
 
 # Each fault but those of hashes that are verified (ci/hashes.py), and lines that are not commands.
 FAULTS = [
     ("key 04 1 1 64 ", "", 2, USAGE, "a number with a leading zero"),
-    (f"--most-work=01 verify {EMPTY}", "", 2, USAGE, "the same in an option"),
-    (f"--most-work= verify {EMPTY}", "", 2, USAGE, "no number"),
-    (f"--most-bytes=18446744073709551616 verify {EMPTY}", "", 2, USAGE, "a number of 2^64"),
-    (f"--most-work 192 verify {EMPTY}", "", 2, USAGE, "a number in an argument of its own"),
-    (f"verify --no-limits {EMPTY}", "", 2, USAGE, "an option after the command"),
-    ("hash phc 4 1", "", 2, USAGE, "no salt is drawn for fewer arguments"),
+    (f"--most-work=01 verify {EMPTY}", "", 2, MISFIT, "the same in an option"),
+    (f"--most-work= verify {EMPTY}", "", 2, MISFIT, "no number"),
+    (f"--most-bytes=18446744073709551616 verify {EMPTY}", "", 2, MISFIT, "a number of 2^64"),
+    (f"--most-work 192 verify {EMPTY}", "", 2, MISFIT, "a number in an argument of its own"),
+    (f"verify --usual-limits {EMPTY}", "", 2, USAGE, "an option after the command"),
+    ("hash phc 4 1 1", "", 2, USAGE, "no salt is drawn without an option"),
+    (f"--no-limits verify {EMPTY}", "", 2, MISFIT, "an unknown option"),
+    ("--", "", 2, MISFIT, "the same"),
+    (f"--usual-limits --most verify {EMPTY}", "", 2, MISFIT, "the same after another one"),
+    (f"-- verify {EMPTY}", "", 2, MISFIT, "options have no end of their own"),
     ("key 4 1 1 16", "", 2, USAGE, "nor for a key"),
     ("hash md5 4 1 1 00", "", 2, USAGE, "no command"),
     ("key 4 1 1 64 0", "", 2, "salt is not hexadecimal", "half a byte of salt"),
@@ -77,7 +93,7 @@ FAULTS = [
     ("hash phc 4 1 1 " + "00" * 65, "", 2, "hash refused: SaltInvalid", "a salt of 65 bytes"),
     ("key 56 1 1 32 ", "", 3, "out of memory", "a table of 2^63 bytes"),
     ("hash phc 56 1 1 00", "", 3, "out of memory", "the same for a hash"),
-    ("--no-limits verify $7$s/..../....$r/", "", 3, "out of memory", "the same for a verdict"),
+    ("verify $7$s/..../....$r/", "", 3, "out of memory", "the same for a verdict"),
     (f"rehash mcf 56 1 1 32  {EMPTY}", "", 3, "out of memory", "the same for a new hash"),
 ]
 
@@ -104,29 +120,53 @@ REHASHES = [
 # work 4 * (16 + 32).
 LIMITS = [
     (f"--most-bytes=2432 verify {EMPTY}", "", 0, "ok", "as much memory as is allowed"),
-    (f"--most-bytes=2431 verify {EMPTY}", "", 2, TOO_COSTLY, "a byte more"),
+    (f"--most-bytes=2431 verify {EMPTY}", "", 2, too_costly(2432, 192, most_bytes=2431), "a byte more"),
     (f"--most-work=192 verify {EMPTY}", "", 0, "ok", "as much work as is allowed"),
-    (f"--most-work=191 verify {EMPTY}", "", 2, TOO_COSTLY, "more work"),
+    (f"--most-work=191 verify {EMPTY}", "", 2, too_costly(2432, 192, most_work=191), "more work"),
     (f"--least-key-len=32 verify {EMPTY}", "", 0, "ok", "as short a key as is allowed"),
-    (f"--least-key-len=33 verify {EMPTY}", "", 2, KEY_TOO_SHORT, "a shorter key"),
-    (f"--most-bytes=2432 --most-work=191 verify {EMPTY}", "", 2, TOO_COSTLY, "two options"),
+    (f"--least-key-len=33 verify {EMPTY}", "", 2, key_too_short(32, 33), "a shorter key"),
+    (f"--most-bytes=2432 --most-work=191 verify {EMPTY}", "", 2, too_costly(2432, 192, 2432, 191), "two options"),
     (f"--most-work=191 --most-work=192 verify {EMPTY}", "", 0, "ok", "a later option overrides an earlier one"),
     (f"--most-work=191 --usual-limits verify {EMPTY}", "", 0, "ok", "so does one for all of them"),
-    (f"--most-work=191 --no-limits verify {EMPTY}", "", 0, "ok", "and the one for none"),
-    ("--no-limits --most-work=192 verify $7$2/..../....$r/", "", 2, KEY_TOO_SHORT, "the others are the usual ones"),
-    (f"verify $scrypt$ln=17,r=8,p=5{PASSLIB_SALT_AND_KEY}", "", 2, TOO_COSTLY, "five times the usual work"),
-    (f"verify $scrypt$ln=18,r=8,p=1{PASSLIB_SALT_AND_KEY}", "", 2, TOO_COSTLY, "more than 256 MiB"),
-    ("verify $7$s/..../....$r/", "", 2, TOO_COSTLY, "a table of 2^63 bytes"),
-    (f"verify {SHORT}", "", 2, KEY_TOO_SHORT, "a key of 10 bytes"),
+    ("--most-work=192 verify $7$2/..../....$r/", "", 2, key_too_short(1, 16), "the others are the usual ones"),
+    (f"--usual-limits verify $scrypt$ln=17,r=8,p=5{PASSLIB_SALT_AND_KEY}", "", 2, too_costly(134224896, 20976640),
+     "five times the recommended work"),
+    (f"--usual-limits verify $scrypt$ln=19,r=8,p=1{PASSLIB_SALT_AND_KEY}", "", 2, too_costly(536873984, 16778240),
+     "more than 257 MiB"),
+    ("--usual-limits verify $7$s/..../....$r/", "", 2, too_costly(9223372036854776192, 288230376151711872),
+     "a table of 2^63 bytes"),
+    (f"--usual-limits verify {SHORT}", "", 2, key_too_short(10, 16), "a key of 10 bytes"),
     ("--most-work=1 verify $scrypt$ln=4$aA", "", 1, "no", "a hash without a key is not verified"),
     ("--most-work=1 verify $argon2id$ln=4$aA", "", 2, "hash refused: Algorithm", "one that cannot be read comes first"),
     (f"--most-work=191 rehash phc 4 1 1 32 00 {EMPTY}", "", 0, "ok", "rehash may do the work of a new hash"),
     (f"--most-bytes=2431 rehash phc 4 1 1 32 00 {EMPTY}", "", 0, "ok", "and take its memory"),
-    (f"--most-work=191 rehash phc 3 1 1 32 00 {EMPTY}", "", 2, TOO_COSTLY, "which here is less"),
-    (f"--most-bytes=2431 rehash phc 3 1 1 32 00 {EMPTY}", "", 2, TOO_COSTLY, "here too"),
-    (f"--least-key-len=33 rehash phc 4 1 1 32 00 {EMPTY}", "", 2, KEY_TOO_SHORT, "a shorter key, if a length is named"),
-    ("--most-work=1 key 4 1 1 16 ", "x" * 5000, 0, "19e0dd858b21a85d5233e34f8025c066", "a key has no limits"),
+    (f"--most-work=191 rehash phc 3 1 1 32 00 {EMPTY}", "", 2, too_costly(2432, 192, most_work=191), "which here is less"),
+    (f"--most-bytes=2431 rehash phc 3 1 1 32 00 {EMPTY}", "", 2, too_costly(2432, 192, most_bytes=2431), "here too"),
+    (f"--least-key-len=33 rehash phc 4 1 1 32 00 {EMPTY}", "", 2, key_too_short(32, 33), "a shorter key, if a length is named"),
 ]
+
+# Each option before each command that it does not fit, and the passwords that --strip-newline leaves.
+OPTIONS = [
+    *((f"{limit} {command}", "", 2, MISFIT, "limits are those of verify and rehash")
+      for limit in ("--usual-limits", "--most-bytes=1", "--most-work=1", "--least-key-len=1")
+      for command in ("key 4 1 1 16 ", "hash phc 4 1 1 00")),
+    ("--draw-salt key 4 1 1 16", "", 2, MISFIT, "the salt of a key is named"),
+    (f"--draw-salt verify {EMPTY}", "", 2, MISFIT, "a verdict has no salt"),
+    ("--recommended key 16", "", 2, MISFIT, "the recommended parameters are those of a hash"),
+    (f"--recommended verify {EMPTY}", "", 2, MISFIT, "the same"),
+    (f"--recommended rehash phc 32 {EMPTY}", "", 2, MISFIT, "the same"),
+    ("--recommended hash phc 17 8 1", "", 2, USAGE, "they are not named"),
+    ("--draw-salt hash phc 4 1", "", 2, USAGE, "fewer arguments"),
+    (f"--draw-salt rehash phc 4 1 1 32 {EMPTY}", "", 0, "ok", "a salt that is not needed"),
+    *((f"--strip-newline verify {EMPTY}", text, status, line, "one newline is cut off")
+      for text, status, line in (("", 0, "ok"), ("\n", 0, "ok"), ("\r\n", 0, "ok"), ("\n\n", 1, "no"), ("\r", 1, "no"))),
+    ("--strip-newline key 4 1 1 64 ", "\n", 0, FIRST_KEY, "the same for a key"),
+    ("--strip-newline hash mcf 4 1 1 ", "\n", 0, EMPTY, "and for a hash"),
+    (f"--strip-newline rehash mcf 4 1 1 64  {EMPTY}", "\n", 0, LONG, "and for a new hash"),
+]
+
+# Passwords of some bytes, whose keys are compared with hashlib's: the input is read whole, however long it is.
+LONG_PASSWORDS = [(1_000_001, "more than a million bytes"), (100_000_001, "more than 100,000 reads of 1,024 bytes")]
 
 # One command of each kind, which all answer an empty password with status 0.
 STREAM_COMMANDS = ["key 4 1 1 64 ", "hash phc 4 1 1 00", "hash mcf 4 1 1 ", f"verify {EMPTY_PHC}", f"verify {EMPTY}"]
@@ -143,15 +183,22 @@ STREAMS = [
 # Parameters whose chunks take 2 GiB, and whose table is refused: log_n is 56, r is 1 and p is 2^24. Nothing is written
 # before everything is allocated, so that the run touches little memory. Each row has a bound on the addresses of the
 # run, and the reason for the row.
-REFUSED_TABLE = "--no-limits verify $7$s/......../$r/"
+REFUSED_TABLE = "verify $7$s/......../$r/"
 MOST_TOUCHED = 64 << 20
 ADDRESSES = [("unlimited", "there is room for the chunks"), (1 << 30, "there is none")]
 
 
 def rows(program):
-    for line, text, status, printed, reason in ANSWERS + FAULTS + REHASHES + LIMITS:
+    for line, text, status, printed, reason in ANSWERS + FAULTS + REHASHES + LIMITS + OPTIONS:
         wanted = (status, f"{printed}\n", "") if status < 2 else (status, "", f"{printed}\n")
         yield f"{line!r} ({reason})", run([program, *line.split(" ")], text.encode()), wanted
+
+
+def long_passwords(program):
+    for length, reason in LONG_PASSWORDS:
+        password = bytes(length)
+        key = hashlib.scrypt(password, salt=b"", n=16, r=1, p=1, dklen=16)
+        yield f"a password of {length} bytes ({reason})", run([program, *"key 4 1 1 16 ".split(" ")], password), (0, f"{key.hex()}\n", "")
 
 
 def without_reader(words):
@@ -197,12 +244,12 @@ def memory(program):
 
 
 def salts(program):
-    """Hashes without a salt have different ones of 16 bytes, and accept their passwords; without random bytes, none is
+    """Hashes whose salt is drawn have different ones of 16 bytes, and accept their passwords; without random bytes, none is
     made."""
     drawn = set()
     # The salt of a `$7$` text has its 11 letters of the parameters before it.
     for form, letters in (("phc", 22), ("mcf", 33)) * 2:
-        status, line, _ = run([program, "hash", form, "4", "1", "1"], b"password")
+        status, line, _ = run([program, "--draw-salt", "hash", form, "4", "1", "1"], b"password")
         salt = line.split("$")[-2]
         drawn.add(salt)
         verified = run([program, "verify", line.strip()], b"password")
@@ -210,7 +257,7 @@ def salts(program):
     yield "drawn salts differ", len(drawn), 4
     if runs.COMPILER:
         with runs.failing_calls() as library:
-            hashed = run([program, "hash", "phc", "4", "1", "1"], env={"LD_PRELOAD": library})
+            hashed = run([program, "--draw-salt", "hash", "phc", "4", "1", "1"], env={"LD_PRELOAD": library})
             verified = run([program, "verify", EMPTY], env={"LD_PRELOAD": library})
         yield "no salt can be drawn", hashed, (3, "", "no salt can be drawn\n")
         yield "none is needed", verified, runs.OK
@@ -219,8 +266,8 @@ def salts(program):
 def information(program):
     yield "--version", run([program, "--version"]), (0, f"{prompt.VERSION}\n", "")
     status, text, error = run([program, "--help"])
-    # The usage line has each command as the help has it, which makes the salt of hash optional.
-    named = USAGE.removeprefix("usage: ").replace("SALT_HEX [LEN]", "[SALT_HEX [LEN]]").split(" | ")
+    # The usage line has each command as the help has it.
+    named = USAGE.removeprefix("usage: ").split(" | ")
     missing = set(named) - {it.strip() for it in text.splitlines()}
     yield "--help", (status, missing, error), (0, set(), "")
 
@@ -236,7 +283,8 @@ def terminal(program):
 
 
 def main():
-    parts = [rows, streams, memory, salts, information, terminal]
+    # What a program touches counts what this one has before, so that this is first.
+    parts = [memory, rows, long_passwords, streams, salts, information, terminal]
     _, wrong = runs.report("program", itertools.chain(*(part(sys.argv[1]) for part in parts)))
     sys.exit(1 if wrong else 0)
 

@@ -3,9 +3,12 @@
 import os
 import signal
 import subprocess
+import sys
 import tempfile
+import time
 
 from known import HASHLIB
+from runs import OK
 from terminal import session
 
 TOP = os.path.join(os.path.dirname(os.path.abspath(__file__)), "..")
@@ -23,7 +26,7 @@ ENDING = signal.valid_signals() - {getattr(signal, f"SIG{it}") for it in OTHERS}
 ROWS = [
     (KEY, ["password\n"], 0, [*ONCE, "d33c6ec1818daaf728f55afadfeaa558"], "a key is asked for once"),
     (HASH, ["password\n"] * 2, 0, [*TWICE, HASHLIB], "a hash twice"),
-    (HASH, ["password\n", "passwort\n"], 4, [*TWICE, "The passwords differ.", "input failed"], "two that differ"),
+    (HASH, ["password\n", "passwort\n"], 4, [*TWICE, "The passwords differ."], "two that differ"),
     (HASH, ["password\n", "\x04"], 4, [*TWICE, "input failed"], "no second one"),
     (f"--most-work=192 {VERIFY}", ["password\n"], 0, [*ONCE, "ok"], "after an option"),
     (VERIFY, ["\n"], 1, [*ONCE, "no"], "an empty one"),
@@ -44,10 +47,29 @@ ROWS = [
 ]
 
 
+def non_blocking(words, parts):
+    """How a run ends whose input is a pipe that does not block, which gets each part after some time."""
+    read, write = os.pipe()
+    os.set_blocking(read, False)
+    ran = subprocess.Popen(words, stdin=read, stdout=subprocess.PIPE, stderr=subprocess.PIPE, text=True)
+    os.close(read)
+    for part in parts:
+        time.sleep(0.1)
+        os.write(write, part)
+    os.close(write)
+    return ran.wait(), ran.stdout.read(), ran.stderr.read()
+
+
 def cases(program):
     """Each row, by the program that is linked from the proved one. The echo is off at each question, and on again."""
     with tempfile.TemporaryDirectory() as folder:
         subprocess.run([f"{TOP}/bindings/terminal/build.sh", program, f"{folder}/scrypt_tool"], check=True)
+        subprocess.run([f"{TOP}/release/hardened.sh", f"{folder}/scrypt_tool"], check=True)
+        words = [f"{folder}/scrypt_tool", *VERIFY.split(" ")]
+        yield "a pipe that does not block", non_blocking(words, [b"pass", b"word"]), OK
+        run = "import os, sys; os.set_blocking(0, False); os.execv(sys.argv[1], sys.argv[1:])"
+        status, shown, _ = session([sys.executable, "-c", run, *words], [b"password\n"])
+        yield "a terminal that does not block", (status, shown), (0, b"Password: \r\nok\r\n")
         for words, typed, status, lines, reason in ROWS:
             answers = [it if isinstance(it, int) else it.encode() for it in typed]
             ended, shown, echo = session([f"{folder}/scrypt_tool", *words.split(" ")], answers)

@@ -3,17 +3,17 @@
 # usage: build.sh                   links build/bin/scrypt_tool
 #        build.sh PROGRAM OUTPUT    PROGRAM is crates/scrypt_tool/out/scrypt_tool, which has its object beside it
 set -eu
+unset CDPATH
 folder=$(dirname "$0")
 if [ $# = 0 ]; then
   cd "$folder/../.."
-  python3 -B release/linked.py begin terminal
-  bindings/terminal/build.sh crates/scrypt_tool/out/scrypt_tool build/bin/scrypt_tool
-  exec python3 -B release/linked.py end terminal
+  exec bindings/terminal/build.sh crates/scrypt_tool/out/scrypt_tool build/bin/scrypt_tool
 fi
 kit=$(dirname "$(rt doc)")
 object=$(mktemp --suffix=.o)
 trap 'rm -f "$object"' EXIT
 objcopy --redefine-sym read=read_or_ask "$1.o" "$object"
 mkdir -p "$(dirname "$2")"
-${CC:-cc} -std=gnu99 -O2 -Wall -Wextra -Wl,-z,relro -Wl,-z,now -o "$2" \
+${CC:-cc} -std=gnu99 -O2 -Wall -Wextra -fstack-protector-strong -U_FORTIFY_SOURCE -D_FORTIFY_SOURCE=2 \
+  -Wl,-z,relro -Wl,-z,now -o "$2" \
   "$object" "$folder/terminal.c" "$kit/c/libos_c.a" "$kit/c/liblibc_c.a"

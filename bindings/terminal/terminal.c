@@ -1,6 +1,7 @@
 /* Asks for the password of scrypt_tool at a terminal, without echo. The proved program reads its standard input by a
    function of this name: build.sh renames it. This file is tested and not proved. */
 #include <errno.h>
+#include <poll.h>
 #include <setjmp.h>
 #include <signal.h>
 #include <string.h>
@@ -11,6 +12,9 @@ ssize_t read_or_ask(int fd, void *buffer, size_t len);
 
 enum { LINE = 4096 }; /* the longest line that Linux takes from a terminal, with its newline; it cuts longer ones to that */
 
+enum { INPUT_FAILED = 4 }; /* the status of the program when it can't read its input */
+
+static int differ;  /* whether two passwords were typed that differ */
 static int is_hash; /* whether the command is `hash`, whose password is asked for twice */
 static volatile sig_atomic_t caught;
 static sigset_t callers; /* the signals that are blocked but for the time of a question, when all are */
@@ -42,12 +46,22 @@ static int only_stops(int signal) {
 /* Whether a signal does nothing to a program that doesn't handle it. */
 static int does_nothing(int signal) { return signal == SIGCHLD || signal == SIGURG || signal == SIGWINCH; }
 
+/* As read(2), but waits for input if another program has set the terminal or the pipe to non-blocking. */
+static ssize_t read_blocking(int fd, void *buffer, size_t len) {
+  for (;;) {
+    ssize_t got = read(fd, buffer, len);
+    if (got >= 0 || (errno != EAGAIN && errno != EWOULDBLOCK)) return got;
+    struct pollfd input = {fd, POLLIN, 0};
+    if (poll(&input, 1, -1) < 0 && errno != EINTR) return -1;
+  }
+}
+
 /* As read(2) of a line, or -1 on a signal, which is handled nowhere else. */
 static ssize_t read_line(char *line) {
   sigset_t blocked;
   if (caught || sigsetjmp(without_line, 1) != 0) return -1;
   sigprocmask(SIG_SETMASK, &callers, &blocked);
-  ssize_t len = read(STDIN_FILENO, line, LINE);
+  ssize_t len = read_blocking(STDIN_FILENO, line, LINE);
   sigprocmask(SIG_SETMASK, &blocked, NULL);
   return len;
 }
@@ -77,7 +91,8 @@ static ssize_t password_of(char *line) {
   char again[LINE];
   ssize_t second = line_of("The same again: ", again);
   int same = second == len && memcmp(line, again, (size_t)len) == 0;
-  if (second >= 0 && !same) say("The passwords differ.\n");
+  differ = second >= 0 && !same;
+  if (differ) say("The passwords differ.\n");
   explicit_bzero(again, sizeof again);
   return same ? len : -1;
 }
@@ -118,16 +133,17 @@ static ssize_t ask(char *line) {
   return len;
 }
 
-/* Like read(2), but the first read from a terminal asks for the password and returns it, and later ones return its end. */
+/* Like read_blocking, but the first read from a terminal asks for the password and returns it, and later ones return its end. */
 ssize_t read_or_ask(int fd, void *buffer, size_t len) {
   static char line[LINE];
   static ssize_t rest = -2; /* how much of the line is left; -2 before it was asked for, and -1 if that failed */
   static char *next = line;
-  if (fd != STDIN_FILENO || (rest == -2 && !isatty(fd))) return read(fd, buffer, len);
+  if (fd != STDIN_FILENO || (rest == -2 && !isatty(fd))) return read_blocking(fd, buffer, len);
   if (rest == -2) {
     do rest = ask(line);
     while (rest < 0 && only_stops(caught)); /* or the shell would read the password that is typed next */
   }
+  if (differ) _exit(INPUT_FAILED); /* the proved program would say that its input failed, which did not */
   if (rest < 0) {
     errno = EIO; /* not EINTR, which a reader may try again */
     return -1;

@@ -5,6 +5,7 @@ use crate::streams::Page;
 use scrypt_commands::run::run;
 use std::test::Fail;
 use test_support::failing_allocations::{CallEnd, failing_allocations};
+use test_support::holds;
 
 // What each line of COMMANDS allocates, in bytes, up to the derivation and with it: the salt, the
 // input, the key or the text, and then the chunks, the table and the scratch; a new hash of twice the
@@ -44,7 +45,7 @@ fn allocations_of_every_command(rt: HostRuntime) -> Result<(), Fail> {
                 CallEnd::Otherwise
             }
         })?;
-        assert_eq!(rt; allocations, sizes.len(), "{command}");
+        holds(allocations == sizes.len(), command)?;
     }
     Ok(())
 }

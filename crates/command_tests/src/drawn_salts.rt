@@ -1,10 +1,12 @@
-// Salts that sources of the tests give.
+// Options before a command, and the salts that sources of the tests give.
 
 use crate::runs::words_of;
-use scrypt_commands::defaults::complete;
+use crate::streams::Page;
+use scrypt_commands::with_options::run_with_options;
 use std::io;
 use std::random::RandomSource;
 use std::test::Fail;
+use test_support::holds;
 
 // A source that gives the bytes 0, 1, 2 and so on.
 struct Counting;
@@ -29,48 +31,58 @@ impl RandomSource for Broken {
     }
 }
 
-// A command line, what it becomes, and the reason for the row.
+// A command line with options, the command line that prints the same with no input, and the reason
+// for the row.
 const LINES: [(&str, &str, &str); 4] = [
     (
-        "hash phc 17 8 1",
-        "--usual-limits hash phc 17 8 1 000102030405060708090a0b0c0d0e0f",
+        "--draw-salt hash phc 4 1 1",
+        "hash phc 4 1 1 000102030405060708090a0b0c0d0e0f",
         "the bytes of the source are the salt",
     ),
     (
-        "--no-limits hash mcf 4 1 1",
-        "--usual-limits --no-limits hash mcf 4 1 1 000102030405060708090a0b0c0d0e0f",
-        "an option before the command",
+        "--draw-salt hash mcf 4 1 1 64",
+        "hash mcf 4 1 1 000102030405060708090a0b0c0d0e0f 64",
+        "a length after a salt that is drawn",
     ),
     (
-        "hash phc 17 8 1 ",
-        "--usual-limits hash phc 17 8 1 ",
-        "an empty salt is one",
+        "--draw-salt rehash mcf 4 1 1 32 $7$2/..../....$r/",
+        "rehash mcf 4 1 1 32 000102030405060708090a0b0c0d0e0f $7$2/..../....$r/",
+        "a new hash with a salt that is drawn",
     ),
     (
-        "key 4 1 1 16",
-        "--usual-limits key 4 1 1 16",
-        "another command has none",
+        "--usual-limits --least-key-len=1 verify $7$2/..../....$r/",
+        "verify $7$2/..../....$r/",
+        "a hash within limits",
     ),
 ];
 
 #[test]
 fn salts_of_a_source(rt: HostRuntime) -> Result<(), Fail> {
-    for &(line, wanted, reason) in &LINES {
-        let made = complete(rt.alloc(), &Counting, words_of(rt.alloc(), line)?)?;
-        assert!(rt;
-            made.as_slice() == words_of(rt.alloc(), wanted)?.as_slice(),
-            "{reason}"
-        );
+    let alloc = rt.alloc();
+    for &(line, same, reason) in &LINES {
+        let (mut output, mut faults) = (Page::new(), Page::new());
+        let words = words_of(alloc, line)?;
+        let input = &mut b"".as_slice();
+        let ended = run_with_options(alloc, &Counting, &words, input, &mut output, &mut faults)?;
+        holds(ended.status == 0, reason)?;
+        let (mut wanted, mut no_faults) = (Page::new(), Page::new());
+        let words = words_of(alloc, same)?;
+        let input = &mut b"".as_slice();
+        run_with_options(alloc, &Broken, &words, input, &mut wanted, &mut no_faults)?;
+        holds(output.text() == wanted.text(), reason)?;
     }
     Ok(())
 }
 
 #[test]
 fn source_that_fails(rt: HostRuntime) -> Result<(), Fail> {
-    for &(line, wanted, reason) in &LINES {
-        let made = complete(rt.alloc(), &Broken, words_of(rt.alloc(), line)?);
-        let draws = wanted.ends_with("0e0f");
-        assert!(rt; made.is_err() == draws, "{reason}");
+    let alloc = rt.alloc();
+    for &(line, _, reason) in &LINES {
+        let (mut output, mut faults) = (Page::new(), Page::new());
+        let words = words_of(alloc, line)?;
+        let input = &mut b"".as_slice();
+        let ended = run_with_options(alloc, &Broken, &words, input, &mut output, &mut faults);
+        holds(ended.is_err() == line.starts_with("--draw-salt"), reason)?;
     }
     Ok(())
 }

@@ -2,9 +2,10 @@
 
 use crate::runs::{COMMANDS, DONE, run_line, run_over};
 use crate::streams::{Calls, CountedPage, Input, Page};
-use scrypt_commands::run::Exit;
+use scrypt_commands::run::Ended;
 use std::io::ErrorKind;
 use std::test::Fail;
+use test_support::holds;
 
 // A command line, the reader's bytes before it fails if it does, the status, the fault line, and the
 // reason for the row.
@@ -53,12 +54,19 @@ const FAULTS: [(&str, Option<&[u8]>, u8, &str, &str); 6] = [
     ),
 ];
 
-// How a run ends whose fault line can't be written.
-fn ended(status: u8, input_failed: bool) -> Exit {
-    Exit {
+fn ended(status: u8, input_failed: bool, fault_told: bool) -> Ended {
+    Ended {
         status,
         input_failed,
-        error_written: false,
+        fault_told,
+    }
+}
+
+// No input, or a reader that fails after these bytes.
+fn input_of(failing: Option<&[u8]>) -> Input<'_> {
+    match failing {
+        Some(bytes) => Input::failing(bytes, ErrorKind::Other),
+        None => Input::new(b"", usize::MAX),
     }
 }
 
@@ -67,15 +75,12 @@ fn ended(status: u8, input_failed: bool) -> Exit {
 fn fault_writers_that_fail(rt: HostRuntime) -> Result<(), Fail> {
     for &(line, failing, status, fault, reason) in &FAULTS {
         for call in 0..fault.len() {
-            let mut input = match failing {
-                Some(bytes) => Input::failing(bytes, ErrorKind::Other),
-                None => Input::new(b"", usize::MAX),
-            };
+            let mut input = input_of(failing);
             let faults = Page::failing(1, call);
             let printed = run_line(rt.alloc(), line, &mut input, Page::new(), faults)?;
             assert!(rt;
                 printed.is(
-                    ended(status, failing.is_some()),
+                    ended(status, failing.is_some(), false),
                     "",
                     fault.get(..call).unwrap_or("")
                 ),
@@ -105,13 +110,12 @@ fn calls_of_a_good_run(rt: HostRuntime) -> Result<(), Fail> {
         let (mut output, mut faults) = (CountedPage::new(), CountedPage::new());
         let input = &mut b"password".as_slice();
         let ended = run_over(rt.alloc(), line, input, &mut output, &mut faults)?;
-        assert_eq!(rt; ended, Exit { status, ..DONE }, "{command}");
-        assert_eq!(rt;
-            (output.calls, faults.calls),
-            (FLUSHED_LINE, NO_CALLS),
-            "{command}"
-        );
-        assert_eq!(rt; output.page.text(), written.as_bytes(), "{command}");
+        holds(ended == Ended { status, ..DONE }, command)?;
+        holds(
+            (output.calls, faults.calls) == (FLUSHED_LINE, NO_CALLS),
+            command,
+        )?;
+        holds(output.page.text() == written.as_bytes(), command)?;
     }
     Ok(())
 }
@@ -120,18 +124,11 @@ fn calls_of_a_good_run(rt: HostRuntime) -> Result<(), Fail> {
 fn calls_of_a_refusal(rt: HostRuntime) -> Result<(), Fail> {
     for &(line, failing, status, fault, reason) in &FAULTS {
         let (mut output, mut faults) = (CountedPage::new(), CountedPage::new());
-        let mut input = match failing {
-            Some(bytes) => Input::failing(bytes, ErrorKind::Other),
-            None => Input::new(b"", usize::MAX),
-        };
+        let mut input = input_of(failing);
         let result = run_over(rt.alloc(), line, &mut input, &mut output, &mut faults)?;
-        let wanted = Exit {
-            error_written: true,
-            ..ended(status, failing.is_some())
-        };
-        assert_eq!(rt; result, wanted, "{reason}");
-        assert_eq!(rt; (output.calls, faults.calls), (NO_CALLS, LINE), "{reason}");
-        assert_eq!(rt; faults.page.text(), fault.as_bytes(), "{reason}");
+        holds(result == ended(status, failing.is_some(), true), reason)?;
+        holds((output.calls, faults.calls) == (NO_CALLS, LINE), reason)?;
+        holds(faults.page.text() == fault.as_bytes(), reason)?;
     }
     Ok(())
 }

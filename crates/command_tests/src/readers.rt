@@ -2,9 +2,10 @@
 
 use crate::runs::{COMMANDS, DONE, INPUT_FAILED, run_line};
 use crate::streams::{Input, Page};
-use scrypt_commands::run::Exit;
+use scrypt_commands::run::Ended;
 use std::io::ErrorKind;
 use std::test::Fail;
+use test_support::holds;
 
 // How many bytes a reader gives before it fails, the kind of its error, and the reason for the row.
 const FAILING_READERS: [(usize, ErrorKind, &str); 6] = [
@@ -83,7 +84,7 @@ fn slow_streams(rt: HostRuntime) -> Result<(), Fail> {
             let output = Page::failing(taken, usize::MAX);
             let printed = run_line(rt.alloc(), line, &mut input, output, Page::new())?;
             assert!(rt;
-                printed.is(Exit { status, ..DONE }, written, ""),
+                printed.is(Ended { status, ..DONE }, written, ""),
                 "{command}: {reason}"
             );
         }
@@ -154,12 +155,12 @@ fn order_of_reading_and_refusing(rt: HostRuntime) -> Result<(), Fail> {
     for &(line, status, fault, reason) in &ORDERS {
         let mut input = Input::failing(b"", ErrorKind::Other);
         let printed = run_line(rt.alloc(), line, &mut input, Page::new(), Page::new())?;
-        let ended = Exit {
+        let ended = Ended {
             status,
             input_failed: status == 4,
-            error_written: true,
+            fault_told: true,
         };
-        assert!(rt; printed.is(ended, "", fault), "{reason}");
+        holds(printed.is(ended, "", fault), reason)?;
     }
     Ok(())
 }

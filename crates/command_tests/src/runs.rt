@@ -1,7 +1,7 @@
 // Runs of the commands over readers and writers of the tests, and what several tests compare them with.
 
 use crate::streams::Page;
-use scrypt_commands::run::{Exit, run};
+use scrypt_commands::run::{Ended, run};
 use std::alloc::Global;
 use std::io::{Read, Write};
 use std::test::Fail;
@@ -74,14 +74,14 @@ pub const COMMANDS: [(&str, u8, &str, &str); 10] = [
 // How a run ended, and what it wrote.
 #[derive(Drop)]
 pub struct Printed {
-    pub ended: Exit,
+    pub ended: Ended,
     pub output: Page,
     pub faults: Page,
 }
 
 impl Printed {
     // Whether the run ended so and wrote these texts.
-    pub fn is(&self, ended: Exit, output: &str, faults: &str) -> bool {
+    pub fn is(&self, ended: Ended, output: &str, faults: &str) -> bool {
         self.ended == ended
             && self.output.text() == output.as_bytes()
             && self.faults.text() == faults.as_bytes()
@@ -111,7 +111,7 @@ pub fn run_over<R: Read, W: Write, F: Write>(
     reader: &mut R,
     output: &mut W,
     faults: &mut F,
-) -> Result<Exit, Fail> {
+) -> Result<Ended, Fail> {
     Ok(run(alloc, &words_of(alloc, line)?, reader, output, faults))
 }
 
@@ -124,20 +124,20 @@ pub fn words_of(alloc: Global, line: &str) -> Result<Vec<String>, Fail> {
     Ok(words)
 }
 
-pub const DONE: Exit = Exit {
+pub const DONE: Ended = Ended {
     status: 0,
     input_failed: false,
-    error_written: true,
+    fault_told: true,
 };
 
-pub const INPUT_FAILED: Exit = Exit {
+pub const INPUT_FAILED: Ended = Ended {
     status: 4,
     input_failed: true,
-    error_written: true,
+    fault_told: true,
 };
 
-pub const OUTPUT_FAILED: Exit = Exit {
+pub const OUTPUT_FAILED: Ended = Ended {
     status: 4,
     input_failed: false,
-    error_written: true,
+    fault_told: true,
 };

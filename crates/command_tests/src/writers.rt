@@ -2,7 +2,7 @@
 
 use crate::runs::{COMMANDS, DONE, OUTPUT_FAILED, run_line};
 use crate::streams::Page;
-use scrypt_commands::run::Exit;
+use scrypt_commands::run::Ended;
 use std::io::ErrorKind;
 use std::test::Fail;
 
@@ -62,7 +62,7 @@ fn writers_that_fail_at_each_call(rt: HostRuntime) -> Result<(), Fail> {
             let output = Page::failing_by(ErrorKind::Interrupted, 1, call);
             let printed = run_line(rt.alloc(), line, input, output, Page::new())?;
             assert!(rt;
-                printed.is(Exit { status, ..DONE }, written, ""),
+                printed.is(Ended { status, ..DONE }, written, ""),
                 "{command}, interrupted at call {call}"
             );
         }

@@ -1,5 +1,7 @@
--- The options before a command.
+-- The numbers of limits.
 pub mod BoundsFacts
+-- The options before a command.
+pub mod OptionsFacts
 -- The words of the arguments.
 pub mod ArgsFacts
 -- The tests of parameters and lengths.

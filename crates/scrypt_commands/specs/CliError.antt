@@ -1,9 +1,10 @@
 -- Why a run ends without an answer: each error has a status and a line.
-use Rattle.std.specs.Prelude.{ℕ, bytes_eq, if◌then◌else◌, List, codes, Option, Some, None}
+use Rattle.std.specs.Prelude.{ℕ, ◌++◌, bytes_eq, if◌then◌else◌, List, codes, decimal, Option, Some, None}
 use Rattle.password_hash.specs.Refusal.{Refusal}
 use Rattle.password_hash.specs.Refusal as refusals
+use Rattle.scrypt.specs.declared.limits.Limits.{Limits}
 use Rattle.scrypt_commands.specs.declared.error.CliError.{CliError}
-use Rattle.scrypt_commands.specs.declared.error.CliError.TheVariants.{Usage, SaltNotHex, InvalidParams, InvalidOutputLen, Algorithm}
+use Rattle.scrypt_commands.specs.declared.error.CliError.TheVariants.{Usage, OptionMisfit, SaltNotHex, InvalidParams, InvalidOutputLen, Algorithm}
 use Rattle.scrypt_commands.specs.declared.error.CliError.TheVariants.{EncodingInvalid, OutputSize, LnInvalid, RInvalid, PInvalid}
 use Rattle.scrypt_commands.specs.declared.error.CliError.TheVariants.{ParamsInvalid, SaltInvalid, Version, TooCostly, KeyTooShort}
 use Rattle.scrypt_commands.specs.declared.error.CliError.TheVariants.{OutOfMemory, InputFailed, OutputFailed}
@@ -15,10 +16,29 @@ status_of InputFailed = 4
 status_of OutputFailed = 4
 status_of refused = 2
 
+-- what a hash needs that needs more than one of the limits
+abbrev pub needed_text : ℕ → ℕ → List ℕ
+needed_text bytes work = (codes "hash refused: TooCostly, it needs " ++ decimal bytes) ++ (codes " bytes and work " ++ decimal work)
+
+-- what is allowed
+abbrev pub allowed_text : Limits → List ℕ
+allowed_text limits =
+    (codes ", and --most-bytes is " ++ decimal limits.most_bytes) ++ (codes " and --most-work " ++ decimal limits.most_work)
+
+-- the line with both
+abbrev pub too_costly_line : ℕ → ℕ → Limits → List ℕ
+too_costly_line bytes work limits = needed_text bytes work ++ (allowed_text limits ++ codes "\n")
+
+-- the line of a hash whose key is too short: how long it is, and how long it has to be
+abbrev pub too_short_line : ℕ → Limits → List ℕ
+too_short_line key_len limits = (codes "hash refused: KeyTooShort, its key has " ++ decimal key_len)
+    ++ ((codes " bytes, and --least-key-len is " ++ decimal limits.least_key_len) ++ codes "\n")
+
 -- the line of an error, with its newline: that of a refused hash has the name of the library's error, and of its parameter
 abbrev pub error_line : CliError → List ℕ
 error_line Usage =
     codes "usage: key LOG_N R P LEN SALT_HEX | hash phc|mcf LOG_N R P SALT_HEX [LEN] | verify HASH | rehash phc|mcf LOG_N R P LEN SALT_HEX HASH\n"
+error_line OptionMisfit = codes "an option is unknown, or does not fit the command: see --help\n"
 error_line SaltNotHex = codes "salt is not hexadecimal\n"
 error_line InvalidParams = codes "invalid scrypt parameters\n"
 error_line InvalidOutputLen = codes "invalid output buffer length\n"
@@ -31,8 +51,8 @@ error_line PInvalid = codes "hash refused: ParamInvalid p\n"
 error_line ParamsInvalid = codes "hash refused: ParamsInvalid\n"
 error_line SaltInvalid = codes "hash refused: SaltInvalid\n"
 error_line Version = codes "hash refused: Version\n"
-error_line TooCostly = codes "hash refused: TooCostly, it needs more than --most-bytes or --most-work allows\n"
-error_line KeyTooShort = codes "hash refused: KeyTooShort, its key is shorter than --least-key-len allows\n"
+error_line (TooCostly bytes work limits) = too_costly_line bytes work limits
+error_line (KeyTooShort key_len limits) = too_short_line key_len limits
 error_line OutOfMemory = codes "out of memory\n"
 error_line InputFailed = codes "input failed\n"
 error_line OutputFailed = codes "output failed\n"
@@ -42,7 +62,7 @@ abbrev pub param_error : List ℕ → CliError
 param_error name =
     if bytes_eq name (codes "ln") then LnInvalid else if bytes_eq name (codes "r") then RInvalid else PInvalid
 
--- the error that reports a refusal; a wrong password has none, since it is answered
+-- the error that reports a refusal without limits; a wrong password has none, since it is answered
 abbrev pub error_of : Refusal → Option CliError
 error_of refusals.Algorithm = Some Algorithm
 error_of refusals.EncodingInvalid = Some EncodingInvalid
@@ -53,5 +73,11 @@ error_of refusals.PasswordInvalid = None
 error_of refusals.SaltInvalid = Some SaltInvalid
 error_of refusals.Version = Some Version
 error_of refusals.OutOfMemory = Some OutOfMemory
-error_of refusals.TooCostly = Some TooCostly
-error_of refusals.KeyTooShort = Some KeyTooShort
+error_of (refusals.TooCostly bytes work) = None
+error_of (refusals.KeyTooShort key_len) = None
+
+-- the error that reports a refusal within these limits, if there are any
+abbrev pub limited_error_of : Option Limits → Refusal → Option CliError
+limited_error_of (Some limits) (refusals.TooCostly bytes work) = Some (TooCostly bytes work limits)
+limited_error_of (Some limits) (refusals.KeyTooShort key_len) = Some (KeyTooShort key_len limits)
+limited_error_of limits why = error_of why

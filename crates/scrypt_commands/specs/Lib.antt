@@ -3,8 +3,10 @@
 
 -- the arguments of each command
 pub mod Args
--- the options before a command
+-- what a stored hash may need
 pub mod Bounds
+-- the options before a command
+pub mod Options
 -- why a run ends without an answer: statuses and lines
 pub mod CliError
 -- what the arguments ask for, and what they are refused for

@@ -1,6 +1,6 @@
 -- The outcome of a command line: what the program prints for its arguments and its input.
-use Rattle.std.specs.Prelude.{◌≡◌, ◌⊎◌, ℕ, ◌&&◌, Bool, nat_le, if◌then◌else◌, List, [], ◌∷◌, ◌++◌, length, codes}
-use Rattle.std.specs.Prelude.{Option, None, Some, IfSome, option_map, Result, Ok, Err, ⊤}
+use Rattle.std.specs.Prelude.{◌≡◌, ◌⊎◌, ℕ, ◌&&◌, Bool, false, nat_le, if◌then◌else◌, List, [], ◌∷◌, ◌++◌, length, codes}
+use Rattle.std.specs.Prelude.{Option, None, Some, IfSome, IsSome, option_map, Result, Ok, Err, ⊤}
 use Rattle.hex.specs.Hex.{encode_lower}
 use Rattle.password_hash.specs.Crypt64.{crypt64_of}
 use Rattle.password_hash.specs.Parts.{dollar}
@@ -13,18 +13,22 @@ use Rattle.scrypt.specs.McfParams.{params_text}
 use Rattle.scrypt.specs.PhcParams.{written_pairs}
 use Rattle.scrypt.specs.Reading.{Stored, verdict, weaker}
 use Rattle.scrypt.specs.declared.limits.Limits.{Limits}
-use Rattle.scrypt.specs.StoredHash.{ByReading}
+use Rattle.scrypt.specs.StoredHash.{reading}
 use Rattle.scrypt.specs.WithinLimits.{within}
-use Rattle.scrypt_commands.specs.Bounds.{bounds_of, command_of, rehash_limits, verify_limits}
-use Rattle.scrypt_commands.specs.Command.{Request, ToMake, ToRehash, ToVerify, request_of}
-use Rattle.scrypt_commands.specs.CliError.{error_line, error_of, status_of}
+use Rattle.scrypt_commands.specs.Bounds.{rehash_limits, verify_limits}
+use Rattle.scrypt_commands.specs.Information.{information_text}
+use Rattle.scrypt_commands.specs.Options.{drawn_salt, fit_command, options_of, password_of}
+use Rattle.scrypt_commands.specs.Command.{IsRefused, Request, ToMake, ToRehash, ToVerify, request_by, request_of}
+use Rattle.scrypt_commands.specs.CliError.{error_line, limited_error_of, status_of}
 use Rattle.scrypt_commands.specs.declared.bounds.Bounds.{Bounds}
 use Rattle.scrypt_commands.specs.declared.args.Format.{Format}
 use Rattle.scrypt_commands.specs.declared.args.Format.TheVariants.{Phc, Mcf}
 use Rattle.scrypt_commands.specs.declared.args.Target.{Target}
 use Rattle.scrypt_commands.specs.declared.args.Target.TheVariants.{Key, Hash}
 use Rattle.scrypt_commands.specs.declared.error.CliError.{CliError}
-use Rattle.scrypt_commands.specs.declared.error.CliError.TheVariants.{SaltInvalid}
+use Rattle.scrypt_commands.specs.declared.error.CliError.TheVariants.{OptionMisfit, SaltInvalid}
+use Rattle.scrypt_commands.specs.declared.options.Information.{Information}
+use Rattle.scrypt_commands.specs.declared.options.Options.{Options}
 
 -- the status, the line for the output and the line for the errors
 pub record Outcome : Type 0 where
@@ -80,17 +84,17 @@ abbrev pub wrong_outcome : Option CliError → Outcome
 wrong_outcome None = answer_of 1 (codes "no\n")
 wrong_outcome (Some error) = refusal_of error
 
--- the outcome of a verdict
-abbrev pub verdict_outcome : Result ⊤ Refusal → Outcome
-verdict_outcome (Ok right) = answer_of 0 (codes "ok\n")
-verdict_outcome (Err why) = wrong_outcome (error_of why)
+-- the outcome of a verdict within these limits, if there are any
+abbrev pub verdict_outcome : Option Limits → Result ⊤ Refusal → Outcome
+verdict_outcome limits (Ok right) = answer_of 0 (codes "ok\n")
+verdict_outcome limits (Err why) = wrong_outcome (limited_error_of limits why)
 
 -- the outcome of `rehash`: that of a new hash if the password is right and the old hash is weaker than wanted, and
 -- else that of the verdict
-abbrev pub rehash_outcome : Result ⊤ Refusal → Result Bool Refusal → Result (List ℕ) CliError → Outcome
-rehash_outcome (Ok right) (Ok is_weaker) new = if is_weaker then new_outcome new else verdict_outcome (Ok right)
-rehash_outcome (Ok right) (Err why) new = verdict_outcome (Ok right)
-rehash_outcome (Err why) is_weaker new = verdict_outcome (Err why)
+abbrev pub rehash_outcome : Option Limits → Result ⊤ Refusal → Result Bool Refusal → Result (List ℕ) CliError → Outcome
+rehash_outcome limits (Ok right) (Ok is_weaker) new = if is_weaker then new_outcome new else verdict_outcome limits (Ok right)
+rehash_outcome limits (Ok right) (Err why) new = verdict_outcome limits (Ok right)
+rehash_outcome limits (Err why) is_weaker new = verdict_outcome limits (Err why)
 
 -- the reading of a hash, within limits if there are any
 abbrev pub bounded : Option Limits → Result Stored Refusal → Result Stored Refusal
@@ -98,27 +102,56 @@ bounded None reading = reading
 bounded (Some limits) reading = within limits reading
 
 -- the outcome on this input of a request within bounds, or of the error that arguments are refused with
-abbrev pub HasOutcomeOf : Option Bounds → Result Request CliError → List ℕ → Outcome → Type 0
-HasOutcomeOf bounds (Ok (ToMake target params salt)) input outcome =
-    outcome ≡ new_outcome (new_text target params input salt)
-HasOutcomeOf bounds (Ok (ToVerify text)) input outcome = ByReading text (λ reading.
-    outcome ≡ verdict_outcome (verdict input (bounded (option_map verify_limits bounds) reading)))
-HasOutcomeOf bounds (Ok (ToRehash format wanted salt text)) input outcome = ByReading text (λ reading.
-    outcome ≡ rehash_outcome (verdict input (bounded (option_map (λ b. rehash_limits b wanted) bounds) reading))
-    (weaker wanted reading) (new_hash format wanted input salt))
-HasOutcomeOf bounds (Err error) input outcome = outcome ≡ refusal_of error
+abbrev pub request_outcome : Option Bounds → Result Request CliError → List ℕ → Outcome
+request_outcome bounds (Ok (ToMake target params salt)) input = new_outcome (new_text target params input salt)
+request_outcome bounds (Ok (ToVerify text)) input =
+    verdict_outcome (option_map verify_limits bounds) (verdict input (bounded (option_map verify_limits bounds) (reading text)))
+request_outcome bounds (Ok (ToRehash format wanted salt text)) input =
+    rehash_outcome (option_map (λ b. rehash_limits b wanted) bounds)
+    (verdict input (bounded (option_map (λ b. rehash_limits b wanted) bounds) (reading text)))
+    (weaker wanted (reading text)) (new_hash format wanted input salt)
+request_outcome bounds (Err error) input = refusal_of error
 
--- the outcome for these arguments and this input, if memory is available and neither the input nor the output fails
-abbrev pub HasOutcome : List (List ℕ) → List ℕ → Outcome → Type 0
-HasOutcome args input outcome = HasOutcomeOf (bounds_of args) (request_of (command_of args)) input outcome
+-- The outcome for these words and this input, if memory is available and neither the input nor the output fails. The
+-- password is the whole input, and a hash may need whatever it says.
+abbrev pub outcome_of : List (List ℕ) → List ℕ → Outcome
+outcome_of words input = request_outcome None (request_of words) input
+
+-- the same by options, with the salt that they have drawn, if they draw one
+abbrev pub outcome_by : Options → Option (List ℕ) → List (List ℕ) → List ℕ → Outcome
+outcome_by options drawn words input =
+    request_outcome options.bounds (request_by options.is_recommended drawn words) (password_of options.strips_newline input)
+
+-- what is printed by options that ask for information, or fit the command or not
+abbrev pub outcome_if : Option Information → Bool → Outcome → Outcome
+outcome_if (Some asked) fitting by_command = answer_of 0 (information_text asked)
+outcome_if None fitting by_command = if fitting then by_command else refusal_of OptionMisfit
+
+-- the outcome for these options and the words after them, with this salt if they draw one
+abbrev pub outcome_after : List ℕ → Options × List (List ℕ) → List ℕ → Outcome
+outcome_after salt (options, words) input =
+    outcome_if options.information (fit_command options words) (outcome_by options (drawn_salt options salt) words input)
+
+-- the outcome for these words, of which the first may be options
+abbrev pub outcome_with_options : List ℕ → List (List ℕ) → List ℕ → Outcome
+outcome_with_options salt words input = outcome_after salt (options_of words) input
+
+-- the input is not read for these words after options: they ask for information, do not fit the command, or are refused
+abbrev pub IsUnreadAfter : List ℕ → Options × List (List ℕ) → Type 0
+IsUnreadAfter salt (options, words) = IsSome options.information ⊎ (fit_command options words ≡ false)
+    ⊎ IsRefused (request_by options.is_recommended (drawn_salt options salt) words)
+
+-- the input is not read for these words, of which the first may be options
+abbrev pub IsUnread : List ℕ → List (List ℕ) → Type 0
+IsUnread salt words = IsUnreadAfter salt (options_of words)
 
 -- this holds of some input: of the bytes that a reader has left, if they are known
 abbrev pub OnInput : Option (List ℕ) → (List ℕ → Type 0) → Type 0
 OnInput known P = (input : List ℕ) × IfSome known (λ bytes. input ≡ bytes) × P input
 
--- an outcome for these arguments and the input of a reader has the property
-abbrev pub OutcomeIs : List (List ℕ) → Option (List ℕ) → (Outcome → Type 0) → Type 0
-OutcomeIs args known P = OnInput known (λ input. (outcome : Outcome) × HasOutcome args input outcome × P outcome)
+-- an outcome for the input of a reader has the property
+abbrev pub OutcomeIs : (List ℕ → Outcome) → Option (List ℕ) → (Outcome → Type 0) → Type 0
+OutcomeIs outcome_on known P = OnInput known (λ input. P (outcome_on input))
 
 -- a run that ends with this status has written its line
 abbrev pub IsAnswer : ℕ → Type 0

@@ -1,9 +1,10 @@
 // The answer to a command.
 
 ghost use Rattle.std.specs.Prelude.{◌≡◌, ◌++◌, IfOk, IfErr, IsOk, IsTrue, Ok, codes, option_map, string_bytes};
-ghost use Rattle.password_hash.specs.Refusal.{refusal};
 ghost use Rattle.scrypt.specs.Accepted.{IsOutputLen};
-ghost use Rattle.scrypt.specs.Reading.{verdict, weaker};
+ghost use Rattle.scrypt.specs.Reading.{IsVerdict, verdict, weaker};
+ghost use Rattle.scrypt.specs.StoredHash.{reading};
+ghost use Rattle.scrypt.specs.WithinLimits.{limited_refusal, told_limited};
 ghost use Rattle.scrypt_commands.specs.Bounds.{rehash_limits, verify_limits};
 ghost use Rattle.scrypt_commands.specs.Command.{has_allowed_len};
 ghost use Rattle.scrypt_commands.specs.Outcome.{IsAnswer, bounded, new_hash, new_text};
@@ -17,7 +18,7 @@ use crate::command::Command;
 use crate::error::CliError;
 use password_hash::{PasswordHasher, mcf, phc};
 use scrypt::laws::{hashers_are_accepted, made_hashes_are_accepted, texts_have_one_reading};
-use scrypt::{Limits, Params, Scrypt, StoredHash, scrypt};
+use scrypt::{LimitedError, Limits, Params, Scrypt, StoredHash, scrypt};
 use std::alloc::Global;
 
 /// The answer to a command.
@@ -88,7 +89,10 @@ impl<'a> Command<'a> {
                 hash,
             } => {
                 let limits = rehash_limits(bounds, params);
-                let right = verify(alloc, hash, input, limits)?;
+                let right = match verify(alloc, hash, input, limits) {
+                    Ok(right) => right,
+                    Err(error) => return Err(error),
+                };
                 if right && is_weaker(hash, params) {
                     on_a_line(make_hash(alloc, input, salt, params, *format)?)
                 } else {
@@ -114,9 +118,9 @@ fn rehash_limits(bounds: Option<Bounds>, wanted: &Params) -> Option<Limits>
 }
 
 // Returns the error of a hash that cannot be read, or exceeds the limits, if there are limits.
-fn check(hash: &StoredHash<'_>, limits: Option<Limits>) -> password_hash::Result<()>
-    ensures same { IsOk result → bounded limits hash.now.whole ≡ hash.now.whole }
-    ensures err { IfErr result (λ e. bounded limits hash.now.whole ≡ Err (refusal e)) }
+fn check(hash: &StoredHash<'_>, limits: Option<Limits>) -> Result<(), LimitedError>
+    ensures same { IsOk result → bounded limits (reading hash.now) ≡ reading hash.now }
+    ensures err { IfErr result (λ e. bounded limits (reading hash.now) ≡ Err (limited_refusal e)) }
 {
     let Some(limits) = limits else {
         return Ok(());
@@ -135,26 +139,40 @@ fn verify(
     limits: Option<Limits>,
 ) -> Result<bool, CliError>
     ensures { Gives (λ right. right)
-        (right_of (verdict password.now (bounded limits hash.now.whole))) result }
+        (right_of limits (verdict password.now (bounded limits (reading hash.now)))) result }
 {
-    let verified = match check(hash, limits) {
-        Ok(()) => hash.verify(alloc, password),
-        refused => refused,
-    };
-    match verified {
+    match verify_within(alloc, hash, password, limits) {
         Ok(()) => Ok(true),
-        Err(refused) => match CliError::of(refused) {
+        Err(refused) => match CliError::of_limited(refused, limits) {
             Some(error) => Err(error),
             None => Ok(false),
         },
     }
 }
 
+// Verifies the password, if the hash is within the limits.
+fn verify_within(
+    alloc: Global,
+    hash: &StoredHash<'_>,
+    password: &[u8],
+    limits: Option<Limits>,
+) -> Result<(), LimitedError>
+    ensures { IsVerdict password.now (bounded limits (reading hash.now)) (told_limited result) }
+{
+    if let Err(refused) = check(hash, limits) {
+        return Err(refused);
+    }
+    match hash.verify(alloc, password) {
+        Ok(()) => Ok(()),
+        Err(refused) => Err(LimitedError::Hash(refused)),
+    }
+}
+
 // Returns whether the hash is weaker than these parameters. A hash that accepts a password can be
 // read, so there is no error.
 fn is_weaker(hash: &StoredHash<'_>, wanted: &Params) -> bool
-    requires { IsOk hash.now.whole }
-    ensures { weaker wanted.now hash.now.whole ≡ Ok result }
+    requires { IsOk (reading hash.now) }
+    ensures { weaker wanted.now (reading hash.now) ≡ Ok result }
 {
     hash.needs_rehash(wanted).unwrap()
 }

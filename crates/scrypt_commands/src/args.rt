@@ -2,12 +2,13 @@
 
 ghost use Rattle.std.specs.Prelude.{◌≡◌, ◌^◌, option_map};
 ghost use Rattle.password_hash.specs.Decimal.{decimal_below};
-ghost use Rattle.scrypt_commands.specs.Args.{args_of, first_word, format_word, hash_args, key_args, last_word, len_word};
-ghost use Rattle.scrypt_commands.specs.Args.{optional_len, params_word, rehash_args, texts_of};
-ghost use Rattle.scrypt_commands.specs.Steps.{args_view, before_words};
+ghost use Rattle.scrypt_commands.specs.Args.{args_of, first_word, format_word, hash_args, key_args, last_word, len_word, numbered_args};
+ghost use Rattle.scrypt_commands.specs.Args.{optional_len, params_word, recommended, recommended_args, rehash_args, salt_word, texts_of};
+ghost use Rattle.scrypt_commands.specs.Steps.{args_view, before_words, salt_before_words};
 
 use password_hash::decimal::read_decimal;
 use password_hash::laws::decimals_are_read;
+use scrypt::Params;
 
 /// The arguments of a command. The salt's digits and the text of a hash are not read yet.
 #[derive(Drop)]
@@ -16,7 +17,7 @@ pub enum Args<'a> {
     Make {
         target: Target,
         unchecked: UncheckedParams,
-        salt_hex: &'a str,
+        salt: Salt<'a>,
     },
     /// `verify HASH`
     Verify {
@@ -26,9 +27,18 @@ pub enum Args<'a> {
     Rehash {
         format: Format,
         unchecked: UncheckedParams,
-        salt_hex: &'a str,
+        salt: Salt<'a>,
         text: &'a str,
     },
+}
+
+/// The salt of a command.
+#[derive(Clone, Copy)]
+pub enum Salt<'a> {
+    /// SALT_HEX
+    Digits(&'a str),
+    /// bytes that were drawn
+    Drawn([u8; 16]),
 }
 
 /// What is made of a password.
@@ -49,6 +59,14 @@ pub enum Format {
     Mcf,
 }
 
+/// The recommended parameters.
+const RECOMMENDED: UncheckedParams = UncheckedParams {
+    log_n: Params::RECOMMENDED_LOG_N,
+    r: Params::RECOMMENDED_R,
+    p: Params::RECOMMENDED_P,
+    key_len: None,
+};
+
 /// The parameters LOG_N, R and P, and the length of the key of a hash, if one is named. They may not be accepted.
 #[derive(Clone, Copy)]
 pub struct UncheckedParams {
@@ -59,21 +77,26 @@ pub struct UncheckedParams {
 }
 
 impl<'a> Args<'a> {
-    /// Parses the arguments after the program's name.
+    /// Parses the words after the program's name. A salt may have been drawn, and the parameters of
+    /// `hash` be the recommended ones: then no words stand for these.
     ///
     /// Returns `None` if they are not those of a command, or if one is not a decimal below its bound.
     #[tactic(auto, using(crate::proofs::ArgsFacts::other), unfolding(crate::specs::Args::args_of))]
-    pub fn parse(args: &'a [String]) -> Option<Args<'a>>
-        ensures value { option_map args_view result ≡ args_of (texts_of args.now) }
+    pub fn parse(
+        is_recommended: bool,
+        drawn: Option<[u8; 16]>,
+        args: &'a [String],
+    ) -> Option<Args<'a>>
+        ensures value { option_map args_view result ≡ args_of is_recommended drawn (texts_of args.now) }
     {
         let (name, args) = first_word(args)?;
         match name {
             "key" => parse_key(args),
-            "hash" => parse_hash(args),
+            "hash" => parse_hash(is_recommended, drawn, args),
             "verify" => Some(Args::Verify {
                 text: last_word(args)?,
             }),
-            "rehash" => parse_rehash(args),
+            "rehash" => parse_rehash(drawn, args),
             _ => None,
         }
     }
@@ -90,35 +113,66 @@ fn parse_key<'a>(args: &'a [String]) -> Option<Args<'a>>
     Some(Args::Make {
         target: Target::Key { len },
         unchecked,
-        salt_hex,
+        salt: Salt::Digits(salt_hex),
+    })
+}
+
+// Parses what comes after `hash`.
+fn parse_hash<'a>(
+    is_recommended: bool,
+    drawn: Option<[u8; 16]>,
+    args: &'a [String],
+) -> Option<Args<'a>>
+    ensures { option_map args_view result ≡ hash_args is_recommended drawn (texts_of args.now) }
+{
+    if is_recommended {
+        return parse_recommended(drawn, args);
+    }
+    parse_numbered(drawn, args)
+}
+
+// Parses phc|mcf SALT_HEX, for the recommended parameters.
+#[tactic(auto, unfolding(crate::specs::Args::recommended_args))]
+fn parse_recommended<'a>(drawn: Option<[u8; 16]>, args: &'a [String]) -> Option<Args<'a>>
+    ensures { option_map args_view result ≡ recommended_args drawn (texts_of args.now) }
+{
+    let (format, args) = parse_format(args)?;
+    let (salt, args) = salt_word(drawn, args)?;
+    if !args.is_empty() {
+        return None;
+    }
+    Some(Args::Make {
+        target: Target::Hash { format },
+        unchecked: RECOMMENDED,
+        salt,
     })
 }
 
 // Parses phc|mcf LOG_N R P SALT_HEX [LEN].
-#[tactic(auto, unfolding(crate::specs::Args::hash_args))]
-fn parse_hash<'a>(args: &'a [String]) -> Option<Args<'a>>
-    ensures { option_map args_view result ≡ hash_args (texts_of args.now) }
+#[tactic(auto, unfolding(crate::specs::Args::numbered_args))]
+fn parse_numbered<'a>(drawn: Option<[u8; 16]>, args: &'a [String]) -> Option<Args<'a>>
+    ensures { option_map args_view result ≡ numbered_args drawn (texts_of args.now) }
 {
     let (format, args) = parse_format(args)?;
     let (params, args) = parse_params(args)?;
-    let (salt_hex, args) = first_word(args)?;
+    let (salt, args) = salt_word(drawn, args)?;
     let key_len = optional_len(args)?;
     Some(Args::Make {
         target: Target::Hash { format },
         unchecked: UncheckedParams { key_len, ..params },
-        salt_hex,
+        salt,
     })
 }
 
 // Parses phc|mcf LOG_N R P LEN SALT_HEX HASH.
 #[tactic(auto, unfolding(crate::specs::Args::rehash_args))]
-fn parse_rehash<'a>(args: &'a [String]) -> Option<Args<'a>>
-    ensures { option_map args_view result ≡ rehash_args (texts_of args.now) }
+fn parse_rehash<'a>(drawn: Option<[u8; 16]>, args: &'a [String]) -> Option<Args<'a>>
+    ensures { option_map args_view result ≡ rehash_args drawn (texts_of args.now) }
 {
     let (format, args) = parse_format(args)?;
     let (params, args) = parse_params(args)?;
     let (len, args) = len_word(args)?;
-    let (salt_hex, args) = first_word(args)?;
+    let (salt, args) = salt_word(drawn, args)?;
     let text = last_word(args)?;
     Some(Args::Rehash {
         format,
@@ -126,7 +180,7 @@ fn parse_rehash<'a>(args: &'a [String]) -> Option<Args<'a>>
             key_len: Some(len),
             ..params
         },
-        salt_hex,
+        salt,
         text,
     })
 }
@@ -158,6 +212,19 @@ fn parse_format<'a>(args: &'a [String]) -> Option<(Format, &'a [String])>
         "phc" => Some((Format::Phc, args)),
         "mcf" => Some((Format::Mcf, args)),
         _ => None,
+    }
+}
+
+// Parses SALT_HEX, and returns the words after it too. A salt that was drawn has no word.
+fn salt_word<'a>(drawn: Option<[u8; 16]>, args: &'a [String]) -> Option<(Salt<'a>, &'a [String])>
+    ensures { option_map salt_before_words result ≡ salt_word drawn (texts_of args.now) }
+{
+    match drawn {
+        Some(salt) => Some((Salt::Drawn(salt), args)),
+        None => {
+            let (digits, args) = first_word(args)?;
+            Some((Salt::Digits(digits), args))
+        }
     }
 }
 

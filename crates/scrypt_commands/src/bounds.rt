@@ -1,8 +1,7 @@
-// The options before a command: what a stored hash may need, and how short its key may be.
+// What a stored hash may need, and how short its key may be.
 
 ghost use Rattle.std.specs.Prelude.{◌≡◌};
-ghost use Rattle.scrypt_commands.specs.Args.{texts_of};
-ghost use Rattle.scrypt_commands.specs.Bounds.{bounds_of, command_of, number_of, rehash_limits, verify_limits, with_number, with_option};
+ghost use Rattle.scrypt_commands.specs.Bounds.{number_of, rehash_limits, verify_limits, with_number};
 
 use crate::args::parse_len;
 use scrypt::{BufferLens, Limits, Params};
@@ -18,7 +17,7 @@ pub struct Bounds {
     pub least_key_len: Option<usize>,
 }
 
-/// 256 MiB, and four times the work of the recommended parameters.
+/// The usual limits on memory and work.
 pub const USUAL: Bounds = Bounds {
     most_bytes: Limits::USUAL.most_bytes,
     most_work: Limits::USUAL.most_work,
@@ -54,44 +53,10 @@ impl Bounds {
     }
 }
 
-/// Returns the bounds that the options before the command name, if any, and the command with its
-/// arguments. The command begins at the first word that is not an option.
-#[tactic(auto, using(crate::proofs::BoundsFacts::options))]
-pub fn parse_options<'a>(args: &'a [String]) -> (Option<Bounds>, &'a [String])
-    ensures bounds { result.0 ≡ bounds_of (texts_of args.now) }
-    ensures command { texts_of result.1.now ≡ command_of (texts_of args.now) }
-{
-    let mut bounds = None;
-    let mut rest = args;
-    while let Some((word, after)) = rest.split_first() {
-        let Some(next) = with_option(bounds, word.as_str()) else {
-            return (bounds, rest);
-        };
-        bounds = next;
-        rest = after;
-    }
-    (bounds, rest)
-}
-
-// Returns the bounds after an option, or `None` if the word is not one.
-#[tactic(auto, using(crate::proofs::ArgsFacts::other), unfolding(crate::specs::Bounds::with_option))]
-fn with_option(bounds: Option<Bounds>, word: &str) -> Option<Option<Bounds>>
-    ensures { result ≡ with_option bounds word.now }
-{
-    match word {
-        "--usual-limits" => Some(Some(USUAL)),
-        "--no-limits" => Some(None),
-        _ => {
-            let named = with_number(bounds.unwrap_or(USUAL), word)?;
-            Some(Some(named))
-        }
-    }
-}
-
-// Returns the bounds with the one that an option names.
+/// Returns the bounds with the one that an option names, or `None` if the word is none of these options.
 #[tactic(auto, unfolding(crate::specs::Bounds::with_number))]
-fn with_number(bounds: Bounds, word: &str) -> Option<Bounds>
-    ensures { result ≡ with_number bounds word.now }
+pub fn with_number(bounds: Bounds, word: &str) -> Option<Bounds>
+    ensures value { result ≡ with_number bounds word.now }
 {
     match number(word, "--most-bytes=") {
         Some(most_bytes) => Some(Bounds {

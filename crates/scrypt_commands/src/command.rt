@@ -1,15 +1,15 @@
 // What the arguments ask for.
 
-ghost use Rattle.std.specs.Prelude.{◌≡◌, ◌↔◌, Err, IfOk, IfErr, IsOk, MatchResult};
+ghost use Rattle.std.specs.Prelude.{◌≡◌, ◌↔◌, true, false, Err, IfOk, IfErr, IsOk};
 ghost use Rattle.password_hash.specs.Refusal as refusals;
 ghost use Rattle.hex.specs.Hex.{decode_of};
-ghost use Rattle.scrypt.specs.StoredHash.{HasReading, IsStoredText, Reads};
+ghost use Rattle.scrypt.specs.StoredHash.{is_stored_text, reading};
 ghost use Rattle.scrypt_commands.specs.Args.{MakeArgs, RehashArgs, texts_of};
-ghost use Rattle.scrypt_commands.specs.Command.{command_request, has_allowed_len, params_of, request_of, salt_and_params, salt_of};
-ghost use Rattle.scrypt_commands.specs.Steps.{AreParamsAccepted, Gives, IsCommandFor};
+ghost use Rattle.scrypt_commands.specs.Command.{command_request, has_allowed_len, decoded_salt, params_of, request_by, salt_and_params, salt_of};
+ghost use Rattle.scrypt_commands.specs.Steps.{AreParamsAccepted, Gives, IsCommandFor, salt_view};
 ghost use Rattle.scrypt_commands.specs.declared.error.CliError.TheVariants.{EncodingInvalid};
 
-use crate::args::{Args, Format, Target, UncheckedParams};
+use crate::args::{Args, Format, Salt, Target, UncheckedParams};
 use crate::error::CliError;
 use hex::FromHexError;
 use scrypt::{InvalidParams, Params, StoredHash, output_len_ok};
@@ -39,23 +39,29 @@ pub enum Command<'a> {
 }
 
 impl<'a> Command<'a> {
-    /// Constructs the command of the arguments after the options.
+    /// Constructs the command of these words. A salt may have been drawn, and the parameters of `hash` be
+    /// the recommended ones: then no words stand for these.
     ///
     /// Returns the error of the first of these that is wrong: `Usage`, `SaltNotHex`,
     /// `InvalidParams`, `InvalidOutputLen`, and `EncodingInvalid`. Returns `OutOfMemory` if the allocation of the salt fails.
     #[tactic(auto, using(crate::proofs::OutcomeFacts::unread_bounded), unfolding(crate::specs::Command::command_request))]
-    pub fn from_args(alloc: Global, args: &'a [String]) -> Result<Command<'a>, CliError>
-        ensures command { IsCommandFor (request_of (texts_of args.now)) result }
+    pub fn from_args(
+        alloc: Global,
+        is_recommended: bool,
+        drawn: Option<[u8; 16]>,
+        args: &'a [String],
+    ) -> Result<Command<'a>, CliError>
+        ensures command { IsCommandFor (request_by is_recommended drawn (texts_of args.now)) result }
     {
-        let Some(args) = Args::parse(args) else {
+        let Some(args) = Args::parse(is_recommended, drawn, args) else {
             return Err(CliError::Usage);
         };
         match args {
             Args::Make {
                 target,
                 unchecked,
-                salt_hex,
-            } => make_command(alloc, target, unchecked, salt_hex),
+                salt,
+            } => make_command(alloc, target, unchecked, salt),
             Args::Verify { text } => {
                 let hash = stored_hash(text)?;
                 Ok(Command::Verify { hash })
@@ -63,24 +69,24 @@ impl<'a> Command<'a> {
             Args::Rehash {
                 format,
                 unchecked,
-                salt_hex,
+                salt,
                 text,
-            } => rehash_command(alloc, format, unchecked, salt_hex, text),
+            } => rehash_command(alloc, format, unchecked, salt, text),
         }
     }
 }
 
-// Returns the command that makes this target, with these parameters and the salt of these digits.
+// Returns the command that makes this target, with these parameters and this salt.
 #[tactic(auto, unfolding(crate::specs::Command::command_request))]
 fn make_command<'a>(
     alloc: Global,
     target: Target,
     unchecked: UncheckedParams,
-    salt_hex: &str,
+    salt: Salt<'_>,
 ) -> Result<Command<'a>, CliError>
-    ensures { IsCommandFor (command_request (MakeArgs target unchecked salt_hex.now)) result }
+    ensures { IsCommandFor (command_request (MakeArgs target unchecked (salt_view salt.entry))) result }
 {
-    let (salt, params) = salt_and_params(alloc, unchecked, salt_hex)?;
+    let (salt, params) = salt_and_params(alloc, unchecked, salt)?;
     if !has_allowed_len(target) {
         return Err(CliError::InvalidOutputLen);
     }
@@ -91,16 +97,16 @@ fn make_command<'a>(
     })
 }
 
-// Decodes the salt, and then checks the parameters.
+// Reads the salt, and then checks the parameters.
 #[tactic(auto, using(crate::proofs::CommandFacts::params_decided), unfolding(crate::specs::Command::salt_and_params))]
 fn salt_and_params(
     alloc: Global,
     unchecked: UncheckedParams,
-    salt_hex: &str,
+    salt: Salt<'_>,
 ) -> Result<(Vec<u8>, Params), CliError>
-    ensures { Gives (λ read. (read.0.items, read.1)) (salt_and_params unchecked salt_hex.now) result }
+    ensures { Gives (λ read. (read.0.items, read.1)) (salt_and_params unchecked (salt_view salt.entry)) result }
 {
-    let salt = decode_salt(alloc, salt_hex)?;
+    let salt = read_salt(alloc, salt)?;
     let params = checked_params(unchecked)?;
     Ok((salt, params))
 }
@@ -132,18 +138,18 @@ fn has_allowed_len(target: Target) -> bool
     }
 }
 
-// Returns the command that makes the hash of this text again, with these parameters and the salt of these digits.
+// Returns the command that makes the hash of this text again, with these parameters and this salt.
 #[tactic(auto, using(crate::proofs::OutcomeFacts::unread_bounded), unfolding(crate::specs::Command::command_request))]
 fn rehash_command<'a>(
     alloc: Global,
     format: Format,
     unchecked: UncheckedParams,
-    salt_hex: &str,
+    salt: Salt<'_>,
     text: &'a str,
 ) -> Result<Command<'a>, CliError>
-    ensures { IsCommandFor (command_request (RehashArgs format unchecked salt_hex.now text.now)) result }
+    ensures { IsCommandFor (command_request (RehashArgs format unchecked (salt_view salt.entry) text.now)) result }
 {
-    let (salt, params) = salt_and_params(alloc, unchecked, salt_hex)?;
+    let (salt, params) = salt_and_params(alloc, unchecked, salt)?;
     let hash = stored_hash(text)?;
     Ok(Command::Rehash {
         format,
@@ -155,10 +161,9 @@ fn rehash_command<'a>(
 
 // Returns the hash of a text.
 fn stored_hash(text: &str) -> Result<StoredHash<'_>, CliError>
-    ensures ok { IfOk result (Reads text.now) }
-    ensures err { IfErr result (λ error. (error ≡ EncodingInvalid) × (¬ IsStoredText text.now)) }
-    ensures reading { MatchResult result (λ hash. HasReading text.now hash.whole)
-        (λ _. HasReading text.now (Err refusals.EncodingInvalid)) }
+    ensures ok { IfOk result (λ hash. (hash ≡ text.now) × (is_stored_text text.now ≡ true)) }
+    ensures err { IfErr result (λ error. (error ≡ EncodingInvalid) × (is_stored_text text.now ≡ false)
+        × (reading text.now ≡ Err refusals.EncodingInvalid)) }
 {
     match StoredHash::read(text) {
         Ok(hash) => Ok(hash),
@@ -166,9 +171,19 @@ fn stored_hash(text: &str) -> Result<StoredHash<'_>, CliError>
     }
 }
 
+// Returns the bytes of the salt.
+fn read_salt(alloc: Global, salt: Salt<'_>) -> Result<Vec<u8>, CliError>
+    ensures { Gives (λ salt. salt.items) (salt_of (salt_view salt.entry)) result }
+{
+    match salt {
+        Salt::Digits(digits) => decode_salt(alloc, digits),
+        Salt::Drawn(salt) => Ok(salt.to_vec(alloc)?),
+    }
+}
+
 // Decodes SALT_HEX, an even number of hexadecimal digits of either case.
 fn decode_salt(alloc: Global, salt_hex: &str) -> Result<Vec<u8>, CliError>
-    ensures { Gives (λ salt. salt.items) (salt_of (decode_of salt_hex.now)) result }
+    ensures { Gives (λ salt. salt.items) (decoded_salt (decode_of salt_hex.now)) result }
 {
     match hex::decode(alloc, salt_hex) {
         Ok(salt) => Ok(salt),

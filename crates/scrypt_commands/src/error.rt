@@ -1,20 +1,27 @@
 // Why a run ends without an answer.
 
-ghost use Rattle.std.specs.Prelude.{◌≡◌};
+ghost use Rattle.std.specs.Prelude.{◌≡◌, ◌++◌, decimal, OnOk, Some};
+ghost use Rattle.std.specs.Io.KnownBytes.{Appends};
 ghost use Rattle.password_hash.specs.Refusal.{refusal};
-ghost use Rattle.scrypt_commands.specs.CliError.{error_line, error_of, status_of};
+ghost use Rattle.scrypt.specs.WithinLimits.{limited_refusal};
+ghost use Rattle.scrypt_commands.specs.CliError.{allowed_text, error_line, error_of, limited_error_of, needed_text, status_of, too_costly_line, too_short_line};
 ghost use Rattle.scrypt_commands.specs.Steps.{derive_error};
 ghost use Rattle.scrypt_commands.specs.declared.error.CliError.TheVariants.{InvalidParams as BadParams, OutOfMemory};
 
+use itoa::Buffer;
 use password_hash::Error;
-use scrypt::{DeriveError, InvalidParams};
+use scrypt::{DeriveError, InvalidParams, LimitedError, Limits};
 use std::alloc::AllocError;
+use std::io;
+use std::io::Write;
 
 /// Why a run ends without an answer.
 #[derive(Clone, Copy)]
 pub enum CliError {
     /// The arguments are not those of a command, or one is not a decimal below its bound.
     Usage,
+    /// An option is unknown, or does not fit the command.
+    OptionMisfit,
     /// The salt is not an even number of hexadecimal digits.
     SaltNotHex,
     /// The parameters are not accepted.
@@ -39,10 +46,22 @@ pub enum CliError {
     SaltInvalid,
     /// A hash has a version.
     Version,
-    /// A hash needs more memory or work than the bounds allow.
-    TooCostly,
-    /// The key of a hash is shorter than the bounds allow.
-    KeyTooShort,
+    /// A hash needs more memory or work than the limits allow.
+    TooCostly {
+        /// the bytes that it needs
+        bytes: u128,
+        /// the work that it needs
+        work: u128,
+        /// what is allowed
+        limits: Limits,
+    },
+    /// The key of a hash is shorter than the limits allow.
+    KeyTooShort {
+        /// its length in bytes
+        key_len: usize,
+        /// what is allowed
+        limits: Limits,
+    },
     /// An allocation failed.
     OutOfMemory,
     /// The input could not be read to its end.
@@ -50,6 +69,9 @@ pub enum CliError {
     /// The line could not be written, or not be flushed.
     OutputFailed,
 }
+
+const USAGE: &[u8] =
+    b"usage: key LOG_N R P LEN SALT_HEX | hash phc|mcf LOG_N R P SALT_HEX [LEN] | verify HASH | rehash phc|mcf LOG_N R P LEN SALT_HEX HASH\n";
 
 impl CliError {
     /// Returns the error that reports one of hashing or verifying, or `None` for a wrong password.
@@ -67,10 +89,27 @@ impl CliError {
             Error::SaltInvalid => CliError::SaltInvalid,
             Error::Version => CliError::Version,
             Error::OutOfMemory => CliError::OutOfMemory,
-            Error::TooCostly => CliError::TooCostly,
-            Error::KeyTooShort => CliError::KeyTooShort,
             Error::PasswordInvalid => return None,
         })
+    }
+
+    /// Returns the error that reports one of verifying within these limits, if there are any, or `None` for
+    /// a wrong password.
+    pub fn of_limited(refused: LimitedError, limits: Option<Limits>) -> Option<CliError>
+        ensures value { result ≡ limited_error_of limits (limited_refusal refused) }
+    {
+        match refused {
+            LimitedError::Hash(error) => CliError::of(error),
+            LimitedError::TooCostly { bytes, work } => Some(CliError::TooCostly {
+                bytes,
+                work,
+                limits: limits?,
+            }),
+            LimitedError::KeyTooShort { key_len } => Some(CliError::KeyTooShort {
+                key_len,
+                limits: limits?,
+            }),
+        }
     }
 
     /// Returns the exit status.
@@ -84,37 +123,94 @@ impl CliError {
         }
     }
 
-    /// Returns the error line, with its newline.
-    pub fn line(self) -> &'static str
-        ensures value { result.now ≡ error_line self }
+    /// Writes the error line, with its newline, by one `write_all` if it has no numbers.
+    pub fn write_to<F: Write>(self, faults: &mut F) -> io::Result<()>
+        ensures written { OnOk result (Appends (F.contents faults.old) (F.contents faults.new) (error_line self)) }
     {
         match self {
-            CliError::Usage => {
-                "usage: key LOG_N R P LEN SALT_HEX | hash phc|mcf LOG_N R P SALT_HEX [LEN] | verify HASH | rehash phc|mcf LOG_N R P LEN SALT_HEX HASH\n"
-            }
-            CliError::SaltNotHex => "salt is not hexadecimal\n",
-            CliError::InvalidParams => "invalid scrypt parameters\n",
-            CliError::InvalidOutputLen => "invalid output buffer length\n",
-            CliError::Algorithm => "hash refused: Algorithm\n",
-            CliError::EncodingInvalid => "hash refused: EncodingInvalid\n",
-            CliError::OutputSize => "hash refused: OutputSize\n",
-            CliError::LnInvalid => "hash refused: ParamInvalid ln\n",
-            CliError::RInvalid => "hash refused: ParamInvalid r\n",
-            CliError::PInvalid => "hash refused: ParamInvalid p\n",
-            CliError::ParamsInvalid => "hash refused: ParamsInvalid\n",
-            CliError::SaltInvalid => "hash refused: SaltInvalid\n",
-            CliError::Version => "hash refused: Version\n",
-            CliError::TooCostly => {
-                "hash refused: TooCostly, it needs more than --most-bytes or --most-work allows\n"
-            }
-            CliError::KeyTooShort => {
-                "hash refused: KeyTooShort, its key is shorter than --least-key-len allows\n"
-            }
-            CliError::OutOfMemory => "out of memory\n",
-            CliError::InputFailed => "input failed\n",
-            CliError::OutputFailed => "output failed\n",
+            CliError::TooCostly {
+                bytes,
+                work,
+                limits,
+            } => write_too_costly(faults, bytes, work, limits),
+            CliError::KeyTooShort { key_len, limits } => write_too_short(faults, key_len, limits),
+            CliError::Usage => faults.write_all(USAGE),
+            CliError::OptionMisfit => faults.write_all(
+                b"an option is unknown, or does not fit the command: see --help\n",
+            ),
+            CliError::SaltNotHex => faults.write_all(b"salt is not hexadecimal\n"),
+            CliError::InvalidParams => faults.write_all(b"invalid scrypt parameters\n"),
+            CliError::InvalidOutputLen => faults.write_all(b"invalid output buffer length\n"),
+            CliError::Algorithm => faults.write_all(b"hash refused: Algorithm\n"),
+            CliError::EncodingInvalid => faults.write_all(b"hash refused: EncodingInvalid\n"),
+            CliError::OutputSize => faults.write_all(b"hash refused: OutputSize\n"),
+            CliError::LnInvalid => faults.write_all(b"hash refused: ParamInvalid ln\n"),
+            CliError::RInvalid => faults.write_all(b"hash refused: ParamInvalid r\n"),
+            CliError::PInvalid => faults.write_all(b"hash refused: ParamInvalid p\n"),
+            CliError::ParamsInvalid => faults.write_all(b"hash refused: ParamsInvalid\n"),
+            CliError::SaltInvalid => faults.write_all(b"hash refused: SaltInvalid\n"),
+            CliError::Version => faults.write_all(b"hash refused: Version\n"),
+            CliError::OutOfMemory => faults.write_all(b"out of memory\n"),
+            CliError::InputFailed => faults.write_all(b"input failed\n"),
+            CliError::OutputFailed => faults.write_all(b"output failed\n"),
         }
     }
+}
+
+// Writes the line of a hash that needs more than one of the limits.
+fn write_too_costly<F: Write>(
+    faults: &mut F,
+    bytes: u128,
+    work: u128,
+    limits: Limits,
+) -> io::Result<()>
+    ensures written { OnOk result (Appends (F.contents faults.old) (F.contents faults.new) (too_costly_line bytes work limits)) }
+{
+    write_needed(faults, bytes, work)?;
+    write_allowed(faults, limits)?;
+    faults.write_all(b"\n")
+}
+
+// Writes what a hash needs.
+fn write_needed<F: Write>(faults: &mut F, bytes: u128, work: u128) -> io::Result<()>
+    ensures written { OnOk result (Appends (F.contents faults.old) (F.contents faults.new) (needed_text bytes work)) }
+{
+    write_number(faults, b"hash refused: TooCostly, it needs ", bytes)?;
+    write_number(faults, b" bytes and work ", work)
+}
+
+// Writes what is allowed.
+fn write_allowed<F: Write>(faults: &mut F, limits: Limits) -> io::Result<()>
+    ensures written { OnOk result (Appends (F.contents faults.old) (F.contents faults.new) (allowed_text limits)) }
+{
+    write_number(faults, b", and --most-bytes is ", limits.most_bytes as u128)?;
+    write_number(faults, b" and --most-work ", limits.most_work as u128)
+}
+
+// Writes the line of a hash whose key is too short.
+fn write_too_short<F: Write>(faults: &mut F, key_len: usize, limits: Limits) -> io::Result<()>
+    ensures written { OnOk result (Appends (F.contents faults.old) (F.contents faults.new) (too_short_line key_len limits)) }
+{
+    write_number(
+        faults,
+        b"hash refused: KeyTooShort, its key has ",
+        key_len as u128,
+    )?;
+    write_number(
+        faults,
+        b" bytes, and --least-key-len is ",
+        limits.least_key_len as u128,
+    )?;
+    faults.write_all(b"\n")
+}
+
+// Writes a text and then a number in decimal.
+fn write_number<F: Write>(faults: &mut F, text: &[u8], n: u128) -> io::Result<()>
+    ensures written { OnOk result (Appends (F.contents faults.old) (F.contents faults.new) (text.now ++ decimal n)) }
+{
+    let mut buffer = Buffer::new();
+    faults.write_all(text)?;
+    faults.write_all(buffer.format(n).as_bytes())
 }
 
 impl From<AllocError> for CliError {

@@ -3,20 +3,18 @@
 //!
 //! ```text
 //! scrypt_tool key LOG_N R P LEN SALT_HEX < password
-//! scrypt_tool hash phc|mcf LOG_N R P [SALT_HEX [LEN]] < password
+//! scrypt_tool hash phc|mcf LOG_N R P SALT_HEX [LEN] < password
 //! scrypt_tool verify HASH < password
 //! scrypt_tool rehash phc|mcf LOG_N R P LEN SALT_HEX HASH < password
 //! ```
 //!
 //! The password is every byte of the standard input; no newline is cut off. The key is written in
 //! lower-case hexadecimal, the hash as its text, and the verdict as `ok` or `no` with status 0 or 1. In place
-//! of `ok`, `rehash` writes a new hash if the old one is weaker than wanted. `--help` prints more.
+//! of `ok`, `rehash` writes a new hash if the old one is weaker than wanted. Options come before the command:
+//! `--help` prints them.
 #![tactic(auto)]
 
-use scrypt_commands::defaults::complete;
-use scrypt_commands::information::{information, print};
-use scrypt_commands::run::run;
-use std::io::ErrorKind;
+use scrypt_commands::with_options::run_with_options;
 use std::process::ExitCode;
 use std::{env, io};
 
@@ -26,21 +24,19 @@ fn main(rt: HostRuntime) -> ExitCode {
         let _ = errors.write_all(b"the arguments can't be read\n");
         return ExitCode::from(3);
     };
-    if let Some(text) = information(&args) {
-        return ExitCode::from(print(text, &mut output, &mut errors).status);
-    }
-    let args = match complete(rt.alloc(), &rt, args) {
-        Ok(args) => args,
-        Err(error) => {
-            let _ = errors.write_all(match error.kind() {
-                ErrorKind::OutOfMemory => b"out of memory\n".as_slice(),
-                _ => b"no salt can be drawn\n".as_slice(),
-            });
-            return ExitCode::from(3);
-        }
+    let ended = run_with_options(
+        rt.alloc(),
+        &rt,
+        &args,
+        &mut rt.stdin(),
+        &mut output,
+        &mut errors,
+    );
+    let Ok(ended) = ended else {
+        let _ = errors.write_all(b"no salt can be drawn\n");
+        return ExitCode::from(3);
     };
-    let exit = run(rt.alloc(), &args, &mut rt.stdin(), &mut output, &mut errors);
-    ExitCode::from(exit.status)
+    ExitCode::from(ended.status)
 }
 
 // The arguments after the program's name.
