@@ -2,5 +2,5 @@
 pub mod TextFacts
 -- What verifying leaves in the caller's buffers.
 pub mod InBuffersFacts
--- New hashes, as they are read back from the caller's buffer.
+-- New hashes, in the caller's buffer.
 pub mod MadeFacts

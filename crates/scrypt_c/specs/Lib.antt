@@ -12,5 +12,3 @@ pub mod Limits
 pub mod Made
 -- what is left in the caller's buffers
 pub mod InBuffers
--- private: what is passed by position, by its names
-pub mod Order

@@ -1,7 +1,8 @@
 -- The status of what parameters need within limits.
-use Rattle.std.specs.Prelude.{◌≡◌, ◌⊎◌, ◌↔◌, ℕ, ℤ, pos, IsTrue, None}
+use Rattle.std.specs.Prelude.{◌≡◌, ◌⊎◌, ◌↔◌, ℕ, ℤ, pos, length, IsTrue, None}
 use Rattle.scrypt.specs.Accepted.{AreAccepted, Parameters}
 use Rattle.scrypt.specs.Limits.{are_within}
+use Rattle.scrypt.specs.Reading.{Stored}
 use Rattle.scrypt.specs.declared.limits.Limits.{Limits}
 
 -- these limits
@@ -19,3 +20,10 @@ pub record IsNeedStatus (most_bytes most_work log_n r p : ℕ) (status : ℤ) : 
   pub costly : (status ≡ pos 13)
       ↔ (AreAccepted log_n r p × (¬ IsTrue (are_within (limits_of most_bytes most_work 0) (params_of log_n r p))))
   pub one : (status ≡ pos 0) ⊎ (status ≡ pos 2) ⊎ (status ≡ pos 13)
+
+-- these are the parameters of what was read, and the length of its key
+pub record AreRead (s : Stored) (log_n r p key_len : ℕ) : Type 0 where
+  pub log_n_is : log_n ≡ s.params.log_n
+  pub r_is : r ≡ s.params.r
+  pub p_is : p ≡ s.params.p
+  pub key_len_is : key_len ≡ length s.key

@@ -1,11 +1,8 @@
 -- The parameters of new hashes, and their texts, which are written to the caller's buffer or too long for it.
-use Rattle.std.specs.Prelude.{◌≡◌, ℕ, ◌<◌, ◌≤◌, false, List, length, Some, Ok}
+use Rattle.std.specs.Prelude.{◌≡◌, ℕ, ◌<◌, ◌≤◌, List, length, Some}
 use Rattle.std.specs.Str.{IsUtf8}
 use Rattle.scrypt.specs.Accepted.{AreAccepted, IsStoredLen, Parameters}
 use Rattle.scrypt.specs.InBuffers.{IsCopiedTo}
-use Rattle.scrypt.specs.Reading.{verdict, weaker}
-use Rattle.scrypt.specs.StoredHash.{StoredText}
-use Rattle.scrypt_c.specs.Texts.{ReadsBytes}
 
 -- parameters with the length of a key
 abbrev pub wanted : ℕ → ℕ → ℕ → ℕ → Parameters
@@ -28,10 +25,3 @@ IsTooLong IsMade buffer len = (text : List ℕ) × IsMade text × (len ≡ lengt
 abbrev pub IsTooShort : (List ℕ → Type 0) → ℕ → Type 0 → List ℕ → ℕ → ℕ → Type 0
 IsTooShort IsMade made_len Enough buffer old new =
     (length buffer < made_len → IsTooLong IsMade buffer new) × (made_len ≤ length buffer → (¬ Enough) × (new ≡ old))
-
--- the bytes are read as a hash that accepts the password and is not weaker than these parameters
-pub record IsAsMade (c : Parameters) (password bytes : List ℕ) : Type 0 where
-  pub hash : StoredText
-  pub reads : ReadsBytes bytes hash
-  pub accepted : verdict password hash.whole ≡ Ok tt
-  pub strong : weaker c hash.whole ≡ Ok false

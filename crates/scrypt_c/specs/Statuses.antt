@@ -4,8 +4,7 @@ use Rattle.password_hash.specs.Refusal.{Refusal, Algorithm, EncodingInvalid, Out
 use Rattle.password_hash.specs.Refusal.{KeyTooShort, SaltInvalid, TooCostly, Version, OutOfMemory, PasswordInvalid}
 use Rattle.scrypt.specs.Accepted.{IsOutputLen}
 use Rattle.scrypt.specs.Reading.{Stored, verdict}
-use Rattle.scrypt.specs.StoredHash.{StoredText}
-use Rattle.scrypt_c.specs.Texts.{ReadsBytes}
+use Rattle.scrypt_c.specs.Texts.{bytes_params}
 
 -- the status of a refusal
 abbrev pub refusal_status : Refusal → ℤ
@@ -18,8 +17,8 @@ refusal_status (ParamInvalid name) = pos 8
 refusal_status ParamsInvalid = pos 9
 refusal_status SaltInvalid = pos 10
 refusal_status Version = pos 11
-refusal_status TooCostly = pos 13
-refusal_status KeyTooShort = pos 15
+refusal_status (TooCostly bytes work) = pos 13
+refusal_status (KeyTooShort key_len) = pos 15
 
 -- the status of a result: of reading a hash, also within limits, or of verifying
 abbrev pub result_status : {A : Type 0} → Result A Refusal → ℤ
@@ -29,8 +28,8 @@ result_status (Err why) = refusal_status why
 -- this is the status of reading the parameters of the bytes and the length of their key, and these are they
 abbrev pub ReadsParams : List ℕ → ℤ → ℕ → ℕ → ℕ → ℕ → Type 0
 ReadsParams bytes status log_n r p key_len =
-    (hash : StoredText) × ReadsBytes bytes hash × (status ≡ result_status hash.params)
-    × IfOk hash.params (λ read. (log_n ≡ read.0.log_n) × (r ≡ read.0.r) × (p ≡ read.0.p) × (key_len ≡ read.1))
+    (status ≡ result_status (bytes_params bytes))
+    × IfOk (bytes_params bytes) (λ read. (log_n ≡ read.0.log_n) × (r ≡ read.0.r) × (p ≡ read.0.p) × (key_len ≡ read.1))
 
 -- the status of verifying: that of the verdict, or, only where keys are compared, that an allocation failed
 abbrev pub IsVerifyStatus : List ℕ → Result Stored Refusal → ℤ → Type 0

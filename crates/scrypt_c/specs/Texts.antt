@@ -1,14 +1,15 @@
 -- How the calls read the text of a hash, which they take as bytes.
-use Rattle.std.specs.Prelude.{ℕ, List, Err}
-use Rattle.std.specs.Str.{IsUtf8}
-use Rattle.password_hash.specs.Refusal.{EncodingInvalid}
-use Rattle.scrypt.specs.StoredHash.{IsStoredText, Reads, StoredText}
+use Rattle.std.specs.Prelude.{ℕ, if◌then◌else◌, List, Result, Err}
+use Rattle.std.specs.Str.{is_utf8}
+use Rattle.password_hash.specs.Refusal.{Refusal, EncodingInvalid}
+use Rattle.scrypt.specs.Accepted.{Parameters}
+use Rattle.scrypt.specs.Reading.{Stored}
+use Rattle.scrypt.specs.StoredHash.{params_reading, reading}
 
--- what is read of bytes that are the text of no hash
-abbrev pub no_hash : List ℕ → StoredText
-no_hash bytes = record { text = bytes; params = Err EncodingInvalid; whole = Err EncodingInvalid }
+-- the reading of bytes, as a text in UTF-8
+unfoldable pub bytes_reading : List ℕ → Result Stored Refusal
+bytes_reading bytes = if is_utf8 bytes then reading bytes else Err EncodingInvalid
 
--- the bytes are read so: as the stored hash whose text they are in UTF-8, and otherwise as no hash
-pub data ReadsBytes (bytes : List ℕ) : StoredText → Type 0 where
-  of_text : {hash : StoredText} → IsUtf8 bytes → Reads bytes hash → ReadsBytes bytes hash
-  of_none : ¬ (IsUtf8 bytes × IsStoredText bytes) → ReadsBytes bytes (no_hash bytes)
+-- the parameters that are read of bytes, and the length of the key
+unfoldable pub bytes_params : List ℕ → Result (Parameters × ℕ) Refusal
+bytes_params bytes = if is_utf8 bytes then params_reading bytes else Err EncodingInvalid

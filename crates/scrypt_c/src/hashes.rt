@@ -5,10 +5,9 @@ ghost use Rattle.password_hash.specs.Refusal.{told};
 ghost use Rattle.scrypt.specs.McfHash.{IsMadeHash as IsMadeMcf};
 ghost use Rattle.scrypt.specs.PhcHash.{IsMadeText, IsSaltLen};
 ghost use Rattle.scrypt.specs.Reading.{weaker};
-ghost use Rattle.scrypt.specs.StoredHash.{StoredText};
 ghost use Rattle.scrypt_c.specs.Made.{AreHashParams, IsTooLong, IsWrittenTo, wanted};
 ghost use Rattle.scrypt_c.specs.Statuses.{IsVerifyStatus, ReadsParams, rehash_status, result_status};
-ghost use Rattle.scrypt_c.specs.Texts.{ReadsBytes};
+ghost use Rattle.scrypt_c.specs.Texts.{bytes_reading};
 
 use crate::statuses::{
     BUFFER_SIZE, INVALID_PARAMS, MISMATCH, NEEDS_REHASH, OK, OUT_OF_MEMORY, SALT_INVALID, status_of,
@@ -154,7 +153,7 @@ pub extern "C" fn scrypt_hash_params(
 /// to 137438953440 bytes; `OUT_OF_MEMORY`; and `MISMATCH`.
 #[unsafe(no_mangle)]
 pub extern "C" fn scrypt_verify(alloc: Global, password: &[u8], text: &[u8]) -> i32
-    ensures status { (hash : StoredText) × ReadsBytes text.now hash × IsVerifyStatus password.now hash.whole result }
+    ensures status { IsVerifyStatus password.now (bytes_reading text.now) result }
 {
     match stored_hash(text) {
         Ok(hash) => verify_status(hash.verify(alloc, password)),
@@ -172,8 +171,8 @@ pub extern "C" fn scrypt_verify(alloc: Global, password: &[u8], text: &[u8]) -> 
 #[unsafe(no_mangle)]
 pub extern "C" fn scrypt_needs_rehash(text: &[u8], log_n: u8, r: u32, p: u32, key_len: usize) -> i32
     ensures status { ((result ≡ INVALID_PARAMS) × ¬ AreHashParams log_n r p key_len)
-        ⊎ (AreHashParams log_n r p key_len × ((hash : StoredText) × ReadsBytes text.now hash
-        × (result ≡ rehash_status (weaker (wanted log_n r p key_len) hash.whole)))) }
+        ⊎ (AreHashParams log_n r p key_len
+        × (result ≡ rehash_status (weaker (wanted log_n r p key_len) (bytes_reading text.now)))) }
 {
     let Ok(wanted) = Params::new_with_output_len(log_n, r, p, key_len) else {
         return INVALID_PARAMS;

@@ -5,7 +5,6 @@
 //! length in C.
 #![tactic(auto)]
 
-mod argument_order;
 pub mod hashes;
 pub mod keys;
 pub mod needs;

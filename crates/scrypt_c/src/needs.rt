@@ -1,21 +1,24 @@
 //! What a call needs, within limits, before it allocates.
 
-ghost use Rattle.std.specs.Prelude.{◌≡◌, ◌≢◌, IfOk};
-ghost use Rattle.scrypt.specs.StoredHash.{StoredText};
+ghost use Rattle.std.specs.Prelude.{◌≡◌, ◌≢◌, ◌↔◌, ◌⊎◌, IfOk};
+ghost use Rattle.scrypt.specs.Accepted.{AreAccepted};
+ghost use Rattle.scrypt.specs.Limits.{limits_for_new, tables_within};
 ghost use Rattle.scrypt.specs.WithinLimits.{within};
-ghost use Rattle.scrypt_c.specs.Buffers.{AreBuffers, AreUsable};
-ghost use Rattle.scrypt_c.specs.Limits.{IsNeedStatus, limits_of};
+ghost use Rattle.scrypt_c.specs.Buffers.{AreBuffers};
+ghost use Rattle.scrypt_c.specs.Limits.{AreRead, IsNeedStatus, limits_of, params_of};
 ghost use Rattle.scrypt_c.specs.Statuses.{result_status};
-ghost use Rattle.scrypt_c.specs.Texts.{ReadsBytes};
+ghost use Rattle.scrypt_c.specs.Texts.{bytes_reading};
 
-use crate::statuses::{INVALID_PARAMS, OK, TOO_COSTLY, status_of};
+use crate::statuses::{INVALID_PARAMS, OK, TOO_COSTLY, limited_status_of, status_of};
 use crate::texts::stored_hash;
 use scrypt::{BufferLens, Limits, Params};
 
-/// Returns in `chunks_len` (bytes), `table_len` and `scratch_len` (words) the lengths of the buffers that verifying
-/// with this text needs. Does not allocate.
+/// Returns in `log_n`, `r`, `p` and `key_len` what the text of a hash encodes; in `chunks_len` (bytes), `table_len` and
+/// `scratch_len` (words) the lengths of the buffers that verifying with it needs; and in `tables`, which is 1 to 4 and at
+/// most `p`, how many tables and how many scratches of these lengths it can use if the buffers have at most `most_bytes`
+/// bytes together. Does not allocate.
 ///
-/// Returns `OK`, or the first of these, and then no length is written: the errors of `scrypt_verify` for a hash that
+/// Returns `OK`, or the first of these, and then nothing is written: the errors of `scrypt_verify` for a hash that
 /// cannot be read, `MISMATCH` for one without a salt or a key among them; `TOO_COSTLY` if the buffers have more than
 /// `most_bytes` bytes together, or if the work, `4 * (2^log_n + 32) * r * p`, is above `most_work`; and
 /// `KEY_TOO_SHORT` if the key has fewer than `least_key_len` bytes.
@@ -25,15 +28,24 @@ pub extern "C" fn scrypt_hash_needs(
     most_bytes: usize,
     most_work: u64,
     least_key_len: usize,
+    log_n: &mut u8,
+    r: &mut u32,
+    p: &mut u32,
+    key_len: &mut usize,
+    tables: &mut usize,
     chunks_len: &mut usize,
     table_len: &mut usize,
     scratch_len: &mut usize,
 ) -> i32
-    ensures status { (hash : StoredText) × ReadsBytes text.now hash
-        × (result ≡ result_status (within (limits_of most_bytes most_work least_key_len) hash.whole)) }
-    ensures lens { (hash : StoredText) × ReadsBytes text.now hash
-        × IfOk (within (limits_of most_bytes most_work least_key_len) hash.whole)
+    ensures status { result ≡ result_status (within (limits_of most_bytes most_work least_key_len) (bytes_reading text.now)) }
+    ensures read { IfOk (within (limits_of most_bytes most_work least_key_len) (bytes_reading text.now))
+        (λ s. AreRead s log_n.new r.new p.new key_len.new) }
+    ensures tables { IfOk (within (limits_of most_bytes most_work least_key_len) (bytes_reading text.now))
+        (λ s. tables.new ≡ tables_within most_bytes s.params) }
+    ensures lens { IfOk (within (limits_of most_bytes most_work least_key_len) (bytes_reading text.now))
         (λ s. AreBuffers s.params.log_n s.params.r s.params.p 0 chunks_len.new table_len.new scratch_len.new) }
+    ensures unread { result ≢ OK → (log_n.new ≡ log_n.old) × (r.new ≡ r.old) × (p.new ≡ p.old)
+        × (key_len.new ≡ key_len.old) × (tables.new ≡ tables.old) }
     ensures refused { result ≢ OK
         → (chunks_len.new ≡ chunks_len.old) × (table_len.new ≡ table_len.old) × (scratch_len.new ≡ scratch_len.old) }
 {
@@ -46,21 +58,28 @@ pub extern "C" fn scrypt_hash_needs(
         most_work,
         least_key_len,
     };
-    match hash.buffer_lens_within(&limits) {
-        Ok(lens) => {
+    match hash.params_and_key_len_within(&limits) {
+        Ok((params, len)) => {
+            *log_n = params.log_n();
+            *r = params.r();
+            *p = params.p();
+            *key_len = len;
+            *tables = BufferLens::tables_within(&params, most_bytes);
+            let lens = BufferLens::of(&params);
             *chunks_len = lens.chunks;
             *table_len = lens.table;
             *scratch_len = lens.scratch;
             OK
         }
-        Err(error) => status_of(error),
+        Err(error) => limited_status_of(error),
     }
 }
 
 /// Returns in `chunks_len` (bytes), `table_len` and `scratch_len` (words) the lengths of the buffers that a derivation
-/// with these parameters needs. Does not allocate.
+/// with these parameters needs, and in `tables`, which is 1 to 4 and at most `p`, how many tables and how many scratches
+/// of these lengths it can use if the buffers have at most `most_bytes` bytes together. Does not allocate.
 ///
-/// Returns `OK`, or the first of these, and then no length is written: `INVALID_PARAMS` if the parameters are not
+/// Returns `OK`, or the first of these, and then nothing is written: `INVALID_PARAMS` if the parameters are not
 /// accepted, and `TOO_COSTLY` as `scrypt_hash_needs` does.
 #[unsafe(no_mangle)]
 pub extern "C" fn scrypt_params_need(
@@ -69,14 +88,16 @@ pub extern "C" fn scrypt_params_need(
     p: u32,
     most_bytes: usize,
     most_work: u64,
+    tables: &mut usize,
     chunks_len: &mut usize,
     table_len: &mut usize,
     scratch_len: &mut usize,
 ) -> i32
     ensures status { IsNeedStatus most_bytes most_work log_n r p result }
+    ensures tables { result ≡ OK → tables.new ≡ tables_within most_bytes (params_of log_n r p) }
     ensures lens { result ≡ OK → AreBuffers log_n r p 0 chunks_len.new table_len.new scratch_len.new }
-    ensures refused { result ≢ OK
-        → (chunks_len.new ≡ chunks_len.old) × (table_len.new ≡ table_len.old) × (scratch_len.new ≡ scratch_len.old) }
+    ensures refused { result ≢ OK → (tables.new ≡ tables.old)
+        × (chunks_len.new ≡ chunks_len.old) × (table_len.new ≡ table_len.old) × (scratch_len.new ≡ scratch_len.old) }
 {
     let Ok(params) = Params::new(log_n, r, p) else {
         return INVALID_PARAMS;
@@ -89,6 +110,7 @@ pub extern "C" fn scrypt_params_need(
     if !limits.allow(&params) {
         return TOO_COSTLY;
     }
+    *tables = BufferLens::tables_within(&params, most_bytes);
     let lens = BufferLens::of(&params);
     *chunks_len = lens.chunks;
     *table_len = lens.table;
@@ -96,48 +118,35 @@ pub extern "C" fn scrypt_params_need(
     OK
 }
 
-/// Returns in `chunks_len` (bytes), `table_len` and `scratch_len` (words) the lengths of the buffers that a derivation
-/// with these parameters can use: if `p` is at least 2 and so many bytes are within `most_bytes`, the table and the
-/// scratch are twice as long as `scrypt_params_need` returns, so that two chunks are mixed at a time; otherwise the
-/// lengths are those of `scrypt_params_need`. Does not allocate.
+/// Returns the default limits of a hasher that makes hashes with these parameters and keys of `key_len` bytes: the usual
+/// ones, except that they admit such hashes. Does not allocate.
 ///
-/// Returns what `scrypt_params_need` returns, and on an error no length is written.
+/// Returns `OK`, or `INVALID_PARAMS` if the parameters are not accepted, and then no limit is written.
 #[unsafe(no_mangle)]
-pub extern "C" fn scrypt_params_can_use(
+pub extern "C" fn scrypt_limits_for_new(
     log_n: u8,
     r: u32,
     p: u32,
-    most_bytes: usize,
-    most_work: u64,
-    chunks_len: &mut usize,
-    table_len: &mut usize,
-    scratch_len: &mut usize,
+    key_len: usize,
+    most_bytes: &mut usize,
+    most_work: &mut u64,
+    least_key_len: &mut usize,
 ) -> i32
-    ensures status { IsNeedStatus most_bytes most_work log_n r p result }
-    ensures lens { result ≡ OK → AreUsable most_bytes log_n r p chunks_len.new table_len.new scratch_len.new }
-    ensures refused { result ≢ OK
-        → (chunks_len.new ≡ chunks_len.old) × (table_len.new ≡ table_len.old) × (scratch_len.new ≡ scratch_len.old) }
+    ensures status { (result ≡ INVALID_PARAMS) ↔ (¬ AreAccepted log_n r p) }
+    ensures one { (result ≡ OK) ⊎ (result ≡ INVALID_PARAMS) }
+    ensures limits { result ≡ OK → limits_of most_bytes.new most_work.new least_key_len.new
+        ≡ limits_for_new Limits.USUAL (params_of log_n r p) key_len }
+    ensures refused { result ≢ OK → (most_bytes.new ≡ most_bytes.old) × (most_work.new ≡ most_work.old)
+        × (least_key_len.new ≡ least_key_len.old) }
 {
-    let status = scrypt_params_need(
-        log_n,
-        r,
-        p,
-        most_bytes,
-        most_work,
-        chunks_len,
-        table_len,
-        scratch_len,
-    );
-    if status != OK {
-        return status;
+    match Params::new(log_n, r, p) {
+        Ok(params) => {
+            let limits = Limits::for_new(&params, key_len);
+            *most_bytes = limits.most_bytes;
+            *most_work = limits.most_work;
+            *least_key_len = limits.least_key_len;
+            OK
+        }
+        Err(_) => INVALID_PARAMS,
     }
-    let Some(params) = Params::new(log_n, r, p).ok() else {
-        return INVALID_PARAMS;
-    };
-    let two = BufferLens::two_tables(&params);
-    if p >= 2 && two.bytes() <= most_bytes as u128 {
-        *table_len = two.table;
-        *scratch_len = two.scratch;
-    }
-    OK
 }

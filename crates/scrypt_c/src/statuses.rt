@@ -2,9 +2,11 @@
 
 ghost use Rattle.std.specs.Prelude.{◌≡◌};
 ghost use Rattle.password_hash.specs.Refusal.{refusal};
+ghost use Rattle.scrypt.specs.WithinLimits.{limited_refusal};
 ghost use Rattle.scrypt_c.specs.Statuses.{refusal_status};
 
 use password_hash::Error;
+use scrypt::LimitedError;
 
 /// The call succeeded; of `scrypt_verify`: it is the password of the hash.
 pub const OK: i32 = 0;
@@ -79,7 +81,16 @@ pub(crate) fn status_of(error: Error) -> i32
         Error::ParamsInvalid => HASH_PARAMS_INVALID,
         Error::SaltInvalid => SALT_INVALID,
         Error::Version => VERSION,
-        Error::TooCostly => TOO_COSTLY,
-        Error::KeyTooShort => KEY_TOO_SHORT,
+    }
+}
+
+// Returns the status of an error of a call with limits.
+pub(crate) fn limited_status_of(error: LimitedError) -> i32
+    ensures { result ≡ refusal_status (limited_refusal error) }
+{
+    match error {
+        LimitedError::Hash(error) => status_of(error),
+        LimitedError::TooCostly { .. } => TOO_COSTLY,
+        LimitedError::KeyTooShort { .. } => KEY_TOO_SHORT,
     }
 }

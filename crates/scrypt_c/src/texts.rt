@@ -1,8 +1,10 @@
 // The texts of hashes: read from the caller's bytes, and copied to the caller's buffer.
 
-ghost use Rattle.std.specs.Prelude.{◌≡◌, ◌≢◌, ◌↔◌, ◌⊎◌, ◌≤◌, ◌++◌, drop, length, IfErr, IfOk};
+ghost use Rattle.std.specs.Prelude.{◌≡◌, ◌≢◌, ◌↔◌, ◌⊎◌, ◌≤◌, ◌++◌, drop, length, IfErr};
 ghost use Rattle.password_hash.specs.declared.error.Error.TheVariants.{EncodingInvalid};
-ghost use Rattle.scrypt_c.specs.Texts.{ReadsBytes, no_hash};
+ghost use Rattle.scrypt.specs.Reading.{◌and_then◌, told};
+ghost use Rattle.scrypt.specs.StoredHash.{params_reading, reading};
+ghost use Rattle.scrypt_c.specs.Texts.{bytes_params, bytes_reading};
 
 use crate::statuses::{BUFFER_SIZE, OK};
 use password_hash::{Error, Result};
@@ -12,8 +14,9 @@ use scrypt::StoredHash;
 ///
 /// Returns `EncodingInvalid` if the bytes are not UTF-8 or the text is not one of its format.
 pub fn stored_hash(bytes: &[u8]) -> Result<StoredHash<'_>>
-    ensures ok { IfOk result (ReadsBytes bytes.now) }
-    ensures err { IfErr result (λ e. (e ≡ EncodingInvalid) × ReadsBytes bytes.now (no_hash bytes.now)) }
+    ensures reading { bytes_reading bytes.now ≡ told result and_then reading }
+    ensures params { bytes_params bytes.now ≡ told result and_then params_reading }
+    ensures err { IfErr result (λ e. e ≡ EncodingInvalid) }
 {
     match std::str::from_utf8(bytes) {
         Ok(text) => StoredHash::read(text),

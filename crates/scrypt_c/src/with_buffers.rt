@@ -1,19 +1,24 @@
 //! Hashes in the caller's buffers.
 
-ghost use Rattle.std.specs.Prelude.{◌≡◌, ◌≢◌, ◌↔◌, ◌⊎◌, length, replicate, IsOk};
+ghost use Rattle.std.specs.Prelude.{◌≡◌, ◌≢◌, ◌↔◌, ◌⊎◌, [], ◌∷◌, length, replicate, take, IsOk};
 ghost use Rattle.password_hash.specs.Refusal.{told};
 ghost use Rattle.scrypt.specs.InBuffers.{AreEnough};
 ghost use Rattle.scrypt.specs.McfHash.{IsMadeHash as IsMadeMcf, made_text_len};
 ghost use Rattle.scrypt.specs.PhcHash.{IsMadeText, IsSaltLen};
-ghost use Rattle.scrypt.specs.WorkInBuffers.{verdict_in};
-ghost use Rattle.scrypt_c.specs.InBuffers.{AreLeft, AreUsed, IsLeftBy, IsLeftByTwo, IsStatusIn, buffers, whole_of};
+ghost use Rattle.scrypt.specs.Logins.{reading_of};
+ghost use Rattle.scrypt.specs.WithinLimits.{told_limited};
+ghost use Rattle.scrypt.specs.WorkInBuffers.{verdict_in, work_in};
+ghost use Rattle.scrypt_c.specs.InBuffers.{AreLeft, AreLeftBy, AreUsed, IsLeftBy, IsStatusIn, buffers, statuses_in, whole_of};
 ghost use Rattle.scrypt_c.specs.Made.{AreHashParams, IsTooLong, IsTooShort, IsWrittenTo, wanted};
 ghost use Rattle.scrypt_c.specs.Statuses.{buffers_status};
+ghost use Rattle.scrypt_c.specs.Texts.{bytes_reading};
 
-use crate::statuses::{BUFFER_SIZE, INVALID_PARAMS, OK, SALT_INVALID, status_of};
+use crate::statuses::{
+    BUFFER_SIZE, INVALID_PARAMS, MISMATCH, OK, SALT_INVALID, limited_status_of, status_of,
+};
 use crate::texts::{copy_to, stored_hash};
 use password_hash::{Error, Result};
-use scrypt::{CoreCount, Params, StoredHash, mcf, phc, wipe};
+use scrypt::{CoreCount, LimitedError, Login, Logins, Params, StoredHash, mcf, phc, wipe};
 
 /// Does what `scrypt_hash_phc` does, in the caller's buffers, and allocates nothing.
 ///
@@ -125,7 +130,6 @@ pub extern "C" fn scrypt_hash_mcf_with_buffers(
 /// many elements at the front of each buffer are used. If the keys are compared, those of the chunks
 /// and of the scratch are zeros afterwards, those of the table are unspecified, and nothing after
 /// them has changed; otherwise the buffers are unchanged.
-#[tactic(auto, using(crate::proofs::TextFacts::reading_of))]
 #[unsafe(no_mangle)]
 pub extern "C" fn scrypt_verify_with_buffers(
     password: &[u8],
@@ -140,54 +144,82 @@ pub extern "C" fn scrypt_verify_with_buffers(
     status_in(stored_hash(text), password, chunks, table, scratch)
 }
 
-/// Verifies two passwords, each with its own hash, in the caller's buffers. Does not allocate.
+/// Verifies up to four passwords, each with its own hash, in the caller's buffers. Does not allocate.
 ///
-/// Returns what `scrypt_verify_with_buffers` returns for the first alone in these buffers, and writes
-/// to `other_status` what it returns for the other alone, whatever the first is. If keys of both are
-/// compared, the `log_n` and the `r` of both hashes are the same, the chunks are at least as long as
-/// those of both that `scrypt_buffer_lens` returns, with `s` of 0, and the table and the scratch are
-/// at least twice as long, both keys are derived at once, which takes about 0.7 of the time. Afterwards
-/// what was used of the chunks and of the scratch is zeros, what was used of the table is
-/// unspecified, and nothing after them has changed.
+/// Writes to each of the first `count` statuses what `scrypt_verify_with_buffers` returns for that one
+/// alone in these buffers, whatever the others are, and `MISMATCH` to the others. The first two are a
+/// pair, and so are the last two: if keys of both are compared, `log_n` and `r` of both hashes are the
+/// same, and each buffer is long enough for one derivation with as many chunks as both have, both
+/// keys are derived at once, and so are those of two such pairs. As many chunks are mixed at a time
+/// as have a table and a scratch, at most four. Afterwards what was used of the chunks and of the
+/// scratch is zeros, what was used of the table is unspecified, and nothing after them has changed.
 #[unsafe(no_mangle)]
-pub extern "C" fn scrypt_verify_two_with_buffers(
+pub extern "C" fn scrypt_verify_group_with_buffers(
     password: &[u8],
     text: &[u8],
-    other_password: &[u8],
-    other_text: &[u8],
-    other_status: &mut i32,
+    password_2: &[u8],
+    text_2: &[u8],
+    password_3: &[u8],
+    text_3: &[u8],
+    password_4: &[u8],
+    text_4: &[u8],
+    count: usize,
+    statuses: &mut [i32; 4],
     chunks: &mut [u8],
     table: &mut [u32],
     scratch: &mut [u32],
-) -> i32
-    ensures status { IsStatusIn (buffers chunks.old table.old scratch.old) password.now text.now result }
-    ensures other_status { IsStatusIn (buffers chunks.old table.old scratch.old) other_password.now other_text.now other_status.new }
-    ensures left { IsLeftByTwo text.now other_text.now
-        (buffers chunks.old table.old scratch.old) (buffers chunks.new table.new scratch.new) }
+)
+    ensures statuses { take count statuses.new ≡ take count (statuses_in (buffers chunks.old table.old scratch.old)
+        ((password.now, text.now) ∷ (password_2.now, text_2.now) ∷ (password_3.now, text_3.now) ∷ (password_4.now, text_4.now) ∷ [])) }
+    ensures left { (before after : CoreCount) × AreLeftBy (take count
+        (bytes_reading text.now ∷ bytes_reading text_2.now ∷ bytes_reading text_3.now ∷ bytes_reading text_4.now ∷ []))
+        (work_in chunks.old table.old scratch.old before) (work_in chunks.new table.new scratch.new after) }
 {
-    match (stored_hash(text), stored_hash(other_text)) {
-        (Ok(hash), Ok(other)) => {
-            let mut cores = CoreCount::new();
-            let (result, other_result) = hash.verify_two(
-                password,
-                &other,
-                other_password,
-                chunks,
-                table,
-                scratch,
-                &mut cores,
-            );
-            *other_status = buffers_status(other_result);
-            buffers_status(result)
+    let (one, two) = (login(password, text), login(password_2, text_2));
+    let (three, four) = (login(password_3, text_3), login(password_4, text_4));
+    let mut cores = CoreCount::new();
+    *statuses = match count {
+        0 => [MISMATCH; 4],
+        1 => {
+            let a = one.verify(chunks, table, scratch, &mut cores);
+            [status(a), MISMATCH, MISMATCH, MISMATCH]
         }
-        (read, Err(error)) => {
-            *other_status = status_of(error);
-            status_in(read, password, chunks, table, scratch)
+        2 => {
+            let (a, b) = (one, two).verify(chunks, table, scratch, &mut cores);
+            [status(a), status(b), MISMATCH, MISMATCH]
         }
-        (Err(error), other) => {
-            *other_status = status_in(other, other_password, chunks, table, scratch);
-            status_of(error)
+        3 => {
+            let ((a, b), c) = ((one, two), three).verify(chunks, table, scratch, &mut cores);
+            [status(a), status(b), status(c), MISMATCH]
         }
+        _ => {
+            let group = ((one, two), (three, four));
+            let ((a, b), (c, d)) = group.verify(chunks, table, scratch, &mut cores);
+            [status(a), status(b), status(c), status(d)]
+        }
+    };
+}
+
+// Reads the hash that a password is verified with.
+fn login<'a>(password: &'a [u8], text: &'a [u8]) -> Login<'a>
+    ensures password { result.password.now ≡ password.now }
+    ensures reading { reading_of result ≡ bytes_reading text.now }
+{
+    Login {
+        password,
+        hash: stored_hash(text),
+        limits: None,
+    }
+}
+
+// Returns the status of a verdict in the caller's buffers.
+fn status(verdict: std::result::Result<(), LimitedError>) -> i32
+    ensures { result ≡ buffers_status (told_limited verdict) }
+{
+    match verdict {
+        Ok(()) => OK,
+        Err(LimitedError::Hash(Error::OutOfMemory)) => BUFFER_SIZE,
+        Err(error) => limited_status_of(error),
     }
 }
 

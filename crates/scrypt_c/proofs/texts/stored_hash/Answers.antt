@@ -1,17 +1,19 @@
-use Rattle.std.proofs.Common.{refl}
-use Rattle.scrypt_c.proofs.TextFacts.{no_stored_text, stored_text}
-use Rattle.scrypt_c.specs.Texts.{of_none}
+use Rattle.std.proofs.Common.{◌∙◌}
+use Rattle.scrypt_c.proofs.TextFacts.{no_text_read, text_read}
 use Rattle.scrypt_c.proofs.texts.stored_hash.Goals as goal
 
-pub returns-in-Ok-clause-ok : goal.returns-in-Ok-clause-ok
-returns-in-Ok-clause-ok c =
+pub returns-in-Ok-clause-reading : goal.returns-in-Ok-clause-reading
+returns-in-Ok-clause-reading c =
     let text = c.in-Ok.ensures.cases in
-    stored_text c.args.bytes.now c.read.result text.1 (rw text.0 at c.read.ensures.ok)
+    (text_read c.args.bytes.now text.1).0 ∙ (rw text.0 at c.read.ensures.reading)
 
-pub returns-in-Ok-clause-err : goal.returns-in-Ok-clause-err
-returns-in-Ok-clause-err c =
+pub returns-in-Ok-clause-params : goal.returns-in-Ok-clause-params
+returns-in-Ok-clause-params c =
     let text = c.in-Ok.ensures.cases in
-    no_stored_text c.args.bytes.now c.read.result (rw text.0 at c.read.ensures.exact) c.read.ensures.err
+    (text_read c.args.bytes.now text.1).1 ∙ (rw text.0 at c.read.ensures.params)
 
-pub returns-in-Err-clause-err : goal.returns-in-Err-clause-err
-returns-in-Err-clause-err c = (refl, of_none (λ text. c.in-Err.ensures.cases.0 text.0))
+pub returns-in-Err-clause-reading : goal.returns-in-Err-clause-reading
+returns-in-Err-clause-reading c = (no_text_read c.args.bytes.now c.in-Err.ensures.cases.0).0
+
+pub returns-in-Err-clause-params : goal.returns-in-Err-clause-params
+returns-in-Err-clause-params c = (no_text_read c.args.bytes.now c.in-Err.ensures.cases.0).1
