@@ -1,13 +1,15 @@
 #!/bin/sh
 # Calls the libraries of build/lib from each language of bindings/ whose compiler is here, and from programs that know
-# only the names of other libraries and of crypt(3). Prints what is not installed, by its Debian package, and fails if a
-# caller fails. With the word short, which the gate uses: the tests from C, from Python and of the drop-in names that take
-# seconds, once.
+# only the names of other libraries. Prints what is not installed, by its Debian package, and fails if a caller fails.
+# With the word short, which the gate uses: the tests from C, from Python and of the drop-in names that take seconds, once.
+# Before all that it checks that the libraries keep blocks in registers.
 set -eu
+unset CDPATH
 cd "$(dirname "$0")"
+python3 -B ../bench/registers.py
 if [ "${1:-}" = short ]; then
   for caller in c python drop_in; do $caller/test.sh short; done
   exit
 fi
-for caller in c python go rust drop_in crypt; do $caller/test.sh; done
+for caller in c python go rust drop_in; do $caller/test.sh; done
 python3 readme_examples.py

@@ -1,12 +1,12 @@
 #!/usr/bin/env python3
-"""Compares what the libraries export with the list in the file `abi` beside this script, and the names of the arguments in
-the header with those of the proved functions, and refuses what differs.
+"""Compares what the libraries export with the list in the file `abi` beside this script, and the names of the arguments
+that C declares with those of the proved functions, and refuses what differs.
 
 usage: abi.py FOLDER            FOLDER has the libraries and the header, as build/lib has
        abi.py FOLDER --print    prints the list that they have
 
-A line of the list is an exported name and sizes in bytes: of the result, and of each argument. Another is a status and
-its number. A program that was linked with the library relies on all of these.
+A line of the list is an exported name and sizes in bytes: of the result, and of each argument; or a structure and the sizes
+of its fields. Another is a status and its number. A program that was linked with the library relies on all of these.
 """
 
 import glob
@@ -16,7 +16,7 @@ import subprocess
 import sys
 
 SONAME, VERSION = "libscrypt_c.so.0", "SCRYPT_C_0.12"
-SIZES = {"int": 4, "uint8_t": 1, "uint32_t": 4, "uint64_t": 8, "size_t": 8}
+SIZES = {"int": 4, "uint8_t": 1, "uint32_t": 4, "uint64_t": 8, "int64_t": 8, "size_t": 8, "double": 8}
 
 
 HERE = os.path.dirname(os.path.abspath(__file__))
@@ -31,7 +31,7 @@ def size(declared):
 def calls_of(header):
     """The result, the name and the arguments of each call."""
     text = re.sub(r"/\*.*?\*/", "", header, flags=re.S)
-    return re.findall(r"^(int|void|scrypt_memory \*|const char \*) ?(scrypt_\w+)\(([^{}]*?)\);", text, re.M)
+    return re.findall(r"^(int|void|(?:const )?\w+ \*) ?(scrypt_\w+)\(([^{}]*?)\);", text, re.M)
 
 
 def of_header(text):
@@ -40,6 +40,9 @@ def of_header(text):
     for result, name, arguments in calls_of(text):
         sizes = [8 if "*" in result else SIZES.get(result, 0), *(size(it) for it in arguments.split(",") if it != "void")]
         lines.append(" ".join([name, *map(str, sizes)]))
+    for fields, name in re.findall(r"^typedef struct \w+ \{(.*?)\} (\w+);", re.sub(r"/\*.*?\*/", "", text, flags=re.S), re.M | re.S):
+        sizes = [8 if "*" in it else SIZES[it.split()[0]] for it in fields.split(";") if it.strip() for _ in it.split(",")]
+        lines.append(" ".join(["struct", name, *map(str, sizes)]))
     return sorted(lines) + [f"{name} {number}" for name, number in re.findall(r"^  (SCRYPT_\w+) = (\d+)", text, re.M)]
 
 
@@ -52,14 +55,23 @@ def proved():
             names = []
             for it, kind in re.findall(r"(\w+): ([^,]+)", arguments):
                 length = "capacity" if (it, kind) == ("text", "&mut [u8]") else f"{it}_len"
-                names += [] if kind == "Global" else [it, length] if "[" in kind else [it]
+                names += [] if kind == "Global" else [it, length] if re.search(r"\[\w+\]", kind) else [it]
             yield name, names
 
 
-def misnamed(header):
-    """A contract is proved whatever the order of the arguments, and the header has its own."""
-    named = {name: [it.split()[-1].lstrip("*") for it in arguments.split(",")] for _, name, arguments in calls_of(header)}
-    yield from (f"{name} has the arguments {names}, and in the header {named.get(name)}"
+def called():
+    """What C declares of the proved calls: those of the list, and the few that the header declares itself."""
+    macros = [f"-D{name}(name, parameters, arguments)={result} name parameters;"
+              for name, result in (("PROVED_CALL", "int"), ("PROVED_PROCEDURE", "void"))]
+    declared = output("cc", "-E", "-P", *macros, "-xc", os.path.join(HERE, "proved_calls.h"))
+    with open(os.path.join(HERE, "scrypt_c.h"), encoding="utf-8") as file:
+        return [*calls_of(file.read()), *calls_of(declared.replace(" (", "("))]
+
+
+def misnamed():
+    """A contract is proved whatever the order of the arguments, and C declares its own."""
+    named = {name: [it.split()[-1].lstrip("*") for it in arguments.split(",")] for _, name, arguments in called()}
+    yield from (f"{name} has the arguments {names}, and in C {named.get(name)}"
                 for name, names in proved() if named.get(name) != names)
 
 
@@ -71,7 +83,7 @@ def complaints(folder, wanted):
     with open(os.path.join(folder, "scrypt_c.h"), encoding="utf-8") as file:
         header = file.read()
     listed = of_header(header)
-    yield from misnamed(header)
+    yield from misnamed()
     yield from (f"the list has it, and not the header: {it}" for it in wanted if it not in listed)
     yield from (f"the header has it, and not the list: {it}" for it in listed if it not in wanted)
     names = {it.split()[0] for it in wanted if it.startswith("scrypt_")}

@@ -5,10 +5,10 @@
  * that is linked with the static library may bind one at its first call, and the dynamic linker then saves registers to
  * the stack, deeper than the proved calls use it. */
 #define _DEFAULT_SOURCE
+#include "clearing.h"
 #include "pages.h"
 
 #include <emmintrin.h>
-#include <malloc.h>
 #include <stdint.h>
 #include <stdlib.h>
 #include <string.h>
@@ -19,14 +19,13 @@
 #define PAGE ((size_t)4096)
 #define CACHE_LINE ((size_t)64)
 
-/* The word before a block has the place where malloc's block begins, in which it lies. */
-static void **start_of(void *block) { return (void **)block - 1; }
-
-/* How many bytes of malloc's block there are from here on. */
-static size_t usable(uint8_t *block) {
-  uint8_t *start = *start_of(block);
-  return malloc_usable_size(start) - (size_t)(block - start);
-}
+/* Before a block, in malloc's: where malloc's begins, and how long the block is. malloc_usable_size isn't asked: a program
+ * may have a malloc of its own, of whose blocks it knows nothing. */
+struct head {
+  void *start;
+  size_t len;
+};
+static struct head *head_of(void *block) { return (struct head *)block - 1; }
 
 /* Writes zeros, in a way that the compiler may not optimize away. Whole cache lines are written through the cache, where the
  * next call finds them: memset takes a third longer for the table of (14, 8, 1). */
@@ -45,12 +44,28 @@ static void overwrite(uint8_t *block, size_t len) {
   __asm__ volatile("" ::"r"(block) : "memory");
 }
 
+static int is_zero(const uint8_t *line) {
+  const volatile uint8_t *it;
+  for (it = line; it < line + CACHE_LINE; it++)
+    if (*it != 0) return 0;
+  return 1;
+}
+
+/* Whether pages were dropped: those of shared memory, which some mallocs hand out, are not. Looks at a line of each 2 MiB and
+ * at the last one, because a look at each page takes as long as to overwrite it. No line of a table is zero. */
+static int are_dropped(const uint8_t *pages, size_t len) {
+  size_t at;
+  for (at = 0; at < len; at += HUGE_PAGE)
+    if (!is_zero(pages + at)) return 0;
+  return is_zero(pages + len - CACHE_LINE);
+}
+
 /* Returns whole pages to the system, and overwrites the rest; or overwrites all. */
 static void clear_block(uint8_t *block, size_t len) {
   size_t front = (PAGE - (uintptr_t)block % PAGE) % PAGE;
   if (len >= LARGE) {
     size_t pages = (len - front) / PAGE * PAGE;
-    if (madvise(block + front, pages, MADV_DONTNEED) == 0) {
+    if (madvise(block + front, pages, MADV_DONTNEED) == 0 && are_dropped(block + front, pages)) {
       overwrite(block, front);
       block += front + pages;
       len -= front + pages;
@@ -68,19 +83,23 @@ void *clearing_memset(void *to, int byte, size_t len);
 
 void clearing_free(void *block) {
   if (block == NULL) return;
-  clear_block(block, usable(block));
-  free(*start_of(block));
+  clear_block(block, head_of(block)->len);
+  clear_registers(); /* those that the dynamic linker would save, if it binds what free calls */
+  free(head_of(block)->start);
 }
 
 /* A block begins at a cache line, and a large one at a huge page, for which it asks: rows are read in random order. Its
  * memory is malloc's, which reuses it; to map it for each call takes longer if the system has no huge pages. Nothing is
  * touched before it is used. */
 void *clearing_malloc(size_t len) {
-  size_t unit = len < 2 * HUGE_PAGE ? CACHE_LINE : HUGE_PAGE, more = sizeof(void *) + unit - 1;
-  uint8_t *start = len > SIZE_MAX - more ? NULL : malloc(len + more), *block;
+  size_t unit = len < 2 * HUGE_PAGE ? CACHE_LINE : HUGE_PAGE, more = sizeof(struct head) + unit - 1;
+  uint8_t *start, *block;
+  clear_registers();
+  start = len > SIZE_MAX - more ? NULL : malloc(len + more);
   if (start == NULL) return NULL;
   block = start + more - ((uintptr_t)start + more) % unit;
-  *start_of(block) = start;
+  head_of(block)->start = start;
+  head_of(block)->len = len;
   if (unit == HUGE_PAGE) ask_for_huge_pages(block, len / HUGE_PAGE * HUGE_PAGE);
   return block;
 }
@@ -90,7 +109,7 @@ void *clearing_realloc(void *block, size_t len) {
   void *other = clearing_malloc(len);
   size_t had;
   if (other == NULL || block == NULL) return other;
-  had = usable(block);
+  had = head_of(block)->len;
   memcpy(other, block, had < len ? had : len);
   clearing_free(block);
   return other;

@@ -1,5 +1,5 @@
 /* What calls leave in the stack and in registers, overwritten: not proved. lib.sh gives each proved call the name
- * proved_.. and the one here its name. */
+ * proved_.., and calls.c calls the one here, cleared_... */
 #include "clearing.h"
 #include "scrypt_c.h"
 #include "stack_lens.h" /* how much of the stack each proved call uses, measured by stack_lens.c */
@@ -24,13 +24,22 @@ __asm__(
     ".cfi_endproc\n"
     ".size clear_stack, .-clear_stack\n");
 
-/* A call of the header: the proved one, after which what it left is overwritten. */
+/* The proved call, after which what it left is overwritten. */
 #define PROVED_CALL(name, parameters, arguments) \
-  int proved_##name parameters;               \
-  int name parameters {                       \
-    int status = proved_##name arguments;     \
-    clear_registers();                        \
-    clear_stack(STACK_##name);                \
-    return status;                            \
+  int proved_##name parameters;                  \
+  int cleared_##name parameters;                 \
+  int cleared_##name parameters {                \
+    int status = proved_##name arguments;        \
+    clear_registers();                           \
+    clear_stack(STACK_##name);                   \
+    return status;                               \
+  }
+#define PROVED_PROCEDURE(name, parameters, arguments) \
+  void proved_##name parameters;                      \
+  void cleared_##name parameters;                     \
+  void cleared_##name parameters {                    \
+    proved_##name arguments;                          \
+    clear_registers();                                \
+    clear_stack(STACK_##name);                        \
   }
 #include "proved_calls.h"

@@ -33,18 +33,8 @@ static int saves_avx(void) {
 
 int has_v3(void) { return has(&V2) && has(&V3) && saves_avx(); }
 
-/* A library that programs load without calling it defines this. Then nothing ends here, and its calls fail if it is 1. */
-extern int scrypt_is_refused_at_calls __attribute__((weak, visibility("hidden")));
-
-/* Its address, or NULL: in a word of its own, since code that the linker gold has changed finds no NULL. */
-static int *const volatile refused_at_calls = &scrypt_is_refused_at_calls;
-
 __attribute__((constructor)) static void refuse_older_processors(void) {
   if (X86_64_LEVEL == 3 ? has_v3() : has(&V2)) return;
-  if (refused_at_calls != NULL) {
-    *refused_at_calls = 1;
-    return;
-  }
   fputs("libscrypt_c: this processor lacks a feature of " PROCESSOR ", which the library was built for\n", stderr);
   abort();
 }

@@ -9,9 +9,18 @@ static int is_v3 = 0;
 __attribute__((constructor)) static void choose(void) { is_v3 = has_v3(); }
 
 #define PROVED_CALL(name, parameters, arguments) \
-  int v2_##name parameters;                      \
-  int v3_##name parameters;                      \
-  int name parameters { return is_v3 ? v3_##name arguments : v2_##name arguments; }
+  int v2_cleared_##name parameters;              \
+  int v3_cleared_##name parameters;              \
+  int cleared_##name parameters;                 \
+  int cleared_##name parameters { return is_v3 ? v3_cleared_##name arguments : v2_cleared_##name arguments; }
+#define PROVED_PROCEDURE(name, parameters, arguments) \
+  void v2_cleared_##name parameters;                  \
+  void v3_cleared_##name parameters;                  \
+  void cleared_##name parameters;                     \
+  void cleared_##name parameters {                    \
+    if (is_v3) v3_cleared_##name arguments;           \
+    else v2_cleared_##name arguments;                 \
+  }
 #include "proved_calls.h"
 
 const char *v2_scrypt_version(void);

@@ -5,6 +5,7 @@
 # usage: found.sh LIBDIR INCLUDEDIR PKGCONFIG CMAKE [ROOM]
 #   The folders of the libraries, of the header and of the files. The files are written into ROOM, or else where they are used.
 set -eu
+unset CDPATH
 libdir=$1 includedir=$2 pkgconfig=$3 cmake=$4
 pkgconfig_room=${5:-$pkgconfig} cmake_room=${5:-$cmake}
 cd "$(dirname "$0")/../.."

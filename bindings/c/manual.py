@@ -10,7 +10,6 @@ import re
 import sys
 
 HEADER = os.path.join(os.path.dirname(os.path.abspath(__file__)), "scrypt_c.h")
-INNER = ("scrypt_bytes", "scrypt_is_null", "SCRYPT_CAST")
 
 
 def quoted(text):
@@ -35,7 +34,7 @@ def paragraphs(part):
     for text in part.split("\n\n"):
         comment, code = re.fullmatch(r"(/\*.*?\*/\n)?(.*)", text.strip(), re.S).groups()
         code = declared(code)
-        if re.match(r"int|void|scrypt_|const|typedef|#define", code) and not any(it in code for it in INNER):
+        if re.match(r"int|void|scrypt_|const|typedef|#define", code):
             yield plain(comment or ""), code
 
 

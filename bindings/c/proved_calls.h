@@ -1,5 +1,6 @@
-/* The proved calls that see a password or a key, each as PROVED_CALL(name, parameters, arguments), which whoever includes
- * this list defines: clearing.c calls them and clears after them, stack_lens.c measures them, and dispatch.c chooses. */
+/* The proved calls, each as PROVED_CALL(name, parameters, arguments) if it returns a status, and else as PROVED_PROCEDURE,
+ * which whoever includes this list defines: clearing.c calls them and clears after them, stack_lens.c measures them, and
+ * dispatch.c chooses. */
 
 #define INPUTS                                                                                                         \
   const uint8_t *password, size_t password_len, const uint8_t *salt, size_t salt_len, uint8_t log_n, uint32_t r, uint32_t p
@@ -23,16 +24,28 @@ PROVED_CALL(scrypt_hash_phc_with_buffers, (INPUTS, NEW_TEXT, BUFFERS), (THE_INPU
 PROVED_CALL(scrypt_hash_mcf_with_buffers, (INPUTS, NEW_TEXT, BUFFERS), (THE_INPUTS, THE_NEW_TEXT, THE_BUFFERS))
 PROVED_CALL(scrypt_verify, (STORED), (THE_STORED))
 PROVED_CALL(scrypt_verify_with_buffers, (STORED, BUFFERS), (THE_STORED, THE_BUFFERS))
-PROVED_CALL(scrypt_verify_two_with_buffers,
-            (STORED, const uint8_t *other_password, size_t other_password_len, const char *other_text,
-             size_t other_text_len, int *other_status, BUFFERS),
-            (THE_STORED, other_password, other_password_len, other_text, other_text_len, other_status, THE_BUFFERS))
+#define ANOTHER(n) const uint8_t *password_##n, size_t password_##n##_len, const char *text_##n, size_t text_##n##_len
+#define THE_OTHER(n) password_##n, password_##n##_len, text_##n, text_##n##_len
+PROVED_PROCEDURE(scrypt_verify_group_with_buffers,
+                 (STORED, ANOTHER(2), ANOTHER(3), ANOTHER(4), size_t count, int *statuses, BUFFERS),
+                 (THE_STORED, THE_OTHER(2), THE_OTHER(3), THE_OTHER(4), count, statuses, THE_BUFFERS))
 
-/* The last three take no password, but read the key in the text. */
+/* The others take no password; those with a text read the key in it. */
+#define NEEDS size_t *tables, size_t *chunks_len, size_t *table_len, size_t *scratch_len
+#define THE_NEEDS tables, chunks_len, table_len, scratch_len
 PROVED_CALL(scrypt_hash_needs,
          (const char *text, size_t text_len, size_t most_bytes, uint64_t most_work, size_t least_key_len,
-          size_t *chunks_len, size_t *table_len, size_t *scratch_len),
-         (text, text_len, most_bytes, most_work, least_key_len, chunks_len, table_len, scratch_len))
+          uint8_t *log_n, uint32_t *r, uint32_t *p, size_t *key_len, NEEDS),
+         (text, text_len, most_bytes, most_work, least_key_len, log_n, r, p, key_len, THE_NEEDS))
+
+PROVED_CALL(scrypt_params_need,
+         (uint8_t log_n, uint32_t r, uint32_t p, size_t most_bytes, uint64_t most_work, NEEDS),
+         (log_n, r, p, most_bytes, most_work, THE_NEEDS))
+
+PROVED_CALL(scrypt_limits_for_new,
+         (uint8_t log_n, uint32_t r, uint32_t p, size_t key_len, size_t *most_bytes, uint64_t *most_work,
+          size_t *least_key_len),
+         (log_n, r, p, key_len, most_bytes, most_work, least_key_len))
 
 PROVED_CALL(scrypt_needs_rehash,
          (const char *text, size_t text_len, uint8_t log_n, uint32_t r, uint32_t p, size_t key_len),

@@ -1,7 +1,7 @@
 /* Salts, and hashes with a random salt. Not proved. getrandom is called by its number, so that an older C library is
  * enough. */
 #define _DEFAULT_SOURCE
-#include "scrypt_c.h"
+#include "groups.h"
 
 #include <errno.h>
 #include <sys/syscall.h>
@@ -9,7 +9,7 @@
 
 int scrypt_draw_salt(uint8_t *salt, size_t len) {
   size_t done = 0;
-  if (scrypt_is_null(salt, len)) return SCRYPT_NULL_POINTER;
+  if (is_null(salt, len)) return SCRYPT_NULL_POINTER;
   while (done < len) {
     long drawn = syscall(SYS_getrandom, salt + done, len - done, 0);
     if (drawn < 0 && errno == EINTR) continue;
@@ -22,11 +22,11 @@ int scrypt_draw_salt(uint8_t *salt, size_t len) {
 int scrypt_hash_new(const void *password, size_t password_len, char *text, size_t capacity) {
   uint8_t salt[SCRYPT_SALT_LEN];
   int status;
-  if (scrypt_is_null(password, password_len) || scrypt_is_null(text, capacity)) return SCRYPT_NULL_POINTER;
+  if (is_null(password, password_len) || is_null(text, capacity)) return SCRYPT_NULL_POINTER;
   /* scrypt_hash_phc would find this after the derivation. */
   if (capacity < SCRYPT_NEW_CAPACITY) return SCRYPT_BUFFER_SIZE;
   status = scrypt_draw_salt(salt, sizeof salt);
   if (status != SCRYPT_OK) return status;
-  return scrypt_hash_phc_z(password, password_len, salt, sizeof salt, SCRYPT_RECOMMENDED_LOG_N, SCRYPT_RECOMMENDED_R,
+  return scrypt_hash_phc(password, password_len, salt, sizeof salt, SCRYPT_RECOMMENDED_LOG_N, SCRYPT_RECOMMENDED_R,
                            SCRYPT_RECOMMENDED_P, SCRYPT_KEY_LEN, text, capacity);
 }

@@ -34,12 +34,22 @@ static void keep_most(size_t *most, size_t len) {
 #define PROVED_CALL(name, parameters, arguments) \
   static size_t most_##name = 0;              \
   int proved_##name parameters;               \
-  int name parameters {                       \
+  int cleared_##name parameters;              \
+  int cleared_##name parameters {             \
     int status;                               \
     paint();                                  \
     status = proved_##name arguments;         \
     keep_most(&most_##name, used());          \
     return status;                            \
+  }
+#define PROVED_PROCEDURE(name, parameters, arguments) \
+  static size_t most_##name = 0;                      \
+  void proved_##name parameters;                      \
+  void cleared_##name parameters;                     \
+  void cleared_##name parameters {                    \
+    paint();                                          \
+    proved_##name arguments;                          \
+    keep_most(&most_##name, used());                  \
   }
 #include "proved_calls.h"
 
@@ -56,7 +66,9 @@ static void print_one(const char *name, size_t most) {
 }
 
 #undef PROVED_CALL
+#undef PROVED_PROCEDURE
 #define PROVED_CALL(name, parameters, arguments) print_one(#name, most_##name);
+#define PROVED_PROCEDURE PROVED_CALL
 
 __attribute__((destructor)) static void print(void) {
 #include "proved_calls.h"

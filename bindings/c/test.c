@@ -57,13 +57,13 @@ static void keys_in_buffers(size_t i, uint8_t s) {
   chunks = (uint8_t *)malloc(chunks_len);
   table = (uint32_t *)malloc(4 * table_len);
   scratch = (uint32_t *)malloc(4 * scratch_len);
-  check(scrypt_kdf_thin(b(password), strlen(password), b(salt), strlen(salt), log_n, r, p, s, key, 64, chunks,
+  check(scrypt_key_thin(password, strlen(password), salt, strlen(salt), log_n, r, p, s, key, 64, chunks,
                         chunks_len, table, table_len, scratch, scratch_len) == SCRYPT_OK, "thin");
   hex_of(key, 64, hex);
   check(strcmp(hex, VECTORS[i].key) == 0, "key with a thin table");
   if (s == 0) {
     memset(key, 0, sizeof key);
-    check(scrypt_kdf_with_buffers(b(password), strlen(password), b(salt), strlen(salt), log_n, r, p, key, 64,
+    check(scrypt_key_with_buffers(password, strlen(password), salt, strlen(salt), log_n, r, p, key, 64,
                                   chunks, chunks_len, table, table_len, scratch, scratch_len) == SCRYPT_OK,
           "with buffers");
     hex_of(key, 64, hex);
@@ -71,13 +71,13 @@ static void keys_in_buffers(size_t i, uint8_t s) {
   }
   memset(key, 7, sizeof key);
   memset(chunks, 7, chunks_len);
-  check(scrypt_kdf_thin(b(""), 0, b(""), 0, log_n, r, p, s, key, 64, chunks, chunks_len, table, table_len - 1,
+  check(scrypt_key_thin("", 0, "", 0, log_n, r, p, s, key, 64, chunks, chunks_len, table, table_len - 1,
                         scratch, scratch_len) == SCRYPT_BUFFER_SIZE, "a short table");
-  check(scrypt_kdf_with_buffers(b(""), 0, b(""), 0, log_n, r, p, key, 64, chunks, chunks_len - 1, table,
+  check(scrypt_key_with_buffers("", 0, "", 0, log_n, r, p, key, 64, chunks, chunks_len - 1, table,
                                 table_len, scratch, scratch_len) == SCRYPT_BUFFER_SIZE, "short chunks");
-  check(scrypt_kdf_thin(b(""), 0, b(""), 0, log_n, r, p, s, key, 0, chunks, chunks_len, table, table_len,
+  check(scrypt_key_thin("", 0, "", 0, log_n, r, p, s, key, 0, chunks, chunks_len, table, table_len,
                         scratch, scratch_len) == SCRYPT_INVALID_OUTPUT_LEN, "no output");
-  check(scrypt_kdf_thin(b(""), 0, b(""), 0, log_n, r, p, (uint8_t)(log_n + 1), key, 64, chunks, chunks_len,
+  check(scrypt_key_thin("", 0, "", 0, log_n, r, p, (uint8_t)(log_n + 1), key, 64, chunks, chunks_len,
                         table, table_len, scratch, scratch_len) == SCRYPT_INVALID_PARAMS, "s above log_n");
   check(key[0] == 7 && key[63] == 7 && chunks[0] == 7, "a refusal leaves output and buffers");
   free(chunks);
@@ -109,7 +109,7 @@ static void key_in_longer_buffers(size_t row) {
   memset(chunks, 7, sizeof chunks);
   memset(table, 7, sizeof table);
   memset(scratch, 7, sizeof scratch);
-  check(scrypt_kdf_with_buffers(b("password"), 8, b("NaCl"), 4, 10, 8, 16, key, 64, chunks, sizeof chunks, table,
+  check(scrypt_key_with_buffers("password", 8, "NaCl", 4, 10, 8, 16, key, 64, chunks, sizeof chunks, table,
                                 one + LONGER[row].table_more, scratch, spare + LONGER[row].scratch_more) == SCRYPT_OK,
         LONGER[row].reason);
   hex_of(key, 64, hex);
@@ -119,8 +119,18 @@ static void key_in_longer_buffers(size_t row) {
   check(untouched == 0 && chunks[16384] == 7, "nothing is written after what is used");
   for (i = (used - 1) * one; i < used * one; i++) written += table[i] != 0x07070707;
   check(written > one / 2, "and all of that is used");
-  check(scrypt_kdf_thin(b("password"), 8, b("NaCl"), 4, 10, 8, 16, 0, key, 64, chunks, 16384, table, one,
-                        scratch, spare + 1) == SCRYPT_BUFFER_SIZE, "scrypt_kdf_thin wants exact lengths");
+  check(scrypt_key_thin("password", 8, "NaCl", 4, 10, 8, 16, 0, key, 64, chunks, 16384, table, one,
+                        scratch, spare + 1) == SCRYPT_BUFFER_SIZE, "scrypt_key_thin wants exact lengths");
+}
+
+/* With p of 2 or more scrypt_key takes several tables: the same key as in one. */
+static void key_of_chunks(uint32_t p) {
+  static uint8_t chunks[9216];
+  static uint32_t table[16384], scratch[512];
+  uint8_t key[32], same[32];
+  check(scrypt_key("pw", 2, NULL, 0, 6, 8, p, key, 32) == SCRYPT_OK, "several tables");
+  check(scrypt_key_with_buffers("pw", 2, "", 0, 6, 8, p, same, 32, chunks, sizeof chunks, table, 16384, scratch, 512) ==
+            SCRYPT_OK && memcmp(key, same, 32) == 0, "the same key in one table");
 }
 
 static void keys(int small) {
@@ -128,19 +138,17 @@ static void keys(int small) {
   uint8_t key[64];
   char hex[129];
   for (i = 0; i < count; i++) {
-    check(scrypt_derive(VECTORS[i].password, strlen(VECTORS[i].password), VECTORS[i].salt,
+    check(scrypt_key(VECTORS[i].password, strlen(VECTORS[i].password), VECTORS[i].salt,
                         strlen(VECTORS[i].salt), VECTORS[i].log_n, VECTORS[i].r, VECTORS[i].p, key, 64) ==
               SCRYPT_OK, "derive");
     hex_of(key, 64, hex);
     check(strcmp(hex, VECTORS[i].key) == 0, "key of RFC 7914");
   }
-  check(scrypt_derive(NULL, 0, NULL, 0, 4, 1, 1, key, 64) == SCRYPT_OK, "NULL with length 0");
+  check(scrypt_key(NULL, 0, NULL, 0, 4, 1, 1, key, 64) == SCRYPT_OK, "NULL with length 0");
   hex_of(key, 64, hex);
   check(strcmp(hex, VECTORS[0].key) == 0, "key of NULL with length 0");
-  check(scrypt_kdf_mapped(b("pleaseletmein"), 13, b("SodiumChloride"), 14, 14, 8, 1, key, 64) == SCRYPT_OK, "mapped");
-  hex_of(key, 64, hex);
-  check(strcmp(hex, VECTORS[2].key) == 0, "key in mapped memory");
   for (i = 0; i < 3; i++) keys_in_buffers(0, (uint8_t)i);
+  for (i = 1; i < 10; i++) key_of_chunks((uint32_t)i);
   keys_in_buffers(1, 0);
   keys_in_buffers(2, 3);
   for (i = 0; i < sizeof LONGER / sizeof LONGER[0]; i++) key_in_longer_buffers(i);
@@ -149,17 +157,17 @@ static void keys(int small) {
 static void refusals_of_keys(void) {
   uint8_t key[4] = {1, 2, 3, 4};
   size_t chunks = 1, table = 2, scratch = 3;
-  check(scrypt_derive("", 0, "", 0, 57, 1, 1, key, 4) == SCRYPT_INVALID_PARAMS, "log_n of 57");
-  check(scrypt_derive("", 0, "", 0, 4, 0, 1, key, 4) == SCRYPT_INVALID_PARAMS, "r of 0");
-  check(scrypt_derive("", 0, "", 0, 4, 1, 1, key, 0) == SCRYPT_INVALID_OUTPUT_LEN, "no output");
-  check(scrypt_derive("", 0, "", 0, 56, 1, 1, key, 4) == SCRYPT_OUT_OF_MEMORY, "a table of 2^63 bytes");
+  check(scrypt_key("", 0, "", 0, 57, 1, 1, key, 4) == SCRYPT_INVALID_PARAMS, "log_n of 57");
+  check(scrypt_key("", 0, "", 0, 4, 0, 1, key, 4) == SCRYPT_INVALID_PARAMS, "r of 0");
+  check(scrypt_key("", 0, "", 0, 4, 1, 1, key, 0) == SCRYPT_INVALID_OUTPUT_LEN, "no output");
+  check(scrypt_key("", 0, "", 0, 56, 1, 1, key, 4) == SCRYPT_OUT_OF_MEMORY, "a table of 2^63 bytes");
   check(key[0] == 1 && key[3] == 4, "a refusal leaves the output");
   check(scrypt_buffer_lens(4, 1, 1, 5, &chunks, &table, &scratch) == SCRYPT_INVALID_PARAMS, "s above log_n");
   check(chunks == 1 && table == 2 && scratch == 3, "a refusal leaves the lengths");
 }
 
 static int verify(const char *password, const char *text) {
-  return scrypt_verify(b(password), strlen(password), text, strlen(text));
+  return scrypt_verify(password, strlen(password), text, strlen(text));
 }
 
 static int rehash(const char *text, uint8_t log_n) {
@@ -168,15 +176,16 @@ static int rehash(const char *text, uint8_t log_n) {
 
 static void made_text(const char *text, int mcf) {
   char room[SCRYPT_PHC_CAPACITY];
-  size_t len = 1000, n = strlen(text);
+  size_t n = strlen(text);
   memset(room, '!', sizeof room);
-  check((mcf ? scrypt_hash_mcf : scrypt_hash_phc)(b("pw"), 2, b("saltsalt"), 8, 4, 8, 1, 32, room, n - 1, &len) ==
-            SCRYPT_BUFFER_SIZE, "no room");
-  check(len == n && room[0] == '!', "the length that is needed");
-  len = 1000;
-  check((mcf ? scrypt_hash_mcf : scrypt_hash_phc)(b("pw"), 2, b("saltsalt"), 8, 4, 8, 1, 32, room, n, &len) ==
-            SCRYPT_OK, "just room");
-  check(len == n && memcmp(room, text, n) == 0 && room[n] == '!', "the text, and the rest of the room");
+  check((mcf ? scrypt_hash_mcf : scrypt_hash_phc)("pw", 2, "saltsalt", 8, 4, 8, 1, 32, room, n) == SCRYPT_BUFFER_SIZE,
+        "no room for the NUL");
+  check((mcf ? scrypt_hash_mcf : scrypt_hash_phc)("pw", 2, "saltsalt", 8, 4, 8, 1, 32, NULL, 0) == SCRYPT_BUFFER_SIZE,
+        "no capacity");
+  check(room[0] == '!', "a text that does not fit is not written");
+  check((mcf ? scrypt_hash_mcf : scrypt_hash_phc)("pw", 2, "saltsalt", 8, 4, 8, 1, 32, room, n + 1) == SCRYPT_OK,
+        "just room");
+  check(strcmp(room, text) == 0 && room[n + 1] == '!', "the text, and the rest of the room");
 }
 
 /* A hash with a drawn salt and the recommended parameters: 0.6 seconds. */
@@ -193,7 +202,7 @@ static void new_hash(void) {
   check(scrypt_needs_rehash(text, strlen(text), SCRYPT_RECOMMENDED_LOG_N, SCRYPT_RECOMMENDED_R, SCRYPT_RECOMMENDED_P,
                             SCRYPT_KEY_LEN) == SCRYPT_OK, "the recommended parameters");
   check(scrypt_hash_new("", 0, other, sizeof other) == SCRYPT_OK && strcmp(text, other) != 0, "another salt");
-  check(scrypt_verify(b(""), 0, other, strlen(other)) == SCRYPT_OK, "the password of a new hash");
+  check(scrypt_verify("", 0, other, strlen(other)) == SCRYPT_OK, "the password of a new hash");
 }
 
 /* Verifies in buffers of this program, which may be longer than needed, and are refused if they are shorter. */
@@ -203,50 +212,73 @@ static void verify_in_buffers(const char *text) {
   size_t chunks_len, table_len, scratch_len, i, nonzero = 0;
   size_t n = strlen(text);
   check(scrypt_buffer_lens(4, 8, 1, 0, &chunks_len, &table_len, &scratch_len) == SCRYPT_OK, "lens");
-  check(scrypt_verify_with_buffers(b("pw"), 2, text, n, chunks, chunks_len, table, table_len, scratch, scratch_len) ==
+  check(scrypt_verify_with_buffers("pw", 2, text, n, chunks, chunks_len, table, table_len, scratch, scratch_len) ==
             SCRYPT_OK, "the password, in buffers");
-  check(scrypt_verify_with_buffers(b("PW"), 2, text, n, chunks, sizeof chunks, table, 5000, scratch, 600) ==
+  check(scrypt_verify_with_buffers("PW", 2, text, n, chunks, sizeof chunks, table, 5000, scratch, 600) ==
             SCRYPT_MISMATCH, "another password, in longer buffers");
   scrypt_wipe(chunks, chunks_len, table, table_len, scratch, scratch_len);
   for (i = 0; i < chunks_len; i++) nonzero += chunks[i] != 0;
   for (i = 0; i < table_len; i++) nonzero += table[i] != 0;
   for (i = 0; i < scratch_len; i++) nonzero += scratch[i] != 0;
   check(nonzero == 0, "wiped");
-  check(scrypt_verify_with_buffers(b("pw"), 2, text, n, chunks, chunks_len - 1, table, table_len, scratch,
+  check(scrypt_verify_with_buffers("pw", 2, text, n, chunks, chunks_len - 1, table, table_len, scratch,
                                    scratch_len) == SCRYPT_BUFFER_SIZE, "short chunks");
-  check(scrypt_verify_with_buffers(b("pw"), 2, text, n, chunks, chunks_len, table, table_len - 1, scratch,
+  check(scrypt_verify_with_buffers("pw", 2, text, n, chunks, chunks_len, table, table_len - 1, scratch,
                                    scratch_len) == SCRYPT_BUFFER_SIZE, "a short table");
-  check(scrypt_verify_with_buffers(b("pw"), 2, text, n, chunks, chunks_len, table, table_len, scratch,
+  check(scrypt_verify_with_buffers("pw", 2, text, n, chunks, chunks_len, table, table_len, scratch,
                                    scratch_len - 1) == SCRYPT_BUFFER_SIZE, "a short scratch");
   for (i = 0; i < table_len; i++) nonzero += table[i] != 0;
   check(nonzero == 0, "a refusal leaves the buffers");
   free(table);
 }
 
-/* Verifies two at once, in buffers for two and in those for one, and leaves what is after them. */
-static void verify_two_in_buffers(const char *text) {
-  static uint8_t chunks[2049];
-  static uint32_t table[8193], scratch[1025];
-  size_t chunks_len, table_len, scratch_len, times, i, n = strlen(text);
-  check(scrypt_buffer_lens(4, 8, 1, 0, &chunks_len, &table_len, &scratch_len) == SCRYPT_OK, "lens for two");
-  for (times = 1; times <= 2; times++) {
-    size_t of = times * chunks_len, words = times * table_len, spare = times * scratch_len, nonzero = 0;
-    int other = -1;
-    chunks[of] = 7, table[words] = 7, scratch[spare] = 7;
-    check(scrypt_verify_two_with_buffers(b("pw"), 2, text, n, b("PW"), 2, text, n, &other, chunks, of, table, words,
-                                         scratch, spare) == SCRYPT_OK, "the password, beside another");
-    check(other == SCRYPT_MISMATCH, "another password, beside it");
-    for (i = 0; i < of; i++) nonzero += chunks[i] != 0;
-    for (i = 0; i < spare; i++) nonzero += scratch[i] != 0;
-    check(nonzero == 0, "chunks and scratch are zeros");
-    check(chunks[of] == 7 && table[words] == 7 && scratch[spare] == 7, "nothing after them is written");
-    check(scrypt_verify_two_with_buffers(b("pw"), 2, "$8$", 3, b("pw"), 2, text, n, &other, chunks, of, table, words,
-                                         scratch, spare) == SCRYPT_ENCODING_INVALID && other == SCRYPT_OK, "no text");
-    check(scrypt_verify_two_with_buffers(b("pw"), 2, text, n, b("pw"), 2, "$8$", 3, &other, chunks, of, table, words,
-                                         scratch, spare) == SCRYPT_OK && other == SCRYPT_ENCODING_INVALID, "no other");
-    check(scrypt_verify_two_with_buffers(b("pw"), 2, text, n, b("pw"), 2, text, n, &other, chunks, chunks_len - 1, table,
-                                         words, scratch, spare) == SCRYPT_BUFFER_SIZE && other == SCRYPT_BUFFER_SIZE,
-          "short chunks for two");
+/* Verifies one to four at once, in buffers for one to four, and leaves what is after them: each is right, another password, or
+ * no text at all, whatever the others are. */
+static void verify_group_in_buffers(const char *text) {
+  static const char *const PASSWORDS[] = {"pw", "PW", "pw"};
+  static uint8_t chunks[4097];
+  static uint32_t table[16385], scratch[2049];
+  size_t chunks_len, table_len, scratch_len, times, count, kinds, i;
+  check(scrypt_buffer_lens(4, 8, 1, 0, &chunks_len, &table_len, &scratch_len) == SCRYPT_OK, "lens for a group");
+  for (times = 1; times <= 4; times++)
+    for (count = 0; count <= 4; count++)
+      for (kinds = 0; kinds < 81; kinds += 5) {
+        size_t of = times * chunks_len, words = times * table_len, spare = times * scratch_len, kind = kinds;
+        scrypt_login logins[4];
+        int statuses[4] = {-1, -1, -1, -1}, wanted[4], nonzero = 0;
+        for (i = 0; i < 4; i++, kind /= 3) {
+          logins[i].password = PASSWORDS[kind % 3];
+          logins[i].password_len = 2;
+          logins[i].text = kind % 3 < 2 ? text : "$8$";
+          logins[i].text_len = strlen(logins[i].text);
+          wanted[i] = i >= count ? -1 : kind % 3 == 0 ? SCRYPT_OK : kind % 3 == 1 ? SCRYPT_MISMATCH : SCRYPT_ENCODING_INVALID;
+        }
+        chunks[of] = 7, table[words] = 7, scratch[spare] = 7;
+        check(scrypt_verify_group_with_buffers(logins, count, statuses, chunks, of, table, words, scratch, spare) == SCRYPT_OK,
+              "a group");
+        check(memcmp(statuses, wanted, sizeof wanted) == 0, "each status is that of the one alone");
+        for (i = 0; i < of; i++) nonzero += chunks[i] != 0;
+        for (i = 0; i < spare; i++) nonzero += scratch[i] != 0;
+        check(nonzero == 0, "chunks and scratch are zeros");
+        check(chunks[of] == 7 && table[words] == 7 && scratch[spare] == 7, "nothing after them is written");
+        chunks[of] = 0, scratch[spare] = 0;
+      }
+}
+
+/* Memory for several tables is used for them: a row of each changes. */
+static void several_tables_are_used(void) {
+  static uint8_t chunks[128 * 4], key[16];
+  static uint32_t table[4 * 32 * 64], scratch[4 * 64];
+  size_t tables, row, i, changed;
+  for (tables = 1; tables <= 4; tables++) {
+    memset(table, 0xa5, sizeof table);
+    check(scrypt_key_with_buffers("pw", 2, "salt", 4, 6, 1, 4, key, sizeof key, chunks, sizeof chunks, table,
+                                  tables * 32 * 64, scratch, tables * 64) == SCRYPT_OK, "a key in several tables");
+    for (row = changed = 0; row < 4 * 64; row++) {
+      for (i = 0; i < 32 && table[32 * row + i] == 0xa5a5a5a5; i++) {}
+      changed += i < 32;
+    }
+    check(changed == tables * 64, "as many rows are used as there is room for");
   }
 }
 
@@ -255,41 +287,38 @@ static void verify_two_in_buffers(const char *text) {
 static void hash_in_buffers(int is_mcf, const char *made) {
   static uint8_t chunks[2048];
   static uint32_t table[5000], scratch[600];
-  int (*hash)(const uint8_t *, size_t, const uint8_t *, size_t, uint8_t, uint32_t, uint32_t, size_t, char *, size_t,
-              size_t *, uint8_t *, size_t, uint32_t *, size_t, uint32_t *, size_t) =
+  int (*hash)(const void *, size_t, const void *, size_t, uint8_t, uint32_t, uint32_t, size_t, char *, size_t,
+              uint8_t *, size_t, uint32_t *, size_t, uint32_t *, size_t) =
       is_mcf ? scrypt_hash_mcf_with_buffers : scrypt_hash_phc_with_buffers;
   char text[SCRYPT_PHC_CAPACITY];
-  size_t chunks_len, table_len, scratch_len, i, nonzero = 0, len = 77, n = strlen(made);
+  size_t chunks_len, table_len, scratch_len, i, nonzero = 0, n = strlen(made);
   check(scrypt_buffer_lens(4, 8, 1, 0, &chunks_len, &table_len, &scratch_len) == SCRYPT_OK, "lens");
   memset(text, '!', sizeof text);
   memset(chunks, 7, sizeof chunks);
   memset(scratch, 7, sizeof scratch);
-  check(hash(b("pw"), 2, b("saltsalt"), 8, 4, 8, 1, 9, text, n, &len, chunks, 2048, table, 5000, scratch, 600) ==
+  check(hash("pw", 2, "saltsalt", 8, 4, 8, 1, 9, text, n + 1, chunks, 2048, table, 5000, scratch, 600) ==
             SCRYPT_INVALID_PARAMS, "a key of 9 bytes");
-  check(hash(b("pw"), 2, b("saltsalt"), 8, 4, 8, 1, 32, text, n, &len, chunks, chunks_len - 1, table, table_len, scratch,
+  check(hash("pw", 2, "saltsalt", 8, 4, 8, 1, 32, text, n + 1, chunks, chunks_len - 1, table, table_len, scratch,
              scratch_len) == SCRYPT_BUFFER_SIZE, "short chunks");
-  check(hash(b("pw"), 2, b("saltsalt"), 8, 4, 8, 1, 32, text, n, &len, chunks, chunks_len, table, table_len - 1, scratch,
+  check(hash("pw", 2, "saltsalt", 8, 4, 8, 1, 32, text, n + 1, chunks, chunks_len, table, table_len - 1, scratch,
              scratch_len) == SCRYPT_BUFFER_SIZE, "a short table");
-  check(hash(b("pw"), 2, b("saltsalt"), 8, 4, 8, 1, 32, text, n, &len, chunks, chunks_len, table, table_len, scratch,
+  check(hash("pw", 2, "saltsalt", 8, 4, 8, 1, 32, text, n + 1, chunks, chunks_len, table, table_len, scratch,
              scratch_len - 1) == SCRYPT_BUFFER_SIZE, "a short scratch");
-  check(len == 77 && text[0] == '!' && chunks[0] == 7 && scratch[0] == 0x07070707, "a refusal leaves everything");
-  check(hash(b("pw"), 2, b("saltsalt"), 8, 4, 8, 1, 32, text, n - 1, &len, chunks, chunks_len - 1, table, table_len,
-             scratch, scratch_len) == SCRYPT_BUFFER_SIZE && len == (is_mcf ? n : 77), "a text and chunks that are too short");
-  len = 77;
-  check(hash(b("pw"), 2, b("saltsalt"), 8, 4, 8, 1, 32, text, n - 1, &len, chunks, chunks_len, table, table_len, scratch,
-             scratch_len) == SCRYPT_BUFFER_SIZE && len == n && text[0] == '!', "a text that does not fit");
+  check(text[0] == '!' && chunks[0] == 7 && scratch[0] == 0x07070707, "a refusal leaves everything");
+  check(hash("pw", 2, "saltsalt", 8, 4, 8, 1, 32, text, n, chunks, chunks_len, table, table_len, scratch,
+             scratch_len) == SCRYPT_BUFFER_SIZE && text[0] == '!', "a text that does not fit");
   memset(chunks, 7, sizeof chunks);
   memset(scratch, 7, sizeof scratch);
   table[table_len] = 0x07070707;
-  check(hash(b("pw"), 2, b("saltsalt"), 8, 4, 8, 1, 32, text, n, &len, chunks, chunks_len + 1, table, table_len + 1,
+  check(hash("pw", 2, "saltsalt", 8, 4, 8, 1, 32, text, n + 1, chunks, chunks_len + 1, table, table_len + 1,
              scratch, scratch_len + 1) == SCRYPT_OK, "a hash in buffers");
-  check(len == n && memcmp(text, made, n) == 0 && text[n] == '!', "the same text, and nothing after it");
+  check(strcmp(text, made) == 0 && text[n + 1] == '!', "the same text, and nothing after it");
   for (i = 0; i < chunks_len; i++) nonzero += chunks[i] != 0;
   for (i = 0; i < scratch_len; i++) nonzero += scratch[i] != 0;
   check(nonzero == 0, "zeros in chunks and scratch");
   check(chunks[chunks_len] == 7 && scratch[scratch_len] == 0x07070707 && table[table_len] == 0x07070707,
         "and nothing written after what is used");
-  check(hash(b("pw"), 2, b(""), 0, 4, 8, 1, 32, text, sizeof text, &len, chunks, 2048, table, 5000, scratch, 600) ==
+  check(hash("pw", 2, "", 0, 4, 8, 1, 32, text, sizeof text, chunks, 2048, table, 5000, scratch, 600) ==
             (is_mcf ? SCRYPT_OK : SCRYPT_SALT_INVALID), "an empty salt");
 }
 
@@ -298,18 +327,18 @@ static void two_chunks_in_buffers(void) {
   static uint8_t chunks[2048];
   static uint32_t table[8192], scratch[1025];
   char phc[SCRYPT_PHC_CAPACITY], mcf[SCRYPT_MCF_CAPACITY(8)], text[SCRYPT_PHC_CAPACITY];
-  size_t i, nonzero = 0, len = 0;
-  check(scrypt_hash_phc_z("pw", 2, "saltsalt", 8, 4, 8, 2, 32, phc, sizeof phc) == SCRYPT_OK, "phc");
-  check(scrypt_hash_mcf_z("pw", 2, "saltsalt", 8, 4, 8, 2, 32, mcf, sizeof mcf) == SCRYPT_OK, "mcf");
+  size_t i, nonzero = 0;
+  check(scrypt_hash_phc("pw", 2, "saltsalt", 8, 4, 8, 2, 32, phc, sizeof phc) == SCRYPT_OK, "phc");
+  check(scrypt_hash_mcf("pw", 2, "saltsalt", 8, 4, 8, 2, 32, mcf, sizeof mcf) == SCRYPT_OK, "mcf");
   scratch[1024] = 7;
-  check(scrypt_hash_phc_with_buffers(b("pw"), 2, b("saltsalt"), 8, 4, 8, 2, 32, text, sizeof text, &len, chunks, 2048,
+  check(scrypt_hash_phc_with_buffers("pw", 2, "saltsalt", 8, 4, 8, 2, 32, text, sizeof text, chunks, 2048,
                                      table, 8192, scratch, 1024) == SCRYPT_OK, "two chunks");
-  check(len == strlen(phc) && memcmp(text, phc, len) == 0, "the same PHC text");
-  check(scrypt_verify_with_buffers(b("pw"), 2, text, len, chunks, 2048, table, 8192, scratch, 1024) == SCRYPT_OK, "phc");
-  check(scrypt_hash_mcf_with_buffers(b("pw"), 2, b("saltsalt"), 8, 4, 8, 2, 32, text, sizeof text, &len, chunks, 2048,
+  check(strcmp(text, phc) == 0, "the same PHC text");
+  check(scrypt_verify_with_buffers("pw", 2, text, strlen(text), chunks, 2048, table, 8192, scratch, 1024) == SCRYPT_OK, "phc");
+  check(scrypt_hash_mcf_with_buffers("pw", 2, "saltsalt", 8, 4, 8, 2, 32, text, sizeof text, chunks, 2048,
                                      table, 8192, scratch, 1024) == SCRYPT_OK, "two chunks");
-  check(len == strlen(mcf) && memcmp(text, mcf, len) == 0, "the same $7$ text");
-  check(scrypt_verify_with_buffers(b("pw"), 2, text, len, chunks, 2048, table, 8192, scratch, 1024) == SCRYPT_OK, "mcf");
+  check(strcmp(text, mcf) == 0, "the same $7$ text");
+  check(scrypt_verify_with_buffers("pw", 2, text, strlen(text), chunks, 2048, table, 8192, scratch, 1024) == SCRYPT_OK, "mcf");
   for (i = 0; i < 2048; i++) nonzero += chunks[i] != 0;
   for (i = 0; i < 1024; i++) nonzero += scratch[i] != 0;
   check(nonzero == 0 && scratch[1024] == 7, "zeros in both scratches, and nothing after them is written");
@@ -318,9 +347,19 @@ static void two_chunks_in_buffers(void) {
 static void hash_params(const char *text) {
   uint8_t log_n = 99;
   uint32_t r = 99, p = 99;
-  size_t key_len = 99, chunks_len, table_len, scratch_len;
-  check(scrypt_hash_needs(text, strlen(text), SIZE_MAX, UINT64_MAX, 0, &chunks_len, &table_len, &scratch_len) ==
-            SCRYPT_OK, "needs");
+  size_t key_len = 99, most_bytes, least_key_len;
+  uint64_t most_work;
+  scrypt_needs needs = {9, 9, 9, 9, 9, 9, 9, 9};
+  check(scrypt_hash_needs("$7$", 3, SIZE_MAX, UINT64_MAX, 0, &needs) == SCRYPT_ENCODING_INVALID && needs.table_len == 9,
+        "an error leaves what is needed");
+  check(scrypt_hash_needs(text, strlen(text), SIZE_MAX, UINT64_MAX, 0, &needs) == SCRYPT_OK, "needs");
+  check(needs.log_n == 4 && needs.r == 8 && needs.p == 1 && needs.key_len == 32 && needs.tables == 1, "what it reads");
+  check(scrypt_params_need(4, 8, 7, SIZE_MAX, UINT64_MAX, &needs) == SCRYPT_OK && needs.tables == 4, "at most four tables");
+  check(scrypt_params_need(4, 8, 7, 7168 + 3 * 4 * (4096 + 512), UINT64_MAX, &needs) == SCRYPT_OK && needs.tables == 3,
+        "as many as there is room for");
+  check(scrypt_limits_for_new(18, 8, 1, 32, &most_bytes, &most_work, &least_key_len) == SCRYPT_OK &&
+            most_bytes == SCRYPT_MOST_BYTES && most_work == SCRYPT_MOST_WORK && least_key_len == SCRYPT_LEAST_KEY_LEN,
+        "the usual bounds");
   check(scrypt_hash_params("$7$", 3, &log_n, &r, &p, &key_len) == SCRYPT_ENCODING_INVALID, "no hash");
   check(log_n == 99 && r == 99 && p == 99 && key_len == 99, "an error leaves the four");
   check(scrypt_hash_params(text, strlen(text), &log_n, &r, &p, &key_len) == SCRYPT_OK, "params");
@@ -331,9 +370,8 @@ static void hash_params(const char *text) {
 
 static void hashes(void) {
   char phc[SCRYPT_PHC_CAPACITY], mcf[SCRYPT_MCF_CAPACITY(8)];
-  size_t len = 77;
-  check(scrypt_hash_phc_z("pw", 2, "saltsalt", 8, 4, 8, 1, 32, phc, sizeof phc) == SCRYPT_OK, "phc");
-  check(scrypt_hash_mcf_z("pw", 2, "saltsalt", 8, 4, 8, 1, 32, mcf, sizeof mcf) == SCRYPT_OK, "mcf");
+  check(scrypt_hash_phc("pw", 2, "saltsalt", 8, 4, 8, 1, 32, phc, sizeof phc) == SCRYPT_OK, "phc");
+  check(scrypt_hash_mcf("pw", 2, "saltsalt", 8, 4, 8, 1, 32, mcf, sizeof mcf) == SCRYPT_OK, "mcf");
   check(strncmp(phc, "$scrypt$ln=4,r=8,p=1$c2FsdHNhbHQ$", 33) == 0, "the front of a PHC text");
   check(strncmp(mcf, "$7$26..../....", 14) == 0, "the front of a $7$ text");
   made_text(phc, 0);
@@ -342,10 +380,11 @@ static void hashes(void) {
   hash_in_buffers(0, phc);
   hash_in_buffers(1, mcf);
   verify_in_buffers(phc);
-  verify_two_in_buffers(phc);
+  verify_group_in_buffers(phc);
+  several_tables_are_used();
   two_chunks_in_buffers();
   verify_in_buffers(mcf);
-  verify_two_in_buffers(mcf);
+  verify_group_in_buffers(mcf);
   hash_params(phc);
   hash_params(mcf);
   check(verify("pw ", phc) == SCRYPT_MISMATCH && verify("", mcf) == SCRYPT_MISMATCH, "another password");
@@ -353,11 +392,11 @@ static void hashes(void) {
   check(rehash(phc, 5) == SCRYPT_NEEDS_REHASH && rehash(mcf, 5) == SCRYPT_NEEDS_REHASH, "weaker");
   check(rehash(phc, 57) == SCRYPT_INVALID_PARAMS, "unaccepted numbers");
   check(scrypt_needs_rehash(phc, strlen(phc), 4, 8, 1, 9) == SCRYPT_INVALID_PARAMS, "a key of 9 bytes");
-  check(scrypt_hash_phc(b(""), 0, b(""), 0, 4, 8, 1, 32, phc, sizeof phc, &len) == SCRYPT_SALT_INVALID, "no salt");
-  check(scrypt_hash_phc(b(""), 0, b("s"), 1, 4, 8, 1, 65, phc, sizeof phc, &len) == SCRYPT_INVALID_PARAMS, "key_len");
-  check(scrypt_hash_mcf(b(""), 0, b(""), 0, 4, 8, 0, 32, mcf, sizeof mcf, &len) == SCRYPT_INVALID_PARAMS, "p of 0");
-  check(scrypt_hash_mcf(b(""), 0, b(""), 0, 56, 1, 1, 32, mcf, sizeof mcf, &len) == SCRYPT_OUT_OF_MEMORY, "memory");
-  check(len == 77 && mcf[0] == '$', "a refusal leaves the text and its length");
+  check(scrypt_hash_phc("", 0, "", 0, 4, 8, 1, 32, phc, sizeof phc) == SCRYPT_SALT_INVALID, "no salt");
+  check(scrypt_hash_phc("", 0, "s", 1, 4, 8, 1, 65, phc, sizeof phc) == SCRYPT_INVALID_PARAMS, "key_len");
+  check(scrypt_hash_mcf("", 0, "", 0, 4, 8, 0, 32, mcf, sizeof mcf) == SCRYPT_INVALID_PARAMS, "p of 0");
+  check(scrypt_hash_mcf("", 0, "", 0, 56, 1, 1, 32, mcf, sizeof mcf) == SCRYPT_OUT_OF_MEMORY, "memory");
+  check(mcf[0] == '$', "a refusal leaves the text");
 }
 
 static void refusals_of_texts(void) {

@@ -2,6 +2,7 @@
 # Tests the libraries of build/lib from C and C++: what they export, the header's warnings, every call, AddressSanitizer,
 # valgrind, the stack, and what is installed; all calls of the library for x86-64-v3 too, if it is built. With the word
 # short: the exports, the version and one run of each.
+unset CDPATH
 cd "$(dirname "$0")/../.."
 . bindings/common.sh
 newer=$lib/glibc-hwcaps/x86-64-v3 newest=x86-64-v3
@@ -50,6 +51,9 @@ is_chosen() {
 }
 
 python3 bindings/c/abi.py "$lib"
+test -z "$(find "$lib" -type l)" # or the kit, and with it make check, refuses the repository
+release/hardened.sh "$lib/libscrypt_drop_in.so" $shared
+echo "bound to themselves, when they are loaded, and read-only then, with stack protection: the shared libraries"
 python3 bindings/version.py --check
 each "$built" short_tests
 is_chosen
@@ -86,10 +90,10 @@ for compiler in gcc clang; do
   if has $compiler $compiler; then
     misuse() { $compiler -Wall -Werror -I"$lib" -DMISUSE="$1" -c -o /dev/null bindings/c/misuse.c 2> "$room/log"; }
     misuse 0
-    for number in 1 2 3 4 5 6 7; do
+    for number in 1 2 3 4 5; do
       if misuse $number; then echo "$compiler does not refuse misuse $number" >&2; exit 1; fi
     done
-    echo "refused by $compiler: statuses that are not used, and NULL for proved calls"
+    echo "refused by $compiler: statuses that are not used, and NULL for buffers and lengths"
   fi
 done
 
@@ -137,7 +141,7 @@ if has gcc gcc && has qemu-x86_64-static qemu-user-static; then
   fi
 fi
 
-tests="test test_words test_order test_mapped test_memory test_null test_wipe test_salt test_traces threads"
+tests="test test_words test_order test_null test_salt test_traces threads"
 memcheck() {
   valgrind -q --error-exitcode=1 --leak-check=full --errors-for-leak-kinds=all "$@"
 }
@@ -164,6 +168,28 @@ if has gcc gcc; then
 fi
 if has gcc gcc && has valgrind valgrind; then each "$built" emulated; fi
 
+# The hasher, with its sources in the test. Of the checkers that know threads, helgrind needs to be told of each bell.
+hasher_test() {
+  gcc -std=gnu99 -g -Wall -Wextra -Werror -Ibindings/c -DROOT="\"$room/root\"" "$@" bindings/c/test_hasher.c \
+    -o "$room/hasher" -L"$lib" -lscrypt_c -Wl,-rpath,"$lib" -lpthread
+}
+if has gcc gcc; then
+  for checked in -O2 "-O1 -fsanitize=thread" "-O1 -fsanitize=address,undefined -fno-sanitize-recover=all"; do
+    hasher_test $checked
+    "$room/hasher" > /dev/null
+    echo "the hasher: $checked"
+  done
+  if has valgrind valgrind; then
+    hasher_test -O1
+    # A call may be over before the thread that ends it wakes it, at a place that isn't its own any more (queue.c).
+    printf '%s\n' '{' 'bell' 'Memcheck:Param' 'futex(futex)' 'fun:syscall' 'fun:ring' '...' '}' > "$room/bells"
+    valgrind -q --error-exitcode=1 --suppressions="$room/bells" "$room/hasher" > /dev/null
+    hasher_test -O1 -DHELGRIND
+    valgrind -q --tool=helgrind --error-exitcode=1 "$room/hasher" > /dev/null
+    echo "no report by valgrind memcheck and helgrind: the hasher"
+  fi
+fi
+
 # The stack that calls use. With the static library the test binds functions at their first call, with the shared one
 # before: to bind a call of the library itself uses the stack that is looked at.
 for compiler in gcc clang; do
@@ -179,24 +205,47 @@ for compiler in gcc clang; do
   fi
 done
 
+# A program with a malloc of its own, whose memory is shared, and with functions of its own.
+own() { gcc -std=gnu99 -O2 -Wall -Wextra -Werror -I"$lib" bindings/c/test_own.c -o "$room/own" "$@" && "$room/own"; }
+if has gcc gcc; then
+  own_names() { own -DNAMES "$1"; }
+  each "$shared" own_names
+  own "$lib/libscrypt_c.a"
+  own -static "$lib/libscrypt_c.a"
+  echo "called by a program with a malloc and functions of its own"
+fi
+
 # What calls leave in memory. If what the kit built is here, each call without clearing.c has to leave something.
 if has gcc gcc; then
   python3 -B bindings/c/traces.py "$lib/libscrypt_c.so" > "$room/secrets"
-  others=$lib/libscrypt_drop_in.so
-  if [ -e "$lib/libscrypt_crypt.so" ]; then others="$others $lib/libscrypt_crypt.so"; fi
-  "$room/test_traces-$newest" "$room/secrets" $others > /dev/null
+  "$room/test_traces-$newest" "$room/secrets" "$lib/libscrypt_drop_in.so" > /dev/null
   head -n 1 "$room/secrets" > "$room/first"
   no_trace() {
     gcc -O2 -Wl,-z,now bindings/c/test_traces.c -o "$room/traces_shared" -I"$lib" "$1" -lpthread
     "$room/traces_shared" "$room/first" > /dev/null
   }
   each "$shared" no_trace
-  echo "no trace of the password, the blocks or the key: each call, the drop-in names, crypt(3)"
+  # Another malloc, which the dynamic linker binds at the first call: also with memory that is shared.
+  if echo 'int main(void) { return 0; }' | gcc -x c - -o "$room/traces_lazy" -ltcmalloc 2> /dev/null; then
+    gcc -O2 -DOTHER_MALLOC -Wl,-z,lazy bindings/c/test_traces.c -o "$room/traces_lazy" -I"$lib" "$lib/libscrypt_c.a" -lpthread \
+      -Wl,--no-as-needed -ltcmalloc
+    "$room/traces_lazy" "$room/first" > /dev/null
+    tail -n 1 "$room/secrets" > "$room/last"
+    TCMALLOC_MEMFS_MALLOC_PATH=$room/shared "$room/traces_lazy" "$room/last" > /dev/null
+    echo "no trace with tcmalloc, also in shared memory"
+  else
+    echo "tcmalloc is not installed (package libgoogle-perftools-dev): not run"
+  fi
+  echo "no trace of the password, the blocks or the key: each call, the drop-in names"
   if command -v rt > /dev/null && [ -e crates/scrypt_c/out/libscrypt_c.a ]; then
-    gcc -O2 -Ibindings/c bindings/c/test_traces.c bindings/c/memory.c bindings/c/salt.c -o "$room/not_cleared" \
-      crates/scrypt_c/out/libscrypt_c.a "$(dirname "$(rt doc)")/c/liblibc_c.a" -lpthread
+    sed -n 's/^PROVED_CALL(\([a-z_]*\),.*/\1/p' bindings/c/proved_calls.h > "$room/calls"
+    sed 's/.*/& cleared_&/' "$room/calls" > "$room/renames"
+    objcopy --redefine-syms="$room/renames" crates/scrypt_c/out/libscrypt_c.a "$room/proved.a"
+    over=$(sed -n 's/^over="\(.*\)"/\1/p' bindings/lib.sh | sed 's|[a-z]\{1,\}|bindings/c/&.c|g')
+    gcc -O2 -Ibindings/c -DLIBRARY_VERSION='""' -DPROCESSOR='""' bindings/c/test_traces.c bindings/c/version.c $over \
+      -o "$room/not_cleared" "$room/proved.a" "$(dirname "$(rt doc)")/c/liblibc_c.a" -lpthread
     if "$room/not_cleared" "$room/first" > /dev/null 2> "$room/traces"; then exit 1; fi
-    for call in $(sed -n 's/^PROVED_CALL(\([a-z_]*\),.*/\1/p' bindings/c/proved_calls.h); do
+    for call in $(sed s/scrypt_kdf/scrypt_key/ "$room/calls"); do
       grep -q "traces of $call\b" "$room/traces" || { echo "no trace of $call without clearing.c" >&2; exit 1; }
     done
     echo "traces of each of them without clearing.c"

@@ -1,6 +1,8 @@
 #!/bin/sh
 # Installs what is built by `make install` and by the install.sh of the archive, moves it, and builds programs with it by
 # pkg-config and by CMake, below folders whose names have special characters.
+unset CDPATH
+umask 022
 cd "$(dirname "$0")/../.."
 . bindings/common.sh
 
@@ -34,11 +36,7 @@ is_found() {
   if has gcc gcc && has pkg-config pkg-config; then by_pkg_config "$1"; fi
   if has cmake cmake; then by_cmake "$1"; fi
 }
-# Nothing is left but the folders that every system has.
-is_empty() {
-  left=$(cd "$1" && find . ! -name . | grep -vE '^\./usr(/(bin|include|lib|share(/man)?))?$') || true
-  test -z "$left" || { echo "uninstalled, and this is left in $1: $left" >&2; exit 1; }
-}
+is_gone() { test ! -e "$1" || { echo "uninstalled, and this is left:" >&2; find "$1" >&2; exit 1; }; }
 
 # Why, and the folder.
 while IFS=: read -r why name; do
@@ -46,12 +44,12 @@ while IFS=: read -r why name; do
   is_found "$room/$name/usr"
   mv "$room/$name" "$room/moved $name"
   is_found "$room/moved $name/usr"
-  mv "$room/moved $name" "$room/$name"
   if has python3 python3; then
-    SCRYPT_C_LIBRARY=$room/$name/usr/lib PYTHONPATH=$room/$name/usr/lib/python3/dist-packages python3 -c 'import scrypt_c'
+    installed=$room/moved\ $name/usr/lib
+    SCRYPT_C_LIBRARY=$installed PYTHONPATH=$installed/python3/dist-packages python3 -c 'import scrypt_c'
   fi
-  make -s uninstall prefix="$room/$name/usr" DESTDIR= > /dev/null
-  is_empty "$room/$name"
+  make -s uninstall prefix="$room/moved $name/usr" DESTDIR= > /dev/null
+  is_gone "$room/moved $name/usr"
   echo "installed, found, moved, found again and uninstalled: a prefix with $why"
 done << 'END'
 no special character:plain
@@ -77,6 +75,7 @@ for it in '\' "'" '"' ':' ';' ',' '(' ')' '|' '$$' '	' "$newline"; do
     exit 1
   fi
 done
+refused 'a line that ends in docdir' docdir "$newline" 'more than one line'
 refused 'a $ that make would leave out' prefix '$x' 'has a \$'
 if make -s install prefix=refused DESTDIR= 2> "$room/log" || ! grep -q "not an absolute path" "$room/log"; then exit 1; fi
 test ! -e refused
@@ -86,7 +85,7 @@ for it in "$room/plain/usr/" "$room//plain//usr"; do
   make -s install prefix="$it" DESTDIR= > /dev/null
   is_found "$room/plain/usr"
   make -s uninstall prefix="$it" DESTDIR= > /dev/null
-  is_empty "$room/plain"
+  is_gone "$room/plain/usr"
 done
 echo "installed and found: a prefix with a slash at the end, and with two"
 
@@ -95,16 +94,100 @@ mkdir -p "$room/linked/usr" "$room/else/where/lib"
 ln -s "$room/else/where/lib" "$room/linked/usr/lib"
 make -s install prefix="$room/linked/usr" DESTDIR= > /dev/null
 is_found "$room/linked/usr"
-echo "installed and found: lib is a link"
+make -s uninstall prefix="$room/linked/usr" DESTDIR= > /dev/null
+test -z "$(ls "$room/else/where/lib")" && test -h "$room/linked/usr/lib"
+echo "installed, found and uninstalled: lib is a link"
 
 # The archive has the same files below files/, and an install.sh of its own.
-make -s install prefix="$room/archive/files" DESTDIR= > /dev/null
+make -s install prefix="$room/archive/files" docdir="$room/archive/doc" DESTDIR= > /dev/null
 cp release/install.sh "$room/archive/"
 "$room/archive/install.sh" "$room/R&D kit/usr" | grep -qF "the program is $room/R&D kit/usr/bin/scrypt_tool;"
 is_found "$room/R&D kit/usr"
 "$room/archive/install.sh" --remove "$room/R&D kit/usr"
-is_empty "$room/R&D kit"
+is_gone "$room/R&D kit/usr"
 echo "installed, found and removed: by the install.sh of the archive"
+
+# Both are installed below a prefix, again without the library for x86-64-v3, and removed. Before there were folders of the
+# same names, with nothing in them. The user's umask and CDPATH change nothing.
+mkdir -p "$room/sources/build"
+cp -r Makefile VERSION LICENSE README.md SECURITY.md bindings docs release "$room/sources"
+cp -r "$lib" "$room/sources/build"
+by_make() { make -s -C "$room/sources" "$1" prefix="$room/had" DESTDIR= > /dev/null; }
+by_archive() {
+  case $1 in
+    install) "$room/archive/install.sh" "$room/had" > /dev/null ;;
+    uninstall) "$room/archive/install.sh" --remove "$room/had" ;;
+  esac
+}
+without_a_part() {
+  for place in "$room/sources/build/lib" "$room/archive/files/lib"; do mv "$place/glibc-hwcaps" "$place.kept"; done
+  $1 install
+  for place in "$room/sources/build/lib" "$room/archive/files/lib"; do mv "$place.kept" "$place/glibc-hwcaps"; done
+  if [ -e "$room/had/lib/glibc-hwcaps" ]; then echo "$1: a part of the old version is left" >&2; exit 1; fi
+}
+mkdir -p "$room/had/lib/pkgconfig" "$room/had/share/man/man3" "$room/decoy/bindings/c" "$room/decoy/crates/scrypt_tool"
+find "$room/had" | sort > "$room/before"
+for by in by_make by_archive; do
+  (umask 077 && CDPATH=$room/decoy && export CDPATH && $by install)
+  test -z "$(find "$room/had" -type f ! -perm -go=r -o -type d ! -perm -go=rx)" || { echo "$by: not for everybody" >&2; exit 1; }
+  if [ -d "$lib/glibc-hwcaps" ]; then without_a_part $by; fi
+  $by uninstall
+  find "$room/had" | sort | diff "$room/before" -
+  mkdir -p "$room/had/include/scrypt_c.h"
+  if $by install 2> /dev/null; then echo "$by: a folder in place of a file is no error" >&2; exit 1; fi
+  $by uninstall
+  rmdir "$room/had/include/scrypt_c.h" "$room/had/include"
+  find "$room/had" | sort | diff "$room/before" -
+done
+by_archive install
+by_make install
+mv "$room/archive/files" "$room/archive/elsewhere"
+if by_archive install 2> /dev/null; then echo "nothing to install is no error" >&2; exit 1; fi
+mv "$room/archive/elsewhere" "$room/archive/files"
+test -e "$room/had/lib/libscrypt_c.a"
+touch "$room/had/lib/pkgconfig/.scrypt_c_new.1" # as a killed one leaves it
+if [ "$(id -u)" = 0 ]; then
+  chown 1 "$room/had/share/doc/scrypt_c/installed"
+  for action in install uninstall; do
+    if by_archive $action 2> /dev/null; then echo "$action by the list of another user" >&2; exit 1; fi
+  done
+  chown 0 "$room/had/share/doc/scrypt_c/installed"
+fi
+by_archive uninstall
+find "$room/had" | sort | diff "$room/before" -
+echo "installed, upgraded and removed: what was there before is left, and nothing else, also after an error"
+
+# A program that has both libraries loaded, and one that loads them for each key, go on while they are installed again.
+use() {
+  python3 -B - "$room/had/lib" "$room/end" "$1" << 'END'
+import _ctypes, ctypes, glob, os, sys
+
+libraries, end, how = sys.argv[1:]
+paths = [f"{libraries}/libscrypt_c.so.0", *glob.glob(f"{libraries}/glibc-hwcaps/*/libscrypt_c.so.0")]
+one, many = ctypes.c_uint32, ctypes.c_size_t
+while not os.path.exists(end):
+    for library in map(ctypes.CDLL, paths):
+        key = ctypes.create_string_buffer(32)
+        arguments = [b"password", many(8), b"salt", many(4), 4, one(8), one(1), key, many(32)]
+        assert library.scrypt_key(*arguments) == 0 and key.raw[:4].hex() == "f876178f"
+        if how == "loading":
+            _ctypes.dlclose(library._handle)
+END
+}
+if has python3 python3; then
+  for by in by_make by_archive; do
+    rm -f "$room/end"
+    $by install
+    use holding & holding=$!
+    use loading & loading=$!
+    sleep 1
+    for _ in 1 2 3; do $by install; done
+    touch "$room/end"
+    wait $holding && wait $loading || { echo "$by: a program that uses the library ended" >&2; exit 1; }
+    $by uninstall
+  done
+  echo "installed again three times, while programs use the library and load it"
+fi
 
 make -s install prefix=/usr libdir=/usr/lib/x86_64-linux-gnu DESTDIR="$room/stage" > /dev/null
 manual=$room/stage/usr/share/man

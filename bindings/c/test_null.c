@@ -1,14 +1,14 @@
-/* NULL for the helpers and for the calls that aren't proved: nothing with length 0, and with another length an error before any
- * other. */
+/* NULL for each call that allows it: nothing with length 0, and with another length an error before any other. */
 #include "check.h"
 #include "scrypt_c.h"
 
 #include <string.h>
 
-static scrypt_memory *memory;
-static uint8_t key[32];
+static uint8_t key[32], chunks[2048];
+static uint32_t table[4096], scratch[512];
 static char text[SCRYPT_PHC_CAPACITY];
-static size_t len;
+static int statuses[] = {77, 77};
+static const scrypt_login LOGINS[] = {{"p", 1, "$7$", 3}, {"p", 1, NULL, 1}};
 
 struct row {
   const char *why;
@@ -18,98 +18,75 @@ struct row {
 static void check_rows(const struct row *rows, size_t count) {
   size_t i;
   for (i = 0; i < count; i++) check(rows[i].status == rows[i].wanted, rows[i].why);
-  check(key[0] == 7 && key[31] == 7 && text[0] == '!' && len == 77, "outputs are unchanged");
+  check(key[0] == 7 && key[31] == 7 && text[0] == '!' && statuses[0] == 77, "outputs are unchanged");
 }
 
 #define CHECK_ROWS(rows) check_rows(rows, sizeof rows / sizeof *rows)
+#define BUFFERS chunks, sizeof chunks, table, 4096, scratch, 512
+#define NO_CHUNKS NULL, 0, table, 4096, scratch, 512
+#define NO_TABLE chunks, sizeof chunks, NULL, 4096, scratch, 512
+#define NO_SCRATCH chunks, sizeof chunks, table, 4096, NULL, 512
 
-static void reset(void) {
-  memset(key, 7, sizeof key);
-  memset(text, '!', sizeof text);
-  len = 77;
-}
-
-static void helpers(void) {
+static void keys(void) {
   const struct row ROWS[] = {
-      {"scrypt_derive, 5 bytes of a password", scrypt_derive(NULL, 5, "s", 1, 4, 1, 1, key, 32), SCRYPT_NULL_POINTER},
-      {"scrypt_derive, a byte of a salt", scrypt_derive("p", 1, NULL, 1, 4, 1, 1, key, 32), SCRYPT_NULL_POINTER},
-      {"scrypt_derive, an output", scrypt_derive("p", 1, "s", 1, 4, 1, 1, NULL, 32), SCRYPT_NULL_POINTER},
-      {"scrypt_derive, log_n of 99 too", scrypt_derive(NULL, 5, "s", 1, 99, 1, 1, key, 32), SCRYPT_NULL_POINTER},
-      {"scrypt_derive, no output", scrypt_derive("p", 1, "s", 1, 4, 1, 1, NULL, 0), SCRYPT_INVALID_OUTPUT_LEN},
-      {"phc_z, 5 bytes of a password", scrypt_hash_phc_z(NULL, 5, "s", 1, 4, 1, 1, 32, text, 99), SCRYPT_NULL_POINTER},
-      {"phc_z, a salt", scrypt_hash_phc_z("p", 1, NULL, 16, 4, 1, 1, 32, text, 99), SCRYPT_NULL_POINTER},
-      {"phc_z, a text", scrypt_hash_phc_z("p", 1, "s", 1, 4, 1, 1, 32, NULL, 99), SCRYPT_NULL_POINTER},
-      {"phc_z, p of 0 too", scrypt_hash_phc_z(NULL, 5, "s", 1, 4, 1, 0, 32, text, 99), SCRYPT_NULL_POINTER},
-      {"phc_z, no salt", scrypt_hash_phc_z("p", 1, NULL, 0, 4, 1, 1, 32, text, 99), SCRYPT_SALT_INVALID},
-      {"phc_z, no capacity", scrypt_hash_phc_z("p", 1, "s", 1, 4, 1, 1, 32, NULL, 0), SCRYPT_BUFFER_SIZE},
-      {"mcf_z, 5 bytes of a password", scrypt_hash_mcf_z(NULL, 5, "s", 1, 4, 1, 1, 32, text, 99), SCRYPT_NULL_POINTER},
-      {"mcf_z, a salt", scrypt_hash_mcf_z("p", 1, NULL, 1, 4, 1, 1, 32, text, 99), SCRYPT_NULL_POINTER},
-      {"mcf_z, a text", scrypt_hash_mcf_z("p", 1, "s", 1, 4, 1, 1, 32, NULL, 99), SCRYPT_NULL_POINTER},
-      {"mcf_z, no capacity", scrypt_hash_mcf_z("p", 1, "s", 1, 4, 1, 1, 32, NULL, 0), SCRYPT_BUFFER_SIZE},
+      {"key, 5 bytes of a password", scrypt_key(NULL, 5, "s", 1, 4, 1, 1, key, 32), SCRYPT_NULL_POINTER},
+      {"key, a byte of a salt", scrypt_key("p", 1, NULL, 1, 4, 1, 1, key, 32), SCRYPT_NULL_POINTER},
+      {"key, an output", scrypt_key("p", 1, "s", 1, 4, 1, 1, NULL, 32), SCRYPT_NULL_POINTER},
+      {"key, log_n of 99 too", scrypt_key(NULL, 5, "s", 1, 99, 1, 1, key, 32), SCRYPT_NULL_POINTER},
+      {"key, no output", scrypt_key("p", 1, "s", 1, 4, 1, 1, NULL, 0), SCRYPT_INVALID_OUTPUT_LEN},
+      {"key, r of 0, no output", scrypt_key(NULL, 0, NULL, 0, 4, 0, 1, NULL, 0), SCRYPT_INVALID_PARAMS},
+      {"buffers, a password", scrypt_key_with_buffers(NULL, 5, "s", 1, 4, 1, 1, key, 32, BUFFERS), SCRYPT_NULL_POINTER},
+      {"buffers, chunks", scrypt_key_with_buffers("p", 1, "s", 1, 4, 1, 1, key, 32, NO_CHUNKS), SCRYPT_NULL_POINTER},
+      {"buffers, a table", scrypt_key_with_buffers("p", 1, "s", 1, 4, 1, 1, key, 32, NO_TABLE), SCRYPT_NULL_POINTER},
+      {"buffers, no output", scrypt_key_with_buffers("p", 1, "s", 1, 4, 1, 1, NULL, 0, BUFFERS), SCRYPT_INVALID_OUTPUT_LEN},
+      {"thin, a salt", scrypt_key_thin("p", 1, NULL, 1, 4, 1, 1, 0, key, 32, BUFFERS), SCRYPT_NULL_POINTER},
+      {"thin, a scratch", scrypt_key_thin("p", 1, "s", 1, 4, 1, 1, 0, key, 32, NO_SCRATCH), SCRYPT_NULL_POINTER},
       {"draw_salt, 16 bytes", scrypt_draw_salt(NULL, 16), SCRYPT_NULL_POINTER},
       {"draw_salt, no byte", scrypt_draw_salt(NULL, 0), SCRYPT_OK},
   };
   CHECK_ROWS(ROWS);
 }
 
-/* The same for a table that is allocated, and for one that is mapped. */
-static void mapped(uint8_t log_n) {
+static void hashes(void) {
   const struct row ROWS[] = {
-      {"kdf_mapped, a password", scrypt_kdf_mapped(NULL, 5, b("s"), 1, log_n, 8, 1, key, 32), SCRYPT_NULL_POINTER},
-      {"kdf_mapped, a salt", scrypt_kdf_mapped(b("p"), 1, NULL, 1, log_n, 8, 1, key, 32), SCRYPT_NULL_POINTER},
-      {"kdf_mapped, an output", scrypt_kdf_mapped(b("p"), 1, b("s"), 1, log_n, 8, 1, NULL, 32), SCRYPT_NULL_POINTER},
-      {"kdf_mapped, r of 0 too", scrypt_kdf_mapped(NULL, 5, b("s"), 1, log_n, 0, 1, key, 32), SCRYPT_NULL_POINTER},
-      {"kdf_mapped, no output", scrypt_kdf_mapped(NULL, 0, NULL, 0, log_n, 8, 1, NULL, 0), SCRYPT_INVALID_OUTPUT_LEN},
-      {"kdf_mapped, r of 0, no output", scrypt_kdf_mapped(NULL, 0, NULL, 0, log_n, 0, 1, NULL, 0), SCRYPT_INVALID_PARAMS},
+      {"phc, a password", scrypt_hash_phc(NULL, 5, "s", 1, 4, 1, 1, 32, text, 99), SCRYPT_NULL_POINTER},
+      {"phc, a salt", scrypt_hash_phc("p", 1, NULL, 16, 4, 1, 1, 32, text, 99), SCRYPT_NULL_POINTER},
+      {"phc, a text", scrypt_hash_phc("p", 1, "s", 1, 4, 1, 1, 32, NULL, 99), SCRYPT_NULL_POINTER},
+      {"phc, p of 0 too", scrypt_hash_phc(NULL, 5, "s", 1, 4, 1, 0, 32, text, 99), SCRYPT_NULL_POINTER},
+      {"phc, no salt", scrypt_hash_phc("p", 1, NULL, 0, 4, 1, 1, 32, text, 99), SCRYPT_SALT_INVALID},
+      {"phc, no capacity", scrypt_hash_phc("p", 1, "s", 1, 4, 1, 1, 32, NULL, 0), SCRYPT_BUFFER_SIZE},
+      {"mcf, a salt", scrypt_hash_mcf("p", 1, NULL, 1, 4, 1, 1, 32, text, 99), SCRYPT_NULL_POINTER},
+      {"mcf, no salt and capacity", scrypt_hash_mcf(NULL, 0, NULL, 0, 4, 1, 1, 32, NULL, 0), SCRYPT_BUFFER_SIZE},
+      {"phc in buffers, a text", scrypt_hash_phc_with_buffers("p", 1, "s", 1, 4, 1, 1, 32, NULL, 99, BUFFERS),
+       SCRYPT_NULL_POINTER},
+      {"mcf in buffers, a table", scrypt_hash_mcf_with_buffers("p", 1, "s", 1, 4, 1, 1, 32, text, 99, NO_TABLE),
+       SCRYPT_NULL_POINTER},
+      {"verify, a password", scrypt_verify(NULL, 5, "$7$", 3), SCRYPT_NULL_POINTER},
+      {"verify, a text", scrypt_verify("p", 1, NULL, 9), SCRYPT_NULL_POINTER},
+      {"verify, an empty text", scrypt_verify(NULL, 0, NULL, 0), SCRYPT_ENCODING_INVALID},
+      {"verify in buffers, a text", scrypt_verify_with_buffers("p", 1, NULL, 1, BUFFERS), SCRYPT_NULL_POINTER},
+      {"verify in buffers, a table", scrypt_verify_with_buffers("p", 1, "$7$", 3, NO_TABLE), SCRYPT_NULL_POINTER},
+      {"verify a group, a text", scrypt_verify_group_with_buffers(LOGINS, 2, statuses, BUFFERS), SCRYPT_NULL_POINTER},
+      {"verify a group, statuses", scrypt_verify_group_with_buffers(LOGINS, 1, NULL, BUFFERS), SCRYPT_NULL_POINTER},
+      {"verify a group, logins", scrypt_verify_group_with_buffers(NULL, 1, statuses, BUFFERS), SCRYPT_NULL_POINTER},
+      {"verify a group of five", scrypt_verify_group_with_buffers(LOGINS, 5, statuses, BUFFERS), SCRYPT_BUFFER_SIZE},
+      {"verify nobody", scrypt_verify_group_with_buffers(NULL, 0, NULL, BUFFERS), SCRYPT_OK},
+      {"needs_rehash, a text", scrypt_needs_rehash(NULL, 1, 4, 1, 1, 32), SCRYPT_NULL_POINTER},
+      {"needs_rehash, an empty text", scrypt_needs_rehash(NULL, 0, 4, 1, 1, 32), SCRYPT_ENCODING_INVALID},
+      {"hash_params, a number", scrypt_hash_params("$7$", 3, NULL, NULL, NULL, NULL), SCRYPT_NULL_POINTER},
+      {"hash_needs, a place", scrypt_hash_needs("$7$", 3, 0, 0, 0, NULL), SCRYPT_NULL_POINTER},
+      {"params_need, a place", scrypt_params_need(4, 1, 1, 0, 0, NULL), SCRYPT_NULL_POINTER},
+      {"limits_for_new, a place", scrypt_limits_for_new(4, 1, 1, 32, NULL, NULL, NULL), SCRYPT_NULL_POINTER},
   };
   CHECK_ROWS(ROWS);
-}
-
-#define KDF(memory, password, password_len, salt, salt_len, output, output_len) \
-  scrypt_kdf_in(memory, password, password_len, salt, salt_len, 4, 1, 1, output, output_len)
-#define PHC(memory, password, password_len, salt, salt_len, text, capacity, text_len) \
-  scrypt_hash_phc_in(memory, password, password_len, salt, salt_len, 4, 1, 1, 32, text, capacity, text_len)
-#define MCF(memory, password, password_len, salt, salt_len, text, capacity, text_len) \
-  scrypt_hash_mcf_in(memory, password, password_len, salt, salt_len, 4, 1, 1, 32, text, capacity, text_len)
-
-static void in_memory(void) {
-  size_t needed = 0;
-  const struct row ROWS[] = {
-      {"kdf_in, a memory", KDF(NULL, b("p"), 1, b("s"), 1, key, 32), SCRYPT_NULL_POINTER},
-      {"kdf_in, a password", KDF(memory, NULL, 5, b("s"), 1, key, 32), SCRYPT_NULL_POINTER},
-      {"kdf_in, a salt", KDF(memory, b("p"), 1, NULL, 1, key, 32), SCRYPT_NULL_POINTER},
-      {"kdf_in, an output", KDF(memory, b("p"), 1, b("s"), 1, NULL, 32), SCRYPT_NULL_POINTER},
-      {"kdf_in, no output", KDF(memory, NULL, 0, NULL, 0, NULL, 0), SCRYPT_INVALID_OUTPUT_LEN},
-      {"phc_in, a memory", PHC(NULL, b("p"), 1, b("s"), 1, text, 99, &len), SCRYPT_NULL_POINTER},
-      {"phc_in, a password", PHC(memory, NULL, 5, b("s"), 1, text, 99, &len), SCRYPT_NULL_POINTER},
-      {"phc_in, a salt", PHC(memory, b("p"), 1, NULL, 1, text, 99, &len), SCRYPT_NULL_POINTER},
-      {"phc_in, a text", PHC(memory, b("p"), 1, b("s"), 1, NULL, 99, &len), SCRYPT_NULL_POINTER},
-      {"phc_in, a length", PHC(memory, b("p"), 1, b("s"), 1, text, 99, NULL), SCRYPT_NULL_POINTER},
-      {"phc_in, no capacity", PHC(memory, NULL, 0, b("s"), 1, NULL, 0, &needed), SCRYPT_BUFFER_SIZE},
-      {"mcf_in, a memory", MCF(NULL, b("p"), 1, b("s"), 1, text, 99, &len), SCRYPT_NULL_POINTER},
-      {"mcf_in, a password", MCF(memory, NULL, 5, b("s"), 1, text, 99, &len), SCRYPT_NULL_POINTER},
-      {"mcf_in, a salt", MCF(memory, b("p"), 1, NULL, 1, text, 99, &len), SCRYPT_NULL_POINTER},
-      {"mcf_in, a text", MCF(memory, b("p"), 1, b("s"), 1, NULL, 99, &len), SCRYPT_NULL_POINTER},
-      {"mcf_in, a length", MCF(memory, b("p"), 1, b("s"), 1, text, 99, NULL), SCRYPT_NULL_POINTER},
-      {"mcf_in, no capacity", MCF(memory, NULL, 0, NULL, 0, NULL, 0, &needed), SCRYPT_BUFFER_SIZE},
-      {"verify_in, a memory", scrypt_verify_in(NULL, b("p"), 1, "$7$", 3), SCRYPT_NULL_POINTER},
-      {"verify_in, a password", scrypt_verify_in(memory, NULL, 5, "$7$", 3), SCRYPT_NULL_POINTER},
-      {"verify_in, a text", scrypt_verify_in(memory, b("p"), 1, NULL, 9), SCRYPT_NULL_POINTER},
-      {"verify_in, an empty text", scrypt_verify_in(memory, NULL, 0, NULL, 0), SCRYPT_ENCODING_INVALID},
-  };
-  CHECK_ROWS(ROWS);
-  check(needed > 50, "the capacity that is needed");
 }
 
 int main(void) {
-  memory = scrypt_memory_new(SCRYPT_MOST_BYTES, SCRYPT_MOST_WORK);
-  reset();
-  helpers();
-  mapped(4);
-  mapped(14);
-  in_memory();
-  scrypt_memory_wipe(NULL);
-  scrypt_memory_free(NULL);
-  scrypt_memory_free(memory);
+  memset(key, 7, sizeof key);
+  memset(text, '!', sizeof text);
+  keys();
+  hashes();
+  scrypt_hasher_close(NULL);
+  scrypt_hasher_free(NULL);
   return failed;
 }

@@ -19,51 +19,38 @@ enum known { STATUS, A_KEY, A_PHC, AN_MCF };
 
 static uint8_t key[20], chunks[768];
 static uint32_t table[1024], scratch[192];
-static char text[128];
-static size_t text_len;
-static scrypt_memory *memory;
+static char text[SCRYPT_PHC_CAPACITY];
+static scrypt_hasher *hasher;
 
-#define SECRETS b("pw"), 2, b("saltsalt"), 8
+#define SECRETS "pw", 2, "saltsalt", 8
 #define PARAMS 4, 2, 3
 #define BUFFERS chunks, 768, table, 1024, scratch, 128
-#define TEXT text, sizeof text, &text_len
+#define TEXT text, sizeof text
 #define OF(known) known, sizeof known - 1
 
-static int kdf(void) { return scrypt_kdf(SECRETS, PARAMS, key, 20); }
-static int kdf_mapped(void) { return scrypt_kdf_mapped(SECRETS, PARAMS, key, 20); }
-static int kdf_in(void) { return scrypt_kdf_in(memory, SECRETS, PARAMS, key, 20); }
-static int kdf_of_the_helper(void) { return scrypt_derive("pw", 2, "saltsalt", 8, PARAMS, key, 20); }
-static int kdf_with_buffers(void) { return scrypt_kdf_with_buffers(SECRETS, PARAMS, key, 20, BUFFERS); }
-static int kdf_thin(void) {
-  return scrypt_kdf_thin(SECRETS, PARAMS, 1, key, 20, chunks, 768, table, 512, scratch, 192);
+static int of_key(void) { return scrypt_key(SECRETS, PARAMS, key, 20); }
+static int key_with_buffers(void) { return scrypt_key_with_buffers(SECRETS, PARAMS, key, 20, BUFFERS); }
+static int key_thin(void) {
+  return scrypt_key_thin(SECRETS, PARAMS, 1, key, 20, chunks, 768, table, 512, scratch, 192);
 }
 static int phc(void) { return scrypt_hash_phc(SECRETS, PARAMS, 20, TEXT); }
-static int phc_in(void) { return scrypt_hash_phc_in(memory, SECRETS, PARAMS, 20, TEXT); }
 static int phc_with_buffers(void) { return scrypt_hash_phc_with_buffers(SECRETS, PARAMS, 20, TEXT, BUFFERS); }
-static int phc_of_the_helper(void) { return scrypt_hash_phc_z("pw", 2, "saltsalt", 8, PARAMS, 20, text, sizeof text); }
 static int mcf(void) { return scrypt_hash_mcf(SECRETS, PARAMS, 20, TEXT); }
-static int mcf_in(void) { return scrypt_hash_mcf_in(memory, SECRETS, PARAMS, 20, TEXT); }
 static int mcf_with_buffers(void) { return scrypt_hash_mcf_with_buffers(SECRETS, PARAMS, 20, TEXT, BUFFERS); }
-static int mcf_of_the_helper(void) { return scrypt_hash_mcf_z("pw", 2, "saltsalt", 8, PARAMS, 20, text, sizeof text); }
-static int verify(void) { return scrypt_verify(b("pw"), 2, OF(PHC)); }
-static int verify_in(void) { return scrypt_verify_in(memory, b("pw"), 2, OF(MCF)); }
-static int verify_with_buffers(void) { return scrypt_verify_with_buffers(b("pw"), 2, OF(PHC), BUFFERS); }
+static int verify(void) { return scrypt_verify("pw", 2, OF(PHC)); }
+static int verify_with_buffers(void) { return scrypt_verify_with_buffers("pw", 2, OF(PHC), BUFFERS); }
+static int hasher_key(void) { return scrypt_hasher_key(hasher, SECRETS, key, 20, -1, NULL); }
+static int hasher_hash(void) { return scrypt_hasher_hash(hasher, SECRETS, text, sizeof text, -1, NULL); }
+static int hasher_verify(void) { return scrypt_hasher_verify(hasher, "pw", 2, OF(MCF), -1, NULL); }
 static int rehash(void) { return scrypt_needs_rehash(OF(PHC), PARAMS, 20); }
 
-/* The first is right, and the other's text can't be read. */
-static int are_apart(int status, int other_status) {
-  return status == SCRYPT_OK && other_status == SCRYPT_ENCODING_INVALID ? SCRYPT_OK : -1;
+/* Each has its own place: right, no text, another password, right. */
+static int verify_group_with_buffers(void) {
+  const scrypt_login logins[] = {{"pw", 2, OF(PHC)}, {"pw", 2, "$8$", 3}, {"PW", 2, OF(MCF)}, {"pw", 2, OF(MCF)}};
+  static const int WANTED[] = {SCRYPT_OK, SCRYPT_ENCODING_INVALID, SCRYPT_MISMATCH, SCRYPT_OK};
+  int statuses[4], status = scrypt_verify_group_with_buffers(logins, 4, statuses, BUFFERS);
+  return memcmp(statuses, WANTED, sizeof WANTED) == 0 ? status : -1;
 }
-static int verify_two_with_buffers(void) {
-  int other = -1, status = scrypt_verify_two_with_buffers(b("pw"), 2, OF(PHC), b("PW"), 2, "$8$", 3, &other, BUFFERS);
-  return are_apart(status, other);
-}
-static int verify_two_in(void) {
-  int status = -1, other = -1;
-  scrypt_verify_two_in(memory, b("pw"), 2, OF(PHC), &status, b("PW"), 2, "$8$", 3, &other);
-  return are_apart(status, other);
-}
-
 static int hash_params(void) {
   uint8_t log_n = 0;
   uint32_t r = 0, p = 0;
@@ -72,9 +59,12 @@ static int hash_params(void) {
   return log_n == 4 && r == 2 && p == 3 && key_len == 20 ? status : -1;
 }
 
-/* Whether these are the lengths of the buffers, with so many tables. */
-static int are_lens(int status, const size_t *lens, size_t tables) {
-  return lens[0] == 768 && lens[1] == 1024 * tables && lens[2] == 128 * tables ? status : -1;
+/* Whether this is needed, with so many tables. */
+static int are_needed(int status, const scrypt_needs *it, size_t tables) {
+  return it->log_n == 4 && it->r == 2 && it->p == 3 && it->tables == tables && it->chunks_len == 768 &&
+                 it->table_len == 1024 && it->scratch_len == 128
+             ? status
+             : -1;
 }
 static int buffer_lens(void) {
   size_t lens[3] = {0, 0, 0};
@@ -82,19 +72,20 @@ static int buffer_lens(void) {
   return lens[0] == 768 && lens[1] == 512 && lens[2] == 192 ? status : -1;
 }
 static int hash_needs(void) {
-  size_t lens[3] = {0, 0, 0};
-  int status = scrypt_hash_needs(OF(PHC), 5376, 1152, 20, &lens[0], &lens[1], &lens[2]);
-  return are_lens(status, lens, 1);
+  scrypt_needs needs = {0, 0, 0, 0, 0, 0, 0, 0};
+  int status = scrypt_hash_needs(OF(PHC), 5376, 1152, 20, &needs);
+  return needs.key_len == 20 ? are_needed(status, &needs, 1) : -1;
 }
 static int params_need(void) {
-  size_t lens[3] = {0, 0, 0};
-  int status = scrypt_params_need(PARAMS, 5376, 1152, &lens[0], &lens[1], &lens[2]);
-  return are_lens(status, lens, 1);
+  scrypt_needs needs = {0, 0, 0, 0, 0, 0, 0, 0};
+  int status = scrypt_params_need(PARAMS, 9984, 1152, &needs);
+  return are_needed(status, &needs, 2);
 }
-static int params_can_use(void) {
-  size_t lens[3] = {0, 0, 0};
-  int status = scrypt_params_can_use(PARAMS, 9984, 1152, &lens[0], &lens[1], &lens[2]);
-  return are_lens(status, lens, 2);
+static int limits_for_new(void) {
+  size_t most_bytes = 0, least_key_len = 0;
+  uint64_t most_work = 0;
+  int status = scrypt_limits_for_new(4, 2, 3, 10, &most_bytes, &most_work, &least_key_len);
+  return most_bytes == SCRYPT_MOST_BYTES && most_work == SCRYPT_MOST_WORK && least_key_len == 10 ? status : -1;
 }
 
 static const struct {
@@ -102,36 +93,32 @@ static const struct {
   int (*call)(void);
   enum known known;
 } CALLS[] = {
-    {"scrypt_kdf", kdf, A_KEY},
-    {"scrypt_kdf_mapped", kdf_mapped, A_KEY},
-    {"scrypt_kdf_in", kdf_in, A_KEY},
-    {"scrypt_derive", kdf_of_the_helper, A_KEY},
-    {"scrypt_kdf_with_buffers", kdf_with_buffers, A_KEY},
-    {"scrypt_kdf_thin", kdf_thin, A_KEY},
+    {"scrypt_key", of_key, A_KEY},
+    {"scrypt_hasher_key", hasher_key, A_KEY},
+    {"scrypt_key_with_buffers", key_with_buffers, A_KEY},
+    {"scrypt_key_thin", key_thin, A_KEY},
     {"scrypt_hash_phc", phc, A_PHC},
-    {"scrypt_hash_phc_in", phc_in, A_PHC},
     {"scrypt_hash_phc_with_buffers", phc_with_buffers, A_PHC},
-    {"scrypt_hash_phc_z", phc_of_the_helper, A_PHC},
+    {"scrypt_hasher_hash", hasher_hash, A_PHC},
     {"scrypt_hash_mcf", mcf, AN_MCF},
-    {"scrypt_hash_mcf_in", mcf_in, AN_MCF},
     {"scrypt_hash_mcf_with_buffers", mcf_with_buffers, AN_MCF},
-    {"scrypt_hash_mcf_z", mcf_of_the_helper, AN_MCF},
     {"scrypt_verify", verify, STATUS},
-    {"scrypt_verify_in, and the bounds of scrypt_memory_new", verify_in, STATUS},
+    {"scrypt_hasher_verify, and the bounds of its options", hasher_verify, STATUS},
     {"scrypt_verify_with_buffers", verify_with_buffers, STATUS},
-    {"scrypt_verify_two_with_buffers", verify_two_with_buffers, STATUS},
-    {"scrypt_verify_two_in", verify_two_in, STATUS},
+    {"scrypt_verify_group_with_buffers", verify_group_with_buffers, STATUS},
     {"scrypt_needs_rehash", rehash, STATUS},
     {"scrypt_hash_params", hash_params, STATUS},
     {"scrypt_buffer_lens", buffer_lens, STATUS},
     {"scrypt_hash_needs", hash_needs, STATUS},
     {"scrypt_params_need", params_need, STATUS},
-    {"scrypt_params_can_use", params_can_use, STATUS},
+    {"scrypt_limits_for_new", limits_for_new, STATUS},
 };
 
 static void arguments(void) {
   size_t i;
-  memory = scrypt_memory_new(5376, 1152); /* just what (4, 2, 3) needs */
+  /* Just what (4, 2, 3) needs. */
+  const scrypt_options with = {sizeof with, 4, 2, 3, 0, 20, 8, 5376, 1152, 20, 1, 1};
+  hasher = scrypt_hasher_new(&with, NULL);
   for (i = 0; i < sizeof CALLS / sizeof CALLS[0]; i++) {
     memset(key, 0, sizeof key);
     memset(text, 0, sizeof text);
@@ -140,73 +127,57 @@ static void arguments(void) {
     check(CALLS[i].known != A_PHC || memcmp(text, PHC, sizeof PHC) == 0, CALLS[i].name);
     check(CALLS[i].known != AN_MCF || memcmp(text, MCF, sizeof MCF) == 0, CALLS[i].name);
   }
+  scrypt_hasher_free(hasher);
 }
 
 /* ---- Where two refusals meet ---- */
 
-/* What text_len is before each call, and the log_n of a table of 2^63 bytes. */
-enum { LEFT = 77, HUGE = 56 };
+/* The log_n of a table of 2^63 bytes. */
+enum { HUGE = 56 };
 
-/* A call with two faults, what it returns, and what it leaves of text_len. */
-static void meets(const char *faults, int status, int wanted, size_t wanted_len) {
+/* A call with two faults, and what it returns. */
+static void meets(const char *faults, int status, int wanted) {
   check(status == wanted, faults);
-  check(text_len == wanted_len, faults);
   check(key[0] == 7 && text[0] == '!' && chunks[0] == 7 && table[0] == 7 && scratch[0] == 7, faults);
-  text_len = LEFT;
 }
 
-#define NO_SALT b("pw"), 2, b(""), 0
+#define NO_SALT "pw", 2, "", 0
 #define NO_BUFFERS chunks, 0, table, 0, scratch, 0
-#define NO_ROOM text, 1, &text_len
+#define NO_ROOM text, 1
 
 static void keys_with_two_faults(void) {
-  meets("kdf: r, output", scrypt_kdf(SECRETS, 4, 0, 1, key, 0), SCRYPT_INVALID_PARAMS, LEFT);
-  meets("kdf: output, memory", scrypt_kdf(SECRETS, HUGE, 1, 1, key, 0), SCRYPT_INVALID_OUTPUT_LEN, LEFT);
-  meets("kdf_with_buffers: r, output, buffers", scrypt_kdf_with_buffers(SECRETS, 4, 0, 1, key, 0, NO_BUFFERS),
-        SCRYPT_INVALID_PARAMS, LEFT);
-  meets("kdf_with_buffers: output, buffers", scrypt_kdf_with_buffers(SECRETS, PARAMS, key, 0, NO_BUFFERS),
-        SCRYPT_INVALID_OUTPUT_LEN, LEFT);
-  meets("kdf_thin: s, output, buffers", scrypt_kdf_thin(SECRETS, PARAMS, 5, key, 0, NO_BUFFERS), SCRYPT_INVALID_PARAMS,
-        LEFT);
-  meets("kdf_thin: output, buffers", scrypt_kdf_thin(SECRETS, PARAMS, 1, key, 0, NO_BUFFERS), SCRYPT_INVALID_OUTPUT_LEN,
-        LEFT);
-  meets("kdf_in: r, output, bounds", scrypt_kdf_in(memory, SECRETS, 40, 0, 1, key, 0), SCRYPT_INVALID_PARAMS, LEFT);
-  meets("kdf_in: output, bounds", scrypt_kdf_in(memory, SECRETS, 40, 1, 1, key, 0), SCRYPT_INVALID_OUTPUT_LEN, LEFT);
-  meets("kdf_in: NULL, r", scrypt_kdf_in(NULL, SECRETS, 40, 0, 1, key, 0), SCRYPT_NULL_POINTER, LEFT);
+  meets("key: r, output", scrypt_key(SECRETS, 4, 0, 1, key, 0), SCRYPT_INVALID_PARAMS);
+  meets("key: output, memory", scrypt_key(SECRETS, HUGE, 1, 1, key, 0), SCRYPT_INVALID_OUTPUT_LEN);
+  meets("key_with_buffers: r, output, buffers", scrypt_key_with_buffers(SECRETS, 4, 0, 1, key, 0, NO_BUFFERS),
+        SCRYPT_INVALID_PARAMS);
+  meets("key_with_buffers: output, buffers", scrypt_key_with_buffers(SECRETS, PARAMS, key, 0, NO_BUFFERS),
+        SCRYPT_INVALID_OUTPUT_LEN);
+  meets("key_thin: s, output, buffers", scrypt_key_thin(SECRETS, PARAMS, 5, key, 0, NO_BUFFERS), SCRYPT_INVALID_PARAMS);
+  meets("key_thin: output, buffers", scrypt_key_thin(SECRETS, PARAMS, 1, key, 0, NO_BUFFERS), SCRYPT_INVALID_OUTPUT_LEN);
 }
 
 static void phc_hashes_with_two_faults(void) {
-  meets("phc: p, salt", scrypt_hash_phc(NO_SALT, 4, 8, 0, 20, NO_ROOM), SCRYPT_INVALID_PARAMS, LEFT);
-  meets("phc: key, salt", scrypt_hash_phc(NO_SALT, PARAMS, 9, NO_ROOM), SCRYPT_INVALID_PARAMS, LEFT);
-  meets("phc: salt, memory", scrypt_hash_phc(NO_SALT, HUGE, 1, 1, 20, NO_ROOM), SCRYPT_SALT_INVALID, LEFT);
-  meets("phc: memory, text", scrypt_hash_phc(SECRETS, HUGE, 1, 1, 20, NO_ROOM), SCRYPT_OUT_OF_MEMORY, LEFT);
+  meets("phc: p, salt", scrypt_hash_phc(NO_SALT, 4, 8, 0, 20, NO_ROOM), SCRYPT_INVALID_PARAMS);
+  meets("phc: key, salt", scrypt_hash_phc(NO_SALT, PARAMS, 9, NO_ROOM), SCRYPT_INVALID_PARAMS);
+  meets("phc: salt, memory", scrypt_hash_phc(NO_SALT, HUGE, 1, 1, 20, NO_ROOM), SCRYPT_SALT_INVALID);
+  meets("phc: memory, text", scrypt_hash_phc(SECRETS, HUGE, 1, 1, 20, NO_ROOM), SCRYPT_OUT_OF_MEMORY);
   meets("phc_with_buffers: key, salt, buffers, text",
-        scrypt_hash_phc_with_buffers(NO_SALT, PARAMS, 9, NO_ROOM, NO_BUFFERS), SCRYPT_INVALID_PARAMS, LEFT);
+        scrypt_hash_phc_with_buffers(NO_SALT, PARAMS, 9, NO_ROOM, NO_BUFFERS), SCRYPT_INVALID_PARAMS);
   meets("phc_with_buffers: salt, buffers, text", scrypt_hash_phc_with_buffers(NO_SALT, PARAMS, 20, NO_ROOM, NO_BUFFERS),
-        SCRYPT_SALT_INVALID, LEFT);
+        SCRYPT_SALT_INVALID);
   meets("phc_with_buffers: buffers, text", scrypt_hash_phc_with_buffers(SECRETS, PARAMS, 20, NO_ROOM, NO_BUFFERS),
-        SCRYPT_BUFFER_SIZE, LEFT);
-  meets("phc_in: key, salt, bounds, text", scrypt_hash_phc_in(memory, NO_SALT, 40, 2, 3, 9, NO_ROOM),
-        SCRYPT_INVALID_PARAMS, LEFT);
-  meets("phc_in: salt, bounds, text", scrypt_hash_phc_in(memory, NO_SALT, 40, 2, 3, 20, NO_ROOM), SCRYPT_SALT_INVALID,
-        LEFT);
-  meets("phc_in: bounds, text", scrypt_hash_phc_in(memory, SECRETS, 40, 2, 3, 20, NO_ROOM), SCRYPT_TOO_COSTLY, LEFT);
-  meets("phc_in: text", scrypt_hash_phc_in(memory, SECRETS, PARAMS, 20, NO_ROOM), SCRYPT_BUFFER_SIZE, sizeof PHC - 1);
+        SCRYPT_BUFFER_SIZE);
 }
 
 static void mcf_hashes_with_two_faults(void) {
-  meets("mcf: key, memory", scrypt_hash_mcf(SECRETS, HUGE, 1, 1, 65, NO_ROOM), SCRYPT_INVALID_PARAMS, LEFT);
-  meets("mcf: memory, text", scrypt_hash_mcf(SECRETS, HUGE, 1, 1, 20, NO_ROOM), SCRYPT_OUT_OF_MEMORY, LEFT);
+  meets("mcf: key, memory", scrypt_hash_mcf(SECRETS, HUGE, 1, 1, 65, NO_ROOM), SCRYPT_INVALID_PARAMS);
+  meets("mcf: memory, text", scrypt_hash_mcf(SECRETS, HUGE, 1, 1, 20, NO_ROOM), SCRYPT_OUT_OF_MEMORY);
   meets("mcf_with_buffers: key, buffers, text", scrypt_hash_mcf_with_buffers(SECRETS, PARAMS, 9, NO_ROOM, NO_BUFFERS),
-        SCRYPT_INVALID_PARAMS, LEFT);
+        SCRYPT_INVALID_PARAMS);
   meets("mcf_with_buffers: text, buffers", scrypt_hash_mcf_with_buffers(SECRETS, PARAMS, 20, NO_ROOM, NO_BUFFERS),
-        SCRYPT_BUFFER_SIZE, sizeof MCF - 1);
+        SCRYPT_BUFFER_SIZE);
   meets("mcf_with_buffers: buffers", scrypt_hash_mcf_with_buffers(SECRETS, PARAMS, 20, TEXT, NO_BUFFERS),
-        SCRYPT_BUFFER_SIZE, LEFT);
-  meets("mcf_in: key, bounds, text", scrypt_hash_mcf_in(memory, SECRETS, 40, 2, 3, 65, NO_ROOM), SCRYPT_INVALID_PARAMS,
-        LEFT);
-  meets("mcf_in: bounds, text", scrypt_hash_mcf_in(memory, SECRETS, 40, 2, 3, 20, NO_ROOM), SCRYPT_TOO_COSTLY, LEFT);
-  meets("mcf_in: text", scrypt_hash_mcf_in(memory, SECRETS, PARAMS, 20, NO_ROOM), SCRYPT_BUFFER_SIZE, sizeof MCF - 1);
+        SCRYPT_BUFFER_SIZE);
 }
 
 /* Texts with two faults. A wrong password is a third one, which is found last. */
@@ -236,13 +207,12 @@ static void texts_with_two_faults(void) {
     const char *of = TEXTS[i].text;
     size_t len = strlen(of);
     int status = TEXTS[i].status, is_read = status == SCRYPT_OUT_OF_MEMORY;
-    meets(TEXTS[i].reason, scrypt_verify(b("pw"), 2, of, len), status, LEFT);
-    meets(TEXTS[i].reason, scrypt_verify_with_buffers(b("pw"), 2, of, len, NO_BUFFERS),
-          is_read ? SCRYPT_BUFFER_SIZE : status, LEFT);
-    meets(TEXTS[i].reason, scrypt_verify_in(memory, b("pw"), 2, of, len), is_read ? SCRYPT_TOO_COSTLY : status, LEFT);
-    meets(TEXTS[i].reason, scrypt_needs_rehash(of, len, 57, 1, 1, 20), SCRYPT_INVALID_PARAMS, LEFT);
-    meets(TEXTS[i].reason, scrypt_needs_rehash(of, len, 4, 1, 1, 9), SCRYPT_INVALID_PARAMS, LEFT);
-    meets(TEXTS[i].reason, scrypt_needs_rehash(of, len, 56, 1, 1, 20), is_read ? SCRYPT_NEEDS_REHASH : status, LEFT);
+    meets(TEXTS[i].reason, scrypt_verify("pw", 2, of, len), status);
+    meets(TEXTS[i].reason, scrypt_verify_with_buffers("pw", 2, of, len, NO_BUFFERS),
+          is_read ? SCRYPT_BUFFER_SIZE : status);
+    meets(TEXTS[i].reason, scrypt_needs_rehash(of, len, 57, 1, 1, 20), SCRYPT_INVALID_PARAMS);
+    meets(TEXTS[i].reason, scrypt_needs_rehash(of, len, 4, 1, 1, 9), SCRYPT_INVALID_PARAMS);
+    meets(TEXTS[i].reason, scrypt_needs_rehash(of, len, 56, 1, 1, 20), is_read ? SCRYPT_NEEDS_REHASH : status);
   }
 }
 
@@ -250,12 +220,10 @@ int main(void) {
   arguments();
   memset(key, 7, sizeof key);
   memset(text, '!', sizeof text);
-  text_len = LEFT;
   chunks[0] = 7, table[0] = 7, scratch[0] = 7;
   keys_with_two_faults();
   phc_hashes_with_two_faults();
   mcf_hashes_with_two_faults();
   texts_with_two_faults();
-  scrypt_memory_free(memory);
   return failed;
 }

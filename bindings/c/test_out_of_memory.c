@@ -10,64 +10,44 @@
 /* What the limits allow beyond what the process has, what a call may touch, and the seconds of processor for all. */
 enum { MORE_GIB = 4, TOUCHED_KIB = 4096, SECONDS = 5 };
 
-#define SECRETS b("pw"), 2, b("saltsalt"), 8
-/* A table of 2^63 bytes, and the largest one whose work is below 2^64. */
-#define PARAMS 56, 1, 1 << 24
+#define SECRETS "pw", 2, "saltsalt", 8
+/* A table of 2^63 bytes, and one of 8 TiB, whose work is below 2^64. */
 #define IN_BOUNDS 36, 1, 1 << 24
+#define PARAMS 56, 1, 1 << 24
 #define OF(text) text, sizeof text - 1
 
 static const char PHC[] = "$scrypt$ln=56,r=1,p=16777216$c2FsdHNhbHQ$AAAAAAAAAAAAAAAAAAAA";
+static const char PHC_IN_BOUNDS[] = "$scrypt$ln=36,r=1,p=16777216$c2FsdHNhbHQ$AAAAAAAAAAAAAAAAAAAAAA";
 static const char MCF[] = "$7$s/......../saltsalt$......................";
-static const char PHC_IN_BOUNDS[] = "$scrypt$ln=36,r=1,p=16777216$c2FsdHNhbHQ$AAAAAAAAAAAAAAAAAAAA";
-static const char MCF_IN_BOUNDS[] = "$7$Y/......../saltsalt$......................";
 
 static uint8_t key[32];
 static char text[SCRYPT_PHC_CAPACITY];
-static size_t text_len;
-static scrypt_memory *memory;
+static scrypt_hasher *hasher;
 
-static int kdf(void) { return scrypt_kdf(SECRETS, PARAMS, key, 32); }
-static int kdf_of_the_helper(void) { return scrypt_derive("pw", 2, "saltsalt", 8, PARAMS, key, 32); }
-static int kdf_mapped(void) { return scrypt_kdf_mapped(SECRETS, PARAMS, key, 32); }
-static int kdf_mapped_in_bounds(void) { return scrypt_kdf_mapped(SECRETS, IN_BOUNDS, key, 32); }
-static int kdf_in(void) { return scrypt_kdf_in(memory, SECRETS, IN_BOUNDS, key, 32); }
-static int phc(void) { return scrypt_hash_phc(SECRETS, PARAMS, 32, text, sizeof text, &text_len); }
-static int phc_of_the_helper(void) { return scrypt_hash_phc_z("pw", 2, "salt", 4, PARAMS, 32, text, sizeof text); }
-static int phc_in(void) { return scrypt_hash_phc_in(memory, SECRETS, IN_BOUNDS, 32, text, sizeof text, &text_len); }
-static int mcf(void) { return scrypt_hash_mcf(SECRETS, PARAMS, 32, text, sizeof text, &text_len); }
-static int mcf_of_the_helper(void) { return scrypt_hash_mcf_z("pw", 2, "salt", 4, PARAMS, 32, text, sizeof text); }
-static int mcf_in(void) { return scrypt_hash_mcf_in(memory, SECRETS, IN_BOUNDS, 32, text, sizeof text, &text_len); }
-static int verify_phc(void) { return scrypt_verify(b("pw"), 2, OF(PHC)); }
-static int verify_mcf(void) { return scrypt_verify(b("pw"), 2, OF(MCF)); }
-static int verify_phc_in(void) { return scrypt_verify_in(memory, b("pw"), 2, OF(PHC_IN_BOUNDS)); }
-static int verify_mcf_in(void) { return scrypt_verify_in(memory, b("pw"), 2, OF(MCF_IN_BOUNDS)); }
-static int verify_two_in(void) {
-  int status = -1, other = -1;
-  scrypt_verify_two_in(memory, b("pw"), 2, OF(PHC_IN_BOUNDS), &status, b("pw"), 2, OF(MCF_IN_BOUNDS), &other);
-  return status == other ? status : -1;
-}
+static int of_key(void) { return scrypt_key(SECRETS, PARAMS, key, 32); }
+static int key_in_bounds(void) { return scrypt_key(SECRETS, IN_BOUNDS, key, 32); }
+static int phc(void) { return scrypt_hash_phc(SECRETS, PARAMS, 32, text, sizeof text); }
+static int mcf(void) { return scrypt_hash_mcf(SECRETS, PARAMS, 32, text, sizeof text); }
+static int verify_phc(void) { return scrypt_verify("pw", 2, OF(PHC)); }
+static int verify_mcf(void) { return scrypt_verify("pw", 2, OF(MCF)); }
+static int hasher_key(void) { return scrypt_hasher_key(hasher, SECRETS, key, 32, -1, NULL); }
+static int hasher_hash(void) { return scrypt_hasher_hash(hasher, SECRETS, text, sizeof text, -1, NULL); }
+static int hasher_verify(void) { return scrypt_hasher_verify(hasher, "pw", 2, OF(PHC_IN_BOUNDS), -1, NULL); }
 static int hash_new(void) { return scrypt_hash_new("pw", 2, text, sizeof text); }
 
 static const struct {
   const char *name;
   int (*call)(void);
 } CALLS[] = {
-    {"scrypt_kdf", kdf},
-    {"scrypt_derive", kdf_of_the_helper},
-    {"scrypt_kdf_mapped", kdf_mapped},
-    {"scrypt_kdf_mapped, a table of 8 TiB", kdf_mapped_in_bounds},
-    {"scrypt_kdf_in", kdf_in},
+    {"scrypt_key", of_key},
+    {"scrypt_key, a table of 8 TiB", key_in_bounds},
     {"scrypt_hash_phc", phc},
-    {"scrypt_hash_phc_z", phc_of_the_helper},
-    {"scrypt_hash_phc_in", phc_in},
     {"scrypt_hash_mcf", mcf},
-    {"scrypt_hash_mcf_z", mcf_of_the_helper},
-    {"scrypt_hash_mcf_in", mcf_in},
     {"scrypt_verify of a PHC text", verify_phc},
     {"scrypt_verify of a $7$ text", verify_mcf},
-    {"scrypt_verify_in of a PHC text", verify_phc_in},
-    {"scrypt_verify_in of a $7$ text", verify_mcf_in},
-    {"scrypt_verify_two_in", verify_two_in},
+    {"scrypt_hasher_key", hasher_key},
+    {"scrypt_hasher_hash", hasher_hash},
+    {"scrypt_hasher_verify", hasher_verify},
 };
 
 /* The most memory that this process has touched, in KiB. */
@@ -86,20 +66,20 @@ static void check_refused(const char *name, int (*call)(void)) {
   int status;
   memset(key, 7, sizeof key);
   memset(text, '!', sizeof text);
-  text_len = 77;
   status = call();
   check(status == SCRYPT_OUT_OF_MEMORY, name);
-  check(key[0] == 7 && text[0] == '!' && text_len == 77, name);
+  check(key[0] == 7 && text[0] == '!', name);
   check(touched() - before < TOUCHED_KIB, name);
 }
 
 /* In a child: address space for the chunks, and not for a table. */
 static int within_limits(void) {
   size_t i;
-  memory = scrypt_memory_new(SIZE_MAX, UINT64_MAX);
+  const scrypt_options with = {sizeof with, IN_BOUNDS, 0, 0, 0, SIZE_MAX, UINT64_MAX, 0, 4, 2};
+  hasher = scrypt_hasher_new(&with, NULL);
   if (!limit_seconds() || !limit_space((size_t)MORE_GIB << 30)) return 2;
   for (i = 0; i < sizeof CALLS / sizeof CALLS[0]; i++) check_refused(CALLS[i].name, CALLS[i].call);
-  scrypt_memory_free(memory);
+  scrypt_hasher_free(hasher);
   return failed;
 }
 
@@ -110,10 +90,18 @@ static int new_within_limits(void) {
   return failed;
 }
 
+/* In a child: room for one table of 16 MiB, and not for two, which are faster. */
+static int one_table_within_limits(void) {
+  uint8_t same[32];
+  if (scrypt_key(SECRETS, 14, 8, 2, same, 32) != SCRYPT_OK || !limit_space((size_t)28 << 20)) return 2;
+  check(scrypt_key(SECRETS, 14, 8, 2, key, 32) == SCRYPT_OK && memcmp(key, same, 32) == 0, "scrypt_key in one table");
+  return failed;
+}
+
 /* Without limits: no system has 2^63 bytes. */
 static int without_limits(void) {
   if (!limit_seconds()) return 2;
-  check_refused("kdf", kdf);
+  check_refused("key", of_key);
   check_refused("phc", phc);
   check_refused("mcf", mcf);
   check_refused("verify", verify_mcf);
@@ -123,6 +111,7 @@ static int without_limits(void) {
 int main(void) {
   in_a_child(within_limits, "within limits");
   in_a_child(new_within_limits, "a new hash within limits");
+  in_a_child(one_table_within_limits, "one table within limits");
   in_a_child(without_limits, "without limits");
   return failed;
 }

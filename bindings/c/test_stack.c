@@ -1,5 +1,5 @@
 /* How much of the stack calls use: each call of the header succeeds on a stack of SCRYPT_STACK_BYTES with no memory below
- * it, and on a thread with the smallest stack. It leaves what is further below as it was, and zeros where it had its
+ * it, and on a thread whose stack has two pages more, for what the system has there. It leaves what is further below as it was, and zeros where it had its
  * frames, also for random texts.
  *
  * usage: test_stack [DROP_IN]   a library with the names of others */
@@ -7,7 +7,6 @@
 #include "check.h"
 #include "every_call.c"
 
-#include <limits.h>
 #include <pthread.h>
 #include <sys/mman.h>
 #include <sys/wait.h>
@@ -15,7 +14,7 @@
 #include <unistd.h>
 
 /* OWN is room for the frames of the test itself and of what isn't proved, which aren't cleared. */
-enum { PAGE = 4096, ROOM = 1 << 16, PAINT = 0xa5, OWN = 1024 };
+enum { PAGE = 4096, ROOM = 1 << 16, PAINT = 0xa5, OWN = 2048 };
 
 static ucontext_t caller, callee;
 static int (*call_of_callee)(void);
@@ -58,12 +57,12 @@ static int fits_its_stack(int (*call)(void)) {
 
 static void *on_thread(void *call) { return (*(int (**)(void))call)() == SCRYPT_OK ? call : NULL; }
 
-static int works_on_the_smallest_thread(int (*call)(void)) {
+static int works_on_a_small_thread(int (*call)(void)) {
   pthread_attr_t attributes;
   pthread_t thread;
   void *answer = NULL;
   if (pthread_attr_init(&attributes) != 0) exit(3);
-  if (pthread_attr_setstacksize(&attributes, (size_t)PTHREAD_STACK_MIN) != 0) exit(3);
+  if (pthread_attr_setstacksize(&attributes, SCRYPT_STACK_BYTES + 2 * PAGE) != 0) exit(3);
   if (pthread_create(&thread, &attributes, on_thread, &call) != 0) exit(3);
   return pthread_join(thread, &answer) == 0 && answer != NULL;
 }
@@ -106,17 +105,21 @@ static void draw_text(const char *text, size_t len) {
   while (changes-- > 0) drawn[draw(drawn_len)] = BYTES[draw(sizeof BYTES - 1)];
 }
 
-static int verify_drawn(void) { return scrypt_verify_in(memory, PASSWORD, drawn, drawn_len); }
+static scrypt_hasher *hasher;
+static int verify_drawn(void) { return scrypt_hasher_verify(hasher, PASSWORD, drawn, drawn_len, -1, NULL); }
 static int rehash_drawn(void) { return scrypt_needs_rehash(drawn, drawn_len, 1, 1, 1, 32); }
 
 static void drawn_texts(void) {
   static const char LONG[] = "$scrypt$ln=4,r=8,p=1,data=0123456789012345678901234567890123456789$c2FsdHNhbHQ$AAAAAAAAAAAAAAAA";
+  const char *const texts[] = {LONG, phc, mcf};
   int i;
+  hasher = scrypt_hasher_new(NULL, NULL);
   for (i = 0; i < 2000; i++) {
-    draw_text(i % 3 == 0 ? LONG : i % 3 == 1 ? phc : mcf, i % 3 == 0 ? sizeof LONG - 1 : i % 3 == 1 ? phc_len : mcf_len);
-    check_stack("scrypt_verify_in of a drawn text", verify_drawn, 0);
+    draw_text(texts[i % 3], strlen(texts[i % 3]));
+    check_stack("scrypt_hasher_verify of a drawn text", verify_drawn, 0);
     check_stack("scrypt_needs_rehash of a drawn text", rehash_drawn, 0);
   }
+  scrypt_hasher_free(hasher);
 }
 
 static void all_calls(const struct traces_case *of) {
@@ -127,7 +130,7 @@ static void all_calls(const struct traces_case *of) {
     if (CALLS[i].library != NULL && *CALLS[i].library == NULL) continue;
     check_stack(CALLS[i].name, CALLS[i].call, 1);
     check(holds_in_a_child(fits_its_stack, CALLS[i].call), CALLS[i].name);
-    check(holds_in_a_child(works_on_the_smallest_thread, CALLS[i].call), CALLS[i].name);
+    check(holds_in_a_child(works_on_a_small_thread, CALLS[i].call), CALLS[i].name);
   }
   drawn_texts();
   free_buffers();

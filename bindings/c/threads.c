@@ -1,6 +1,5 @@
-/* Calls the library from four threads at once, which it has no state for: each derives a key of RFC 7914, in
- * memory of the library and in memory of its own, another key in mapped memory, and makes and verifies hashes, also
- * in a scrypt_memory of each thread. */
+/* Calls the library from four threads at once, which it has no state for: each derives a key of RFC 7914, in memory of the
+ * library and in memory of its own, and makes and verifies hashes. */
 #include "scrypt_c.h"
 
 #include <pthread.h>
@@ -11,43 +10,35 @@ static const uint8_t BEGINNING[4] = {0xfd, 0xba, 0xbe, 0x1c};
 
 /* Returns NULL on success. */
 static void *work(void *none) {
-  uint8_t key[64], other[64];
+  uint8_t key[64];
   char phc[SCRYPT_PHC_CAPACITY], mcf[SCRYPT_MCF_CAPACITY(4)];
   size_t chunks_len, table_len, scratch_len;
   uint8_t *chunks;
   uint32_t *table, *scratch;
   static char wrong_answer;
   void *wrong = &wrong_answer;
-  scrypt_memory *memory = scrypt_memory_new(SCRYPT_MOST_BYTES, SCRYPT_MOST_WORK);
   int i, status;
   (void)none;
   for (i = 0; i < 4; i++) {
-    if (scrypt_derive("password", 8, "NaCl", 4, 10, 8, 16, key, 64) != SCRYPT_OK) return wrong;
+    if (scrypt_key("password", 8, "NaCl", 4, 10, 8, 16, key, 64) != SCRYPT_OK) return wrong;
     if (memcmp(key, BEGINNING, 4) != 0) return wrong;
     memset(key, 0, sizeof key);
     if (scrypt_buffer_lens(10, 8, 16, 1, &chunks_len, &table_len, &scratch_len) != SCRYPT_OK) return wrong;
     chunks = malloc(chunks_len);
     table = malloc(4 * table_len);
     scratch = malloc(4 * scratch_len);
-    status = scrypt_kdf_thin((const uint8_t *)"password", 8, (const uint8_t *)"NaCl", 4, 10, 8, 16, 1, key, 64, chunks,
+    status = scrypt_key_thin("password", 8, "NaCl", 4, 10, 8, 16, 1, key, 64, chunks,
                              chunks_len, table, table_len, scratch, scratch_len);
     free(chunks);
     free(table);
     free(scratch);
     if (status != SCRYPT_OK || memcmp(key, BEGINNING, 4) != 0) return wrong;
-    if (scrypt_derive("pw", 2, "salt", 4, 11, 8, 1, key, 64) != SCRYPT_OK) return wrong;
-    if (scrypt_kdf_mapped((const uint8_t *)"pw", 2, (const uint8_t *)"salt", 4, 11, 8, 1, other, 64) != SCRYPT_OK)
-      return wrong;
-    if (memcmp(key, other, 64) != 0) return wrong;
-    if (scrypt_hash_phc_z("pw", 2, "salt", 4, 8, 8, 1, 32, phc, sizeof phc) != SCRYPT_OK) return wrong;
-    if (scrypt_hash_mcf_z("pw", 2, "salt", 4, 8, 8, 1, 32, mcf, sizeof mcf) != SCRYPT_OK) return wrong;
-    if (scrypt_verify((const uint8_t *)"pw", 2, phc, strlen(phc)) != SCRYPT_OK) return wrong;
-    if (scrypt_verify((const uint8_t *)"PW", 2, mcf, strlen(mcf)) != SCRYPT_MISMATCH) return wrong;
-    if (scrypt_verify_in(memory, (const uint8_t *)"pw", 2, mcf, strlen(mcf)) != SCRYPT_OK) return wrong;
-    if (scrypt_verify_in(memory, (const uint8_t *)"PW", 2, phc, strlen(phc)) != SCRYPT_MISMATCH) return wrong;
+    if (scrypt_hash_phc("pw", 2, "salt", 4, 8, 8, 1, 32, phc, sizeof phc) != SCRYPT_OK) return wrong;
+    if (scrypt_hash_mcf("pw", 2, "salt", 4, 8, 8, 1, 32, mcf, sizeof mcf) != SCRYPT_OK) return wrong;
+    if (scrypt_verify("pw", 2, phc, strlen(phc)) != SCRYPT_OK) return wrong;
+    if (scrypt_verify("PW", 2, mcf, strlen(mcf)) != SCRYPT_MISMATCH) return wrong;
     if (scrypt_needs_rehash(mcf, strlen(mcf), 9, 8, 1, 32) != SCRYPT_NEEDS_REHASH) return wrong;
   }
-  scrypt_memory_free(memory);
   return NULL;
 }
 

@@ -6,7 +6,7 @@ usage: traces.py LIBRARY        LIBRARY is libscrypt_c.so
 A line is a case: log_n, r and p, and then the password, the salt and the secrets, each by its name and the complements of
 its bytes in hexadecimal. A process that reads them doesn't have the secrets in its memory by that.
 
-What the table, the chunks and the scratch hold after scrypt_kdf_with_buffers isn't specified, but the chunks have to be
+What the table, the chunks and the scratch hold after scrypt_key_with_buffers isn't specified, but the chunks have to be
 the mixed blocks: hashlib makes the key of them. The rest is by hashlib and by the compression function below.
 """
 
@@ -66,7 +66,7 @@ def buffers_after(library, password, salt, costs):
     assert library.scrypt_buffer_lens(*costs, 0, *map(ctypes.byref, sizes)) == 0
     made = [ctypes.create_string_buffer(size.value * width) for size, width in zip(sizes, (1, 4, 4))]
     lent = [it for one, size in zip(made, sizes) for it in (one, size)]
-    derive = library.scrypt_kdf_with_buffers
+    derive = library.scrypt_key_with_buffers
     word, size, data = ctypes.c_uint32, ctypes.c_size_t, ctypes.c_char_p
     derive.argtypes = [data, size, data, size, ctypes.c_uint8, word, word, data, size, *[data, size] * 3]
     key = ctypes.create_string_buffer(KEY_LEN)

@@ -1,9 +1,8 @@
 /* The names of other libraries, over this one: scrypt of libscrypt-kdf and of libscrypt, and libsodium's
- * crypto_pwhash_scryptsalsa208sha256 with its own limits and its own choice of N, r and p. Each call maps its memory, or
+ * crypto_pwhash_scryptsalsa208sha256 with its own limits and its own choice of N, r and p. Each call allocates its memory, or
  * with SCRYPT_KEEP_MEMORY=1 in the environment takes that of its thread, which is kept. Not proved. */
 #define _GNU_SOURCE
 #include "kept.h"
-#include "scrypt_c.h"
 
 #include <errno.h>
 #include <stdlib.h>
@@ -33,12 +32,23 @@ static int overlap(const uint8_t *a, size_t a_len, const uint8_t *b, size_t b_le
   return a_len > 0 && b_len > 0 && (uintptr_t)a < (uintptr_t)b + b_len && (uintptr_t)b < (uintptr_t)a + a_len;
 }
 
+/* The buffers that this thread keeps for what is needed, in so many tables or fewer; of no length if it keeps none. */
+static struct buffers kept_for(const scrypt_needs *needs, size_t count) {
+  struct buffers none = {NULL, NULL, NULL, 0, 0, 0};
+  struct tables *kept = kept_tables();
+  count = kept != NULL ? tables_room(kept, needs, count) : 0;
+  return count > 0 ? tables_buffers(kept, needs, count, 1) : none;
+}
+
 static int derive_in_memory(const uint8_t *password, size_t password_len, const uint8_t *salt, size_t salt_len,
                             uint8_t log_n, uint32_t r, uint32_t p, uint8_t *output, size_t output_len) {
-  scrypt_memory *memory = kept_memory();
-  if (memory == NULL)
-    return scrypt_kdf_mapped(password, password_len, salt, salt_len, log_n, r, p, output, output_len);
-  return scrypt_kdf_in(memory, password, password_len, salt, salt_len, log_n, r, p, output, output_len);
+  scrypt_needs needs = {0, 0, 0, 0, 0, 0, 0, 0};
+  size_t count = tables_for_key(log_n, r, p, &needs);
+  struct buffers of = kept_for(&needs, count);
+  if (of.table_len == 0)
+    return scrypt_key(password, password_len, salt, salt_len, log_n, r, p, output, output_len);
+  return scrypt_key_with_buffers(password, password_len, salt, salt_len, log_n, r, p, output, output_len, of.chunks,
+                                 of.chunks_len, of.table, of.table_len, of.scratch, of.scratch_len);
 }
 
 /* The key, if the parameters are within the limits of these libraries, which take an output of 0 bytes, and one that
@@ -62,7 +72,7 @@ static int derive_key(const uint8_t *password, size_t password_len, const uint8_
 
 static int derive(const uint8_t *password, size_t password_len, const uint8_t *salt, size_t salt_len, uint64_t n,
                   uint64_t most_n, uint32_t r, uint32_t p, uint8_t *output, size_t output_len) {
-  if (scrypt_is_null(password, password_len) || scrypt_is_null(salt, salt_len) || scrypt_is_null(output, output_len))
+  if (is_null(password, password_len) || is_null(salt, salt_len) || is_null(output, output_len))
     return refused(EINVAL);
   if (output_len > SCRYPT_MAX_OUTPUT_LEN || (uint64_t)r * p >= (uint64_t)1 << 30) return refused(EFBIG);
   if (r == 0 || p == 0) return refused(EINVAL);
@@ -117,7 +127,7 @@ API int crypto_pwhash_scryptsalsa208sha256(unsigned char *output, unsigned long 
   uint8_t log_n;
   uint32_t r, p;
   if (output_len > SCRYPT_MAX_OUTPUT_LEN) return refused(EFBIG);
-  if (scrypt_is_null(output, (size_t)output_len)) return refused(EINVAL);
+  if (is_null(output, (size_t)output_len)) return refused(EINVAL);
   if (output != NULL) memset(output, 0, (size_t)output_len);
   if (output_len < LEAST_OUTPUT || (const void *)output == (const void *)password) return refused(EINVAL);
   choose(work, memory, &log_n, &r, &p);
@@ -141,15 +151,13 @@ static int has_costs(const char *text) {
 
 static int hash_in_memory(const char *password, size_t password_len, const uint8_t salt[SALT_LEN], uint8_t log_n,
                           uint32_t r, uint32_t p, char text[TEXT_LEN + 1]) {
-  scrypt_memory *memory = kept_memory();
-  size_t len;
-  int status;
-  if (memory == NULL)
-    return scrypt_hash_mcf_z(password, password_len, salt, SALT_LEN, log_n, r, p, KEY_LEN, text, TEXT_LEN + 1);
-  status = scrypt_hash_mcf_in(memory, scrypt_bytes(password), password_len, salt, SALT_LEN, log_n, r, p, KEY_LEN, text,
-                              TEXT_LEN, &len);
-  text[TEXT_LEN] = '\0';
-  return status;
+  scrypt_needs needs = {0, 0, 0, 0, 0, 0, 0, 0};
+  size_t count = tables_for_key(log_n, r, p, &needs);
+  struct buffers of = kept_for(&needs, count);
+  if (of.table_len == 0)
+    return scrypt_hash_mcf(password, password_len, salt, SALT_LEN, log_n, r, p, KEY_LEN, text, TEXT_LEN + 1);
+  return scrypt_hash_mcf_with_buffers(password, password_len, salt, SALT_LEN, log_n, r, p, KEY_LEN, text, TEXT_LEN + 1,
+                                      of.chunks, of.chunks_len, of.table, of.table_len, of.scratch, of.scratch_len);
 }
 
 API int crypto_pwhash_scryptsalsa208sha256_str(char text[TEXT_LEN + 1], const char *password,
@@ -158,7 +166,7 @@ API int crypto_pwhash_scryptsalsa208sha256_str(char text[TEXT_LEN + 1], const ch
   uint8_t log_n, salt[SALT_LEN];
   char made[TEXT_LEN + 1];
   uint32_t r, p;
-  if (text == NULL || scrypt_is_null(password, (size_t)password_len)) return refused(EINVAL);
+  if (text == NULL || is_null(password, (size_t)password_len)) return refused(EINVAL);
   memset(text, 0, TEXT_LEN + 1);
   choose(work, memory, &log_n, &r, &p);
   if (log_n > MOST_LOG_N) return refused(EINVAL);
@@ -170,15 +178,22 @@ API int crypto_pwhash_scryptsalsa208sha256_str(char text[TEXT_LEN + 1], const ch
 }
 
 static int verify_in_memory(const char *password, size_t password_len, const char *text) {
-  scrypt_memory *memory = kept_memory();
-  if (memory == NULL) return scrypt_verify(scrypt_bytes(password), password_len, text, TEXT_LEN);
-  return scrypt_verify_in(memory, scrypt_bytes(password), password_len, text, TEXT_LEN);
+  scrypt_needs needs = {0, 0, 0, 0, 0, 0, 0, 0};
+  uint8_t log_n;
+  size_t count = 1, key_len;
+  struct buffers of;
+  if (scrypt_hash_params(text, TEXT_LEN, &log_n, &needs.r, &needs.p, &key_len) == SCRYPT_OK)
+    count = tables_for_key(log_n, needs.r, needs.p, &needs);
+  of = kept_for(&needs, count);
+  if (of.table_len == 0) return scrypt_verify(password, password_len, text, TEXT_LEN);
+  return scrypt_verify_with_buffers(password, password_len, text, TEXT_LEN, of.chunks, of.chunks_len, of.table,
+                                    of.table_len, of.scratch, of.scratch_len);
 }
 
 API int crypto_pwhash_scryptsalsa208sha256_str_verify(const char text[TEXT_LEN + 1], const char *password,
                                                       unsigned long long password_len) {
   ptrdiff_t log_n;
-  if (scrypt_is_null(password, (size_t)password_len)) return refused(EINVAL);
+  if (is_null(password, (size_t)password_len)) return refused(EINVAL);
   if (!has_costs(text) || text[KEY_AT - 1] != '$') return -1;
   log_n = strchr(LETTERS, text[3]) - LETTERS;
   if (log_n == 0 || log_n > MOST_LOG_N) return -1;

@@ -2,10 +2,10 @@
 #ifndef KEPT_H
 #define KEPT_H
 
-#include "scrypt_c.h"
+#include "tables.h"
 
-/* The memory of this thread, or NULL if the environment doesn't ask for one, or the system refuses it. It is wiped and
+/* The tables of this thread, or NULL if the environment doesn't ask for any, or the system refuses them. They are wiped and
  * unmapped when the thread ends. */
-scrypt_memory *kept_memory(void);
+struct tables *kept_tables(void);
 
 #endif

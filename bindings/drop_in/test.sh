@@ -1,6 +1,7 @@
 #!/bin/sh
 # Calls the drop-in names of build/lib beside the libraries whose names they are, and by programs that know only these.
 # With the word short: without the programs.
+unset CDPATH
 cd "$(dirname "$0")/../.."
 . bindings/common.sh
 ours=$lib/libscrypt_drop_in.so

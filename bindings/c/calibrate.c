@@ -1,0 +1,52 @@
+/* scrypt_calibrate. Not proved. */
+#define _GNU_SOURCE
+#include "scrypt_c.h"
+
+#include <time.h>
+
+enum { LEAST_LOG_N = 10, MOST_LOG_N = 40, R = 8, TRIES = 3 };
+
+/* The chunks of more would need more than 1 MiB beside the table. */
+#define MOST_P 1000
+
+static double now(void) {
+  struct timespec time;
+  (void)clock_gettime(CLOCK_MONOTONIC, &time);
+  return (double)time.tv_sec + (double)time.tv_nsec * 1e-9;
+}
+
+/* Measures one derivation in one table, which a hasher keeps: the least time of several, of which the first maps it. */
+static int measure(uint32_t log_n, double *seconds) {
+  scrypt_options with = {sizeof with, log_n, R, 1, 0, 0, 0, SIZE_MAX, UINT64_MAX, 0, 1, 1};
+  uint8_t key[SCRYPT_KEY_LEN];
+  int status, i;
+  scrypt_hasher *hasher = scrypt_hasher_new(&with, &status);
+  for (i = 0; i < TRIES && status == SCRYPT_OK; i++) {
+    double begun = now(), taken;
+    status = scrypt_hasher_key(hasher, "", 0, "", 0, key, sizeof key, -1, NULL);
+    taken = now() - begun;
+    if (i == 0 || taken < *seconds) *seconds = taken;
+  }
+  scrypt_hasher_free(hasher);
+  return status;
+}
+
+int scrypt_calibrate(double seconds, size_t most_bytes, uint8_t *log_n, uint32_t *r, uint32_t *p) {
+  double taken = 0, best_taken = 0;
+  uint32_t it, best = 0;
+  int status = SCRYPT_TOO_COSTLY;
+  if (log_n == NULL || r == NULL || p == NULL) return SCRYPT_NULL_POINTER;
+  /* Twice N takes about twice as long, which is measured if it may be less. */
+  for (it = LEAST_LOG_N; it <= MOST_LOG_N && (size_t)128 * R <= most_bytes >> it && 1.8 * taken <= seconds; it++) {
+    status = measure(it, &taken);
+    if (status == SCRYPT_OK && !(taken <= seconds)) status = SCRYPT_TOO_COSTLY;
+    if (status != SCRYPT_OK) break;
+    best = it;
+    best_taken = taken;
+  }
+  if (best == 0) return status;
+  *log_n = (uint8_t)best;
+  *r = R;
+  *p = seconds < MOST_P * best_taken ? (uint32_t)(seconds / best_taken) : MOST_P;
+  return SCRYPT_OK;
+}

@@ -1,0 +1,138 @@
+/* The calls of the header over the proved ones: NULL is allowed for no bytes, and otherwise refused before anything else,
+ * and a text ends with a NUL. Not proved. */
+#include "groups.h"
+
+/* The proved calls, with clearing.c. */
+#define PROVED_CALL(name, parameters, arguments) int cleared_##name parameters;
+#define PROVED_PROCEDURE(name, parameters, arguments) void cleared_##name parameters;
+#include "proved_calls.h"
+
+/* The same with any pointers to bytes. */
+#undef INPUTS
+#undef STORED
+#define INPUTS \
+  const void *password, size_t password_len, const void *salt, size_t salt_len, uint8_t log_n, uint32_t r, uint32_t p
+#define STORED const void *password, size_t password_len, const char *text, size_t text_len
+
+#define REFUSE_IF(is_wrong) \
+  if (is_wrong) return SCRYPT_NULL_POINTER
+#define TAKE(bytes)                       \
+  REFUSE_IF(is_null(bytes, bytes##_len)); \
+  bytes = (const void *)bytes_of(bytes)
+#define TAKE_INPUTS \
+  TAKE(password);   \
+  TAKE(salt)
+#define TAKE_OUTPUT                         \
+  uint8_t none = 0;                         \
+  REFUSE_IF(is_null(output, output_len));   \
+  if (output == NULL) output = &none
+#define TAKE_BUFFERS REFUSE_IF(chunks == NULL || table == NULL || scratch == NULL)
+
+int scrypt_key_with_buffers(INPUTS, OUTPUT, BUFFERS) {
+  TAKE_OUTPUT;
+  TAKE_INPUTS;
+  TAKE_BUFFERS;
+  return cleared_scrypt_kdf_with_buffers(THE_INPUTS, THE_OUTPUT, THE_BUFFERS);
+}
+
+int scrypt_key_thin(INPUTS, uint8_t s, OUTPUT, BUFFERS) {
+  TAKE_OUTPUT;
+  TAKE_INPUTS;
+  TAKE_BUFFERS;
+  return cleared_scrypt_kdf_thin(THE_INPUTS, s, THE_OUTPUT, THE_BUFFERS);
+}
+
+/* A call that writes a text, which is one byte longer by its NUL. */
+#define HASH_CALL(name, parameters, take, ...)                                           \
+  int name parameters {                                                                  \
+    char none = 0;                                                                       \
+    size_t text_len = 0;                                                                 \
+    int status;                                                                          \
+    REFUSE_IF(is_null(text, capacity));                                                  \
+    TAKE_INPUTS;                                                                         \
+    take;                                                                                \
+    if (capacity == 0) text = &none;                                                     \
+    else capacity--;                                                                     \
+    status = cleared_##name(THE_INPUTS, key_len, text, capacity, &text_len __VA_ARGS__); \
+    if (status == SCRYPT_OK) text[text_len] = '\0';                                      \
+    return status;                                                                       \
+  }
+#define TEXT size_t key_len, char *text, size_t capacity
+HASH_CALL(scrypt_hash_phc, (INPUTS, TEXT), (void)0, )
+HASH_CALL(scrypt_hash_mcf, (INPUTS, TEXT), (void)0, )
+HASH_CALL(scrypt_hash_phc_with_buffers, (INPUTS, TEXT, BUFFERS), TAKE_BUFFERS, , THE_BUFFERS)
+HASH_CALL(scrypt_hash_mcf_with_buffers, (INPUTS, TEXT, BUFFERS), TAKE_BUFFERS, , THE_BUFFERS)
+
+int scrypt_verify(STORED) {
+  TAKE(password);
+  TAKE(text);
+  return cleared_scrypt_verify(THE_STORED);
+}
+
+int scrypt_verify_with_buffers(STORED, BUFFERS) {
+  TAKE(password);
+  TAKE(text);
+  TAKE_BUFFERS;
+  return cleared_scrypt_verify_with_buffers(THE_STORED, THE_BUFFERS);
+}
+
+int scrypt_verify_group_with_buffers(const scrypt_login *logins, size_t count, int *statuses, BUFFERS) {
+  static const scrypt_login NONE = {"", 0, "", 0};
+  scrypt_login each[SCRYPT_MOST_LOGINS];
+  int made[SCRYPT_MOST_LOGINS];
+  size_t i;
+  REFUSE_IF((logins == NULL || statuses == NULL) && count > 0);
+  TAKE_BUFFERS;
+  if (count > SCRYPT_MOST_LOGINS) return SCRYPT_BUFFER_SIZE;
+  for (i = 0; i < SCRYPT_MOST_LOGINS; i++) {
+    each[i] = i < count ? logins[i] : NONE;
+    REFUSE_IF(is_null(each[i].password, each[i].password_len) || is_null(each[i].text, each[i].text_len));
+    each[i].password = bytes_of(each[i].password);
+    if (each[i].text == NULL) each[i].text = "";
+  }
+#define EACH(i) (const uint8_t *)each[i].password, each[i].password_len, each[i].text, each[i].text_len
+  cleared_scrypt_verify_group_with_buffers(EACH(0), EACH(1), EACH(2), EACH(3), count, made, THE_BUFFERS);
+  for (i = 0; i < count; i++) statuses[i] = made[i];
+  return SCRYPT_OK;
+}
+
+int scrypt_needs_rehash(const char *text, size_t text_len, uint8_t log_n, uint32_t r, uint32_t p, size_t key_len) {
+  TAKE(text);
+  return cleared_scrypt_needs_rehash(text, text_len, log_n, r, p, key_len);
+}
+
+int scrypt_hash_params(const char *text, size_t text_len, uint8_t *log_n, uint32_t *r, uint32_t *p, size_t *key_len) {
+  TAKE(text);
+  REFUSE_IF(log_n == NULL || r == NULL || p == NULL || key_len == NULL);
+  return cleared_scrypt_hash_params(text, text_len, log_n, r, p, key_len);
+}
+
+#define THESE(needs) &needs.tables, &needs.chunks_len, &needs.table_len, &needs.scratch_len
+int scrypt_hash_needs(const char *text, size_t text_len, size_t most_bytes, uint64_t most_work, size_t least_key_len,
+                      scrypt_needs *needs) {
+  scrypt_needs made = {0, 0, 0, 0, 0, 0, 0, 0};
+  uint8_t log_n = 0;
+  int status;
+  TAKE(text);
+  REFUSE_IF(needs == NULL);
+  status = cleared_scrypt_hash_needs(text, text_len, most_bytes, most_work, least_key_len, &log_n, &made.r, &made.p,
+                                     &made.key_len, THESE(made));
+  made.log_n = log_n;
+  if (status == SCRYPT_OK) *needs = made;
+  return status;
+}
+
+int scrypt_params_need(uint8_t log_n, uint32_t r, uint32_t p, size_t most_bytes, uint64_t most_work, scrypt_needs *needs) {
+  scrypt_needs made = {log_n, r, p, 0, 0, 0, 0, 0};
+  int status;
+  REFUSE_IF(needs == NULL);
+  status = cleared_scrypt_params_need(log_n, r, p, most_bytes, most_work, THESE(made));
+  if (status == SCRYPT_OK) *needs = made;
+  return status;
+}
+
+int scrypt_limits_for_new(uint8_t log_n, uint32_t r, uint32_t p, size_t key_len, size_t *most_bytes, uint64_t *most_work,
+                          size_t *least_key_len) {
+  REFUSE_IF(most_bytes == NULL || most_work == NULL || least_key_len == NULL);
+  return cleared_scrypt_limits_for_new(log_n, r, p, key_len, most_bytes, most_work, least_key_len);
+}

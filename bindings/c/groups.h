@@ -1,0 +1,31 @@
+/* What the calls that are written in C share. */
+#ifndef GROUPS_H
+#define GROUPS_H
+
+#include "scrypt_c.h"
+
+struct buffers {
+  uint8_t *chunks;
+  uint32_t *table, *scratch;
+  size_t chunks_len, table_len, scratch_len;
+};
+
+/* NULL is allowed for no bytes, but not by the proved calls. */
+static inline int is_null(const void *bytes, size_t len) { return bytes == NULL && len > 0; }
+static inline const uint8_t *bytes_of(const void *bytes) {
+  return bytes != NULL ? (const uint8_t *)bytes : (const uint8_t *)"";
+}
+
+/* How many at once pay on this processor, at most SCRYPT_MOST_LOGINS. */
+size_t most_at_once(void);
+
+/* What a new hash with these options needs. The statuses of scrypt_params_need, with their bounds. */
+int needs_of_new(const scrypt_options *with, scrypt_needs *needs);
+
+/* Verifies several in these buffers, which are long enough for one. Each status is an error before. */
+void verify_group(const scrypt_login *each, size_t count, int *statuses, const struct buffers *of);
+
+/* Replaces each bound that is 0 by its default for such hashes. The statuses of scrypt_limits_for_new. */
+int set_bounds(scrypt_options *with);
+
+#endif

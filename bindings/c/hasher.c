@@ -1,0 +1,140 @@
+/* The calls of a hasher: what they derive, and their errors that come before any wait. Not proved; what reads texts, checks
+ * bounds and derives is. */
+#include "processors.h"
+#include "queue.h"
+
+#include <string.h>
+
+#define MOST_SALT_LEN 64
+
+static const struct call NO_CALL;
+
+int scrypt_hasher_verify(scrypt_hasher *hasher, const void *password, size_t password_len, const char *text,
+                         size_t text_len, int64_t most_ms, uint64_t *place) {
+  struct call call = NO_CALL;
+  int status;
+  if (hasher == NULL || is_null(password, password_len) || is_null(text, text_len)) return SCRYPT_NULL_POINTER;
+  call.login.password = password;
+  call.login.password_len = password_len;
+  call.login.text = text != NULL ? text : "";
+  call.login.text_len = text_len;
+  status = scrypt_hash_needs(call.login.text, text_len, hasher->options.most_bytes, hasher->options.most_work,
+                             hasher->options.least_key_len, &call.needs);
+  return status == SCRYPT_OK ? queue_run(hasher, &call, most_ms, place) : status;
+}
+
+/* ---- With the parameters of new hashes ---- */
+
+static int derive_text(struct call *call, const struct buffers *of) {
+  const scrypt_options *with = call->options;
+  return (with->mcf ? scrypt_hash_mcf_with_buffers : scrypt_hash_phc_with_buffers)(
+      call->login.password, call->login.password_len, call->salt, call->salt_len, (uint8_t)with->log_n, with->r, with->p,
+      with->key_len, (char *)call->output, call->output_len, of->chunks, of->chunks_len, of->table, of->table_len,
+      of->scratch, of->scratch_len);
+}
+
+static int derive_key(struct call *call, const struct buffers *of) {
+  const scrypt_options *with = call->options;
+  return scrypt_key_with_buffers(call->login.password, call->login.password_len, call->salt, call->salt_len,
+                                 (uint8_t)with->log_n, with->r, with->p, (uint8_t *)call->output, call->output_len,
+                                 of->chunks, of->chunks_len, of->table, of->table_len, of->scratch, of->scratch_len);
+}
+
+static int run_new(scrypt_hasher *hasher, struct call *call, const void *password, size_t password_len, int64_t most_ms,
+                   uint64_t *place) {
+  int status = needs_of_new(&hasher->options, &call->needs);
+  if (status != SCRYPT_OK) return status;
+  call->login.password = password;
+  call->login.password_len = password_len;
+  call->options = &hasher->options;
+  status = queue_run(hasher, call, most_ms, place);
+  /* In a child the derivation may have gone on with zeros, whose result can be computed without scrypt's cost. */
+  if (status == SCRYPT_CANCELLED) memset(call->output, 0, call->output_len);
+  return status;
+}
+
+int scrypt_hasher_hash(scrypt_hasher *hasher, const void *password, size_t password_len, const void *salt,
+                       size_t salt_len, char *text, size_t capacity, int64_t most_ms, uint64_t *place) {
+  struct call call = NO_CALL;
+  uint8_t drawn[MOST_SALT_LEN];
+  if (hasher == NULL || is_null(password, password_len) || is_null(salt, salt_len) || text == NULL)
+    return SCRYPT_NULL_POINTER;
+  call.derive = derive_text;
+  call.salt = salt;
+  call.salt_len = salt != NULL ? salt_len : hasher->options.salt_len;
+  call.output = text;
+  call.output_len = capacity;
+  if (!hasher->options.mcf && (call.salt_len == 0 || call.salt_len > MOST_SALT_LEN)) return SCRYPT_SALT_INVALID;
+  /* A PHC text that doesn't fit would be found after the derivation. */
+  if (!hasher->options.mcf && capacity < SCRYPT_PHC_CAPACITY) return SCRYPT_BUFFER_SIZE;
+  if (hasher->options.mcf && (capacity < SCRYPT_MCF_CAPACITY(0) || (capacity - SCRYPT_MCF_CAPACITY(0)) / 2 < call.salt_len))
+    return SCRYPT_BUFFER_SIZE;
+  if (salt == NULL) {
+    if (scrypt_draw_salt(drawn, call.salt_len) != SCRYPT_OK) return SCRYPT_NO_RANDOM_BYTES;
+    call.salt = drawn;
+  }
+  return run_new(hasher, &call, password, password_len, most_ms, place);
+}
+
+int scrypt_hasher_key(scrypt_hasher *hasher, const void *password, size_t password_len, const void *salt,
+                      size_t salt_len, uint8_t *key, size_t key_len, int64_t most_ms, uint64_t *place) {
+  struct call call = NO_CALL;
+  if (hasher == NULL || is_null(password, password_len) || is_null(salt, salt_len) || is_null(key, key_len))
+    return SCRYPT_NULL_POINTER;
+  if (key_len == 0 || key_len > SCRYPT_MAX_OUTPUT_LEN) return SCRYPT_INVALID_OUTPUT_LEN;
+  call.derive = derive_key;
+  call.salt = salt;
+  call.salt_len = salt_len;
+  call.output = key;
+  call.output_len = key_len;
+  return run_new(hasher, &call, password, password_len, most_ms, place);
+}
+
+int scrypt_hasher_needs_rehash(const scrypt_hasher *hasher, const char *text, size_t text_len) {
+  const scrypt_options *with = scrypt_hasher_options(hasher);
+  if (with == NULL) return SCRYPT_NULL_POINTER;
+  return scrypt_needs_rehash(text, text_len, (uint8_t)with->log_n, with->r, with->p, with->key_len);
+}
+
+/* ---- The beginning ---- */
+
+#define DEFAULT(field, value) \
+  if (with->field == 0) with->field = (value)
+
+/* Replaces zeros by defaults. */
+static int complete(scrypt_options *with) {
+  scrypt_needs needs;
+  int status;
+  if (with->log_n == 0 && with->r == 0 && with->p == 0) {
+    with->log_n = SCRYPT_RECOMMENDED_LOG_N;
+    with->r = SCRYPT_RECOMMENDED_R;
+    with->p = SCRYPT_RECOMMENDED_P;
+  }
+  DEFAULT(key_len, SCRYPT_KEY_LEN);
+  DEFAULT(salt_len, SCRYPT_SALT_LEN);
+  DEFAULT(processors, processors_of_process());
+  DEFAULT(at_once, with->processors > SIZE_MAX / 2 ? SIZE_MAX : 2 * with->processors);
+  if (with->key_len < 10 || with->key_len > 64) return SCRYPT_INVALID_PARAMS;
+  status = set_bounds(with);
+  if (status == SCRYPT_INVALID_PARAMS) return status;
+  if (with->salt_len > MOST_SALT_LEN) return SCRYPT_SALT_INVALID;
+  return status == SCRYPT_OK ? needs_of_new(with, &needs) : status;
+}
+
+scrypt_hasher *scrypt_hasher_new(const scrypt_options *options, int *status) {
+  scrypt_options with;
+  scrypt_hasher *hasher = NULL;
+  int result = SCRYPT_OK;
+  memset(&with, 0, sizeof with);
+  if (options != NULL) {
+    if (options->size == sizeof with) memcpy(&with, options, sizeof with);
+    else result = SCRYPT_INVALID_PARAMS;
+  }
+  with.size = sizeof with;
+  if (result == SCRYPT_OK) result = complete(&with);
+  if (result == SCRYPT_OK) hasher = queue_new(&with, &result);
+  if (status != NULL) *status = result;
+  return hasher;
+}
+
+const scrypt_options *scrypt_hasher_options(const scrypt_hasher *hasher) { return hasher != NULL ? &hasher->options : NULL; }

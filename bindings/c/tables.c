@@ -1,0 +1,99 @@
+/* Memory that a child of a fork finds filled with zeros: for the queue of a hasher, and for tables. So no block of a
+ * derivation is ever in two processes, and a fork copies none of it. Not proved. */
+#define _GNU_SOURCE
+#include "tables.h"
+
+#include "pages.h"
+
+#include <errno.h>
+
+#define NO_ADVICE (-1)
+
+void *map_zeros_in_child(size_t size) {
+  void *mapping = mmap(NULL, size, PROT_READ | PROT_WRITE, MAP_PRIVATE | MAP_ANONYMOUS | MAP_NORESERVE, -1, 0);
+  if (mapping == MAP_FAILED) return NULL;
+  /* Some emulators accept all advice, and follow none. */
+  if (madvise(mapping, size, NO_ADVICE) != 0 && madvise(mapping, size, MADV_WIPEONFORK) == 0) return mapping;
+  (void)munmap(mapping, size);
+  errno = EINVAL;
+  return NULL;
+}
+
+/* The bytes of one derivation's buffers. They are within a bound, so that the sum doesn't overflow. */
+static size_t table_bytes(const scrypt_needs *one) { return 4 * (one->table_len + one->scratch_len) + one->chunks_len; }
+
+#define MOST_OF_SEVERAL ((size_t)128 << 20)
+#define LEAST_OF_SEVERAL ((size_t)64 << 10)
+
+size_t tables_for_key(uint8_t log_n, uint32_t r, uint32_t p, scrypt_needs *needs) {
+  size_t most = p < most_at_once() ? p : most_at_once(), fit;
+  if (scrypt_params_need(log_n, r, p, SIZE_MAX, UINT64_MAX, needs) != SCRYPT_OK) return 1;
+  if (4 * needs->table_len < LEAST_OF_SEVERAL) return 1;
+  fit = MOST_OF_SEVERAL / 4 / needs->table_len;
+  return fit < most ? fit : most;
+}
+
+static int has_huge(const scrypt_needs *one) { return 4 * one->table_len >= HUGE_PAGE; }
+
+void tables_unmap(struct tables *tables) {
+  if (tables->mapping != NULL) (void)munmap(tables->mapping, tables->mapped);
+  tables->mapping = NULL;
+  tables->room = tables->used = 0;
+}
+
+void tables_free(struct tables *tables) {
+  uint8_t none = 0;
+  uint32_t no_word = 0;
+  if (tables->used > 0) scrypt_wipe(&none, 0, (uint32_t *)(void *)tables->front, tables->used / 4, &no_word, 0);
+  tables_unmap(tables);
+}
+
+/* Maps address space in place of what is mapped. Nothing of it is populated yet, so what a group needs beyond one derivation
+ * costs nothing before there is a group. */
+static int map(struct tables *tables, size_t bytes, int is_huge) {
+  size_t slack = is_huge ? HUGE_PAGE : 0;
+  tables_free(tables);
+  if (bytes > SIZE_MAX - slack) return 0;
+  tables->mapping = map_zeros_in_child(bytes + slack);
+  if (tables->mapping == NULL) return 0;
+  tables->mapped = bytes + slack;
+  if (is_huge) slack = (HUGE_PAGE - (uintptr_t)tables->mapping % HUGE_PAGE) % HUGE_PAGE;
+  tables->front = (uint8_t *)tables->mapping + slack;
+  tables->room = bytes;
+  /* The rest of the last huge page is left out, so that it takes no whole one. */
+  if (is_huge) ask_for_huge_pages(tables->front, bytes - bytes % HUGE_PAGE);
+  return 1;
+}
+
+size_t tables_room(struct tables *tables, const scrypt_needs *one, size_t most) {
+  size_t bytes = table_bytes(one), count;
+  for (count = most; count > 0; count--) {
+    size_t all = bytes > SIZE_MAX / count ? SIZE_MAX : count * bytes;
+    if (all <= tables->room) return count;
+    if (count > 1 && tables->refused != 0 && all >= tables->refused) continue;
+    if (map(tables, all, has_huge(one))) return count;
+    if (count > 1) tables->refused = all;
+  }
+  return 0;
+}
+
+struct buffers tables_buffers(struct tables *tables, const scrypt_needs *one, size_t count, size_t logins) {
+  struct buffers of;
+  size_t bytes;
+  of.table_len = count * one->table_len;
+  of.scratch_len = count * one->scratch_len;
+  of.chunks_len = logins * one->chunks_len;
+  of.table = (uint32_t *)(void *)tables->front;
+  of.scratch = of.table + of.table_len;
+  of.chunks = (uint8_t *)(of.scratch + of.scratch_len);
+  bytes = 4 * (of.table_len + of.scratch_len) + of.chunks_len;
+  if (bytes > tables->used) {
+#ifdef MADV_POPULATE_WRITE
+    /* All at once, which saves time if pages are small; from the start of the page in which the used ones end. */
+    size_t begin = tables->used - tables->used % 4096;
+    if (has_huge(one)) (void)madvise(tables->front + begin, bytes - begin, MADV_POPULATE_WRITE);
+#endif
+    tables->used = bytes;
+  }
+  return of;
+}

@@ -1,0 +1,38 @@
+/* The memory of a turn, which is kept from call to call. */
+#ifndef TABLES_H
+#define TABLES_H
+
+#include "groups.h"
+
+/* Zeros are the beginning. */
+struct tables {
+  void *mapping; /* NULL if there is none */
+  size_t mapped;
+  uint8_t *front; /* where the buffers begin: at a multiple of a huge page, if a table is as large as one */
+  size_t room;    /* bytes from there on */
+  size_t used;    /* how many of them have been asked for: these are populated, and may hold secrets */
+  size_t refused; /* the least size that the system refused for several tables, which is not tried again; or 0 */
+};
+
+/* How many tables pay for one key with these parameters, and what each needs: as many as p, if they are not tiny and take at
+ * most 128 MiB together; otherwise 1. Then the needs are not written if there are no such buffers. */
+size_t tables_for_key(uint8_t log_n, uint32_t r, uint32_t p, scrypt_needs *needs);
+
+/* Makes room for `most` tables with scratch and chunks, or for as many as the system allows, and returns how many: 0 if not
+ * even one. What they held is lost. */
+size_t tables_room(struct tables *tables, const scrypt_needs *one, size_t most);
+
+/* Buffers for `logins` with the same needs, in `count` tables, for which there is room. */
+struct buffers tables_buffers(struct tables *tables, const scrypt_needs *one, size_t count, size_t logins);
+
+/* Wipes what was used, and gives it back to the system. */
+void tables_free(struct tables *tables);
+
+/* Gives it back without that: the system wipes what it gives to others. */
+void tables_unmap(struct tables *tables);
+
+/* Memory that is zeros, also in a child that is forked later, whatever was written; or NULL, with EINVAL if the system cannot
+ * do that. */
+void *map_zeros_in_child(size_t size);
+
+#endif

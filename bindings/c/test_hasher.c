@@ -1,0 +1,515 @@
+/* The hasher: order, groups, ends of waits, closing, memory that is refused, forks and signals. Derivations are watched and
+ * stopped, and mmap refuses, by functions of this test. test.sh runs it plain and under checkers. */
+#include "test_hasher.h"
+
+/* ---- One row: calls, what happens meanwhile, and what comes of them ----
+ * A to F start a call that verifies the right password, a to f one with a wrong password, K one for a key; the hasher is
+ * settled after each. Before a letter: - the call waits for 200 ms; + it has a place; * it comes back to its place every
+ * 100 ms. Then: . the group that began first ends; $ close; | fork; m no more than one table of A can be mapped;
+ * ^ the next call forks just before it sleeps; ~ 300 ms pass. By a signal to the thread of call N: !N nothing, &N fork,
+ * #N close, in its handler. */
+static const struct class { uint8_t log_n; uint32_t r, p; } CLASSES[] = {
+    {4, 8, 1}, {5, 8, 1}, {4, 8, 2}, {4, 8, 16}, {4, 16, 1}, {4, 8, 4}};
+static const struct row {
+  const char *why;
+  size_t processors, at_once, widest;
+  const char *script, *groups, *results; /* of each group its calls, and after : its tables if these are more or fewer */
+} ROWS[] = {
+    {"first come, first served", 1, 1, 4, "AbaKAcA", "0 1 2 3 4 5 6", "=xx==x="},
+    {"pairs pass what is not like them", 1, 2, 4, "ABaCAdbEaA", "0 16 24 3:2 5:2 7 89", "==x==xx=x="},
+    {"groups of three", 1, 3, 4, "AbaBAKaA", "0 13 246 5 7", "=xx===x="},
+    {"groups of four", 1, 4, 4, "AaAaAaAbB", "0 1234 56 78", "=x=x=x=x="},
+    {"a processor on which three pay", 1, 4, 3, "AaAaAaA", "0 123 456", "=x=x=x="},
+    {"with p of 2, two in four tables", 1, 4, 4, "CcCcC", "0:2 12:4 34:4", "=x=x="},
+    {"with p of 2 and three tables, alone in two", 1, 3, 4, "CcC", "0:2 1:2 2:2", "=x="},
+    {"with p of 4 and of 16, alone in four", 1, 4, 4, "FfDd", "0:4 1:4 2:4 3:4", "=x=x"},
+    {"a cheap one is not taken along by a costly one of the same N and r", 1, 4, 4, "DaDA", "0:4 13 2:4", "=x=="},
+    {"equal N * r * p is not enough", 1, 4, 4, "ACEcEA", "0 13:4 24 5", "===x=="},
+    {"a key is alone, and is passed by those that are alike", 1, 2, 4, "AAKKA", "0 14 2 3", "====="},
+    {"two turns, of which the second has two tables", 2, 3, 4, "AaAaA..", "0 1 2 34", "=x=x="},
+    {"more tables than turns can use", 1, 1000, 4, "AaAaAa", "0 1234 5", "=x=x=x"},
+    {"more processors than tables", 64, 2, 4, "AaA", "0 1 2", "=x="},
+    {"a wait ends in time, and is nobody's partner", 1, 4, 4, "A-aA~.", "0 2", "=t="},
+    {"a wait that ends behind one that goes on", 1, 1, 4, "AB-a-b~-A~.", "0 1", "==ttt"},
+    {"time is no bound for who has a turn, or is a partner", 1, 2, 4, "-Aa-A.~", "0 12", "=x="},
+    {"a signal ends the wait of a call with a place, and of no other", 1, 2, 4, "A+aA!1!2", "0 2", "=t="},
+    {"nor that of one who leads, or is a partner", 1, 2, 4, "A+a+A.!1!2", "0 12", "=x="},
+    {"who comes back is where it was", 1, 1, 4, "A*aAA~..", "0 1 2 3", "=x=="},
+    {"and is a partner there", 1, 2, 4, "ABA*aA~..", "0 1 23 4", "===x="},
+    {"closed while one derives", 1, 4, 4, "AaBK$a", "0", "=cccc"},
+    {"closed while a group derives", 1, 4, 4, "AaA.BKa$", "0 12", "=x=ccc"},
+    {"closed by a signal to one who waits", 1, 4, 4, "AaB#1A", "0", "=ccc"},
+    {"by one to a partner", 1, 4, 4, "AaA.B#2A", "0 12", "=x=cc"},
+    {"by one to the leader", 1, 4, 4, "AaA.B#1A", "0 12", "=x=cc"},
+    {"closed between two times that a call comes back", 1, 4, 4, "A*a~$", "0", "=c"},
+    {"memory is refused for a group: each alone", 1, 4, 4, "mAaAaA", "0 1 2 3 4", "=x=x="},
+    {"memory is refused for one: only for that one", 1, 1, 4, "AmBaA", "0 2 3", "=mx="},
+    {"fork by another thread while one waits", 1, 2, 4, "Aa|", "0 1", "=x"},
+    {"while a group derives", 1, 2, 4, "AaA.|", "0 12", "=x="},
+    {"by one who waits", 1, 2, 4, "AaA&1", "0 12", "=x="},
+    {"by one who is about to sleep", 1, 2, 4, "A^aA", "0 12", "=x="},
+    {"by one who waits and comes back", 1, 2, 4, "A*aA&1", "0 12", "=x="},
+    {"by a partner, who must not get the status that the leader begins with", 1, 2, 4, "AAa.&2&2&2", "0 12", "==x"},
+    {"by the leader", 1, 2, 4, "AaA.&1&1", "0 12", "=x="},
+    {"by one alone, then by a key", 1, 2, 4, "aK&0.&1", "0 1", "x="},
+    {"by a waiting key, in a closed hasher", 1, 2, 4, "AK&1$&0", "0", "=c"},
+};
+
+struct thread {
+  pthread_t id;
+  scrypt_hasher *hasher;
+  char text[SCRYPT_PHC_CAPACITY], password[2], how, kind;
+  int status;
+};
+static int over;
+
+static void *run(void *of) {
+  struct thread *it = (struct thread *)of;
+  uint64_t place = 0, *its_place = it->how == '*' || it->how == '+' ? &place : NULL;
+  int64_t most_ms = it->how == '-' ? 200 : it->how == '*' ? 100 : -1;
+  uint8_t key[4] = {1, 1, 1, 1}, zeros[4] = {0, 0, 0, 0};
+  int status;
+  do
+    status = it->kind == 'K' ? scrypt_hasher_key(it->hasher, it->password, 1, "", 0, key, 4, most_ms, its_place)
+                             : scrypt_hasher_verify(it->hasher, it->password, 1, it->text, strlen(it->text), most_ms,
+                                                    its_place);
+  while (it->how == '*' && status == SCRYPT_TIMEOUT);
+  expect((place != 0) == (it->how == '+' && status == SCRYPT_TIMEOUT), "a place with status %d", status);
+  if (status == SCRYPT_CANCELLED && it->kind == 'K') expect(memcmp(key, zeros, 4) == 0, "a key in a child");
+  if (getpid() != parent) be_child(it->hasher, status);
+  it->status = status;
+  (void)count(&over, 1);
+  return NULL;
+}
+
+/* Until each call that was started waits, derives or is over, and so twice. */
+static void settle(scrypt_hasher *hasher, int started, const char *why) {
+  int tries, settled = 0, are = 0;
+  for (tries = 0; settled < 2 && tries < 50000; tries++) {
+    are = READ(over) + waiting(hasher) + READ(members);
+    settled = are == started ? settled + 1 : 0;
+    usleep(200);
+  }
+  expect(settled == 2, "%s: %d calls are settled, not %d", why, are, started);
+}
+
+static void start(struct thread *it, int number, char how, char kind, scrypt_hasher *hasher) {
+  const struct class *class = &CLASSES[kind == 'K' ? 0 : (kind | 32) - 'a'];
+  it->hasher = hasher;
+  it->how = how;
+  it->kind = kind;
+  it->password[0] = (char)('0' + number);
+  make_text(it->text, kind >= 'a' ? "other" : it->password, class->log_n, class->r, class->p);
+  expect(pthread_create(&it->id, NULL, run, it) == 0, "no thread");
+}
+
+/* Sends a signal to the thread of a call, whose handler does what the script says. */
+static void interrupt(char what, struct thread *it) {
+  int before = READ(forks), tries = what == '!' ? 10 : 1; /* one that comes before the sleep ends nothing */
+  handle(SIGUSR1, what == '&' ? fork_in_handler : what == '#' ? close_in_handler : nothing_in_handler);
+  while (tries-- > 0) pthread_kill(it->id, SIGUSR1), usleep(2000);
+  for (tries = 0; what == '&' && READ(forks) == before && tries < 50000; tries++) usleep(200);
+}
+
+static void act(char what, scrypt_hasher *hasher, const char *why) {
+  static const scrypt_needs ONE = {4, 8, 1, 32, 1, 1024, 16 * 256, 512};
+  int before = READ(ended), tries;
+  pid_t child;
+  if (what == '$') scrypt_hasher_close(hasher);
+  if (what == 'm') WRITE(most_mapped, table_bytes(&ONE));
+  if (what == '~') usleep(300000);
+  if (what == '^') WRITE(forks_before_sleep, 1);
+  if (what == '|') {
+    child = fork();
+    if (child == 0) failed = 0, be_child(hasher, SCRYPT_CANCELLED);
+    reap(child, why);
+  }
+  if (what != '.') return;
+  WRITE(passed, READ(passed) + 1);
+  for (tries = 0; READ(ended) == before && tries < 50000; tries++) usleep(200);
+}
+
+static void check_row(const struct row *row, scrypt_hasher *hasher, const struct thread *all, int started) {
+  static const char LETTERS[] = "=x??m????????????ct";
+  char results[32] = "", groups[256] = "", *end = groups;
+  int i;
+  for (i = 0; i < started; i++) results[i] = all[i].status == SCRYPT_CANCELLED ? 'f' : LETTERS[all[i].status];
+  for (i = 0; i < begun; i++) {
+    end += sprintf(end, "%s%s", i > 0 ? " " : "", seen[i].calls);
+    if (seen[i].tables != strlen(seen[i].calls)) end += sprintf(end, ":%zu", seen[i].tables);
+  }
+  expect(strcmp(results, row->results) == 0, "%s: %s, not %s", row->why, results, row->results);
+  expect(strcmp(groups, row->groups) == 0, "%s: groups %s, not %s", row->why, groups, row->groups);
+  expect(is_idle(hasher) && READ(early_ok) == 0, "%s: idle, and no status is SCRYPT_OK before", row->why);
+}
+
+static void run_row(const struct row *row) {
+  struct thread all[16];
+  scrypt_hasher *hasher = of_signals = made(row->processors, row->at_once, 4);
+  const char *at;
+  char how = ' ';
+  int started = 0, i;
+  memset(all, 0, sizeof all);
+  memset(seen, 0, 64 * sizeof *seen);
+  WRITE(widest, row->widest);
+  WRITE(over, 0);
+  WRITE(is_stopped, 1);
+  for (at = row->script; *at != '\0'; at++) {
+    if (strchr("-+*", *at) != NULL) how = *at;
+    else if (strchr("!&#", *at) != NULL) interrupt(*at, &all[at[1] - '0']), at++;
+    else if (strchr(".$|m~^", *at) != NULL) act(*at, hasher, row->why);
+    else start(&all[started], started, how, *at, hasher), started++, how = ' ';
+    settle(hasher, started, row->why);
+  }
+  WRITE(is_stopped, 0);
+  for (i = 0; i < started; i++) pthread_join(all[i].id, NULL);
+  WRITE(most_mapped, SIZE_MAX);
+  reap_all(row->why);
+  check_row(row, hasher, all, started);
+  scrypt_hasher_free(hasher);
+}
+
+static void rows(void) {
+  for (size_t i = 0; i < sizeof ROWS / sizeof ROWS[0]; i++) run_row(&ROWS[i]);
+}
+
+/* ---- What is not a row: options, errors, verdicts, numbers of turns, load, any time ---- */
+
+#define OF(...) {sizeof(scrypt_options), __VA_ARGS__, 1, 1}
+static void options(void) {
+  static const struct { const char *why; scrypt_options with; int status; } OPTIONS[] = {
+      {"N = 1", OF(0, 1, 1, 0, 0, 0, 0, 0, 0), SCRYPT_OK},
+      {"log_n alone", OF(4, 0, 0, 0, 0, 0, 0, 0, 0), SCRYPT_INVALID_PARAMS},
+      {"log_n above 8 bits", OF(260, 8, 1, 0, 0, 0, 0, 0, 0), SCRYPT_INVALID_PARAMS},
+      {"a key of 9 bytes", OF(4, 8, 1, 0, 9, 0, 0, 0, 0), SCRYPT_INVALID_PARAMS},
+      {"a salt of 65", OF(4, 8, 1, 0, 0, 65, 0, 0, 0), SCRYPT_SALT_INVALID},
+      {"too few bytes", OF(14, 8, 1, 0, 0, 0, 1 << 20, 0, 0), SCRYPT_TOO_COSTLY},
+      {"too little work", OF(14, 8, 1, 0, 0, 0, 0, 1 << 10, 0), SCRYPT_TOO_COSTLY},
+      {"above the usual bounds, which follow", OF(20, 8, 4, 0, 0, 0, 0, 0, 0), SCRYPT_OK},
+      {"no size", {0, 4, 8, 1, 0, 0, 0, 0, 0, 0, 1, 1}, SCRYPT_INVALID_PARAMS},
+      {"more turns than there is memory", {sizeof(scrypt_options), 4, 8, 1, 0, 0, 0, 0, 0, 0, SIZE_MAX, SIZE_MAX},
+       SCRYPT_OUT_OF_MEMORY}};
+  for (size_t i = 0; i < sizeof OPTIONS / sizeof OPTIONS[0]; i++) {
+    int status = -1;
+    scrypt_hasher *hasher = scrypt_hasher_new(&OPTIONS[i].with, &status);
+    expect(status == OPTIONS[i].status && (hasher != NULL) == (status == SCRYPT_OK), "%s: %d", OPTIONS[i].why, status);
+    scrypt_hasher_free(hasher);
+  }
+  scrypt_hasher *hasher = scrypt_hasher_new(NULL, NULL);
+  const scrypt_options *with = scrypt_hasher_options(hasher);
+  expect(with->log_n == 17 && with->r == 8 && with->p == 1 && with->key_len == 32 && with->salt_len == 16, "new hashes");
+  expect(with->most_bytes == SCRYPT_MOST_BYTES && with->most_work == SCRYPT_MOST_WORK && with->least_key_len == 16, "bounds");
+  expect(with->processors == processors_of_process() && with->at_once == 2 * with->processors, "turns");
+  expect(scrypt_hasher_options(NULL) == NULL, "no options of NULL");
+  scrypt_hasher_free(hasher);
+}
+
+#define IS(call, wanted) expect((call) == (wanted), #call)
+static void calls(void) {
+  char text[SCRYPT_PHC_CAPACITY], mcf[SCRYPT_MCF_CAPACITY(3)], good[SCRYPT_PHC_CAPACITY];
+  scrypt_options with = {sizeof with, 4, 8, 2, 1, 0, 0, 0, 0, 0, 1, 1};
+  scrypt_hasher *hasher = made(1, 1, 4), *of_mcf = scrypt_hasher_new(&with, NULL);
+  uint8_t key[32], same[32];
+  make_text(good, "right", 4, 8, 1);
+  IS(verify(hasher, "", "", -1), SCRYPT_ENCODING_INVALID);
+  IS(verify(hasher, "$scrypt$ln=20,r=8,p=1$c2FsdHNhbHQ$AAAAAAAAAAAAAAAAAAAAAA", "", -1), SCRYPT_TOO_COSTLY);
+  IS(verify(hasher, "$scrypt$ln=4,r=8,p=1$c2FsdHNhbHQ$AAAAAAAAAAAAAAAAAAAA", "", -1), SCRYPT_KEY_TOO_SHORT);
+  IS(verify(hasher, "$scrypt$ln=4,r=8,p=1", "", -1), SCRYPT_MISMATCH);
+  IS(verify(NULL, good, "", -1), SCRYPT_NULL_POINTER);
+  IS(scrypt_hasher_verify(hasher, NULL, 1, good, strlen(good), -1, NULL), SCRYPT_NULL_POINTER);
+  IS(scrypt_hasher_verify(hasher, "", 0, NULL, 1, -1, NULL), SCRYPT_NULL_POINTER);
+  IS(scrypt_hasher_verify(hasher, NULL, 0, NULL, 0, -1, NULL), SCRYPT_ENCODING_INVALID);
+  IS(scrypt_hasher_hash(hasher, "a", 1, NULL, 1, text, sizeof text, -1, NULL), SCRYPT_NULL_POINTER);
+  IS(scrypt_hasher_hash(hasher, "a", 1, "", 0, text, sizeof text, -1, NULL), SCRYPT_SALT_INVALID);
+  IS(scrypt_hasher_hash(hasher, "a", 1, NULL, 0, text, sizeof text - 1, -1, NULL), SCRYPT_BUFFER_SIZE);
+  IS(scrypt_hasher_hash(of_mcf, "a", 1, "abc", 3, mcf, sizeof mcf - 1, -1, NULL), SCRYPT_BUFFER_SIZE);
+  IS(scrypt_hasher_hash(of_mcf, "a", 1, "abc", SIZE_MAX, mcf, sizeof mcf, -1, NULL), SCRYPT_BUFFER_SIZE);
+  IS(scrypt_hasher_hash(hasher, "right", 5, NULL, 0, text, sizeof text, -1, NULL), SCRYPT_OK);
+  IS(scrypt_hasher_hash(of_mcf, NULL, 0, "abc", 3, mcf, sizeof mcf, 0, NULL), SCRYPT_OK);
+  expect(strncmp(text, "$scrypt$ln=4,r=8,p=1$", 21) == 0 && strncmp(mcf, "$7$2", 4) == 0, "texts %s, %s", text, mcf);
+  IS(verify(of_mcf, text, "right", -1), SCRYPT_OK);
+  IS(verify(hasher, mcf, "", -1), SCRYPT_OK);
+  IS(verify(hasher, mcf, "a", -1), SCRYPT_MISMATCH);
+  IS(scrypt_hasher_needs_rehash(hasher, text, strlen(text)), SCRYPT_OK);
+  IS(scrypt_hasher_needs_rehash(of_mcf, text, strlen(text)), SCRYPT_NEEDS_REHASH);
+  IS(scrypt_hasher_needs_rehash(NULL, text, 1), SCRYPT_NULL_POINTER);
+  IS(scrypt_hasher_key(hasher, "pw", 2, "salt", 4, key, 0, -1, NULL), SCRYPT_INVALID_OUTPUT_LEN);
+  IS(scrypt_hasher_key(of_mcf, "pw", 2, NULL, 0, key, 32, -1, NULL), SCRYPT_OK);
+  IS(scrypt_key("pw", 2, "", 0, 4, 8, 2, same, 32), SCRYPT_OK);
+  expect(memcmp(key, same, 32) == 0, "the key");
+  scrypt_hasher_close(hasher);
+  expect(is_idle(hasher), "closed");
+  IS(verify(hasher, "", "", -1), SCRYPT_ENCODING_INVALID); /* the errors of the text come first */
+  IS(verify(hasher, good, "right", -1), SCRYPT_CLOSED);
+  IS(scrypt_hasher_hash(hasher, "a", 1, NULL, 0, text, sizeof text, -1, NULL), SCRYPT_CLOSED);
+  scrypt_hasher_free(hasher);
+  scrypt_hasher_free(of_mcf);
+}
+
+/* Of one to four, right and wrong, in room for one to four: what each is alone. */
+static void verdicts(void) {
+  char text[4][SCRYPT_PHC_CAPACITY], password[2] = "a";
+  struct tables tables = {NULL, 0, NULL, 0, 0, 0};
+  scrypt_needs needs;
+  scrypt_login logins[4];
+  int statuses[4], right, i, n;
+  scrypt_options with = {sizeof with, 4, 8, 2, 0, 32, 16, SIZE_MAX, UINT64_MAX, 0, 1, 1};
+  IS(needs_of_new(&with, &needs), SCRYPT_OK);
+  for (i = 0; i < 4; i++) password[0] = (char)('a' + i), make_text(text[i], password, 4, 8, 2);
+  for (n = 1; n <= 4; n++)
+    for (right = 0; right < 1 << n; right++) {
+      size_t room = tables_room(&tables, &needs, (size_t)(1 + right % 4));
+      struct buffers of = tables_buffers(&tables, &needs, room, (size_t)n);
+      for (i = 0; i < n; i++)
+        logins[i] = (scrypt_login){&"abcd"[right >> i & 1 ? i : (i + 1) % 4], 1, text[i], strlen(text[i])};
+      for (i = 0; i < n; i++) statuses[i] = SCRYPT_CANCELLED;
+      verify_group(logins, (size_t)n, statuses, &of);
+      for (i = 0; i < n; i++) expect(statuses[i] == !(right >> i & 1), "%d of %d: %d", i, n, statuses[i]);
+    }
+  tables_free(&tables);
+}
+
+static void numbers_of_turns(void) {
+  for (size_t processors = 1; processors <= 64; processors += 21)
+    for (size_t at_once = 1; at_once <= 1000; at_once += at_once < 20 ? 1 : 97) {
+      scrypt_hasher *hasher = made(processors, at_once, 4);
+      size_t turn, all = 0, most = 0;
+      for (turn = 0; turn < hasher->turns; turn++) all += width_of(hasher, turn), most += 4;
+      expect(all == (at_once < most ? at_once : most), "%zu, %zu: %zu tables", processors, at_once, all);
+      scrypt_hasher_free(hasher);
+    }
+}
+
+/* Waits that end in a mixed order, and waits that come back to their places, take n * log n. */
+static double mixed_ends(uint64_t n) {
+  scrypt_hasher *hasher = made(1, 1, 4);
+  struct call *all = (struct call *)calloc(n + 1, sizeof *all);
+  clock_t begun_at = clock();
+  double ms;
+  uint64_t i;
+  for (i = 0; i <= n; i++) lock(hasher), enter(hasher, &all[i], 0), unlock(hasher);
+  for (i = 0; i < n; i++) {
+    struct call *it = &all[1 + i * 7919 % n];
+    uint64_t place = it->place;
+    lock(hasher), leave(hasher->queue, it), unlock(hasher);
+    if (i % 2 == 0) lock(hasher), enter(hasher, it, place), unlock(hasher);
+  }
+  ms = (double)(clock() - begun_at) * 1e3 / CLOCKS_PER_SEC;
+  for (i = 0; i < n; i += 2) {
+    struct call *it = hasher->queue->first[0];
+    expect(it->next[0] == NULL || is_before(it, it->next[0]), "the order of the line");
+    leave(hasher->queue, it);
+  }
+  hasher->queue->turn[0].is_taken = 0;
+  hasher->queue->calls = 0;
+  expect(is_idle(hasher), "the line is empty");
+  scrypt_hasher_free(hasher);
+  free(all);
+  return ms;
+}
+
+static void many_waits(void) {
+  double few = mixed_ends(10000), many = mixed_ends(80000);
+  printf("10,000 waits that end: %.0f ms; 80,000: %.0f ms\n", few, many);
+  expect(many < 40 * few + 100, "not linear");
+}
+
+/* Many threads: each gets the verdict that it gets alone, or none; also if the hasher is freed meanwhile. */
+static char load_texts[3][SCRYPT_PHC_CAPACITY];
+static int wrongs;
+
+static void *verify_many(void *of) {
+  scrypt_hasher *hasher = (scrypt_hasher *)of;
+  uint64_t place = 0;
+  for (int i = 0; i < 20; i++) {
+    int wrong = rand() & 1, ms = i % 4 == 3 ? i % 3 : -1;
+    const char *text = load_texts[rand() % 3];
+    int status = scrypt_hasher_verify(hasher, wrong ? "wrong" : "right", 5, text, strlen(text), ms, i % 3 == 0 ? &place : NULL);
+    if (status != wrong && status != SCRYPT_CLOSED && !(ms >= 0 && status == SCRYPT_TIMEOUT)) (void)count(&wrongs, 1);
+  }
+  return NULL;
+}
+
+static void load(void) {
+  static const size_t PROCESSORS[] = {1, 2, 64};
+  pthread_t all[32];
+  for (int round = 0; round < 12; round++) {
+    size_t processors = PROCESSORS[round % 3], i;
+    scrypt_hasher *hasher = made(processors, round % 4 * processors + 1, 4);
+    for (i = 0; i < 32; i++) pthread_create(&all[i], NULL, verify_many, hasher);
+    if (round % 5 == 4) usleep((useconds_t)(rand() % 9000)), scrypt_hasher_close(hasher);
+    for (i = 0; i < 32; i++) pthread_join(all[i], NULL);
+    expect(most_inside <= (int)processors, "%d derive at a time", most_inside);
+    expect(most_tables <= (int)hasher->options.at_once, "%d tables at a time", most_tables);
+    expect(is_idle(hasher), "idle after load");
+    scrypt_hasher_free(hasher);
+  }
+  expect(wrongs == 0, "%d wrong verdicts", wrongs);
+}
+
+static void *verify_one(void *of) {
+  int status = verify((scrypt_hasher *)of, load_texts[0], "right", -1);
+  if (status != SCRYPT_OK && status != SCRYPT_CLOSED) (void)count(&wrongs, 1);
+  return NULL;
+}
+
+/* It waits for those that have begun. TSan and ASan see a use after it. */
+static void freed_at_any_time(void) {
+  pthread_t all[5];
+  for (int round = 0; round < 200; round++) {
+    scrypt_hasher *hasher = made(1, (size_t)(1 + round % 4), 4);
+    int i;
+    WRITE(is_stopped, 1);
+    for (i = 0; i < 5; i++) pthread_create(&all[i], NULL, verify_one, hasher);
+    while (calls_of(hasher) < 5) usleep(50);
+    WRITE(passed, round % 3);
+    usleep((useconds_t)(rand() % 300));
+    WRITE(is_stopped, 0);
+    scrypt_hasher_free(hasher);
+    for (i = 0; i < 5; i++) pthread_join(all[i], NULL);
+  }
+  for (int i = 0; i < 10000; i++) {
+    scrypt_hasher *hasher = made(2, 4, 1);
+    if (i % 100 == 0) expect(verify(hasher, load_texts[0], "right", 0) == SCRYPT_OK, "one of many hashers");
+    scrypt_hasher_free(hasher);
+  }
+  expect(wrongs == 0, "%d wrong verdicts", wrongs);
+}
+
+/* Forks in handlers of two of four threads, and by the main thread. */
+static int is_ending;
+static void *verify_wrong(void *of) {
+  scrypt_hasher *hasher = (scrypt_hasher *)of;
+  while (!READ(is_ending)) {
+    int status = verify(hasher, load_texts[1], "wrong", -1);
+    if (getpid() != parent) {
+      if (status == SCRYPT_MISMATCH) status = SCRYPT_CANCELLED; /* the call had ended before */
+      be_child(hasher, status);
+    }
+    if (status != SCRYPT_MISMATCH && status != SCRYPT_CLOSED) (void)count(&wrongs, 1);
+    if (status == SCRYPT_CLOSED) break;
+  }
+  return NULL;
+}
+
+static int rounds = 100;
+static void forked_at_any_time(void) {
+  pthread_t all[4];
+  scrypt_hasher *hasher = made(1, 3, 4);
+  handle(SIGUSR1, fork_in_handler);
+  for (int i = 0; i < 4; i++) pthread_create(&all[i], NULL, verify_wrong, hasher);
+  for (int round = 0; round < rounds; round++) {
+    pid_t child;
+    usleep((useconds_t)(rand() % 1500));
+    for (int i = 0; i < 4; i += 3) {
+      int before = READ(forks);
+      pthread_kill(all[i], SIGUSR1);
+      while (READ(forks) == before) usleep(50);
+    }
+    child = fork();
+    if (child == 0) failed = 0, be_child(hasher, SCRYPT_CANCELLED);
+    reap(child, "forked by another thread at any time");
+    reap_all("forked in a handler at any time");
+  }
+  WRITE(is_ending, 1);
+  for (int i = 0; i < 4; i++) pthread_join(all[i], NULL);
+  WRITE(is_ending, 0);
+  expect(wrongs == 0 && is_idle(hasher), "%d wrong verdicts in the parent", wrongs);
+  scrypt_hasher_free(hasher);
+}
+
+/* Handlers that verify and close, at any time; errno stays. */
+static int handled;
+static void verify_in_handler(int number) {
+  int before = errno, status = verify(of_signals, load_texts[0], "wrong", 0);
+  (void)number;
+  if (status != SCRYPT_MISMATCH && status != SCRYPT_TIMEOUT && status != SCRYPT_CLOSED) (void)count(&wrongs, 1);
+  if (errno != before) (void)count(&wrongs, 1);
+  (void)count(&handled, 1);
+}
+
+static void called_in_handlers(void) {
+  pthread_t all[3];
+  for (int round = 0; round < 10; round++) {
+    scrypt_hasher *hasher = of_signals = made(2, 4, 1);
+    handle(SIGUSR1, verify_in_handler);
+    handle(SIGUSR2, close_in_handler);
+    for (int i = 0; i < 3; i++) pthread_create(&all[i], NULL, verify_wrong, hasher);
+    for (int i = 0; i < 60; i++) usleep((useconds_t)(rand() % 60)), pthread_kill(all[i % 3], SIGUSR1);
+    pthread_kill(all[round % 3], SIGUSR2);
+    for (int i = 0; i < 3; i++) pthread_join(all[i], NULL);
+    scrypt_hasher_free(hasher);
+  }
+  expect(wrongs == 0 && handled > 100, "%d wrong verdicts, %d handled", wrongs, handled);
+}
+
+/* The header forbids it: the turn is lost, but no verdict comes out. */
+static sigjmp_buf away;
+static void jump(void) { siglongjmp(away, 1); }
+static void jumped_out(void) {
+  volatile int status = 99;
+  scrypt_hasher *hasher = made(1, 2, 4);
+  WRITE(hook, jump);
+  if (sigsetjmp(away, 1) == 0) status = verify(hasher, load_texts[0], "wrong", -1);
+  expect(status == 99, "a call that is left returned %d", status);
+  IS(verify(hasher, load_texts[0], "right", 20), SCRYPT_TIMEOUT);
+  hasher->queue->calls = 0;
+  scrypt_hasher_free(hasher);
+}
+
+/* Files of control groups below a folder of this test, in place of the system's. */
+static void processors(void) {
+  static const struct { const char *line, *folder, *quota; size_t count; } GROUPS[] = {
+      {"0::/a/b", "/a/b", "cpu.max max 100000", 64},
+      {"0::/a/b", "/a/b", "cpu.max 250000 100000", 3},
+      {"0::/a/b", "/a", "cpu.max 100000 100000", 1}, /* a group around it */
+      {"0::/x/y", "", "cpu.max 200000 100000", 2},   /* in a container, with the path of the host */
+      {"0::/", "", "cpu.max 1000 100000", 1},
+      {"0::/", "", "cpu.max", 64},
+      {"4:cpu,cpuacct:/a", "/cpu/a", "cpu.cfs_quota_us -1", 64},
+      {"9:memory:/m\n4:cpu,cpuacct:/a\n0::/", "/cpu/a", "cpu.cfs_quota_us 150000", 2},
+      {"4:cpuset:/a", "/cpu/a", "cpu.cfs_quota_us 100000", 64}};
+  cpu_set_t set;
+  size_t all = sched_getaffinity(0, sizeof set, &set) == 0 ? (size_t)CPU_COUNT(&set) : 1;
+  for (size_t i = 0; i < sizeof GROUPS / sizeof GROUPS[0]; i++) {
+    char command[1024];
+    snprintf(command, sizeof command,
+             "set -e; rm -rf '%s'; g='%s/sys/fs/cgroup%s'; mkdir -p '%s/proc/self' \"$g\"; "
+             "printf '%s\n' > '%s/proc/self/cgroup'; "
+             "set -- %s; f=$1; shift; echo \"$@\" > \"$g/$f\"; echo 100000 > \"$g/cpu.cfs_period_us\"",
+             ROOT, ROOT, GROUPS[i].folder, ROOT, GROUPS[i].line, ROOT, GROUPS[i].quota);
+    IS(system(command), 0);
+    expect(processors_of_process() == (GROUPS[i].count < all ? GROUPS[i].count : all), "%s", GROUPS[i].quota);
+  }
+}
+
+static void calibrated(void) {
+  uint8_t log_n = 0;
+  uint32_t r = 0, p = 0;
+  IS(scrypt_calibrate(0.02, (size_t)64 << 20, NULL, &r, &p), SCRYPT_NULL_POINTER);
+  IS(scrypt_calibrate(1e-9, (size_t)64 << 20, &log_n, &r, &p), SCRYPT_TOO_COSTLY);
+  IS(scrypt_calibrate(-1, (size_t)64 << 20, &log_n, &r, &p), SCRYPT_TOO_COSTLY);
+  IS(scrypt_calibrate(1, ((size_t)1 << 20) - 1, &log_n, &r, &p), SCRYPT_TOO_COSTLY);
+  expect(log_n == 0 && r == 0 && p == 0, "unchanged");
+  IS(scrypt_calibrate(9, (size_t)1 << 20, &log_n, &r, &p), SCRYPT_OK);
+  expect(log_n == 10 && r == 8 && p > 1, "the table as large as the bound, and p takes the time: %d %u %u", log_n, r, p);
+}
+
+/* With a name: that test alone. */
+int main(int count, char **names) {
+  static const struct { const char *name; void (*test)(void); } TESTS[] = {
+      {"rows", rows}, {"options", options}, {"calls", calls}, {"verdicts", verdicts}, {"turns", numbers_of_turns},
+      {"waits", many_waits}, {"load", load}, {"freed", freed_at_any_time}, {"forked", forked_at_any_time},
+      {"handlers", called_in_handlers}, {"jumped", jumped_out}, {"processors", processors}, {"calibrated", calibrated}};
+  parent = getpid();
+  make_text(load_texts[0], "right", 4, 8, 1);
+  make_text(load_texts[1], "right", 6, 8, 1);
+  make_text(load_texts[2], "right", 4, 8, 3);
+  for (size_t i = 0; i < sizeof TESTS / sizeof TESTS[0]; i++) {
+    int64_t begun = now_ms();
+    if (count > 1 && strcmp(names[1], TESTS[i].name) != 0) continue;
+    TESTS[i].test();
+    printf("%s: %s, %d ms\n", TESTS[i].name, failed ? "FAILED" : "ok", (int)(now_ms() - begun));
+  }
+  return failed;
+}

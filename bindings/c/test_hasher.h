@@ -1,0 +1,250 @@
+/* The hasher with derivations that can be stopped: its sources are included, and call functions of this file in place of
+ * verify_group, scrypt_key_with_buffers, most_at_once and mmap. */
+#define _GNU_SOURCE
+#include "scrypt_c.h"
+
+#include <errno.h>
+#include <linux/futex.h>
+#include <pthread.h>
+#include <setjmp.h>
+#include <signal.h>
+#include <stdio.h>
+#include <stdlib.h>
+#include <string.h>
+#include <sys/mman.h>
+#include <sys/syscall.h>
+#include <sys/wait.h>
+#include <time.h>
+#include <unistd.h>
+
+#ifdef HELGRIND /* which doesn't know atomic operations */
+#include <valgrind/helgrind.h>
+#define __atomic_load_n(it, order)                                       \
+  ({                                                                     \
+    VALGRIND_HG_DISABLE_CHECKING((it), sizeof *(it));                    \
+    __typeof__(*(it)) value_ = *(volatile __typeof__(*(it)) *)(it);      \
+    ANNOTATE_HAPPENS_AFTER(it);                                          \
+    value_;                                                              \
+  })
+#define __atomic_store_n(it, value, order)                               \
+  ({                                                                     \
+    VALGRIND_HG_DISABLE_CHECKING((it), sizeof *(it));                    \
+    ANNOTATE_HAPPENS_BEFORE(it);                                         \
+    *(volatile __typeof__(*(it)) *)(it) = (value);                       \
+  })
+#endif
+#define READ(it) __atomic_load_n(&(it), __ATOMIC_ACQUIRE)
+#define WRITE(it, value) __atomic_store_n(&(it), value, __ATOMIC_RELEASE)
+
+static int failed;
+#define expect(holds, ...)                            \
+  do {                                                \
+    if (!(holds)) {                                   \
+      failed = 1;                                     \
+      fprintf(stderr, "failed, line %d: ", __LINE__); \
+      fprintf(stderr, __VA_ARGS__);                   \
+      fputc('\n', stderr);                            \
+    }                                                 \
+  } while (0)
+
+static size_t most_mapped = SIZE_MAX;
+static void *test_mmap(void *at, size_t size, int protection, int flags, int file, off_t offset) {
+  if (size > READ(most_mapped)) return errno = ENOMEM, MAP_FAILED;
+  return mmap(at, size, protection, flags, file, offset);
+}
+
+/* What is given back is zeros. */
+static int test_munmap(void *at, size_t size) {
+  size_t words = size / sizeof(size_t);
+  while (words > 0 && ((size_t *)at)[words - 1] == 0) words--;
+  expect(words == 0, "memory is given back that is not wiped");
+  return munmap(at, size);
+}
+
+static size_t widest = 4; /* what most_at_once returns */
+#define mmap test_mmap
+#define munmap test_munmap
+#include "tables.c"
+#undef mmap
+#undef munmap
+#include "groups.c"
+
+/* ---- Derivations that are watched, and stopped ---- */
+
+enum { MOST_SEEN = 1 << 20 };
+static struct seen { char calls[SCRYPT_MOST_LOGINS + 1]; size_t tables; } seen[MOST_SEEN]; /* in the order in which they begin */
+static int is_stopped, passed, begun, ended, members, tables_inside, most_tables, inside, most_inside, early_ok;
+static __thread size_t tables_of_group;
+static void (*hook)(void); /* called once, in the middle of a derivation */
+
+static int count(int *counter, int by) { return __atomic_add_fetch(counter, by, __ATOMIC_ACQ_REL); }
+
+static void keep_most(int *most, int is) {
+  int was = READ(*most);
+  while (was < is && !__atomic_compare_exchange_n(most, &was, is, 0, __ATOMIC_ACQ_REL, __ATOMIC_ACQUIRE)) {}
+}
+
+static void begin(const scrypt_login *each, size_t logins) {
+  int slot = count(&begun, 1) - 1;
+  void (*now)(void) = READ(hook);
+  for (size_t i = 0; i < logins; i++) seen[slot % MOST_SEEN].calls[i] = *(const char *)each[i].password;
+  seen[slot % MOST_SEEN].tables = tables_of_group;
+  keep_most(&most_inside, count(&inside, 1));
+  keep_most(&most_tables, count(&tables_inside, (int)tables_of_group));
+  (void)count(&members, (int)logins);
+  if (now != NULL) WRITE(hook, NULL), now();
+  while (READ(is_stopped) && READ(passed) <= slot) usleep(100);
+}
+
+static int finished(size_t logins, int status) {
+  (void)count(&tables_inside, -(int)tables_of_group), (void)count(&members, -(int)logins);
+  (void)count(&inside, -1), (void)count(&ended, 1);
+  return status;
+}
+
+static int watched_key(const void *password) {
+  scrypt_login login = {password, 1, NULL, 0};
+  return begin(&login, 1), 1;
+}
+
+static void watched_group(const scrypt_login *each, size_t logins, int *statuses, const struct buffers *of) {
+  for (size_t i = 0; i < logins; i++)
+    if (statuses[i] == SCRYPT_OK) WRITE(early_ok, 1);
+  begin(each, logins);
+  verify_group(each, logins, statuses, of);
+  (void)finished(logins, 0);
+}
+
+/* No handler runs with the lock. */
+static int lock_mutex(pthread_mutex_t *mutex) {
+  sigset_t blocked;
+  (void)sigprocmask(SIG_BLOCK, NULL, &blocked);
+  expect(sigismember(&blocked, SIGUSR1) == 1 && sigismember(&blocked, SIGALRM) == 1, "signals are not blocked");
+  return pthread_mutex_lock(mutex);
+}
+
+/* Forks just before a call sleeps, if this is set. */
+static int forks_before_sleep;
+static void fork_in_handler(int number);
+static void before_sleep(int operation, const struct timespec *time) {
+  expect(time == NULL || time->tv_sec > 0 || time->tv_nsec > 0, "a thread spins in place of sleeping");
+  if (operation == FUTEX_WAIT_PRIVATE && READ(forks_before_sleep)) WRITE(forks_before_sleep, 0), fork_in_handler(0);
+}
+
+#define syscall(number, bell, operation, value, time, ...) \
+  (before_sleep(operation, time), syscall(number, bell, operation, value, time, __VA_ARGS__))
+#define pthread_mutex_lock lock_mutex
+#define verify_group watched_group
+#define most_at_once() READ(widest)
+#define tables_buffers(tables, needs, all, logins) tables_buffers(tables, needs, tables_of_group = (all), logins)
+#define scrypt_key_with_buffers(password, ...) \
+  (watched_key(password) ? finished(1, scrypt_key_with_buffers(password, __VA_ARGS__)) : -1)
+#include "queue.c"
+#include "hasher.c"
+#include "processors.c"
+#define now now_seconds
+#include "calibrate.c"
+#undef now
+#undef pthread_mutex_lock
+#undef syscall
+#undef verify_group
+#undef tables_buffers
+#undef scrypt_key_with_buffers
+#undef most_at_once
+
+/* ---- Hashers, and texts ---- */
+
+static scrypt_hasher *made(size_t processors, size_t at_once, uint32_t log_n) {
+  scrypt_options with = {sizeof with, log_n, 8, 1, 0, 0, 0, 0, 0, 0, at_once, processors};
+  int status = -1;
+  scrypt_hasher *hasher = scrypt_hasher_new(&with, &status);
+  expect(hasher != NULL && status == SCRYPT_OK, "new: %d", status);
+  begun = ended = members = tables_inside = most_tables = inside = most_inside = passed = is_stopped = 0;
+  return hasher;
+}
+
+static void make_text(char *text, const char *password, uint8_t log_n, uint32_t r, uint32_t p) {
+  expect(scrypt_hash_phc(password, strlen(password), "salt", 4, log_n, r, p, 32, text, SCRYPT_PHC_CAPACITY) == 0, "hash");
+}
+
+static int verify(scrypt_hasher *hasher, const char *text, const char *password, int64_t most_ms) {
+  return scrypt_hasher_verify(hasher, password, strlen(password), text, strlen(text), most_ms, NULL);
+}
+
+static int waiting(scrypt_hasher *hasher) {
+  int calls = 0;
+  struct call *it;
+  lock(hasher);
+  for (it = hasher->queue->first[0]; it != NULL; it = it->next[0]) calls++;
+  unlock(hasher);
+  return calls;
+}
+
+static size_t calls_of(scrypt_hasher *hasher) {
+  size_t calls;
+  lock(hasher), calls = hasher->queue->calls, unlock(hasher);
+  return calls;
+}
+
+/* Whether no turn is taken, nobody waits, there is no call, and a closed hasher has no memory. */
+static int is_idle(scrypt_hasher *hasher) {
+  size_t turn, level, busy = hasher->queue->calls;
+  for (turn = 0; turn < hasher->turns; turn++)
+    busy += hasher->queue->turn[turn].is_taken != 0 ||
+            (hasher->is_closed && hasher->queue->turn[turn].tables.mapping != NULL);
+  for (level = 0; level < LEVELS; level++) busy += hasher->queue->first[level] != NULL;
+  return busy == 0;
+}
+
+/* ---- Signals and children ---- */
+
+static void handle(int number, void (*handler)(int)) {
+  struct sigaction action;
+  memset(&action, 0, sizeof action);
+  action.sa_handler = handler;
+  sigaction(number, &action, NULL);
+}
+
+static pid_t parent, children[4096];
+static int forks;
+static scrypt_hasher *of_signals;
+static void nothing_in_handler(int number) { (void)number; }
+static void close_in_handler(int number) { (void)number, scrypt_hasher_close(of_signals); }
+
+static void fork_in_handler(int number) {
+  int before = errno;
+  pid_t child;
+  (void)number;
+  if (getpid() != parent) return;
+  child = fork();
+  if (child == 0) failed = 0, WRITE(is_stopped, 0);
+  if (child > 0) WRITE(children[READ(forks)], child), WRITE(forks, READ(forks) + 1);
+  errno = before;
+}
+
+/* In a child: the hasher works, and nothing of the parent is in it; exits. */
+static void be_child(scrypt_hasher *hasher, int interrupted) {
+  char text[SCRYPT_PHC_CAPACITY];
+  int right, wrong, closed = hasher->is_closed ? SCRYPT_CLOSED : -1;
+  WRITE(is_stopped, 0);
+  make_text(text, "right", 4, 8, 1);
+  right = verify(hasher, text, "right", 5000);
+  wrong = verify(hasher, text, "wrong", 5000);
+  expect(interrupted == SCRYPT_CANCELLED, "the interrupted call returns %d", interrupted);
+  expect(closed != -1 ? right == closed && wrong == closed : right == SCRYPT_OK && wrong == SCRYPT_MISMATCH,
+         "in a child: %d %d", right, wrong);
+  expect(is_idle(hasher), "something of the parent is left");
+  _exit(failed);
+}
+
+static void reap(pid_t child, const char *what) {
+  int tries, status = -1;
+  for (tries = 0; tries < 4000 && waitpid(child, &status, WNOHANG) != child; tries++) usleep(5000);
+  expect(tries < 4000, "a child hangs: %s", what);
+  expect(tries == 4000 || (WIFEXITED(status) && WEXITSTATUS(status) == 0), "a child failed: %s", what);
+  if (tries == 4000) kill(child, SIGKILL), waitpid(child, &status, 0);
+}
+
+static void reap_all(const char *what) {
+  for (; READ(forks) > 0; WRITE(forks, READ(forks) - 1)) reap(READ(children[READ(forks) - 1]), what);
+}
