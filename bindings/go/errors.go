@@ -2,43 +2,47 @@
 
 package scrypt
 
+// #include "library.h"
+import "C"
+
 // Error is the reason why a call failed: a status of scrypt_c.h, or a negative number that C does not have.
 type Error int
 
 // The errors. Those from ErrAlgorithm to ErrVersion, except ErrSaltInvalid, also match ErrInvalidHash (errors.Is).
 const (
-	ErrClosed            Error = -3 // the Hasher is closed, or was not made by NewHasher
-	ErrInvalidOption     Error = -2 // an option of a Hasher is out of range
-	ErrInvalidHash       Error = -1 // the text is not a hash that this package reads
-	ErrMismatch          Error = 1  // the password is not that of the hash
-	ErrInvalidParams     Error = 2  // N, r and p, or the length of a hash's key, are not accepted
-	ErrInvalidOutputLen  Error = 3  // the key is empty, or longer than scrypt allows
-	ErrOutOfMemory       Error = 4  // the memory is not available
-	ErrAlgorithm         Error = 5  // the hash names another algorithm
-	ErrEncodingInvalid   Error = 6  // the text does not have the grammar of its format
-	ErrOutputSize        Error = 7  // the key in the hash has a length that is not allowed
-	ErrHashParamInvalid  Error = 8  // a parameter in the hash is not a decimal in its range
-	ErrHashParamsInvalid Error = 9  // the parameters in the hash are not accepted, or are not scrypt's
-	ErrSaltInvalid       Error = 10 // the salt of a PHC hash does not have 1 to 64 bytes
-	ErrVersion           Error = 11 // the hash names a version, and scrypt has none
-	ErrTooCostly         Error = 13 // the parameters need more memory or more work than is allowed
-	ErrNoRandomBytes     Error = 14 // the system has no random bytes for a salt
-	ErrKeyTooShort       Error = 15 // the key in the hash is shorter than is allowed
+	ErrInvalidOption     Error = -2                           // an option of a Hasher is out of range
+	ErrInvalidHash       Error = -1                           // the text is not a hash that this package reads
+	ErrMismatch          Error = C.SCRYPT_MISMATCH            // the password is not that of the hash
+	ErrInvalidParams     Error = C.SCRYPT_INVALID_PARAMS      // N, r and p, or the length of a hash's key, are not accepted
+	ErrInvalidOutputLen  Error = C.SCRYPT_INVALID_OUTPUT_LEN  // the key is empty, or longer than scrypt allows
+	ErrOutOfMemory       Error = C.SCRYPT_OUT_OF_MEMORY       // the memory is not available
+	ErrAlgorithm         Error = C.SCRYPT_ALGORITHM           // the hash names another algorithm
+	ErrEncodingInvalid   Error = C.SCRYPT_ENCODING_INVALID    // the text does not have the grammar of its format
+	ErrOutputSize        Error = C.SCRYPT_OUTPUT_SIZE         // the key in the hash has a length that is not allowed
+	ErrHashParamInvalid  Error = C.SCRYPT_HASH_PARAM_INVALID  // a parameter in the hash is not a decimal in its range
+	ErrHashParamsInvalid Error = C.SCRYPT_HASH_PARAMS_INVALID // the parameters in the hash are not accepted, or are not scrypt's
+	ErrSaltInvalid       Error = C.SCRYPT_SALT_INVALID        // the salt of a PHC hash does not have 1 to 64 bytes
+	ErrVersion           Error = C.SCRYPT_VERSION             // the hash names a version, and scrypt has none
+	ErrTooCostly         Error = C.SCRYPT_TOO_COSTLY          // the parameters need more memory or more work than is allowed
+	ErrNoRandomBytes     Error = C.SCRYPT_NO_RANDOM_BYTES     // the system has no random bytes for a salt
+	ErrKeyTooShort       Error = C.SCRYPT_KEY_TOO_SHORT       // the key in the hash is shorter than is allowed
+	ErrClosed            Error = C.SCRYPT_CLOSED              // the Hasher is closed, or was not made by NewHasher
+	ErrUnsupported       Error = C.SCRYPT_UNSUPPORTED         // the system is too old for a Hasher: Linux before 4.14
 )
 
 // Error returns the error in words.
 func (e Error) Error() string {
 	switch e {
-	case ErrClosed:
-		return "scrypt: the Hasher is closed, or was not made by NewHasher"
 	case ErrInvalidOption:
 		return "scrypt: an option of a Hasher is not in its range"
 	case ErrInvalidHash:
 		return "scrypt: the text is not a PHC or $7$ hash of scrypt"
 	case ErrMismatch:
 		return "scrypt: the password does not match the hash"
+	case ErrClosed:
+		return "scrypt: the Hasher is closed, or was not made by NewHasher"
 	default:
-		return "scrypt: " + statusText(e)
+		return "scrypt: " + C.GoString(C.scrypt_status_text(C.int(e)))
 	}
 }
 

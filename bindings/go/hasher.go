@@ -2,11 +2,19 @@
 
 package scrypt
 
+// #include "library.h"
+import "C"
+
 import (
 	"context"
 	"fmt"
 	"runtime"
+	"sync"
+	"unsafe"
 )
+
+// sliceMs is how long a call waits in C before it looks at its context: milliseconds.
+const sliceMs = 50
 
 // Options are the options of a Hasher. For an option that is zero, and for each zero field of Params, the default is used
 // that its comment names.
@@ -15,90 +23,83 @@ type Options struct {
 	MCF     bool // whether new hashes are $7$ texts of crypt(3), by default PHC texts
 	SaltLen int  // the length of a new hash's salt, 1 to 64 bytes: by default 16
 
-	// How many verifications and new hashes may have memory at the same time: by default two for each processor
-	// (runtime.GOMAXPROCS(0)), so that two that wait are derived at once. A higher number has no effect.
+	// How many tables may exist at the same time: by default two for each processor.
 	AtOnce int
+
+	// How many derivations may run at the same time: by default one for each processor that the process may use, by its
+	// affinity and its CPU quota, or runtime.GOMAXPROCS(0) if that was set to less than runtime.NumCPU().
+	Processors int
 
 	// The greatest Params.Memory and Params.Work of a hash that is not refused with ErrTooCostly: by default the
 	// constants of the same names, or what new hashes need if that is more.
 	MostBytes, MostWork uint64
-
-	// MostCores is MostWork, if that is 0.
-	//
-	// Deprecated: use MostWork.
-	MostCores uint64
 }
 
 // A Hasher makes password hashes, and verifies passwords against hashes of either format. Any number of goroutines may
-// use it; at most one for each processor derives at a time, and the others wait.
+// use it; at most one for each processor derives at a time, and the others wait, first come, first served. Of those that
+// wait, verifications with the same LogN, R and P are derived together if there are tables for them, which takes less time
+// than one after another. Nobody waits for others to come, and no error or context of one affects another.
 //
-// Of those that wait, two verifications with the same N and R are done at once, in twice the memory of one and little
-// more than its time. Nobody waits for a partner, and no error or context of one affects the other. With the defaults,
-// four processors and the recommended parameters that takes 1 GiB. If AtOnce is the number of processors or less, there
-// are no pairs: that takes half the memory, and serves fewer logins.
-//
-// It keeps the memory in which it verifies for later calls, at most AtOnce times MostBytes, until Close. Create one with
+// A Hasher holds at most AtOnce tables, whatever P is, and keeps their memory for later calls until Close. Create one with
 // NewHasher: on the zero value every method but Close returns ErrClosed.
 type Hasher struct {
-	options Options
-	turns   *turns
+	of *hasher
 }
 
-// NewHasher returns a Hasher. Its errors name the option, and match (errors.Is) ErrInvalidParams, ErrSaltInvalid,
-// ErrInvalidOption, or ErrTooCostly if new hashes need more than the bounds.
+// A hasher is freed when no Hasher refers to it.
+type hasher struct {
+	c      *C.scrypt_hasher
+	inside chan struct{} // one for each goroutine that is in C, where it takes a thread of the system
+	closed chan struct{}
+	close  sync.Once
+}
+
+// NewHasher returns a Hasher. Its errors name the options, and match (errors.Is) ErrInvalidParams, ErrSaltInvalid,
+// ErrInvalidOption, ErrTooCostly if new hashes need more than the bounds, ErrOutOfMemory or ErrUnsupported.
 func NewHasher(options Options) (*Hasher, error) {
-	return newHasherOn(runtime.GOMAXPROCS(0), options)
-}
-
-// newHasherOn returns a Hasher for this number of processors.
-func newHasherOn(processors int, options Options) (*Hasher, error) {
-	options = options.withDefaults(processors)
-	memory, err := options.Params.Memory()
-	if err != nil {
-		return nil, fmt.Errorf("%w: LogN is %d, R is %d and P is %d", err, options.LogN, options.R, options.P)
-	}
-	if options.KeyLen < 10 || options.KeyLen > 64 {
-		return nil, fmt.Errorf("%w: KeyLen is %d, and has to be 10 to 64", ErrInvalidParams, options.KeyLen)
-	}
-	if options.SaltLen < 1 || options.SaltLen > 64 {
-		return nil, fmt.Errorf("%w: SaltLen is %d, and has to be 1 to 64", ErrSaltInvalid, options.SaltLen)
-	}
-	if options.AtOnce < 1 {
-		return nil, fmt.Errorf("%w: AtOnce is %d, and has to be positive", ErrInvalidOption, options.AtOnce)
-	}
-	of := boundsOf(options, memory)
-	if err := of.checkParams(options.Params); err != nil {
-		return nil, err
-	}
-	return &Hasher{options, newTurns(of, options.AtOnce, processors)}, nil
-}
-
-// withDefaults returns the options with the default in place of each zero. The bounds depend on the parameters.
-func (options Options) withDefaults(processors int) Options {
 	usual := Recommended()
-	for _, it := range []struct {
-		field *int
-		usual int
-	}{
-		{&options.LogN, usual.LogN},
-		{&options.R, usual.R},
-		{&options.P, usual.P},
-		{&options.KeyLen, usual.KeyLen},
-		{&options.SaltLen, 16},
-		{&options.AtOnce, 2 * processors},
-	} {
-		if *it.field == 0 {
-			*it.field = it.usual
-		}
+	options.LogN = orUsual(options.LogN, usual.LogN)
+	options.R = orUsual(options.R, usual.R)
+	options.P = orUsual(options.P, usual.P)
+	if n := runtime.GOMAXPROCS(0); n < runtime.NumCPU() {
+		options.Processors = orUsual(options.Processors, n)
 	}
-	return options
+	if options.AtOnce < 0 || options.Processors < 0 {
+		return nil, fmt.Errorf("%w: %+v", ErrInvalidOption, options)
+	}
+	with := C.scrypt_options{
+		size:  C.sizeof_scrypt_options,
+		log_n: number(options.LogN), r: number(options.R), p: number(options.P),
+		key_len: C.size_t(options.KeyLen), salt_len: C.size_t(options.SaltLen),
+		most_bytes: C.size_t(options.MostBytes), most_work: C.uint64_t(options.MostWork),
+		at_once: C.size_t(options.AtOnce), processors: C.size_t(options.Processors),
+	}
+	if options.MCF {
+		with.mcf = 1
+	}
+	var status C.int
+	of := &hasher{c: C.scrypt_hasher_new(&with, &status), closed: make(chan struct{})}
+	if of.c == nil {
+		return nil, fmt.Errorf("%w: %v: %+v", Error(status), options.Params.needs(), options)
+	}
+	// For each that derives up to four are derived together, and as many wait in C, where the next group forms.
+	derive := C.scrypt_hasher_options(of.c).processors
+	if atOnce := C.scrypt_hasher_options(of.c).at_once; atOnce < derive {
+		derive = atOnce
+	}
+	of.inside = make(chan struct{}, 8*derive)
+	runtime.SetFinalizer(of, func(of *hasher) { C.scrypt_hasher_free(of.c) })
+	return &Hasher{of}, nil
 }
 
-// Close frees the memory that the Hasher keeps; the memory of a running derivation is freed when it ends. Calls of Hash
-// and Verify that wait, and later ones, return ErrClosed. Close returns nil.
+// Close frees the memory that the Hasher keeps; the memory of a running derivation is freed when it ends. Calls that wait,
+// and later ones, return ErrClosed. Close returns nil.
 func (h *Hasher) Close() error {
-	if h.turns != nil {
-		h.turns.close()
+	if h.of != nil {
+		h.of.close.Do(func() {
+			close(h.of.closed)
+			C.scrypt_hasher_close(h.of.c)
+		})
 	}
 	return nil
 }
@@ -106,66 +107,146 @@ func (h *Hasher) Close() error {
 // Hash returns the text of a new hash, with a random salt from the system. The errors are the context's, if it ends
 // before the derivation begins, ErrOutOfMemory, ErrNoRandomBytes and ErrClosed.
 func (h *Hasher) Hash(ctx context.Context, password []byte) (string, error) {
-	salt := make([]byte, h.options.SaltLen)
-	if err := drawSalt(salt); err != nil {
-		return "", err
-	}
-	return h.HashWithSalt(ctx, password, salt)
+	return h.hash(ctx, password, nil, 0)
 }
 
 // HashWithSalt does what Hash does, with the caller's salt. It returns ErrSaltInvalid if the salt of a PHC hash does not
 // have 1 to 64 bytes.
 func (h *Hasher) HashWithSalt(ctx context.Context, password, salt []byte) (string, error) {
-	if err := h.ready(ctx); err != nil {
+	return h.hash(ctx, password, pointer(salt), size(salt))
+}
+
+// hash draws a salt if the pointer is NULL.
+func (h *Hasher) hash(ctx context.Context, password []byte, salt unsafe.Pointer, saltLen C.size_t) (string, error) {
+	text := make([]byte, C.text_capacity(saltLen))
+	err := h.run(ctx, nil, func(ms C.int64_t, place *C.uint64_t) C.int {
+		return C.scrypt_hasher_hash(h.of.c, pointer(password), size(password), salt, saltLen, chars(text), size(text), ms,
+			place)
+	})
+	if err != nil {
 		return "", err
 	}
-	mine := newWait(nil)
-	if err := h.turns.begin(ctx, mine); err != nil {
-		return "", err
+	return C.GoString(chars(text)), nil
+}
+
+// Key returns the key of keyLen bytes of a password and a salt, with the parameters of new hashes. The errors are those of
+// Hash, and ErrInvalidOutputLen.
+func (h *Hasher) Key(ctx context.Context, password, salt []byte, keyLen int) ([]byte, error) {
+	key, err := newKey(keyLen)
+	if err == nil {
+		err = h.run(ctx, nil, func(ms C.int64_t, place *C.uint64_t) C.int {
+			return C.scrypt_hasher_key(h.of.c, pointer(password), size(password), pointer(salt), size(salt), bytes(key),
+				size(key), ms, place)
+		})
 	}
-	defer h.turns.end(mine)
-	return mine.turn.memory.hash(password, salt, h.options.Params, h.options.MCF)
+	if err != nil {
+		return nil, err
+	}
+	return key, nil
 }
 
 // Verify returns nil if the password is that of the hash, and ErrMismatch if it is not, or if the hash has no salt or
-// no key. Other errors match (errors.Is) the context's, if it ends before the derivation begins, ErrClosed,
-// ErrInvalidHash, ErrTooCostly if the hash needs more than the bounds, ErrKeyTooShort if its key has fewer than 16
-// bytes, or than new keys if that is less, or ErrOutOfMemory. An error of the text alone is returned without waiting.
+// no key. Other errors match (errors.Is) the context's, if it ends before the derivation begins, ErrInvalidHash,
+// ErrTooCostly if the hash needs more than the bounds, ErrKeyTooShort if its key has fewer than 16 bytes, or than new keys
+// if that is less, ErrClosed or ErrOutOfMemory. An error of the text alone is returned without waiting.
 func (h *Hasher) Verify(ctx context.Context, text string, password []byte) error {
-	if err := h.ready(ctx); err != nil {
-		return err
-	}
 	raw := []byte(text)
-	like, err := h.turns.bounds.checkText(raw)
-	if err != nil {
+	err := h.run(ctx, raw, func(ms C.int64_t, place *C.uint64_t) C.int {
+		return C.scrypt_hasher_verify(h.of.c, pointer(password), size(password), chars(raw), size(raw), ms, place)
+	})
+	if err != ErrTooCostly && err != ErrKeyTooShort {
 		return err
 	}
-	mine := newWait(&login{password, raw, like})
-	if err := h.turns.begin(ctx, mine); err != nil || mine.turn == nil {
-		return err
+	params, unread := ParamsOf(text)
+	if unread != nil {
+		return unread
 	}
-	defer h.turns.end(mine)
-	if mine.partner == nil {
-		return mine.turn.memory.verify(mine.login)
-	}
-	err, others := mine.turn.memory.verifyTwo(mine.login, mine.partner.login)
-	mine.finish(others)
-	return err
+	with := C.scrypt_hasher_options(h.of.c)
+	defer runtime.KeepAlive(h.of)
+	return fmt.Errorf("%w: %v, and a key of %d bytes; MostBytes is %d, MostWork is %d, and the least key has %d bytes", err,
+		params.needs(), params.KeyLen, with.most_bytes, with.most_work, with.least_key_len)
 }
 
 // NeedsRehash reports whether one of the parameters of the hash, or its key's length, is below that of new hashes. Its
 // errors match ErrInvalidHash (errors.Is). It needs no memory, so it also works on a closed Hasher.
 func (h *Hasher) NeedsRehash(text string) (bool, error) {
-	if h.turns == nil {
+	if h.of == nil {
 		return false, ErrClosed
 	}
-	return needsRehash(text, h.options.Params)
+	raw := []byte(text)
+	status := C.scrypt_hasher_needs_rehash(h.of.c, chars(raw), size(raw))
+	runtime.KeepAlive(h.of)
+	if status == C.SCRYPT_NEEDS_REHASH {
+		return true, nil
+	}
+	return false, failed(status)
 }
 
-// ready returns ErrClosed, or the error of a context that has ended.
-func (h *Hasher) ready(ctx context.Context) error {
-	if h.turns == nil || h.turns.isClosed() {
+// run calls C when there is room inside. If the context can end it calls in slices, between which C keeps the place in the
+// line, and nothing that has to be given back: so a context may panic.
+func (h *Hasher) run(ctx context.Context, text []byte, call func(ms C.int64_t, place *C.uint64_t) C.int) error {
+	if h.of == nil {
 		return ErrClosed
 	}
-	return ctx.Err()
+	if err := h.of.enter(ctx, text); err != nil {
+		return err
+	}
+	defer func(of *hasher) { <-of.inside }(h.of)
+	if ctx.Done() == nil {
+		return failed(call(-1, nil))
+	}
+	var place C.uint64_t
+	for {
+		if err := ctx.Err(); err != nil {
+			return err
+		}
+		if status := call(sliceMs, &place); status != C.SCRYPT_TIMEOUT {
+			return failed(status)
+		}
+	}
+}
+
+// enter waits until there is room inside, first come, first served. The errors of a text come before the wait.
+func (of *hasher) enter(ctx context.Context, text []byte) error {
+	if err := ctx.Err(); err != nil {
+		return err
+	}
+	select {
+	case of.inside <- struct{}{}:
+		return nil
+	default:
+	}
+	if text != nil {
+		var needs C.scrypt_needs
+		with := C.scrypt_hasher_options(of.c)
+		status := C.scrypt_hash_needs(chars(text), size(text), with.most_bytes, with.most_work, with.least_key_len, &needs)
+		if status != C.SCRYPT_OK {
+			return Error(status)
+		}
+	}
+	select {
+	case of.inside <- struct{}{}:
+		return nil
+	case <-of.closed:
+		return ErrClosed
+	case <-ctx.Done():
+		if err := ctx.Err(); err != nil {
+			return err
+		}
+		return context.Canceled // of a context that has ended without an error: nil would mean that there is room
+	}
+}
+
+func orUsual(n, usual int) int {
+	if n == 0 {
+		return usual
+	}
+	return n
+}
+
+// needs returns in words what a derivation needs.
+func (params Params) needs() string {
+	memory, _ := params.Memory()
+	return fmt.Sprintf("LogN %d, R %d and P %d need %d bytes and a work of %d", params.LogN, params.R, params.P, memory,
+		params.Work())
 }

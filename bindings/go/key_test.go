@@ -3,13 +3,21 @@ package scrypt
 import (
 	"encoding/hex"
 	"errors"
+	"os"
+	"regexp"
+	"strconv"
 	"strings"
 	"testing"
+	"time"
 )
 
 // RFC 7914, section 12.
-func rfcKeys() []rfcKey {
-	return []rfcKey{
+func TestKeysOfRFC7914(t *testing.T) {
+	for _, it := range []struct {
+		password, salt string
+		n, r, p        int
+		key            string
+	}{
 		{"", "", 16, 1, 1, "77d6576238657b203b19ca42c18a0497f16b4844e3074ae8dfdffa3fede21442" +
 			"fcd0069ded0948f8326a753a0fc81f17e8d3e0fb2e0d3628cf35e20c38d18906"},
 		{"password", "NaCl", 1024, 8, 16, "fdbabe1c9d3472007856e7190d01e9fe7c6ad7cbc8237830e77376634b373162" +
@@ -20,17 +28,7 @@ func rfcKeys() []rfcKey {
 		{"pleaseletmein", "SodiumChloride", 1048576, 8, 1,
 			"2101cb9b6a511aaeaddbbe09cf70f881ec568d574a2ffd4dabe5ee9820adaa47" +
 				"8e56fd8f4ba5d09ffa1c6d927c40f4c337304049e8a952fbcbf45c6fa77a41a4"},
-	}
-}
-
-type rfcKey struct {
-	password, salt string
-	n, r, p        int
-	key            string
-}
-
-func TestKeysOfRFC7914(t *testing.T) {
-	for _, it := range rfcKeys() {
+	} {
 		key, err := Key([]byte(it.password), []byte(it.salt), it.n, it.r, it.p, 64)
 		if err != nil || hex.EncodeToString(key) != it.key {
 			t.Errorf("%d, %d, %d: %x, %v", it.n, it.r, it.p, key, err)
@@ -50,14 +48,14 @@ func TestRefusedKeys(t *testing.T) {
 		{"a negative N", -16, 8, 1, 32, ErrInvalidParams, "N is -16"},
 		{"r of 0", 16, 0, 1, 32, ErrInvalidParams, "r is 0"},
 		{"a negative r", 16, -1, 1, 32, ErrInvalidParams, "r is -1"},
-		{"p of 2^32", 16, 1, 1 << 32, 32, ErrInvalidParams, "p is 4294967296"},
+		{"p of 1 in 32 bits", 16, 1, 1 + 1<<32, 32, ErrInvalidParams, "p is 4294967297"},
 		{"r * p of 2^30", 16, 1 << 15, 1 << 15, 32, ErrInvalidParams, "r * p below 2^30"},
 		{"a table of 2^64 bytes", 1 << 57, 1, 1, 32, ErrInvalidParams, "128 * r * 2^log_n below 2^64"},
 		{"r of 0 and a key that no memory holds", 16, 0, 1, 1 << 36, ErrInvalidParams, "r and p at least 1"},
-		{"no key", 16, 8, 1, 0, ErrInvalidOutputLen, "1 to 137438953440 bytes: keyLen is 0"},
+		{"no key", 16, 8, 1, 0, ErrInvalidOutputLen, "1 to 137438953440 bytes"},
 		{"a negative length", 16, 8, 1, -1, ErrInvalidOutputLen, "keyLen is -1"},
 		{"a byte too many", 16, 8, 1, 137438953441, ErrInvalidOutputLen, "keyLen is 137438953441"},
-		{"a table of 2^63 bytes", 1 << 56, 1, 1, 32, ErrOutOfMemory, "need 9223372036854776192 bytes, and the key 32"},
+		{"a table of 2^63 bytes", 1 << 56, 1, 1, 32, ErrOutOfMemory, "need 9223372036854776192 bytes, and keyLen is 32"},
 	} {
 		key, err := Key(nil, nil, it.n, it.r, it.p, it.keyLen)
 		if !errors.Is(err, it.want) || key != nil || !strings.Contains(err.Error(), it.words) {
@@ -77,19 +75,53 @@ func TestAKeyThatNoMemoryHolds(t *testing.T) {
 	}
 }
 
-func TestWordsOfErrors(t *testing.T) {
-	for _, e := range []Error{ErrClosed, ErrInvalidOption, ErrInvalidHash, ErrMismatch, ErrInvalidParams,
-		ErrInvalidOutputLen, ErrOutOfMemory, ErrAlgorithm, ErrEncodingInvalid, ErrOutputSize, ErrHashParamInvalid,
-		ErrHashParamsInvalid, ErrSaltInvalid, ErrVersion, ErrTooCostly, ErrNoRandomBytes, ErrKeyTooShort} {
-		if !strings.HasPrefix(e.Error(), "scrypt: ") || strings.Contains(e.Error(), "unknown") {
-			t.Errorf("%d has no words: %s", int(e), e)
+// Each status of the header has words, and is an error of this package unless it cannot come here.
+func TestStatusesOfTheHeader(t *testing.T) {
+	header, err := os.ReadFile("scrypt_c.h")
+	if err != nil {
+		t.Fatal(err)
+	}
+	of := map[string]Error{"MISMATCH": ErrMismatch, "INVALID_PARAMS": ErrInvalidParams,
+		"INVALID_OUTPUT_LEN": ErrInvalidOutputLen, "OUT_OF_MEMORY": ErrOutOfMemory, "ALGORITHM": ErrAlgorithm,
+		"ENCODING_INVALID": ErrEncodingInvalid, "OUTPUT_SIZE": ErrOutputSize, "HASH_PARAM_INVALID": ErrHashParamInvalid,
+		"HASH_PARAMS_INVALID": ErrHashParamsInvalid, "SALT_INVALID": ErrSaltInvalid, "VERSION": ErrVersion,
+		"TOO_COSTLY": ErrTooCostly, "NO_RANDOM_BYTES": ErrNoRandomBytes, "KEY_TOO_SHORT": ErrKeyTooShort,
+		"CLOSED": ErrClosed, "UNSUPPORTED": ErrUnsupported}
+	const noErrors = " OK NEEDS_REHASH BUFFER_SIZE NULL_POINTER TIMEOUT CANCELLED "
+	found := regexp.MustCompile(`(?m)^  SCRYPT_(\w+) = (\d+)`).FindAllStringSubmatch(string(header), -1)
+	for _, it := range found {
+		status, _ := strconv.Atoi(it[2])
+		e, isError := of[it[1]]
+		if isError == strings.Contains(noErrors, " "+it[1]+" ") || isError && int(e) != status {
+			t.Errorf("%s: %d", it[0], int(e))
 		}
-		isHash := errors.Is(e, ErrInvalidHash)
-		if want := e == ErrInvalidHash || e >= 5 && e <= 9 || e == 11; isHash != want {
-			t.Errorf("%v is ErrInvalidHash: %v", e, isHash)
+		if words := Error(status).Error(); !strings.HasPrefix(words, "scrypt: ") || strings.Contains(words, "unknown") {
+			t.Errorf("%s: %s", it[0], words)
 		}
+		if want := status >= 5 && status <= 9 || status == 11; errors.Is(Error(status), ErrInvalidHash) != want {
+			t.Errorf("%s is ErrInvalidHash: %v", it[0], !want)
+		}
+	}
+	if len(found) != len(of)+len(strings.Fields(noErrors)) {
+		t.Errorf("%d statuses", len(found))
 	}
 	if text := Error(99).Error(); !strings.Contains(text, "unknown status") {
 		t.Errorf("a status of a newer library: %s", text)
+	}
+}
+
+func TestCalibrate(t *testing.T) {
+	params, err := Calibrate(50*time.Millisecond, 32<<20)
+	if err != nil || params.LogN < 10 || params.LogN > 15 || params.R != 8 || params.P < 1 || params.KeyLen != 32 {
+		t.Errorf("%+v, %v", params, err)
+	}
+	for _, it := range []struct {
+		why    string
+		target time.Duration
+		bytes  uint64
+	}{{"no time", time.Microsecond, 32 << 20}, {"a negative time", -time.Hour, 32 << 20}, {"no memory", time.Second, 1000}} {
+		if params, err := Calibrate(it.target, it.bytes); err != ErrTooCostly || params != (Params{}) {
+			t.Errorf("%s: %+v, %v", it.why, params, err)
+		}
 	}
 }

@@ -3,5 +3,5 @@
 package scrypt
 
 // #cgo CFLAGS: -I${SRCDIR} -DSCRYPT_BUNDLED
-// #cgo LDFLAGS: ${SRCDIR}/libscrypt_c.a
+// #cgo LDFLAGS: ${SRCDIR}/libscrypt_c.a -lpthread
 import "C"

@@ -1,7 +1,7 @@
 //go:build cgo && linux && amd64
 
 // Package scrypt derives keys with scrypt (RFC 7914), and makes and verifies scrypt password hashes, on top of the library
-// libscrypt_c, whose calls are proved. The package calls it through cgo, and is tested, not proved.
+// libscrypt_c over proved code. The package calls it through cgo, and is tested, not proved.
 //
 //	hasher, err := scrypt.NewHasher(scrypt.Options{})
 //	..
@@ -15,10 +15,23 @@
 // scrypt_system, the installed library that pkg-config finds is linked instead.
 package scrypt
 
+// #include "library.h"
+import "C"
+
 import (
 	"fmt"
+	"math"
 	"math/bits"
 	"syscall"
+	"time"
+)
+
+// The default bounds on a hash: 257 MiB, four times the work of the recommended parameters, and the least length of its
+// key, or that of new keys if that is less.
+const (
+	MostBytes   uint64 = C.SCRYPT_MOST_BYTES
+	MostWork    uint64 = C.SCRYPT_MOST_WORK
+	LeastKeyLen        = C.SCRYPT_LEAST_KEY_LEN
 )
 
 // Params are the parameters of a hash: N = 2^LogN, the block size R, the parallelization P, and the length of the
@@ -30,35 +43,93 @@ type Params struct {
 
 // Recommended returns the recommended parameters, which take 128 MiB, with a key of 32 bytes.
 func Recommended() Params {
-	return Params{LogN: 17, R: 8, P: 1, KeyLen: 32}
+	return Params{
+		LogN:   C.SCRYPT_RECOMMENDED_LOG_N,
+		R:      C.SCRYPT_RECOMMENDED_R,
+		P:      C.SCRYPT_RECOMMENDED_P,
+		KeyLen: C.SCRYPT_KEY_LEN,
+	}
+}
+
+// Calibrate finds parameters by measuring this machine, now: the greatest LogN whose table has at most mostBytes bytes, and
+// then the greatest P, with which one derivation takes at most the target; R is 8, and KeyLen 32. It takes some four times
+// the target. ErrTooCostly if even a LogN of 10 takes longer, or needs more.
+func Calibrate(target time.Duration, mostBytes uint64) (Params, error) {
+	var logN C.uint8_t
+	var r, p C.uint32_t
+	err := failed(C.scrypt_calibrate(C.double(target.Seconds()), C.size_t(mostBytes), &logN, &r, &p))
+	if err != nil {
+		return Params{}, err
+	}
+	return Params{LogN: int(logN), R: int(r), P: int(p), KeyLen: C.SCRYPT_KEY_LEN}, nil
+}
+
+// ParamsOf returns the parameters of a hash, with a KeyLen of 0 if it has no key. Its errors match ErrInvalidHash
+// (errors.Is).
+func ParamsOf(text string) (Params, error) {
+	raw := []byte(text)
+	var logN C.uint8_t
+	var r, p C.uint32_t
+	var keyLen C.size_t
+	if err := failed(C.scrypt_hash_params(chars(raw), size(raw), &logN, &r, &p, &keyLen)); err != nil {
+		return Params{}, err
+	}
+	return Params{LogN: int(logN), R: int(r), P: int(p), KeyLen: int(keyLen)}, nil
+}
+
+// Memory returns the number of bytes of a derivation's buffers, at most math.MaxUint64, or ErrInvalidParams if LogN, R
+// and P are not accepted.
+func (params Params) Memory() (uint64, error) {
+	var chunks, table, scratch C.size_t
+	err := failed(C.scrypt_buffer_lens(octet(params.LogN), number(params.R), number(params.P), 0, &chunks, &table, &scratch))
+	sum, carry := bits.Add64(4*uint64(table), uint64(chunks)+4*uint64(scratch), 0)
+	if carry != 0 {
+		sum = math.MaxUint64
+	}
+	return sum, err
+}
+
+// Work returns the work of a derivation, which Options.MostWork bounds: 4 * (N + 32) * R * P Salsa20/8 cores, where 32
+// stands for PBKDF2. It is math.MaxUint64 if it would be more, or if the parameters are not accepted.
+func (params Params) Work() uint64 {
+	if _, err := params.Memory(); err != nil {
+		return math.MaxUint64
+	}
+	high, low := bits.Mul64(4*uint64(params.R)*uint64(params.P), 1<<params.LogN+32)
+	if high != 0 {
+		return math.MaxUint64
+	}
+	return low
 }
 
 // Key returns the key of keyLen bytes of a password and a salt. N is a power of two. To errors.Is the errors are
 // ErrInvalidParams, ErrInvalidOutputLen, and ErrOutOfMemory if the memory for the table or for the key is not available.
 func Key(password, salt []byte, N, r, p, keyLen int) ([]byte, error) {
-	if N < 1 || N&(N-1) != 0 {
-		return nil, fmt.Errorf("%w: N is %d, and has to be a power of two", ErrInvalidParams, N)
-	}
 	params := Params{LogN: bits.TrailingZeros(uint(N)), R: r, P: p}
 	memory, err := params.Memory()
-	if err != nil {
+	switch {
+	case N < 1 || N&(N-1) != 0:
+		return nil, fmt.Errorf("%w: N is %d, and has to be a power of two", ErrInvalidParams, N)
+	case err != nil:
 		return nil, fmt.Errorf("%w: N is %d, r is %d and p is %d", err, N, r, p)
-	}
-	if keyLen < 1 || keyLen > maxOutputLen {
-		return nil, fmt.Errorf("%w: keyLen is %d", ErrInvalidOutputLen, keyLen)
 	}
 	key, err := newKey(keyLen)
 	if err == nil {
-		err = deriveKey(password, salt, params, key)
+		err = failed(C.scrypt_key(pointer(password), size(password), pointer(salt), size(salt), octet(params.LogN), number(r),
+			number(p), bytes(key), size(key)))
 	}
 	if err != nil {
-		return nil, fmt.Errorf("%w: N %d, r %d and p %d need %d bytes, and the key %d", err, N, r, p, memory, keyLen)
+		return nil, fmt.Errorf("%w: N %d, r %d and p %d need %d bytes, and keyLen is %d", err, N, r, p, memory, keyLen)
 	}
 	return key, nil
 }
 
-// newKey returns n bytes, or ErrOutOfMemory. It uses mmap because make crashes the process if memory runs out.
+// newKey returns n bytes, ErrInvalidOutputLen or ErrOutOfMemory. It tries mmap, because make crashes the process if memory
+// runs out.
 func newKey(n int) ([]byte, error) {
+	if n < 1 || n > C.SCRYPT_MAX_OUTPUT_LEN {
+		return nil, ErrInvalidOutputLen
+	}
 	if n > 1<<20 {
 		tried, err := syscall.Mmap(-1, 0, n, syscall.PROT_READ|syscall.PROT_WRITE, syscall.MAP_ANON|syscall.MAP_PRIVATE)
 		if err != nil {

@@ -1,6 +1,7 @@
 #!/bin/sh
 # Tests the Go module with the library of build/lib, and installs it as go get and go mod vendor do. With the word short:
 # its own tests alone.
+unset CDPATH
 cd "$(dirname "$0")/../.."
 . bindings/common.sh
 has go golang-go && has gcc gcc || exit 0
@@ -21,7 +22,7 @@ echo "no report by go vet, gofmt and the race detector"
 
 # What a build prints where something is missing: the module in a folder of its own, with neither file of the library.
 mkdir "$room/bare"
-cp bindings/go/*.go bindings/go/go.mod "$room/bare"
+cp bindings/go/*.go bindings/go/library.h bindings/go/go.mod "$room/bare"
 refused() {
   words=$1
   shift

@@ -1,6 +1,7 @@
 #!/bin/sh
-# Tests the Python package over the library of build/lib, with Django and passlib if they are here; installs it into a
-# fresh virtual environment, and builds its wheel. With the word short: its own tests of keys, hashes and the library.
+# Tests the Python package over the library of build/lib, with gevent, Django and passlib if they are here; installs it into
+# a fresh virtual environment, and builds its wheel. With the word short: its own tests of keys, hashes and the library.
+unset CDPATH
 cd "$(dirname "$0")/../.."
 . bindings/common.sh
 has python3 python3 || exit 0
@@ -14,13 +15,13 @@ run() {
 }
 PYTHONPATH=$PWD/bindings/python
 export PYTHONPATH
-for test in test_keys test_numbers test_words test_library; do PYTHONWARNINGS=error run python3 $test; done
+for test in test_keys test_numbers test_words test_library test_migration; do PYTHONWARNINGS=error run python3 $test; done
 if [ "${1:-}" = short ]; then
   run python3 test_hasher Hashes
   echo "called from Python"
   exit
 fi
-for test in test_hasher test_bounds test_turns test_processes test_pairs; do PYTHONWARNINGS=error run python3 $test; done
+for test in test_hasher test_threads; do PYTHONWARNINGS=error run python3 $test; done
 echo "called from Python"
 
 # What the interpreter does with its own copies of the outputs is none of this: so that it doesn't save registers while it
@@ -29,11 +30,11 @@ if has gcc gcc; then
   gcc -O2 -fPIC -shared bindings/c/traces.c -o "$room/traces.so"
   python3 bindings/c/traces.py "$lib/libscrypt_c.so" > "$room/secrets"
   LD_BIND_NOW=1 python3 "$tests/test_traces.py" "$room/secrets" "$room/traces.so"
-  echo "no trace of the password, the blocks or the key: hashes, verifying, two at once and keys from Python"
+  echo "no trace of the password, the blocks or the key: hashes, verifying, together too, and keys from Python"
 fi
 
 # Debian's interpreter, which has Debian's packages.
-for framework in django passlib; do
+for framework in gevent django passlib; do
   if /usr/bin/python3 -c "import $framework" 2> /dev/null; then
     run /usr/bin/python3 test_$framework
     echo "called from $framework $(/usr/bin/python3 -c "import $framework; print($framework.__version__)")"
@@ -52,7 +53,7 @@ if /usr/bin/python3 -c 'import venv, ensurepip, hatchling' 2> /dev/null; then
   }
   install by_folder ./bindings/python
   run "$room/by_folder/bin/python" test_hasher
-  run "$room/by_folder/bin/python" test_bounds
+  run "$room/by_folder/bin/python" test_threads Processes
   (cd bindings/python && /usr/bin/python3 -m hatchling build -t sdist -d "$room/source" > /dev/null)
   (cd "$room/source" && tar xzf ./*.tar.gz && cd scrypt_c-*/ && /usr/bin/python3 -m hatchling build -t wheel -d "$room/wheels" > /dev/null)
   install by_wheel "$(echo "$room"/wheels/*.whl)"

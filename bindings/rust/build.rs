@@ -20,6 +20,11 @@ fn link(place: &Path) -> Result<(), String> {
     println!("cargo:rerun-if-changed={}", file.display());
     println!("cargo:rustc-link-search=native={}", folder.display());
     println!("cargo:rustc-link-lib={}=scrypt_c", if is_static { "static" } else { "dylib" });
+    if is_static {
+        println!("cargo:rustc-link-lib=pthread");
+    }
+    // Tests look for the header there.
+    println!("cargo:rustc-env=SCRYPT_C_FOLDER={}", folder.display());
     Ok(())
 }
 

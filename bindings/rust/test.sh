@@ -1,6 +1,7 @@
 #!/bin/sh
 # Tests the Rust crate over the library of build/lib, and its package in a folder of its own. Cargo resolves the optional
 # dependency password-hash in any case, which is Debian's. With the word short: its own tests alone.
+unset CDPATH
 cd "$(dirname "$0")/../.."
 . bindings/common.sh
 has cargo cargo || exit 0

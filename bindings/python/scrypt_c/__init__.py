@@ -1,4 +1,4 @@
-"""scrypt (RFC 7914) and its password hashes, on top of the library libscrypt_c, whose calls are proved.
+"""scrypt (RFC 7914) and its password hashes, on top of the library libscrypt_c over proved code.
 
     from scrypt_c import PasswordHasher, VerifyMismatchError
 
@@ -11,7 +11,7 @@
     if hasher.check_needs_rehash(text):
         ...                                   # store hasher.hash(password) in its place
 
-An untrusted hash chooses its own cost: one that needs more than 256 MiB, or more than four times the recommended work,
+An untrusted hash chooses its own cost: one that needs more than 257 MiB, or more than four times the recommended work,
 raises TooCostlyError before any work. Both bounds are arguments of PasswordHasher. A hash with a key of fewer than 16
 bytes raises KeyTooShortError.
 
@@ -22,7 +22,6 @@ this package is used, or else the one that the system's loader finds.
 """
 
 from .arguments import Bytes, Password
-from .bounds import LEAST_KEY_LEN, MOST_BYTES, MOST_CORES, MOST_WORK
 from .calibration import calibrate
 from .errors import (
     InvalidHashError,
@@ -36,14 +35,13 @@ from .errors import (
 )
 from .hasher import PasswordHasher
 from .key import scrypt
-from .params import RECOMMENDED, Params, params_of
+from .params import LEAST_KEY_LEN, MOST_BYTES, MOST_WORK, RECOMMENDED, Params, params_of
 
 __version__ = "0.12.0+proved.1"
 
 __all__ = [
     "LEAST_KEY_LEN",
     "MOST_BYTES",
-    "MOST_CORES",
     "MOST_WORK",
     "RECOMMENDED",
     "Bytes",

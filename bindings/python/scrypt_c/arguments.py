@@ -12,8 +12,9 @@ Password = Union[str, bytes, bytearray, memoryview]
 
 
 def raw_bytes(data: Bytes, what: str, kinds: str = "bytes-like") -> bytes:
-    """The bytes of a bytes-like object, without a copy if it is bytes. `bytes` alone would take a number for a length."""
-    if isinstance(data, bytes):
+    """The bytes of a bytes-like object, without a copy if it is bytes. `bytes` alone would take a number for a length. A
+    subclass is copied: its `len` may be another than that of its buffer."""
+    if type(data) is bytes:
         return data
     try:
         return memoryview(data).tobytes()
@@ -26,7 +27,7 @@ def raw_password(password: Password) -> bytes:
     if not isinstance(password, str):
         return raw_bytes(password, "a password", "a str or bytes-like")
     try:
-        return password.encode()
+        return str.encode(password)
     except UnicodeEncodeError:
         pass  # It holds the whole password, so it is neither raised nor the context of what is.
     raise UnicodeError("a password has a lone surrogate, which UTF-8 cannot encode")
@@ -35,9 +36,9 @@ def raw_password(password: Password) -> bytes:
 def raw_text(text: Union[str, bytes]) -> bytes:
     """The bytes of a hash's text. The library refuses characters outside ASCII where the format does."""
     if isinstance(text, str):
-        return text.encode(errors="surrogatepass")
+        return str.encode(text, errors="surrogatepass")
     if isinstance(text, bytes):
-        return text
+        return raw_bytes(text, "a hash")
     raise TypeError(f"a hash is a str or bytes, not {type(text).__name__}")
 
 
@@ -47,6 +48,11 @@ def number(value: int, what: str) -> int:
         return operator.index(value)
     except TypeError:
         raise TypeError(f"{what} is an int, not {type(value).__name__}") from None
+
+
+def in_64_bits(value: int, what: str) -> int:
+    """A bound as C's types hold it: one above 64 bits allows all, and one below 1 as little as 1. A 0 is a default in C."""
+    return min(max(number(value, what), 1), (1 << 64) - 1)
 
 
 def seconds(value: Optional[float], what: str) -> Optional[float]:

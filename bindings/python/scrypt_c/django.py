@@ -20,18 +20,17 @@ Parameters and bounds are attributes. Put a subclass of your own into the list t
 from __future__ import annotations
 
 import base64
-from typing import Any, Optional
+from typing import Any
 
 from django.contrib.auth.hashers import BasePasswordHasher, mask_hash
 from django.utils.crypto import constant_time_compare
 from django.utils.translation import gettext_noop as _
 
 from .arguments import raw_password
-from .bounds import MOST_BYTES, MOST_WORK, Bounds
 from .errors import InvalidHashError, VerifyMismatchError
 from .hasher import PasswordHasher
 from .key import scrypt
-from .params import Params
+from .params import MOST_BYTES, MOST_WORK, Params, check_within
 
 
 class ScryptPasswordHasher(BasePasswordHasher):
@@ -43,7 +42,6 @@ class ScryptPasswordHasher(BasePasswordHasher):
     parallelism = 1
     most_bytes = MOST_BYTES
     most_work = MOST_WORK
-    most_cores: Optional[int] = None  # deprecated: most_work, if a subclass sets it
 
     def encode(self, password: str, salt: str, n: Any = None, r: Any = None, p: Any = None) -> str:
         if password is None:
@@ -54,9 +52,8 @@ class ScryptPasswordHasher(BasePasswordHasher):
         r = self.block_size if r is None else r
         p = self.parallelism if p is None else p
         if n > 0 and not n & (n - 1):  # scrypt refuses another n
-            most_work = self.most_work if self.most_cores is None else self.most_cores
-            Bounds(self.most_bytes, most_work).check_params(Params(n.bit_length() - 1, r, p))
-        key = scrypt(raw_password(password), salt=salt.encode(), n=n, r=r, p=p, dklen=64)
+            check_within(Params(n.bit_length() - 1, r, p), self.most_bytes, self.most_work)
+        key = scrypt(raw_password(password), salt=salt.encode(), n=n, r=r, p=p, maxmem=self.most_bytes, dklen=64)
         return f"{self.algorithm}${n}${salt}${r}${p}${base64.b64encode(key).decode()}"
 
     def decode(self, encoded: str) -> dict[str, Any]:

@@ -4,6 +4,7 @@ from __future__ import annotations
 
 import ctypes
 import os
+from typing import Any
 
 SONAME = "libscrypt_c.so.0"
 # Where a folder has the library for x86-64-v3, and what Linux calls the features of that processor beside x86-64-v2.
@@ -44,47 +45,68 @@ def _loaded() -> ctypes.CDLL:
 
 
 _lib = _loaded()
+
+
+class Options(ctypes.Structure):
+    """scrypt_options: a field that is 0 has its default."""
+
+    _fields_ = [
+        ("size", ctypes.c_size_t),
+        *((name, ctypes.c_uint32) for name in ("log_n", "r", "p")),
+        ("mcf", ctypes.c_int),
+        *((name, ctypes.c_size_t) for name in ("key_len", "salt_len", "most_bytes")),
+        ("most_work", ctypes.c_uint64),
+        *((name, ctypes.c_size_t) for name in ("least_key_len", "at_once", "processors")),
+    ]
+
+
+class Needs(ctypes.Structure):
+    """A scrypt_needs."""
+
+    _fields_ = [
+        *((name, ctypes.c_uint32) for name in ("log_n", "r", "p")),
+        *((name, ctypes.c_size_t) for name in ("key_len", "tables", "chunks_len", "table_len", "scratch_len")),
+    ]
+
+
+class Hasher(ctypes.c_void_p):
+    """A scrypt_hasher, which is freed with this object. As ctypes makes the object, no exception of a signal handler can
+    come before there is one."""
+
+    def __del__(self, free: Any = _lib.scrypt_hasher_free) -> None:
+        free(self)
+
+
+def _declared(name: str, arguments: list[Any], result: Any = ctypes.c_int) -> Any:
+    call = getattr(_lib, name)
+    call.argtypes, call.restype = arguments, result
+    return call
+
+
 _bytes = [ctypes.c_char_p, ctypes.c_size_t]
 _params = [ctypes.c_uint8, ctypes.c_uint32, ctypes.c_uint32]
-_bounds = [ctypes.c_size_t, ctypes.c_uint64]
+_params_out = [ctypes.POINTER(it) for it in _params]
 _size_out = ctypes.POINTER(ctypes.c_size_t)
-_text_out = [ctypes.c_size_t, ctypes.c_char_p, ctypes.c_size_t, _size_out]
+_wait = [ctypes.c_int64, ctypes.POINTER(ctypes.c_uint64)]
 
-buffer_lens = _lib.scrypt_buffer_lens
-buffer_lens.argtypes = [*_params, ctypes.c_uint8, _size_out, _size_out, _size_out]
-kdf = _lib.scrypt_kdf_mapped
-kdf.argtypes = [*_bytes, *_bytes, *_params, *_bytes]
-hash_needs = _lib.scrypt_hash_needs
-hash_needs.argtypes = [*_bytes, *_bounds, ctypes.c_size_t, _size_out, _size_out, _size_out]
-params_need = _lib.scrypt_params_need
-params_need.argtypes = [*_params, *_bounds, _size_out, _size_out, _size_out]
-memory_new = _lib.scrypt_memory_new
-memory_new.argtypes = _bounds
-memory_new.restype = ctypes.c_void_p
-memory_set_least_key_len = _lib.scrypt_memory_set_least_key_len
-memory_set_least_key_len.argtypes = [ctypes.c_void_p, ctypes.c_size_t]
-memory_set_least_key_len.restype = None
-memory_free = _lib.scrypt_memory_free
-memory_free.argtypes = [ctypes.c_void_p]
-memory_free.restype = None
-hash_phc = _lib.scrypt_hash_phc_in
-hash_phc.argtypes = [ctypes.c_void_p, *_bytes, *_bytes, *_params, *_text_out]
-hash_mcf = _lib.scrypt_hash_mcf_in
-hash_mcf.argtypes = hash_phc.argtypes
-verify = _lib.scrypt_verify_in
-verify.argtypes = [ctypes.c_void_p, *_bytes, *_bytes]
-verify_two = _lib.scrypt_verify_two_in
-verify_two.argtypes = [ctypes.c_void_p, *2 * [*_bytes, *_bytes, ctypes.POINTER(ctypes.c_int)]]
-verify_two.restype = None
-hash_params = _lib.scrypt_hash_params
-hash_params.argtypes = [*_bytes, *map(ctypes.POINTER, _params), _size_out]
-needs_rehash = _lib.scrypt_needs_rehash
-needs_rehash.argtypes = [*_bytes, *_params, ctypes.c_size_t]
+buffer_lens = _declared("scrypt_buffer_lens", [*_params, ctypes.c_uint8, *3 * [_size_out]])
+params_need = _declared("scrypt_params_need", [*_params, ctypes.c_size_t, ctypes.c_uint64, ctypes.POINTER(Needs)])
+key = _declared("scrypt_key", [*_bytes, *_bytes, *_params, *_bytes])
+hash_params = _declared("scrypt_hash_params", [*_bytes, *_params_out, _size_out])
+calibrate = _declared("scrypt_calibrate", [ctypes.c_double, ctypes.c_size_t, *_params_out])
+_declared("scrypt_hasher_free", [Hasher], None)
+hasher_new = _declared("scrypt_hasher_new", [ctypes.POINTER(Options), ctypes.POINTER(ctypes.c_int)], Hasher)
+hasher_options = _declared("scrypt_hasher_options", [Hasher], ctypes.POINTER(Options))
+hasher_verify = _declared("scrypt_hasher_verify", [Hasher, *_bytes, *_bytes, *_wait])
+hasher_hash = _declared("scrypt_hasher_hash", [Hasher, *_bytes, *_bytes, *_bytes, *_wait])
+hasher_key = _declared("scrypt_hasher_key", [Hasher, *_bytes, *_bytes, *_bytes, *_wait])
+hasher_needs_rehash = _declared("scrypt_hasher_needs_rehash", [Hasher, *_bytes])
+hasher_close = _declared("scrypt_hasher_close", [Hasher], None)
 
 # As in scrypt_c.h.
-PHC_CAPACITY = 256
 MAX_OUTPUT_LEN = 32 * (2**32 - 1)
 
 
-def mcf_capacity(salt_len: int) -> int:
-    return 128 + 2 * salt_len
+def text_capacity(salt_len: int) -> int:
+    """Enough for a text of either format."""
+    return 256 + 2 * salt_len

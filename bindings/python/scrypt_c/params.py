@@ -1,19 +1,19 @@
-"""The parameters of a derivation."""
+"""The parameters of a derivation, and what they cost."""
 
 from __future__ import annotations
 
 import ctypes
-from typing import NamedTuple, Union
+from typing import NamedTuple, Optional, Union
 
 from . import library
-from .arguments import number, raw_text
-from .errors import INVALID_PARAMS, OUT_OF_MEMORY, check
+from .arguments import in_64_bits, number, raw_text
+from .errors import INVALID_PARAMS, OUT_OF_MEMORY, TOO_COSTLY, check
 
 
 def accepted(log_n: int, r: int, p: int) -> tuple[int, int, int]:
-    """The three, if they fit C's types: ctypes would truncate them."""
+    """The three, if they fit C's types: ctypes would truncate them. r and p are never 0, which could be a default in C."""
     log_n, r, p = number(log_n, "log_n"), number(r, "r"), number(p, "p")
-    if not (0 <= log_n < 1 << 8 and 0 <= r < 1 << 32 and 0 <= p < 1 << 32):
+    if not (0 <= log_n < 1 << 8 and 0 < r < 1 << 32 and 0 < p < 1 << 32):
         check(INVALID_PARAMS, f"log_n={log_n}, r={r}, p={p}")
     return log_n, r, p
 
@@ -43,23 +43,44 @@ class Params(NamedTuple):
         """The number of bytes of the buffers of a derivation."""
         log_n, r, p = accepted(self.log_n, self.r, self.p)
         lens = [ctypes.c_size_t() for _ in range(3)]
-        check(library.buffer_lens(log_n, r, p, 0, *map(ctypes.byref, lens)), f"log_n={log_n}, r={r}, p={p}")
+        check(library.buffer_lens(log_n, r, p, 0, *lens), f"log_n={log_n}, r={r}, p={p}")
         chunks, table, scratch = (it.value for it in lens)
         return chunks + 4 * table + 4 * scratch
+
+    @property
+    def _costs(self) -> str:
+        """For the message of an error, of parameters that are accepted."""
+        return f"log_n={self.log_n}, r={self.r}, p={self.p} need {self.memory} bytes and a work of {self.work}"
 
 
 RECOMMENDED = Params()
 
+# The default bounds on the cost of a hash, and on the length of its key.
+MOST_BYTES = 257 << 20
+MOST_WORK = 4 * RECOMMENDED.work
+LEAST_KEY_LEN = 16
 
-def check_derived(status: int, params: Params) -> None:
-    """Raises the error of a derivation with these parameters; a MemoryError has how much was asked for."""
-    log_n, r, p, _ = params
-    check(status, f"log_n={log_n}, r={r}, p={p} need {params.memory} bytes" if status == OUT_OF_MEMORY else "")
+
+def check_costs(status: int, params: Params, most_bytes: Optional[int], most_work: Optional[int]) -> None:
+    """Raises the error of a status for these parameters and bounds, of which None is a default."""
+    about = f"log_n={params.log_n}, r={params.r}, p={params.p}"
+    if status == OUT_OF_MEMORY:
+        about = params._costs
+    if status == TOO_COSTLY:
+        about = f"{params._costs}, with most_bytes={most_bytes} and most_work={most_work}"
+    check(status, about)
+
+
+def check_within(params: Params, most_bytes: int, most_work: int) -> None:
+    """Raises TooCostlyError if a derivation with these parameters needs more, and InvalidParamsError."""
+    most = in_64_bits(most_bytes, "most_bytes"), in_64_bits(most_work, "most_work")
+    needs = library.Needs()
+    check_costs(library.params_need(*accepted(*params[:3]), *most, needs), params, most_bytes, most_work)
 
 
 def params_of(text: Union[str, bytes]) -> Params:
     """The parameters of a hash; `key_len` is 0 if it has no key. Raises InvalidHashError if it is not a scrypt hash."""
     raw = raw_text(text)
-    log_n, r, p, key_len = ctypes.c_uint8(), ctypes.c_uint32(), ctypes.c_uint32(), ctypes.c_size_t()
-    check(library.hash_params(raw, len(raw), *map(ctypes.byref, (log_n, r, p, key_len))))
-    return Params(log_n.value, r.value, p.value, key_len.value)
+    found = ctypes.c_uint8(), ctypes.c_uint32(), ctypes.c_uint32(), ctypes.c_size_t()
+    check(library.hash_params(raw, len(raw), *found))
+    return Params(*(it.value for it in found))

@@ -14,9 +14,8 @@ from __future__ import annotations
 import passlib.hash
 
 from .arguments import raw_password
-from .bounds import MOST_BYTES, MOST_WORK, Bounds
 from .key import scrypt as _derive
-from .params import Params
+from .params import MOST_BYTES, MOST_WORK, Params, check_within
 
 
 class scrypt(passlib.hash.scrypt):  # passlib names handlers as their scheme
@@ -25,13 +24,11 @@ class scrypt(passlib.hash.scrypt):  # passlib names handlers as their scheme
     default_rounds = 17
     most_bytes = MOST_BYTES
     most_work = MOST_WORK
-    most_cores: int | None = None  # deprecated: most_work, if a subclass sets it
 
     def _calc_checksum(self, secret: str | bytes) -> bytes:
-        most_work = self.most_work if self.most_cores is None else self.most_cores
-        Bounds(self.most_bytes, most_work).check_params(Params(self.rounds, self.block_size, self.parallelism))
+        check_within(Params(self.rounds, self.block_size, self.parallelism), self.most_bytes, self.most_work)
         derived = {"n": 1 << self.rounds, "r": self.block_size, "p": self.parallelism, "dklen": self.checksum_size}
-        return _derive(raw_password(secret), salt=self.salt, **derived)
+        return _derive(raw_password(secret), salt=self.salt, maxmem=self.most_bytes, **derived)
 
     def _calc_needs_update(self, **kwds: object) -> bool:
         # With vary_rounds new hashes may have fewer than default_rounds too.

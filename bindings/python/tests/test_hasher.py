@@ -1,4 +1,4 @@
-"""PasswordHasher: both formats, and what is refused. Bounds have tests of their own."""
+"""PasswordHasher: both formats, and what is refused."""
 
 import pickle
 import unittest
@@ -48,6 +48,18 @@ class Hashes(unittest.TestCase):
         with self.assertRaises(TypeError):
             SMALL.hash("pw", salt="saltsalt")
 
+    def test_types_that_lie(self):
+        """A subclass of bytes or str is what its buffer has, whatever its methods return."""
+        secret, text = "pw", SMALL.hash("pw")
+        for call, why in [
+            (lambda: SMALL.verify(LyingBytes(text, "ascii"), LyingBytes(secret, "ascii")), "bytes"),
+            (lambda: SMALL.verify(LyingStr(text), LyingStr(secret)), "str"),
+            (lambda: SMALL.verify(SMALL.hash(secret, salt=LyingBytes(b"salt")), secret), "a salt"),
+            (lambda: scrypt_c.scrypt(LyingBytes(b"pw"), salt=LyingBytes(b"salt"), n=16, r=8, p=1)
+             == scrypt_c.scrypt(b"pw", salt=b"salt", n=16, r=8, p=1), "a key"),
+        ]:
+            self.assertTrue(call(), why)
+
     def test_a_lone_surrogate(self):
         """The error has nothing of the password, and no other error is its context, which would have it in full."""
         text = SMALL.hash("pw")
@@ -75,6 +87,10 @@ class Hashes(unittest.TestCase):
             ({"most_bytes": 128 << 20}, scrypt_c.TooCostlyError),
             ({"most_work": scrypt_c.RECOMMENDED.work - 1}, scrypt_c.TooCostlyError),
             ({"most_bytes": "256"}, TypeError),
+            ({"log_n": 0, "r": 0, "p": 0}, scrypt_c.InvalidParamsError),
+            ({"timeout": -1}, ValueError),
+            ({"timeout": float("nan")}, ValueError),
+            ({"timeout": "1"}, TypeError),
             ({"log_n": "17"}, TypeError),
             ({"p": 1.0}, TypeError),
         ]:
@@ -86,6 +102,23 @@ class Hashes(unittest.TestCase):
         with self.assertRaises(MemoryError):
             PasswordHasher(log_n=56, r=1).hash("pw")
         self.assertTrue(PasswordHasher(log_n=19, r=8), "more than the default bounds, and asked for")
+
+    def test_bounds(self):
+        """Those of bytes and of work are each passed on exactly."""
+        text = PasswordHasher(log_n=6, r=3, p=5).hash("pw")
+        costs = scrypt_c.params_of(text)
+        for less, is_allowed, why in [
+            ({}, True, "just within"),
+            ({"most_bytes": 1}, False, "a byte less"),
+            ({"most_work": 1}, False, "one less of work"),
+            ({"most_bytes": costs.memory}, False, "no bytes at all, which is no default"),
+        ]:
+            within = {"most_bytes": costs.memory - less.get("most_bytes", 0), "most_work": costs.work - less.get("most_work", 0)}
+            for call in (lambda: PasswordHasher(4, 1, **within).verify(text, "pw"), lambda: PasswordHasher(6, 3, 5, **within)):
+                if is_allowed:
+                    self.assertTrue(call(), why)
+                else:
+                    self.assertRaises(scrypt_c.TooCostlyError, call)
 
     def test_refused_texts(self):
         for text, name in [
@@ -113,6 +146,22 @@ class Hashes(unittest.TestCase):
             SMALL.verify("", "")
         copy = pickle.loads(pickle.dumps(caught.exception))
         self.assertEqual((copy.name, str(copy)), (caught.exception.name, str(caught.exception)))
+
+
+class LyingBytes(bytes):
+    def __len__(self):
+        return 1 << 30
+
+    def __bytes__(self):
+        return b"other"
+
+
+class LyingStr(str):
+    def __len__(self):
+        return 1 << 30
+
+    def encode(self, *_, **more):
+        return LyingBytes(b"other")
 
 
 class OfTexts(unittest.TestCase):

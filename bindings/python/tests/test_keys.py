@@ -33,6 +33,15 @@ def limited(call):
         resource.setrlimit(resource.RLIMIT_AS, before)
 
 
+def peak(of_now=True):
+    """The most bytes of this process, from now on or from the last call on."""
+    if of_now:
+        with open("/proc/self/clear_refs", "w", encoding="ascii") as file:
+            file.write("5")
+    with open("/proc/self/status", encoding="ascii") as file:
+        return next(int(line.split()[1]) << 10 for line in file if line.startswith("VmHWM"))
+
+
 class Keys(unittest.TestCase):
     def test_keys_of_rfc_7914(self):
         for password, salt, n, r, p, key in KEYS:
@@ -54,6 +63,16 @@ class Keys(unittest.TestCase):
             for derive in (scrypt_c.scrypt, hashlib.scrypt):
                 with self.assertRaises(ValueError):
                     derive(b"pw", maxmem=bound - 1, **costs)
+
+    def test_maxmem_is_kept(self):
+        """Of several tables as many are used as it has room for."""
+        costs, one = {"salt": b"salt", "n": 1 << 15, "r": 8, "p": 4}, scrypt_c.Params(15, 8, 4).memory
+        keys = {scrypt_c.scrypt(b"pw", maxmem=bound, **costs) for bound in (0, one, 2 * one - 1, 2 * one, 1 << 70)}
+        self.assertEqual(keys, {hashlib.scrypt(b"pw", maxmem=4 * one, **costs)})
+        for bound, tables in [(one, 1), (2 * one - 1, 1), (2 * one, 2)]:
+            before = peak()
+            scrypt_c.scrypt(b"pw", maxmem=bound, **costs)
+            self.assertLess(abs(peak(of_now=False) - before - tables * one), one // 4)
 
     def test_refused_numbers(self):
         for numbers in ({"n": 3}, {"n": 0}, {"n": -2}, {"r": 0}, {"p": 1 << 32}, {"r": -1}, {"n": 1 << 57}, {"n": 1 << 300}):
@@ -96,16 +115,16 @@ class Keys(unittest.TestCase):
         self.assertEqual(scrypt_c.scrypt(bytearray(b"a"), salt=memoryview(b"b"), **SMALL), key)
 
     def test_calibrate(self):
-        for seconds, most_bytes, why in [
-            (0.01, 4 << 20, "the time is less than the memory would take"),
-            (60, 2 << 20, "the chunks take memory too"),
-            (1e9, 2 << 20, "p alone would not be accepted"),
+        for seconds, most_bytes, log_n, why in [
+            (60, 16 << 20, 14, "the memory is the table's"),
+            (60, (16 << 20) - 1, 13, "a byte less"),
+            (1e9, 1 << 20, 10, "more than the greatest p"),
         ]:
             params = scrypt_c.calibrate(seconds, most_bytes)
-            self.assertLessEqual(params.memory, most_bytes, why)
-            self.assertGreaterEqual(params.log_n, 10)
-            self.assertEqual(scrypt_c.PasswordHasher(*params).params, params)
-        for seconds, most_bytes in [(0, 1 << 30), (-1, 1 << 30), (float("nan"), 1 << 30), (1, 1 << 20)]:
+            self.assertEqual((params.log_n, params.r), (log_n, 8), why)
+            self.assertEqual(scrypt_c.PasswordHasher(*params, most_work=1 << 64).params, params, why)
+        self.assertLess(scrypt_c.calibrate(0.02, 1 << 30).log_n, 17, "the time is less than the memory would take")
+        for seconds, most_bytes in [(0, 1 << 30), (-1, 1 << 30), (float("nan"), 1 << 30)]:
             with self.assertRaises(ValueError):
                 scrypt_c.calibrate(seconds, most_bytes)
 

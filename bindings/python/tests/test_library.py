@@ -1,6 +1,7 @@
 """What the package exports, where the library is looked for, and what a missing one says."""
 
 import os
+import re
 import subprocess
 import sys
 import tempfile
@@ -8,9 +9,9 @@ import typing
 import unittest
 
 import scrypt_c
-import scrypt_c.library
+from scrypt_c import errors, library
 
-TRY = "import scrypt_c.library; print(scrypt_c.library._place())"
+TRY = "from scrypt_c import library; print(library._place())"
 
 
 def tried(place):
@@ -21,8 +22,8 @@ def tried(place):
 class Library(unittest.TestCase):
     def test_a_file_and_its_folder(self):
         named = os.environ["SCRYPT_C_LIBRARY"]
-        older, newer = os.path.join(named, "libscrypt_c.so.0"), os.path.join(named, scrypt_c.library.NEWER)
-        chosen = newer if scrypt_c.library._is_v3() and os.path.exists(newer) else older
+        older, newer = os.path.join(named, "libscrypt_c.so.0"), os.path.join(named, library.NEWER)
+        chosen = newer if library._is_v3() and os.path.exists(newer) else older
         for place, found in ((named, chosen), (older, older), (newer, newer)):
             if os.path.exists(found):
                 run = tried(place)
@@ -44,8 +45,8 @@ class Library(unittest.TestCase):
                 file.truncate()
                 file.write(text)
                 file.flush()
-                self.assertEqual(scrypt_c.library._is_v3(file.name), wanted, why)
-        self.assertFalse(scrypt_c.library._is_v3("/nowhere"))
+                self.assertEqual(library._is_v3(file.name), wanted, why)
+        self.assertFalse(library._is_v3("/nowhere"))
 
     def test_names(self):
         """What the package exports is there, with its version, and the types that callers annotate with."""
@@ -55,6 +56,23 @@ class Library(unittest.TestCase):
         self.assertEqual(typing.get_args(scrypt_c.Bytes), (bytes, bytearray, memoryview))
         with open(os.path.join(os.path.dirname(__file__), "../../../VERSION"), encoding="ascii") as file:
             self.assertEqual(scrypt_c.__version__, file.read().strip())
+
+    def test_as_in_the_header(self):
+        """The statuses, except those that no call from here returns or lets through; and the defaults."""
+        with open(os.path.join(os.path.dirname(__file__), "../../c/scrypt_c.h"), encoding="ascii") as file:
+            statuses = {name: int(number) for name, number in re.findall(r"^  SCRYPT_(\w+) = (\d+)", file.read(), re.M)}
+        for name in set(dir(errors)) & set(statuses):
+            self.assertEqual(getattr(errors, name), statuses[name], name)
+        for name in ("OK", "NEEDS_REHASH", "BUFFER_SIZE", "NULL_POINTER", "CANCELLED"):
+            del statuses[name]
+        self.assertEqual({name: number for number, (_, name, _) in errors.ERRORS.items()},
+                         {f"SCRYPT_{name}": number for name, number in statuses.items()})
+        for hasher in (library.hasher_new(None, None), scrypt_c.PasswordHasher()._c):
+            it = library.hasher_options(hasher).contents
+            self.assertEqual((it.log_n, it.r, it.p, it.key_len), scrypt_c.RECOMMENDED)
+            self.assertEqual((it.mcf, it.salt_len, it.processors), (0, 16, it.at_once // 2))
+            ours = scrypt_c.MOST_BYTES, scrypt_c.MOST_WORK, scrypt_c.LEAST_KEY_LEN
+            self.assertEqual((it.most_bytes, it.most_work, it.least_key_len), ours)
 
     def test_a_missing_one(self):
         for place in ("/nowhere", "/"):

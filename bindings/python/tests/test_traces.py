@@ -9,9 +9,7 @@ import sys
 import threading
 
 import scrypt_c
-from scrypt_c.turns import Wait
-from test_pairs import Calls, waiting
-from threads import processors
+from test_threads import busy, on_one_processor
 
 
 class Case(ctypes.Structure):
@@ -60,28 +58,17 @@ def verified(case, password, salt):
         del made  # what it keeps for the next time holds rows of the table
 
 
-def verified_in_a_pair(case, password, salt):
-    """This thread derives for another one too, which waits when the only turn is free again."""
-    with processors(1):
-        made = hasher(case)
-    text, turns, held = made.hash(password, salt=salt), made._memories._turns, Wait()
-    other = threading.Thread(target=made.verify, args=(text, password))
-
-    def release():
-        waiting(made, 1)
-        other.start()
-        waiting(made, 2)
-        turns.leave(held)
-
-    turns.take(held)
-    releasing = threading.Thread(target=release)
-    releasing.start()
-    with Calls() as calls:
-        assert made.verify(text, password)
-        releasing.join()
-        other.join()
-    assert (calls.ones, calls.twos) == (0, 1)
-    made.close()
+def verified_together(case, password, salt):
+    """Two threads wait for a third: one of them derives for both, as there is one processor."""
+    made = on_one_processor(log_n=case.log_n, r=case.r, p=case.p, at_once=2)
+    text = made.hash(password, salt=salt)
+    with busy(made, 1):
+        others = [threading.Thread(target=made.verify, args=(text, password)) for _ in range(2)]
+        for it in others:
+            it.start()
+    for it in others:
+        it.join()
+    del made
 
 
 def left_by(call, *arguments):
@@ -108,7 +95,7 @@ def main(secrets):
     while case := traces.traces_read(secrets.encode(), number):
         case = case.contents
         password, salt = leave_out(case.data("password")), case.data("salt")
-        for call in (key, hashed, verified, verified_in_a_pair):
+        for call in (key, hashed, verified, verified_together):
             found = left_by(call, case, password, salt)
             assert found == 0, f"{found} traces of {call.__name__}"
         other = bytearray(password)  # a second copy, to see that the search finds one

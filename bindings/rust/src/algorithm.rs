@@ -4,7 +4,7 @@ use crate::kdf::{Kdf, Pbkdf};
 use crate::password_hash::{
     CustomizedPasswordHasher, PasswordHasher, PasswordVerifier, Result, Version,
 };
-use crate::{mcf, phc, scrypt, Bounds, Error, Format, Hasher, Options, Params};
+use crate::{mcf, phc, scrypt, Error, Format, Hasher, Options, Params};
 
 /// scrypt with the parameters of new keys and hashes, with the names of the crate `scrypt`: `use scrypt_c::Scrypt` replaces
 /// `use scrypt::Scrypt`.
@@ -62,10 +62,13 @@ impl Scrypt {
     }
 
     fn verify(&self, password: &[u8], text: &str) -> Result<()> {
-        let bounds = Some(Bounds::USUAL.or_more(&self.params));
-        Hasher::new(Options { at_once: 1, bounds, ..Options::of(self.params) })?
-            .verify(text, password)
+        once(self.params, Format::Phc)?.verify(text, password)
     }
+}
+
+// A hasher for one call.
+fn once(params: Params, format: Format) -> Result<Hasher> {
+    Hasher::new(Options { params, format, at_once: 1, processors: 1, ..Options::default() })
 }
 
 impl From<Params> for Scrypt {
@@ -140,8 +143,7 @@ impl<H: Made> CustomizedPasswordHasher<H> for Scrypt {
         if version.is_some() {
             return Err(Error::Version);
         }
-        let options = Options { format: H::FORMAT, at_once: 1, ..Options::of(params) };
-        Hasher::new(options)?.hash_with_salt(password, salt).map(H::made)
+        once(params, H::FORMAT)?.hash_with_salt(password, salt).map(H::made)
     }
 }
 

@@ -1,6 +1,6 @@
 //! The calls of `scrypt_c.h`, and what they return.
 
-use std::os::raw::{c_char, c_int};
+use std::os::raw::{c_char, c_int, c_void};
 
 pub const OK: c_int = 0;
 pub const NEEDS_REHASH: c_int = 1;
@@ -18,44 +18,65 @@ pub const VERSION: c_int = 11;
 pub const TOO_COSTLY: c_int = 13;
 pub const NO_RANDOM_BYTES: c_int = 14;
 pub const KEY_TOO_SHORT: c_int = 15;
+pub const CLOSED: c_int = 17;
+pub const CANCELLED: c_int = 19;
+pub const UNSUPPORTED: c_int = 20;
 
-pub const PHC_CAPACITY: usize = 256;
-pub const fn mcf_capacity(salt_len: usize) -> usize {
-    128 + 2 * salt_len
+/// Enough for a text of either format.
+pub const fn text_capacity(salt_len: usize) -> usize {
+    256 + 2 * salt_len
 }
 
-/// `scrypt_memory`, which the library alone looks into.
+/// `scrypt_hasher`, which the library alone looks into.
 #[repr(C)]
-pub struct RawMemory {
+pub struct RawHasher {
     _inside: [u8; 0],
 }
 
-// The calls that derive a key: arguments before the password, and those after the parameters.
-macro_rules! deriving_calls {
-    ($($name:ident($($before:ident: $first:ty)?; $($after:ident: $last:ty),*);)*) => {
-        extern "C" {
-            $(pub fn $name(
-                $($before: $first,)?
-                password: *const u8,
-                password_len: usize,
-                salt: *const u8,
-                salt_len: usize,
-                log_n: u8,
-                r: u32,
-                p: u32,
-                $($after: $last),*
-            ) -> c_int;)*
-        }
-    };
+/// `scrypt_options`. The library refuses another size.
+#[repr(C)]
+#[derive(Default)]
+pub struct RawOptions {
+    pub size: usize,
+    pub log_n: u32,
+    pub r: u32,
+    pub p: u32,
+    pub mcf: c_int,
+    pub key_len: usize,
+    pub salt_len: usize,
+    pub most_bytes: usize,
+    pub most_work: u64,
+    pub least_key_len: usize,
+    pub at_once: usize,
+    pub processors: usize,
 }
 
-deriving_calls! {
-    scrypt_kdf_mapped(; output: *mut u8, output_len: usize);
-    scrypt_hash_phc_in(memory: *mut RawMemory; key_len: usize, text: *mut c_char, capacity: usize, text_len: *mut usize);
-    scrypt_hash_mcf_in(memory: *mut RawMemory; key_len: usize, text: *mut c_char, capacity: usize, text_len: *mut usize);
+/// `scrypt_needs`.
+#[repr(C)]
+#[derive(Default)]
+pub struct RawNeeds {
+    pub log_n: u32,
+    pub r: u32,
+    pub p: u32,
+    pub key_len: usize,
+    pub tables: usize,
+    pub chunks_len: usize,
+    pub table_len: usize,
+    pub scratch_len: usize,
 }
 
 extern "C" {
+    pub fn scrypt_key(
+        password: *const c_void,
+        password_len: usize,
+        salt: *const c_void,
+        salt_len: usize,
+        log_n: u8,
+        r: u32,
+        p: u32,
+        output: *mut u8,
+        output_len: usize,
+    ) -> c_int;
     pub fn scrypt_buffer_lens(
         log_n: u8,
         r: u32,
@@ -65,33 +86,13 @@ extern "C" {
         table: *mut usize,
         scratch: *mut usize,
     ) -> c_int;
-    pub fn scrypt_verify_in(
-        memory: *mut RawMemory,
-        password: *const u8,
-        password_len: usize,
-        text: *const c_char,
-        text_len: usize,
-    ) -> c_int;
-    pub fn scrypt_verify_two_in(
-        memory: *mut RawMemory,
-        password: *const u8,
-        password_len: usize,
-        text: *const c_char,
-        text_len: usize,
-        status: *mut c_int,
-        other_password: *const u8,
-        other_password_len: usize,
-        other_text: *const c_char,
-        other_text_len: usize,
-        other_status: *mut c_int,
-    );
-    pub fn scrypt_needs_rehash(
-        text: *const c_char,
-        text_len: usize,
+    pub fn scrypt_params_need(
         log_n: u8,
         r: u32,
         p: u32,
-        key_len: usize,
+        most_bytes: usize,
+        most_work: u64,
+        needs: *mut RawNeeds,
     ) -> c_int;
     pub fn scrypt_hash_params(
         text: *const c_char,
@@ -101,28 +102,53 @@ extern "C" {
         p: *mut u32,
         key_len: *mut usize,
     ) -> c_int;
-    pub fn scrypt_hash_needs(
+    pub fn scrypt_draw_salt(salt: *mut u8, len: usize) -> c_int;
+    pub fn scrypt_calibrate(
+        seconds: f64,
+        most_bytes: usize,
+        log_n: *mut u8,
+        r: *mut u32,
+        p: *mut u32,
+    ) -> c_int;
+    pub fn scrypt_hasher_new(options: *const RawOptions, status: *mut c_int) -> *mut RawHasher;
+    #[cfg(test)]
+    pub fn scrypt_hasher_options(hasher: *const RawHasher) -> *const RawOptions;
+    pub fn scrypt_hasher_verify(
+        hasher: *mut RawHasher,
+        password: *const c_void,
+        password_len: usize,
         text: *const c_char,
         text_len: usize,
-        most_bytes: usize,
-        most_work: u64,
-        least_key_len: usize,
-        chunks_len: *mut usize,
-        table_len: *mut usize,
-        scratch_len: *mut usize,
+        most_ms: i64,
+        place: *mut u64,
     ) -> c_int;
-    pub fn scrypt_params_need(
-        log_n: u8,
-        r: u32,
-        p: u32,
-        most_bytes: usize,
-        most_work: u64,
-        chunks_len: *mut usize,
-        table_len: *mut usize,
-        scratch_len: *mut usize,
+    pub fn scrypt_hasher_hash(
+        hasher: *mut RawHasher,
+        password: *const c_void,
+        password_len: usize,
+        salt: *const c_void,
+        salt_len: usize,
+        text: *mut c_char,
+        capacity: usize,
+        most_ms: i64,
+        place: *mut u64,
     ) -> c_int;
-    pub fn scrypt_memory_new(most_bytes: usize, most_work: u64) -> *mut RawMemory;
-    pub fn scrypt_memory_set_least_key_len(memory: *mut RawMemory, least_key_len: usize);
-    pub fn scrypt_memory_free(memory: *mut RawMemory);
-    pub fn scrypt_draw_salt(salt: *mut u8, len: usize) -> c_int;
+    pub fn scrypt_hasher_key(
+        hasher: *mut RawHasher,
+        password: *const c_void,
+        password_len: usize,
+        salt: *const c_void,
+        salt_len: usize,
+        key: *mut u8,
+        key_len: usize,
+        most_ms: i64,
+        place: *mut u64,
+    ) -> c_int;
+    pub fn scrypt_hasher_needs_rehash(
+        hasher: *const RawHasher,
+        text: *const c_char,
+        text_len: usize,
+    ) -> c_int;
+    pub fn scrypt_hasher_close(hasher: *mut RawHasher);
+    pub fn scrypt_hasher_free(hasher: *mut RawHasher);
 }

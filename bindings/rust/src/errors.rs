@@ -51,6 +51,12 @@ pub enum Error {
     KeyTooShort,
     /// The system has no random bytes for a salt.
     NoRandomBytes,
+    /// The hasher is closed.
+    Closed,
+    /// This is a child process that a signal handler forked during the call.
+    Cancelled,
+    /// The system is too old for a hasher: Linux before 4.14.
+    Unsupported,
     /// A status of a newer library.
     Status(i32),
 }
@@ -84,6 +90,9 @@ impl Error {
             TOO_COSTLY => Error::TooCostly,
             KEY_TOO_SHORT => Error::KeyTooShort,
             NO_RANDOM_BYTES => Error::NoRandomBytes,
+            CLOSED => Error::Closed,
+            CANCELLED => Error::Cancelled,
+            UNSUPPORTED => Error::Unsupported,
             other => Error::Status(other),
         }
     }
@@ -148,6 +157,11 @@ impl fmt::Display for Error {
                 "the key in the hash is shorter than 16 bytes, or than new keys if those are shorter"
             }
             Error::NoRandomBytes => "the system has no random bytes",
+            Error::Closed => "the hasher is closed",
+            Error::Cancelled => "the process was forked meanwhile",
+            Error::Unsupported => {
+                "the system cannot fill memory with zeros in a child process (Linux before 4.14)"
+            }
             Error::Status(status) => return write!(f, "status {status} of a newer library"),
         })
     }
@@ -156,3 +170,56 @@ impl fmt::Display for Error {
 impl std::error::Error for InvalidParams {}
 impl std::error::Error for DeriveError {}
 impl std::error::Error for Error {}
+
+#[cfg(test)]
+mod tests {
+    use super::*;
+    use std::path::Path;
+
+    /// The header beside the library, or in the folder `include` of a folder around it.
+    fn header() -> String {
+        let folder = Path::new(env!("SCRYPT_C_FOLDER"));
+        let around = folder.ancestors().map(|it| it.join("include/scrypt_c.h"));
+        let found = [folder.join("scrypt_c.h")].into_iter().chain(around).find(|it| it.is_file());
+        std::fs::read_to_string(found.expect("scrypt_c.h")).unwrap()
+    }
+
+    /// Each status of the header has its number here, and an error unless it cannot come.
+    #[test]
+    fn statuses_of_the_header() {
+        let here = [
+            ("OK", OK),
+            ("MISMATCH", MISMATCH),
+            ("NEEDS_REHASH", NEEDS_REHASH),
+            ("INVALID_PARAMS", INVALID_PARAMS),
+            ("INVALID_OUTPUT_LEN", INVALID_OUTPUT_LEN),
+            ("OUT_OF_MEMORY", OUT_OF_MEMORY),
+            ("ALGORITHM", ALGORITHM),
+            ("ENCODING_INVALID", ENCODING_INVALID),
+            ("OUTPUT_SIZE", OUTPUT_SIZE),
+            ("HASH_PARAM_INVALID", HASH_PARAM_INVALID),
+            ("HASH_PARAMS_INVALID", HASH_PARAMS_INVALID),
+            ("SALT_INVALID", SALT_INVALID),
+            ("VERSION", VERSION),
+            ("TOO_COSTLY", TOO_COSTLY),
+            ("NO_RANDOM_BYTES", NO_RANDOM_BYTES),
+            ("KEY_TOO_SHORT", KEY_TOO_SHORT),
+            ("CLOSED", CLOSED),
+            ("CANCELLED", CANCELLED),
+            ("UNSUPPORTED", UNSUPPORTED),
+        ];
+        let cannot_come = ["BUFFER_SIZE", "NULL_POINTER", "TIMEOUT"];
+        let header = header();
+        let statuses = header.lines().filter_map(|line| {
+            let (name, number) = line.strip_prefix("  SCRYPT_")?.split_once(" = ")?;
+            let digits = number.find(|it: char| !it.is_ascii_digit()).unwrap_or(number.len());
+            Some((name, number[..digits].parse().unwrap()))
+        });
+        let (named, others): (Vec<_>, Vec<_>) = statuses.partition(|it| here.contains(it));
+        assert_eq!(named, here);
+        assert_eq!(others.iter().map(|it| it.0).collect::<Vec<_>>(), cannot_come);
+        for (name, status) in &named[1..] {
+            assert!(!matches!(Error::of(*status), Error::Status(_)), "{name}");
+        }
+    }
+}

@@ -1,9 +1,10 @@
 //! Password hashes.
 
-use crate::bounds::TextBounds;
 use crate::calls::*;
-use crate::turns::Turns;
-use crate::{draw_salt, Bounds, Error, Params};
+use crate::{Bounds, Error, Params};
+use std::os::raw::c_int;
+use std::ptr::{null, null_mut, NonNull};
+use std::sync::Arc;
 
 /// The format of a hash's text.
 #[derive(Clone, Copy, Debug, Default, PartialEq, Eq)]
@@ -24,57 +25,75 @@ pub struct Options {
     pub format: Format,
     /// The length of the salt of a new hash, 1 to 64 bytes.
     pub salt_len: usize,
-    /// How many verifications and new hashes may have memory at the same time: by default two for each processor, so
-    /// that two that wait are derived at once. A higher number has no effect.
+    /// How many tables may exist at the same time. 0, the default, means two for each processor.
     pub at_once: usize,
+    /// How many derivations may run at the same time. 0, the default, means one for each processor that the process may
+    /// use, by its affinity and its CPU quota.
+    pub processors: usize,
     /// The bounds above which a hash is refused: by default [`Bounds::USUAL`], or what new hashes need if that is more.
     pub bounds: Option<Bounds>,
 }
 
-fn processors() -> usize {
-    std::thread::available_parallelism().map_or(1, usize::from)
-}
-
-impl Options {
-    // The default ones, with these parameters.
-    pub(crate) fn of(params: Params) -> Options {
+impl Default for Options {
+    fn default() -> Options {
         Options {
-            params,
+            params: Params::RECOMMENDED,
             format: Format::Phc,
             salt_len: 16,
-            at_once: 2 * processors(),
+            at_once: 0,
+            processors: 0,
             bounds: None,
         }
     }
 }
 
-impl Default for Options {
-    fn default() -> Options {
-        Options::of(Params::RECOMMENDED)
+/// Makes password hashes, and verifies passwords against hashes of either format.
+///
+/// Any number of threads may use it, and its clones are the same hasher. At most one thread for each processor derives at
+/// a time, and the others wait, first come, first served. Of those that wait, verifications with the same N, r and p are
+/// derived together if there are tables for them, which takes less time than one after another. Nobody waits for others to
+/// come, and no error of one affects another.
+///
+/// A hasher holds at most [`Options::at_once`] tables, whatever p is, and keeps their memory for later calls until it is
+/// closed or dropped. A hash that needs more than the bounds is refused without waiting, and so is one whose key has fewer
+/// than [`Bounds::LEAST_KEY_LEN`] bytes, or than new keys if that is less.
+///
+/// After a fork the hasher works in the child too, which has none of the parent's calls and memory.
+#[derive(Clone, Debug)]
+pub struct Hasher(Arc<Inner>);
+
+#[derive(Debug)]
+struct Inner(NonNull<RawHasher>);
+
+// SAFETY: any thread may make any call of the library on a hasher, except to free it during another call.
+unsafe impl Send for Inner {}
+unsafe impl Sync for Inner {}
+
+impl Drop for Inner {
+    fn drop(&mut self) {
+        // SAFETY: no clone is left, so no call is running, and none follows.
+        unsafe { scrypt_hasher_free(self.0.as_ptr()) }
     }
 }
 
-/// Makes password hashes, and verifies passwords against hashes of either format.
-///
-/// Any number of threads may use it; at most one for each processor derives at a time, and the others wait. Of those
-/// that wait, two verifications with the same N and r are done at once, in twice the memory of one and little more than
-/// its time. Nobody waits for a partner, and no error of one affects the other. With the defaults, four processors and
-/// the recommended parameters that takes 1 GiB. If [`Options::at_once`] is the number of processors or less, there are
-/// no pairs: that takes half the memory, and serves fewer logins.
-///
-/// A hash that needs more than the bounds is refused without waiting, and so is one whose key has fewer than
-/// [`Bounds::LEAST_KEY_LEN`] bytes, or than new keys if that is less. The hasher keeps the memory in which it verifies
-/// for later calls, at most `at_once` times `most_bytes`.
-#[derive(Debug)]
-pub struct Hasher {
-    options: Options,
-    within: TextBounds,
-    turns: Turns,
+impl Default for Hasher {
+    /// A hasher with the default options.
+    ///
+    /// # Panics
+    ///
+    /// On the errors of [`Hasher::new`] that no options have: `OutOfMemory` and `Unsupported`.
+    fn default() -> Hasher {
+        Hasher::new(Options::default()).expect("a hasher with the default options")
+    }
 }
 
-impl Default for Hasher {
-    fn default() -> Hasher {
-        Hasher::with(processors(), Options::default())
+// Without a bound on the wait.
+const NO_BOUND: i64 = -1;
+
+fn result(status: c_int) -> Result<(), Error> {
+    match status {
+        OK => Ok(()),
+        other => Err(Error::of(other)),
     }
 }
 
@@ -83,89 +102,112 @@ impl Hasher {
     ///
     /// # Errors
     ///
-    /// `SaltInvalid` unless the salt has 1 to 64 bytes, `InvalidParams` if no derivation may run at all, and
-    /// `TooCostly` if new hashes need more than the bounds.
+    /// `SaltInvalid` unless the salt has 1 to 64 bytes, `TooCostly` if new hashes need more than the bounds, `OutOfMemory`,
+    /// and `Unsupported` before Linux 4.14.
     pub fn new(options: Options) -> Result<Hasher, Error> {
-        Hasher::on(processors(), options)
-    }
-
-    pub(crate) fn on(processors: usize, options: Options) -> Result<Hasher, Error> {
-        if !(1..=64).contains(&options.salt_len) {
+        if options.salt_len == 0 {
             return Err(Error::SaltInvalid);
         }
-        if options.at_once == 0 {
-            return Err(Error::InvalidParams);
+        // 0 would mean the default, and no derivation is within 1.
+        let bounds =
+            options.bounds.map_or((0, 0), |it| (it.most_bytes.max(1), it.most_work.max(1)));
+        let raw = RawOptions {
+            size: std::mem::size_of::<RawOptions>(),
+            log_n: options.params.log_n().into(),
+            r: options.params.r(),
+            p: options.params.p(),
+            mcf: (options.format == Format::Mcf).into(),
+            key_len: options.params.key_len(),
+            salt_len: options.salt_len,
+            most_bytes: bounds.0,
+            most_work: bounds.1,
+            at_once: options.at_once,
+            processors: options.processors,
+            ..RawOptions::default()
+        };
+        let mut status = OK;
+        // SAFETY: both are this function's own, and the options have their size.
+        match NonNull::new(unsafe { scrypt_hasher_new(&raw, &mut status) }) {
+            Some(hasher) => Ok(Hasher(Arc::new(Inner(hasher)))),
+            None => Err(Error::of(status)),
         }
-        if options.bounds.map_or(false, |bounds| !bounds.allow(&options.params)) {
-            return Err(Error::TooCostly);
-        }
-        Ok(Hasher::with(processors, options))
     }
 
-    fn with(processors: usize, options: Options) -> Hasher {
-        let bounds = options.bounds.unwrap_or_else(|| Bounds::USUAL.or_more(&options.params));
-        let least_key_len = Bounds::LEAST_KEY_LEN.min(options.params.key_len());
-        let within = TextBounds { bounds, least_key_len };
-        let turns = Turns::new(options.at_once, processors, within);
-        Hasher { options, within, turns }
+    fn raw(&self) -> *mut RawHasher {
+        self.0 .0.as_ptr()
     }
 
     /// The text of a new hash, with a random salt from the system.
     ///
     /// # Errors
     ///
-    /// `OutOfMemory` and `NoRandomBytes`.
+    /// `NoRandomBytes`, `Closed` and `OutOfMemory`.
     pub fn hash(&self, password: impl AsRef<[u8]>) -> Result<String, Error> {
-        let mut salt = [0; 64];
-        let salt = &mut salt[..self.options.salt_len];
-        draw_salt(salt)?;
-        self.hash_with_salt(password, salt)
+        self.text(password.as_ref(), None)
     }
 
     /// The text of a new hash, with the caller's salt.
     ///
     /// # Errors
     ///
-    /// `OutOfMemory`, and `SaltInvalid` unless the salt of a PHC hash has 1 to 64 bytes.
+    /// `SaltInvalid` unless the salt of a PHC hash has 1 to 64 bytes, `Closed` and `OutOfMemory`.
     pub fn hash_with_salt(&self, password: impl AsRef<[u8]>, salt: &[u8]) -> Result<String, Error> {
-        let call = match self.options.format {
-            Format::Phc => scrypt_hash_phc_in,
-            Format::Mcf => scrypt_hash_mcf_in,
-        };
-        let capacity = match self.options.format {
-            Format::Phc => PHC_CAPACITY,
-            Format::Mcf => mcf_capacity(salt.len()),
-        };
+        self.text(password.as_ref(), Some(salt))
+    }
+
+    fn text(&self, password: &[u8], salt: Option<&[u8]>) -> Result<String, Error> {
+        // NULL asks for a random salt, of at most 64 bytes. The pointer of a slice is never NULL.
+        let (salt, salt_len) = salt.map_or((null(), 0), |it| (it.as_ptr(), it.len()));
+        let capacity = text_capacity(salt_len.max(64));
         let mut text = Vec::new();
         text.try_reserve_exact(capacity).map_err(|_| Error::OutOfMemory)?;
         text.resize(capacity, 0);
-        let (password, params) = (password.as_ref(), &self.options.params);
-        let mut text_len = 0;
-        let mut turn = self.turns.take();
-        let memory = turn.memory()?;
-        // SAFETY: the memory is this thread's, each pointer that of a slice of the length after it, and the text this
-        // function's own.
-        let status = unsafe {
-            call(
-                memory,
-                password.as_ptr(),
+        // SAFETY: the hasher is there until this returns, and each pointer is that of a slice of the length after it.
+        result(unsafe {
+            scrypt_hasher_hash(
+                self.raw(),
+                password.as_ptr().cast(),
                 password.len(),
-                salt.as_ptr(),
-                salt.len(),
-                params.log_n(),
-                params.r(),
-                params.p(),
-                params.key_len(),
-                text.as_mut_ptr() as *mut _,
+                salt.cast(),
+                salt_len,
+                text.as_mut_ptr().cast(),
                 capacity,
-                &mut text_len,
+                NO_BOUND,
+                null_mut(),
             )
-        };
-        if status != OK {
-            return Err(Error::of(status));
-        }
-        text.truncate(text_len);
+        })?;
+        text.truncate(text.iter().position(|it| *it == 0).unwrap_or(0));
+        text.shrink_to_fit();
         String::from_utf8(text).map_err(|_| Error::EncodingInvalid)
+    }
+
+    /// Writes the key of a password and a salt, with the parameters of new hashes, to `output`.
+    ///
+    /// # Errors
+    ///
+    /// `InvalidOutputLen` unless the output has 1 to 137438953440 bytes, `Closed` and `OutOfMemory`. All leave the output
+    /// unchanged.
+    pub fn key(
+        &self,
+        password: impl AsRef<[u8]>,
+        salt: &[u8],
+        output: &mut [u8],
+    ) -> Result<(), Error> {
+        let password = password.as_ref();
+        // SAFETY: the hasher is there until this returns, and each pointer is that of a slice of the length after it.
+        result(unsafe {
+            scrypt_hasher_key(
+                self.raw(),
+                password.as_ptr().cast(),
+                password.len(),
+                salt.as_ptr().cast(),
+                salt.len(),
+                output.as_mut_ptr(),
+                output.len(),
+                NO_BOUND,
+                null_mut(),
+            )
+        })
     }
 
     /// Ok if the password is that of the hash, in either format.
@@ -173,43 +215,44 @@ impl Hasher {
     /// # Errors
     ///
     /// Those of [`Error::is_invalid_hash`]; `PasswordInvalid` for a wrong password, and for a hash without salt or key;
-    /// `TooCostly` if the hash needs more than the bounds; `KeyTooShort` if its key is shorter than they allow; and
-    /// `OutOfMemory`. An error of the text alone is returned without waiting.
+    /// `TooCostly` if the hash needs more than the bounds; `KeyTooShort` if its key is shorter than they allow; `Closed`
+    /// and `OutOfMemory`. An error of the text alone is returned without waiting.
     pub fn verify(&self, text: &str, password: impl AsRef<[u8]>) -> Result<(), Error> {
-        let like = self.within.check(text)?;
-        match self.turns.verify(password.as_ref(), text, like)? {
-            OK => Ok(()),
-            other => Err(Error::of(other)),
-        }
+        let password = password.as_ref();
+        // SAFETY: the hasher is there until this returns, and each pointer is that of a slice of the length after it.
+        result(unsafe {
+            scrypt_hasher_verify(
+                self.raw(),
+                password.as_ptr().cast(),
+                password.len(),
+                text.as_ptr().cast(),
+                text.len(),
+                NO_BOUND,
+                null_mut(),
+            )
+        })
     }
 
-    #[cfg(test)]
-    pub(crate) fn turns(&self) -> (&Turns, &TextBounds) {
-        (&self.turns, &self.within)
-    }
-
-    /// Whether one of the parameters of the hash, or its key's length, is below that of new hashes.
+    /// Whether one of the parameters of the hash, or its key's length, is below that of new hashes. This also works on a
+    /// closed hasher.
     ///
     /// # Errors
     ///
     /// Those of [`Error::is_invalid_hash`].
     pub fn needs_rehash(&self, text: &str) -> Result<bool, Error> {
-        let params = &self.options.params;
-        // SAFETY: the pointer is that of a text of this length.
-        let status = unsafe {
-            scrypt_needs_rehash(
-                text.as_ptr() as *const _,
-                text.len(),
-                params.log_n(),
-                params.r(),
-                params.p(),
-                params.key_len(),
-            )
-        };
+        // SAFETY: the hasher is there until this returns, and the pointer is that of a text of this length.
+        let status =
+            unsafe { scrypt_hasher_needs_rehash(self.raw(), text.as_ptr().cast(), text.len()) };
         match status {
-            OK => Ok(false),
             NEEDS_REHASH => Ok(true),
-            other => Err(Error::of(other)),
+            other => result(other).map(|()| false),
         }
+    }
+
+    /// Frees the memory that the hasher and its clones keep. Calls that wait, and later ones, return `Closed`; a derivation
+    /// that has begun goes on.
+    pub fn close(&self) {
+        // SAFETY: the hasher is there until this returns.
+        unsafe { scrypt_hasher_close(self.raw()) }
     }
 }

@@ -1,4 +1,4 @@
-//! scrypt (RFC 7914) and its password hashes, on top of the library libscrypt_c, whose calls are proved. This crate is
+//! scrypt (RFC 7914) and its password hashes, on top of the library libscrypt_c over proved code. This crate is
 //! tested, not proved.
 //!
 //! ```
@@ -31,27 +31,25 @@ pub mod errors;
 mod hasher;
 pub mod kdf;
 pub mod mcf;
-#[cfg(test)]
-mod pairs_tests;
+pub mod migration;
 mod params;
 pub mod password_hash;
 pub mod phc;
 #[cfg(feature = "password-hash")]
 mod traits_0_4;
-mod turns;
 
 pub use algorithm::Scrypt;
-pub use bounds::{params_of, Bounds};
+pub use bounds::Bounds;
 pub use errors::{DeriveError, Error, InvalidParams};
 pub use hasher::{Format, Hasher, Options};
 pub use kdf::{Kdf, Pbkdf};
-pub use params::Params;
+pub use params::{calibrate, params_of, Params};
 #[cfg(feature = "password-hash")]
 pub use password_hash_0_4;
 #[cfg(feature = "password-hash")]
 pub use traits_0_4::ALG_ID;
 
-use calls::{scrypt_draw_salt, scrypt_kdf_mapped, OK};
+use calls::{scrypt_draw_salt, scrypt_key, OK};
 
 /// Writes the scrypt key of `password` and `salt` to `output`. The length in `params` is ignored.
 ///
@@ -78,10 +76,10 @@ pub fn scrypt(
     let Params { log_n, r, p, .. } = *params;
     // SAFETY: each pointer is that of a slice of the length after it, and the output is borrowed for this call alone.
     let status = unsafe {
-        scrypt_kdf_mapped(
-            password.as_ptr(),
+        scrypt_key(
+            password.as_ptr().cast(),
             password.len(),
-            salt.as_ptr(),
+            salt.as_ptr().cast(),
             salt.len(),
             log_n,
             r,

@@ -1,7 +1,8 @@
 //! The parameters of a derivation.
 
-use crate::calls::{scrypt_buffer_lens, OK};
-use crate::InvalidParams;
+use crate::calls::{scrypt_buffer_lens, scrypt_calibrate, scrypt_hash_params, OK};
+use crate::{Error, InvalidParams};
+use std::time::Duration;
 
 /// Accepted parameters, and the length of a hash's key if one is given.
 #[derive(Clone, Copy, Debug, PartialEq, Eq)]
@@ -113,5 +114,40 @@ impl Params {
 impl Default for Params {
     fn default() -> Params {
         Params::RECOMMENDED
+    }
+}
+
+/// The parameters of a hash of either format, and the length of its key in bytes, 0 if it has none.
+///
+/// # Errors
+///
+/// Those of [`Error::is_invalid_hash`].
+pub fn params_of(text: &str) -> Result<(Params, usize), Error> {
+    let (mut log_n, mut r, mut p, mut key_len) = (0, 0, 0, 0);
+    // SAFETY: the pointer is that of a text of this length, and the four places are this function's own.
+    let status = unsafe {
+        let text_at = text.as_ptr().cast();
+        scrypt_hash_params(text_at, text.len(), &mut log_n, &mut r, &mut p, &mut key_len)
+    };
+    match status {
+        OK => Ok((Params::new(log_n, r, p)?, key_len)),
+        other => Err(Error::of(other)),
+    }
+}
+
+/// Finds parameters by measuring this machine, now: the greatest `log_n` whose table has at most `most_bytes` bytes, and then
+/// the greatest `p`, with which one derivation takes at most the target; `r` is 8. It takes some four times the target.
+///
+/// # Errors
+///
+/// `TooCostly` if even a `log_n` of 10 takes longer, or needs more; `OutOfMemory` and `Unsupported`.
+pub fn calibrate(target: Duration, most_bytes: usize) -> Result<Params, Error> {
+    let (mut log_n, mut r, mut p) = (0, 0, 0);
+    // SAFETY: the three places are this function's own.
+    let status =
+        unsafe { scrypt_calibrate(target.as_secs_f64(), most_bytes, &mut log_n, &mut r, &mut p) };
+    match status {
+        OK => Ok(Params::new(log_n, r, p)?),
+        other => Err(Error::of(other)),
     }
 }

@@ -2,12 +2,14 @@
 
 mod refused;
 
-use scrypt_c::{scrypt, DeriveError, Error, Format, Hasher, Options, Params};
+use scrypt_c::{params_of, scrypt, Bounds, DeriveError, Error, Format, Hasher, Options, Params};
 use std::collections::HashSet;
 
+/// A salt, and a key of 15 bytes.
+const SHORT_KEY: &str = "$c2FsdHNhbHQ$AAAAAAAAAAAAAAAAAAAA";
+
 fn small() -> Options {
-    let params = Params::new(4, 8, 1).unwrap();
-    Options { params, ..Options::default() }
+    Options { params: Params::new(4, 8, 1).unwrap(), ..Options::default() }
 }
 
 fn in_format(format: Format) -> Hasher {
@@ -34,48 +36,92 @@ fn hashes() {
 }
 
 #[test]
-fn salts_are_drawn() {
-    let hasher = Hasher::new(Options { salt_len: 64, ..small() }).unwrap();
-    let texts: HashSet<_> = (0..20).map(|_| hasher.hash("pw").unwrap()).collect();
-    assert_eq!(texts.len(), 20);
-    assert!(texts.iter().all(|it| it.split('$').nth(3).unwrap().len() == 86));
+fn keys() {
+    let (mut key, mut wanted) = ([0; 100], [0; 100]);
+    scrypt(b"pw", b"salt", &small().params, &mut wanted).unwrap();
+    let hasher = Hasher::new(small()).unwrap();
+    assert_eq!((hasher.key("pw", b"salt", &mut key), key), (Ok(()), wanted));
+    assert_eq!(hasher.key("pw", b"", &mut []), Err(Error::InvalidOutputLen));
+}
+
+#[test]
+fn salts() {
+    for (format, field, letters) in [(Format::Phc, 3, 86), (Format::Mcf, 2, 11 + 86)] {
+        let hasher = Hasher::new(Options { salt_len: 64, format, ..small() }).unwrap();
+        let texts: HashSet<_> = (0..20).map(|_| hasher.hash("pw").unwrap()).collect();
+        assert_eq!(texts.len(), 20, "they are random");
+        assert!(texts.iter().all(|it| it.split('$').nth(field).unwrap().len() == letters));
+        assert!(texts.iter().all(|it| hasher.verify(it, "pw") == Ok(())));
+        for salt in [&[][..], &[0; 65], &[1; 1000]] {
+            let text = hasher.hash_with_salt("", salt);
+            if format == Format::Phc {
+                assert_eq!(text, Err(Error::SaltInvalid), "{}", salt.len());
+                continue;
+            }
+            assert_eq!(text, hasher.hash_with_salt("", salt), "the salt is the caller's");
+            assert_eq!(hasher.verify(&text.unwrap(), ""), Ok(()), "$7$ takes any salt");
+        }
+    }
 }
 
 #[test]
 fn refused_options() {
+    let bounds = |most_bytes, most_work| Some(Bounds { most_bytes, most_work });
+    let [bytes, work] = [Params::RECOMMENDED.memory(), Params::RECOMMENDED.work()];
+    let (bytes, work) = (usize::try_from(bytes).unwrap(), u64::try_from(work).unwrap());
+    let usual = Options::default();
     for (why, options, wanted) in [
-        ("no salt", Options { salt_len: 0, ..small() }, Error::SaltInvalid),
-        ("a salt of 65 bytes", Options { salt_len: 65, ..small() }, Error::SaltInvalid),
-        (
-            "a salt of 16 bytes in 8 bits",
-            Options { salt_len: 16 + (1 << 8), ..small() },
-            Error::SaltInvalid,
-        ),
-        (
-            "a salt of 16 bytes in 32 bits",
-            Options { salt_len: 16 + (1 << 32), ..small() },
-            Error::SaltInvalid,
-        ),
-        ("no derivation at all", Options { at_once: 0, ..small() }, Error::InvalidParams),
+        ("no salt", Options { salt_len: 0, ..usual }, Error::SaltInvalid),
+        ("a salt of 65 bytes", Options { salt_len: 65, ..usual }, Error::SaltInvalid),
+        ("16 bytes in 32 bits", Options { salt_len: 16 + (1 << 32), ..usual }, Error::SaltInvalid),
+        ("a byte less", Options { bounds: bounds(bytes - 1, work), ..usual }, Error::TooCostly),
+        ("less work", Options { bounds: bounds(bytes, work - 1), ..usual }, Error::TooCostly),
+        ("no memory at all", Options { bounds: bounds(0, work), ..usual }, Error::TooCostly),
     ] {
         assert_eq!(Hasher::new(options).err(), Some(wanted), "{why}");
+    }
+    assert!(Hasher::new(Options { bounds: bounds(bytes, work), ..usual }).is_ok(), "just within");
+    let params = Params::new(19, 8, 1).unwrap();
+    assert!(!Bounds::USUAL.allow(&params));
+    assert!(
+        Hasher::new(Options { params, ..usual }).is_ok(),
+        "above the usual ones, and asked for"
+    );
+    for format in [Format::Phc, Format::Mcf] {
+        let params = Params::new(56, 1, 1).unwrap();
+        let large = Hasher::new(Options { params, format, ..usual }).unwrap();
+        assert_eq!(large.hash("").err(), Some(Error::OutOfMemory), "a table of 2^63 bytes");
     }
 }
 
 #[test]
-fn refused_salts() {
-    let (phc, mcf) = (in_format(Format::Phc), in_format(Format::Mcf));
-    for salt in [&[][..], &[0; 65]] {
-        assert_eq!(phc.hash_with_salt("", salt), Err(Error::SaltInvalid), "{}", salt.len());
-        let text = mcf.hash_with_salt("", salt).unwrap();
-        assert_eq!(mcf.verify(&text, ""), Ok(()), "$7$ takes any salt");
+fn bounds() {
+    assert_eq!(Bounds::default(), Bounds::USUAL);
+    assert_eq!(u128::from(Bounds::USUAL.most_work), 4 * Params::RECOMMENDED.work());
+    assert_eq!((Bounds::USUAL.most_bytes, Bounds::LEAST_KEY_LEN), (257 << 20, 16));
+    let params = Params::new(6, 3, 5).unwrap();
+    let text = Hasher::new(Options { params, ..small() }).unwrap().hash("pw").unwrap();
+    assert_eq!(params_of(&text), Ok((params, 32)));
+    let (bytes, cores, work) = (128 * 3 * (64 + 5 + 2), 4u64 * 64 * 3 * 5, 4 * (64 + 32) * 3 * 5);
+    assert_eq!(params.memory(), bytes as u128);
+    assert_eq!((params.cores(), params.work()), (u128::from(cores), u128::from(work)));
+    for (why, most_bytes, most_work, wanted) in [
+        ("just within", bytes, work, Ok(())),
+        ("a byte less", bytes - 1, work, Err(Error::TooCostly)),
+        ("one less of work", bytes, work - 1, Err(Error::TooCostly)),
+    ] {
+        let bounds = Some(Bounds { most_bytes, most_work });
+        let hasher = Hasher::new(Options { bounds, ..small() }).unwrap();
+        assert_eq!(hasher.verify(&text, "pw"), wanted, "{why}");
+        assert_eq!(bounds.map(|it| it.allow(&params)), Some(wanted.is_ok()), "{why}");
     }
-    let text = mcf.hash_with_salt("", &[0; 1000]).unwrap();
-    assert_eq!(mcf.verify(&text, ""), Ok(()), "a long salt");
-    for format in [Format::Phc, Format::Mcf] {
-        let params = Params::new(56, 1, 1).unwrap();
-        let large = Hasher::new(Options { params, format, ..small() }).unwrap();
-        assert_eq!(large.hash("").err(), Some(Error::OutOfMemory), "a table of 2^63 bytes");
+    for (len, own, wanted) in
+        [(16, 32, Ok(())), (15, 32, Err(Error::KeyTooShort)), (15, 15, Ok(()))]
+    {
+        let of =
+            |len| Options { params: Params::new_with_output_len(4, 8, 1, len).unwrap(), ..small() };
+        let text = Hasher::new(of(len)).unwrap().hash("pw").unwrap();
+        assert_eq!(Hasher::new(of(own)).unwrap().verify(&text, "pw"), wanted, "{len}, {own}");
     }
 }
 
@@ -96,23 +142,15 @@ fn refused_texts() {
     let none = "$scrypt$ln=4,r=8,p=1";
     assert_eq!(hasher.verify(none, ""), Err(Error::PasswordInvalid), "no salt and no key");
     assert_eq!(hasher.needs_rehash(none), Ok(true), "no salt and no key");
-    let large = "$scrypt$ln=56,r=1,p=1$c2FsdHNhbHQ$AAAAAAAAAAAAAAAAAAAA";
-    assert_eq!(hasher.verify(large, ""), Err(Error::TooCostly), "a table of 2^63 bytes");
-}
-
-#[test]
-fn many_threads() {
-    let hasher = Hasher::new(Options { at_once: 2, ..small() }).unwrap();
-    std::thread::scope(|scope| {
-        for i in 1..=8u8 {
-            let hasher = &hasher;
-            scope.spawn(move || {
-                let text = hasher.hash([i]).unwrap();
-                assert_eq!(hasher.verify(&text, [i]), Ok(()));
-                assert_eq!(hasher.verify(&text, [i, i]), Err(Error::PasswordInvalid));
-            });
-        }
-    });
+    for (why, costs, wanted) in [
+        ("some 11 seconds of PBKDF2", "ln=1,r=1,p=2000000", Error::TooCostly),
+        ("a table of 2^63 bytes", "ln=56,r=1,p=1", Error::TooCostly),
+        ("a key of 15 bytes", "ln=4,r=8,p=1", Error::KeyTooShort),
+    ] {
+        let text = format!("$scrypt${costs}{SHORT_KEY}");
+        assert_eq!(hasher.verify(&text, ""), Err(wanted), "{why}");
+        assert!(!wanted.is_invalid_hash(), "{why}");
+    }
 }
 
 /// `?` takes each error of the crate to the widest.
@@ -129,25 +167,4 @@ fn each_error_becomes_the_widest() {
     assert_eq!(key(Params::RECOMMENDED, &mut []), Err(Error::InvalidOutputLen));
     assert_eq!(key(large, &mut [0]), Err(Error::OutOfMemory));
     assert_eq!(Error::from(DeriveError::Status(99)), Error::Status(99));
-    assert!(!Error::InvalidOutputLen.is_invalid_hash());
-}
-
-#[test]
-fn words_of_errors() {
-    let boxed: Box<dyn std::error::Error> = Error::PasswordInvalid.into();
-    assert_eq!(boxed.to_string(), "the password does not match the hash");
-    assert_eq!(Error::Status(99).to_string(), "status 99 of a newer library");
-    for (error, allowed) in [
-        (Error::InvalidParams, "and a key in a hash of 10 to 64 bytes"),
-        (Error::EncodingInvalid, "not a PHC or $7$ hash"),
-        (Error::OutputSize, "empty, or too long"),
-        (Error::ParamInvalid, "ln, r or p in the hash is not a decimal in its range"),
-        (Error::ParamsInvalid, "other than ln, r and p"),
-        (Error::SaltInvalid, "1 to 64 bytes"),
-        (Error::Version, "scrypt has none"),
-        (Error::TooCostly, "more work than the bounds allow"),
-        (Error::KeyTooShort, "shorter than 16 bytes"),
-    ] {
-        assert!(error.to_string().contains(allowed), "{error}");
-    }
 }

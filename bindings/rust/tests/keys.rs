@@ -1,6 +1,7 @@
 //! Derives RFC 7914's keys, and tries each refusal.
 
-use scrypt_c::{draw_salt, scrypt, DeriveError, InvalidParams, Params};
+use scrypt_c::{calibrate, draw_salt, scrypt, DeriveError, Error, InvalidParams, Params};
+use std::time::Duration;
 
 fn hex(bytes: &[u8]) -> String {
     bytes.iter().map(|byte| format!("{byte:02x}")).collect()
@@ -127,6 +128,18 @@ fn salts_are_drawn() {
 }
 
 #[test]
+fn calibrated() {
+    let found = calibrate(Duration::from_millis(50), 32 << 20).unwrap();
+    assert!((10..=15).contains(&found.log_n()) && found.r() == 8, "{found:?}");
+    for (why, target, bytes) in [
+        ("no time", Duration::from_micros(1), 32 << 20),
+        ("no memory", Duration::from_secs(1), 1000),
+    ] {
+        assert_eq!(calibrate(target, bytes), Err(Error::TooCostly), "{why}");
+    }
+}
+
+#[test]
 fn words_of_errors() {
     for (words, error) in [
         (InvalidParams.to_string(), scrypt_c::Error::InvalidParams),
@@ -140,4 +153,14 @@ fn words_of_errors() {
         .contains("r and p at least 1, 128 * r * 2^log_n below 2^64, r * p below 2^30"));
     assert!(DeriveError::InvalidOutputLen.to_string().contains("1 to 137438953440 bytes"));
     assert_eq!(DeriveError::Status(99).to_string(), "status 99 of a newer library");
+    for (error, allowed) in [
+        (Error::PasswordInvalid, "the password does not match the hash"),
+        (Error::ParamInvalid, "ln, r or p in the hash is not a decimal in its range"),
+        (Error::SaltInvalid, "1 to 64 bytes"),
+        (Error::TooCostly, "more work than the bounds allow"),
+        (Error::KeyTooShort, "shorter than 16 bytes"),
+        (Error::Closed, "closed"),
+    ] {
+        assert!(error.to_string().contains(allowed), "{error}");
+    }
 }

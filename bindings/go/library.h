@@ -1,0 +1,9 @@
+/* What the package includes of the library. */
+#if defined SCRYPT_BUNDLED && !(__has_include("scrypt_c.h") && __has_include("libscrypt_c.a"))
+#error "scrypt_c.h and libscrypt_c.a are not in the package's folder: make lib, or make install and -tags scrypt_system"
+#else
+#include <scrypt_c.h>
+
+/* Enough for a text of either format. */
+static inline size_t text_capacity(size_t salt_len) { return SCRYPT_PHC_CAPACITY + SCRYPT_MCF_CAPACITY(salt_len); }
+#endif

@@ -1,0 +1,101 @@
+"""Converts hashes of other programs to texts that this package verifies, without the passwords.
+
+A damaged hash, one that no password matches, and one that neither format can store raise ValueError. `n` is N, a power of
+two.
+"""
+
+from __future__ import annotations
+
+import base64
+import re
+
+from .arguments import Bytes, number, raw_bytes
+from .params import Params, accepted, params_of
+
+_LETTERS = "./0123456789ABCDEFGHIJKLMNOPQRSTUVWXYZabcdefghijklmnopqrstuvwxyz"  # of `$7$` texts, each by its value
+
+
+def _digits(value: int, count: int) -> str:
+    return "".join(_LETTERS[value >> 6 * place & 63] for place in range(count))
+
+
+def _value(letters: str) -> int:
+    return sum(_LETTERS.index(it) << 6 * place for place, it in enumerate(letters))
+
+
+def _phc_text(salt: bytes, key: bytes, log_n: int, r: int, p: int) -> str:
+    letters = [base64.b64encode(it).decode().rstrip("=") for it in (salt, key)]
+    return "$".join([f"$scrypt$ln={log_n},r={r},p={p}", *letters])
+
+
+def _mcf_text(salt: bytes, key: bytes, log_n: int, r: int, p: int) -> str:
+    if b"$" in salt:
+        raise ValueError("the salt of a $7$ text cannot have a $")
+    parts = [key[at : at + 3] for at in range(0, len(key), 3)]
+    letters = "".join(_digits(int.from_bytes(it, "little"), len(it) + 1) for it in parts)
+    return f"$7${_digits(log_n, 1)}{_digits(r, 5)}{_digits(p, 5)}{salt.decode()}${letters}"
+
+
+def stored_text(salt: Bytes, key: Bytes, n: int, r: int, p: int) -> str:
+    """A PHC text if the lengths allow it, otherwise a `$7$` text. Of a PHC text's key only the first 64 bytes are kept,
+    which are the key of that length."""
+    salt, key, n = raw_bytes(salt, "a salt"), raw_bytes(key, "a key"), number(n, "n")
+    if n < 1 or n & (n - 1):
+        raise ValueError(f"n is a power of two, which {n} is not")
+    if not key:
+        raise ValueError("there is no key")
+    params = accepted(n.bit_length() - 1, r, p)
+    if 1 <= len(salt) <= 64 and len(key) >= 10:
+        key = key[:64]
+        text = _phc_text(salt, key, *params)
+    else:
+        text = _mcf_text(salt, key, *params)
+    if params_of(text) != Params(*params, len(key)):  # as of an r that its five letters cannot hold
+        raise ValueError("neither format can store it")
+    return text
+
+
+def _matched(pattern: str, stored: str, program: str) -> list[str]:
+    """The groups of a pattern that a whole hash has."""
+    found = re.fullmatch(pattern, stored, re.ASCII | re.DOTALL)
+    if found is None:
+        raise ValueError(f"this is not a hash of {program}")
+    return list(found.groups())
+
+
+def from_passlib(stored: str) -> str:
+    """Converts a hash of passlib that this package does not accept unchanged."""
+    pattern = r"\$scrypt\$ln=(\d+),r=(\d+),p=(\d+)\$([^$]*)\$([^$]*)"
+    log_n, r, p, *letters = _matched(pattern, stored, "passlib")
+    salt, key = (base64.b64decode(it.rstrip("=") + "=" * (-len(it.rstrip("=")) % 4), validate=True) for it in letters)
+    return stored_text(salt, key, 1 << min(int(log_n), 64), int(r), int(p))
+
+
+def from_django(stored: str) -> str:
+    """Converts a hash of Django 4.0 or later: `scrypt$n$salt$r$p$key`, with the salt as text."""
+    n, salt, r, p, key = _matched(r"scrypt\$(\d+)\$([^$]+)\$(\d+)\$(\d+)\$([^$]*)", stored, "Django")
+    return stored_text(salt.encode(), base64.b64decode(key, validate=True), int(n), int(r), int(p))
+
+
+def from_werkzeug(stored: str) -> str:
+    """Converts a hash of Werkzeug 2.3 or later: `scrypt:n:r:p$salt$key`, with the salt as text."""
+    n, r, p, salt, key = _matched(r"scrypt:(\d+):(\d+):(\d+)\$([^$]*)\$([0-9a-f]*)", stored, "Werkzeug")
+    return stored_text(salt.encode(), bytes.fromhex(key), int(n), int(r), int(p))
+
+
+def from_crypt(stored: str) -> str:
+    """Converts a `$7$` hash of crypt(3) whose salt has a `$`."""
+    params, salt, letters = _matched(r"\$7\$([./\dA-Za-z]{11})(.*)\$([./\dA-Za-z]*)", stored, "crypt(3)")
+    parts = [letters[at : at + 4] for at in range(0, len(letters), 4)]
+    if any(len(it) == 1 or _value(it) >> 8 * (len(it) - 1) for it in parts):
+        raise ValueError("the last letters of the key encode no whole bytes")
+    key = b"".join(_value(it).to_bytes(len(it) - 1, "little") for it in parts)
+    return stored_text(salt.encode(), key, 1 << _value(params[0]), _value(params[1:6]), _value(params[6:]))
+
+
+def from_libscrypt(stored: str) -> str:
+    """Converts a hash of `libscrypt_hash`: `$s1$`, two hexadecimal digits each for log_n, r and p, the salt and the key."""
+    params, *letters = _matched(r"\$s1\$([\da-fA-F]{6})\$([^$]*)\$([^$]*)", stored, "libscrypt")
+    log_n, r, p = bytes.fromhex(params)
+    salt, key = (base64.b64decode(it, validate=True) for it in letters)
+    return stored_text(salt, key, 1 << log_n, r, p)

@@ -1,0 +1,111 @@
+"""Hashes of other programs: each is converted to a text that its password opens, or refused."""
+
+import base64
+import hashlib
+import unittest
+
+from scrypt_c import PasswordHasher, params_of
+from scrypt_c.migration import from_crypt, from_django, from_libscrypt, from_passlib, from_werkzeug, stored_text
+
+SALT, KEY = b"seasalt", hashlib.scrypt(b"pw", salt=b"seasalt", n=1024, r=8, p=1, dklen=64)
+B64, HEX = base64.b64encode(KEY).decode(), KEY.hex()
+SALT64, UNPADDED = "c2Vhc2FsdA==", base64.b64encode(KEY[:32]).decode().rstrip("=")
+
+# The hash of `pw` as each program writes it.
+DJANGO = f"scrypt$1024$seasalt$8$1${B64}"
+WERKZEUG = f"scrypt:1024:8:1$seasalt${HEX}"
+PASSLIB = f"$scrypt$ln=10,r=8,p=1$c2Vhc2FsdA${UNPADDED}"
+LIBSCRYPT = f"$s1$0a0801${SALT64}${B64}"
+# The hash of `password` with the salt `a$b`, by crypt(3).
+CRYPT = "$7$66..../....a$b$CGyY/8u9Q9D5eanoScbBcdq6lOSvHl8LkXgfxQONWH/"
+
+# Why, the function, and what it refuses.
+REFUSED = [
+    ("n is not a power of two", from_django, DJANGO.replace("1024", "1000")),
+    ("n is 0", from_django, DJANGO.replace("1024", "0")),
+    ("n is not a decimal", from_django, DJANGO.replace("1024", "1_024")),
+    ("n has a sign", from_django, DJANGO.replace("1024", "+1024")),
+    ("r is 0", from_django, DJANGO.replace("$8$", "$0$")),
+    ("r * p is 2^30", from_django, DJANGO.replace("$8$1$", "$1073741824$1$")),
+    ("a letter outside Base64", from_django, DJANGO[:-5] + "!" + DJANGO[-4:]),
+    ("a letter outside Base64, which others skip", from_django, DJANGO[:-10] + "!" + DJANGO[-10:]),
+    ("a newline in the key", from_django, DJANGO[:-10] + "\n" + DJANGO[-10:]),
+    ("the key is cut inside of a group", from_django, DJANGO[:-1]),
+    ("no key", from_django, DJANGO[: -len(B64)]),
+    ("another method", from_django, DJANGO.replace("scrypt", "bcrypt")),
+    ("a part too many", from_django, DJANGO + "$"),
+    ("n is not a power of two", from_werkzeug, WERKZEUG.replace("1024", "1000")),
+    ("a letter outside hexadecimal", from_werkzeug, WERKZEUG[:-1] + "g"),
+    ("a blank in the key", from_werkzeug, WERKZEUG[:-64] + " " + WERKZEUG[-64:]),
+    ("half a byte", from_werkzeug, WERKZEUG[:-1]),
+    ("no key", from_werkzeug, WERKZEUG[: -len(HEX)]),
+    ("another method", from_werkzeug, WERKZEUG.replace("scrypt", "pbkdf2")),
+    ("ln is 64", from_passlib, PASSLIB.replace("ln=10", "ln=64")),
+    ("ln is very large", from_passlib, PASSLIB.replace("ln=10", "ln=" + 4000 * "9")),
+    ("a letter outside Base64", from_passlib, PASSLIB[:-3] + "!" + PASSLIB[-2:]),
+    ("a letter that encodes no byte", from_passlib, PASSLIB + "AA"),
+    ("the parameters in another order", from_passlib, PASSLIB.replace("ln=10,r=8", "r=8,ln=10")),
+    ("no key", from_passlib, PASSLIB[: -len(UNPADDED)]),
+    ("a letter outside its Base64", from_crypt, CRYPT[:-1] + "+"),
+    ("a letter that encodes no byte", from_crypt, CRYPT + ".."),
+    ("a bit that encodes no byte", from_crypt, CRYPT[:-1] + "z"),
+    ("no salt and no key", from_crypt, CRYPT[:14]),
+    ("no key", from_crypt, CRYPT[:18]),
+    ("another method", from_crypt, CRYPT.replace("$7$", "$6$", 1)),
+    ("log_n is 63 and r 8", from_crypt, CRYPT.replace("$7$6", "$7$z", 1)),
+    ("a letter outside Base64", from_libscrypt, LIBSCRYPT.replace(SALT64, "c2V!c2FsdA==")),
+    ("r is 0", from_libscrypt, LIBSCRYPT.replace("0a0801", "0a0001")),
+    ("three digits", from_libscrypt, LIBSCRYPT.replace("0a0801", "0a081")),
+    ("no key", from_libscrypt, LIBSCRYPT[: -len(B64)]),
+]
+# Why, and what is passed in place of an accepted argument.
+NOT_STORED = [
+    ("n is not a power of two", {"n": 1000}),
+    ("n is negative", {"n": -1024}),
+    ("log_n is 64", {"n": 1 << 64}),
+    ("r has more than 32 bits", {"r": 8 + (1 << 32)}),
+    ("r is more than five letters encode", {"salt": b"", "r": 1 << 30}),
+    ("p is 0", {"p": 0}),
+    ("no key", {"key": b""}),
+    ("a $ in the salt of a $7$ text", {"salt": 65 * b"$"}),
+    ("a salt of a $7$ text is UTF-8", {"salt": 65 * b"\xff"}),
+]
+
+
+class Migration(unittest.TestCase):
+    def test_converted(self):
+        hasher = PasswordHasher(log_n=4)
+        for convert, stored, password in [
+            (from_django, DJANGO, "pw"),
+            (from_werkzeug, WERKZEUG, "pw"),
+            (from_passlib, PASSLIB, "pw"),
+            (from_passlib, PASSLIB.replace("ln=10", "ln=010").replace("FsdA$", "FsdA==$"), "pw"),
+            (from_libscrypt, LIBSCRYPT, "pw"),
+            (from_crypt, CRYPT, "password"),
+        ]:
+            text = convert(stored)
+            self.assertTrue(hasher.verify(text, password), stored)
+            self.assertEqual(params_of(text)[:3], (8, 8, 1) if convert is from_crypt else (10, 8, 1))
+
+    def test_refused(self):
+        for why, convert, stored in REFUSED:
+            with self.assertRaises(ValueError, msg=f"{convert.__name__}: {why}"):
+                print(convert(stored))
+
+    def test_keys(self):
+        """Each length of a salt and of a key that a format has."""
+        hasher = PasswordHasher(log_n=4, key_len=10)
+        for salt, length in [(SALT, 10), (SALT, 64), (SALT, 100), (b"", 32), (65 * b"a", 33), (b"", 64), (SALT, 16)]:
+            key = hashlib.scrypt(b"pw", salt=salt, n=16, r=8, p=1, dklen=length)
+            self.assertTrue(hasher.verify(stored_text(salt, bytearray(key), 16, 8, 1), "pw"), (salt, length))
+        short = stored_text(SALT, KEY[:9], 1024, 8, 1)
+        self.assertEqual((short[:3], params_of(short)), ("$7$", (10, 8, 1, 9)))
+
+    def test_not_stored(self):
+        for why, arguments in NOT_STORED:
+            with self.assertRaises(ValueError, msg=why):
+                print(stored_text(**{"salt": SALT, "key": KEY, "n": 1024, "r": 8, "p": 1, **arguments}))
+
+
+if __name__ == "__main__":
+    unittest.main()
