@@ -1,22 +1,25 @@
 #!/bin/sh
 # Installs what is built, or removes it: the libraries of build/lib with the header, its pages of the manual and the
-# files for pkg-config and CMake, the Python package, the licence, and if they are built the library for x86-64-v3, that
-# for crypt(3), the PAM module, and the program with its man page and its completions.
+# files for pkg-config and CMake, the Python package, the documents, the licence, and if they are built the library for x86-64-v3 and
+# the program with its man page and its completions.
 # usage: install.sh install|uninstall, by the Makefile, which hands the places in the environment. DESTDIR goes before
-# each place where files are written, and into none of the files.
+# each place where files are written, and into none of the files. release/install.sh writes and removes them, by a list in
+# docdir.
 set -eu
+unset CDPATH
 cd "$(dirname "$0")/.."
 action=$1
 program=build/bin/scrypt_tool
 room=$(mktemp -d)
 trap 'rm -rf "$room"' EXIT
+newline='
+'
 for place in "$bindir" "$libdir" "$includedir" "$datarootdir" "$mandir" "$docdir" "$pythondir"; do
   case $place in
     /*) ;;
     *) printf '%s\n' "not an absolute path: $place (use prefix=/..)" >&2; exit 1 ;;
   esac
 done
-
 # What an earlier version installed can still be uninstalled.
 for place in "$libdir" "$includedir"; do
   case $action$place in
@@ -27,26 +30,30 @@ for place in "$libdir" "$includedir"; do
       ;;
   esac
 done
+case $bindir$datarootdir$mandir$docdir$pythondir in
+  *"$newline"*) echo "a path has more than one line, and the list of what is installed has a line for each" >&2; exit 1 ;;
+esac
+bindir=$(realpath -ms "$bindir") libdir=$(realpath -ms "$libdir") includedir=$(realpath -ms "$includedir")
+datarootdir=$(realpath -ms "$datarootdir") mandir=$(realpath -ms "$mandir") docdir=$(realpath -ms "$docdir")
+pythondir=$(realpath -ms "$pythondir")
+# If all is below prefix, the paths in the list are relative to it, so that what was moved can be uninstalled.
+root=$(realpath -ms "$prefix")
+for place in "$bindir" "$libdir" "$includedir" "$datarootdir" "$mandir" "$docdir" "$pythondir"; do
+  case $place in
+    "$root"/*) ;;
+    *) root= ;;
+  esac
+done
+list=${docdir#"$root"/}/installed
+list=${list#/}
+if [ "$action" = uninstall ]; then
+  release/install.sh --remove --tree "" "$list" "$DESTDIR$root"
+  exit
+fi
 
-# put MODE SOURCE PLACE installs one file; link TARGET PLACE one link. Uninstalling, both remove what is there.
-put() {
-  if [ "$action" = uninstall ]; then remove "$3"; else install -D -m "$1" "$2" "$DESTDIR$3"; fi
-}
-link() {
-  if [ "$action" = uninstall ]; then remove "$2"; else ln -sf "$1" "$DESTDIR$2"; fi
-}
-# Also the folders in which nothing is left then, up to those that every system has.
-remove() {
-  rm -f "$DESTDIR$1"
-  folder=${1%/*}
-  until is_common "$folder" || ! rmdir "$DESTDIR$folder" 2> /dev/null; do folder=${folder%/*}; done
-}
-is_common() {
-  for place in "$bindir" "$libdir" "$includedir" "$datarootdir" "$mandir"; do
-    if [ "$1" = "$place" ]; then return; fi
-  done
-  return 1
-}
+# put MODE SOURCE PLACE and link TARGET PLACE add one file or link to those that are installed in the end.
+put() { install -D -m "$1" "$2" "$room/files${3#"$root"}"; }
+link() { ln -s "$1" "$room/files${2#"$root"}"; }
 
 libraries() {
   shared=libscrypt_c.so.$(sed 's/+.*//' VERSION)
@@ -65,10 +72,10 @@ libraries() {
   for page in "$room"/man3/*.3; do put 644 "$page" "$mandir/man3/${page##*/}"; done
   put 644 LICENSE "$docdir/LICENSE"
   put 644 release/NOTICES "$docdir/NOTICES"
+  for page in README.md SECURITY.md docs/*.md docs/*.svg; do put 644 "$page" "$docdir/$page"; done
 }
 
 python_package() {
-  if [ "$action" = uninstall ]; then rm -rf "$DESTDIR$pythondir/scrypt_c/__pycache__"; fi
   (cd bindings/python && find scrypt_c -name '*.py' -o -name py.typed) > "$room/package"
   while read -r file; do put 644 "bindings/python/$file" "$pythondir/$file"; done < "$room/package"
 }
@@ -81,17 +88,19 @@ program() {
   while read -r file; do put 644 "$room/share/$file" "$datarootdir/$file"; done < "$room/completions"
 }
 
-if [ "$action" = install ] && [ ! -e build/lib/libscrypt_c.a ]; then
+if [ ! -e build/lib/libscrypt_c.a ]; then
   echo "build/lib is not built: make lib" >&2
   exit 1
 fi
 libraries
-for file in glibc-hwcaps/x86-64-v3/libscrypt_c.so.0 libscrypt_crypt.so pam_scrypt.so; do
-  if [ "$action" = uninstall ] || [ -e build/lib/$file ]; then put 755 build/lib/$file "$libdir/$file"; fi
-done
 python_package
-if [ "$action" = uninstall ] || [ -e "$program" ]; then
+newer=glibc-hwcaps/x86-64-v3/libscrypt_c.so.0
+if [ -e build/lib/$newer ]; then put 755 build/lib/$newer "$libdir/$newer"; fi
+if [ -e "$program" ]; then
   program
 else
   echo "the program is not built (make run), and is left out"
 fi
+release/install.sh --tree "$room/files" "$list" "$DESTDIR$root"
+# Without a list, one that another version installed: the dynamic linker would take it before the other.
+if [ ! -e build/lib/$newer ]; then rm -f "$DESTDIR$libdir/$newer"; fi

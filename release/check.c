@@ -5,8 +5,7 @@
 
 int main(void) {
   uint8_t key[64];
-  const uint8_t none[1] = {0};
-  int status = scrypt_kdf(none, 0, none, 0, 4, 1, 1, key, sizeof key);
+  int status = scrypt_key(NULL, 0, NULL, 0, 4, 1, 1, key, sizeof key);
   for (size_t i = 0; status == SCRYPT_OK && i < sizeof key; i++) printf("%02x", key[i]);
   puts(strrchr(scrypt_version(), ' '));
   return status;

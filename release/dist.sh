@@ -2,6 +2,7 @@
 # Makes build/dist from what is built: Debian packages, the Python wheel, the Go module, the Rust crate, an archive of
 # everything, the sources and the hashes of all. It is the same byte by byte wherever and whenever it is made.
 set -eu
+unset CDPATH
 umask 022
 cd "$(dirname "$0")/.."
 SOURCE_DATE_EPOCH=$(git log -1 --format=%ct)
@@ -16,10 +17,10 @@ command -v dh > /dev/null || needed dh debhelper
 command -v cargo > /dev/null || needed cargo cargo
 $python -c 'import hatchling' 2> /dev/null || needed hatchling python3-hatchling
 ls -d /usr/share/cargo/registry/password-hash-0.4* > /dev/null 2>&1 || needed password-hash librust-password-hash-dev
-for built in build/bin/scrypt_tool build/lib/glibc-hwcaps build/lib/libscrypt_crypt.so build/lib/pam_scrypt.so; do
-  [ -e $built ] || { echo "not built: $built. \`make crypt\` and \`make run\` build all, with the kit" >&2; exit 1; }
+for built in build/bin/scrypt_tool build/lib/glibc-hwcaps; do
+  [ -e $built ] || { echo "not built: $built. \`make test\` builds all, with the kit" >&2; exit 1; }
 done
-python3 -B release/linked.py check
+python3 -B release/proved.py check
 python3 bindings/version.py --check
 rm -rf "$dist" "$parts"
 mkdir -p "$dist" "$parts"
@@ -28,15 +29,15 @@ trap 'debian/rules clean > /dev/null 2>&1; rm -rf "$parts"' EXIT
 # The files below any prefix, and what PROVED.txt says of them.
 make -s install prefix="$parts/files" pythondir="$parts/python" docdir="$parts/doc" DESTDIR=
 release/strip.sh "$parts/files"
-python3 -B release/proved.py "$parts/files" > "$parts/PROVED.txt"
+python3 -B release/proved.py text "$parts/files" > "$parts/PROVED.txt"
 # The newest glibc whose names a binary may take: the wheel's tag manylinux2014 promises 2.17 for its libraries.
 glibc() {
   newest=$(objdump -T "$2" | grep -o 'GLIBC_[0-9.]*' | sort -Vu | tail -n 1)
   printf '%s\n' "$newest" "GLIBC_$1" | sort -V -C || { echo "$2 takes names of $newest, newer than $1" >&2; exit 1; }
 }
+release/hardened.sh "$parts"/files/bin/* "$lib"/lib*.so "$lib"/glibc-hwcaps/*/*
 for file in "$lib"/libscrypt_c.so.0 "$lib"/glibc-hwcaps/*/*; do glibc 2.17 "$file"; done
-glibc 2.33 "$lib/pam_scrypt.so"
-for file in "$parts"/files/bin/* "$lib"/libscrypt_drop_in.so "$lib"/libscrypt_crypt.so; do glibc 2.34 "$file"; done
+for file in "$parts"/files/bin/* "$lib"/libscrypt_drop_in.so; do glibc 2.34 "$file"; done
 
 # packed NAME.. packs folders of parts into an archive of the first one's name.
 packed() {
@@ -51,7 +52,7 @@ export SCRYPT_C_LIBRARY="$lib" SCRYPT_C_PROVED="$parts/PROVED.txt"
 set -- LICENSE release/NOTICES "$parts/PROVED.txt"
 module=scrypt-go-$version
 mkdir "$parts/$module"
-cp "$@" bindings/go/*.go bindings/go/go.mod bindings/go/README.md "$parts/$module"
+cp "$@" bindings/go/*.go bindings/go/library.h bindings/go/go.mod bindings/go/README.md "$parts/$module"
 cp "$lib/libscrypt_c.a" build/lib/scrypt_c.h "$parts/$module"
 packed "$module"
 
@@ -63,7 +64,9 @@ cp "$parts"/cargo/package/*.crate "$dist"
 
 mkdir "$parts/$name-linux-x86_64"
 mv "$parts/files" "$parts/$name-linux-x86_64/"
-cp "$@" release/install.sh "$dist"/*.whl "$parts/$name-linux-x86_64"
+mkdir "$parts/$name-linux-x86_64/docs"
+cp "$@" README.md SECURITY.md release/install.sh "$dist"/*.whl "$parts/$name-linux-x86_64"
+cp docs/*.md docs/*.svg "$parts/$name-linux-x86_64/docs"
 packed "$name-linux-x86_64"
 git archive --format=tar --prefix="$name/" HEAD | gzip -9n > "$dist/$name-source.tar.gz"
 chmod 644 "$dist"/*

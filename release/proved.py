@@ -1,72 +1,99 @@
 #!/usr/bin/env python3
-"""Prints the text PROVED.txt: what was proved, by what, what is trusted, and the hash of each binary.
+"""Keeps what the gate proved and what was linked of it, and says so in the text PROVED.txt, which every package has.
 
-usage: proved.py FOLDER        FOLDER has the files that are packed
+usage: proved.py keep LINES    keeps the verdicts among the lines of this file, which the gate printed, with the commit,
+                               the kit, and the SHA-256 of everything that is packed; the gate calls this at its end
+       proved.py check         refuses to pack anything else than was kept
+       proved.py text FOLDER   prints PROVED.txt for the files of a folder, which are packed
+
+UNPROVED=1 packs what is built, proved or not, and PROVED.txt says so.
 """
 
+import hashlib
+import json
 import os
 import re
+import subprocess
 import sys
 from pathlib import Path
 
-import records
-
+KEPT = Path("build/proved.json")
+# What the kit built, and what was linked of it.
+PACKED = ["crates/scrypt_c/out/**/libscrypt_c.a", "crates/scrypt_tool/out/scrypt_tool*", "build/lib/**/*", "build/bin/*"]
 UNPROVED = "There is no verdict here: `make dist UNPROVED=1` packed what was built, proved or not."
-GATE = "The gate proves each crate from nothing. What is packed was built of the same commit, over what checks kept."
-KEPT = """\
-By their hashes the sources are those of these verdicts, and so is what the kit built of them. `incremental=trusted`
-means that a verdict was printed over what earlier checks kept."""
+GATE = """\
+The gate proved each crate from nothing, in this commit's own clone, and what is packed was linked there. The library for C
+is proved once for both processors, in a folder that was empty before, so its lines have `incremental=trusted`."""
 
 
-def gate_verdicts(log, commit):
-    """The line of each crate and of each crate's tests, of a gate that passed on this commit."""
-    lines = log.read_text(encoding="utf-8").splitlines() or [""]
-    if lines[0].strip() != commit:
-        raise SystemExit(f"{log} begins with {lines[0][:40]!r}, and the commit is {commit}: run the gate on it")
-    if not any(re.fullmatch(r"\d+ passed, 0 failed", line) for line in lines):
-        raise SystemExit(f"{log} has no line `N passed, 0 failed`: the gate did not pass")
+def output(*command):
+    return subprocess.run(command, check=True, capture_output=True, text=True).stdout.strip()
+
+
+def commit():
+    """The commit, and what says so if there are changes that are not in it."""
+    changes = output("git", "status", "--porcelain", "--untracked-files=no")
+    return output("git", "rev-parse", "HEAD") + (", with changes that are not committed" if changes else "")
+
+
+def digest(path):
+    with open(path, "rb") as file:
+        return hashlib.file_digest(file, "sha256").hexdigest()
+
+
+def digests(paths):
+    return {str(it): digest(it) for it in sorted(paths) if it.is_file() and not it.is_symlink()}
+
+
+def packed():
+    return digests(path for it in PACKED for path in Path().glob(it) if "parts" not in path.parts)
+
+
+def verdicts(lines):
+    """The line of each crate and of each crate's tests, of a gate that passed."""
     crate, found = None, []
     for line in lines:
-        if line.startswith("== "):
+        if kept_before := re.match(r"rt: (\w+) is kept: (.*)", line):
+            found.append(f"{kept_before[1]}\n    {kept_before[2]}")
+        elif line.startswith("== "):
             crate = line[3:]
         elif line.startswith("logic=") and crate:
-            if not records.proved(line):
-                raise SystemExit(f"{log}: {crate} is not proved: {line}")
+            if not line.startswith("logic=proved "):
+                raise SystemExit(f"{crate} is not proved: {line}")
             found.append(f"{crate}\n    {line}")
-    if not found:
-        raise SystemExit(f"{log} has no verdict")
-    return "\n".join(found)
+    if not found or not any(re.fullmatch(r"\d+ passed, 0 failed", line) for line in lines):
+        raise SystemExit("the gate did not pass, or printed no verdict")
+    return found
 
 
-def kept_verdicts():
-    """The kept verdicts of all crates that are packed, or why there are none."""
-    crates = sorted({*records.PACKED, *(it for name in records.PACKED for it in records.below(name))})
-    kept = {it: records.kept_verdict(it) for it in crates}
-    if faults := [fault for _, fault in kept.values() if fault]:
-        return None, faults
-    kits = sorted({record["kit"] for record, _ in kept.values()})
-    return "\n".join([f"by {', '.join(kits)}", *(f"{it}\n    {kept[it][0]['verdict']}" for it in crates)]), []
+def keep(lines):
+    KEPT.unlink(missing_ok=True)
+    if "," in commit():
+        return  # nothing is packed of what no commit has
+    record = {"commit": commit(), "kit": output("rt", "version"), "verdicts": verdicts(lines), "files": packed()}
+    part = KEPT.with_suffix(".part")
+    part.write_text(json.dumps(record, indent=1) + "\n", encoding="utf-8")
+    part.replace(KEPT)
 
 
-def verdict_sections(commit, clean):
-    """The verdicts of the gate and those of `make run` and `make lib`, and where each was taken from."""
-    log, sections, taken = Path("build/gate.log"), [], []
-    if log.exists():
-        if not clean:
-            raise SystemExit("there are changes that are not committed, which the gate of build/gate.log did not prove")
-        text = gate_verdicts(log, commit)
-        sections.append(("What the gate printed of each crate, and of its tests", f"{GATE}\n\n{text}"))
-        taken.append("the gate's verdicts, of build/gate.log")
-    text, faults = kept_verdicts()
-    if text:
-        sections.append(("What `make run` and `make lib` printed of each crate", f"{KEPT}\n\n{text}"))
-        taken.append("the verdicts of `make run` and `make lib`, of build/verdicts")
-    if not sections and os.environ.get("UNPROVED") != "1":
-        faults.append("no verdict to pack: `make run lib` proves and keeps them, and UNPROVED=1 packs without")
-        raise SystemExit("\n".join(faults))
-    if not sections:
-        return [("Verdicts", UNPROVED)], "no verdict, as UNPROVED=1 allows"
-    return sections, ", and ".join(taken)
+def kept():
+    """The record, or None if nothing proved is packed."""
+    if os.environ.get("UNPROVED") == "1":
+        return None
+    if not KEPT.exists():
+        raise SystemExit("nothing was proved in this clone: `make test` proves and links what is packed; UNPROVED=1 packs without")
+    return json.loads(KEPT.read_text(encoding="utf-8"))
+
+
+def check():
+    """Names each file that is not the one that was kept."""
+    record = kept()
+    if record is None:
+        return
+    if record["commit"] != commit():
+        raise SystemExit(f"the gate passed on {record['commit']}, and this is {commit()}: make test")
+    if changed := sorted({path for path, _ in record["files"].items() ^ packed().items()}):
+        raise SystemExit("\n".join(f"{it} is not the file that the gate left: make test" for it in changed))
 
 
 def claims(readme):
@@ -77,31 +104,29 @@ def claims(readme):
     return re.sub(r"\*\*|`", "", re.sub(r"\[([^]]*)\]\([^)]*\)", r"\1", text))
 
 
-def main(folder):
-    commit, version = records.output("git", "rev-parse", "HEAD"), Path("VERSION").read_text(encoding="utf-8").strip()
-    clean = not records.output("git", "status", "--porcelain", "--untracked-files=no")
-    texts, taken = verdict_sections(commit, clean)
-    files = sorted(path for path in folder.rglob("*") if path.is_file() and not path.is_symlink())
-    named = {str(path.relative_to(folder)): path for path in files}
-    hashes = [f"{records.digest(path)}  {it}" for it, path in named.items() if re.search(r"\.so|\.a$|^bin/", it)]
-    built = records.hashes([], sum(records.PACKED.values(), []))
+def text(folder):
+    record, version = kept(), Path("VERSION").read_text(encoding="utf-8").strip()
     # What compiled the few lines of C and linked all.
-    tools = [records.output(tool, "--version").split("\n")[0] for tool in (os.environ.get("CC", "cc"), "ld")]
-    state = commit if clean else f"{commit}, with changes that are not committed"
+    tools = [output(tool, "--version").split("\n")[0] for tool in (os.environ.get("CC", "cc"), "ld")]
+    said = "\n\n".join([f"{GATE}\nIt was {record['kit']}.", *record["verdicts"]]) if record else UNPROVED
+    files = {os.path.relpath(path, folder): it for path, it in digests(Path(folder).rglob("*")).items()}
+    built = {path: it for path, it in packed().items() if path.startswith("crates/")}
     sections = [
-        ("scrypt, proved", f"version {version}\ncommit  {state}\nkit     {records.kit()}\nlinker  {', '.join(tools)}"),
-        *texts,
+        ("scrypt, proved", f"version {version}\ncommit  {commit()}\nlinker  {', '.join(tools)}"),
+        ("What the gate printed of each crate, and of its tests", said),
         ("What is trusted", claims(Path("README.md").read_text(encoding="utf-8"))),
-        ("SHA-256 of the binaries, as they are in the packages", "\n".join(hashes)),
-        ("SHA-256 of what the kit built, from which these were linked",
-         "\n".join(f"{digest}  {path}" for path, digest in built.items())),
-        ("To compare", "With the kit and this compiler and linker, `make dist` on this commit makes the same files."),
+        ("SHA-256 of the binaries, as they are in the packages",
+         "\n".join(f"{it}  {path}" for path, it in files.items() if re.search(r"\.so|\.a$|^bin/", path))),
+        ("SHA-256 of what the kit built, from which these were linked", "\n".join(f"{it}  {path}" for path, it in built.items())),
+        ("To compare", "With the kit and this compiler and linker, the gate and `make dist` on this commit make the same files."),
     ]
-    print("\n\n".join(f"{title}\n{'-' * len(title)}\n{text}" for title, text in sections))
-    print(f"PROVED.txt of {state} has {taken}", file=sys.stderr)
+    print("\n\n".join(f"{title}\n{'-' * len(title)}\n{body}" for title, body in sections))
 
 
 if __name__ == "__main__":
-    target = Path(sys.argv[1]).resolve()
-    os.chdir(records.ROOT)
-    main(target)
+    words = [os.path.abspath(it) for it in sys.argv[2:]]
+    os.chdir(Path(__file__).resolve().parent.parent)
+    if sys.argv[1] == "keep":
+        keep(Path(words[0]).read_text(encoding="utf-8", errors="replace").splitlines())
+    else:
+        {"check": check, "text": text}[sys.argv[1]](*words)
