@@ -3,7 +3,7 @@
 
 usage: bench.py LIBRARY [--worker NAME=PATH].. [--runs 15] [--cpu N] [--params 14,8,1:17,8,1]
 
-All libraries are called in one process: this one (LIBRARY is libscrypt_c.so) by scrypt_kdf and by scrypt_kdf_mapped;
+All libraries are called in one process: this one (LIBRARY is libscrypt_c.so) by scrypt_key;
 libxcrypt, libsodium, libscrypt-kdf, and hashlib, which calls OpenSSL. A library that isn't installed is named and left out.
 Each round calls every one once, in a new random order, on one processor (--cpu, by default the last). The minimum and the
 median of the rounds are printed as a table in Markdown. An implementation has no figure if it returns an error or another

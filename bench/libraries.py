@@ -15,7 +15,7 @@ from worker import Refused
 sys.path.insert(0, os.path.join(os.path.dirname(os.path.abspath(__file__)), "..", "compare"))
 import crypt64
 
-OURS, MAPPED, OPENSSL = "this library", "scrypt_kdf_mapped", "OpenSSL"
+OURS, OPENSSL = "this library", "OpenSSL"
 
 # the size of the structure crypt_data of crypt(3)
 CRYPT_DATA = 32768
@@ -54,9 +54,7 @@ def deriving(name, derive, first=lambda log_n: log_n, verify=None):
 
 
 def of_this_repository(path):
-    """The call that allocates, and the one that maps memory with huge pages."""
-    library = ours.loaded(path)
-    return [deriving(OURS, library.scrypt_kdf), deriving(MAPPED, library.scrypt_kdf_mapped)]
+    return [deriving(OURS, ours.loaded(path).scrypt_key)]
 
 
 def openssl():

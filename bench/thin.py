@@ -23,7 +23,7 @@ PASSWORD, SALT, LENGTH = b"pleaseletmein", b"SodiumChloride", 64
 
 def thin_call(path):
     """The call of the library, as a function of the parameters and s that returns the time and the key."""
-    derive = ours.loaded(path).scrypt_kdf_thin
+    derive = ours.loaded(path).scrypt_key_thin
 
     def call(log_n, r, p, s):
         key = ctypes.create_string_buffer(LENGTH)

@@ -3,8 +3,8 @@
 
 usage: verifications.py LIBRARY [NAME=WORKER..] [--runs 20] [--params 14,8,1:17,8,1:20,8,1] [--processes 1] [--picture FILE]
 
-This library (LIBRARY is libscrypt_c.so) verifies by scrypt_verify_in, in memory that is kept from call to call, by
-scrypt_verify, and two at once by scrypt_verify_two_in, of which half the time counts. libsodium verifies by
+This library (LIBRARY is libscrypt_c.so) verifies by scrypt_hasher_verify, in memory that is kept from call to call,
+by scrypt_verify, and two or four at once by scrypt_verify_group_with_buffers, of which each one's part of the time counts. libsodium verifies by
 crypto_pwhash_scryptsalsa208sha256_str_verify, and libxcrypt by crypt_r, whose answer is compared with the hash. OpenSSL,
 libscrypt-kdf and workers, which bench.py describes, have no call for it: they derive the key, and it is compared. All
 verify one $7$ hash, in one process (a worker is one of its own), in turns: in each of the runs every one verifies once, in
@@ -17,8 +17,10 @@ implementation those of its median time.
 
 import argparse
 import ctypes
+import functools
 import hashlib
 import hmac
+import mmap
 import multiprocessing
 import os
 import random
@@ -32,8 +34,8 @@ import tables
 from libraries import crypt64, libraries
 from worker import Worker
 
-IN_MEMORY, ALLOCATING, AT_ONCE = "`scrypt_verify_in`", "`scrypt_verify`", "`scrypt_verify_two_in`, each"
-DRAWN = {AT_ONCE: "this library in pairs", IN_MEMORY: "this library", ALLOCATING: None}  # None is left out
+IN_MEMORY, ALLOCATING, TWO, FOUR = "`scrypt_hasher_verify`", "`scrypt_verify`", "each of two at once", "each of four at once"
+DRAWN = {FOUR: "this library, four at once", TWO: "two at once", IN_MEMORY: "one at a time", ALLOCATING: None}  # None is left out
 PASSWORD, OTHER = b"pleaseletmein", b"pleaseletmeIn"
 SALT = b"SodiumChloride.SodiumChloride.SodiumChlorid"  # 43 letters, as those of libsodium
 KEY_LEN = 32
@@ -58,23 +60,37 @@ def timed(verify, count=1):
     return verified
 
 
+def buffers_for(library, params, tables, logins):
+    """The buffers for so many tables and logins, in huge pages if there are some, with their lengths."""
+    needs = ours.Needs()
+    if library.scrypt_params_need(*params, ours.UNBOUNDED, ours.UNBOUNDED, needs) != 0:
+        sys.exit(f"no lengths for {params}")
+    for length, times, width in ((needs.chunks_len, logins, 1), (needs.table_len, tables, 4), (needs.scratch_len, tables, 4)):
+        room = mmap.mmap(-1, length * times * width)
+        room.madvise(mmap.MADV_HUGEPAGE)
+        yield from ((ctypes.c_char * len(room)).from_buffer(room), length * times)
+
+
 def of_this_repository(path):
     library = ours.loaded(path)
-    memory, room_for_two = (library.scrypt_memory_new(ours.UNBOUNDED, ours.UNBOUNDED) for _ in range(2))
+    hasher = ours.verifying(library, ours.UNBOUNDED, ours.UNBOUNDED)
+    buffers = functools.lru_cache(maxsize=2)(lambda *of: list(buffers_for(library, *of)))
 
     def in_memory(password, text, *_):
-        return library.scrypt_verify_in(memory, password, len(password), text, len(text)) == 0
+        return hasher(password, len(password), text, len(text)) == 0
 
     def allocating(password, text, *_):
         return library.scrypt_verify(password, len(password), text, len(text)) == 0
 
-    def two(password, text, *_):
-        one, other = ctypes.c_int(-1), ctypes.c_int(-1)
-        login = password, len(password), text, len(text)
-        library.scrypt_verify_two_in(room_for_two, *login, one, *login, other)
-        return one.value == other.value == 0
+    def at_once(count):
+        def verified(password, text, params, _key):
+            logins = (ours.Login * count)(*[(password, len(password), text, len(text))] * count)
+            statuses = (ctypes.c_int * count)(*[-1] * count)
+            done = library.scrypt_verify_group_with_buffers(logins, count, statuses, *buffers(params, count, count))
+            return done == 0 and list(statuses) == [0] * count
+        return timed(verified, count)
 
-    return {IN_MEMORY: timed(in_memory), ALLOCATING: timed(allocating), AT_ONCE: timed(two, 2)}
+    return {IN_MEMORY: timed(in_memory), ALLOCATING: timed(allocating), TWO: at_once(2), FOUR: at_once(4)}
 
 
 def deriving(implementation):
@@ -161,7 +177,7 @@ def main():
             print(tables.line([tables.label(one), name, *tables.relative(list(map(figure, taken.values())), 1e6)]), flush=True)
         for name, made in taken.items():
             mib, rate = (params[1] << params[0]) / 8192, args.processes * 1e9 / statistics.median(made)
-            lines[name].append((mib, rate, f"{params[0]}: {rate:.3g}" if name == AT_ONCE else ""))
+            lines[name].append((mib, rate, f"{params[0]}: {rate:.3g}" if name == FOUR else ""))
     if args.picture:
         title = f"verifications a second on {args.processes} processors, by log_n, r = 8, p = 1"
         lines = {DRAWN.get(name, name): line for name, line in lines.items()}

@@ -139,6 +139,8 @@ def main():
     for name in CALLERS:
         for path in glob.glob(f"crates/{name}/proofs/**/*.antt", recursive=True):
             found += inner_proofs(path, read(path))
+    if f"`axioms={len(read('doc/axioms.txt').split())}`" not in read("README.md"):
+        found.append("README.md: doc/axioms.txt has another number of axioms")
     found += missing_calls("docs/data_path.dot", [read_crate(it, f"crates/{it}") for it in ("scrypt", "scrypt_kernel")])
     sys.exit("\n".join(found) or 0)
 

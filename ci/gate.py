@@ -1,19 +1,37 @@
 #!/usr/bin/env python3
-"""Runs `rt ci`, and then what is built over the libraries that it proved.
+"""Runs `rt ci`, and beside it, on the processors that it leaves idle, all else that the gate tries.
 
-`rt ci` proves every crate from nothing, and leaves the libraries that it proved. The wrong bodies are tried over them,
-and the static library for C is built over them, so that only its own crate is checked again: `rt lib` takes nothing
-from `rt ci`, and would prove the crates below it again. If the clone has libraries of an earlier `rt check` or
-`rt lib`, `rt ci` gives those back at its end, and `rt lib` goes on from them.
+`rt ci` proves every crate from nothing. Each other task begins as soon as `rt ci` says that the libraries that it needs
+are proved, over a copy of them, and gives way to `rt ci`, whose crates wait for one another. The wrong bodies are tried
+over these libraries, and the static libraries for C are built over them, so that only their own crate is checked again:
+`rt lib` takes nothing from `rt ci`, and would prove the crates below it again. That crate is checked once for both
+processors and for its wrong bodies, in a folder that is empty before. What the tasks print comes after what `rt ci`
+prints, and the count of what passed stays the last line. A fault of the documents or the scripts, and one of what must
+not compile, is found in the first minutes and ends all.
 """
 
+import concurrent.futures
+import contextlib
 import os
+import re
 import shutil
 import subprocess
 import sys
+import tempfile
+import threading
 
 import edits
 import words
+
+# How many tasks run beside `rt ci`, and how many after it.
+BESIDE, AFTERWARDS = 2, 4
+
+# What `rt ci` prints of a crate whose library is there.
+PROVED = re.compile(r"rt: (\w+) (?:proved$|is kept: )")
+
+NEWER = "x86-64-v3"
+
+PROGRAM = "crates/scrypt_tool/out/scrypt_tool"
 
 
 def left_by_ci(name):
@@ -23,69 +41,179 @@ def left_by_ci(name):
 
 
 def clean():
-    """Removes what an earlier `rt ci` left, so that what is there afterwards is new, and the libraries for C: `rt ci`
-    refuses a clone with their links."""
+    """Removes what an earlier run left, and the libraries for C: `rt ci` refuses a clone with their links."""
     for name in words.crates():
         if left_by_ci(name):
             shutil.rmtree(f"crates/{name}/out/rlib")
     shutil.rmtree("build/lib", ignore_errors=True)
+    with contextlib.suppress(FileNotFoundError):
+        os.remove(f"{PROGRAM}.o")
 
 
-def libraries():
-    """Brings libraries of an earlier `rt lib` up to date, and returns whether all are built."""
-    names = dict.fromkeys(it for name in edits.crates_with("wrong-bodies") for it in words.below(name))
-    return all(left_by_ci(it) or built(it) for it in names)
+class Tasks:
+    """Runs tasks beside `rt ci`, each once the libraries that it needs are proved."""
+
+    def __init__(self, libraries):
+        self.libraries, self.proved, self.waiting, self.begun, self.running = libraries, set(), [], {}, set()
+        self.lanes, self.threads = threading.Semaphore(BESIDE), concurrent.futures.ThreadPoolExecutor(2 * AFTERWARDS)
+        self.prover = self.early = None
+
+    def add(self, name, needs, call):
+        self.waiting.append((name, needs, call))
+
+    def begin(self):
+        for name, needs, call in [it for it in self.waiting if self.proved.issuperset(it[1])]:
+            self.waiting.remove((name, needs, call))
+            self.begun[name] = self.threads.submit(self.one, name, call, not needs)
+
+    def one(self, name, call, is_early):
+        """Runs a task. If one fails that needs nothing proved, the prover is ended too."""
+        with self.lanes:
+            well, text = call()
+        if is_early and not well and self.prover.poll() is None and self.early is None:
+            self.early = f"{text}failed: {name}"
+            self.prover.terminate()
+        return well, text
+
+    def run(self, *command, cwd=None):
+        """Whether a command succeeds, and what it prints."""
+        how = {"stdout": subprocess.PIPE, "stderr": subprocess.STDOUT, "text": True, "errors": "replace"}
+        process = subprocess.Popen(["nice", *command], cwd=cwd, **how)
+        self.running.add(process)
+        text = process.communicate()[0]
+        self.running.remove(process)
+        return process.returncode == 0, text
+
+    def see(self, line):
+        """Copies the library of a crate that `rt ci` says is proved, since it may give back an earlier one at its end."""
+        found = PROVED.match(line)
+        if found and found[1] in words.crates():
+            if os.path.isdir(f"crates/{found[1]}/out/rlib"):
+                shutil.copytree(f"crates/{found[1]}/out/rlib", f"{self.libraries}/{found[1]}/out/rlib")
+            self.proved.add(found[1])
+            self.begin()
+
+    def give_up(self):
+        """Ends the tasks."""
+        self.threads.shutdown(wait=False, cancel_futures=True)
+        for it in list(self.running):
+            it.terminate()
+
+    def end(self, log):
+        """Gives the tasks all processors, prints what they print, also to a file, and returns the names of those that
+        fail."""
+        self.lanes.release(AFTERWARDS - BESIDE)
+        failed = [f"{name}, which did not begin" for name, _, _ in self.waiting]
+        for name, it in self.begun.items():
+            well, text = it.result()
+            print(text, end="", flush=True)
+            log.write(text)
+            failed += [] if well else [name]
+        return failed
 
 
-def built(name):
-    """Whether `rt lib` builds a crate; its output is printed only if it fails."""
-    ran = subprocess.run(["rt", "lib"], cwd=f"crates/{name}", capture_output=True, text=True)
-    if ran.returncode:
-        print(ran.stdout + ran.stderr)
-    return ran.returncode == 0
+def build(tasks, made):
+    """Builds the static libraries for C for both processors, and tries the wrong bodies over what the first build kept.
+
+    The verdict of the newer processor's is printed."""
+    kept = f"{made}/kept"
+    os.makedirs(kept)
+    command = [*words.of("build", "scrypt_c"), "--toolchain", f"{words.kit()}/toolchain", "--backend", "llvm"]
+    command += ["--incremental", kept]
+    lines = []
+    for name, options in [(NEWER, ["--cpu", NEWER]), ("scrypt_c", [])]:
+        well, text = tasks.run(*command, *options, "-o", f"{made}/{name}.a", cwd="crates/scrypt_c")
+        if not well:
+            return False, text
+        lines += [it for it in text.splitlines() if it.startswith("logic=proved ") and f" cpu={NEWER} " in it]
+    well, text = tasks.run(sys.executable, "ci/wrong_bodies.py", "over", kept, "scrypt_c")
+    return well and len(lines) == 1, "\n".join([f"== scrypt_c-{NEWER}", *lines, text])
 
 
-def build():
-    """Builds the static libraries for C side by side, and prints the verdict of the newer processor's."""
-    newer, folder = "x86-64-v3", "crates/scrypt_c"
-    os.makedirs(f"{folder}/out/{newer}", exist_ok=True)
-    command = words.of("build", "scrypt_c") + ["--toolchain", f"{words.kit()}/toolchain", "--backend", "llvm"]
-    options = [["-o", "out/libscrypt_c.a"], ["--cpu", newer, "-o", f"out/{newer}/libscrypt_c.a"]]
-    how = {"cwd": folder, "stdout": subprocess.PIPE, "stderr": subprocess.STDOUT, "text": True}
-    running = [subprocess.Popen([*command, *it], **how) for it in options]
-    texts = [it.communicate()[0] for it in running]
-    for ran, text in zip(running, texts):
-        if ran.returncode:
-            print(text)
-    verdicts = [line for line in texts[1].splitlines() if line.startswith("logic=proved ") and f" cpu={newer} " in line]
-    print(f"== scrypt_c-{newer}", *verdicts, sep="\n")
-    return len(verdicts) == 1 and not any(it.returncode for it in running)
+def check_axioms(log):
+    """Ends unless doc/axioms.txt has as many functions as the check of the program assumes to meet their contracts. `rt ci`
+    prints that only if it proved the program now."""
+    log.seek(0)
+    found = re.search(r"^== scrypt_tool\n(?:(?!== ).*\n)*?logic=.* axioms=(\d+) ", log.read(), re.M)
+    with open("doc/axioms.txt", encoding="utf-8") as file:
+        known = len(file.readlines())
+    if found and int(found[1]) != known:
+        sys.exit(f"doc/axioms.txt has {known} functions, and the check of the program assumes {found[1]}: make axioms")
 
 
-def proved():
-    """Runs `rt ci`, and returns its last line, or ends as it did."""
-    ran = subprocess.Popen(["rt", "ci"], stdout=subprocess.PIPE, text=True, errors="replace")
+def place(made):
+    """Moves the static libraries for C to where `rt lib` leaves them."""
+    os.makedirs(f"crates/scrypt_c/out/{NEWER}", exist_ok=True)
+    shutil.move(f"{made}/{NEWER}.a", f"crates/scrypt_c/out/{NEWER}/libscrypt_c.a")
+    shutil.move(f"{made}/scrypt_c.a", "crates/scrypt_c/out/libscrypt_c.a")
+
+
+def add_all(tasks, made, is_built):
+    """Adds the tasks, the longest first."""
+    if is_built:
+        tasks.add("the library for C", words.below("scrypt_c"), lambda: build(tasks, made))
+    for name in edits.crates_with("wrong-bodies"):
+        if name != "scrypt_c" or not is_built:
+            command = [sys.executable, "ci/wrong_bodies.py", name]
+            tasks.add(f"wrong bodies of {name}", words.below(name), lambda command=command: tasks.run(*command))
+    tasks.add("the documents", [], lambda: tasks.run("make", "--no-print-directory", "documents"))
+    tasks.add("what must not compile", [], lambda: tasks.run(sys.executable, "ci/must_not_compile.py"))
+
+
+def proved(tasks, log):
+    """Runs `rt ci`, copies what it prints to a file, and returns its last line, or ends as it did."""
+    tasks.prover = ran = subprocess.Popen(["rt", "ci"], stdout=subprocess.PIPE, text=True, errors="replace")
+    tasks.begin()
     line = ""
     for line in ran.stdout:
         print(line, end="", flush=True)
+        log.write(line)
+        tasks.see(line)
     if ran.wait():
-        sys.exit(ran.returncode)
+        tasks.give_up()
+        sys.exit(tasks.early or ran.returncode)
     return line
 
 
+def has_object():
+    """Makes the program's object, over the libraries that were proved, where `rt ci` gave only the program, since it proved
+    the same earlier on this machine."""
+    if os.path.isfile(f"{PROGRAM}.o"):
+        return True
+    command = [*words.of("build", "scrypt_tool"), "--toolchain", f"{words.kit()}/toolchain", "--backend", "llvm"]
+    return not subprocess.call([*command, "-o", "out/scrypt_tool.o"], cwd="crates/scrypt_tool")
+
+
+def called():
+    """Links the libraries and the program, and calls them. What is packed is this."""
+    commands = [["bindings/lib.sh", "built"], ["bindings/terminal/build.sh"], ["bindings/callers.sh", "short"]]
+    return has_object() and not any(map(subprocess.call, commands))
+
+
 def main():
+    is_built = shutil.which(os.environ.get("CC", "cc")) is not None
     clean()
-    count = proved()
-    tool, verdicts = "crates/scrypt_tool/out/scrypt_tool", "crates/test_verdicts/out/test_verdicts"
-    for script in [["ci/program.py", tool], ["ci/hashes.py", tool, verdicts]]:
-        if subprocess.call([sys.executable, *script]):
-            sys.exit("a program gave a wrong answer")
-    if not libraries() or subprocess.call([sys.executable, "ci/wrong_bodies.py"]):
-        sys.exit("a wrong body was not refused")
-    if not shutil.which(os.environ.get("CC", "cc")):
-        print("No C compiler is here (package gcc): the library was not called.")
-    elif not build() or any(map(subprocess.call, (["bindings/lib.sh", "built"], ["bindings/callers.sh", "short"]))):
-        sys.exit("the library could not be built or called")
+    with tempfile.TemporaryDirectory(ignore_cleanup_errors=True) as room, open(f"{room}/log", "w+", encoding="utf-8") as log:
+        os.environ["PROVED_LIBRARIES"] = f"{room}/libraries"
+        tasks = Tasks(f"{room}/libraries")
+        add_all(tasks, f"{room}/made", is_built)
+        count = proved(tasks, log)
+        verdicts = "crates/test_verdicts/out/test_verdicts"
+        for script in [["ci/program.py", PROGRAM], ["ci/hashes.py", PROGRAM, verdicts]]:
+            if subprocess.call([sys.executable, *script]):
+                tasks.give_up()
+                sys.exit("a program gave a wrong answer")
+        if failed := tasks.end(log):
+            sys.exit(f"failed: {'; '.join(failed)}")
+        check_axioms(log)
+        if not is_built:
+            print("No C compiler is here (package gcc): the library was not called.")
+        else:
+            place(f"{room}/made")
+            if not called():
+                sys.exit("the library could not be built or called")
+            log.flush()
+            subprocess.run([sys.executable, "-B", "release/proved.py", "keep", log.name], check=True)
     print(count, end="")
 
 

@@ -18,4 +18,8 @@ lint() {
 lint '*.py' pyflakes3 pyflakes3
 lint '*.sh' shellcheck shellcheck --severity=error
 lint '*.go' golang-go gofmt -l
+# A user's CDPATH would make cd go elsewhere.
+for script in .ci/run $(find ci compare doc bench bindings examples release -name '*.sh'); do
+  if grep -qE '^[^#]*\bcd ' "$script" && ! grep -qx 'unset CDPATH' "$script"; then echo "$script: no unset CDPATH"; exit 1; fi
+done
 lint '*.rs' rustfmt rustfmt --check --edition 2021 --config-path bindings/rust

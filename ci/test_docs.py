@@ -49,4 +49,4 @@ class Docs(unittest.TestCase):
         self.assertGreater(len(lines), 12)
         for line in lines:
             with self.subTest(line):
-                self.assertIn(f'.It Li "{line}', page)
+                self.assertTrue(f'.It Li "{line}' in page, "docs/scrypt_tool.1 does not explain it")

@@ -1,4 +1,5 @@
-"""The words of a `rattle` command on one crate, over the libraries below it that are built."""
+"""The words of a `rattle` command on one crate, over the libraries below it that are built: those of crates/*/out, or of
+the folder that PROVED_LIBRARIES names in the environment, which has them in the same places."""
 
 import os
 import sys
@@ -21,7 +22,7 @@ def below(name):
 def of(command, name):
     """The words, for any folder that has the crate's src/, specs/ and proofs/."""
     kind, used = crates()[name]
-    folder, libraries = kit(), os.path.join(os.getcwd(), "crates")
+    folder, libraries = kit(), os.environ.get("PROVED_LIBRARIES") or os.path.join(os.getcwd(), "crates")
     root = "src/main.rt" if os.path.isfile(f"crates/{name}/src/main.rt") else "src/lib.rt"
     words = [f"{folder}/bin/rattle", command, "--crate-name", name, root]
     words += ["--crate-type", kind] if kind else []

@@ -9,6 +9,7 @@ constant, or of a type, has a round of its own.
 
 usage: wrong_bodies.py [NAME..]         the edits of crates/NAME/wrong-bodies/, one round for each crate
        wrong_bodies.py all [NAME..]     those of more-wrong-bodies/ too, in as many rounds as it takes
+       wrong_bodies.py over FOLDER NAME the edits of crates/NAME/wrong-bodies/, over what a check of the crate kept there
        wrong_bodies.py fit              tries nothing: prints the edits of all folders that can't be applied, and those
                                         that need more than one round
 The libraries below a crate have to be built.
@@ -74,34 +75,34 @@ def rounds(name, *folders):
     return made + alone
 
 
-def check(name, tried):
-    """What a check of a crate prints that has these edits."""
+def check(name, tried, kept=()):
+    """What a check of a crate prints that has these edits. It takes what they leave as it was from what was kept."""
     with tempfile.TemporaryDirectory() as crate:
         for part in ("src", "specs", "proofs"):
             if os.path.isdir(f"crates/{name}/{part}"):
                 shutil.copytree(f"crates/{name}/{part}", f"{crate}/{part}")
         edits.write(edits.texts_after(tried, crate))
         only = [word for its in tried.values() for path in its for word in ("--only", path)]
-        command = [*words.of("check", name), *only]
+        command = [*words.of("check", name), *only, *kept]
         ran = subprocess.run(command, cwd=crate, capture_output=True, text=True, errors="replace")
     return ran.stdout + ran.stderr
 
 
-def judged(name, tried):
+def judged(name, tried, kept):
     """Each edit of a round with its verdict."""
-    printed = check(name, tried)
+    printed = check(name, tried, kept)
     if not verdicts.statuses(printed):
         return {edit: "BAD EDIT: " + printed.strip()[:300] for edit in tried}
     return {edit: verdicts.verdict(printed, its) for edit, its in tried.items()}
 
 
-def try_all(names, folders):
+def try_all(names, folders, kept=()):
     """Tries the edits of crates, prints each that isn't refused with a goal, and returns how many these are."""
     tried = wrong = 0
     # The longest begin first.
     all_rounds = sorted(((name, it) for name in names for it in rounds(name, *folders)), key=lambda it: -len(it[1]))
     with concurrent.futures.ThreadPoolExecutor(AT_ONCE) as lanes:
-        running = [lanes.submit(judged, *it) for it in all_rounds]
+        running = [lanes.submit(judged, *it, kept) for it in all_rounds]
         for done in concurrent.futures.as_completed(running):
             for edit, verdict in done.result().items():
                 tried += 1
@@ -115,13 +116,19 @@ def try_all(names, folders):
 def unfit():
     """What is wrong with the edits, without trying them."""
     for name in edits.crates_with(*edits.FOLDERS):
-        try:
-            for edit in edits.edits_of(name, *edits.FOLDERS):
-                edits.texts_after([edit], f"crates/{name}")
-            if len(rounds(name, FIRST)) > 1:
-                yield f"crates/{name}/{FIRST}: two edits change one function, or one changes none: move it to {MORE}"
-        except edits.BadEdit as error:
-            yield str(error)
+        wrong = list(filter(None, (unfit_edit(edit, name) for edit in edits.edits_of(name, *edits.FOLDERS))))
+        yield from wrong
+        if not wrong and len(rounds(name, FIRST)) > 1:
+            yield f"crates/{name}/{FIRST}: two edits change one function, or one changes none: move it to {MORE}"
+
+
+def unfit_edit(edit, name):
+    """Why an edit can't be applied, or None."""
+    try:
+        edits.texts_after([edit], f"crates/{name}")
+    except edits.BadEdit as error:
+        return str(error)
+    return None
 
 
 def main():
@@ -130,6 +137,8 @@ def main():
         wrong = list(unfit())
         print("\n".join([*wrong, f"wrong bodies: {len(wrong)} can't be tried"]))
         sys.exit(1 if wrong else 0)
+    if names[:1] == ["over"]:
+        sys.exit(1 if try_all(names[2:], [FIRST], ["--incremental", names[1]]) else 0)
     folders = [FIRST, MORE] if names[:1] == ["all"] else [FIRST]
     names = names[len(folders) - 1 :] or edits.crates_with(*folders)
     sys.exit(1 if try_all(names, folders) else 0)

@@ -20,34 +20,33 @@ MEMORY = (3, "", "out of memory\n")
 
 MCF = "$7$2/..../....C3qEg/$oOSIli7m/kDufp3GXHdJ7lqr3hzIyIJUYr4iTamAqDA"
 
-# the words, the input, the status, and how many allocations a run makes for them: one is the text of --usual-limits,
-# and one makes room for it before the words, but that `verify` has room
+# the words, the input, the status, and how many allocations a run makes for them
 RUNS = [
-    ("key 4 1 1 32 4e61436c", b"password", 0, 10),
-    ("key 4 1 1 4000 4e61436c", b"password", 0, 10),
-    ("hash phc 4 1 1 4e61436c", b"password", 0, 9),
-    ("hash mcf 4 1 1 4e61436c", b"password", 0, 9),
-    ("hash mcf 4 1 1 4e61436c 64", b"password", 0, 9),
-    (f"verify {PHC}", b"password", 0, 5),
-    (f"verify {MCF}", b"password", 0, 5),
-    (f"verify {PHC}", b"another", 1, 5),
-    (f"verify {MCF}", b"another", 1, 5),
+    ("key 4 1 1 32 4e61436c", b"password", 0, 8),
+    ("key 4 1 1 4000 4e61436c", b"password", 0, 8),
+    ("hash phc 4 1 1 4e61436c", b"password", 0, 7),
+    ("hash mcf 4 1 1 4e61436c", b"password", 0, 7),
+    ("hash mcf 4 1 1 4e61436c 64", b"password", 0, 7),
+    (f"verify {PHC}", b"password", 0, 4),
+    (f"verify {MCF}", b"password", 0, 4),
+    (f"verify {PHC}", b"another", 1, 4),
+    (f"verify {MCF}", b"another", 1, 4),
     # the input grows by doubling, from the first 1,024 bytes on
-    (f"verify {PHC}", b"a" * 5000, 1, 8),
+    (f"verify {PHC}", b"a" * 5000, 1, 7),
     # the verdict, and then a new hash if there is one
-    (f"rehash phc 5 1 1 32 4e61436c {MCF}", b"password", 0, 12),
-    (f"rehash mcf 5 1 1 32 4e61436c {PHC}", b"password", 0, 12),
-    (f"rehash mcf 4 1 1 32 4e61436c {PHC}", b"password", 0, 7),
-    (f"rehash mcf 5 1 1 32 4e61436c {MCF}", b"another", 1, 7),
+    (f"rehash phc 5 1 1 32 4e61436c {MCF}", b"password", 0, 10),
+    (f"rehash mcf 5 1 1 32 4e61436c {PHC}", b"password", 0, 10),
+    (f"rehash mcf 4 1 1 32 4e61436c {PHC}", b"password", 0, 5),
+    (f"rehash mcf 5 1 1 32 4e61436c {MCF}", b"another", 1, 5),
     # refused before the input, some with the salt in memory
-    ("key 4 1 1", b"password", 2, 2),
-    ("key 4 1 1 32 4", b"password", 2, 2),
-    ("key 4 1 1 0 4e", b"password", 2, 3),
-    ("key 4 0 1 32 4e", b"password", 2, 3),
-    ("verify x", b"password", 2, 1),
+    ("key 4 1 1", b"password", 2, 0),
+    ("key 4 1 1 32 4", b"password", 2, 0),
+    ("key 4 1 1 0 4e", b"password", 2, 1),
+    ("key 4 0 1 32 4e", b"password", 2, 1),
+    ("verify x", b"password", 2, 0),
     # refused after it
-    ("verify $scrypt$v=1$ln=4,r=1,p=1$TmFDbA$rsa3SD7SbgiAK0H0AyCGoOiGvnrEj8/ZL/DO+BCXUvQ", b"password", 2, 2),
-    ("hash phc 4 1 1 " + "4e" * 65, b"password", 2, 4),
+    ("verify $scrypt$v=1$ln=4,r=1,p=1$TmFDbA$rsa3SD7SbgiAK0H0AyCGoOiGvnrEj8/ZL/DO+BCXUvQ", b"password", 2, 1),
+    ("hash phc 4 1 1 " + "4e" * 65, b"password", 2, 2),
 ]
 
 

@@ -32,12 +32,12 @@ VERDICTS = "Ok Algorithm EncodingInvalid OutputSize ln r p ParamsInvalid Passwor
 # from this log_n on no machine has the table
 GREAT = 50
 
-# the limits: 256 MiB, four times the recommended work and 16 bytes of key; and the buffers of the program under them
-MOST_BYTES, MOST_WORK, LEAST_KEY_LEN = 256 << 20, 16 * ((1 << 17) + 32) * 8, 16
+# the limits: 257 MiB, four times the recommended work and 16 bytes of key; and the buffers of the program under them
+MOST_BYTES, MOST_WORK, LEAST_KEY_LEN = 257 << 20, 16 * ((1 << 17) + 32) * 8, 16
 CHUNKS, TABLE, SCRATCH = 128 * 16, 32 * 16 * 16, 64 * 16
 
 # parameters that are exactly, or almost, what is allowed
-ALLOWED = [(17, 8, 1), (17, 8, 4), (20, 1, 4), (0, 1, 127131), (4, 16, 1), (4, 1, 16), (4, 1, 17), (5, 16, 1)]
+ALLOWED = [(17, 8, 1), (17, 8, 4), (18, 8, 1), (20, 1, 4), (0, 1, 127131), (4, 16, 1), (4, 1, 16), (4, 1, 17), (5, 16, 1)]
 
 # the characters that mutations put in
 CHARACTERS = "$$$=,,.-/+" + crypt64.ALPHABET + "*!\x00\x7f \u00e9\u20ac"
@@ -76,10 +76,11 @@ def compared(salt, log_n, r, p, key):
 def compared_within(salt, log_n, r, p, key):
     """The same within the limits, in the buffers of the program."""
     chunks, table, scratch = 128 * r * p, 32 * r << log_n, 64 * r
-    if chunks + 4 * table + 4 * scratch > MOST_BYTES or 4 * ((1 << log_n) + 32) * r * p > MOST_WORK:
-        return "TooCostly"
+    size, work = chunks + 4 * table + 4 * scratch, 4 * ((1 << log_n) + 32) * r * p
+    if size > MOST_BYTES or work > MOST_WORK:
+        return f"TooCostly {{ bytes: {size}, work: {work} }}"
     if len(key) < LEAST_KEY_LEN:
-        return "KeyTooShort"
+        return f"KeyTooShort {{ key_len: {len(key)} }}"
     if chunks > CHUNKS or table > TABLE or scratch > SCRATCH:
         return "OutOfMemory"
     return compared(salt, log_n, r, p, key)
@@ -154,10 +155,12 @@ def printed(verdict):
 
 
 def printed_within(verdict):
-    """The same within limits, where a wrong password is not an error."""
+    """The same within limits, where a wrong password is not an error, and an error of the limits says what the hash needs."""
     if verdict in ("Ok", "PasswordInvalid"):
         return "Ok(true)" if verdict == "Ok" else "Ok(false)"
-    return printed(verdict)
+    if verdict.startswith(("TooCostly", "KeyTooShort")):
+        return printed(verdict)
+    return f"Err(Hash{printed(verdict).removeprefix('Err')})"
 
 
 def random_params(rng):
@@ -245,7 +248,7 @@ def disagree(title, pairs, printed, verdicts, as_printed):
     """Whether the program has another verdict on a text, or a verdict has no text."""
     cases = ((repr(text), answer, as_printed(wanted)) for (text, wanted), answer in zip(pairs, printed))
     _, wrong = runs.report(title, cases)
-    fell = collections.Counter(wanted for _, wanted in pairs)
+    fell = collections.Counter(wanted.split(" ")[0] for _, wanted in pairs)
     missing = [it for it in verdicts if not fell[it]]
     print(f"{dict(fell)}; verdicts without a text: {missing or 'none'}")
     return wrong or missing

@@ -23,7 +23,7 @@ HASHLIB = "$scrypt$ln=4,r=1,p=1$TmFDbA$rsa3SD7SbgiAK0H0AyCGoOiGvnrEj8/ZL/DO+BCXU
 # parameters that ask for seconds to days, for more memory than there is, or for a byte or a little work more than the
 # usual limits allow; and those whose work is PBKDF2 more than cores, since N is small
 COSTLY = [(13, 1, 8192), (14, 1, 16384), (20, 1, 1048576), (50, 1, 16777216), (40, 8, 1), (56, 1, 1)]
-COSTLY += [(18, 8, 1), (17, 8, 5), (20, 1, 5), (10, 2048, 1), (4, 65536, 2)]
+COSTLY += [(18, 9, 1), (17, 8, 5), (20, 1, 5), (10, 2056, 1), (4, 65536, 2)]
 COSTLY += [(1, 1, 2000000), (0, 1, 127132), (0, 127132, 1), (3, 8, 13111), (0, 1, 2097150)]
 
 

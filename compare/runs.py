@@ -18,7 +18,7 @@ def run(words, password=b"", **options):
 
 def unlimited(program, words, password):
     """How a run of scrypt_tool ends that verifies hashes of any cost."""
-    return run([program, "--no-limits", *words], password)
+    return run([program, *words], password)
 
 
 def redirected(shell, words):

@@ -53,7 +53,7 @@ class Library:
     def find(self, module, name):
         """The target of a name that a module declares or passes on, or None."""
         if ".declared." in module and re.match(r"Rattle\.(\w+)\.", module)[1] in self.uses:
-            return self.find_declared(module)
+            return self.find_declared(module, name)
         if re.match(r"Rattle\.(\w+)\.", module + ".") and module.split(".")[1] in self.uses:
             return self.find_own(module, name)
         it = self.kit.find(module, name)
@@ -71,11 +71,18 @@ class Library:
                 return definition_target(module, definition.name)
         return self.find(*it.passed_on[name]) if name in it.passed_on else None
 
-    def find_declared(self, module):
-        """A type of a crate, by the name that the specs have for it."""
+    def find_declared(self, module, name):
+        """A type of a crate, by the name that the specs have for it, or a constant, also one of a type."""
         crate, path = re.match(r"Rattle\.(\w+)\.specs\.declared\.(.*)", module).groups()
         words = path.removesuffix(".TheVariants").split(".")
-        return self.rust_item(crate, "::".join(words[:-1]), words[-1])
+        if "TheConstants" not in words:
+            return self.rust_item(crate, "::".join(words[:-1]), words[-1])
+        at = words.index("TheConstants")
+        source = self.sources[crate].get("::".join(words[:at]))
+        for it in source.items if source else ():
+            if (it.kind, it.name, it.owner) == ("const", name, "".join(words[at + 1 :])):
+                return Target(f"{text_page(source.path)}#L{it.line}", "const", ("rust", crate, source.module, it.anchor))
+        return None
 
     def rust_item(self, crate, module, name):
         source = self.sources.get(crate, {}).get(module)

@@ -1,14 +1,16 @@
 #!/usr/bin/env python3
-"""Writes docs/PROMISES.md from the sources: each public function with the first sentence of its doc comment and its
-clauses, each module of definitions, and what to read for the two promises of README.
+"""Writes docs/PROMISES.md from the sources: the public functions of each file with a checksum of their clauses, and the
+definitions to review for the two promises of README, with a checksum of all definitions of each crate.
 
 Everything but doc/not_promised.md is generated, without the kit and without packages.
 
 usage: promises.py          writes the page
        promises.py check    refuses a page that differs from the sources, another number of lines to read in README,
                             a name that leads nowhere, and a public function, a clause or a definition without words
+       promises.py clauses  prints every public function with the text of its clauses, as the packages have it
 """
 
+import hashlib
 import os
 import re
 import sys
@@ -34,69 +36,105 @@ TEXT = """# Promises
 
 Written by `make promises` from the sources, and compared with them by `make documents`.
 
-Every call returns, no index leaves its slice, and nothing panics or overflows. Below are the public functions, each
-with the first sentence of its doc comment and the names of its clauses, which are proved for every input. The
-clauses are above the function's body. `make doc` makes pages of them, on which each name is a link.
+Every call returns, no index leaves its slice, and nothing panics or overflows. The public functions below have clauses,
+which are proved for every input. A clause is above its function's body; the packages have all of them in one file,
+`CLAUSES.md`, and `make doc` makes pages of them, on which each name is a link.
 
 {not_promised}
 
-## What to read
+## What to review
 
-The definitions that the two promises of [README](../README.md#what-is-proved) rest on, in reading order; the comments
-above them are not counted.
+The definitions that the two promises of [README](../README.md#what-is-proved) rest on, in reading order. Comments are
+not counted.
 
 {reading}
 
-## Functions and their clauses
+## What is proved
+
+The public functions of each file, the number of clauses of each, and a checksum of the text of these clauses. If a
+promise changes, so does its checksum.
 
 {functions}
 
-## Definitions
-
-Each file of definitions, in reading order.
+The definitions of each crate, public or not, in files of `specs/`:
 
 {definitions}
 """
+
+CLAUSES = """# Every clause
+
+Each public function with the first sentence of its doc comment, and its clauses, which are proved for every input.
+
+{functions}"""
 
 
 def named(names):
     return ", ".join(f"`{it}`" for it in names)
 
 
+def checksum(texts):
+    return hashlib.sha256("\n".join(texts).encode()).hexdigest()[:12]
+
+
 def name_of(item):
+    if item.kind == "impl":
+        return "{} for {}".format(*item.name.split(" for ", 1))
     return f"{re.sub('<.*', '', item.owner)}::{item.name}" if item.owner else item.name
 
 
-def line_of(library, source, item):
-    """The line of an item, or None if it promises nothing to anyone."""
+def promised(library, source, item):
+    """The clauses by which an item promises something: what a function ensures, and the relations of a trait or of an
+    implementation. What a function requires is among them, since it limits what is promised."""
     if item.kind in ("impl", "trait"):
-        relations = [it.name for it in item.clauses if it.name not in OF_MODELS]
-        if not relations or item.kind == "impl" and not library.is_public(source, item):
-            return None
-        what = "`{}` for `{}`".format(*item.name.split(" for ", 1)) if item.kind == "impl" else f"`{item.name}`"
-        return f"- {what}, by its relations: {named(relations)}"
-    ensured = [it.name for it in item.clauses if it.kind == "ensures"]
-    if item.kind != "fn" or not ensured or not library.is_public(source, item):
-        return None
-    words = re.sub(r"\[(`[^`]+`)\](\([^)]*\))?", r"\1", " ".join(comments.first_sentence(item.doc).split()))
-    return f"- `{name_of(item)}`: {words}{' ' if words else ''}({named(ensured)})"
+        is_shown = item.kind == "trait" or library.is_public(source, item)
+        return [it for it in item.clauses if it.name not in OF_MODELS] if is_shown else []
+    if item.kind != "fn" or not library.is_public(source, item):
+        return []
+    return item.clauses if any(it.kind == "ensures" for it in item.clauses) else []
+
+
+def files(library, crate):
+    """The files of a crate that promise something, each with its items and their clauses."""
+    for source in library.sources[crate].values():
+        found = [(item, promised(library, source, item)) for item in source.items]
+        if found := [(item, clauses) for item, clauses in found if clauses]:
+            yield source, found
+
+
+def text_of(item, clauses):
+    """The promises of an item: its head, and each clause with its kind and its name."""
+    head = [" ".join(item.text.split())] if item.kind == "fn" else [item.name]
+    return "\n".join(head + [f"    {it.kind} {it.name} {{ {' '.join(it.text.split())} }}" for it in clauses])
 
 
 def functions(library):
     for crate in library.crates():
-        yield f"### {crate}\n"
-        for source in library.sources[crate].values():
-            lines = list(filter(None, (line_of(library, source, item) for item in source.items)))
-            if lines:
-                yield "\n".join([f"[`{source.name}`](../{os.path.normpath(source.path)})\n", *lines, ""])
+        rows = []
+        for source, found in files(library, crate):
+            names = ", ".join(f"`{name_of(item)}` {len(clauses)}" for item, clauses in found)
+            texts = checksum(text_of(*it) for it in found)
+            rows.append(f"| [{source.module or crate}](../{os.path.normpath(source.path)}) | {names} | `{texts}` |")
+        if rows:
+            yield "\n".join([f"### {crate}\n", "| file | functions, with the number of clauses | checksum |", "|---|---|---|", *rows, ""])
 
 
 def definitions(library):
+    yield "| crate | files | definitions | checksum |\n|---|---|---|---|"
     for crate in library.crates():
-        public = [(it, [has.name for has in it.definitions.values() if has.public]) for it in library.specs_of(crate)]
-        lines = [f"- [{it.short}](../{it.path}): {it.comment} {named(names)}" for it, names in public if names]
-        if lines:
-            yield "\n".join([f"### {crate}\n", *lines, ""])
+        found = [it for module in library.specs_of(crate) for it in module.definitions.values()]
+        if found:
+            count = sum(bool(module.definitions) for module in library.specs_of(crate))
+            yield f"| {crate} | {count} | {len(found)} | `{checksum(it.text for it in found)}` |"
+
+
+def clauses(library):
+    """Every public function with its clauses."""
+    for crate in library.crates():
+        for source, found in files(library, crate):
+            yield f"## {source.name}\n"
+            for item, its in found:
+                words = re.sub(r"\[(`[^`]+`)\](\([^)]*\))?", r"\1", " ".join(comments.first_sentence(item.doc).split()))
+                yield "\n".join(filter(None, [f"`{name_of(item)}`{': ' if words else ''}{words}", f"\n```\n{text_of(item, its)}\n```\n"]))
 
 
 def reading(views, title, clauses):
@@ -116,7 +154,7 @@ def page(views):
         not_promised=read("doc/not_promised.md").strip(),
         reading="\n".join([reading(views, "the key", KEY), reading(views, "the verdict", VERDICT)]),
         functions="\n".join(functions(views.library)).strip(),
-        definitions="\n".join(definitions(views.library)).strip(),
+        definitions="\n".join(definitions(views.library)),
     )
 
 
@@ -134,6 +172,9 @@ def main():
     views = Views(Library(".", kit.Kit(None)))
     if sys.argv[1:] == ["check"]:
         sys.exit("\n".join(wrong(views)) or 0)
+    if sys.argv[1:] == ["clauses"]:
+        print(CLAUSES.format(functions="\n".join(clauses(views.library))).strip())
+        return
     with open(PAGE, "w", encoding="utf-8") as file:
         file.write(page(views))
 

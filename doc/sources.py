@@ -232,11 +232,13 @@ def crates(folder="."):
 def checked_path(crate, source, it):
     """The path by which a check prints a function of a crate's sources.
 
-    `append_mix` in `impl Memory for Buffer<'_>` of src/memory.rt is `memory::BufferMemory::append_mix`. A type's own
-    methods have the path of the type, the nearest if several have its name.
+    `append_mix` in `impl Memory for Buffer<'_>` of src/memory.rt is `memory::BufferMemory::append_mix`, and a pair is
+    `Tuple2`. A type's own methods have the path of the type, the nearest if several have its name.
     """
     trait, _, kind = it.owner.rpartition(" for ")
     trait = re.sub(r"^(?:\w+::)+", "", trait)
+    if kind.startswith("("):
+        kind = f"Tuple{kind.count(',') + 1}"
     words = re.findall(r"\w+|&|\[", re.sub(r"'\w+", "", f"{kind} {trait}"))
     words = [{"&": "ref", "[": "slice"}.get(word, word) for word in words if word not in it.generics]
     types = {(it.owner, "struct"), (it.owner, "enum")}
