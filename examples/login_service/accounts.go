@@ -106,6 +106,8 @@ func (a *Accounts) put(ctx context.Context, password string, otherwise error, st
 
 // ask returns the hash that a statement returns, or `otherwise` if it returns no row.
 func (a *Accounts) ask(ctx context.Context, otherwise error, statement string, values ...any) (text string, err error) {
+	ctx, cancel := context.WithTimeout(ctx, storeTime)
+	defer cancel()
 	err = a.store.QueryRowContext(ctx, statement, values...).Scan(&text)
 	if errors.Is(err, sql.ErrNoRows) {
 		err = otherwise

@@ -2,6 +2,7 @@
 # Runs a command as the user of the service. That is the user who runs this, but for root it is login-service, who owns
 # nothing else and is added to the system if there is no such user.
 set -eu
+unset CDPATH
 if [ "$(id -u)" != 0 ]; then exec "$@"; fi
 user=login-service
 id $user > /dev/null 2>&1 ||

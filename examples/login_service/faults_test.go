@@ -4,9 +4,14 @@ import (
 	"crypto/rand"
 	"encoding/base64"
 	"fmt"
+	"os"
+	"path/filepath"
+	"runtime"
+	"strconv"
 	"strings"
 	"sync"
 	"sync/atomic"
+	"syscall"
 	"testing"
 	"time"
 
@@ -113,12 +118,125 @@ func TestStoreStoppedAndStarted(t *testing.T) {
 	}
 }
 
+// processes returns the numbers of the processes of the store, the first one first.
+func (w *world) processes() (numbers []int) {
+	text, err := os.ReadFile(filepath.Join(w.store, "data", "postmaster.pid"))
+	if err != nil {
+		w.Fatal(err)
+	}
+	first, _, _ := strings.Cut(string(text), "\n")
+	others, _ := ran("ps", "-o", "pid=", "--ppid", first)
+	for _, word := range append([]string{first}, strings.Fields(others)...) {
+		number, err := strconv.Atoi(word)
+		if err != nil {
+			w.Fatal(err)
+		}
+		numbers = append(numbers, number)
+	}
+	return numbers
+}
+
+// signal sends a signal to all processes of the store.
+func (w *world) signal(signal syscall.Signal) {
+	for _, number := range w.processes() {
+		if err := syscall.Kill(number, signal); err != nil && err != syscall.ESRCH { // some end meanwhile
+			w.Error(err)
+		}
+	}
+}
+
+// hangs has what lets the store take requests and not answer, and what ends that.
+var hangs = []struct {
+	why        string
+	begin, end func(w *world)
+}{
+	{"its processes are stopped", func(w *world) { w.signal(syscall.SIGSTOP) }, func(w *world) { w.signal(syscall.SIGCONT) }},
+	{"its table is locked", func(w *world) {
+		w.db.SetMaxOpenConns(1) // so that the connection which has the lock is that which rolls back
+		w.exec(`BEGIN`)
+		w.exec(`LOCK TABLE users`)
+	}, func(w *world) { w.exec(`ROLLBACK`) }},
+}
+
+// acts sends a request: four ask for the page of a user, and four change passwords, of users who are logged in.
+func acts(one *browser, number int) (answer, error) {
+	switch {
+	case number < 4:
+		return one.ask("GET", "/", nil)
+	case number < 8:
+		return one.send("change", "password", "a password", "new", "another password")
+	case number < 12:
+		return one.send("sign-up", "name", fmt.Sprint("new", number), "new", "a password")
+	}
+	return one.send("log-in", "name", fmt.Sprint("user", number%8), "password", "a password")
+}
+
+// Every request gets an answer: the store has five seconds for each step of a statement.
+func TestStoreThatHangs(t *testing.T) {
+	for _, it := range hangs {
+		w := newWorld(t, small)
+		w.users(8, "a password", 10)
+		var browsers [40]*browser
+		for i := range browsers {
+			browsers[i] = newBrowser(w.address)
+			if i < 8 {
+				w.expect(303)(browsers[i].logIn(fmt.Sprint("user", i), "a password"))
+			}
+			w.expect(200)(browsers[i].read())
+		}
+		it.begin(w)
+		var slowest int64
+		each(len(browsers), len(browsers), func(i int) {
+			got, err := acts(browsers[i], i)
+			if err != nil || got.status != 503 || got.retry == "" {
+				t.Errorf("%s: request %d gets %d, %v", it.why, i, got.status, err)
+			}
+			for took := int64(got.took); took > atomic.LoadInt64(&slowest); {
+				atomic.StoreInt64(&slowest, took)
+			}
+		})
+		it.end(w)
+		if slowest > int64(15*time.Second) {
+			t.Errorf("%s: a request is answered after %v", it.why, time.Duration(slowest))
+		}
+		w.expect(303)(newBrowser(w.address).logIn("user0", "a password"))
+		t.Logf("%s: 40 requests get 503, the slowest after %v; after that a log-in gets 303", it.why, time.Duration(slowest))
+	}
+}
+
+// If all places are taken, a form is refused without a query, also one with the cookie of a known browser.
+func TestOverloadNeedsNoStore(t *testing.T) {
+	w := newWorld(t, small, "-waiting=0")
+	w.users(1, "a password", 10)
+	known := newBrowser(w.address)
+	w.expect(303)(known.logIn("user0", "a password"))
+	others := make([]*browser, runtime.GOMAXPROCS(0))
+	for i := range others {
+		others[i] = newBrowser(w.address)
+		w.expect(200)(others[i].read())
+	}
+	w.signal(syscall.SIGSTOP)
+	ended := make(chan bool)
+	go func() {
+		each(len(others), len(others), func(i int) { _, _ = others[i].logIn(fmt.Sprint("nobody", i), "no") })
+		close(ended)
+	}()
+	time.Sleep(500 * time.Millisecond)
+	got, err := known.logIn("user0", "a password")
+	w.signal(syscall.SIGCONT)
+	<-ended
+	if err != nil || got.status != 503 || got.took > 2*time.Second || !strings.Contains(got.page, "Too many people") {
+		t.Errorf("%d after %v, %v\n%s", got.status, got.took, err, got.page)
+	}
+}
+
 // The limit leaves 256 MiB above what the service has with all its threads, and the hash needs 512.
 func TestMemoryRefused(t *testing.T) {
 	w := newWorld(t, small, "-most-mib=1024")
-	w.users(1, "a password", 10)
+	w.users(32, "a password", 10)
 	w.exec(`INSERT INTO users SELECT 'large' || n, '$scrypt$ln=19,r=8,p=1$c2FsdA$AAAAAAAAAAAAAAAAAAAAAA' FROM generate_series(0, 99) n`)
-	warm := func() { each(400, 16, func(int) { _, _ = newBrowser(w.address).logIn("user0", "a password") }) }
+	name := func(i int) string { return fmt.Sprint("user", i%32) } // since a name has two places
+	warm := func() { each(400, 16, func(i int) { _, _ = newBrowser(w.address).logIn(name(i), "a password") }) }
 	warm()
 	limit := w.status("VmSize") + 256<<10
 	w.stop()
@@ -130,13 +248,13 @@ func TestMemoryRefused(t *testing.T) {
 		if err == nil && got.status == 503 && got.retry != "" {
 			atomic.AddInt32(&refused, 1)
 		}
-		if got, err := newBrowser(w.address).logIn("user0", "a password"); err == nil && got.status == 303 {
+		if got, err := newBrowser(w.address).logIn(name(i), "a password"); err == nil && got.status == 303 {
 			atomic.AddInt32(&others, 1)
 		}
 	})
 	count := strings.Count(w.logged(), "log-in: "+scrypt.ErrOutOfMemory.Error())
 	t.Logf("ulimit -v %d: of 100 log-ins that need 512 MiB %d get 503 with Retry-After, and of 100 others beside them %d get 303", limit, refused, others)
-	if refused != 100 || others != 100 || count != 100 {
+	if refused != 100 || others != 100 || count != 100 { // a line for each, since each has an address of its own
 		t.Errorf("%d lines in the log\n%s", count, w.logged())
 	}
 }

@@ -1,7 +1,9 @@
 package main
 
 import (
+	"fmt"
 	"hash/maphash"
+	"log"
 	"net"
 	"net/http"
 	"net/netip"
@@ -11,44 +13,73 @@ import (
 	"time"
 )
 
-// A crowd counts connections, or forms, per network and in total, and bounds both.
+// A crowd counts connections, forms or lines of log by keys, and bounds them for each key and in total.
 type crowd struct {
 	sync.Mutex
-	each, all, sum int // the bounds per network and in total, and the total
-	of             map[netip.Prefix]int
+	each, all, sum int // the bounds for a key and in total, and the total
+	of             map[string]int
 }
 
-func newCrowd(each, all int) *crowd { return &crowd{each: each, all: all, of: map[netip.Prefix]int{}} }
+func newCrowd(each, all int) *crowd { return &crowd{each: each, all: all, of: map[string]int{}} }
 
-// enter counts one more, for which leave has to be called, and reports whether it is within the bounds. The bound per
-// network does not apply if there is none.
-func (c *crowd) enter(from netip.Prefix) bool {
+// enter reports whether one more is within the bounds. If so, or anyway, it is counted, and leave has to be called for it.
+// A key may not have more than it leaves free for others. The second key is a wider network, which may have twice as many.
+func (c *crowd) enter(anyway bool, keys ...string) bool {
 	c.Lock()
 	defer c.Unlock()
-	c.of[from]++
-	c.sum++
-	return c.sum <= c.all && (c.of[from] <= c.each || !from.IsValid())
-}
-
-func (c *crowd) leave(from netip.Prefix) {
-	c.Lock()
-	defer c.Unlock()
-	c.sum--
-	if c.of[from]--; c.of[from] == 0 {
-		delete(c.of, from)
+	most := c.all - c.sum
+	if most > c.each {
+		most = c.each
 	}
+	ok := most > 0
+	for i, key := range keys {
+		ok = ok && c.of[key] < most<<i
+	}
+	if ok || anyway {
+		c.add(1, keys)
+	}
+	return ok
+}
+
+func (c *crowd) leave(keys ...string) {
+	c.Lock()
+	defer c.Unlock()
+	c.add(-1, keys)
+}
+
+func (c *crowd) add(count int, keys []string) {
+	c.sum += count
+	for _, key := range keys {
+		if c.of[key] += count; c.of[key] == 0 {
+			delete(c.of, key)
+		}
+	}
+}
+
+// print writes a line to the log, but at most one for each key in a pause, since clients can cause any number of them.
+func (c *crowd) print(line string, keys ...string) {
+	if c.enter(false, keys...) {
+		log.Print(line)
+		time.AfterFunc(*pause, func() { c.leave(keys...) })
+	}
+}
+
+// Write prints a line of net/http, whose key is its kind.
+func (c *crowd) Write(line []byte) (int, error) {
+	c.print(string(line), fmt.Sprintf("%.20s", line))
+	return len(line), nil
 }
 
 // watch is called for each connection of a server, and closes one at once that is not within the bounds.
 func (c *crowd) watch(connection net.Conn, state http.ConnState) {
-	var from netip.Prefix // none for the trusted proxy, whose connections are those of many
+	var from []string // none for the trusted proxy, whose connections are those of many
 	if address := addressOf(connection.RemoteAddr().String()); !isProxy(address) {
-		from = network(address)
+		from = networks(address)
 	}
-	if state == http.StateNew && !c.enter(from) {
+	if state == http.StateNew && !c.enter(true, from...) {
 		_ = connection.Close()
 	} else if state == http.StateClosed {
-		c.leave(from)
+		c.leave(from...)
 	}
 }
 
@@ -70,51 +101,36 @@ type limiter struct {
 	sync.Mutex
 	seed  maphash.Seed
 	begin time.Time
-	ends  [1 << 16]time.Duration // since the beginning, when a slot has all its tries again
+	ends  [1 << 18]time.Duration // since the beginning, when a slot has all its tries again
 }
 
 func newLimiter() *limiter { return &limiter{seed: maphash.MakeSeed(), begin: time.Now()} }
 
-func (l *limiter) end(key string) *time.Duration {
-	return &l.ends[maphash.String(l.seed, key)%uint64(len(l.ends))]
-}
-
-// take takes a try of each key, or none and returns false if a key has none left.
-func (l *limiter) take(keys ...string) bool {
+// charge reports whether each key had a try left, and charges each in any case: a try costs a pause. The first two keys are
+// a name and a network. The third is a wider network, which pays half.
+func (l *limiter) charge(cost time.Duration, keys ...string) bool {
 	l.Lock()
 	defer l.Unlock()
-	now := time.Since(l.begin)
-	for _, key := range keys {
-		if *l.end(key)-now > time.Duration(*tries-1)**pause {
-			return false
-		}
-	}
-	for _, key := range keys {
-		end := l.end(key)
+	now, ok := time.Since(l.begin), true
+	for i, key := range keys {
+		end := &l.ends[maphash.String(l.seed, key)%uint64(len(l.ends))]
 		if *end < now {
 			*end = now
 		}
-		*end += *pause
+		ok = ok && *end-now <= time.Duration(*tries)**pause-*pause>>(i/2)
+		*end += cost >> (i / 2)
 	}
-	return true
+	return ok
 }
 
-// give gives back what take took.
-func (l *limiter) give(keys ...string) {
-	l.Lock()
-	defer l.Unlock()
-	for _, key := range keys {
-		*l.end(key) -= *pause
+// networks returns the keys of an address: an IPv4 address itself, or the /64 and the /56 of an IPv6 address.
+func networks(address netip.Addr) []string {
+	if !address.Is6() {
+		return []string{address.String()}
 	}
-}
-
-// network returns the addresses that count as one client: an IPv4 address, or an IPv6 /64.
-func network(address netip.Addr) netip.Prefix {
-	if address.Is4() {
-		return netip.PrefixFrom(address, 32)
-	}
-	prefix, _ := address.Prefix(64) // no error, since an address has this many bits
-	return prefix
+	near, _ := address.Prefix(64) // no errors, since an address has this many bits
+	wide, _ := address.Prefix(56)
+	return []string{near.String(), wide.String()}
 }
 
 // addressOf returns the address of a text with or without a port, or one that is not valid.
@@ -128,8 +144,8 @@ func addressOf(text string) netip.Addr {
 
 func isProxy(address netip.Addr) bool { return proxy.IsValid() && address == proxy.Unmap() }
 
-// client returns the address of the client: behind the trusted proxy the last one of X-Forwarded-For, which the proxy
-// adds to what the client may have sent.
+// client returns the address of the client: if the trusted proxy is the peer, the last one of X-Forwarded-For, which the
+// proxy adds to what the client may have sent.
 func client(r *http.Request) netip.Addr {
 	peer := addressOf(r.RemoteAddr)
 	if isProxy(peer) {

@@ -5,6 +5,7 @@ import (
 	"net"
 	"strings"
 	"sync"
+	"sync/atomic"
 	"testing"
 	"time"
 )
@@ -43,7 +44,8 @@ var floods = []struct {
 	shut          bool // whether a new client has no room until the slow ones are closed
 }{
 	{"one client has no more than its share", "20s", func(int) string { return "127.0.2.1" }, 64, false},
-	{"many clients leave descriptors for the store", "40s", func(i int) string { return fmt.Sprint("127.0.3.", 1+i%50) }, 1984, true},
+	{"many clients leave descriptors for the store, and connections for others", "40s",
+		func(i int) string { return fmt.Sprint("127.0.3.", 1+i%50) }, 1984, false},
 }
 
 func TestManySlowConnections(t *testing.T) {
@@ -79,52 +81,81 @@ func TestManySlowConnections(t *testing.T) {
 	}
 }
 
-// One client who logs in again and again, by the right password, leaves half of the places to others.
-func TestOneClientLeavesPlacesToOthers(t *testing.T) {
-	w := newWorld(t, "-log-n=14", "-waiting=12")
-	w.users(2, "a password", 14)
-	end := make(chan bool)
+// withoutEnd lets browsers act again and again, until the function that it returns is called.
+func withoutEnd(count int, browser func(number int) *browser, act func(one *browser, number int)) (end func()) {
+	var ended int32
 	var group sync.WaitGroup
-	for i := 0; i < 60; i++ {
+	for i := 0; i < count; i++ {
 		group.Add(1)
-		go func() {
+		go func(i int) {
 			defer group.Done()
-			one := newBrowserFrom("127.0.7.1", w.address)
-			for {
-				select {
-				case <-end:
-					return
-				default:
-					_, _ = one.logIn("user0", "a password")
-				}
+			for one := browser(i); atomic.LoadInt32(&ended) == 0; {
+				act(one, i)
 			}
-		}()
+		}(i)
 	}
-	time.Sleep(time.Second)
-	refused := 0
-	for i := 0; i < 20; i++ {
-		if got, err := newBrowser(w.address).logIn("user1", "a password"); err != nil || got.status != 303 {
-			refused++
+	return func() { atomic.StoreInt32(&ended, 1); group.Wait() }
+}
+
+// Few who log in again and again, by correct passwords, leave places to others. All come through the trusted proxy.
+func TestFewClientsLeavePlacesToOthers(t *testing.T) {
+	w := newWorld(t, "-log-n=14", "-waiting=12", "-proxy=127.0.9.100")
+	w.users(60+48, "a password", 14)
+	for _, it := range []struct {
+		why, from string // where the number of a client is put
+		addresses int
+		names     int // of each address
+	}{
+		{"one address", "192.0.2.%d", 1, 1},
+		{"two addresses", "192.0.2.%d", 2, 1},
+		{"two addresses, each with many accounts", "192.0.2.%d", 2, 30},
+		{"all networks of a /56, with many accounts", "2001:db8:0:%x::1", 60, 1},
+	} {
+		end := withoutEnd(60, func(i int) *browser { return w.at(fmt.Sprintf(it.from, i%it.addresses)) }, func(one *browser, i int) {
+			_, _ = one.logIn(fmt.Sprint("user", i%(it.addresses*it.names)), "a password")
+		})
+		time.Sleep(time.Second)
+		var refused int32
+		each(48, 4, func(i int) {
+			got, err := w.at(fmt.Sprint("198.51.100.", i)).logIn(fmt.Sprint("user", 60+i), "a password")
+			if err != nil || got.status != 303 {
+				atomic.AddInt32(&refused, 1)
+			}
+		})
+		end()
+		if refused != 0 {
+			t.Errorf("%s: %d of 48 log-ins of others are refused", it.why, refused)
 		}
-	}
-	close(end)
-	group.Wait()
-	if refused != 0 {
-		t.Errorf("%d of 20 log-ins of another client are refused", refused)
 	}
 }
 
-func TestAddresses(t *testing.T) {
-	for _, it := range []struct{ why, address, network string }{
-		{"a connection of IPv4", "192.0.2.1:80", "192.0.2.1/32"},
-		{"IPv4 on a socket for both", "[::ffff:192.0.2.1]:80", "192.0.2.1/32"},
-		{"a client has 64 bits of IPv6", "[2001:db8:1:2:3:4:5:6]:80", "2001:db8:1:2::/64"},
-		{"an interface is no part of it", "[fe80::1%eth0]:80", "fe80::/64"},
-		{"a proxy writes no port", "2001:db8::1", "2001:db8::/64"},
-		{"no address", "unknown", "invalid Prefix"},
+// A known browser finds a place although others send forms without end with the user's name, or from its address.
+func TestKnownBrowsersFindPlaces(t *testing.T) {
+	for _, it := range []struct{ why, tries, from, cookie string }{
+		{"others whose tries are used up", "-tries=2", "192.0.2.1", ""},
+		{"forged cookies, which are compared with the store", "-tries=2", "192.0.2.1", "end=9&id=0&name=user0&tag=0"},
+		{"others who have tries for the name", "-tries=1000000", "198.51.100.1", ""},
 	} {
-		if got := network(addressOf(it.address)).String(); got != it.network {
-			t.Errorf("%s: %s is of %s", it.why, it.address, got)
+		w := newWorld(t, "-log-n=12", "-waiting=12", "-pause=1h", "-proxy=127.0.9.100", it.tries)
+		w.users(1, "a password", 12)
+		known := w.at("192.0.2.1")
+		w.expect(303)(known.logIn("user0", "a password"))
+		for i := 0; i < 2; i++ {
+			_, _ = w.at("192.0.2.1").logIn(fmt.Sprint("nobody", i), "no")
+		}
+		end := withoutEnd(60, func(int) *browser { return w.at(it.from) }, func(one *browser, _ int) {
+			one.cookies["known"] = it.cookie
+			_, _ = one.logIn("user0", "no")
+		})
+		refused := 0
+		for i := 0; i < 10; i++ {
+			if got, err := known.logIn("user0", "a password"); err != nil || got.status != 303 {
+				refused++
+			}
+		}
+		end()
+		if refused != 0 {
+			t.Errorf("%s: %d of 10 log-ins are refused", it.why, refused)
 		}
 	}
 }

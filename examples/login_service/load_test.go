@@ -152,7 +152,7 @@ func TestLoad(t *testing.T) {
 			t.Fatal(err)
 		}
 		bound := 2*processors*int(memory>>20) + 64
-		w := newWorld(t, fmt.Sprint("-log-n=", logN))
+		w := newWorld(t, fmt.Sprint("-log-n=", logN), "-tries=1000") // else one client uses up its allowance
 		w.users(256, "a password", logN)
 		for _, clients := range []int{1, 4, 16, 64, 256} {
 			callers := clients

@@ -8,6 +8,7 @@ import (
 	"errors"
 	"flag"
 	"log"
+	"net"
 	"net/http"
 	"net/netip"
 	"os"
@@ -15,7 +16,7 @@ import (
 	"strings"
 	"time"
 
-	_ "github.com/lib/pq"
+	"github.com/lib/pq"
 	"nilomafy.example/scrypt"
 )
 
@@ -23,16 +24,14 @@ var (
 	listen     = flag.String("listen", "127.0.0.1:8080", "where to listen")
 	socket     = flag.String("store", "/var/run/postgresql", "the folder with PostgreSQL's socket")
 	logN       = flag.Int("log-n", 17, "log_n of new hashes, 10 to 24; r is 8 and p is 1")
-	most       = flag.Int("most-mib", 256, "the memory of a derivation, in MiB, above which a hash is refused")
+	most       = flag.Int("most-mib", 257, "the memory of a derivation, in MiB, above which a hash is refused")
 	waiting    = flag.Int("waiting", 32, "how many forms may wait for a processor")
 	patience   = flag.Duration("patience", 20*time.Second, "how long sending a request, and how long answering it, may take")
-	perAddress = flag.Int("per-address", 64, "how many connections an address, or 64 bits of an IPv6 address, may have")
-	tries      = flag.Int("tries", 20, "how many wrong passwords a name, or an address, may have in a row")
-	pause      = flag.Duration("pause", 30*time.Second, "after that, the time until one more is allowed")
+	perAddress = flag.Int("per-address", 64, "how many connections an address may have, or a /64 of IPv6; its /56 may have twice as many")
+	tries      = flag.Int("tries", 20, "how many wrong passwords, or 20 times as many log-ins, a name or an address may have in a row")
+	pause      = flag.Duration("pause", 30*time.Second, "after that, the time until one more wrong password is allowed")
 	https      = flag.Bool("https", false, "the page is served over https, by a proxy that terminates TLS")
-
-	// The address of a proxy whose X-Forwarded-For and -Proto are trusted; it is not valid without the flag.
-	proxy netip.Addr
+	proxy      netip.Addr // of the flag below, or not valid
 )
 
 func main() {
@@ -47,23 +46,23 @@ func main() {
 	within("-per-address", *perAddress, 1, 10_000)
 	within("-tries", *tries, 1, 1_000_000)
 	within("-patience", *patience, time.Second, 10*time.Minute)
-	within("-pause", *pause, *patience, time.Hour) // a try is credited back for a correct password before its pause is over
+	within("-pause", *pause, time.Second, time.Hour)
 	if os.Geteuid() == 0 {
 		log.Fatal("the service does not run as root: run.sh starts it as another user")
 	}
-	params := scrypt.Params{LogN: int(*logN), R: 8, P: 1, KeyLen: 32}
-	hasher, err := scrypt.NewHasher(scrypt.Options{Params: params, MostBytes: uint64(*most) << 20})
+	hasher, err := scrypt.NewHasher(scrypt.Options{MostBytes: uint64(*most) << 20, Params: scrypt.Params{LogN: *logN, R: 8, P: 1, KeyLen: 32}})
 	if err != nil {
 		log.Fatalf("-log-n %d with -most-mib %d: %v", *logN, *most, err)
 	}
 	store := must(open(*socket))
 	nobody := must(hasher.Hash(context.Background(), drawn(32)))
 	// A drawn key signs cookies: a restart logs all users out, and no hash depends on it.
-	// One address has at most half of the places for forms, so that it can't keep others waiting.
 	places := runtime.GOMAXPROCS(0) + *waiting
-	service := &Service{&Accounts{store, hasher, nobody}, drawn(32), newCrowd((places+1)/2, places), newLimiter()}
+	service := &Service{accounts: &Accounts{store, hasher, nobody}, key: drawn(32), places: newCrowd(places, places),
+		names: newCrowd(2, 2*places), tries: newLimiter(), lines: newCrowd(1, 1000)}
 	server := http.Server{Addr: *listen, Handler: service, ReadHeaderTimeout: *patience / 4, ReadTimeout: *patience,
-		WriteTimeout: 3 * *patience, MaxHeaderBytes: mostForm, ConnState: newCrowd(*perAddress, connections()).watch}
+		WriteTimeout: 3 * *patience, MaxHeaderBytes: mostForm, ConnState: newCrowd(*perAddress, connections()).watch,
+		ErrorLog: log.New(service.lines, "", 0)}
 	log.Print("listening on http://", *listen)
 	log.Fatal(server.ListenAndServe())
 }
@@ -75,16 +74,36 @@ func within[T int | time.Duration](name string, value, least, most T) {
 	}
 }
 
+// storeTime is how long a statement waits for a connection to the store, and then for each answer.
+const storeTime = 5 * time.Second
+
+// A storeDialer makes connections with deadlines: the driver itself waits for answers even after its context has ended.
+type storeDialer struct{}
+
+func (d storeDialer) Dial(a, b string) (net.Conn, error) { return d.DialTimeout(a, b, storeTime) }
+
+func (storeDialer) DialTimeout(network, address string, most time.Duration) (net.Conn, error) {
+	connection, err := net.DialTimeout(network, address, most)
+	return timed{connection}, err
+}
+
+type timed struct{ net.Conn }
+
+// Write sets the deadline of the answer as well, since the driver reads only after it has written.
+func (t timed) Write(bytes []byte) (int, error) {
+	_ = t.SetDeadline(time.Now().Add(storeTime))
+	return t.Conn.Write(bytes)
+}
+
 // open returns the store, or an error if the service may do more there than to read and write its table.
 func open(folder string) (*sql.DB, error) {
 	host := strings.NewReplacer(`\`, `\\`, `'`, `\'`).Replace(folder)
-	store, err := sql.Open("postgres", "host='"+host+"' user=login_service dbname=postgres sslmode=disable connect_timeout=2")
-	if err != nil {
-		return nil, err
-	}
+	connector := must(pq.NewConnector("host='" + host + "' user=login_service dbname=postgres sslmode=disable connect_timeout=2"))
+	connector.Dialer(storeDialer{})
+	store := sql.OpenDB(connector)
 	store.SetMaxOpenConns(16)
 	var super bool
-	err = store.QueryRow(`SELECT rolsuper FROM pg_roles WHERE rolname = current_user`).Scan(&super)
+	err := store.QueryRow(`SELECT rolsuper FROM pg_roles WHERE rolname = current_user`).Scan(&super)
 	if err == nil && super {
 		err = errors.New("the role login_service is a superuser of the store")
 	}

@@ -10,11 +10,14 @@ import (
 	"log"
 	"net/http"
 	"strings"
+	"sync"
+	"time"
 	"unicode/utf8"
 )
 
 const mostForm, mostPassword, leastLetters = 16 << 10, 1 << 10, 8
 const policy = "default-src 'none'; style-src 'unsafe-inline'; form-action 'self'; frame-ancestors 'none'; base-uri 'none'"
+const unproxied = "X-Forwarded-For from %[1]v is ignored: if that is your proxy, start the service with -proxy=%[1]v"
 
 var (
 	//go:embed page.html
@@ -48,8 +51,11 @@ func (r Refusal) Error() string { return r.Text }
 type Service struct {
 	accounts *Accounts
 	key      []byte // signs cookies and tokens
-	places   *crowd // the forms that derive or wait for their turn
+	places   *crowd // the forms that derive or wait for their turn, by address
+	names    *crowd // the same, by name
+	lines    *crowd // of the log
 	tries    *limiter
+	proxied  sync.Once // for the line about a proxy that is not trusted
 }
 
 func (s *Service) ServeHTTP(w http.ResponseWriter, r *http.Request) {
@@ -62,6 +68,9 @@ func (s *Service) ServeHTTP(w http.ResponseWriter, r *http.Request) {
 	w.Header().Set("X-Content-Type-Options", "nosniff")
 	if secure(r) {
 		w.Header().Set("Strict-Transport-Security", "max-age=31536000")
+	}
+	if peer := addressOf(r.RemoteAddr); !isProxy(peer) && r.Header.Get("X-Forwarded-For") != "" {
+		s.proxied.Do(func() { log.Printf(unproxied, peer) })
 	}
 	switch action := strings.TrimPrefix(r.URL.Path, "/"); {
 	case action == "" && (r.Method == http.MethodGet || r.Method == http.MethodHead):
@@ -81,27 +90,19 @@ func (s *Service) ServeHTTP(w http.ResponseWriter, r *http.Request) {
 			return
 		}
 		if !errors.As(err, &refusal) {
-			log.Printf("%s: %v", action, err)
+			s.lines.print(fmt.Sprintf("%s: %v", action, err), networks(client(r))...)
 		}
 		s.show(w, r, refusal)
 	}
 }
 
-// act does what a form asks for. Every form but log-out needs one of the places: if none is free, errFull is returned
-// immediately, without a query.
+// act does what a form asks for.
 func (s *Service) act(w http.ResponseWriter, r *http.Request, action string) error {
 	r.Body = http.MaxBytesReader(w, r.Body, mostForm)
 	if r.ParseForm() != nil {
 		return errLarge
 	}
-	if action != "log-out" {
-		from := network(client(r))
-		defer s.places.leave(from)
-		if !s.places.enter(from) {
-			return errFull
-		}
-	}
-	owner, err := s.user(r)
+	owner, err := s.user(r, "session")
 	switch {
 	case err != nil:
 		return err
@@ -123,9 +124,11 @@ func (s *Service) act(w http.ResponseWriter, r *http.Request, action string) err
 
 // derive does what needs a derivation, and begins a session.
 func (s *Service) derive(w http.ResponseWriter, r *http.Request, action, name string) error {
-	password, wanted := r.PostFormValue("password"), r.PostFormValue("new")
-	short := utf8.RuneCountInString(wanted) < leastLetters
-	if name == "" || len(password) > mostPassword || len(wanted) > mostPassword || short && action != "log-in" {
+	password, wanted, least := r.PostFormValue("password"), r.PostFormValue("new"), leastLetters
+	if action == "log-in" {
+		wanted, least = password, 0
+	}
+	if name == "" || len(password) > mostPassword || len(wanted) > mostPassword || utf8.RuneCountInString(wanted) < least {
 		if action == "change" {
 			return errNew
 		}
@@ -138,34 +141,56 @@ func (s *Service) derive(w http.ResponseWriter, r *http.Request, action, name st
 	return err
 }
 
-// try returns the text of the hash if the accounts allow what a form asks for. A wrong password uses up a try of the name
-// and of the address, and a sign-up one of the address. The try is taken before the derivation, so that parallel tries are
-// counted, and given back unless the password was wrong. fail2ban.conf matches the lines in the log.
+// try returns the text of the hash if the accounts allow what a form asks for. Before the derivation, there must be places,
+// and the name and the address must have a try left, or the browser, if this user has logged in there.
 func (s *Service) try(r *http.Request, action, name, password, wanted string) (text string, err error) {
-	from := client(r)
-	keys := []string{"address " + network(from).String(), action + " " + name}
-	if action == "sign-up" {
-		keys = keys[:1]
+	if !s.places.enter(false) { // with no key, so that overload is refused without a query
+		return "", errFull
 	}
-	switch taken := s.tries.take(keys...); {
-	case !taken:
-		err = errTries
-	case action == "sign-up":
+	s.places.leave()
+	from := networks(client(r))
+	keys := append([]string{action + " " + name}, from...)
+	if known, err := s.user(r, "known"); err != nil {
+		return "", err
+	} else if known == name {
+		keys = []string{"known " + keys[0]}
+	}
+	if !s.tries.charge(0, keys...) { // first, so that a form that is refused takes no place
+		s.lines.print(fmt.Sprintf("no try is left: %s from %v of %q", action, client(r), name), from...)
+		return "", errTries
+	}
+	if !s.places.enter(false, from...) {
+		return "", errFull
+	}
+	defer s.places.leave(from...)
+	if !s.names.enter(false, keys[0]) {
+		return "", errFull
+	}
+	defer s.names.leave(keys[0])
+	if action == "sign-up" {
 		text, err = s.accounts.SignUp(r.Context(), name, wanted)
-	case action == "log-in":
-		text, err = s.accounts.LogIn(r.Context(), name, password, password)
-	case action == "change":
+	} else {
 		text, err = s.accounts.LogIn(r.Context(), name, password, wanted)
 	}
-	if err == errWrong || err == errTries {
-		log.Printf("failed %s from %v of %q: %v", action, from, name, err)
-	} else if action != "sign-up" {
-		s.tries.give(keys...)
-	}
-	if err == errWrong && action == "change" {
-		err = errCurrent
+	s.tries.charge(cost(r.Context(), action, err), keys...)
+	if err == errWrong {
+		log.Printf("failed %s from %v of %q: %v", action, client(r), name, err) // fail2ban.conf matches this line
+		if action == "change" {
+			err = errCurrent
+		}
 	}
 	return text, err
+}
+
+// cost returns what a form is charged. A fault of the service costs nothing, but a client that has left pays.
+func cost(ctx context.Context, action string, err error) time.Duration {
+	switch {
+	case err != nil && !errors.As(err, &Refusal{}) && ctx.Err() == nil:
+		return 0
+	case err == errWrong || action == "sign-up":
+		return *pause
+	}
+	return *pause / 20
 }
 
 // show writes the page with a message. With status 503 the page has no form, needs no query, and asks the browser to retry
@@ -173,10 +198,10 @@ func (s *Service) try(r *http.Request, action, name, password, wanted string) (t
 func (s *Service) show(w http.ResponseWriter, r *http.Request, message Refusal) {
 	name, err := "", error(nil)
 	if message.Status != http.StatusServiceUnavailable {
-		name, err = s.user(r)
+		name, err = s.user(r, "session")
 	}
 	if err != nil {
-		log.Print("the page: ", err)
+		s.lines.print(fmt.Sprint("the page: ", err), networks(client(r))...)
 		message = errNotNow
 	}
 	token := s.token(w, r, name)

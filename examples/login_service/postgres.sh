@@ -1,6 +1,7 @@
 #!/bin/sh
 # Starts a PostgreSQL in a folder: postgres.sh start FOLDER. Another word is pg_ctl's mode of a stop: fast, immediate.
 set -eu
+unset CDPATH
 here=$(realpath "$(dirname "$0")")
 folder=$(realpath "$2")
 data=$folder/data new=$folder/new

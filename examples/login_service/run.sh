@@ -2,6 +2,7 @@
 # Runs the service with a PostgreSQL of its own until it is stopped, by Ctrl-C. The accounts go with it, unless
 # LOGIN_STORE names a folder for them. The arguments are those of the service: run.sh -help
 set -eu
+unset CDPATH
 room=$(mktemp -d)
 trap 'rm -rf "$room"' EXIT
 store=$(realpath -m "${LOGIN_STORE:-$room/store}")

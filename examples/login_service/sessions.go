@@ -9,8 +9,6 @@ import (
 	"time"
 )
 
-const sessionSeconds = 3600
-
 // tag signs strings.
 func (s *Service) tag(parts ...string) string {
 	mac := hmac.New(sha256.New, s.key)
@@ -36,30 +34,32 @@ func setCookie(w http.ResponseWriter, r *http.Request, name, value string, secon
 		Secure: secure(r), SameSite: http.SameSiteStrictMode})
 }
 
-// begin begins a session. The text of the hash is signed in its cookie, so a password change ends it. The cookies from
-// before are replaced, because somebody else may have set them and know them.
+// begin begins a session, and makes the browser known as the user's. The text of the hash is signed in both cookies, so a
+// password change ends them. Those from before are replaced, because somebody else may have set them and know them.
 func (s *Service) begin(w http.ResponseWriter, r *http.Request, name, text string) {
-	id, end := drawnText(), time.Now().Add(sessionSeconds*time.Second).UTC().Format(time.RFC3339)
-	session := url.Values{"id": {id}, "name": {name}, "end": {end}, "tag": {s.tag("session", id, name, end, text)}}
-	setCookie(w, r, "session", session.Encode(), sessionSeconds)
+	for kind, seconds := range map[string]int{"session": 3600, "known": 90 * 24 * 3600} {
+		id, end := drawnText(), time.Now().Add(time.Duration(seconds)*time.Second).UTC().Format(time.RFC3339)
+		signed := url.Values{"id": {id}, "name": {name}, "end": {end}, "tag": {s.tag(kind, id, name, end, text)}}
+		setCookie(w, r, kind, signed.Encode(), seconds)
+	}
 	setCookie(w, r, "visitor", drawnText(), 0)
 }
 
-// user returns the name of the user whose session it is, or "".
-func (s *Service) user(r *http.Request) (string, error) {
-	cookie, err := r.Cookie(cookieName(r, "session"))
+// user returns the name of the user for whom this kind of cookie was signed, or "".
+func (s *Service) user(r *http.Request, kind string) (string, error) {
+	cookie, err := r.Cookie(cookieName(r, kind))
 	if err != nil {
 		return "", nil
 	}
-	session, _ := url.ParseQuery(cookie.Value)
-	name, ok := normal(session.Get("name"))
-	id, end := session.Get("id"), session.Get("end")
+	signed, _ := url.ParseQuery(cookie.Value)
+	name, ok := normal(signed.Get("name"))
+	id, end := signed.Get("id"), signed.Get("end")
 	if end < time.Now().UTC().Format(time.RFC3339) || !ok {
 		return "", nil
 	}
 	text, err := s.accounts.hash(r.Context(), name)
-	signed := hmac.Equal([]byte(session.Get("tag")), []byte(s.tag("session", id, name, end, text)))
-	if err == errWrong || err == nil && !signed {
+	genuine := hmac.Equal([]byte(signed.Get("tag")), []byte(s.tag(kind, id, name, end, text)))
+	if err == errWrong || err == nil && !genuine {
 		return "", nil
 	}
 	return name, err

@@ -6,9 +6,9 @@ import (
 	"os/exec"
 	"runtime"
 	"strings"
+	"sync"
 	"sync/atomic"
 	"testing"
-	"time"
 )
 
 func TestTriesAreLimited(t *testing.T) {
@@ -26,7 +26,7 @@ func TestTriesAreLimited(t *testing.T) {
 		{"a name in another form is the same", []string{"1 user3 no", "2 user3 no", "3 \uff55ser3 no", "4 user3 no"}, 429},
 		{"an address tries other names", []string{"1 user4 no", "1 user5 no", "1 user6 no", "1 user7 a password"}, 429},
 		{"another address is not limited by it", []string{"1 user8 no", "1 user9 no", "1 user10 no", "2 user11 a password"}, 303},
-		{"right passwords take no try", []string{"1 user12 a password", "1 user12 a password", "1 user12 a password", "1 user12 no"}, 403},
+		{"right passwords take a small part of a try", []string{"1 user12 a password", "1 user12 a password", "1 user12 a password", "1 user12 no"}, 403},
 		{"nor give back those of wrong ones", []string{"1 user13 no", "1 user14 no", "1 user15 a password", "1 user16 no", "1 user17 no"}, 429},
 	} {
 		var got answer
@@ -57,89 +57,154 @@ func TestSignUpsAndChangesAreLimited(t *testing.T) {
 	w.expect(303)(two.send("log-out"))
 	// Who tries the password of a user who is logged in doesn't keep the user from changing it.
 	three := newBrowser(w.address)
-	w.expect(303)(three.logIn("new1", "a password"))
+	w.expect(303)(three.logIn("new1", "a password")) // which uses up a twentieth of a try, so that two are left
 	w.expect(200)(three.read())
-	for _, status := range []int{403, 403, 403, 429} {
+	for _, status := range []int{403, 403, 429} {
 		w.expect(status)(newBrowser(w.address).logIn("new1", "not it"))
 	}
 	w.expect(303)(three.send("change", "password", "a password", "new", "another password"))
 }
 
-// Tries that come at once are counted before their derivations.
+// at is a browser of a client whose address the trusted proxy sends, which is at 127.0.9.100.
+func (w *world) at(address string) *browser {
+	one := newBrowserFrom("127.0.9.100", w.address)
+	one.headers = map[string]string{"X-Forwarded-For": address}
+	return one
+}
+
+// Tries that come at once are checked before one of them is charged, so there can be as many more as are in work at once.
 func TestTriesAtOnceAreLimited(t *testing.T) {
-	w := newWorld(t, small, "-tries=5", "-pause=1h", "-waiting=1000")
+	w := newWorld(t, small, "-tries=5", "-pause=1h", "-waiting=12", "-proxy=127.0.9.100")
 	w.users(1, "a password", 10)
-	var wrong, limited int32
-	each(200, 100, func(int) {
-		switch got, err := newBrowser(w.address).logIn("user0", "not it"); {
-		case err == nil && got.status == 403:
-			atomic.AddInt32(&wrong, 1)
-		case err == nil && got.status == 429:
-			atomic.AddInt32(&limited, 1)
-		}
-	})
-	if wrong != 5 || limited != 195 {
-		t.Errorf("%d passwords were tried, and %d were not", wrong, limited)
-	}
-}
-
-func TestLimiterNeedsNoMoreMemoryForMoreKeys(t *testing.T) {
-	used := func() int64 {
-		var memory runtime.MemStats
-		runtime.GC()
-		runtime.ReadMemStats(&memory)
-		return int64(memory.HeapAlloc)
-	}
-	before, l := used(), newLimiter()
-	for i := 0; i < 1_000_000; i++ {
-		l.take(fmt.Sprint("name ", i))
-	}
-	if more := used() - before; more > 1<<20 {
-		t.Errorf("%d bytes for a million keys", more)
-	}
-	// A slot whose tries are all used is one of 65536, so few other names share one of these.
-	l, others := newLimiter(), 0
-	for i := 0; i < 100*20; i++ {
-		l.take(fmt.Sprint("name ", i%100))
-	}
-	for i := 0; i < 10_000; i++ {
-		if !l.take(fmt.Sprint("other ", i)) {
-			others++
-		}
-	}
-	if others > 100 {
-		t.Errorf("%d of 10000 other names are limited beside 100 that are", others)
-	}
-}
-
-func TestTriesComeBack(t *testing.T) {
-	l := newLimiter()
+	places := int32(runtime.GOMAXPROCS(0) + 12)
 	for _, it := range []struct {
-		why   string
-		later time.Duration
-		taken int // of as many tries as there are at once, and one more
+		why        string
+		from, name func(number int) string
+		most       int32 // how many are tried
 	}{
-		{"at first", 0, *tries},
-		{"none is left", 0, 0},
-		{"a moment before the pause is over", *pause - time.Second, 0},
-		{"after the pause", time.Second, 1},
-		{"after three pauses more", 3 * *pause, 3},
-		{"after a day, no more than at first", 24 * time.Hour, *tries},
+		{"one name has two places", func(i int) string { return fmt.Sprint("192.0.2.", i) },
+			func(int) string { return "user0" }, 5 + 1},
+		{"one address has half of all places", func(int) string { return "198.51.100.1" },
+			func(i int) string { return fmt.Sprint("nobody", i) }, 5 + places/2},
 	} {
-		l.begin = l.begin.Add(-it.later)
-		taken := 0
-		for i := 0; i <= *tries; i++ {
-			if l.take("name ada") {
-				taken++
+		var wrong, others int32
+		each(200, 100, func(i int) {
+			got, err := w.at(it.from(i)).logIn(it.name(i), "not it")
+			if err == nil && got.status == 403 {
+				atomic.AddInt32(&wrong, 1)
+			} else if err != nil || got.status != 429 && got.status != 503 || got.retry == "" {
+				atomic.AddInt32(&others, 1)
+			}
+		})
+		if wrong < 5 || wrong > it.most || others != 0 {
+			t.Errorf("%s: %d passwords were tried, and at most %d should be; %d other answers", it.why, wrong, it.most, others)
+		}
+		if got := w.expect(429)(w.at(it.from(1)).logIn(it.name(1), "a password")); got.retry != "3600" {
+			t.Errorf("%s: Retry-After %q", it.why, got.retry)
+		}
+	}
+}
+
+// An office is one address. Its people may log in at once, whatever tries are left, and fail2ban does not find them.
+func TestCorrectPasswordsAtOnceAreNoFailures(t *testing.T) {
+	const people = 24
+	w := newWorld(t, "-log-n=13", "-tries=4", "-pause=1h", "-waiting=100", "-proxy=127.0.9.100")
+	w.users(people, "a password", 13)
+	for row, it := range []struct {
+		why          string
+		wrong, names int
+		busy         bool // whether 503 is an answer too
+	}{
+		{"more people than tries", 0, people, false},
+		{"after wrong passwords, which leave two tries", 2, people, false},
+		{"an account that all of them use has two places", 0, 1, true},
+	} {
+		address := fmt.Sprint("192.0.2.", row)
+		for i := 0; i < it.wrong; i++ {
+			w.expect(403)(w.at(address).logIn(fmt.Sprint("nobody", row, i), "no"))
+		}
+		browsers, statuses := make([]*browser, people), map[int]int{}
+		for i := range browsers {
+			browsers[i] = w.at(address)
+			w.expect(200)(browsers[i].read())
+		}
+		var lock sync.Mutex
+		each(people, people, func(i int) {
+			got, _ := browsers[i].logIn(fmt.Sprint("user", i%it.names), "a password")
+			lock.Lock()
+			defer lock.Unlock()
+			statuses[got.status]++
+		})
+		if statuses[303] < 2 || statuses[303]+statuses[503] != people || statuses[503] != 0 && !it.busy {
+			t.Errorf("%s: answers %v", it.why, statuses)
+		}
+		if count := strings.Count(w.logged(), "failed log-in from "+address+" "); count != it.wrong {
+			t.Errorf("%s: %d failed log-ins in the log", it.why, count)
+		}
+	}
+}
+
+// Correct log-ins cost a twentieth of a try, so after 20 of them one try of two is used up.
+func TestCorrectPasswordsUseUpAnAllowance(t *testing.T) {
+	w := newWorld(t, small, "-tries=2", "-pause=1h", "-proxy=127.0.9.100")
+	w.users(60, "a password", 10)
+	for _, it := range []struct {
+		why        string
+		from, name func(number int) string
+		known      bool // whether one browser logs in each time
+	}{
+		{"one address, by many names", func(int) string { return "192.0.2.1" }, func(i int) string { return fmt.Sprint("user", i) }, false},
+		{"one name, from many addresses", func(i int) string { return fmt.Sprint("192.0.2.", 10+i) }, func(int) string { return "user50" }, false},
+		{"one browser, which has an allowance of its own", func(int) string { return "192.0.2.2" }, func(int) string { return "user51" }, true},
+	} {
+		done, first := 0, w.at(it.from(0))
+		for i := 0; i < 50; i++ {
+			one := first
+			if i > 0 && !it.known {
+				one = w.at(it.from(i))
+			}
+			got, err := one.logIn(it.name(i), "a password")
+			if err != nil || got.status != 303 && got.status != 429 {
+				t.Errorf("%s: %d %v", it.why, got.status, err)
+			}
+			if got.status == 303 {
+				done++
 			}
 		}
-		if taken != it.taken {
-			t.Errorf("%s: %d tries", it.why, taken)
+		wanted := 21
+		if it.known {
+			wanted++ // its first log-in is that of a stranger
+		}
+		if done != wanted {
+			t.Errorf("%s: %d log-ins of 50, and not %d", it.why, done, wanted)
+		}
+		if !it.known {
+			w.expect(303)(first.logIn(it.name(0), "a password"))
 		}
 	}
-	l.give("name ada", "name ada")
-	if !l.take("name ada") || !l.take("name ada") || l.take("name ada") {
-		t.Error("two tries that were given back are not two")
+	w.expect(303)(w.at("198.51.100.1").logIn("user59", "a password"))
+}
+
+func TestNetworksOfIPv6AreLimited(t *testing.T) {
+	w := newWorld(t, small, "-tries=4", "-pause=1h", "-proxy=127.0.9.100")
+	for row, it := range []struct {
+		why, from string // where the number of the try is put
+		wrong     int    // how many are tried, each for another name
+		next      string
+		status    int
+	}{
+		{"addresses of a /64", "2001:db8:0:1::%x", 4, "2001:db8:0:1::f", 429},
+		{"networks of a /56, which has twice as many tries", "2001:db8:0:1%02x::1", 8, "2001:db8:0:1ff::1", 429},
+		{"another /56", "2001:db8:0:2%02x::1", 8, "2001:db8:0:300::1", 403},
+		{"one of few of a /56", "2001:db8:0:4%02x::1", 7, "2001:db8:0:4ff::1", 403},
+		{"addresses of IPv4", "192.0.2.%d", 8, "192.0.2.9", 403},
+	} {
+		for i := 0; i < it.wrong; i++ {
+			w.expect(403)(w.at(fmt.Sprintf(it.from, i)).logIn(fmt.Sprint("nobody", row, "-", i), "no"))
+		}
+		if got, err := w.at(it.next).logIn(fmt.Sprint("nobody", row, "-next"), "no"); err != nil || got.status != it.status {
+			t.Errorf("%s: %d and not %d, %v", it.why, got.status, it.status, err)
+		}
 	}
 }
 
@@ -188,13 +253,60 @@ func TestFail2banFindsFailedLogIns(t *testing.T) {
 		}
 	}
 	limited := newBrowserFrom("127.0.6.8", w.address)
-	for i := 0; i < 5; i++ { // two of these are not tried
+	for i := 0; i < 5; i++ { // two of these are not tried, so nobody knows whether they are wrong
 		_, _ = limited.logIn("user7", "no")
-		wanted["127.0.6.8"]++
 	}
+	wanted["127.0.6.8"] = 3
 	got, _ := json.Marshal(found(t, w.log.Name()))
 	want, _ := json.Marshal(wanted)
 	if string(got) != string(want) {
 		t.Errorf("found %s\nand not %s in\n%s", got, want, w.logged())
+	}
+}
+
+// lines has what a client can do without end, and how many lines of log it may cause by doing it 30 times.
+var lines = []struct {
+	why    string
+	act    func(one *browser) (answer, error)
+	line   string
+	most   int
+	atOnce int
+	store  bool // whether the store runs
+}{
+	{"wrong passwords, until no try is left", func(one *browser) (answer, error) { return one.logIn("user0", "no") }, "failed log-in", 3, 1, true},
+	{"tries of that name from another address", func(one *browser) (answer, error) { return one.logIn("user0", "no") }, "no try is left", 1, 4, true},
+	{"a semicolon, of which net/http writes a line", func(one *browser) (answer, error) { return one.ask("GET", "/?a;b", nil) }, "semicolon", 1, 4, true},
+	{"log-ins without a store", func(one *browser) (answer, error) {
+		return one.send("log-in", "name", "user2", "password", "a password")
+	}, "log-in: ", 1, 4, false},
+	{"sessions without a store", func(one *browser) (answer, error) {
+		one.cookies["session"] = "end=9&name=user3"
+		return one.ask("GET", "/", nil)
+	}, "the page: ", 1, 4, false},
+}
+
+func TestClientsCauseFewLinesOfLog(t *testing.T) {
+	w := newWorld(t, small, "-tries=3", "-pause=1h")
+	w.users(4, "a password", 10)
+	for row, it := range lines {
+		if !it.store {
+			w.postgres("fast")
+		}
+		before := w.logged()
+		one := newBrowserFrom(fmt.Sprint("127.0.10.", 1+row), w.address)
+		w.expect(200)(one.read())
+		each(30, it.atOnce, func(int) {
+			other := newBrowserFrom(fmt.Sprint("127.0.10.", 1+row), w.address)
+			other.token, other.cookies = one.token, map[string]string{"visitor": one.cookies["visitor"]}
+			if _, err := it.act(other); err != nil {
+				t.Errorf("%s: %v", it.why, err)
+			}
+		})
+		if count := strings.Count(strings.TrimPrefix(w.logged(), before), it.line); count < 1 || count > it.most {
+			t.Errorf("%s: %d lines, and not 1 to %d\n%.2000s", it.why, count, it.most, w.logged())
+		}
+		if !it.store {
+			w.postgres("start")
+		}
 	}
 }
