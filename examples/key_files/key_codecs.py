@@ -1,9 +1,6 @@
-"""Encodings of key files that Python lacks: Base64 without padding, Base58Check, DER; and Keccak-256."""
+"""Encodings of key files that Python lacks: Base64 without padding, DER; and Keccak-256."""
 
 import base64
-import hashlib
-
-BASE58 = "123456789ABCDEFGHJKLMNPQRSTUVWXYZabcdefghijkmnopqrstuvwxyz"
 
 # The tags of DER that are read as something else than bytes.
 INTEGER, SEQUENCE = 0x02, 0x30
@@ -29,31 +26,6 @@ def from_base64(letters):
 
 def to_base64(data):
     return base64.b64encode(data).decode().rstrip("=")
-
-
-def double_sha256(data):
-    return hashlib.sha256(hashlib.sha256(data).digest()).digest()
-
-
-def from_base58(text):
-    """The bytes of Base58Check, without its checksum of four bytes, which is verified."""
-    number = 0
-    for letter in text:
-        number = 58 * number + BASE58.index(letter)
-    zeros = len(text) - len(text.lstrip(BASE58[0]))
-    data = bytes(zeros) + number.to_bytes((number.bit_length() + 7) // 8, "big")
-    if double_sha256(data[:-4])[:4] != data[-4:]:
-        raise ValueError("another checksum")
-    return data[:-4]
-
-
-def to_base58(data):
-    data += double_sha256(data)[:4]
-    number, text = int.from_bytes(data, "big"), ""
-    while number:
-        number, place = divmod(number, 58)
-        text = BASE58[place] + text
-    return BASE58[0] * (len(data) - len(data.lstrip(b"\0"))) + text
 
 
 def from_der(data, depth=8):

@@ -14,7 +14,7 @@ from cryptography.hazmat.primitives.hashes import SHA256
 from cryptography.hazmat.primitives.kdf.hkdf import HKDF
 from cryptography.hazmat.primitives.serialization import Encoding, NoEncryption, PrivateFormat, PublicFormat
 
-from key_codecs import INTEGER, SEQUENCE, double_sha256, keccak_256, to_base64, to_der
+from key_codecs import INTEGER, SEQUENCE, keccak_256, to_base64, to_der
 
 OCTET_STRING, OBJECT_ID = 0x04, 0x06
 PBES2_ID = bytes.fromhex("2a864886f70d01050d")
@@ -104,7 +104,8 @@ def ethereum_file(secret, password, params, key_of):
 
 def ethereum_address(secret):
     """The address of a private key, as a file names it."""
-    return keccak_256(public_key(int.from_bytes(secret, "big"), compressed=False)[1:])[12:].hex()
+    point = derive_private_key(int.from_bytes(secret, "big"), SECP256K1()).public_key()
+    return keccak_256(point.public_bytes(Encoding.X962, PublicFormat.UncompressedPoint)[1:])[12:].hex()
 
 
 def pkcs8_file(private_info, password, params, key_of, scrypt_id, cipher_id):
@@ -143,23 +144,3 @@ def minisign_file(number, secret, password, limits, params, key_of):
 
 def ed25519_public(seed):
     return Ed25519PrivateKey.from_private_bytes(seed).public_key().public_bytes(Encoding.Raw, PublicFormat.Raw)
-
-
-def public_key(number, compressed):
-    """The point of secp256k1 that is the generator times the number."""
-    form = PublicFormat.CompressedPoint if compressed else PublicFormat.UncompressedPoint
-    return derive_private_key(number, SECP256K1()).public_key().public_bytes(Encoding.X962, form)
-
-
-def bitcoin_address(secret, compressed):
-    """The bytes of the address, before its checksum."""
-    point = public_key(int.from_bytes(secret, "big"), compressed)
-    return b"\0" + hashlib.new("ripemd160", hashlib.sha256(point).digest()).digest()
-
-
-def bip38_file(secret, compressed, password, address_text, key_of):
-    """A private key as BIP38 encrypts it, before its checksum. The salt comes from the text of the address."""
-    salt = double_sha256(address_text.encode())[:4]
-    stream = key_of(password, salt, 1 << 14, 8, 8, 64)
-    head = b"\x01\x42" + (b"\xe0" if compressed else b"\xc0") + salt
-    return head + aes(stream[32:], modes.ECB(), xor(secret, stream))

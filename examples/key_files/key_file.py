@@ -1,4 +1,4 @@
-"""Opens key files of other programs with keys that scrypt derives from a password. docs/KEY_FILES.md describes them.
+"""Opens key files of other programs with keys that scrypt derives from a password. README.md describes them.
 
 Each function takes the file and the password, and raises ValueError if the password is wrong, or the file is damaged or asks
 for more than is allowed. It needs the package scrypt_c, and python3-cryptography for the ciphers.
@@ -15,13 +15,12 @@ from cryptography.hazmat.primitives.ciphers.aead import ChaCha20Poly1305
 from cryptography.hazmat.primitives.serialization import load_der_private_key
 
 import scrypt_c
-from key_codecs import double_sha256, from_base64, from_der, keccak_256
+from key_codecs import from_base64, from_der, keccak_256
 
 MOST_MEMORY = 256 << 20  # bytes of the table
 MOST_WORK = scrypt_c.MOST_WORK  # four times the work of the recommended parameters (17, 8, 1)
 
 SCRYPT_ID, AES_256_CBC_ID = bytes.fromhex("2b06010401da47040b"), bytes.fromhex("60864801650304012a")
-ORDER = 0xFFFFFFFFFFFFFFFFFFFFFFFFFFFFFFFEBAAEDCE6AF48A03BBFD25E8CD0364141  # of secp256k1
 
 
 def key_of(password, salt, n, r, p, length, most_memory=MOST_MEMORY, most_work=MOST_WORK):
@@ -103,36 +102,5 @@ def minisign_secret(text, password, **limits):
     return number, secret
 
 
-def aes(key):
-    return Cipher(algorithms.AES(key), modes.ECB()).decryptor()
-
-
 def xor(one, other):
     return bytes(a ^ b for a, b in zip(one, other))
-
-
-def bip38_key(data, password):
-    """The private key in the 39 bytes of BIP38. It is right if its address has the hash that begins with data[3:7]."""
-    stream = key_of(password, data[3:7], 1 << 14, 8, 8, 64)
-    return xor(aes(stream[32:]).update(data[7:39]), stream)
-
-
-def bip38_multiplied_key(data, password, public_key):
-    """The same if it was multiplied by somebody else; `public_key` multiplies the generator of secp256k1."""
-    lot = data[2] & 4  # the owner's salt has four bytes, and then comes the number of a lot
-    factor = key_of(password, data[7:11] if lot else data[7:15], 1 << 14, 8, 8, 32)
-    if lot:
-        factor = double_sha256(factor + data[7:15])
-    point = public_key(int.from_bytes(factor, "big"), compressed=True)
-    stream = key_of(point, data[3:15], 1 << 10, 1, 1, 64)
-    second = xor(aes(stream[32:]).update(data[23:39]), stream[16:32])
-    first = xor(aes(stream[32:]).update(data[15:23] + second[:8]), stream)
-    seed = double_sha256(first + second[8:])
-    return (int.from_bytes(factor, "big") * int.from_bytes(seed, "big") % ORDER).to_bytes(32, "big")
-
-
-def is_mined(header):
-    """Whether the hash of a header of Litecoin, as a number, is at most its target."""
-    number = int.from_bytes(key_of(header, header, 1 << 10, 1, 1, 32), "little")
-    bits = int.from_bytes(header[72:76], "little")
-    return number <= (bits & 0x7FFFFF) << 8 * (bits >> 24) >> 24

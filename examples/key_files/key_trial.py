@@ -1,4 +1,4 @@
-"""What a kind of key file is tried by: key_file.py, the shell's line of docs/KEY_FILES.md, and what differs."""
+"""What a kind of key file is tried by: key_file.py, the shell's line of README.md, and what differs."""
 
 import os
 import random
@@ -9,7 +9,7 @@ import subprocess
 import key_file
 
 HERE = os.path.dirname(os.path.abspath(__file__))
-PAGE = os.path.join(HERE, "..", "..", "docs", "KEY_FILES.md")
+PAGE = os.path.join(HERE, "README.md")
 
 CHANGES = 40  # of each file whose bytes are changed
 # What an error prints of a file that asks for too much: its numbers, and those that are allowed.

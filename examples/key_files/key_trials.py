@@ -1,4 +1,4 @@
-"""The trials of each kind of key file of docs/KEY_FILES.md, which key_file.py opens."""
+"""The trials of each kind of key file of README.md, which key_file.py opens."""
 
 import hashlib
 import json
@@ -9,7 +9,7 @@ import sys
 import key_contents
 import key_vectors
 from foreign import Missing, installed
-from key_codecs import double_sha256, from_base58, keccak_256, to_base58
+from key_codecs import keccak_256
 from key_trial import changed, read, run
 from terminal import on_terminal
 
@@ -229,53 +229,10 @@ def other_keys(trial, password):
     trial.notes.append("signify-openbsd derives with bcrypt, which is not scrypt")
 
 
-def bip38(trial):
-    """The published vectors, each of which has four bytes of the hash of the address of its key."""
-    for text, password, compressed, multiplied, secret in key_vectors.BIP38:
-        data = from_base58(text)
-        opened = [trial.bip38_multiplied_key(data, it.encode(), key_contents.public_key) if multiplied
-                  else trial.bip38_key(data, it.encode()) for it in (password, password + "x")]
-        right, wrong = (is_of_address(it, compressed, data) for it in opened)
-        trial.check(right and opened[0].hex().upper() == secret, ("the published key", text, opened[0].hex()))
-        trial.check(not wrong, ("a wrong password", text))
-        if not multiplied:
-            trial.bip38_key(data, password.encode())
-            trial.in_shell()
-            address = to_base58(key_contents.bitcoin_address(opened[0], compressed))
-            made = key_contents.bip38_file(opened[0], compressed, password.encode(), address, trial.key_of)
-            trial.check(to_base58(made) == text, ("the encrypted key", text, made.hex()))
-    for text, secret, compressed in key_vectors.WALLET_KEYS:
-        wanted = b"\x80" + bytes.fromhex(secret) + (b"\x01" if compressed else b"")
-        trial.check(from_base58(text) == wanted, ("the published key in the format of wallets", text))
-    trial.notes.append("no program of Debian reads these keys: the published vectors")
-
-
-def is_of_address(secret, compressed, data):
-    """Whether the salt of an encrypted key is of this key's address."""
-    address = to_base58(key_contents.bitcoin_address(secret, compressed))
-    return double_sha256(address.encode())[:4] == data[3:7]
-
-
-def block_hashes(trial):
-    """The first block of Litecoin, and the hashes of headers at random beside hashlib."""
-    header = key_vectors.LITECOIN_HEADER
-    trial.check(double_sha256(header)[::-1].hex() == key_vectors.LITECOIN_BLOCK, "the name of the first block")
-    trial.opens(True, "the first block", trial.is_mined, header)
-    trial.check(trial.derived[-1][2][::-1].hex() == key_vectors.LITECOIN_WORK, "the work of the first block")
-    trial.opens(False, "another nonce", trial.is_mined, header[:-1] + b"\0")
-    for _ in range(50):
-        header = trial.content(80)
-        trial.is_mined(header)
-        wanted = hashlib.scrypt(header, salt=header, n=1024, r=1, p=1, dklen=32)
-        trial.check(trial.derived[-1][2] == wanted, ("a header at random", header.hex()))
-
-
 KINDS = [
     ("age", age),
     ("Tarsnap's scrypt", tarsnap),
     ("Ethereum's secret storage", ethereum),
     ("PKCS#8, of OpenSSL", pkcs8),
     ("minisign", minisign),
-    ("BIP38", bip38),
-    ("block hashes of Litecoin", block_hashes),
 ]

@@ -4,7 +4,7 @@
 usage: test_key_files.py PROGRAM LIBRARY [--seed N]
 
 PROGRAM is scrypt_tool and LIBRARY libscrypt_c.so, which the Python binding loads. The files are opened by the functions of
-key_file.py; each key is also derived by the shell's line of docs/KEY_FILES.md. For each kind of file: one that the real
+key_file.py; each key is also derived by the shell's line of README.md. For each kind of file: one that the real
 program made is opened, and a published vector; a wrong password and a file that was changed are refused; one that asks for
 too much is refused before anything is derived; and one that is made here is opened by the real program, if there is one.
 

@@ -8,7 +8,7 @@ import sys
 import tempfile
 
 # where Debian has the sources of Go's libraries
-GO = {"GO111MODULE": "off", "GOPATH": "/usr/share/gocode", "GOFLAGS": ""}
+GO_SOURCES = "/usr/share/gocode"
 
 # What each Python module is asked: a case a line comes in, and a text a line goes out.
 ASK = "import json, sys\nfor line in sys.stdin:\n    password, salt, n, r, p = json.loads(line)\n    print({})\n"
@@ -23,8 +23,8 @@ for (const line of require("fs").readFileSync(0, "utf8").trim().split("\\n")) {
 }
 """
 
-# a program that makes the texts of keys by the example's function `text`. Go's %q reads what JSON writes, as long
-# as the texts are letters and digits
+# a program that makes the texts of x/crypto's keys by this package. Go's %q reads what JSON writes, as long as the texts are
+# letters and digits
 GO_MAIN = """package main
 
 import (
@@ -32,6 +32,7 @@ import (
 	"encoding/hex"
 	"fmt"
 	"golang.org/x/crypto/scrypt"
+	proved "nilomafy.example/scrypt"
 	"os"
 )
 
@@ -47,8 +48,10 @@ func main() {
 		salt, _ := hex.DecodeString(letters)
 		if key, err := scrypt.Key([]byte(password), salt, n, r, p, length); err != nil {
 			fmt.Println(err)
+		} else if text, err := proved.StoredText(salt, key, n, r, p); err != nil {
+			fmt.Println(err)
 		} else {
-			fmt.Println(text(salt, key, n, r, p))
+			fmt.Println(text)
 		}
 	}
 }
@@ -86,17 +89,18 @@ def asked(module, call, cases, what):
     return answers([python_with(module, what), "-c", module + "\n" + ASK.format(call)], cases)
 
 
-def go_keys(example, cases):
-    """The output of a Go program for these cases, which uses the function of this file that writes a key's text."""
+def go_keys(package, cases):
+    """The output of a Go program for these cases, which makes the texts by the package in this folder."""
     command = installed("go")
-    if not os.path.isdir(GO["GOPATH"] + "/src/golang.org/x/crypto/scrypt"):
+    if not os.path.isdir(GO_SOURCES + "/src/golang.org/x/crypto/scrypt"):
         raise Missing("golang-golang-x-crypto-dev")
     with tempfile.TemporaryDirectory() as folder:
+        shutil.copytree(package, f"{folder}/src/nilomafy.example/scrypt")
         source = os.path.join(folder, "main.go")
         with open(source, "w", encoding="utf-8") as file:
             file.write(GO_MAIN)
-        copy = shutil.copy(example, folder)
-        return answers([command, "run", source, copy], cases, GO)
+        environment = {"GO111MODULE": "off", "GOPATH": f"{folder}:{GO_SOURCES}", "GOFLAGS": ""}
+        return answers([command, "run", source], cases, environment)
 
 
 def openssl_key(password, salt, n, r, p, length):

@@ -1,5 +1,5 @@
 #!/usr/bin/env python3
-"""Tries every conversion of this folder on what the other tools make.
+"""Tries the conversions of the Python and Go packages and of this folder on what the other tools make.
 
 usage: test_migration.py PROGRAM [--worker PATH] [--seed N]
 
@@ -22,14 +22,16 @@ import subprocess
 import sys
 import tempfile
 
-import stored_text
 from foreign import NODE, Missing, answers, asked, go_keys, installed, openssl_key
 
 HERE = os.path.dirname(os.path.abspath(__file__))
-sys.path += [os.path.join(HERE, "..", "..", folder) for folder in ("compare", "bench")]
+TOP = os.path.join(HERE, "..", "..")
+sys.path += [os.path.join(TOP, folder) for folder in ("compare", "bench", "bindings/python")]
+os.environ.setdefault("SCRYPT_C_LIBRARY", os.path.join(TOP, "build", "lib"))
 import crypt64
 from oracle import some_bytes, verified
 from runs import unlimited
+from scrypt_c import migration
 from worker import Worker
 
 CASES = 20
@@ -128,14 +130,14 @@ def passlib(trial):
         case = trial.word(), salt, *trial.params()
         text = asked(module, call.format(""), [case], "passlib")[0]
         trial.refuses(text, "EncodingInvalid")
-        trial.verifies(stored_text.from_passlib(text), case[0].encode())
+        trial.verifies(migration.from_passlib(text), case[0].encode())
     text = asked(module, call.format(""), [("password", "s", 16, 8, 1)], "passlib")[0]
     for old, new, error in PASSLIB_SPELLINGS:
         other = text.replace(old, new)
         there = asked(module, f"scrypt.verify(password, {other!r})", [("password", "", 0, 0, 0)], "passlib")
         trial.check(other != text and there == ["True"], ("passlib does not verify", other))
         trial.refuses(other, error)
-        trial.verifies(stored_text.from_passlib(other), b"password")
+        trial.verifies(migration.from_passlib(other), b"password")
 
 
 def converted(trial, convert, text, password):
@@ -147,7 +149,7 @@ def converted(trial, convert, text, password):
 def django(trial):
     """The texts of Django's tests, and random ones if the installed Django has scrypt."""
     for password, text in DJANGO_TEXTS:
-        converted(trial, stored_text.from_django, text, password)
+        converted(trial, migration.from_django, text, password)
     module = "from django.conf import settings; settings.configure()"
     module += "; from django.contrib.auth.hashers import ScryptPasswordHasher"
     cases = trial.cases()
@@ -157,7 +159,7 @@ def django(trial):
         trial.notes.append("no Django from 4.0 is installed: two texts of its tests alone")
         return
     for case, text in zip(cases, made):
-        converted(trial, stored_text.from_django, text, case[0])
+        converted(trial, migration.from_django, text, case[0])
 
 
 def werkzeug(trial):
@@ -169,7 +171,7 @@ def werkzeug(trial):
     made = asked(module, 'make(password, f"scrypt:{n}:{r}:{p}", salt)', cases, "Werkzeug 2.3")
     made += asked(module, "make(password)", cases[:2], "Werkzeug 2.3")
     for case, text in zip(cases + cases[:2], made):
-        converted(trial, stored_text.from_werkzeug, text, case[0])
+        converted(trial, migration.from_werkzeug, text, case[0])
 
 
 def libxcrypt(trial):
@@ -185,13 +187,13 @@ def libxcrypt(trial):
         setting = f"{params}{salt[:20]}$a${salt}$"
         text = crypt(password.encode(), setting.encode()).decode()
         trial.check(text.startswith(setting), ("crypt(3) refuses the salt", text))
-        converted(trial, stored_text.from_crypt, text, password)
+        converted(trial, migration.from_crypt, text, password)
     for params, salt, password in CRYPT_REFUSES:
         text = trial.answer(["hash", "mcf", *map(str, params[:3]), salt.hex(), str(params[3])], password)
         trial.verifies(text, password)
         trial.check(crypt(password, text.encode()) != text.encode(), ("crypt(3) verifies", text))
     key = hashlib.scrypt(b"password", salt=b"a+b", n=16, r=1, p=1, dklen=32)
-    text = stored_text.mcf_text(b"a+b", key, 16, 1, 1)
+    text = f"{crypt64.params(4, 1, 1)}a+b${crypt64.letters(key)}"
     trial.verifies(text, b"password")
     trial.check(crypt(b"password", text.encode()) != text.encode(), ("crypt(3) verifies", text))
 
@@ -227,13 +229,13 @@ def libscrypt(trial):
     for password, _, n, r, p in trial.cases():
         text = ctypes.create_string_buffer(128)
         library.libscrypt_hash(text, password.encode(), n, r, p)
-        converted(trial, stored_text.from_libscrypt, text.value.decode(), password)
+        converted(trial, migration.from_libscrypt, text.value.decode(), password)
         salt = some_bytes(trial.rng, 15) + b"!"
         key = trial.key(password.encode(), salt, n.bit_length() - 1, r, p, 64)
         library.libscrypt_mcf(n, r, p, base64.b64encode(salt), base64.b64encode(key), text)
         made = text.value.decode()
         trial.check(library.libscrypt_check(text, password.encode()) > 0, ("libscrypt does not verify", made))
-        trial.verifies(stored_text.from_libscrypt(made), password.encode())
+        trial.verifies(migration.from_libscrypt(made), password.encode())
 
 
 def of_hashlib(trial):
@@ -245,10 +247,10 @@ def of_hashlib(trial):
         salt, length = trial.rng.choice([plain, (b"", some), (long, some), short])
         key = hashlib.scrypt(password, salt=salt, n=n, r=r, p=p, dklen=length)
         trial.check(trial.key(password, salt, n.bit_length() - 1, r, p, length) == key, ("keys", password, salt))
-        trial.verifies(stored_text.stored_text(salt, key, n, r, p), password)
+        trial.verifies(migration.stored_text(salt, key, n, r, p), password)
     for salt in (b"\xff" * 65, b"$" * 65):
         try:
-            trial.check(False, ("is stored", stored_text.stored_text(salt, key, n, r, p)))
+            trial.check(False, ("is stored", migration.stored_text(salt, key, n, r, p)))
         except ValueError:
             trial.check(True, salt)
     for log_n, r, p in ((0, 8, 1), (16, 1, 1), (17, 8, 1)):
@@ -277,7 +279,7 @@ def node(trial):
 def go(trial):
     """Texts of Go's keys, also with log_n from 16 * r, and its refusal of N = 1."""
     cases = [*key_cases(trial), ("password", "00", 1 << 16, 1, 1, 32), ("password", "00", 1, 8, 1, 32)]
-    made = go_keys(os.path.join(HERE, "stored_text.go"), cases)
+    made = go_keys(os.path.join(TOP, "bindings", "go"), cases)
     for case, text in zip(cases[:-1], made):
         trial.verifies(text, case[0].encode())
     trial.check(made[-1] == "scrypt: N must be > 1 and a power of 2", ("Go", made[-1]))
@@ -307,7 +309,7 @@ def rust_crate(trial):
         password, salt, params = password.encode(), bytes.fromhex(salt), (n.bit_length() - 1, r, p)
         key = worker.derive(password, salt, params, length)[1]
         trial.check(trial.key(password, salt, *params, length) == key, ("keys", password, salt))
-        trial.verifies(stored_text.stored_text(salt, key, n, r, p), password)
+        trial.verifies(migration.stored_text(salt, key, n, r, p), password)
 
 
 def tarsnap(trial):
