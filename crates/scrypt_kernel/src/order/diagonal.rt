@@ -11,8 +11,9 @@ ghost use Rattle.scrypt_kernel.specs.RoMix.{integerify};
 ghost use Rattle.scrypt_kernel.specs.Diagonal.{AreInverse, diagonal_order, inverse_pivot, permuted, pivot, standard_order};
 
 use crate::CoreCount;
+pub use crate::cores::lanes::Diagonal;
 use crate::cores::lanes::Lanes;
-pub use crate::cores::lanes::{Both, Diagonal};
+pub use crate::cores::lanes::both::Both;
 use crate::order::{Order, low_bits};
 use crate::parts::Parts;
 use crate::words::{part, put_block};
