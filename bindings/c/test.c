@@ -2,8 +2,8 @@
  * leaves out the key of 1 GiB and the hashes of 128 MiB. */
 #include "check.h"
 #include "scrypt_c.h"
+#include "test_keys.h"
 
-#include <stdio.h>
 #include <stdlib.h>
 #include <string.h>
 
@@ -13,158 +13,6 @@
 #else
 #define VERSION SCRYPT_VERSION_STRING " x86-64-v"
 #endif
-
-static void hex_of(const uint8_t *bytes, size_t n, char *hex) {
-  size_t i;
-  for (i = 0; i < n; i++) sprintf(hex + 2 * i, "%02x", bytes[i]);
-}
-
-/* RFC 7914, section 12. */
-static const struct {
-  const char *password, *salt;
-  uint8_t log_n;
-  uint32_t r, p;
-  const char *key;
-} VECTORS[] = {
-    {"", "", 4, 1, 1,
-     "77d6576238657b203b19ca42c18a0497f16b4844e3074ae8dfdffa3fede21442"
-     "fcd0069ded0948f8326a753a0fc81f17e8d3e0fb2e0d3628cf35e20c38d18906"},
-    {"password", "NaCl", 10, 8, 16,
-     "fdbabe1c9d3472007856e7190d01e9fe7c6ad7cbc8237830e77376634b373162"
-     "2eaf30d92e22a3886ff109279d9830dac727afb94a83ee6d8360cbdfa2cc0640"},
-    {"pleaseletmein", "SodiumChloride", 14, 8, 1,
-     "7023bdcb3afd7348461c06cd81fd38ebfda8fbba904f8e3ea9b543f6545da1f2"
-     "d5432955613f0fcf62d49705242a9af9e61e85dc0d651e40dfcf017b45575887"},
-    {"pleaseletmein", "SodiumChloride", 20, 8, 1,
-     "2101cb9b6a511aaeaddbbe09cf70f881ec568d574a2ffd4dabe5ee9820adaa47"
-     "8e56fd8f4ba5d09ffa1c6d927c40f4c337304049e8a952fbcbf45c6fa77a41a4"},
-};
-
-/* The key of vector i in memory of this program, with a table that keeps one row in 2^s. */
-static void keys_in_buffers(size_t i, uint8_t s) {
-  uint8_t key[64];
-  char hex[129];
-  size_t chunks_len, table_len, scratch_len;
-  uint8_t *chunks;
-  uint32_t *table, *scratch;
-  const char *password = VECTORS[i].password, *salt = VECTORS[i].salt;
-  uint8_t log_n = VECTORS[i].log_n;
-  uint32_t r = VECTORS[i].r, p = VECTORS[i].p;
-  check(scrypt_buffer_lens(log_n, r, p, s, &chunks_len, &table_len, &scratch_len) == SCRYPT_OK, "lens");
-  check(chunks_len == (size_t)128 * r * p, "chunks");
-  check(table_len == ((size_t)32 * r << (log_n - s)), "table");
-  check(scratch_len == (s == 0 ? (size_t)64 : 96) * r, "scratch");
-  chunks = (uint8_t *)malloc(chunks_len);
-  table = (uint32_t *)malloc(4 * table_len);
-  scratch = (uint32_t *)malloc(4 * scratch_len);
-  check(scrypt_key_thin(password, strlen(password), salt, strlen(salt), log_n, r, p, s, key, 64, chunks,
-                        chunks_len, table, table_len, scratch, scratch_len) == SCRYPT_OK, "thin");
-  hex_of(key, 64, hex);
-  check(strcmp(hex, VECTORS[i].key) == 0, "key with a thin table");
-  if (s == 0) {
-    memset(key, 0, sizeof key);
-    check(scrypt_key_with_buffers(password, strlen(password), salt, strlen(salt), log_n, r, p, key, 64,
-                                  chunks, chunks_len, table, table_len, scratch, scratch_len) == SCRYPT_OK,
-          "with buffers");
-    hex_of(key, 64, hex);
-    check(strcmp(hex, VECTORS[i].key) == 0, "key in the caller's buffers");
-  }
-  memset(key, 7, sizeof key);
-  memset(chunks, 7, chunks_len);
-  check(scrypt_key_thin("", 0, "", 0, log_n, r, p, s, key, 64, chunks, chunks_len, table, table_len - 1,
-                        scratch, scratch_len) == SCRYPT_BUFFER_SIZE, "a short table");
-  check(scrypt_key_with_buffers("", 0, "", 0, log_n, r, p, key, 64, chunks, chunks_len - 1, table,
-                                table_len, scratch, scratch_len) == SCRYPT_BUFFER_SIZE, "short chunks");
-  check(scrypt_key_thin("", 0, "", 0, log_n, r, p, s, key, 0, chunks, chunks_len, table, table_len,
-                        scratch, scratch_len) == SCRYPT_INVALID_OUTPUT_LEN, "no output");
-  check(scrypt_key_thin("", 0, "", 0, log_n, r, p, (uint8_t)(log_n + 1), key, 64, chunks, chunks_len,
-                        table, table_len, scratch, scratch_len) == SCRYPT_INVALID_PARAMS, "s above log_n");
-  check(key[0] == 7 && key[63] == 7 && chunks[0] == 7, "a refusal leaves output and buffers");
-  free(chunks);
-  free(table);
-  free(scratch);
-}
-
-/* The key of vector 1, which has 16 chunks, in buffers that are longer than needed: how many tables are used of them, and
- * nothing after those is written. */
-static const struct {
-  size_t table_more, scratch_more; /* than one of each */
-  size_t used;
-  const char *reason;
-} LONGER[] = {
-    {1, 1, 1, "a word more than one table and one scratch"},
-    {262144, 512, 2, "two tables and two scratches: two chunks at a time"},
-    {262145, 513, 2, "a word more than these"},
-    {262144, 511, 1, "two tables, and a word too few for two scratches"},
-    {262143, 512, 1, "two scratches, and a word too few for two tables"},
-};
-
-static void key_in_longer_buffers(size_t row) {
-  static uint8_t chunks[16385];
-  static uint32_t table[524290], scratch[1026];
-  const size_t one = 262144, spare = 512;
-  size_t i, used = LONGER[row].used, untouched = 0, written = 0;
-  uint8_t key[64];
-  char hex[129];
-  memset(chunks, 7, sizeof chunks);
-  memset(table, 7, sizeof table);
-  memset(scratch, 7, sizeof scratch);
-  check(scrypt_key_with_buffers("password", 8, "NaCl", 4, 10, 8, 16, key, 64, chunks, sizeof chunks, table,
-                                one + LONGER[row].table_more, scratch, spare + LONGER[row].scratch_more) == SCRYPT_OK,
-        LONGER[row].reason);
-  hex_of(key, 64, hex);
-  check(strcmp(hex, VECTORS[1].key) == 0, LONGER[row].reason);
-  for (i = used * one; i < 524290; i++) untouched += table[i] != 0x07070707;
-  for (i = used * spare; i < 1026; i++) untouched += scratch[i] != 0x07070707;
-  check(untouched == 0 && chunks[16384] == 7, "nothing is written after what is used");
-  for (i = (used - 1) * one; i < used * one; i++) written += table[i] != 0x07070707;
-  check(written > one / 2, "and all of that is used");
-  check(scrypt_key_thin("password", 8, "NaCl", 4, 10, 8, 16, 0, key, 64, chunks, 16384, table, one,
-                        scratch, spare + 1) == SCRYPT_BUFFER_SIZE, "scrypt_key_thin wants exact lengths");
-}
-
-/* With p of 2 or more scrypt_key takes several tables: the same key as in one. */
-static void key_of_chunks(uint32_t p) {
-  static uint8_t chunks[9216];
-  static uint32_t table[16384], scratch[512];
-  uint8_t key[32], same[32];
-  check(scrypt_key("pw", 2, NULL, 0, 6, 8, p, key, 32) == SCRYPT_OK, "several tables");
-  check(scrypt_key_with_buffers("pw", 2, "", 0, 6, 8, p, same, 32, chunks, sizeof chunks, table, 16384, scratch, 512) ==
-            SCRYPT_OK && memcmp(key, same, 32) == 0, "the same key in one table");
-}
-
-static void keys(int small) {
-  size_t i, count = sizeof VECTORS / sizeof VECTORS[0] - (small ? 1 : 0);
-  uint8_t key[64];
-  char hex[129];
-  for (i = 0; i < count; i++) {
-    check(scrypt_key(VECTORS[i].password, strlen(VECTORS[i].password), VECTORS[i].salt,
-                        strlen(VECTORS[i].salt), VECTORS[i].log_n, VECTORS[i].r, VECTORS[i].p, key, 64) ==
-              SCRYPT_OK, "derive");
-    hex_of(key, 64, hex);
-    check(strcmp(hex, VECTORS[i].key) == 0, "key of RFC 7914");
-  }
-  check(scrypt_key(NULL, 0, NULL, 0, 4, 1, 1, key, 64) == SCRYPT_OK, "NULL with length 0");
-  hex_of(key, 64, hex);
-  check(strcmp(hex, VECTORS[0].key) == 0, "key of NULL with length 0");
-  for (i = 0; i < 3; i++) keys_in_buffers(0, (uint8_t)i);
-  for (i = 1; i < 10; i++) key_of_chunks((uint32_t)i);
-  keys_in_buffers(1, 0);
-  keys_in_buffers(2, 3);
-  for (i = 0; i < sizeof LONGER / sizeof LONGER[0]; i++) key_in_longer_buffers(i);
-}
-
-static void refusals_of_keys(void) {
-  uint8_t key[4] = {1, 2, 3, 4};
-  size_t chunks = 1, table = 2, scratch = 3;
-  check(scrypt_key("", 0, "", 0, 57, 1, 1, key, 4) == SCRYPT_INVALID_PARAMS, "log_n of 57");
-  check(scrypt_key("", 0, "", 0, 4, 0, 1, key, 4) == SCRYPT_INVALID_PARAMS, "r of 0");
-  check(scrypt_key("", 0, "", 0, 4, 1, 1, key, 0) == SCRYPT_INVALID_OUTPUT_LEN, "no output");
-  check(scrypt_key("", 0, "", 0, 56, 1, 1, key, 4) == SCRYPT_OUT_OF_MEMORY, "a table of 2^63 bytes");
-  check(key[0] == 1 && key[3] == 4, "a refusal leaves the output");
-  check(scrypt_buffer_lens(4, 1, 1, 5, &chunks, &table, &scratch) == SCRYPT_INVALID_PARAMS, "s above log_n");
-  check(chunks == 1 && table == 2 && scratch == 3, "a refusal leaves the lengths");
-}
 
 static int verify(const char *password, const char *text) {
   return scrypt_verify(password, strlen(password), text, strlen(text));
@@ -205,30 +53,24 @@ static void new_hash(void) {
   check(scrypt_verify("", 0, other, strlen(other)) == SCRYPT_OK, "the password of a new hash");
 }
 
+static const char *const SHORT[] = {"short chunks", "a short table", "a short scratch"};
+
 /* Verifies in buffers of this program, which may be longer than needed, and are refused if they are shorter. */
 static void verify_in_buffers(const char *text) {
   uint8_t chunks[2048];
   uint32_t *table = (uint32_t *)malloc(4 * 5000), scratch[600];
-  size_t chunks_len, table_len, scratch_len, i, nonzero = 0;
-  size_t n = strlen(text);
+  size_t chunks_len, table_len, scratch_len, i, n = strlen(text);
   check(scrypt_buffer_lens(4, 8, 1, 0, &chunks_len, &table_len, &scratch_len) == SCRYPT_OK, "lens");
   check(scrypt_verify_with_buffers("pw", 2, text, n, chunks, chunks_len, table, table_len, scratch, scratch_len) ==
             SCRYPT_OK, "the password, in buffers");
   check(scrypt_verify_with_buffers("PW", 2, text, n, chunks, sizeof chunks, table, 5000, scratch, 600) ==
             SCRYPT_MISMATCH, "another password, in longer buffers");
   scrypt_wipe(chunks, chunks_len, table, table_len, scratch, scratch_len);
-  for (i = 0; i < chunks_len; i++) nonzero += chunks[i] != 0;
-  for (i = 0; i < table_len; i++) nonzero += table[i] != 0;
-  for (i = 0; i < scratch_len; i++) nonzero += scratch[i] != 0;
-  check(nonzero == 0, "wiped");
-  check(scrypt_verify_with_buffers("pw", 2, text, n, chunks, chunks_len - 1, table, table_len, scratch,
-                                   scratch_len) == SCRYPT_BUFFER_SIZE, "short chunks");
-  check(scrypt_verify_with_buffers("pw", 2, text, n, chunks, chunks_len, table, table_len - 1, scratch,
-                                   scratch_len) == SCRYPT_BUFFER_SIZE, "a short table");
-  check(scrypt_verify_with_buffers("pw", 2, text, n, chunks, chunks_len, table, table_len, scratch,
-                                   scratch_len - 1) == SCRYPT_BUFFER_SIZE, "a short scratch");
-  for (i = 0; i < table_len; i++) nonzero += table[i] != 0;
-  check(nonzero == 0, "a refusal leaves the buffers");
+  check(is_all(0, chunks, chunks_len) && is_all(0, table, 4 * table_len) && is_all(0, scratch, 4 * scratch_len), "wiped");
+  for (i = 0; i < 3; i++)
+    check(scrypt_verify_with_buffers("pw", 2, text, n, chunks, chunks_len - (i == 0), table, table_len - (i == 1), scratch,
+                                     scratch_len - (i == 2)) == SCRYPT_BUFFER_SIZE, SHORT[i]);
+  check(is_all(0, table, 4 * table_len), "a refusal leaves the buffers");
   free(table);
 }
 
@@ -245,7 +87,7 @@ static void verify_group_in_buffers(const char *text) {
       for (kinds = 0; kinds < 81; kinds += 5) {
         size_t of = times * chunks_len, words = times * table_len, spare = times * scratch_len, kind = kinds;
         scrypt_login logins[4];
-        int statuses[4] = {-1, -1, -1, -1}, wanted[4], nonzero = 0;
+        int statuses[4] = {-1, -1, -1, -1}, wanted[4];
         for (i = 0; i < 4; i++, kind /= 3) {
           logins[i].password = PASSWORDS[kind % 3];
           logins[i].password_len = 2;
@@ -257,9 +99,7 @@ static void verify_group_in_buffers(const char *text) {
         check(scrypt_verify_group_with_buffers(logins, count, statuses, chunks, of, table, words, scratch, spare) == SCRYPT_OK,
               "a group");
         check(memcmp(statuses, wanted, sizeof wanted) == 0, "each status is that of the one alone");
-        for (i = 0; i < of; i++) nonzero += chunks[i] != 0;
-        for (i = 0; i < spare; i++) nonzero += scratch[i] != 0;
-        check(nonzero == 0, "chunks and scratch are zeros");
+        check(is_all(0, chunks, of) && is_all(0, scratch, 4 * spare), "chunks and scratch are zeros");
         check(chunks[of] == 7 && table[words] == 7 && scratch[spare] == 7, "nothing after them is written");
         chunks[of] = 0, scratch[spare] = 0;
       }
@@ -269,15 +109,12 @@ static void verify_group_in_buffers(const char *text) {
 static void several_tables_are_used(void) {
   static uint8_t chunks[128 * 4], key[16];
   static uint32_t table[4 * 32 * 64], scratch[4 * 64];
-  size_t tables, row, i, changed;
+  size_t tables, row, changed;
   for (tables = 1; tables <= 4; tables++) {
     memset(table, 0xa5, sizeof table);
     check(scrypt_key_with_buffers("pw", 2, "salt", 4, 6, 1, 4, key, sizeof key, chunks, sizeof chunks, table,
                                   tables * 32 * 64, scratch, tables * 64) == SCRYPT_OK, "a key in several tables");
-    for (row = changed = 0; row < 4 * 64; row++) {
-      for (i = 0; i < 32 && table[32 * row + i] == 0xa5a5a5a5; i++) {}
-      changed += i < 32;
-    }
+    for (row = changed = 0; row < 4 * 64; row++) changed += !is_all(0xa5, table + 32 * row, 128);
     check(changed == tables * 64, "as many rows are used as there is room for");
   }
 }
@@ -291,19 +128,16 @@ static void hash_in_buffers(int is_mcf, const char *made) {
               uint8_t *, size_t, uint32_t *, size_t, uint32_t *, size_t) =
       is_mcf ? scrypt_hash_mcf_with_buffers : scrypt_hash_phc_with_buffers;
   char text[SCRYPT_PHC_CAPACITY];
-  size_t chunks_len, table_len, scratch_len, i, nonzero = 0, n = strlen(made);
+  size_t chunks_len, table_len, scratch_len, i, n = strlen(made);
   check(scrypt_buffer_lens(4, 8, 1, 0, &chunks_len, &table_len, &scratch_len) == SCRYPT_OK, "lens");
   memset(text, '!', sizeof text);
   memset(chunks, 7, sizeof chunks);
   memset(scratch, 7, sizeof scratch);
   check(hash("pw", 2, "saltsalt", 8, 4, 8, 1, 9, text, n + 1, chunks, 2048, table, 5000, scratch, 600) ==
             SCRYPT_INVALID_PARAMS, "a key of 9 bytes");
-  check(hash("pw", 2, "saltsalt", 8, 4, 8, 1, 32, text, n + 1, chunks, chunks_len - 1, table, table_len, scratch,
-             scratch_len) == SCRYPT_BUFFER_SIZE, "short chunks");
-  check(hash("pw", 2, "saltsalt", 8, 4, 8, 1, 32, text, n + 1, chunks, chunks_len, table, table_len - 1, scratch,
-             scratch_len) == SCRYPT_BUFFER_SIZE, "a short table");
-  check(hash("pw", 2, "saltsalt", 8, 4, 8, 1, 32, text, n + 1, chunks, chunks_len, table, table_len, scratch,
-             scratch_len - 1) == SCRYPT_BUFFER_SIZE, "a short scratch");
+  for (i = 0; i < 3; i++)
+    check(hash("pw", 2, "saltsalt", 8, 4, 8, 1, 32, text, n + 1, chunks, chunks_len - (i == 0), table, table_len - (i == 1),
+               scratch, scratch_len - (i == 2)) == SCRYPT_BUFFER_SIZE, SHORT[i]);
   check(text[0] == '!' && chunks[0] == 7 && scratch[0] == 0x07070707, "a refusal leaves everything");
   check(hash("pw", 2, "saltsalt", 8, 4, 8, 1, 32, text, n, chunks, chunks_len, table, table_len, scratch,
              scratch_len) == SCRYPT_BUFFER_SIZE && text[0] == '!', "a text that does not fit");
@@ -313,9 +147,7 @@ static void hash_in_buffers(int is_mcf, const char *made) {
   check(hash("pw", 2, "saltsalt", 8, 4, 8, 1, 32, text, n + 1, chunks, chunks_len + 1, table, table_len + 1,
              scratch, scratch_len + 1) == SCRYPT_OK, "a hash in buffers");
   check(strcmp(text, made) == 0 && text[n + 1] == '!', "the same text, and nothing after it");
-  for (i = 0; i < chunks_len; i++) nonzero += chunks[i] != 0;
-  for (i = 0; i < scratch_len; i++) nonzero += scratch[i] != 0;
-  check(nonzero == 0, "zeros in chunks and scratch");
+  check(is_all(0, chunks, chunks_len) && is_all(0, scratch, 4 * scratch_len), "zeros in chunks and scratch");
   check(chunks[chunks_len] == 7 && scratch[scratch_len] == 0x07070707 && table[table_len] == 0x07070707,
         "and nothing written after what is used");
   check(hash("pw", 2, "", 0, 4, 8, 1, 32, text, sizeof text, chunks, 2048, table, 5000, scratch, 600) ==
@@ -327,7 +159,6 @@ static void two_chunks_in_buffers(void) {
   static uint8_t chunks[2048];
   static uint32_t table[8192], scratch[1025];
   char phc[SCRYPT_PHC_CAPACITY], mcf[SCRYPT_MCF_CAPACITY(8)], text[SCRYPT_PHC_CAPACITY];
-  size_t i, nonzero = 0;
   check(scrypt_hash_phc("pw", 2, "saltsalt", 8, 4, 8, 2, 32, phc, sizeof phc) == SCRYPT_OK, "phc");
   check(scrypt_hash_mcf("pw", 2, "saltsalt", 8, 4, 8, 2, 32, mcf, sizeof mcf) == SCRYPT_OK, "mcf");
   scratch[1024] = 7;
@@ -339,9 +170,8 @@ static void two_chunks_in_buffers(void) {
                                      table, 8192, scratch, 1024) == SCRYPT_OK, "two chunks");
   check(strcmp(text, mcf) == 0, "the same $7$ text");
   check(scrypt_verify_with_buffers("pw", 2, text, strlen(text), chunks, 2048, table, 8192, scratch, 1024) == SCRYPT_OK, "mcf");
-  for (i = 0; i < 2048; i++) nonzero += chunks[i] != 0;
-  for (i = 0; i < 1024; i++) nonzero += scratch[i] != 0;
-  check(nonzero == 0 && scratch[1024] == 7, "zeros in both scratches, and nothing after them is written");
+  check(is_all(0, chunks, 2048) && is_all(0, scratch, 4096) && scratch[1024] == 7,
+        "zeros in both scratches, and nothing after them is written");
 }
 
 static void hash_params(const char *text) {

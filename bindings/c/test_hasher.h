@@ -46,6 +46,7 @@ static int failed;
       fputc('\n', stderr);                            \
     }                                                 \
   } while (0)
+#define IS(call, wanted) expect((call) == (wanted), #call)
 
 static size_t most_mapped = SIZE_MAX;
 static void *test_mmap(void *at, size_t size, int protection, int flags, int file, off_t offset) {
@@ -247,4 +248,20 @@ static void reap(pid_t child, const char *what) {
 
 static void reap_all(const char *what) {
   for (; READ(forks) > 0; WRITE(forks, READ(forks) - 1)) reap(READ(children[READ(forks) - 1]), what);
+}
+
+/* ---- The tests of a program ---- */
+
+struct test { const char *name; void (*test)(void); };
+
+/* Runs all of them, or the one with this name. */
+static int run_tests(const struct test *it, const char *name) {
+  parent = getpid();
+  for (; it->name != NULL; it++) {
+    int64_t begun_at = now_ms();
+    if (name != NULL && strcmp(name, it->name) != 0) continue;
+    it->test();
+    printf("%s: %s, %d ms\n", it->name, failed ? "FAILED" : "ok", (int)(now_ms() - begun_at));
+  }
+  return failed;
 }
