@@ -19,6 +19,7 @@ import subprocess
 import sys
 import tempfile
 import threading
+import time
 
 import edits
 import words
@@ -32,6 +33,14 @@ PROVED = re.compile(r"rt: (\w+) (?:proved$|is kept: )")
 NEWER = "x86-64-v3"
 
 PROGRAM = "crates/scrypt_tool/out/scrypt_tool"
+
+BEGUN = time.monotonic()
+
+
+def clock():
+    """The minutes and seconds since the gate began."""
+    minutes, seconds = divmod(int(time.monotonic() - BEGUN), 60)
+    return f"{minutes}:{seconds:02}"
 
 
 def left_by_ci(name):
@@ -69,7 +78,9 @@ class Tasks:
     def one(self, name, call, is_early):
         """Runs a task. If one fails that needs nothing proved, the prover is ended too."""
         with self.lanes:
+            begun = clock()
             well, text = call()
+            text = f"{begun} to {clock()}: {name}\n{text}"
         if is_early and not well and self.prover.poll() is None and self.early is None:
             self.early = f"{text}failed: {name}"
             self.prover.terminate()
@@ -166,7 +177,7 @@ def proved(tasks, log):
     tasks.begin()
     line = ""
     for line in ran.stdout:
-        print(line, end="", flush=True)
+        print(f"{clock()} {line}" if line.startswith("rt: ") else line, end="", flush=True)
         log.write(line)
         tasks.see(line)
     if ran.wait():
