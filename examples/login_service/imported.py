@@ -1,4 +1,4 @@
-"""Prints hashes that other programs made, converted by examples/migration: the program, the password and the text."""
+"""Prints hashes that other programs made, converted by scrypt_c.migration: the program, the password and the text."""
 
 import ctypes
 import hashlib
@@ -6,8 +6,10 @@ import os
 import subprocess
 import sys
 
-sys.path.append(os.path.join(os.path.dirname(os.path.abspath(__file__)), "..", "migration"))
-import stored_text
+TOP = os.path.join(os.path.dirname(os.path.abspath(__file__)), "..", "..")
+os.environ.setdefault("SCRYPT_C_LIBRARY", os.path.join(TOP, "build", "lib"))
+sys.path.append(os.path.join(TOP, "bindings", "python"))
+from scrypt_c.migration import from_django, from_libscrypt, stored_text
 
 PASSWORD = "correct horse"
 
@@ -34,25 +36,25 @@ def libscrypt():
     library = ctypes.CDLL("libscrypt.so.0")
     if not library.libscrypt_hash(text, PASSWORD.encode(), 16384, 8, 1):
         raise OSError("libscrypt_hash failed")
-    return stored_text.from_libscrypt(text.value.decode())
+    return from_libscrypt(text.value.decode())
 
 
 def node():
     script = """const salt = Buffer.from("a salt of node"), key = crypto.scryptSync(process.argv[1], salt, 32);
       console.log(salt.toString("hex"), key.toString("hex"))"""
     salt, key = subprocess.run(["node", "-e", script, PASSWORD], capture_output=True, check=True, text=True).stdout.split()
-    return stored_text.stored_text(bytes.fromhex(salt), bytes.fromhex(key), 16384, 8, 1)
+    return stored_text(bytes.fromhex(salt), bytes.fromhex(key), 16384, 8, 1)
 
 
 def python():
     salt = os.urandom(16)
     key = hashlib.scrypt(PASSWORD.encode(), salt=salt, n=8192, r=8, p=1, dklen=32)
-    return stored_text.stored_text(salt, key, 8192, 8, 1)
+    return stored_text(salt, key, 8192, 8, 1)
 
 
 def django():
     # Of Django's own tests, whose password is another one
-    return stored_text.from_django("scrypt$16384$seasalt$8$1$Qj3+9PPyRjSJIebHnG81TMjsqtaIGxNQG/aEB/NYafTJ7tibgfYz71m0ldQESkXF"
+    return from_django("scrypt$16384$seasalt$8$1$Qj3+9PPyRjSJIebHnG81TMjsqtaIGxNQG/aEB/NYafTJ7tibgfYz71m0ldQESkXF"
                                 "RkdVCBhhY8mx7rQwite/Pw==")
 
 
