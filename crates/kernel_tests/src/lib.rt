@@ -9,8 +9,6 @@ mod buffers;
 #[cfg(test)]
 mod derived_keys;
 #[cfg(test)]
-mod lanes;
-#[cfg(test)]
 mod parameters;
 #[cfg(test)]
 mod primitives;

@@ -1,74 +1,48 @@
-// scryptROMix by each table and in each order, and Integerify.
+// scryptBlockMix and scryptROMix, by each table and in each order.
 
+use crate::primitives::read_words;
 use hex::FromHex;
 use scrypt::CoreCount;
-use scrypt::romix::{
-    integerify_diagonal, integerify_plain, plain_ro_mix, scrypt_ro_mix, thin_ro_mix,
-};
+use scrypt::block_mix::lanes::{scrypt_block_mix, shuffle_in, shuffle_out};
+use scrypt::block_mix::plain;
+use scrypt::romix::{plain_ro_mix, scrypt_ro_mix, thin_ro_mix};
 use std::test::Fail;
 use test_support::holds;
-use test_support::vectors::{RO_MIX_INPUT, RO_MIX_OUTPUT};
+use test_support::vectors::{BLOCK_MIX_OUTPUT, MIXED_INPUT, RO_MIX_OUTPUT};
 
-// The buffers may hold anything before the call.
+// The words of 128 bytes in hexadecimal.
+fn row_of(text: &str) -> Result<[u32; 32], Fail> {
+    let bytes = <[u8; 128]>::from_hex(text)?;
+    let mut words = [0u32; 32];
+    read_words(&bytes, &mut words);
+    Ok(words)
+}
+
+#[test]
+fn block_mix_vector() -> Result<(), Fail> {
+    let wanted = row_of(BLOCK_MIX_OUTPUT)?;
+    let mut input = row_of(MIXED_INPUT)?;
+    let (mut mixed, mut cores) = ([0u32; 32], CoreCount::new());
+    plain::scrypt_block_mix(&input, &mut mixed, &mut cores);
+    holds(mixed == wanted, "in standard order")?;
+    shuffle_in(&mut input);
+    scrypt_block_mix(&input, &mut mixed, &mut cores);
+    shuffle_out(&mut mixed);
+    holds(mixed == wanted, "in diagonal order")
+}
+
 #[test]
 fn ro_mix_vector() -> Result<(), Fail> {
+    let input = <[u8; 128]>::from_hex(MIXED_INPUT)?;
     let wanted = <[u8; 128]>::from_hex(RO_MIX_OUTPUT)?;
     let mut cores = CoreCount::new();
-    for fill in [0, u32::MAX] {
-        let mut fast = <[u8; 128]>::from_hex(RO_MIX_INPUT)?;
-        scrypt_ro_mix(&mut fast, &mut [fill; 512], &mut [fill; 64], 4, &mut cores);
-        holds(fast == wanted, "fast == wanted")?;
-        let mut plain = <[u8; 128]>::from_hex(RO_MIX_INPUT)?;
-        plain_ro_mix(&mut plain, &mut [fill; 512], &mut [fill; 64], 4, &mut cores);
-        holds(plain == wanted, "plain == wanted")?;
-        // One row in 4 is kept.
-        let mut thin = <[u8; 128]>::from_hex(RO_MIX_INPUT)?;
-        thin_ro_mix(
-            &mut thin,
-            &mut [fill; 128],
-            &mut [fill; 96],
-            4,
-            2,
-            &mut cores,
-        );
-        holds(thin == wanted, "thin == wanted")?;
-    }
-    Ok(())
-}
-
-#[test]
-fn ro_mix_of_zeros() -> Result<(), Fail> {
-    let mut cores = CoreCount::new();
-    let mut b = [0u8; 128];
-    scrypt_ro_mix(&mut b, &mut [1; 32], &mut [2; 64], 0, &mut cores);
-    holds(b == [0; 128], "b == [0; 128]")?;
-    scrypt_ro_mix(&mut b, &mut [3; 512], &mut [4; 64], 4, &mut cores);
-    holds(b == [0; 128], "b == [0; 128]")?;
-    plain_ro_mix(&mut b, &mut [5; 32], &mut [6; 64], 0, &mut cores);
-    holds(b == [0; 128], "b == [0; 128]")?;
-    plain_ro_mix(&mut b, &mut [7; 512], &mut [8; 64], 4, &mut cores);
-    holds(b == [0; 128], "b == [0; 128]")?;
-    Ok(())
-}
-
-// The second word of the last block is at 17 in standard order, and at 29 in diagonal order. No run reaches a log_n
-// above 32, so the index beyond 32 bits is shown here alone.
-#[test]
-fn integerify_beyond_32_bits() -> Result<(), Fail> {
-    let mut plain = [9u32; 32];
-    plain[16] = 5;
-    plain[17] = 3;
-    let mut diagonal = [9u32; 32];
-    diagonal[16] = 5;
-    diagonal[29] = 3;
-    for &(log_n, row, reason) in &[
-        (0, 0, "a single row"),
-        (4, 5, "bits of the first word"),
-        (33, 4_294_967_301, "one bit of the second word"),
-        (56, 12_884_901_893, "all bits of the greatest log_n"),
-    ] {
-        holds(integerify_plain(&plain, log_n) == row, reason)?;
-        holds(integerify_diagonal(&diagonal, log_n) == row, reason)?;
-    }
-    Ok(())
+    let mut fast = input;
+    scrypt_ro_mix(&mut fast, &mut [9; 512], &mut [9; 64], 4, &mut cores);
+    holds(fast == wanted, "in diagonal order")?;
+    let mut plain = input;
+    plain_ro_mix(&mut plain, &mut [9; 512], &mut [9; 64], 4, &mut cores);
+    holds(plain == wanted, "in standard order")?;
+    let mut thin = input;
+    thin_ro_mix(&mut thin, &mut [9; 128], &mut [9; 96], 4, 2, &mut cores);
+    holds(thin == wanted, "with one row in four")
 }

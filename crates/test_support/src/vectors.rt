@@ -11,14 +11,23 @@ pub const CORE_OUTPUT: &str = concat!(
     "b4393168e3c9e6bcfe6bc5b7a06d96bae424cc102c91745c24ad673dc7618f81",
 );
 
-// RFC 7914, section 10: scryptROMix at N = 16 and r = 1.
-pub const RO_MIX_INPUT: &str = concat!(
+// RFC 7914, sections 9 and 10: the input of scryptBlockMix and of scryptROMix at N = 16, both at r = 1.
+pub const MIXED_INPUT: &str = concat!(
     "f7ce0b653d2d72a4108cf5abe912ffdd777616dbbb27a70e8204f3ae2d0f6fad",
     "89f68f4811d1e87bcc3bd7400a9ffd29094f0184639574f39ae5a1315217bcd7",
     "894991447213bb226c25b54da86370fbcd984380374666bb8ffcb5bf40c254b0",
     "67d27c51ce4ad5fed829c90b505a571b7f4d1cad6a523cda770e67bceaaf7e89",
 );
 
+// RFC 7914, section 9: scryptBlockMix of it.
+pub const BLOCK_MIX_OUTPUT: &str = concat!(
+    "a41f859c6608cc993b81cacb020cef05044b2181a2fd337dfd7b1c6396682f29",
+    "b4393168e3c9e6bcfe6bc5b7a06d96bae424cc102c91745c24ad673dc7618f81",
+    "20edc975323881a80540f64c162dcd3c21077cfe5f8d5fe2b1a4168f953678b7",
+    "7d3b3d803b60e4ab920996e59b4d53b65d2a225877d5edf5842cb9f14eefe425",
+);
+
+// RFC 7914, section 10: scryptROMix of it.
 pub const RO_MIX_OUTPUT: &str = concat!(
     "79ccc193629debca047f0b70604bf6b62ce3dd4a9626e355fafc6198e6ea2b46",
     "d58413673b99b029d665c357601fb426a0b2f4bba200ee9f0a43d19b571a9c71",
@@ -50,27 +59,8 @@ pub const RFC_KEY_3: &str = concat!(
     "d5432955613f0fcf62d49705242a9af9e61e85dc0d651e40dfcf017b45575887",
 );
 
-// By Python's hashlib, with no salt and at (4, 1, 1): the key of 63 letters `a`.
-pub const SHORT_PASSWORD_KEY: &str = concat!(
-    "e0b4589da9a4cf4e793e11875539462f684da6803e2fde0adf948fa93a9c32e8",
-    "1533d6c645be8e8601897f56a43d65f8f308c01580c1e105acf997651748abe2",
-);
-
-// By Python's hashlib, with no salt and at (4, 1, 1): the key of 65 letters `a`.
-pub const LONG_PASSWORD_KEY: &str = concat!(
-    "b598f174427f4e2605a5a1db00567edeb7e6823f396b5993d1674c7ee89b6c53",
-    "b9208e51da405077e8e3f974dd756cc8ac8f49b8807d50488f9bd79b7f3dcfa8",
-);
-
-// The SHA-256 digest of 65 letters `a`.
-pub const DIGEST_OF_65: &str = "635361c48bb9eab14198e76ea8ab7f1a41685d6ad62aa9146d301d4f17eb0ae0";
-
 // RFC 4231, section 4.3: the key `Jefe`.
 pub const HMAC_OF_JEFE: &str = "5bdcc146bf60754e6a042426089575c75a003f089d2739839dec58b964ec3843";
-
-// RFC 4231, section 4.7: a key of 131 bytes.
-pub const HMAC_BY_LONG_KEY: &str =
-    "60e431591ee0b67f0d8a26aacbf5b77f8e0bc6213728c5140546040f0ee37f54";
 
 // By passlib, of the password `password`.
 pub const PASSLIB_HASH: &str =
