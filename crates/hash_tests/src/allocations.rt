@@ -9,15 +9,11 @@ use test_support::failing_allocations::{CallEnd, failing_allocations};
 use test_support::holds;
 use test_support::vectors::EMPTY_PASSWORD_HASH;
 
-// How a call ended by its answer, if a failure left everything as it was.
-fn ended<T, E: PartialEq + Drop>(
-    answer: &Result<T, E>,
-    out_of_memory: E,
-    unchanged: bool,
-) -> CallEnd {
+// How a call ended by its answer.
+fn ended<T, E: PartialEq + Drop>(answer: &Result<T, E>, out_of_memory: E) -> CallEnd {
     match answer {
         Ok(_) => CallEnd::Done,
-        Err(refused) if unchanged && *refused == out_of_memory => CallEnd::OutOfMemory,
+        Err(refused) if *refused == out_of_memory => CallEnd::OutOfMemory,
         Err(_) => CallEnd::Otherwise,
     }
 }
@@ -80,18 +76,18 @@ fn end_of_deriving(
             let made: Result<phc::PasswordHash, Error> = hasher.hash_password_with_salt(
                 alloc, b"", b"salt",
             );
-            ended(&made, memory, true)
+            ended(&made, memory)
         }
         Deriving::HashMcf => {
             let made: Result<mcf::PasswordHash, Error> = hasher.hash_password_with_salt(
                 alloc, b"", b"",
             );
-            ended(&made, memory, true)
+            ended(&made, memory)
         }
-        Deriving::VerifyPhc => ended(&hasher.verify_password(alloc, b"", phc_hash), memory, true),
+        Deriving::VerifyPhc => ended(&hasher.verify_password(alloc, b"", phc_hash), memory),
         Deriving::VerifyMcf => {
             let verdict = hasher.verify_password(alloc, b"", &mcf_hash.as_password_hash_ref());
-            ended(&verdict, memory, mcf_hash.as_str() == EMPTY_PASSWORD_HASH)
+            ended(&verdict, memory)
         }
     }
 }
@@ -160,33 +156,39 @@ fn end_of_making(
     let memory = mcf::Error::OutOfMemory;
     let id = text.get(1..).unwrap_or("");
     match call {
-        Making::New => ended(&mcf::PasswordHash::new(alloc, text), memory, true),
-        Making::FromId => ended(&mcf::PasswordHash::from_id(alloc, id), memory, true),
-        Making::EncodeString => ended(&Base64::Crypt.encode_string(alloc, bytes), memory, true),
+        Making::New => ended(&mcf::PasswordHash::new(alloc, text), memory),
+        Making::FromId => ended(&mcf::PasswordHash::from_id(alloc, id), memory),
+        Making::EncodeString => ended(&Base64::Crypt.encode_string(alloc, bytes), memory),
         Making::DecodeVec => {
             let read = Base64::Crypt.decode_vec(alloc, field.as_str());
-            ended(&read, memory, true)
+            ended(&read, memory)
         }
-        Making::DecodeBase64 => ended(&field.decode_base64(alloc, Base64::Crypt), memory, true),
+        Making::DecodeBase64 => ended(&field.decode_base64(alloc, Base64::Crypt), memory),
         Making::PushStr | Making::PushBase64 => match mcf::PasswordHash::from_id(alloc, id) {
             Ok(mut hash) => {
                 let pushed = match call {
                     Making::PushStr => hash.push_str(field.as_str()),
                     _ => hash.push_base64(bytes, Base64::Crypt),
                 };
-                ended(&pushed, memory, hash.as_str() == text)
+                ended(&pushed, memory)
             }
             Err(_) => CallEnd::OutOfMemory,
         },
     }
 }
 
+// A text with a letter after it, so many times.
+fn followed(alloc: Global, text: &str, letter: &str, count: usize) -> Result<String, Fail> {
+    let letters = letter.repeat(alloc, count)?;
+    Ok(format!(in alloc; "{text}{}", letters.as_str())?)
+}
+
 #[test]
 fn texts_letters_and_bytes(rt: HostRuntime) -> Result<(), Fail> {
     let alloc = rt.alloc();
-    let text = format!(in alloc; "${}", "a".repeat(alloc, LETTERS - 1)?)?;
+    let text = followed(alloc, "$", "a", LETTERS - 1)?;
     let bytes = vec![in alloc; 0xffu8; BYTES]?;
-    let letters = format!(in alloc; "$7${}", "z".repeat(alloc, LETTERS)?)?;
+    let letters = followed(alloc, "$7$", "z", LETTERS)?;
     let hash = mcf::PasswordHashRef::new(letters.as_str())?;
     let field = hash.fields().next().ok_or("no field")?;
     for &(call, sizes, reason) in &MAKING {
@@ -194,97 +196,6 @@ fn texts_letters_and_bytes(rt: HostRuntime) -> Result<(), Fail> {
             end_of_making(&call, alloc, text.as_str(), &bytes, &field)
         })?;
         holds(allocations == sizes.len(), reason)?;
-    }
-    Ok(())
-}
-
-// The verdict on the empty password.
-fn verdict(alloc: Global, text: &str) -> Result<(), Error> {
-    let scrypt = Scrypt::new();
-    if text.starts_with("$scrypt") || text.starts_with("$argon2id") {
-        return scrypt.verify_password(alloc, b"", &phc::PasswordHash::new(text)?);
-    }
-    match mcf::PasswordHashRef::new(text) {
-        Ok(hash) => scrypt.verify_password(alloc, b"", &hash),
-        Err(_) => Err(Error::EncodingInvalid),
-    }
-}
-
-// Texts that are refused before the key is derived, the error, and the reason for the row.
-const REFUSED: [(&str, Error, &str); 15] = [
-    ("$7", Error::EncodingInvalid, "no field"),
-    ("$7$", Error::EncodingInvalid, "one empty field"),
-    (
-        "$7$2/..../....salt",
-        Error::EncodingInvalid,
-        "no field for the key",
-    ),
-    (
-        "$7$2/..../....salt$z2",
-        Error::EncodingInvalid,
-        "spare bits of the key are set",
-    ),
-    (
-        "$7$2/..../....salt$z1$",
-        Error::EncodingInvalid,
-        "a field after the key",
-    ),
-    ("$7$2/..../....salt$", Error::OutputSize, "the key is empty"),
-    (
-        "$8$2/..../....salt$z1",
-        Error::Algorithm,
-        "another identifier",
-    ),
-    (
-        "$7$*/..../....salt$z1",
-        Error::ParamsInvalid,
-        "log_n is outside the alphabet",
-    ),
-    ("$7$t/..../....salt$z1", Error::ParamsInvalid, "log_n is 57"),
-    (
-        "$scrypt$ln=4$aA$AAAAAAAAAAAAA",
-        Error::EncodingInvalid,
-        "a letter alone",
-    ),
-    (
-        "$argon2id$ln=4$aA$AAAAAAAAAAAAAA",
-        Error::Algorithm,
-        "another algorithm",
-    ),
-    (
-        "$scrypt$v=1$ln=4$aA$AAAAAAAAAAAAAA",
-        Error::Version,
-        "a version",
-    ),
-    (
-        "$scrypt$ln=57$aA$AAAAAAAAAAAAAA",
-        Error::ParamsInvalid,
-        "log_n is 57",
-    ),
-    (
-        "$scrypt$r=x$aA$AAAAAAAAAAAAAA",
-        Error::ParamInvalid { name: "r" },
-        "r is not a decimal",
-    ),
-    (
-        "$scrypt$ln=4$aA",
-        Error::PasswordInvalid,
-        "without a key no password is right",
-    ),
-];
-
-#[test]
-fn refusals_without_memory(rt: HostRuntime) -> Result<(), Fail> {
-    let alloc = rt.alloc();
-    for &(text, refusal, reason) in &REFUSED {
-        let allocations = failing_allocations(alloc, &[], || {
-            if verdict(alloc, text) == Err(refusal) {
-                CallEnd::Done
-            } else {
-                CallEnd::Otherwise
-            }
-        })?;
-        holds(allocations == 0, reason)?;
     }
     Ok(())
 }

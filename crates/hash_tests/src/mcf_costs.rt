@@ -15,35 +15,19 @@ fn numbers_of_five_letters() -> Result<(), Fail> {
         (268_435_488, b"U...E", "the fifth letter counts"),
     ] {
         let mut out = [0; 5];
-        holds(encode64_uint32(&mut out, number) == Ok(()), reason)?;
+        encode64_uint32(&mut out, number)?;
         holds(out == *letters, reason)?;
         holds(decode64_uint32(letters) == Ok(number), reason)?;
     }
     Ok(())
 }
 
-#[test]
-fn numbers_of_no_five_letters() -> Result<(), Fail> {
-    // From 2^30 on the number is taken modulo 2^30.
-    let mut out = [0; 5];
-    holds(
-        encode64_uint32(&mut out, 1_073_741_824) == Ok(()),
-        "encode64_uint32(&mut out, 1_073_741_824) == Ok(())",
-    )?;
-    holds(out == *b".....", "out == *b'.....'")?;
-    holds(
-        decode64_uint32(b"U...") == Err(EncodingInvalid),
-        "decode64_uint32(b'U...') == Err(EncodingInvalid)",
-    )?;
-    Ok(())
-}
-
 // Texts, the costs that they encode, the salt after them, and the reason for the row.
 const ACCEPTED: [(&str, (u8, u32, u32), &str, &str); 4] = [
     (
-        "CU..../....Mq4YHD2syxYT.MsH1Ek0n1",
+        "CU..../....Mq4YHD2s",
         (14, 32, 1),
-        "Mq4YHD2syxYT.MsH1Ek0n1",
+        "Mq4YHD2s",
         "libxcrypt's",
     ),
     ("./..../....", (0, 1, 1), "", "the least, and no salt"),
@@ -51,10 +35,25 @@ const ACCEPTED: [(&str, (u8, u32, u32), &str, &str); 4] = [
     ("s/..../....", (56, 1, 1), "", "the greatest log_n"),
 ];
 
-const REFUSED: [(&str, Error, &str); 7] = [
+#[test]
+fn costs_and_salts() -> Result<(), Fail> {
+    for &(text, (log_n, r, p), salt, reason) in &ACCEPTED {
+        let params = Params::new(log_n, r, p)?;
+        let read = decode_params_and_salt(text);
+        holds(read == Ok((params, salt.as_bytes())), reason)?;
+    }
+    Ok(())
+}
+
+// Texts, the error that they are refused with, and the reason for the row.
+const REFUSED: [(&str, Error, &str); 6] = [
     ("", EncodingInvalid, "no letter"),
-    ("*U...", EncodingInvalid, "r has four letters"),
     ("\u{e9}U..../....", EncodingInvalid, "log_n is not ASCII"),
+    (
+        "CU...*/....",
+        EncodingInvalid,
+        "r has a byte outside the alphabet",
+    ),
     (
         "*U..../....",
         ParamsInvalid,
@@ -62,47 +61,16 @@ const REFUSED: [(&str, Error, &str); 7] = [
     ),
     ("C...../....", ParamsInvalid, "r is 0"),
     ("2U....zzzzz", ParamsInvalid, "r * p is above 2^30"),
-    ("zzzzzzzzzzz", ParamsInvalid, "each number is the greatest"),
 ];
-
-// The error for the text, if it is refused.
-fn refusal(text: &str) -> Option<Error> {
-    match decode_params_and_salt(text) {
-        Ok(_) => None,
-        Err(refused) => Some(refused),
-    }
-}
-
-#[test]
-fn costs_and_salts() -> Result<(), Fail> {
-    for &(text, (log_n, r, p), rest, reason) in &ACCEPTED {
-        let Ok((params, salt)) = decode_params_and_salt(text) else {
-            return Err("refused".into());
-        };
-        holds(params == Params::new(log_n, r, p)?, reason)?;
-        holds(salt == rest.as_bytes(), reason)?;
-    }
-    Ok(())
-}
 
 #[test]
 fn refused_costs() -> Result<(), Fail> {
     for &(text, refused, reason) in &REFUSED {
-        holds(refusal(text) == Some(refused), reason)?;
-    }
-    Ok(())
-}
-
-// Each letter of r and of p, replaced by a byte outside the alphabet.
-#[test]
-fn letters_outside_the_alphabet(rt: HostRuntime) -> Result<(), Fail> {
-    for at in 1..11 {
-        for byte in *b"$* -" {
-            let mut letters = *b"CU..../....";
-            letters[at] = byte;
-            let text = std::str::from_utf8(&letters)?;
-            assert_eq!(rt; refusal(text), Some(EncodingInvalid), "at {text}");
-        }
+        let is_refused = match decode_params_and_salt(text) {
+            Ok(_) => false,
+            Err(error) => error == refused,
+        };
+        holds(is_refused, reason)?;
     }
     Ok(())
 }

@@ -1,17 +1,17 @@
 // Hashing and verifying in the caller's buffers.
 
-use crate::verdicts::texts_in_buffers;
-use scrypt::{CoreCount, Params, StoredHash, mcf, phc};
+use password_hash::Error;
+use scrypt::{CoreCount, LimitedError, Limits, Login, Logins, Params, StoredHash, mcf, phc};
 use std::test::Fail;
 use test_support::holds;
 use test_support::vectors::{LONG_PASSWORD, LONG_PASSWORD_MCF, LONG_PASSWORD_PHC};
 
-// Buffers that are one element longer than (4, 1, 1) needs, and hold no zeros.
-const CHUNKS: [u8; 129] = [0xff; 129];
+// Buffers for (4, 1, 1), which may hold anything.
+const CHUNKS: [u8; 128] = [0xff; 128];
 
-const TABLE: [u32; 513] = [u32::MAX; 513];
+const TABLE: [u32; 512] = [u32::MAX; 512];
 
-const SCRATCH: [u32; 65] = [u32::MAX; 65];
+const SCRATCH: [u32; 64] = [u32::MAX; 64];
 
 #[test]
 fn phc_hashes() -> Result<(), Fail> {
@@ -27,20 +27,18 @@ fn phc_hashes() -> Result<(), Fail> {
     )?;
     holds(
         hash.to_array_string().as_str() == LONG_PASSWORD_PHC,
-        "hash.to_array_string().as_str() == LONG_PASSWORD_PHC",
-    )?;
-    Ok(())
+        "a known hash",
+    )
 }
 
 #[test]
 fn mcf_hashes() -> Result<(), Fail> {
     let (mut chunks, mut table, mut scratch) = (CHUNKS, TABLE, SCRATCH);
-    let params = Params::new(4, 1, 1)?;
     let mut text = [b'!'; 64];
     let len = mcf::hash_with_buffers(
         LONG_PASSWORD,
         b"NaCl",
-        &params,
+        &Params::new(4, 1, 1)?,
         &mut text,
         &mut chunks,
         &mut table,
@@ -49,29 +47,59 @@ fn mcf_hashes() -> Result<(), Fail> {
     )?;
     holds(
         text.get(..len) == Some(LONG_PASSWORD_MCF.as_bytes()),
-        "text.get(..len) == Some(LONG_PASSWORD_MCF.as_bytes())",
-    )?;
-    holds(
-        len == mcf::hash_len(&params, b"NaCl"),
-        "len == mcf::hash_len(&params, b'NaCl')",
-    )?;
-    Ok(())
+        "a known hash",
+    )
 }
 
 #[test]
 fn verdicts() -> Result<(), Fail> {
     let (mut chunks, mut table, mut scratch) = (CHUNKS, TABLE, SCRATCH);
-    let mut cores = CoreCount::new();
-    let texts = texts_in_buffers("$7$3/..../....C3qEg/$r/", "a table of twice the length");
-    for &(text, wanted, reason) in &texts {
+    for &(text, reason) in &[
+        (LONG_PASSWORD_PHC, "a PHC hash"),
+        (LONG_PASSWORD_MCF, "a `$7$` hash"),
+    ] {
         let verdict = StoredHash::read(text)?.verify_with_buffers(
             LONG_PASSWORD,
             &mut chunks,
             &mut table,
             &mut scratch,
-            &mut cores,
+            &mut CoreCount::new(),
         );
-        holds(verdict == wanted, reason)?;
+        holds(verdict == Ok(()), reason)?;
     }
     Ok(())
+}
+
+fn login<'a>(password: &'a [u8], text: &'a str, limits: Option<Limits>) -> Login<'a> {
+    Login {
+        password,
+        hash: StoredHash::read(text),
+        limits,
+    }
+}
+
+// In buffers that have room for all four at once.
+#[test]
+fn four_verdicts() -> Result<(), Fail> {
+    let (mut chunks, mut table, mut scratch) = ([0xffu8; 512], [u32::MAX; 2048], [u32::MAX; 256]);
+    let limits = Some(Limits::USUAL);
+    let first = (
+        login(LONG_PASSWORD, LONG_PASSWORD_PHC, None),
+        login(LONG_PASSWORD, LONG_PASSWORD_MCF, limits),
+    );
+    let second = (
+        login(b"a", LONG_PASSWORD_PHC, limits),
+        login(b"a", LONG_PASSWORD_MCF, None),
+    );
+    let verdicts = (first, second).verify(
+        &mut chunks,
+        &mut table,
+        &mut scratch,
+        &mut CoreCount::new(),
+    );
+    let wrong = Err(LimitedError::Hash(Error::PasswordInvalid));
+    holds(
+        verdicts == ((Ok(()), Ok(())), (wrong, wrong)),
+        "the password, and another one",
+    )
 }

@@ -66,9 +66,6 @@ pub const HMAC_OF_JEFE: &str = "5bdcc146bf60754e6a042426089575c75a003f089d273983
 pub const PASSLIB_HASH: &str =
     "$scrypt$ln=16,r=8,p=1$aM15713r3Xsvxbi31lqr1Q$nFNh2CVHVjNldFVKDHDlm4CbdRSCdEBsjjJxD+iCs5E";
 
-// The first 10 bytes of the third key of RFC 7914 as a PHC hash.
-pub const RFC_KEY_3_SHORT_HASH: &str = "$scrypt$ln=14,r=8,p=1$U29kaXVtQ2hsb3JpZGU$cCO9yzr9c0hGHA";
-
 // Of the empty password and the empty salt; the key is the first half of RFC 7914's first.
 pub const EMPTY_PASSWORD_HASH: &str = "$7$2/..../....$rNxJWVHNv/mCNcgE/f6/L4zO6Fos5c2uTzhyzoisI62";
 
