@@ -78,14 +78,8 @@ fn fault_writers_that_fail(rt: HostRuntime) -> Result<(), Fail> {
             let mut input = input_of(failing);
             let faults = Page::failing(1, call);
             let printed = run_line(rt.alloc(), line, &mut input, Page::new(), faults)?;
-            assert!(rt;
-                printed.is(
-                    ended(status, failing.is_some(), false),
-                    "",
-                    fault.get(..call).unwrap_or("")
-                ),
-                "{reason}, at call {call}"
-            );
+            let text = fault.get(..call).unwrap_or("");
+            printed.check(ended(status, failing.is_some(), false), "", text, reason)?;
         }
     }
     Ok(())

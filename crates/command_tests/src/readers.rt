@@ -5,7 +5,6 @@ use crate::streams::{Input, Page};
 use scrypt_commands::run::Ended;
 use std::io::ErrorKind;
 use std::test::Fail;
-use test_support::holds;
 
 // How many bytes a reader gives before it fails, the kind of its error, and the reason for the row.
 const FAILING_READERS: [(usize, ErrorKind, &str); 6] = [
@@ -40,14 +39,11 @@ const FAILING_READERS: [(usize, ErrorKind, &str); 6] = [
 #[test]
 fn readers_that_fail(rt: HostRuntime) -> Result<(), Fail> {
     let bytes = vec![in rt.alloc(); b'x'; 99_999]?;
-    for &(line, _, _, command) in &COMMANDS {
+    for &(line, _, _, _) in &COMMANDS {
         for &(len, kind, reason) in &FAILING_READERS {
             let mut input = Input::failing(bytes.get(..len).unwrap_or(&[]), kind);
             let printed = run_line(rt.alloc(), line, &mut input, Page::new(), Page::new())?;
-            assert!(rt;
-                printed.is(INPUT_FAILED, "", "input failed\n"),
-                "{command}: {reason}"
-            );
+            printed.check(INPUT_FAILED, "", "input failed\n", reason)?;
         }
     }
     Ok(())
@@ -56,14 +52,15 @@ fn readers_that_fail(rt: HostRuntime) -> Result<(), Fail> {
 #[test]
 fn long_password_in_pieces(rt: HostRuntime) -> Result<(), Fail> {
     let password = vec![in rt.alloc(); b'x'; 99_999]?;
-    for most in [1, 1000, usize::MAX] {
+    for &(most, reason) in &[
+        (1, "one byte a call"),
+        (1000, "less than is asked for"),
+        (usize::MAX, "all that is asked for"),
+    ] {
         let mut input = Input::new(&password, most);
         let page = Page::new();
         let printed = run_line(rt.alloc(), "key 4 1 1 16 ", &mut input, page, Page::new())?;
-        assert!(rt;
-            printed.is(DONE, "d9d598b48803bb1bbed2d5892c9870b3\n", ""),
-            "{most} bytes a call"
-        );
+        printed.check(DONE, "d9d598b48803bb1bbed2d5892c9870b3\n", "", reason)?;
     }
     Ok(())
 }
@@ -78,15 +75,12 @@ const SLOW_STREAMS: [(usize, usize, &str); 4] = [
 
 #[test]
 fn slow_streams(rt: HostRuntime) -> Result<(), Fail> {
-    for &(line, status, written, command) in &COMMANDS {
+    for &(line, status, written, _) in &COMMANDS {
         for &(read, taken, reason) in &SLOW_STREAMS {
             let mut input = Input::new(b"password", read);
             let output = Page::failing(taken, usize::MAX);
             let printed = run_line(rt.alloc(), line, &mut input, output, Page::new())?;
-            assert!(rt;
-                printed.is(Ended { status, ..DONE }, written, ""),
-                "{command}: {reason}"
-            );
+            printed.check(Ended { status, ..DONE }, written, "", reason)?;
         }
     }
     Ok(())
@@ -160,7 +154,7 @@ fn order_of_reading_and_refusing(rt: HostRuntime) -> Result<(), Fail> {
             input_failed: status == 4,
             fault_told: true,
         };
-        holds(printed.is(ended, "", fault), reason)?;
+        printed.check(ended, "", fault, reason)?;
     }
     Ok(())
 }

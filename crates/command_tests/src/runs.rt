@@ -71,33 +71,45 @@ pub const COMMANDS: [(&str, u8, &str, &str); 10] = [
     ),
 ];
 
-// How a run ended, and what it wrote.
+// How the run of a command line ended, and what it wrote.
 #[derive(Drop)]
-pub struct Printed {
-    pub ended: Ended,
-    pub output: Page,
-    pub faults: Page,
+pub struct Printed<'a> {
+    line: &'a str,
+    ended: Ended,
+    output: Page,
+    faults: Page,
 }
 
-impl Printed {
-    // Whether the run ended so and wrote these texts.
-    pub fn is(&self, ended: Ended, output: &str, faults: &str) -> bool {
-        self.ended == ended
+impl Printed<'_> {
+    // Fails a test unless the run ended so and wrote these texts.
+    pub fn check(
+        &self,
+        ended: Ended,
+        output: &str,
+        faults: &str,
+        reason: &str,
+    ) -> Result<(), Fail> {
+        if self.ended == ended
             && self.output.text() == output.as_bytes()
             && self.faults.text() == faults.as_bytes()
+        {
+            return Ok(());
+        }
+        Err(Fail::new(format_args!("{}: {reason}", self.line)))
     }
 }
 
 // Runs a command line, whose words are separated by single blanks, on two pages.
-pub fn run_line<R: Read>(
+pub fn run_line<'a, R: Read>(
     alloc: Global,
-    line: &str,
+    line: &'a str,
     reader: &mut R,
     mut output: Page,
     mut faults: Page,
-) -> Result<Printed, Fail> {
+) -> Result<Printed<'a>, Fail> {
     let ended = run_over(alloc, line, reader, &mut output, &mut faults)?;
     Ok(Printed {
+        line,
         ended,
         output,
         faults,

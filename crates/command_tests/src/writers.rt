@@ -32,49 +32,63 @@ fn first(line: &str, len: usize) -> &str {
 
 #[test]
 fn writers_that_fail(rt: HostRuntime) -> Result<(), Fail> {
-    for &(line, _, written, command) in &COMMANDS {
+    for &(line, _, written, _) in &COMMANDS {
         for &(taken, call, len, reason) in &FAILING_WRITERS {
             let input = &mut b"password".as_slice();
             let output = Page::failing(taken, call);
             let printed = run_line(rt.alloc(), line, input, output, Page::new())?;
-            assert!(rt;
-                printed.is(OUTPUT_FAILED, first(written, len), "output failed\n"),
-                "{command}: {reason}"
-            );
+            printed.check(
+                OUTPUT_FAILED,
+                first(written, len),
+                "output failed\n",
+                reason,
+            )?;
         }
     }
     Ok(())
 }
 
-// With one byte a call, the call after the last byte is the flush. A write that is interrupted is tried again by
-// write_all, as a read is not. A flush is not.
+// With one byte a call, the call after the last byte is the flush.
 #[test]
 fn writers_that_fail_at_each_call(rt: HostRuntime) -> Result<(), Fail> {
-    for &(line, status, written, command) in &COMMANDS {
-        for call in 0..written.len() {
+    for &(line, _, written, _) in &COMMANDS {
+        for call in 0..=written.len() {
             let input = &mut b"password".as_slice();
             let printed = run_line(rt.alloc(), line, input, Page::failing(1, call), Page::new())?;
-            assert!(rt;
-                printed.is(OUTPUT_FAILED, first(written, call), "output failed\n"),
-                "{command}, at call {call}"
-            );
+            let text = first(written, call);
+            printed.check(OUTPUT_FAILED, text, "output failed\n", "fails once")?;
+        }
+    }
+    Ok(())
+}
+
+// A write that is interrupted is tried again by write_all, as a read is not.
+#[test]
+fn writes_that_are_interrupted(rt: HostRuntime) -> Result<(), Fail> {
+    for &(line, status, written, _) in &COMMANDS {
+        for call in 0..written.len() {
             let input = &mut b"password".as_slice();
             let output = Page::failing_by(ErrorKind::Interrupted, 1, call);
             let printed = run_line(rt.alloc(), line, input, output, Page::new())?;
-            assert!(rt;
-                printed.is(Ended { status, ..DONE }, written, ""),
-                "{command}, interrupted at call {call}"
-            );
+            printed.check(Ended { status, ..DONE }, written, "", "interrupted once")?;
         }
-        for &kind in &[ErrorKind::Other, ErrorKind::Interrupted] {
-            let input = &mut b"password".as_slice();
-            let output = Page::failing_by(kind, 1, written.len());
-            let printed = run_line(rt.alloc(), line, input, output, Page::new())?;
-            assert!(rt;
-                printed.is(OUTPUT_FAILED, written, "output failed\n"),
-                "{command}, at the flush"
-            );
-        }
+    }
+    Ok(())
+}
+
+// A flush that is interrupted is not.
+#[test]
+fn flushes_that_are_interrupted(rt: HostRuntime) -> Result<(), Fail> {
+    for &(line, _, written, _) in &COMMANDS {
+        let input = &mut b"password".as_slice();
+        let output = Page::failing_by(ErrorKind::Interrupted, 1, written.len());
+        let printed = run_line(rt.alloc(), line, input, output, Page::new())?;
+        printed.check(
+            OUTPUT_FAILED,
+            written,
+            "output failed\n",
+            "interrupted at the flush",
+        )?;
     }
     Ok(())
 }
