@@ -11,18 +11,28 @@ usage: program.py PROGRAM
 import hashlib
 import itertools
 import os
-import subprocess
 import sys
 
 sys.path.append(os.path.join(os.path.dirname(os.path.abspath(__file__)), "../compare"))
+import crypt64
 import prompt
+import reference
 import runs
 from known import CRYPT, EMPTY, EMPTY_PHC, HASHLIB, LONG, PASSLIB, PLAIN, RFC, SHORT
 from runs import run
+from streams import memory, streams
 
 FIRST_KEY = (
     "77d6576238657b203b19ca42c18a0497f16b4844e3074ae8dfdffa3fede21442"
     "fcd0069ded0948f8326a753a0fc81f17e8d3e0fb2e0d3628cf35e20c38d18906"
+)
+SECOND_KEY = (
+    "fdbabe1c9d3472007856e7190d01e9fe7c6ad7cbc8237830e77376634b373162"
+    "2eaf30d92e22a3886ff109279d9830dac727afb94a83ee6d8360cbdfa2cc0640"
+)
+THIRD_KEY = (
+    "7023bdcb3afd7348461c06cd81fd38ebfda8fbba904f8e3ea9b543f6545da1f2"
+    "d5432955613f0fcf62d49705242a9af9e61e85dc0d651e40dfcf017b45575887"
 )
 USAGE = (
     "usage: key LOG_N R P LEN SALT_HEX | hash phc|mcf LOG_N R P SALT_HEX [LEN] | verify HASH"
@@ -43,9 +53,23 @@ def key_too_short(key_len, least):
 
 PASSLIB_SALT_AND_KEY = PASSLIB[PASSLIB.index("$aM") :]
 
+# Bytes in hexadecimal, and their letters in crypt Base64.
+SALT_LETTERS = [("ff", "z1"), ("ffff", "zzD"), ("ffffff", "zzzz"), ("01", "/."), ("000000", "...."), ("010203", "/6k.")]
+
+
+def key_of(password, salt, length):
+    """hashlib's key by (4, 1, 1)."""
+    return hashlib.scrypt(password, salt=salt, n=16, r=1, p=1, dklen=length)
+
+
 # Each row has the words between single blanks, the input, the status, the line, and the reason for the row.
 ANSWERS = [
     ("key 4 1 1 64 ", "", 0, FIRST_KEY, "the first key of RFC 7914"),
+    ("key 10 8 16 64 4e61436c", "password", 0, SECOND_KEY, "the second, whose sixteen chunks share a table"),
+    ("key 14 8 1 64 536f6469756d43686c6f72696465", "pleaseletmein", 0, THIRD_KEY, "the third"),
+    ("key 4 1 1 1 ", "", 0, FIRST_KEY[:2], "the shortest key"),
+    ("key 4 1 1 33 ", "", 0, FIRST_KEY[:66], "a byte of a second block of PBKDF2"),
+    ("key 0 1 1 32 ", "", 0, reference.scrypt(b"", b"", 0, 1, 1, 32).hex(), "N = 1"),
     ("key 4 3 2 33 0a0bFF", "password", 0, "16b7ca20bc71b047b152bb150c62dd9e14d23f698eeaade5d0ed74a8e355acd2da",
      "each parameter is another, and a salt has digits of either case"),
     ("key 4 1 1 16 ", "x" * 5000, 0, "19e0dd858b21a85d5233e34f8025c066", "more than one read of the input"),
@@ -57,6 +81,10 @@ ANSWERS = [
     ("hash mcf 4 1 1  64", "", 0, LONG, "a longer key"),
     ("hash mcf 4 1 1  10", "", 0, "$7$2/..../....$rNxJWVHNv/mCN.", "the shortest key"),
     ("hash mcf 14 32 1 986d90d343e07e4f7e00864f03040bf3", "pleaseletmein", 0, CRYPT, "libxcrypt's hash"),
+    ("hash mcf 14 32 1 986d90d343e07e4f7e00864f03040bf3 10", "pleaseletmein", 0,
+     "$7$CU..../....Mq4YHD2syxYT.MsH1Ek0n1$JyHIxez0DOwm01", "with the shortest key"),
+    (f"verify {CRYPT}", "pleaseletmein", 0, "ok", "its password"),
+    (f"verify {CRYPT}", "bogus", 1, "no", "another password"),
     (f"verify {PASSLIB}", "password", 0, "ok", "the password of a PHC hash"),
     (f"verify {PASSLIB}", "invalid", 1, "no", "another password"),
     (f"verify {SHORT}", "pleaseletmein\n", 1, "no", "the password and a newline"),
@@ -67,31 +95,68 @@ ANSWERS = [
     (f"verify {EMPTY}", "\n", 1, "no", "another password"),
     ("verify $7$2/..../....$r/", "", 0, "ok", "a shorter key is the beginning of a longer one"),
     (f"verify {PLAIN}", "pleaseletmein", 0, "ok", "a salt may be a plain text"),
+    *((f"hash mcf 4 1 1 {salt}", "", 0, crypt64.text(letters, key_of(b"", letters.encode(), 32), 4, 1, 1),
+       f"the salt {salt} has the letters {letters}") for salt, letters in SALT_LETTERS),
+    *((f"{asked} {line}", "", 0, prompt.VERSION, "the arguments are ignored") for asked in ("--version", "--draw-salt --version")
+      for line in ("key", "hash phc 4 1 1 00", f"verify {EMPTY}", f"rehash phc 4 1 1 32 00 {EMPTY}")),
 ]
 
-# Each fault but those of hashes that are verified (ci/hashes.py), and lines that are not commands.
+# Lines that are not commands, by what is wrong.
+NO_COMMANDS = {
+    "no command": ["", "help", "Key 4 1 1 64 ", "--usual-limits", "--draw-salt", "--recommended", "--strip-newline", "--most-work=1"],
+    "no command after an option": ["--usual-limits help"],
+    "too few arguments": ["key", "key 4 1 1 16", "hash", "hash phc", "hash phc 4 1 1", "--draw-salt hash phc 4 1", "verify",
+                          "rehash phc 4 1 1 32 00", f"rehash phc 4 1 1 00 {EMPTY}"],
+    "too many": ["key 4 1 1 16 00 x", "hash phc 4 1 1 00 32 x", f"verify {EMPTY} x", f"rehash phc 4 1 1 32 00 {EMPTY} x"],
+    "no format": ["hash md5 4 1 1 00", "hash 4 1 1 00", f"rehash 4 1 1 32 00 {EMPTY}"],
+    "a hash is of the format that it begins as": [f"verify phc {EMPTY_PHC}"],
+    "an option after the command": [f"verify --usual-limits {EMPTY}", "key --help"],
+}
+
+# What is not a number, and each place for one.
+NO_NUMBERS = {"": "nothing", "04": "a leading zero", "00": "two digits for 0", "+4": "a plus", "-4": "a minus", "4.": "a dot",
+              "0x4": "hexadecimal", "\u0664": "a digit that is not ASCII"}
+NUMBER_PLACES = ["key {} 1 1 64 ", "key 4 {} 1 64 ", "key 4 1 {} 64 ", "key 4 1 1 {} ", "hash mcf {} 1 1 ", "hash mcf 4 1 1  {}",
+                 "rehash mcf {} 1 1 32  " + EMPTY, "rehash mcf 4 1 1 {}  " + EMPTY]
+
+# Numbers above the range of their place.
+GREAT_NUMBERS = ["key 256 1 1 16 ", "key 4 4294967296 1 16 ", "key 4 1 4294967296 16 ", "key 4 1 1 18446744073709551616 "]
+
+# Parameters that are not accepted.
+NOT_ACCEPTED = {"4 0 1": "r is 0", "4 1 0": "p is 0", "57 1 1": "N * r is 2^57", "28 1073741823 1": "N * r is above 2^57",
+                "255 1 1": "N is 2^255", "1 1073741824 1": "r * p is 2^30", "4 65536 65536": "r * p is 2^32"}
+
+# Each fault but those of hashes that are verified (ci/hashes.py).
 FAULTS = [
-    ("key 04 1 1 64 ", "", 2, USAGE, "a number with a leading zero"),
-    (f"--most-work=01 verify {EMPTY}", "", 2, MISFIT, "the same in an option"),
+    *((line, "", 2, USAGE, reason) for reason, lines in NO_COMMANDS.items() for line in lines),
+    *((place.format(it), "", 2, USAGE, reason) for place in NUMBER_PLACES for it, reason in NO_NUMBERS.items()),
+    *((line, "", 2, USAGE, "a number above its range") for line in GREAT_NUMBERS),
+    *((f"key {params} 32 ", "", 2, "invalid scrypt parameters", reason) for params, reason in NOT_ACCEPTED.items()),
+    *((f"hash mcf 4 1 1  {it}", "", 2, "invalid scrypt parameters", "a stored key has 10 to 64 bytes") for it in (0, 9, 65)),
+    *((f"rehash mcf 4 1 1 {it}  {EMPTY}", "", 2, "invalid scrypt parameters", "the same") for it in (0, 9, 65)),
+    *((f"key 4 1 1 {it} ", "", 2, "invalid output buffer length", "a key has 1 to 137438953440 bytes")
+      for it in (0, 137438953441, 137438953471, 18446744073709551615)),
+    (f"--most-work=01 verify {EMPTY}", "", 2, MISFIT, "a number with a leading zero in an option"),
     (f"--most-work= verify {EMPTY}", "", 2, MISFIT, "no number"),
     (f"--most-bytes=18446744073709551616 verify {EMPTY}", "", 2, MISFIT, "a number of 2^64"),
     (f"--most-work 192 verify {EMPTY}", "", 2, MISFIT, "a number in an argument of its own"),
-    (f"verify --usual-limits {EMPTY}", "", 2, USAGE, "an option after the command"),
-    ("hash phc 4 1 1", "", 2, USAGE, "no salt is drawn without an option"),
     (f"--no-limits verify {EMPTY}", "", 2, MISFIT, "an unknown option"),
     ("--", "", 2, MISFIT, "the same"),
     (f"--usual-limits --most verify {EMPTY}", "", 2, MISFIT, "the same after another one"),
     (f"-- verify {EMPTY}", "", 2, MISFIT, "options have no end of their own"),
-    ("key 4 1 1 16", "", 2, USAGE, "nor for a key"),
-    ("hash md5 4 1 1 00", "", 2, USAGE, "no command"),
     ("key 4 1 1 64 0", "", 2, "salt is not hexadecimal", "half a byte of salt"),
-    ("key 4 65536 65536 64 ", "", 2, "invalid scrypt parameters", "r * p is 2^32"),
-    ("hash mcf 4 1 1  9", "", 2, "invalid scrypt parameters", "a stored key has at least 10 bytes"),
-    ("rehash phc 57 1 1 32 00 $scrypt", "", 2, "invalid scrypt parameters", "the wanted parameters"),
-    ("key 4 1 1 0 ", "", 2, "invalid output buffer length", "an empty key"),
+    ("key 4 1 1 64 0g", "", 2, "salt is not hexadecimal", "no digit"),
+    ("key 04 1 1 64 0", "", 2, USAGE, "numbers come before the salt"),
+    ("key 4 0 1 64 0", "", 2, "salt is not hexadecimal", "the salt before the parameters"),
+    ("key 4 0 1 0 ", "", 2, "invalid scrypt parameters", "the parameters before the length of a key"),
+    ("rehash phc 57 1 1 32 0 $", "", 2, "salt is not hexadecimal", "the salt before the wanted parameters"),
+    ("rehash phc 57 1 1 32 00 $", "", 2, "invalid scrypt parameters", "these before the text of the hash"),
+    ("rehash phc 4 1 1 32 00 $", "", 2, "hash refused: EncodingInvalid", "the text of the hash"),
+    ("verify --version", "", 2, "hash refused: EncodingInvalid", "a text like an option is a text"),
     ("hash phc 4 1 1 ", "password", 2, "hash refused: SaltInvalid", "a PHC hash has a salt"),
     ("hash phc 4 1 1 " + "00" * 65, "", 2, "hash refused: SaltInvalid", "a salt of 65 bytes"),
     ("key 56 1 1 32 ", "", 3, "out of memory", "a table of 2^63 bytes"),
+    ("key 27 1073741823 1 32 ", "", 3, "out of memory", "a table of almost 2^64 bytes"),
     ("hash phc 56 1 1 00", "", 3, "out of memory", "the same for a hash"),
     ("verify $7$s/..../....$r/", "", 3, "out of memory", "the same for a verdict"),
     (f"rehash mcf 56 1 1 32  {EMPTY}", "", 3, "out of memory", "the same for a new hash"),
@@ -114,6 +179,10 @@ REHASHES = [
     (f"rehash mcf 5 1 1 32 abcd {HASHLIB}", "password", 0,
      "$7$3/..../....fqA$GSoayDUS/tZpwSg3qA/sOnwx1jjdhVpHN49dfPH6c09", "the new hash has the format that is named"),
     ("rehash phc 4 1 1 32 00 $argon2id$ln=4$aA", "password", 2, "hash refused: Algorithm", "verifying refuses"),
+    ("rehash mcf 4 1 1 32 00 $7$2/..../....$", "", 2, "hash refused: OutputSize", "the key is empty"),
+    ("rehash phc 4 1 1 32 00 $scrypt$ln=4$aA", "", 1, "no", "without a key no password is right"),
+    (f"rehash phc 17 8 1 32 00 {PASSLIB}", "invalid", 1, "no", "a wrong password of a weaker hash"),
+    (f"rehash phc 15 8 1 10 00 {PASSLIB}", "password", 0, "ok", "nothing is below"),
 ]
 
 # The words, the input, the status, the line, and the reason for the row. EMPTY needs 128 + 2048 + 256 bytes, and the
@@ -156,8 +225,13 @@ OPTIONS = [
     (f"--recommended verify {EMPTY}", "", 2, MISFIT, "the same"),
     (f"--recommended rehash phc 32 {EMPTY}", "", 2, MISFIT, "the same"),
     ("--recommended hash phc 17 8 1", "", 2, USAGE, "they are not named"),
-    ("--draw-salt hash phc 4 1", "", 2, USAGE, "fewer arguments"),
     (f"--draw-salt rehash phc 4 1 1 32 {EMPTY}", "", 0, "ok", "a salt that is not needed"),
+    (f"--usual-limits --draw-salt --strip-newline rehash phc 4 1 1 32 {EMPTY}", "\n", 0, "ok", "three options"),
+    (f"--usual-limits verify {EMPTY}", "", 0, "ok", "a hash within the usual limits"),
+    (f"--usual-limits rehash phc 14 8 1 32 536f6469756d43686c6f72696465 {SHORT}", "pleaseletmein", 0, RFC,
+     "rehash refuses no short key"),
+    (f"--usual-limits rehash phc 4 1 1 32 00 $scrypt$ln=17,r=8,p=5{PASSLIB_SALT_AND_KEY}", "", 2,
+     too_costly(134224896, 20976640), "but a costly one"),
     *((f"--strip-newline verify {EMPTY}", text, status, line, "one newline is cut off")
       for text, status, line in (("", 0, "ok"), ("\n", 0, "ok"), ("\r\n", 0, "ok"), ("\n\n", 1, "no"), ("\r", 1, "no"))),
     ("--strip-newline key 4 1 1 64 ", "\n", 0, FIRST_KEY, "the same for a key"),
@@ -166,81 +240,25 @@ OPTIONS = [
 ]
 
 # Passwords of some bytes, whose keys are compared with hashlib's: the input is read whole, however long it is.
-LONG_PASSWORDS = [(1_000_001, "more than a million bytes"), (100_000_001, "more than 100,000 reads of 1,024 bytes")]
+LONG_PASSWORDS = [(1_000_001, "more than a million bytes"), (100_000_001, "more than a hundred million")]
+LONG_PASSWORDS += [(102_400_001, "more than 100,000 reads of 1,024 bytes")]
 
-# One command of each kind, which all answer an empty password with status 0.
-STREAM_COMMANDS = ["key 4 1 1 64 ", "hash phc 4 1 1 00", "hash mcf 4 1 1 ", f"verify {EMPTY_PHC}", f"verify {EMPTY}"]
-STREAM_COMMANDS += [f"rehash phc 5 1 1 32 00 {EMPTY}"]
-
-# How the shell opens a stream, in a line that has `"$@"` for the command, the fault line, and the reason for the row.
-STREAMS = [
-    ('"$@" > /dev/full', "output failed\n", "a full device takes nothing"),
-    ('"$@" >&-', "output failed\n", "the standard output is closed"),
-    ('"$@" < /', "input failed\n", "a directory opens, but cannot be read"),
-    ('"$@" <&-', "input failed\n", "the standard input is closed"),
-]
-
-# Parameters whose chunks take 2 GiB, and whose table is refused: log_n is 56, r is 1 and p is 2^24. Nothing is written
-# before everything is allocated, so that the run touches little memory. Each row has a bound on the addresses of the
-# run, and the reason for the row.
-REFUSED_TABLE = "verify $7$s/......../$r/"
-MOST_TOUCHED = 64 << 20
-ADDRESSES = [("unlimited", "there is room for the chunks"), (1 << 30, "there is none")]
+# Options that take the recommended parameters, a format, and how its hash begins.
+RECOMMENDED = [("--recommended", "phc", "$scrypt$ln=17,r=8,p=1$"), ("--recommended --draw-salt", "mcf", "$7$F6..../....")]
 
 
 def rows(program):
     for line, text, status, printed, reason in ANSWERS + FAULTS + REHASHES + LIMITS + OPTIONS:
         wanted = (status, f"{printed}\n", "") if status < 2 else (status, "", f"{printed}\n")
         yield f"{line!r} ({reason})", run([program, *line.split(" ")], text.encode()), wanted
+    yield "no words", run([program]), (2, "", f"{USAGE}\n")
 
 
 def long_passwords(program):
     for length, reason in LONG_PASSWORDS:
         password = bytes(length)
-        key = hashlib.scrypt(password, salt=b"", n=16, r=1, p=1, dklen=16)
+        key = key_of(password, b"", 16)
         yield f"a password of {length} bytes ({reason})", run([program, *"key 4 1 1 16 ".split(" ")], password), (0, f"{key.hex()}\n", "")
-
-
-def without_reader(words):
-    """How a run ends whose output is a pipe that nobody reads."""
-    read, write = os.pipe()
-    os.close(read)
-    ran = subprocess.run(words, stdin=subprocess.DEVNULL, stdout=write, stderr=subprocess.PIPE)
-    os.close(write)
-    return ran.returncode, ran.stderr.decode()
-
-
-def streams(program):
-    """Every command on streams that fail: status 4, and nothing in the output."""
-    for line in STREAM_COMMANDS:
-        words = [program, *line.split(" ")]
-        yield f"{line!r} on streams that work", runs.redirected('"$@"', words)[0], 0
-        for shell, fault, reason in STREAMS:
-            yield f"{line!r} ({reason})", runs.redirected(shell, words), (4, "", fault)
-        yield f"{line!r} (nobody reads the pipe)", without_reader(words), (4, "output failed\n")
-    for shell in ('"$@" 2> /dev/full', '"$@" 2>&-'):
-        key, refused = ([program, "key", "4", "1", "1", length, ""] for length in ("16", "0"))
-        yield f"{shell}, with nothing to write there", runs.redirected(shell, key)[0], 0
-        yield f"{shell}, with a fault", runs.redirected(shell, refused), (2, "", "")
-    full = runs.redirected('"$@" > /dev/full', [program, "--help"])
-    yield "--help that cannot be written", full, (4, "", "output failed\n")
-
-
-def touched_by(program, line, addresses):
-    """How a run ends whose addresses are bounded, and how many bytes of memory it touched."""
-    words = ["prlimit", f"--as={addresses}", program, *line.split(" ")]
-    ran = subprocess.Popen(words, stdin=subprocess.DEVNULL, stderr=subprocess.PIPE)
-    error = ran.stderr.read().decode()
-    _, status, usage = os.wait4(ran.pid, 0)
-    ran.returncode = os.waitstatus_to_exitcode(status)
-    return (ran.returncode, error), usage.ru_maxrss << 10
-
-
-def memory(program):
-    for addresses, reason in ADDRESSES:
-        ended, touched = touched_by(program, REFUSED_TABLE, addresses)
-        about = f"{REFUSED_TABLE!r} ({reason}) in {touched} bytes"
-        yield about, (ended, touched > MOST_TOUCHED), ((3, "out of memory\n"), False)
 
 
 def salts(program):
@@ -255,6 +273,10 @@ def salts(program):
         verified = run([program, "verify", line.strip()], b"password")
         yield f"a drawn salt of {form}", (status, len(salt), verified), (0, letters, runs.OK)
     yield "drawn salts differ", len(drawn), 4
+    for options, form, start in RECOMMENDED:
+        status, line, _ = run([program, *options.split(), "hash", form], b"password")
+        verified = run([program, "verify", line.strip()], b"password")
+        yield f"{options} for {form}", (status, line.startswith(start), verified), (0, True, runs.OK)
     if runs.COMPILER:
         with runs.failing_calls() as library:
             hashed = run([program, "--draw-salt", "hash", "phc", "4", "1", "1"], env={"LD_PRELOAD": library})

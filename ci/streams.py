@@ -1,0 +1,82 @@
+"""Runs the program over streams that fail, and where memory is refused."""
+
+import os
+import subprocess
+
+import runs
+from known import EMPTY, EMPTY_PHC
+
+# One command of each kind, which all answer an empty password with status 0.
+STREAM_COMMANDS = ["key 4 1 1 64 ", "hash phc 4 1 1 00", "hash mcf 4 1 1 ", f"verify {EMPTY_PHC}", f"verify {EMPTY}"]
+STREAM_COMMANDS += [f"rehash phc 5 1 1 32 00 {EMPTY}"]
+
+# Lines that are read while the input fails, the status and the fault: what is looked at before the input and after it.
+ORDERS = [
+    ("key 4 1 1 0 ", 2, "invalid output buffer length", "the words come before the input"),
+    ("verify $scrypt$", 2, "hash refused: EncodingInvalid", "a PHC text is read before it"),
+    ("rehash phc 4 1 1 32  $", 2, "hash refused: EncodingInvalid", "so is that of an old hash"),
+    ("verify $7$", 4, "input failed", "the fields of an MCF text are read after it"),
+    ("verify $argon2id", 4, "input failed", "the algorithm is looked at after it"),
+    ("hash phc 4 1 1 ", 4, "input failed", "so is the length of a salt"),
+    ("--usual-limits verify $7$s/..../....$r/", 4, "input failed", "and the limits"),
+]
+
+# How the shell opens a stream, in a line that has `"$@"` for the command, the fault line, and the reason for the row.
+STREAMS = [
+    ('"$@" > /dev/full', "output failed\n", "a full device takes nothing"),
+    ('"$@" >&-', "output failed\n", "the standard output is closed"),
+    ('"$@" < /', "input failed\n", "a directory opens, but cannot be read"),
+    ('"$@" <&-', "input failed\n", "the standard input is closed"),
+]
+
+# Parameters whose chunks take 2 GiB, and whose table is refused: log_n is 56, r is 1 and p is 2^24. Nothing is written
+# before everything is allocated, so that the run touches little memory. Each row has a bound on the addresses of the
+# run, and the reason for the row.
+REFUSED_TABLE = "verify $7$s/......../$r/"
+MOST_TOUCHED = 64 << 20
+ADDRESSES = [("unlimited", "there is room for the chunks"), (1 << 30, "there is none")]
+
+
+def without_reader(words):
+    """How a run ends whose output is a pipe that nobody reads."""
+    read, write = os.pipe()
+    os.close(read)
+    ran = subprocess.run(words, stdin=subprocess.DEVNULL, stdout=write, stderr=subprocess.PIPE)
+    os.close(write)
+    return ran.returncode, ran.stderr.decode()
+
+
+def streams(program):
+    """Every command on streams that fail: status 4, and nothing in the output."""
+    for line in STREAM_COMMANDS:
+        words = [program, *line.split(" ")]
+        yield f"{line!r} on streams that work", runs.redirected('"$@"', words)[0], 0
+        for shell, fault, reason in STREAMS:
+            yield f"{line!r} ({reason})", runs.redirected(shell, words), (4, "", fault)
+        yield f"{line!r} (nobody reads the pipe)", without_reader(words), (4, "output failed\n")
+    for line, status, fault, reason in ORDERS:
+        ended = runs.redirected('"$@" < /', [program, *line.split(" ")])
+        yield f"{line!r} over an input that fails ({reason})", ended, (status, "", f"{fault}\n")
+    for shell in ('"$@" 2> /dev/full', '"$@" 2>&-'):
+        key, refused = ([program, "key", "4", "1", "1", length, ""] for length in ("16", "0"))
+        yield f"{shell}, with nothing to write there", runs.redirected(shell, key)[0], 0
+        yield f"{shell}, with a fault", runs.redirected(shell, refused), (2, "", "")
+    full = runs.redirected('"$@" > /dev/full', [program, "--help"])
+    yield "--help that cannot be written", full, (4, "", "output failed\n")
+
+
+def touched_by(program, line, addresses):
+    """How a run ends whose addresses are bounded, and how many bytes of memory it touched."""
+    words = ["prlimit", f"--as={addresses}", program, *line.split(" ")]
+    ran = subprocess.Popen(words, stdin=subprocess.DEVNULL, stderr=subprocess.PIPE)
+    error = ran.stderr.read().decode()
+    _, status, usage = os.wait4(ran.pid, 0)
+    ran.returncode = os.waitstatus_to_exitcode(status)
+    return (ran.returncode, error), usage.ru_maxrss << 10
+
+
+def memory(program):
+    for addresses, reason in ADDRESSES:
+        ended, touched = touched_by(program, REFUSED_TABLE, addresses)
+        about = f"{REFUSED_TABLE!r} ({reason}) in {touched} bytes"
+        yield about, (ended, touched > MOST_TOUCHED), ((3, "out of memory\n"), False)
