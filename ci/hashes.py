@@ -57,11 +57,24 @@ PASSWORDS = {PHC: b"password", MCF: b"pleaseletmein"}
 SHORT_TEXTS = [
     ("$7$2/..../....$s/", "no", "another key of one byte"),
     ("$7", "EncodingInvalid", "no field"),
+    ("$7$", "EncodingInvalid", "one empty field"),
     ("$7$$r/", "EncodingInvalid", "no parameters"),
     ("$7$é/..../....$r/", "EncodingInvalid", "log_n is not ASCII"),
     ("$7$*/...$r/", "EncodingInvalid", "r has four letters"),
     ("$7$t/..../....$$", "ParamsInvalid", "the parameters come before the key"),
     ("$7$2/..../....$$", "EncodingInvalid", "the fields come before the key's length"),
+    ("$7$C...../....$r/", "ParamsInvalid", "r is 0"),
+    ("$7$2U....zzzzz$r/", "ParamsInvalid", "r * p is above 2^30"),
+    ("$7$zzzzzzzzzzz$r/", "ParamsInvalid", "each number is the greatest"),
+    ("$7$2/..../....$z", "EncodingInvalid", "a letter alone"),
+    ("$7$2/..../....$z2", "EncodingInvalid", "spare bits of one byte are set"),
+    ("$7$2/..../....$zzE", "EncodingInvalid", "spare bits of two bytes are set"),
+    ("$7$2/..../....$zz=", "EncodingInvalid", "padding"),
+    ("$scrypt", "no", "an algorithm alone"),
+    ("$scrypt$v=0", "Version", "version 0"),
+    ("$scrypt$v=1$ln=1$aA$AAAAAAAAAAAAAA", "Version", "the version comes before the parameters, which are not scrypt's"),
+    ("$" + "a" * 32, "Algorithm", "an algorithm of 32 letters"),
+    ("$scrypt$x=" + "0" * 125, "ParamsInvalid", "127 bytes of parameters"),
     ("$scrypt$ln=56,r=1,p=1$aA$AAAAAAAAAAAAAA", "out of memory", "the table would have 2^63 bytes"),
 ]
 
@@ -96,6 +109,15 @@ UNREAD = [
     ("$scrypt$aA$AAAAAAAAAAAAAA$aA", "one part too many"),
 ]
 
+# The lengths of the beginnings of a `$7$` hash that are hashes of shorter keys, and the verdicts on those of a PHC hash that
+# can be read.
+SHORTER_KEYS = [19, 23, 25, 27, 31, 34, 35, 39, 43, 46, 47, 51, 55]
+BEGINNINGS = {**dict.fromkeys((2, 3, 4, 5, 6), "Algorithm"), **dict.fromkeys((61, 65, 69, 73, 77, 81, 85), "ok")}
+BEGINNINGS |= dict.fromkeys((7, 12, 13, 17, 21, 26, 30, 33, 34, 38, 42, 44), "no")
+
+# Passwords that have the same key, since HMAC pads a short one with zero bytes and hashes a long one.
+SAME_KEYS = [(b"a" * 63, b"a" * 63 + b"\0"), (b"a" * 65, hashlib.sha256(b"a" * 65).digest())]
+
 # How long a password is, around the block of SHA-256 and far beyond it.
 LONG_PASSWORDS = [63, 64, 65, 200, 100_000]
 
@@ -118,10 +140,34 @@ def verdicts():
         other = key[:-1] + bytes([key[-1] ^ 1])
         yield crypt64.text("", key, 4, 1, 1), b"", "ok", f"a key of {length} bytes"
         yield crypt64.text("", other, 4, 1, 1), b"", "no", f"its last byte of {length} is another"
+    for text, reason in UNREAD:
+        yield text, b"", "EncodingInvalid", reason
+    for one, other in SAME_KEYS:
+        yield reference.hash_of("mcf", one, b"", 4, 1, 1, 32), other, "ok", "scrypt does not distinguish these passwords"
+
+
+def beginnings():
+    """The same for the beginnings of a hash of each format."""
+    for at in range(len(EMPTY)):
+        verdict = "ok" if at in SHORTER_KEYS else "OutputSize" if at == KEY_AT else "EncodingInvalid"
+        yield EMPTY[:at], b"", verdict, f"the first {at} bytes"
+    for at in range(len(PHC)):
+        yield PHC[:at], PASSWORDS[PHC], BEGINNINGS.get(at, "EncodingInvalid"), f"the first {at} bytes"
+
+
+def replaced():
+    """The same for a `$7$` hash with one byte replaced: in r and p, and at both ends of its key."""
+    for at, other in itertools.product(range(4, 14), "$* -"):
+        yield EMPTY[:at] + other + EMPTY[at + 1 :], b"", "EncodingInvalid", f"no letter at {at}"
+    # The last letter has only the highest four bits of a byte.
+    for (at, values), other in itertools.product(((KEY_AT, 64), (len(EMPTY) - 1, 16)), map(chr, range(1, 128))):
+        verdict = "no" if other in crypt64.ALPHABET[:values] else "EncodingInvalid"
+        if other != EMPTY[at]:
+            yield EMPTY[:at] + other + EMPTY[at + 1 :], b"", verdict, f"another character at {at}"
 
 
 def verified(tool):
-    for text, password, verdict, reason in verdicts():
+    for text, password, verdict, reason in itertools.chain(verdicts(), beginnings(), replaced()):
         wanted = ENDS.get(verdict, (2, "", f"hash refused: {verdict}\n"))
         yield f"{text} ({reason})", unlimited(tool, ["verify", text], password), wanted
 
@@ -148,11 +194,8 @@ def by_line(rows, *words):
 def main():
     tool, program = sys.argv[1:]
     long = [(EMPTY[:KEY_AT] + "." * 1_000_000, "PasswordInvalid"), ("$7" + "$" * 1_000_000, "EncodingInvalid")]
-    # Beginnings are not judged by their keys: a shorter one is the beginning of PHC's, and the empty password is wrong.
-    cut = [(PHC[:at], hostile.verdict(PHC[:at], lambda *_: "PasswordInvalid")) for at in range(len(PHC))]
-    texts = [*cut, *long, *((text, "EncodingInvalid") for text, _ in UNREAD)]
     within = [(text, hostile.verdict(text, hostile.compared_within)) for text in known.costly()]
-    cases = verified(tool), made(tool), by_line(texts, program), by_line(within, program, "within")
+    cases = verified(tool), made(tool), by_line(long, program), by_line(within, program, "within")
     _, wrong = runs.report("hashes", itertools.chain(*cases))
     sys.exit(1 if wrong else 0)
 
