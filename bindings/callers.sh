@@ -2,11 +2,12 @@
 # Calls the libraries of build/lib from each language of bindings/ whose compiler is here, and from programs that know
 # only the names of other libraries. Prints what is not installed, by its Debian package, and fails if a caller fails.
 # With the word short, which the gate uses: the tests from C, from Python and of the drop-in names that take seconds, once.
-# Before all that it checks that the libraries keep blocks in registers.
+# Before all that it checks that the libraries keep blocks in registers, and tries the program's completions.
 set -eu
 unset CDPATH
 cd "$(dirname "$0")"
 python3 -B ../bench/registers.py
+python3 -B completions.py --test
 if [ "${1:-}" = short ]; then
   for caller in c python drop_in; do $caller/test.sh short; done
   exit

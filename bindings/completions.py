@@ -58,7 +58,7 @@ def commands():
 
 def options():
     """The options of the help."""
-    with open(os.path.join(SOURCES, "information.rt"), encoding="utf-8") as source:
+    with open(os.path.join(SOURCES, "options.rt"), encoding="utf-8") as source:
         return re.findall(r"(?<=[ ])--[a-z-]+=?", source.read().split("HELP")[1].split('";')[0])
 
 
