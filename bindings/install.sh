@@ -1,7 +1,7 @@
 #!/bin/sh
 # Installs what is built, or removes it: the libraries of build/lib with the header, its pages of the manual and the
-# files for pkg-config and CMake, the Python package, the documents, the licence, and if they are built the library for x86-64-v3 and
-# the program with its man page and its completions.
+# files for pkg-config and CMake, the Python package, the documents, the licence, and if they are built the library for
+# x86-64-v3, and the program with scrypt_calibrate, their man page and its completions.
 # usage: install.sh install|uninstall, by the Makefile, which hands the places in the environment. DESTDIR goes before
 # each place where files are written, and into none of the files. release/install.sh writes and removes them, by a list in
 # docdir.
@@ -80,9 +80,11 @@ python_package() {
   while read -r file; do put 644 "bindings/python/$file" "$pythondir/$file"; done < "$room/package"
 }
 
-program() {
+programs() {
   put 755 "$program" "$bindir/scrypt_tool"
+  put 755 build/bin/scrypt_calibrate "$bindir/scrypt_calibrate"
   put 644 docs/scrypt_tool.1 "$mandir/man1/scrypt_tool.1"
+  link scrypt_tool.1 "$mandir/man1/scrypt_calibrate.1"
   python3 bindings/completions.py "$room/share"
   (cd "$room/share" && find . -type f | sed 's|^\./||') > "$room/completions"
   while read -r file; do put 644 "$room/share/$file" "$datarootdir/$file"; done < "$room/completions"
@@ -97,7 +99,7 @@ python_package
 newer=glibc-hwcaps/x86-64-v3/libscrypt_c.so.0
 if [ -e build/lib/$newer ]; then put 755 build/lib/$newer "$libdir/$newer"; fi
 if [ -e "$program" ]; then
-  program
+  programs
 else
   echo "the program is not built (make run), and is left out"
 fi

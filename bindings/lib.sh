@@ -2,7 +2,7 @@
 # Builds the libraries for C into build/lib, of the crate scrypt_c, which the kit proves for x86-64-v2 and for x86-64-v3:
 # the static one, which has both and chooses when a program starts; the shared one for x86-64-v2 under its three names; the
 # shared one for x86-64-v3 in the folder where the dynamic linker of glibc 2.33 and later looks first on such a
-# processor; the header, and files for pkg-config and CMake.
+# processor; the header, and files for pkg-config and CMake. Builds the program scrypt_calibrate into build/bin.
 # Needs the kit and a C compiler with its binutils. With the word built, the crate's own libraries are there already.
 set -eu
 unset CDPATH
@@ -116,6 +116,10 @@ cp bindings/c/scrypt_c.h "$out/"
 $CC -O2 -Wall -Wextra $hardened -fPIC -fvisibility=hidden $linked -Wl,-soname,libscrypt_drop_in.so -Wl,--exclude-libs,ALL \
   -Wl,-z,nodelete -Ibindings/c -o "$out/libscrypt_drop_in.so" bindings/drop_in/drop_in.c bindings/drop_in/kept.c \
   bindings/c/tables.c bindings/c/groups.c "$out/libscrypt_c.a" -lpthread
+# The program that chooses parameters needs no library beside it.
+mkdir -p build/bin
+$CC -std=c99 -pedantic -O2 -Wall -Wextra $hardened -Wl,-z,relro -Wl,-z,now -Ibindings/c -o build/bin/scrypt_calibrate \
+  bindings/c/scrypt_calibrate.c "$out/libscrypt_c.a" -lpthread
 bindings/c/found.sh "$PWD/$out" "$PWD/$out" "$out" "$out"
 # The Go module is whole with the header and the static library in its folder.
 cp "$out/libscrypt_c.a" "$out/scrypt_c.h" bindings/go/

@@ -65,8 +65,12 @@ inside sh -c "dpkg -L $packages"' | grep -E "\.so|\.a$|/bin/." | sort -u |
   while read -r it; do [ -h "$it" ] || sha256sum "$it"; done' | cut -c -64 | sort | diff - "$room/packed"
 echo "each installed binary has its hash in PROVED.txt: $(wc -l < "$room/packed")"
 expect "$(inside $command "" < /dev/null)" $key "the program prints the first key of RFC 7914, section 12"
-inside sh -c 'man scrypt_tool 2> /dev/null | grep -q "derive scrypt keys"'
-echo "man scrypt_tool"
+for program in scrypt_tool scrypt_calibrate; do
+  inside sh -c "man $program 2> /dev/null | grep -q 'derive scrypt keys'"
+  echo "man $program"
+done
+made=$(inside sh -c 'echo pw | scrypt_tool --draw-salt hash phc $(scrypt_calibrate 0.1 16)')
+case $made in '$scrypt$ln=1'[0-4],r=8,p=*) echo "the program takes the parameters of scrypt_calibrate" ;; *) exit 1 ;; esac
 completed='. /usr/share/bash-completion/bash_completion; _completion_loader scrypt_tool
   COMP_WORDS=(scrypt_tool ha) COMP_CWORD=1; _scrypt_tool; echo "${COMPREPLY[*]}"'
 expect "$(inside bash -c "$completed")" hash "bash completes scrypt_tool ha"

@@ -57,6 +57,25 @@ echo "bound to themselves, when they are loaded, and read-only then, with stack 
 python3 bindings/version.py --check
 each "$built" short_tests
 is_chosen
+# The program that chooses parameters prints those that scrypt_tool takes, or says what it takes itself.
+build/bin/scrypt_calibrate 0.1 16 | grep -xE '1[0-4] 8 [1-9][0-9]*' > "$room/log"
+while read -r words; do
+  if build/bin/scrypt_calibrate $words > "$room/log" 2>&1 || [ $? != 2 ] || ! grep -qE '^usage|^10 8 1' "$room/log"; then
+    echo "scrypt_calibrate $words: not refused by name" >&2
+    exit 1
+  fi
+done << 'END'
+
+0.1
+0.1 16 1
+0 16
+0.1 -1
+0.1 16M
+nan 16
+0.1 0.9
+1e-9 16
+END
+echo "scrypt_calibrate prints parameters, and refuses other words"
 if [ "${1:-}" = short ]; then exit; fi
 
 # A program that includes the header alone, with every warning as an error that does not ask for a newer language, or
