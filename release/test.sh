@@ -93,8 +93,10 @@ expect "$(as_user /home/user/prefix/bin/$command "" < /dev/null)" $key "the arch
 as_user sh -c '$HOME/scrypt-proved-*/install.sh --remove $HOME/prefix && test ! -e $HOME/prefix'
 echo "the archive removes all that it installed"
 
+echo "LD_PRELOAD=$private/libscrypt_drop_in.so" > "$root/etc/default/client"
 quietly inside sh -c "apt-get purge -qq -y $packages"
-rm -rf "$root"/home/user/*
+grep "/etc/default/client still names libscrypt_drop_in.so" "$room/log"
+rm -rf "$root/etc/default/client" "$root"/home/user/*
 listed | diff "$room/before" -
 known=$(inside dpkg-query -W -f '${db:Status-Status}\n' $packages 2> /dev/null | grep -v not-installed || true)
 expect "$known" "" "apt-get purge leaves no file, and dpkg knows none of them"
