@@ -38,13 +38,23 @@ USAGE = (
     "usage: key LOG_N R P LEN SALT_HEX | hash phc|mcf LOG_N R P SALT_HEX [LEN] | verify HASH"
     " | rehash phc|mcf LOG_N R P LEN SALT_HEX HASH"
 )
-MISFIT = "an option is unknown, or does not fit the command: see --help"
+# The line for options that do not fit a command.
+MISFIT = {
+    "key": "key takes no option except --strip-newline",
+    "hash": "hash takes no option except --draw-salt, --recommended and --strip-newline",
+    "verify": "verify does not take --draw-salt and --recommended",
+    "rehash": "rehash does not take --recommended",
+}
 # By default 257 MiB, four times the work of (17, 8, 1), and keys of 16 bytes.
 USUAL_BYTES, USUAL_WORK = 269484032, 16781312
 
 
 def too_costly(needed, work, most_bytes=USUAL_BYTES, most_work=USUAL_WORK):
     return f"hash refused: TooCostly, it needs {needed} bytes and work {work}, and --most-bytes is {most_bytes} and --most-work {most_work}"
+
+
+def no_option(word):
+    return f"{word}: not an option, or its value is not allowed: see --help"
 
 
 def key_too_short(key_len, least):
@@ -136,14 +146,14 @@ FAULTS = [
     *((f"rehash mcf 4 1 1 {it}  {EMPTY}", "", 2, "invalid scrypt parameters", "the same") for it in (0, 9, 65)),
     *((f"key 4 1 1 {it} ", "", 2, "invalid output buffer length", "a key has 1 to 137438953440 bytes")
       for it in (0, 137438953441, 137438953471, 18446744073709551615)),
-    (f"--most-work=01 verify {EMPTY}", "", 2, MISFIT, "a number with a leading zero in an option"),
-    (f"--most-work= verify {EMPTY}", "", 2, MISFIT, "no number"),
-    (f"--most-bytes=18446744073709551616 verify {EMPTY}", "", 2, MISFIT, "a number of 2^64"),
-    (f"--most-work 192 verify {EMPTY}", "", 2, MISFIT, "a number in an argument of its own"),
-    (f"--no-limits verify {EMPTY}", "", 2, MISFIT, "an unknown option"),
-    ("--", "", 2, MISFIT, "the same"),
-    (f"--usual-limits --most verify {EMPTY}", "", 2, MISFIT, "the same after another one"),
-    (f"-- verify {EMPTY}", "", 2, MISFIT, "options have no end of their own"),
+    (f"--most-work=01 verify {EMPTY}", "", 2, no_option("--most-work=01"), "a number with a leading zero in an option"),
+    (f"--most-work= verify {EMPTY}", "", 2, no_option("--most-work="), "no number"),
+    (f"--most-bytes=18446744073709551616 verify {EMPTY}", "", 2, no_option("--most-bytes=18446744073709551616"), "a number of 2^64"),
+    (f"--most-work 192 verify {EMPTY}", "", 2, no_option("--most-work"), "a number in an argument of its own"),
+    (f"--no-limits verify {EMPTY}", "", 2, no_option("--no-limits"), "an unknown option"),
+    ("--", "", 2, no_option("--"), "the same"),
+    (f"--usual-limits --most verify {EMPTY}", "", 2, no_option("--most"), "the same after another one"),
+    (f"-- verify {EMPTY}", "", 2, no_option("--"), "options have no end of their own"),
     ("key 4 1 1 64 0", "", 2, "salt is not hexadecimal", "half a byte of salt"),
     ("key 4 1 1 64 0g", "", 2, "salt is not hexadecimal", "no digit"),
     ("key 04 1 1 64 0", "", 2, USAGE, "numbers come before the salt"),
@@ -216,14 +226,14 @@ LIMITS = [
 
 # Each option before each command that it does not fit, and the passwords that --strip-newline leaves.
 OPTIONS = [
-    *((f"{limit} {command}", "", 2, MISFIT, "limits are those of verify and rehash")
+    *((f"{limit} {command}", "", 2, MISFIT[command.split()[0]], "limits are those of verify and rehash")
       for limit in ("--usual-limits", "--most-bytes=1", "--most-work=1", "--least-key-len=1")
       for command in ("key 4 1 1 16 ", "hash phc 4 1 1 00")),
-    ("--draw-salt key 4 1 1 16", "", 2, MISFIT, "the salt of a key is named"),
-    (f"--draw-salt verify {EMPTY}", "", 2, MISFIT, "a verdict has no salt"),
-    ("--recommended key 16", "", 2, MISFIT, "the recommended parameters are those of a hash"),
-    (f"--recommended verify {EMPTY}", "", 2, MISFIT, "the same"),
-    (f"--recommended rehash phc 32 {EMPTY}", "", 2, MISFIT, "the same"),
+    ("--draw-salt key 4 1 1 16", "", 2, MISFIT["key"], "the salt of a key is named"),
+    (f"--draw-salt verify {EMPTY}", "", 2, MISFIT["verify"], "a verdict has no salt"),
+    ("--recommended key 16", "", 2, MISFIT["key"], "the recommended parameters are those of a hash"),
+    (f"--recommended verify {EMPTY}", "", 2, MISFIT["verify"], "the same"),
+    (f"--recommended rehash phc 32 {EMPTY}", "", 2, MISFIT["rehash"], "the same"),
     ("--recommended hash phc 17 8 1", "", 2, USAGE, "they are not named"),
     (f"--draw-salt rehash phc 4 1 1 32 {EMPTY}", "", 0, "ok", "a salt that is not needed"),
     (f"--usual-limits --draw-salt --strip-newline rehash phc 4 1 1 32 {EMPTY}", "\n", 0, "ok", "three options"),

@@ -21,7 +21,7 @@ use Rattle.scrypt_commands.specs.declared.options.Information.{Information}
 use Rattle.scrypt_commands.specs.declared.options.Options.{Options}
 use Rattle.scrypt_commands.specs.CliError.{error_line, error_of, limited_error_of, status_of}
 use Rattle.scrypt_commands.specs.Outcome.{new_outcome, rehash_outcome, verdict_outcome, wrong_outcome, bounded, outcome_by, outcome_with_options, request_outcome}
-use Rattle.scrypt_commands.specs.Outcome.{IsUnread, IsUnreadAfter, OnInput, Outcome, OutcomeIs, is_salt_len, new_hash, phc_text, refusal_of}
+use Rattle.scrypt_commands.specs.Outcome.{IsUnread, IsUnreadAfter, OnInput, Outcome, OutcomeIs, is_salt_len, misfit_of, new_hash, phc_text, refusal_of}
 use Rattle.scrypt_commands.specs.declared.bounds.Bounds.{Bounds}
 use Rattle.scrypt_commands.specs.declared.command.Command.{Command}
 use Rattle.scrypt_commands.specs.Steps.{Answers, AppendsAnswer, command_outcome, answer_line, answer_status, right_of, wrong_or_error, Ends, FailsWith}
@@ -30,7 +30,7 @@ use Rattle.scrypt_commands.specs.declared.answer.Answer.{Answer}
 use Rattle.scrypt_commands.specs.declared.answer.Answer.TheVariants.{Verdict}
 use Rattle.scrypt_commands.specs.declared.args.Format.TheVariants.{Phc}
 use Rattle.scrypt_commands.specs.declared.error.CliError.{CliError}
-use Rattle.scrypt_commands.specs.declared.error.CliError.TheVariants.{InputFailed, OptionMisfit, OutOfMemory, OutputFailed, SaltInvalid}
+use Rattle.scrypt_commands.specs.declared.error.CliError.TheVariants.{InputFailed, OutOfMemory, OutputFailed, SaltInvalid}
 
 salt_len_decided : (n : ℕ) → Decides (is_salt_len n) (IsSaltLen n)
 unfolding is_salt_len
@@ -186,7 +186,7 @@ refused_by_command words rest options drawn Read status is (salt, long, by) h =
 -- the outcome of a run with options that do not fit the command
 pub misfitting : (words rest : List (List ℕ)) (options : Options) (known old faults_old faults_new : Option (List ℕ)) (Written : Type 0)
     (ended : ℕ) → (options, rest) ≡ options_of words → options.information ≡ None → fit_command options rest ≡ false → ended ≡ 2
-    → (Written → Appends faults_old faults_new (error_line OptionMisfit))
+    → (Written → Appends faults_old faults_new (misfit_of rest).error)
     → (ended ≡ 3) ⊎ (ended ≡ 4) ⊎ ((salt : List ℕ) × (length salt ≡ 16) × OutcomeIs (outcome_with_options salt words) known
     (λ outcome. (ended ≡ outcome.status) × Appends old old outcome.line × (Written → Appends faults_old faults_new outcome.error)))
 misfitting words rest options known old faults_old faults_new Written ended is none off two written =

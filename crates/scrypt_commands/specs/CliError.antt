@@ -4,7 +4,7 @@ use Rattle.password_hash.specs.Refusal.{Refusal}
 use Rattle.password_hash.specs.Refusal as refusals
 use Rattle.scrypt.specs.declared.limits.Limits.{Limits}
 use Rattle.scrypt_commands.specs.declared.error.CliError.{CliError}
-use Rattle.scrypt_commands.specs.declared.error.CliError.TheVariants.{Usage, OptionMisfit, SaltNotHex, InvalidParams, InvalidOutputLen, Algorithm}
+use Rattle.scrypt_commands.specs.declared.error.CliError.TheVariants.{Usage, SaltNotHex, InvalidParams, InvalidOutputLen, Algorithm}
 use Rattle.scrypt_commands.specs.declared.error.CliError.TheVariants.{EncodingInvalid, OutputSize, LnInvalid, RInvalid, PInvalid}
 use Rattle.scrypt_commands.specs.declared.error.CliError.TheVariants.{ParamsInvalid, SaltInvalid, Version, TooCostly, KeyTooShort}
 use Rattle.scrypt_commands.specs.declared.error.CliError.TheVariants.{OutOfMemory, InputFailed, OutputFailed}
@@ -38,7 +38,6 @@ too_short_line key_len limits = (codes "hash refused: KeyTooShort, its key has "
 abbrev pub error_line : CliError → List ℕ
 error_line Usage =
     codes "usage: key LOG_N R P LEN SALT_HEX | hash phc|mcf LOG_N R P SALT_HEX [LEN] | verify HASH | rehash phc|mcf LOG_N R P LEN SALT_HEX HASH\n"
-error_line OptionMisfit = codes "an option is unknown, or does not fit the command: see --help\n"
 error_line SaltNotHex = codes "salt is not hexadecimal\n"
 error_line InvalidParams = codes "invalid scrypt parameters\n"
 error_line InvalidOutputLen = codes "invalid output buffer length\n"

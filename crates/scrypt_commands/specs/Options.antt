@@ -58,6 +58,15 @@ fit o name =
 unfoldable pub fit_command : Options → List (List ℕ) → Bool
 fit_command o words = option_map_or (λ found. fit o found.0) (first_word words) true
 
+-- what the line for options that do not fit has after the first word after them: it names what is allowed
+unfoldable pub misfit_reason : List ℕ → List ℕ
+misfit_reason name =
+    if bytes_eq name (codes "key") then codes " takes no option except --strip-newline\n"
+    else if bytes_eq name (codes "hash") then codes " takes no option except --draw-salt, --recommended and --strip-newline\n"
+    else if bytes_eq name (codes "verify") then codes " does not take --draw-salt and --recommended\n"
+    else if bytes_eq name (codes "rehash") then codes " does not take --recommended\n"
+    else codes ": not an option, or its value is not allowed: see --help\n"
+
 -- the salt, if one is drawn
 abbrev pub drawn_salt : Options → List ℕ → Option (List ℕ)
 drawn_salt o salt = if draws o then Some salt else None

@@ -1,6 +1,7 @@
 -- The outcome of a command line: what the program prints for its arguments and its input.
 use Rattle.std.specs.Prelude.{◌≡◌, ◌⊎◌, ℕ, ◌&&◌, Bool, false, nat_le, if◌then◌else◌, List, [], ◌∷◌, ◌++◌, length, codes}
 use Rattle.std.specs.Prelude.{Option, None, Some, IfSome, IsSome, option_map, Result, Ok, Err, ⊤}
+use Rattle.std.specs.Option.{option_map_or}
 use Rattle.hex.specs.Hex.{encode_lower}
 use Rattle.password_hash.specs.Crypt64.{crypt64_of}
 use Rattle.password_hash.specs.Parts.{dollar}
@@ -15,9 +16,10 @@ use Rattle.scrypt.specs.Reading.{Stored, verdict, weaker}
 use Rattle.scrypt.specs.declared.limits.Limits.{Limits}
 use Rattle.scrypt.specs.StoredHash.{reading}
 use Rattle.scrypt.specs.WithinLimits.{within}
+use Rattle.scrypt_commands.specs.Args.{first_word}
 use Rattle.scrypt_commands.specs.Bounds.{rehash_limits, verify_limits}
 use Rattle.scrypt_commands.specs.Information.{information_text}
-use Rattle.scrypt_commands.specs.Options.{drawn_salt, fit_command, options_of, password_of}
+use Rattle.scrypt_commands.specs.Options.{drawn_salt, fit_command, misfit_reason, options_of, password_of}
 use Rattle.scrypt_commands.specs.Command.{IsRefused, Request, ToMake, ToRehash, ToVerify, request_by, request_of}
 use Rattle.scrypt_commands.specs.CliError.{error_line, limited_error_of, status_of}
 use Rattle.scrypt_commands.specs.declared.bounds.Bounds.{Bounds}
@@ -26,7 +28,7 @@ use Rattle.scrypt_commands.specs.declared.args.Format.TheVariants.{Phc, Mcf}
 use Rattle.scrypt_commands.specs.declared.args.Target.{Target}
 use Rattle.scrypt_commands.specs.declared.args.Target.TheVariants.{Key, Hash}
 use Rattle.scrypt_commands.specs.declared.error.CliError.{CliError}
-use Rattle.scrypt_commands.specs.declared.error.CliError.TheVariants.{OptionMisfit, SaltInvalid}
+use Rattle.scrypt_commands.specs.declared.error.CliError.TheVariants.{SaltInvalid}
 use Rattle.scrypt_commands.specs.declared.options.Information.{Information}
 use Rattle.scrypt_commands.specs.declared.options.Options.{Options}
 
@@ -122,15 +124,21 @@ abbrev pub outcome_by : Options → Option (List ℕ) → List (List ℕ) → Li
 outcome_by options drawn words input =
     request_outcome options.bounds (request_by options.is_recommended drawn words) (password_of options.strips_newline input)
 
+-- the outcome of options that do not fit the first of the words after them
+abbrev pub misfit_of : List (List ℕ) → Outcome
+misfit_of words =
+    let name = option_map_or (λ found. found.0) (first_word words) [] in
+    record { status = 2; line = []; error = name ++ misfit_reason name }
+
 -- what is printed by options that ask for information, or fit the command or not
-abbrev pub outcome_if : Option Information → Bool → Outcome → Outcome
-outcome_if (Some asked) fitting by_command = answer_of 0 (information_text asked)
-outcome_if None fitting by_command = if fitting then by_command else refusal_of OptionMisfit
+abbrev pub outcome_if : Option Information → Bool → Outcome → Outcome → Outcome
+outcome_if (Some asked) fitting misfit by_command = answer_of 0 (information_text asked)
+outcome_if None fitting misfit by_command = if fitting then by_command else misfit
 
 -- the outcome for these options and the words after them, with this salt if they draw one
 abbrev pub outcome_after : List ℕ → Options × List (List ℕ) → List ℕ → Outcome
 outcome_after salt (options, words) input =
-    outcome_if options.information (fit_command options words) (outcome_by options (drawn_salt options salt) words input)
+    outcome_if options.information (fit_command options words) (misfit_of words) (outcome_by options (drawn_salt options salt) words input)
 
 -- the outcome for these words, of which the first may be options
 abbrev pub outcome_with_options : List ℕ → List (List ℕ) → List ℕ → Outcome

@@ -20,8 +20,6 @@ use std::io::Write;
 pub enum CliError {
     /// The arguments are not those of a command, or one is not a decimal below its bound.
     Usage,
-    /// An option is unknown, or does not fit the command.
-    OptionMisfit,
     /// The salt is not an even number of hexadecimal digits.
     SaltNotHex,
     /// The parameters are not accepted.
@@ -135,9 +133,6 @@ impl CliError {
             } => write_too_costly(faults, bytes, work, limits),
             CliError::KeyTooShort { key_len, limits } => write_too_short(faults, key_len, limits),
             CliError::Usage => faults.write_all(USAGE),
-            CliError::OptionMisfit => faults.write_all(
-                b"an option is unknown, or does not fit the command: see --help\n",
-            ),
             CliError::SaltNotHex => faults.write_all(b"salt is not hexadecimal\n"),
             CliError::InvalidParams => faults.write_all(b"invalid scrypt parameters\n"),
             CliError::InvalidOutputLen => faults.write_all(b"invalid output buffer length\n"),

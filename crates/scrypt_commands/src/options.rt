@@ -1,14 +1,17 @@
 //! The options before a command, and the program with them.
 
-ghost use Rattle.std.specs.Prelude.{◌≡◌, codes, is_some};
+ghost use Rattle.std.specs.Prelude.{◌≡◌, ◌++◌, OnOk, codes, is_some};
+ghost use Rattle.std.specs.Io.KnownBytes.{Appends};
 ghost use Rattle.password_hash.specs.Parts.{after_prefix};
 ghost use Rattle.std.specs.Io.BufRead.{ends_with_byte, strip_last};
 ghost use Rattle.scrypt_commands.specs.Args.{texts_of};
 ghost use Rattle.scrypt_commands.specs.Information.{information_text};
-ghost use Rattle.scrypt_commands.specs.Options.{draws, fit, fit_command, options_of, password_of, with_option, without_newline};
+ghost use Rattle.scrypt_commands.specs.Options.{draws, fit, fit_command, misfit_reason, options_of, password_of, with_option, without_newline};
 
 use crate::args::first_word;
 use crate::bounds::{Bounds, USUAL, with_number};
+use std::io;
+use std::io::Write;
 
 /// The options before a command.
 #[derive(Clone, Copy)]
@@ -188,6 +191,28 @@ impl Options {
         } else {
             input
         }
+    }
+}
+
+/// Writes the error line of options that do not fit the command of this name.
+pub fn write_misfit<F: Write>(name: &str, faults: &mut F) -> io::Result<()>
+    ensures written { OnOk result (Appends (F.contents faults.old) (F.contents faults.new) (name.now ++ misfit_reason name.now)) }
+{
+    faults.write_all(name.as_bytes())?;
+    faults.write_all(misfit_reason(name).as_bytes())
+}
+
+// Returns what the line has after the name.
+#[tactic(auto, using(crate::proofs::ArgsFacts::other), unfolding(crate::specs::Options::misfit_reason))]
+fn misfit_reason(name: &str) -> &'static str
+    ensures { result.now ≡ misfit_reason name.now }
+{
+    match name {
+        "key" => " takes no option except --strip-newline\n",
+        "hash" => " takes no option except --draw-salt, --recommended and --strip-newline\n",
+        "verify" => " does not take --draw-salt and --recommended\n",
+        "rehash" => " does not take --recommended\n",
+        _ => ": not an option, or its value is not allowed: see --help\n",
     }
 }
 

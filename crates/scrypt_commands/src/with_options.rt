@@ -5,12 +5,12 @@ ghost use Rattle.std.specs.Io.KnownBytes.{Appends, IsAtEnd, Keeps};
 ghost use Rattle.scrypt_commands.specs.Args.{texts_of};
 ghost use Rattle.scrypt_commands.specs.CliError.{error_line};
 ghost use Rattle.scrypt_commands.specs.Options.{draws};
-ghost use Rattle.scrypt_commands.specs.Outcome.{outcome_with_options, IsUnread, OutcomeIs};
+ghost use Rattle.scrypt_commands.specs.Outcome.{misfit_of, outcome_with_options, IsUnread, OutcomeIs};
 ghost use Rattle.scrypt_commands.specs.Steps.{IsDrawn};
 ghost use Rattle.scrypt_commands.specs.declared.error.CliError.TheVariants.{InputFailed, OutOfMemory, OutputFailed};
 
-use crate::error::CliError;
-use crate::options::{Options, parse_options};
+use crate::args::first_word;
+use crate::options::{Options, parse_options, write_misfit};
 use crate::run::{Ended, answered, end, run_by, write_line};
 use std::alloc::Global;
 use std::io;
@@ -57,7 +57,7 @@ pub fn run_with_options<S: RandomSource, R: Read, W: Write, F: Write>(
         return Ok(print(information.text(), writer, faults));
     }
     if !options.fit_command(words) {
-        return Ok(end(CliError::OptionMisfit, faults));
+        return Ok(misfit(words, faults));
     }
     let drawn = draw(source, options)?;
     Ok(run_by(alloc, options, drawn, words, reader, writer, faults))
@@ -73,6 +73,24 @@ fn draw<S: RandomSource>(source: &S, options: Options) -> io::Result<Option<[u8;
     let mut salt = [0u8; 16];
     source.fill_bytes(&mut salt)?;
     Ok(Some(salt))
+}
+
+// Ends a run whose options do not fit the words after them, and says why.
+fn misfit<F: Write>(words: &[String], faults: &mut F) -> Ended
+    ensures status { result.status ≡ 2 }
+    ensures written { IsTrue result.fault_told →
+        Appends (F.contents faults.old) (F.contents faults.new) (misfit_of (texts_of words.now)).error }
+    ensures input_failed { result.input_failed ≡ false }
+{
+    let name = match first_word(words) {
+        Some((name, _)) => name,
+        None => "",
+    };
+    Ended {
+        status: 2,
+        input_failed: false,
+        fault_told: write_misfit(name, faults).is_ok(),
+    }
 }
 
 // Writes a text to the output. The status is 0, or 4 if the output failed, which the error line says.

@@ -11,7 +11,7 @@ returns-in-Some-clause-outcome g c = informed _ _ _ _ _ _ _ _ _ _ _ _ c.parse_op
 pub returns-then-not-fit_command-clause-outcome : goal.returns-then-not-fit_command-clause-outcome
 returns-then-not-fit_command-clause-outcome g c =
     let off : fit_command c.parse_options.result.0 (texts_of c.parse_options.result.1.now) ≡ false = cc in
-    misfitting _ _ _ _ _ _ _ _ _ c.parse_options.ensures.value c.in_default.is off c.end.ensures.status c.end.ensures.written
+    misfitting _ _ _ _ _ _ _ _ _ c.parse_options.ensures.value c.in_default.is off c.misfit.ensures.status c.misfit.ensures.written
 
 pub returns-in-Some-clause-unread : goal.returns-in-Some-clause-unread
 returns-in-Some-clause-unread g c = unread_by_options _ _
