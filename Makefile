@@ -180,7 +180,7 @@ doc-test: doc
 axioms: proved-scrypt_commands
 	mkdir -p build
 	cd crates/scrypt_tool && rt check --list-axioms > ../../build/axioms.log
-	sed -n 's/^  \([a-z_:]*\) *reached$$/\1/p' build/axioms.log > doc/axioms.txt
+	sed -n 's/^  \([a-z0-9_:]*\) *reached$$/\1/p' build/axioms.log > doc/axioms.txt
 
 # The library is built only if it is not there: the kit is not needed after that.
 .PHONY: login-service login-test login-load

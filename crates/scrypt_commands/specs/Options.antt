@@ -1,6 +1,6 @@
 -- The options before a command.
 use Rattle.std.specs.Prelude.{ℕ, Bool, ◌&&◌, ◌||◌, not, false, true, bytes_eq, codes, if◌then◌else◌}
-use Rattle.std.specs.Prelude.{List, [], ◌∷◌, Option, None, Some, is_none, is_some, option_map, unwrap_or}
+use Rattle.std.specs.Prelude.{List, [], ◌∷◌, Option, None, Some, is_none, is_some, length, nat_eq, option_map, unwrap_or}
 use Rattle.std.specs.Io.BufRead.{ends_with_byte, strip_last}
 use Rattle.std.specs.Option.{option_map_or}
 use Rattle.scrypt_commands.specs.Args.{first_word}
@@ -16,8 +16,19 @@ no_options = record {
   draws_salt = false;
   is_recommended = false;
   strips_newline = false;
+  has_hash_file = false;
   information = None;
 }
+
+-- the option that names the file of a hash
+abbrev pub is_hash_file : List ℕ → Bool
+is_hash_file word = is_some (after_prefix (codes "--hash-file=") word)
+
+-- the options with this one too, which has a value
+abbrev pub with_value : Options → List ℕ → Option Options
+with_value o word =
+    if is_hash_file word then Some (record o { has_hash_file = true })
+    else option_map (λ bounds. record o { bounds = Some bounds }) (with_number (unwrap_or o.bounds usual) word)
 
 -- the options with this one too; a later one overrides an earlier one
 unfoldable pub with_option : Options → List ℕ → Option Options
@@ -28,7 +39,7 @@ with_option o word =
     else if bytes_eq word (codes "--strip-newline") then Some (record o { strips_newline = true })
     else if bytes_eq word (codes "--help") then Some (record o { information = Some Help })
     else if bytes_eq word (codes "--version") then Some (record o { information = Some Version })
-    else option_map (λ bounds. record o { bounds = Some bounds }) (with_number (unwrap_or o.bounds usual) word)
+    else with_value o word
 
 -- the options that come first, and the words after them
 unfoldable pub options_after : Options → List (List ℕ) → Options × List (List ℕ)
@@ -44,12 +55,16 @@ options_of words = options_after no_options words
 abbrev pub draws : Options → Bool
 draws o = o.draws_salt || o.is_recommended
 
--- whether the options fit the command of this name: limits are those of `verify` and `rehash`, a salt is drawn for
--- `hash` and `rehash`, and the recommended parameters are those of `hash`; an unknown option fits none
+-- whether an option is about a stored hash: its limits, or its file
+abbrev pub is_about_hash : Options → Bool
+is_about_hash o = is_some o.bounds || o.has_hash_file
+
+-- whether the options fit the command of this name: those about a stored hash are for `verify` and `rehash`, a salt is drawn
+-- for `hash` and `rehash`, and the recommended parameters are those of `hash`; an unknown option fits none
 unfoldable pub fit : Options → List ℕ → Bool
 fit o name =
-    if bytes_eq name (codes "key") then is_none o.bounds && not (draws o)
-    else if bytes_eq name (codes "hash") then is_none o.bounds
+    if bytes_eq name (codes "key") then not (is_about_hash o) && not (draws o)
+    else if bytes_eq name (codes "hash") then not (is_about_hash o)
     else if bytes_eq name (codes "verify") then not (draws o)
     else if bytes_eq name (codes "rehash") then not o.is_recommended
     else not (is_some (after_prefix (codes "--") name))
@@ -66,6 +81,10 @@ misfit_reason name =
     else if bytes_eq name (codes "verify") then codes " does not take --draw-salt and --recommended\n"
     else if bytes_eq name (codes "rehash") then codes " does not take --recommended\n"
     else codes ": not an option, or its value is not allowed: see --help\n"
+
+-- whether the hash, the last word, has to be read from a file: the options have one, and fit the command
+abbrev pub needs_hash : Options × List (List ℕ) → Bool
+needs_hash (o, words) = o.has_hash_file && is_none o.information && not (nat_eq (length words) 0) && fit_command o words
 
 -- the salt, if one is drawn
 abbrev pub drawn_salt : Options → List ℕ → Option (List ℕ)

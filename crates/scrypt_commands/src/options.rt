@@ -6,7 +6,7 @@ ghost use Rattle.password_hash.specs.Parts.{after_prefix};
 ghost use Rattle.std.specs.Io.BufRead.{ends_with_byte, strip_last};
 ghost use Rattle.scrypt_commands.specs.Args.{texts_of};
 ghost use Rattle.scrypt_commands.specs.Information.{information_text};
-ghost use Rattle.scrypt_commands.specs.Options.{draws, fit, fit_command, misfit_reason, options_of, password_of, with_option, without_newline};
+ghost use Rattle.scrypt_commands.specs.Options.{draws, fit, fit_command, is_about_hash, is_hash_file, misfit_reason, options_of, password_of, with_option, with_value, without_newline};
 
 use crate::args::first_word;
 use crate::bounds::{Bounds, USUAL, with_number};
@@ -24,6 +24,8 @@ pub struct Options {
     pub is_recommended: bool,
     /// the password is the input without a newline at its end
     pub strips_newline: bool,
+    /// HASH, the last word, is not an argument: the caller reads it from a file
+    pub has_hash_file: bool,
     /// a text is printed, and there is no command
     pub information: Option<Information>,
 }
@@ -63,6 +65,8 @@ options for verify and rehash, as an untrusted HASH chooses its own cost:\n\
 \x20 --most-work=N      the most work, 4 * (2^LOG_N + 32) * R * P (16781312),\n\
 \x20                    or for rehash what the new hash needs if that is more\n\
 \x20 --least-key-len=N  the shortest key in bytes (16 for verify, 0 for rehash)\n\
+and as others can see a HASH that is an argument:\n\
+\x20 --hash-file=FILE   read it from FILE: then leave HASH out\n\
 and alone:\n\
 \x20 --help, --version\n\
 \n\
@@ -87,6 +91,7 @@ pub const NONE: Options = Options {
     draws_salt: false,
     is_recommended: false,
     strips_newline: false,
+    has_hash_file: false,
     information: None,
 };
 
@@ -139,14 +144,25 @@ impl Options {
                 information: Some(Information::Version),
                 ..self
             }),
-            _ => {
-                let bounds = with_number(self.bounds.unwrap_or(USUAL), word)?;
-                Some(Options {
-                    bounds: Some(bounds),
-                    ..self
-                })
-            }
+            _ => self.with_value(word),
         }
+    }
+
+    // Returns the options with this one that has a value too, or `None` if the word is not one.
+    fn with_value(self, word: &str) -> Option<Options>
+        ensures value { result ≡ with_value self word.now }
+    {
+        if is_hash_file(word) {
+            return Some(Options {
+                has_hash_file: true,
+                ..self
+            });
+        }
+        let bounds = with_number(self.bounds.unwrap_or(USUAL), word)?;
+        Some(Options {
+            bounds: Some(bounds),
+            ..self
+        })
     }
 
     /// Returns whether a salt is drawn.
@@ -154,6 +170,13 @@ impl Options {
         ensures value { result ≡ draws self }
     {
         self.draws_salt || self.is_recommended
+    }
+
+    // Returns whether an option is about a stored hash.
+    fn is_about_hash(self) -> bool
+        ensures { result ≡ is_about_hash self }
+    {
+        self.bounds.is_some() || self.has_hash_file
     }
 
     /// Returns whether the options fit the command of these words.
@@ -174,8 +197,8 @@ impl Options {
         ensures value { result ≡ fit self name.now }
     {
         match name {
-            "key" => self.bounds.is_none() && !self.draws(),
-            "hash" => self.bounds.is_none(),
+            "key" => !self.is_about_hash() && !self.draws(),
+            "hash" => !self.is_about_hash(),
             "verify" => !self.draws(),
             "rehash" => !self.is_recommended,
             _ => !is_option(name),
@@ -214,6 +237,13 @@ fn misfit_reason(name: &str) -> &'static str
         "rehash" => " does not take --recommended\n",
         _ => ": not an option, or its value is not allowed: see --help\n",
     }
+}
+
+// Returns whether the word is the option that names the file of a hash.
+fn is_hash_file(word: &str) -> bool
+    ensures { result ≡ is_hash_file word.now }
+{
+    word.strip_prefix("--hash-file=").is_some()
 }
 
 // Returns whether the word begins as an option does.

@@ -4,7 +4,7 @@ ghost use Rattle.std.specs.Prelude.{◌≡◌, ◌⊎◌, ℕ, IfOk, IfSome, IsT
 ghost use Rattle.std.specs.Io.KnownBytes.{Appends, IsAtEnd, Keeps};
 ghost use Rattle.scrypt_commands.specs.Args.{texts_of};
 ghost use Rattle.scrypt_commands.specs.CliError.{error_line};
-ghost use Rattle.scrypt_commands.specs.Options.{draws};
+ghost use Rattle.scrypt_commands.specs.Options.{draws, needs_hash, options_of};
 ghost use Rattle.scrypt_commands.specs.Outcome.{misfit_of, outcome_with_options, IsUnread, OutcomeIs};
 ghost use Rattle.scrypt_commands.specs.Steps.{IsDrawn};
 ghost use Rattle.scrypt_commands.specs.declared.error.CliError.TheVariants.{InputFailed, OutOfMemory, OutputFailed};
@@ -61,6 +61,18 @@ pub fn run_with_options<S: RandomSource, R: Read, W: Write, F: Write>(
     }
     let drawn = draw(source, options)?;
     Ok(run_by(alloc, options, drawn, words, reader, writer, faults))
+}
+
+/// Returns whether the last word, HASH, is missing: `--hash-file` names a file, of which it is the text. Then read
+/// the file and append it before `run_with_options`, which reads no files.
+pub fn needs_hash(words: &[String]) -> bool
+    ensures value { result ≡ needs_hash (options_of (texts_of words.now)) }
+{
+    let (options, after) = parse_options(words);
+    options.has_hash_file
+        && options.information.is_none()
+        && !after.is_empty()
+        && options.fit_command(after)
 }
 
 // Draws a salt, if the options say so.

@@ -14,16 +14,26 @@
 //! `--help` prints them.
 #![tactic(auto)]
 
-use scrypt_commands::with_options::run_with_options;
+use scrypt_commands::with_options::{needs_hash, run_with_options};
+use std::io::{ErrorKind, Read};
 use std::process::ExitCode;
-use std::{env, io};
+use std::{env, fs, io};
+
+// A hash is shorter, except a `$7$` text with a salt that no program makes.
+const MOST_BYTES: usize = 4096;
 
 fn main(rt: HostRuntime) -> ExitCode {
     let (mut output, mut errors) = (rt.stdout(), rt.stderr());
-    let Ok(args) = arguments(&rt) else {
+    let Ok(mut args) = arguments(&rt) else {
         let _ = errors.write_all(b"the arguments can't be read\n");
         return ExitCode::from(3);
     };
+    if needs_hash(&args) {
+        if let Err(error) = add_hash(&rt, &mut args) {
+            let _ = eprintln!(rt; "{}: {error}", file_of(&args));
+            return ExitCode::from(status_of(&error));
+        }
+    }
     let ended = run_with_options(
         rt.alloc(),
         &rt,
@@ -42,4 +52,40 @@ fn main(rt: HostRuntime) -> ExitCode {
 // The arguments after the program's name.
 fn arguments(rt: &HostRuntime) -> io::Result<Vec<String>> {
     Ok(env::args(rt)?.skip(1).collect(rt.alloc())?)
+}
+
+// The file that the options name, the last one if they name several.
+fn file_of(args: &[String]) -> &str {
+    let mut file = "";
+    for arg in args {
+        if let Some(named) = arg.strip_prefix("--hash-file=") {
+            file = named;
+        } else if !arg.starts_with("--") {
+            break;
+        }
+    }
+    file
+}
+
+// Adds the hash in that file, which is its text without the newline at its end.
+fn add_hash(rt: &HostRuntime, args: &mut Vec<String>) -> io::Result<()> {
+    let mut text = String::new(rt.alloc());
+    let mut file = fs::open(rt, file_of(args))?.take(MOST_BYTES as u64 + 1);
+    if file.read_to_string(&mut text)? > MOST_BYTES {
+        return Err(io::Error::new(ErrorKind::FileTooLarge, "more than 4096 bytes"));
+    }
+    if text.ends_with('\n') {
+        text.pop();
+    }
+    args.push(text)?;
+    Ok(())
+}
+
+// The status of an error of reading the file: what is not a hash is refused.
+fn status_of(error: &io::Error) -> u8 {
+    match error.kind() {
+        ErrorKind::FileTooLarge | ErrorKind::InvalidData => 2,
+        ErrorKind::OutOfMemory => 3,
+        _ => 4,
+    }
 }
