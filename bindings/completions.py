@@ -28,7 +28,7 @@ _scrypt_tool() {{
   esac
   COMPREPLY=($(compgen -W "$choices" -- "$word"))
 }}
-complete -F _scrypt_tool scrypt_tool
+complete -o default -F _scrypt_tool scrypt_tool
 """
 
 ZSH = """#compdef scrypt_tool
