@@ -90,8 +90,9 @@ def stripped(text):
 
 
 def other_examples(path, text):
-    """Examples in Rust whose lines don't follow each other in the file that is named after the word `rust`."""
-    for file, example in re.findall(r"^```rust +(\S+)\n(.*?)^```$", text, re.M | re.S):
+    """Examples in Rust whose lines don't follow each other in the page to which the line before them leads."""
+    for link, example in re.findall(r"\]\((\S+)\):\n```rust\n(.*?)^```$", text, re.M | re.S):
+        file = os.path.normpath(os.path.join(os.path.dirname(path), link))
         if stripped(example) not in stripped(read(file)):
             yield f"{path}: the example is not a part of {file}"
 

@@ -6,7 +6,7 @@ import unittest
 import docs
 
 NAMES = {"Params", "log_n", "n", "scrypt_counted", "quarter_round", "ro_mix"}
-RUST = "```rust bindings/rust/README.md\nlet hasher = Hasher::default();\nhasher.close();\n```\n"
+RUST = "[Rust](../bindings/rust/README.md):\n```rust\nlet hasher = Hasher::default();\nhasher.close();\n```\n"
 
 # A document in docs/, what the complaint names, and the reason for the row.
 DOCUMENTS = [
