@@ -29,7 +29,7 @@ SOURCES += [f"bindings/**/*.{suffix}" for suffix in ("c", "h", "py", "go", "rs")
 OTHERS = {"check_password", "maxmem_bytes", "must_use", "needs_update"}
 
 # The crates that are proved from public clauses, and the libraries that they call.
-CALLERS = ["promises", "scrypt_c", "scrypt_commands", "scrypt_examples"]
+CALLERS = ["scrypt_c", "scrypt_commands", "scrypt_examples"]
 LIBRARY_PROOF = re.compile(r"Rattle\.(?:scrypt|scrypt_kernel|password_hash)\.proofs\.\w+")
 
 

@@ -26,12 +26,12 @@ import sources
 COUNTER = "crates/scrypt_kernel/proofs/cores/CoreCount/"
 HANDWRITTEN = [COUNTER + it + "/Proof.antt" for it in ["after_core", "new"]]
 NEW_COUNTS = {
-    "crates/promises/src/lengths.rt": 3,
     "crates/scrypt/src/derivation.rt": 1,
     "crates/scrypt/src/hashing.rt": 1,
     "crates/scrypt/src/verifying.rt": 1,
     "crates/scrypt_c/src/with_buffers.rt": 4,
     "crates/scrypt_c/src/keys.rt": 2,
+    "crates/scrypt_examples/src/verdicts.rt": 2,
     "crates/test_verdicts/src/main.rt": 1,
 }
 

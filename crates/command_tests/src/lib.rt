@@ -1,6 +1,5 @@
 //! Tests of the commands, over readers and writers that fail, that read and write little at a time, and that count
-//! their calls. That of the first promise is here too: a crate with tests is proved twice, and promises is proved after
-//! the commands.
+//! their calls.
 #![tactic(auto)]
 
 #[cfg(test)]
@@ -9,8 +8,6 @@ mod allocations;
 mod drawn_salts;
 #[cfg(test)]
 mod fault_lines;
-#[cfg(test)]
-mod headline;
 #[cfg(test)]
 mod readers;
 #[cfg(test)]

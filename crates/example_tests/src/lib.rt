@@ -4,6 +4,8 @@
 #[cfg(test)]
 mod bounded_login;
 #[cfg(test)]
+mod derived_keys;
+#[cfg(test)]
 mod hash;
 #[cfg(test)]
 mod key_file;
@@ -13,3 +15,5 @@ mod login;
 mod migration;
 #[cfg(test)]
 mod vectors;
+#[cfg(test)]
+mod verdicts;

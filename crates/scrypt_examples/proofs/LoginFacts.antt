@@ -1,6 +1,6 @@
 -- What logins give by the reading of a stored text, and how many cores they run.
-use Rattle.std.proofs.Common.{◌≡◌, ◌+◌, ◌*◌, ◌≤◌, ℕ, Ok, Err, refl, arith, true, false}
-use Rattle.std.specs.Prelude.{◌&&◌, Bool, Result, MatchBool, if◌then◌else◌, nat_le, length}
+use Rattle.std.proofs.Common.{◌≡◌, ◌+◌, ◌≤◌, Ok, Err, refl, arith, true, false}
+use Rattle.std.specs.Prelude.{Bool, Result, MatchBool, if◌then◌else◌, nat_le, length}
 use Rattle.std.proofs.lemmas.Bool.Decides.{nat_tests}
 use Rattle.password_hash.specs.Refusal.{Refusal, KeyTooShort, TooCostly}
 use Rattle.scrypt.specs.Accepted.{Parameters}
@@ -11,14 +11,10 @@ use Rattle.scrypt.specs.WithinLimits.{within}
 use Rattle.scrypt.specs.WorkInBuffers.{IsDone, IsLeft, Work, has_room}
 use Rattle.scrypt.specs.declared.limits.Limits.{Limits}
 
-second_fits : (first : Bool) (m n more : ℕ) → (first && nat_le (m + more) n) ≡ true → m ≤ n
-second_fits true m n more fits = grind (arith, nat_tests)
-second_fits false m n more fits = absurd cc
-
 -- parameters within limits run no more cores than these allow
 cores_fit : (limits : Limits) (c : Parameters) → are_within limits c ≡ true → cost c.log_n c.r c.p ≤ limits.most_work
 unfolding are_within
-cores_fit limits c fits = second_fits _ (cost c.log_n c.r c.p) limits.most_work (128 * (c.r * c.p)) fits
+cores_fit limits c fits = grind (arith, nat_tests)
 
 -- so do those of a hash that is within them
 within_fits : (limits : Limits) (reading : Result Stored Refusal) (s : Stored) → within limits reading ≡ Ok s

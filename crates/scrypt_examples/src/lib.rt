@@ -1,10 +1,15 @@
-//! Examples of the library: what README shows, with contracts as users of the library would write them.
-//! They are proved from the library's public clauses, its laws among them. They are there to be copied, not to
-//! depend on.
+//! Examples of the library, with contracts as its users would write them: what README shows, and calls that rest on
+//! several contracts at once.
+//!
+//! They are proved from the library's public clauses alone, its laws among them. So a clause that becomes weaker breaks
+//! the proof of each example that needs it. They are there to be copied, not to depend on.
 #![tactic(auto)]
 
 pub mod bounded_login;
+mod buffers;
+pub mod derived_keys;
 pub mod hash;
 pub mod key_file;
 pub mod login;
 pub mod migration;
+pub mod verdicts;

@@ -1,16 +1,15 @@
 //! Logins: users are enrolled, let in by their passwords, and their hashes replaced when they have become weak.
 
-ghost use Rattle.std.specs.Prelude.{◌≡◌, ◌⊎◌, ◌↔◌, None, Ok, Err, IsOk, IsSome, true, IfErr, IfOk, IfSome, length, string_bytes};
+ghost use Rattle.std.specs.Prelude.{◌≡◌, ◌⊎◌, ◌↔◌, Bool, None, Some, Ok, Err, IsOk, IsSome, true, IfErr, IfOk, IfSome, string_bytes};
 ghost use Rattle.password_hash.specs.Refusal.{refusal};
 ghost use Rattle.password_hash.specs.declared.error.Error.TheVariants.{OutOfMemory};
 ghost use Rattle.scrypt.specs.Accepted.{AreAccepted};
-ghost use Rattle.scrypt.specs.PhcHash.{IsSaltLen};
-ghost use Rattle.scrypt.specs.Reading.{verdict, weaker};
+ghost use Rattle.scrypt.specs.Reading.{is_below, verdict, weaker};
 ghost use Rattle.scrypt.specs.StoredHash.{reading};
 ghost use Rattle.scrypt_examples.specs.Login.{AreWanted, IsEnrolled, let_in, lets_in, new_text};
 
 use password_hash::{Error, PasswordHasher, Result};
-use scrypt::laws::made_texts_are_accepted;
+use scrypt::laws::{made_texts_are_accepted, parameters_are_those_of_the_reading};
 use scrypt::phc::PasswordHash;
 use scrypt::{InvalidParams, Params, Scrypt, StoredHash};
 use std::alloc::Global;
@@ -54,19 +53,9 @@ impl Logins {
             IsEnrolled self.now.wanted password.now salt (string_bytes text)) }
         ensures err { IfErr result (λ e. e ≡ OutOfMemory) }
     {
-        self.text_of(alloc, password, &salt)
-    }
-
-    // The text of the hash of a password and a salt.
-    fn text_of(&self, alloc: Global, password: &[u8], salt: &[u8]) -> Result<String>
-        requires { IsSaltLen (length salt.now) }
-        ensures enrolled { IfOk result (λ text.
-            IsEnrolled self.now.wanted password.now salt.now (string_bytes text)) }
-        ensures err { IfErr result (λ e. e ≡ OutOfMemory) }
-    {
         made_texts_are_accepted();
         let hasher = Scrypt::new_with_params(self.wanted);
-        let hash: PasswordHash = hasher.hash_password_with_salt(alloc, password, salt)?;
+        let hash: PasswordHash = hasher.hash_password(alloc, password, salt)?;
         Ok(hash.to_string(alloc)?)
     }
 
@@ -103,5 +92,28 @@ impl Logins {
             return Ok(Login::In);
         }
         Ok(Login::InWithNewText(self.enroll(alloc, password, salt)?))
+    }
+
+    /// Returns whether a hash is weaker than wanted, by its parameters and the length of its key: what `needs_rehash`
+    /// returns for it, if that is not an error.
+    pub fn is_weak(&self, hash: &StoredHash<'_>) -> Option<bool>
+        ensures same { (weak : Bool) → weaker self.now.wanted (reading hash.now) ≡ Ok weak → result ≡ Some weak }
+    {
+        parameters_are_those_of_the_reading();
+        let (Ok(params), Ok(key_len)) = (hash.params(), hash.key_len()) else {
+            return None;
+        };
+        Some(self.are_below(&params, key_len))
+    }
+
+    // Returns whether one of these numbers is below the wanted one.
+    #[tactic(auto, unfolding(scrypt::specs::Reading::is_below))]
+    fn are_below(&self, params: &Params, key_len: usize) -> bool
+        ensures { result ≡ is_below self.now.wanted params.now key_len }
+    {
+        params.log_n() < self.wanted.log_n()
+            || params.r() < self.wanted.r()
+            || params.p() < self.wanted.p()
+            || key_len < Params::RECOMMENDED_LEN
     }
 }

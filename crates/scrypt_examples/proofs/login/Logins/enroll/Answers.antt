@@ -1,8 +1,8 @@
-use Rattle.std.proofs.Common.{arith}
+use Rattle.std.proofs.Common.{rules}
 use Rattle.std.specs.Prelude.{IfSome}
 use Rattle.password_hash.specs.Phc.{IsSalt}
 use Rattle.scrypt.specs.Accepted.{IsStoredLen}
-use Rattle.scrypt_examples.proofs.login.Logins.text_of.Goals as goal
+use Rattle.scrypt_examples.proofs.login.Logins.enroll.Goals as goal
 
 pub returns-clause-enrolled : goal.returns-clause-enrolled
 returns-clause-enrolled c =
@@ -11,16 +11,7 @@ returns-clause-enrolled c =
     let hash = c.in_ok-hash.hash in
     let made = rw c.new_with_params-hasher.ensures.value at c.in_ok-hash.ensures.ok in
     let printed = c.in_ok-to_string.ensures.ok in
-    let salt : IsSalt c.args.salt.now = record {
-      are_bytes = λ i. omega (arith, c.type_inv.salt i);
-      enough =
-          c.requires.0;
-      fits = c.requires.1;
-    } in
+    let salt : IsSalt c.args.salt = record { are_bytes = λ i. search rules; enough = search rules; fits = search rules } in
     let len : IfSome wanted.output_len IsStoredLen = rw are.no_len tt in
-    let law = c.made_texts_are_accepted.ensures.phc wanted c.args.password.now c.args.salt.now hash are.accepted len salt made in
-    record {
-      made = (hash, made, printed);
-      accepts = rw printed law.0;
-      strong = rw printed law.1;
-    }
+    let law = c.made_texts_are_accepted.ensures.phc wanted c.args.password.now c.args.salt hash are.accepted len salt made in
+    record { made = (hash, made, printed); accepts = rw printed law.0; strong = rw printed law.1 }

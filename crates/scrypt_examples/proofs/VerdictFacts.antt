@@ -1,0 +1,49 @@
+-- Verdicts in buffers that are long enough, and what is computed from the numbers of a hash.
+use Rattle.std.proofs.Common.{◌≡◌, ◌≤◌, ℕ, List, Ok, Err, true, refl, arith, length}
+use Rattle.std.proofs.lemmas.Bool.Decides.{nat_tests}
+use Rattle.std.specs.Prelude.{Bool, Result}
+use Rattle.password_hash.specs.Refusal.{Refusal}
+use Rattle.scrypt.specs.Accepted.{Parameters}
+use Rattle.scrypt.specs.Cost.{chunks_bytes, scratch_words, table_words}
+use Rattle.scrypt.specs.Reading.{Stored, is_below, mapped, verdict, weaker}
+use Rattle.scrypt.specs.WorkInBuffers.{Work, has_room, verdict_in}
+use Rattle.scrypt.specs.declared.derivation.BufferLens.{BufferLens}
+use Rattle.scrypt_examples.specs.Buffers.{AreEnoughFor}
+
+has_room_for : (c : Parameters) (w : Work) → chunks_bytes c.r c.p ≤ length w.chunks → table_words c.log_n c.r ≤ length w.table
+    → scratch_words c.r ≤ length w.scratch → has_room c w ≡ true
+unfolding has_room
+has_room_for c w chunks table scratch = grind (arith, nat_tests)
+
+-- the verdict in buffers that are as long as these, which are long enough, is that of the password
+pub verdict_in_lens : (password : List ℕ) (reading : Result Stored Refusal) (w : Work) (lens : BufferLens) → AreEnoughFor lens reading
+    → lens.chunks ≤ length w.chunks → lens.table ≤ length w.table → lens.scratch ≤ length w.scratch
+    → verdict_in w password reading ≡ verdict password reading
+verdict_in_lens password (Ok s) w lens enough chunks table scratch =
+    rw (has_room_for s.params w (omega (arith, enough.0)) (omega (arith, enough.1)) (omega (arith, enough.2))) refl
+verdict_in_lens password (Err why) w lens enough chunks table scratch = refl
+
+abbrev lens_of : Parameters × ℕ → BufferLens
+lens_of read = record {
+  chunks = chunks_bytes read.0.r read.0.p;
+  table = table_words read.0.log_n read.0.r;
+  scratch = scratch_words read.0.r;
+}
+
+-- the lengths of the parameters that are read are enough
+pub lens_are_enough : (reading : Result Stored Refusal) (read : Result (Parameters × ℕ) Refusal) (lens : BufferLens)
+    → ((s : Stored) → reading ≡ Ok s → read ≡ Ok (s.params, length s.key)) → Ok lens ≡ mapped lens_of read → AreEnoughFor lens reading
+lens_are_enough (Ok s) read lens whole is =
+    let same : lens ≡ lens_of (s.params, length s.key) = (let e = rw (whole s refl) at is in cc) in
+    rw same (omega arith, omega arith, omega arith)
+lens_are_enough (Err why) read lens whole is = tt
+
+-- a hash is weaker than wanted if one of its numbers is below
+pub weak_by_numbers : (reading : Result Stored Refusal) (read : Result (Parameters × ℕ) Refusal) (wanted params : Parameters) (key_len : ℕ)
+    (weak : Bool) → ((s : Stored) → reading ≡ Ok s → read ≡ Ok (s.params, length s.key)) → Ok params ≡ mapped (λ both. both.0) read
+    → Ok key_len ≡ mapped (λ both. both.1) read → weaker wanted reading ≡ Ok weak → is_below wanted params key_len ≡ weak
+weak_by_numbers (Ok s) read wanted params key_len weak whole params_are key_len_is is =
+    let same : params ≡ s.params = (let e = rw (whole s refl) at params_are in cc) in
+    let len : key_len ≡ length s.key = (let e = rw (whole s refl) at key_len_is in cc) in
+    rw (same, len) cc
+weak_by_numbers (Err why) read wanted params key_len weak whole params_are key_len_is is = absurd cc

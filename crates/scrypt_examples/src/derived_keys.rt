@@ -1,0 +1,139 @@
+//! Derived keys: by numbers, in buffers that are kept, and in less memory.
+
+ghost use Rattle.std.specs.Prelude.{◌≡◌, ◌↔◌, ◌*◌, ◌^◌, ◌≤◌, length, IfErr, IfOk, IsOk, OnErr, OnOk};
+ghost use Rattle.scrypt.specs.Accepted.{AreAccepted, IsOutputLen};
+ghost use Rattle.scrypt.specs.Cost.{cost, thin_cost};
+ghost use Rattle.scrypt_kernel.specs.Count.{AreCounted};
+ghost use Rattle.scrypt.specs.Key.{derived_key};
+ghost use Rattle.scrypt.specs.KeyOfParams.{key_by};
+ghost use Rattle.scrypt.specs.declared.errors.DeriveError.TheVariants.{OutOfMemory};
+
+use crate::buffers::Buffers;
+use scrypt::{
+    BufferLens, CoreCount, DeriveError, InvalidOutputLen, Params, scrypt_counted, scrypt_thin,
+    scrypt_with_buffers, wipe,
+};
+use std::alloc::{AllocError, Global};
+use std::marker::Model;
+
+/// The first promise of README. For accepted parameters and every output of 1 to 137438953440 bytes, the output is
+/// exactly RFC 7914's key, after exactly 4*N*r*p Salsa20/8 cores, each of them a SIMD core, or the error is
+/// `OutOfMemory`, with no core run and the output unchanged.
+pub fn key_or_out_of_memory(
+    alloc: Global,
+    password: &[u8],
+    salt: &[u8],
+    log_n: u8,
+    r: u32,
+    p: u32,
+    output: &mut [u8],
+    cores: &mut CoreCount,
+) -> Result<(), DeriveError>
+    requires accepted { AreAccepted log_n r p }
+    requires output_len { IsOutputLen (length output.old) }
+    ensures key { OnOk result (output.new ≡ derived_key password.now salt.now log_n r p (length output.old)) }
+    ensures counted { OnOk result (AreCounted (4 * 2 ^ log_n * r * p) cores.old cores.new) }
+    ensures memory { IfErr result (λ e. e ≡ OutOfMemory) }
+    ensures no_core { OnErr result (cores.new ≡ cores.old) }
+    ensures untouched { OnErr result (output.new ≡ output.old) }
+{
+    let params = Params::new(log_n, r, p).unwrap();
+    scrypt_counted(alloc, password, salt, &params, output, cores)
+}
+
+/// Derives keys with the same parameters, in buffers that are allocated once, and are zeros between the calls.
+#[derive(Drop)]
+pub struct Deriver {
+    params: Params,
+    own: Buffers,
+}
+
+impl Model for Deriver {
+    ghost use Rattle.scrypt.specs.Accepted.{Parameters};
+    ghost use Rattle.scrypt_examples.specs.Buffers.{AreZeros};
+
+    ghost Value = { Parameters };
+
+    ghost view = { λ a. a.params };
+
+    ghost invariant = { λ a. AreZeros a.params a.own.chunks.items a.own.table.items a.own.scratch.items };
+}
+
+impl Deriver {
+    /// Allocates the buffers for these parameters, with as many tables as `most_bytes` have room for, so that as many
+    /// chunks are mixed at a time.
+    pub fn new(alloc: Global, params: Params, most_bytes: usize) -> Result<Deriver, AllocError>
+        ensures params { IfOk result (λ deriver. deriver ≡ params) }
+    {
+        let tables = BufferLens::tables_within(&params, most_bytes);
+        let own = Buffers::allocate(alloc, &BufferLens::times(&params, tables))?;
+        Ok(Deriver { params, own })
+    }
+
+    /// Writes the key of a password and a salt to `output`, and counts its cores.
+    ///
+    /// Returns `InvalidOutputLen`, and changes nothing, exactly if the length of `output` is not allowed. The next call
+    /// may have another length.
+    pub fn derive(
+        &mut self,
+        password: &[u8],
+        salt: &[u8],
+        output: &mut [u8],
+        cores: &mut CoreCount,
+    ) -> Result<(), InvalidOutputLen>
+        ensures params { self.new ≡ self.old }
+        ensures allowed { IsOk result ↔ IsOutputLen (length output.old) }
+        ensures key { OnOk result (output.new ≡ key_by self.old password.now salt.now (length output.old)) }
+        ensures counted { OnOk result (AreCounted (cost self.old.log_n self.old.r self.old.p) cores.old cores.new) }
+        ensures no_core { OnErr result (cores.new ≡ cores.old) }
+        ensures untouched { OnErr result (output.new ≡ output.old) }
+    {
+        let own = &mut self.own;
+        scrypt_with_buffers(
+            password,
+            salt,
+            &self.params,
+            &mut own.chunks,
+            &mut own.table,
+            &mut own.scratch,
+            output,
+            cores,
+        )?;
+        // A refused derivation has left the zeros as they were.
+        wipe(&mut own.chunks, &mut own.table, &mut own.scratch);
+        Ok(())
+    }
+}
+
+/// The same key by a table that keeps one row in `2^s`, and its cores.
+pub fn key_in_a_thin_table(
+    alloc: Global,
+    password: &[u8],
+    salt: &[u8],
+    params: &Params,
+    s: u8,
+    output: &mut [u8],
+    cores: &mut CoreCount,
+) -> Result<(), AllocError>
+    requires spacing { s ≤ params.now.log_n }
+    requires output_len { IsOutputLen (length output.old) }
+    ensures key { OnOk result (output.new ≡ key_by params.now password.now salt.now (length output.old)) }
+    ensures counted { OnOk result (AreCounted (thin_cost password.now salt.now params.now.log_n params.now.r params.now.p s)
+        cores.old cores.new) }
+{
+    let lens = BufferLens::thin(params, s).unwrap();
+    let mut own = Buffers::allocate(alloc, &lens)?;
+    scrypt_thin(
+        password,
+        salt,
+        params,
+        s,
+        &mut own.chunks,
+        &mut own.table,
+        &mut own.scratch,
+        output,
+        cores,
+    )
+    .unwrap();
+    Ok(())
+}

@@ -1,0 +1,99 @@
+//! Verdicts in buffers of the lengths that the hashes need: always exactly those of the passwords.
+
+ghost use Rattle.std.specs.Prelude.{◌≡◌, IfOk};
+ghost use Rattle.scrypt.specs.Reading.{◌and_then◌, told, verdict};
+ghost use Rattle.scrypt.specs.StoredHash.{reading};
+ghost use Rattle.scrypt.specs.WithinLimits.{told_limited, within};
+ghost use Rattle.scrypt_examples.specs.Buffers.{AreEnoughFor};
+
+use crate::buffers::Buffers;
+use scrypt::laws::parameters_are_those_of_the_reading;
+use scrypt::{BufferLens, CoreCount, LimitedError, Limits, Login, Logins, StoredHash};
+use std::alloc::{AllocError, Global};
+
+/// Returns the verdict on a text, in buffers of the lengths that its hash needs.
+pub fn verdict(
+    alloc: Global,
+    text: &str,
+    password: &[u8],
+) -> Result<password_hash::Result<()>, AllocError>
+    ensures verdict { IfOk result (λ out. told out ≡ verdict password.now (reading text.now)) }
+{
+    parameters_are_those_of_the_reading();
+    let hash = match StoredHash::read(text) {
+        Ok(hash) => hash,
+        Err(error) => return Ok(Err(error)),
+    };
+    let lens = match hash.buffer_lens() {
+        Ok(lens) => lens,
+        Err(error) => return Ok(Err(error)),
+    };
+    let mut own = Buffers::allocate(alloc, &lens)?;
+    let mut cores = CoreCount::new();
+    Ok(hash.verify_with_buffers(
+        password,
+        &mut own.chunks,
+        &mut own.table,
+        &mut own.scratch,
+        &mut cores,
+    ))
+}
+
+/// Returns the verdicts on two texts within limits, in buffers that are long enough for each of them. If their `N`
+/// and their `r` are the same, both keys are derived at once.
+pub fn two_verdicts_within(
+    alloc: Global,
+    text: &str,
+    password: &[u8],
+    other_text: &str,
+    other_password: &[u8],
+    limits: Limits,
+) -> Result<(Result<(), LimitedError>, Result<(), LimitedError>), AllocError>
+    ensures verdict { IfOk result (λ both. told_limited both.0 ≡ verdict password.now (within limits (reading text.now))) }
+    ensures other_verdict { IfOk result (λ both.
+        told_limited both.1 ≡ verdict other_password.now (within limits (reading other_text.now))) }
+{
+    let (one, other) = (StoredHash::read(text), StoredHash::read(other_text));
+    let (first, second) = (lens_within(&one, &limits), lens_within(&other, &limits));
+    let lens = BufferLens {
+        chunks: first.chunks.saturating_add(second.chunks),
+        table: first.table.max(second.table),
+        scratch: first.scratch.max(second.scratch),
+    };
+    let mut own = Buffers::allocate(alloc, &lens)?;
+    let mut cores = CoreCount::new();
+    let logins = (
+        Login {
+            password,
+            hash: one,
+            limits: Some(limits),
+        },
+        Login {
+            password: other_password,
+            hash: other,
+            limits: Some(limits),
+        },
+    );
+    Ok(logins.verify(
+        &mut own.chunks,
+        &mut own.table,
+        &mut own.scratch,
+        &mut cores,
+    ))
+}
+
+// Returns the lengths of the buffers for verifying within limits, which are 0 if the hash is refused.
+fn lens_within(hash: &password_hash::Result<StoredHash<'_>>, limits: &Limits) -> BufferLens
+    ensures { AreEnoughFor result (within limits.now (told hash.now and_then reading)) }
+{
+    if let Ok(hash) = hash
+        && let Ok(lens) = hash.buffer_lens_within(limits)
+    {
+        return lens;
+    }
+    BufferLens {
+        chunks: 0,
+        table: 0,
+        scratch: 0,
+    }
+}
