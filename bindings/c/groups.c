@@ -11,6 +11,14 @@ int needs_of_new(const scrypt_options *with, scrypt_needs *needs) {
   return scrypt_params_need((uint8_t)with->log_n, with->r, with->p, with->most_bytes, with->most_work, needs);
 }
 
+int key_in_buffers(const void *password, size_t password_len, const void *salt, size_t salt_len, uint8_t log_n, uint32_t r,
+                   uint32_t p, uint8_t *output, size_t output_len, const struct buffers *of) {
+  int status = scrypt_key_with_buffers(password, password_len, salt, salt_len, log_n, r, p, output, output_len, of->chunks,
+                                       of->chunks_len, of->table, of->table_len, of->scratch, of->scratch_len);
+  scrypt_wipe(of->chunks, of->chunks_len, of->table, 0, of->scratch, of->scratch_len);
+  return status;
+}
+
 void verify_group(const scrypt_login *each, size_t count, int *statuses, const struct buffers *of) {
   int status = scrypt_verify_group_with_buffers(each, count, statuses, of->chunks, of->chunks_len, of->table, of->table_len,
                                                 of->scratch, of->scratch_len);

@@ -35,9 +35,8 @@ static int derive_text(struct call *call, const struct buffers *of) {
 
 static int derive_key(struct call *call, const struct buffers *of) {
   const scrypt_options *with = call->options;
-  return scrypt_key_with_buffers(call->login.password, call->login.password_len, call->salt, call->salt_len,
-                                 (uint8_t)with->log_n, with->r, with->p, (uint8_t *)call->output, call->output_len,
-                                 of->chunks, of->chunks_len, of->table, of->table_len, of->scratch, of->scratch_len);
+  return key_in_buffers(call->login.password, call->login.password_len, call->salt, call->salt_len, (uint8_t)with->log_n,
+                        with->r, with->p, (uint8_t *)call->output, call->output_len, of);
 }
 
 static int run_new(scrypt_hasher *hasher, struct call *call, const void *password, size_t password_len, int64_t most_ms,

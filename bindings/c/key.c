@@ -17,9 +17,10 @@ int scrypt_key(const void *password, size_t password_len, const void *salt, size
   if (output == NULL) output = &none;
   count = count > 1 ? tables_room(&tables, &needs, count) : 0;
   if (count > 0) {
-    struct buffers of = tables_buffers(&tables, &needs, count, 1);
-    status = scrypt_key_with_buffers(password, password_len, salt, salt_len, log_n, r, p, output, output_len, of.chunks,
-                                     of.chunks_len, of.table, of.table_len, of.scratch, of.scratch_len);
+    do {
+      struct buffers of = tables_buffers(&tables, &needs, count, 1);
+      status = key_in_buffers(password, password_len, salt, salt_len, log_n, r, p, output, output_len, &of);
+    } while (tables_are_lost(&tables));
   } else {
     status = cleared_scrypt_kdf(bytes_of(password), password_len, bytes_of(salt), salt_len, log_n, r, p, output,
                                 output_len);

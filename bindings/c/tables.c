@@ -41,24 +41,29 @@ void tables_unmap(struct tables *tables) {
   tables->room = tables->used = 0;
 }
 
+/* Behind the room: 1 since the last buffers, or 0 in a child. */
+static uint32_t *mark_of(const struct tables *tables) { return (uint32_t *)(void *)(tables->front + tables->room); }
+
+int tables_are_lost(const struct tables *tables) { return __atomic_load_n(mark_of(tables), __ATOMIC_RELAXED) == 0; }
+
 void tables_free(struct tables *tables) {
   uint8_t none = 0;
-  uint32_t no_word = 0;
-  if (tables->used > 0) scrypt_wipe(&none, 0, (uint32_t *)(void *)tables->front, tables->used / 4, &no_word, 0);
+  if (tables->used > 0)
+    scrypt_wipe(&none, 0, (uint32_t *)(void *)tables->front, tables->used / 4, mark_of(tables), 1);
   tables_unmap(tables);
 }
 
 /* Maps address space in place of what is mapped. Nothing of it is populated yet, so what a group needs beyond one derivation
  * costs nothing before there is a group. */
 static int map(struct tables *tables, size_t bytes, int is_huge) {
-  size_t slack = is_huge ? HUGE_PAGE : 0;
+  size_t more = sizeof(uint32_t) + (is_huge ? HUGE_PAGE : 0), before;
   tables_free(tables);
-  if (bytes > SIZE_MAX - slack) return 0;
-  tables->mapping = map_zeros_in_child(bytes + slack);
+  if (bytes > SIZE_MAX - more) return 0;
+  tables->mapping = map_zeros_in_child(bytes + more);
   if (tables->mapping == NULL) return 0;
-  tables->mapped = bytes + slack;
-  if (is_huge) slack = (HUGE_PAGE - (uintptr_t)tables->mapping % HUGE_PAGE) % HUGE_PAGE;
-  tables->front = (uint8_t *)tables->mapping + slack;
+  tables->mapped = bytes + more;
+  before = is_huge ? (HUGE_PAGE - (uintptr_t)tables->mapping % HUGE_PAGE) % HUGE_PAGE : 0;
+  tables->front = (uint8_t *)tables->mapping + before;
   tables->room = bytes;
   /* The rest of the last huge page is left out, so that it takes no whole one. */
   if (is_huge) ask_for_huge_pages(tables->front, bytes - bytes % HUGE_PAGE);
@@ -95,5 +100,6 @@ struct buffers tables_buffers(struct tables *tables, const scrypt_needs *one, si
 #endif
     tables->used = bytes;
   }
+  __atomic_store_n(mark_of(tables), 1, __ATOMIC_RELAXED);
   return of;
 }

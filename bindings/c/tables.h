@@ -25,6 +25,10 @@ size_t tables_room(struct tables *tables, const scrypt_needs *one, size_t most);
 /* Buffers for `logins` with the same needs, in `count` tables, for which there is room. */
 struct buffers tables_buffers(struct tables *tables, const scrypt_needs *one, size_t count, size_t logins);
 
+/* Whether a signal handler has forked since the last tables_buffers, and this is the child: the buffers were filled with zeros,
+ * and what was derived in them meanwhile is wrong. */
+int tables_are_lost(const struct tables *tables);
+
 /* Wipes what was used, and gives it back to the system. */
 void tables_free(struct tables *tables);
 

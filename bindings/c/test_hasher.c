@@ -117,7 +117,7 @@ static void act(char what, scrypt_hasher *hasher, const char *why) {
   int before = READ(ended), tries;
   pid_t child;
   if (what == '$') scrypt_hasher_close(hasher);
-  if (what == 'm') WRITE(most_mapped, table_bytes(&ONE));
+  if (what == 'm') WRITE(most_mapped, table_bytes(&ONE) + sizeof(uint32_t)); /* a mark */
   if (what == '~') usleep(300000);
   if (what == '^') WRITE(forks_before_sleep, 1);
   if (what == '|') {
@@ -269,6 +269,25 @@ static void verdicts(void) {
   tables_free(&tables);
 }
 
+/* Of what a call leaves in the memory that is kept, only the table isn't zeros. */
+static void kept(void) {
+  scrypt_hasher *hasher = made(1, 1, 4);
+  const struct tables *tables = &hasher->queue->turn[0].tables;
+  char text[SCRYPT_PHC_CAPACITY];
+  uint8_t key[32];
+  scrypt_needs needs;
+  IS(needs_of_new(&hasher->options, &needs), SCRYPT_OK);
+  for (int round = 0; round < 3; round++) {
+    size_t table = 4 * needs.table_len, end = table_bytes(&needs), at = table;
+    if (round == 0) IS(scrypt_hasher_hash(hasher, "pw", 2, NULL, 0, text, sizeof text, -1, NULL), SCRYPT_OK);
+    if (round == 1) IS(verify(hasher, text, "pw", -1), SCRYPT_OK);
+    if (round == 2) IS(scrypt_hasher_key(hasher, "pw", 2, "salt", 4, key, 32, -1, NULL), SCRYPT_OK);
+    while (at < end && tables->front[at] == 0) at++;
+    expect(tables->used == end && tables->front[0] != 0 && at == end, "round %d leaves a byte at %zu", round, at);
+  }
+  scrypt_hasher_free(hasher);
+}
+
 static void numbers_of_turns(void) {
   for (size_t processors = 1; processors <= 64; processors += 21)
     for (size_t at_once = 1; at_once <= 1000; at_once += at_once < 20 ? 1 : 97) {
@@ -354,7 +373,7 @@ static void calibrated(void) {
 
 int main(int count, char **names) {
   static const struct test TESTS[] = {
-      {"rows", rows}, {"options", options}, {"calls", calls}, {"verdicts", verdicts}, {"turns", numbers_of_turns},
-      {"waits", many_waits}, {"processors", processors}, {"calibrated", calibrated}, {NULL, NULL}};
+      {"rows", rows}, {"options", options}, {"calls", calls}, {"verdicts", verdicts}, {"kept", kept},
+      {"turns", numbers_of_turns}, {"waits", many_waits}, {"processors", processors}, {"calibrated", calibrated}, {NULL, NULL}};
   return run_tests(TESTS, count > 1 ? names[1] : NULL);
 }

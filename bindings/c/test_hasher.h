@@ -1,5 +1,5 @@
 /* The hasher with derivations that can be stopped: its sources are included, and call functions of this file in place of
- * verify_group, scrypt_key_with_buffers, most_at_once and mmap. */
+ * verify_group, key_in_buffers, most_at_once and mmap. */
 #define _GNU_SOURCE
 #include "scrypt_c.h"
 
@@ -138,8 +138,7 @@ static void before_sleep(int operation, const struct timespec *time) {
 #define verify_group watched_group
 #define most_at_once() READ(widest)
 #define tables_buffers(tables, needs, all, logins) tables_buffers(tables, needs, tables_of_group = (all), logins)
-#define scrypt_key_with_buffers(password, ...) \
-  (watched_key(password) ? finished(1, scrypt_key_with_buffers(password, __VA_ARGS__)) : -1)
+#define key_in_buffers(password, ...) (watched_key(password) ? finished(1, key_in_buffers(password, __VA_ARGS__)) : -1)
 #include "queue.c"
 #include "hasher.c"
 #include "processors.c"
@@ -150,7 +149,7 @@ static void before_sleep(int operation, const struct timespec *time) {
 #undef syscall
 #undef verify_group
 #undef tables_buffers
-#undef scrypt_key_with_buffers
+#undef key_in_buffers
 #undef most_at_once
 
 /* ---- Hashers, and texts ---- */

@@ -105,6 +105,23 @@ static void forked_at_any_time(void) {
   scrypt_hasher_free(hasher);
 }
 
+/* A key of the library itself, in tables that a child finds filled with zeros. */
+static void key_forked_at_any_time(void) {
+  uint8_t right[32], key[32];
+  IS(scrypt_key("pw", 2, "salt", 4, 10, 8, 4, right, 32), SCRYPT_OK);
+  handle(SIGALRM, fork_in_handler);
+  for (int round = 0; round < 30 && getpid() == parent; round++) {
+    ualarm((useconds_t)(1 + rand() % 2000), 0);
+    IS(scrypt_key("pw", 2, "salt", 4, 10, 8, 4, key, 32), SCRYPT_OK);
+    expect(memcmp(key, right, 32) == 0, "a key that is derived while its thread forks");
+  }
+  ualarm(0, 0);
+  handle(SIGALRM, nothing_in_handler); /* a checker may deliver a signal late */
+  if (getpid() != parent) _exit(failed);
+  expect(READ(forks) > 5, "%d forks", READ(forks));
+  reap_all("forked in a handler during a key");
+}
+
 /* Handlers that verify and close, at any time; errno stays. */
 static int handled;
 static void verify_in_handler(int number) {
@@ -146,7 +163,8 @@ static void jumped_out(void) {
 
 int main(int count, char **names) {
   static const struct test TESTS[] = {{"load", load}, {"freed", freed_at_any_time}, {"forked", forked_at_any_time},
-                                      {"handlers", called_in_handlers}, {"jumped", jumped_out}, {NULL, NULL}};
+                                      {"key", key_forked_at_any_time}, {"handlers", called_in_handlers},
+                                      {"jumped", jumped_out}, {NULL, NULL}};
   make_text(load_texts[0], "right", 4, 8, 1);
   make_text(load_texts[1], "right", 6, 8, 1);
   make_text(load_texts[2], "right", 4, 8, 3);

@@ -32,23 +32,29 @@ static int overlap(const uint8_t *a, size_t a_len, const uint8_t *b, size_t b_le
   return a_len > 0 && b_len > 0 && (uintptr_t)a < (uintptr_t)b + b_len && (uintptr_t)b < (uintptr_t)a + a_len;
 }
 
-/* The buffers that this thread keeps for what is needed, in so many tables or fewer; of no length if it keeps none. */
+/* The buffers that this thread keeps for what is needed, in so many tables or fewer; of no length if it keeps none. A
+ * derivation in them is made again if they are lost. */
 static struct buffers kept_for(const scrypt_needs *needs, size_t count) {
   struct buffers none = {NULL, NULL, NULL, 0, 0, 0};
   struct tables *kept = kept_tables();
-  count = kept != NULL ? tables_room(kept, needs, count) : 0;
+  count = kept != NULL && needs->table_len > 0 ? tables_room(kept, needs, count) : 0;
   return count > 0 ? tables_buffers(kept, needs, count, 1) : none;
 }
+
+static int are_lost(void) { return tables_are_lost(kept_tables()); }
 
 static int derive_in_memory(const uint8_t *password, size_t password_len, const uint8_t *salt, size_t salt_len,
                             uint8_t log_n, uint32_t r, uint32_t p, uint8_t *output, size_t output_len) {
   scrypt_needs needs = {0, 0, 0, 0, 0, 0, 0, 0};
   size_t count = tables_for_key(log_n, r, p, &needs);
-  struct buffers of = kept_for(&needs, count);
-  if (of.table_len == 0)
-    return scrypt_key(password, password_len, salt, salt_len, log_n, r, p, output, output_len);
-  return scrypt_key_with_buffers(password, password_len, salt, salt_len, log_n, r, p, output, output_len, of.chunks,
-                                 of.chunks_len, of.table, of.table_len, of.scratch, of.scratch_len);
+  int status;
+  do {
+    struct buffers of = kept_for(&needs, count);
+    if (of.table_len == 0)
+      return scrypt_key(password, password_len, salt, salt_len, log_n, r, p, output, output_len);
+    status = key_in_buffers(password, password_len, salt, salt_len, log_n, r, p, output, output_len, &of);
+  } while (are_lost());
+  return status;
 }
 
 /* The key, if the parameters are within the limits of these libraries, which take an output of 0 bytes, and one that
@@ -153,11 +159,15 @@ static int hash_in_memory(const char *password, size_t password_len, const uint8
                           uint32_t r, uint32_t p, char text[TEXT_LEN + 1]) {
   scrypt_needs needs = {0, 0, 0, 0, 0, 0, 0, 0};
   size_t count = tables_for_key(log_n, r, p, &needs);
-  struct buffers of = kept_for(&needs, count);
-  if (of.table_len == 0)
-    return scrypt_hash_mcf(password, password_len, salt, SALT_LEN, log_n, r, p, KEY_LEN, text, TEXT_LEN + 1);
-  return scrypt_hash_mcf_with_buffers(password, password_len, salt, SALT_LEN, log_n, r, p, KEY_LEN, text, TEXT_LEN + 1,
-                                      of.chunks, of.chunks_len, of.table, of.table_len, of.scratch, of.scratch_len);
+  int status;
+  do {
+    struct buffers of = kept_for(&needs, count);
+    if (of.table_len == 0)
+      return scrypt_hash_mcf(password, password_len, salt, SALT_LEN, log_n, r, p, KEY_LEN, text, TEXT_LEN + 1);
+    status = scrypt_hash_mcf_with_buffers(password, password_len, salt, SALT_LEN, log_n, r, p, KEY_LEN, text, TEXT_LEN + 1,
+                                          of.chunks, of.chunks_len, of.table, of.table_len, of.scratch, of.scratch_len);
+  } while (are_lost());
+  return status;
 }
 
 API int crypto_pwhash_scryptsalsa208sha256_str(char text[TEXT_LEN + 1], const char *password,
@@ -181,13 +191,16 @@ static int verify_in_memory(const char *password, size_t password_len, const cha
   scrypt_needs needs = {0, 0, 0, 0, 0, 0, 0, 0};
   uint8_t log_n;
   size_t count = 1, key_len;
-  struct buffers of;
+  int status;
   if (scrypt_hash_params(text, TEXT_LEN, &log_n, &needs.r, &needs.p, &key_len) == SCRYPT_OK)
     count = tables_for_key(log_n, needs.r, needs.p, &needs);
-  of = kept_for(&needs, count);
-  if (of.table_len == 0) return scrypt_verify(password, password_len, text, TEXT_LEN);
-  return scrypt_verify_with_buffers(password, password_len, text, TEXT_LEN, of.chunks, of.chunks_len, of.table,
-                                    of.table_len, of.scratch, of.scratch_len);
+  do {
+    struct buffers of = kept_for(&needs, count);
+    if (of.table_len == 0) return scrypt_verify(password, password_len, text, TEXT_LEN);
+    status = scrypt_verify_with_buffers(password, password_len, text, TEXT_LEN, of.chunks, of.chunks_len, of.table,
+                                        of.table_len, of.scratch, of.scratch_len);
+  } while (are_lost());
+  return status;
 }
 
 API int crypto_pwhash_scryptsalsa208sha256_str_verify(const char text[TEXT_LEN + 1], const char *password,

@@ -2,6 +2,7 @@
 if those are installed. The answers in the tables are theirs.
 """
 
+import contextlib
 import ctypes
 import ctypes.util
 import errno
@@ -9,6 +10,7 @@ import hashlib
 import os
 import random
 import resource
+import signal
 import sys
 import threading
 import time
@@ -258,7 +260,29 @@ def kept():
         assert time.monotonic() < until, "what a thread kept is unmapped when it ends"
 
 
-for test in (keys, overlapping, choices, limits, texts, nulls, kept):
+def forked():
+    """A child that a signal handler forks during a call gets the answer that its parent gets."""
+    libc, parent, costs = ctypes.CDLL(None), os.getpid(), (b"pw", b"salt", 1 << 12, 8, 4, 64)
+    key, text = by_costs(ours, "crypto_scrypt", *costs), text_of(12, 8, 4)
+    libc.signal(signal.SIGALRM, libc.fork)
+    for at in range(1, 40):
+        signal.setitimer(signal.ITIMER_REAL, at / 4000)
+        are_right = by_costs(ours, "crypto_scrypt", *costs) == key and verified(ours, text, b"pw")
+        if os.getpid() != parent:
+            os._exit(not are_right)
+        assert are_right
+    signal.setitimer(signal.ITIMER_REAL, 0)
+    libc.signal(signal.SIGALRM, None)
+    if os.getpid() != parent:  # forked after the last look
+        os._exit(0)
+    children = []
+    with contextlib.suppress(ChildProcessError):
+        while True:
+            children.append(os.wait()[1])
+    assert len(children) > 10 and not any(children), children
+
+
+for test in (keys, overlapping, choices, limits, texts, nulls, kept, forked):
     test()
 for name, theirs, package in [
     (PWHASH, sodium, "libsodium23"),
