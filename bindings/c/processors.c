@@ -2,6 +2,7 @@
 #define _GNU_SOURCE
 #include "processors.h"
 
+#include <pthread.h>
 #include <sched.h>
 #include <stdint.h>
 #include <stdio.h>
@@ -69,7 +70,10 @@ size_t processors_of_process(void) {
   char line[PATH];
   cpu_set_t set;
   size_t count = 0, quota;
-  FILE *file = fopen(ROOT "/proc/self/cgroup", "re");
+  int before; /* a thread that is cancelled here would leave files open */
+  FILE *file;
+  (void)pthread_setcancelstate(PTHREAD_CANCEL_DISABLE, &before);
+  file = fopen(ROOT "/proc/self/cgroup", "re");
   if (sched_getaffinity(0, sizeof set, &set) == 0) count = (size_t)CPU_COUNT(&set);
   else if (sysconf(_SC_NPROCESSORS_ONLN) > 0) count = (size_t)sysconf(_SC_NPROCESSORS_ONLN);
   while (file != NULL && fgets(line, sizeof line, file) != NULL) {
@@ -77,5 +81,6 @@ size_t processors_of_process(void) {
     if (quota < count) count = quota;
   }
   if (file != NULL) (void)fclose(file);
+  (void)pthread_setcancelstate(before, NULL);
   return count > 0 ? count : 1;
 }

@@ -147,6 +147,29 @@ static void called_in_handlers(void) {
   expect(wrongs == 0 && handled > 100, "%d wrong verdicts, %d handled", wrongs, handled);
 }
 
+/* A thread that is cancelled before comes back from each call. */
+static void *cancelled(void *came_back) {
+  scrypt_hasher *hasher;
+  char text[SCRYPT_PHC_CAPACITY];
+  (void)pthread_cancel(pthread_self());
+  hasher = scrypt_hasher_new(NULL, NULL);
+  scrypt_hasher_free(hasher);
+  hasher = made(1, 1, 4);
+  IS(scrypt_hasher_hash(hasher, "right", 5, NULL, 0, text, sizeof text, -1, NULL), SCRYPT_OK);
+  IS(verify(hasher, text, "right", -1), SCRYPT_OK);
+  scrypt_hasher_free(hasher);
+  *(int *)came_back = 1;
+  return NULL;
+}
+
+static void cancellation(void) {
+  pthread_t thread;
+  int came_back = 0;
+  pthread_create(&thread, NULL, cancelled, &came_back);
+  pthread_join(thread, NULL);
+  expect(came_back, "cancelled in a call");
+}
+
 /* The header forbids it: the turn is lost, but no verdict comes out. */
 static sigjmp_buf away;
 static void jump(void) { siglongjmp(away, 1); }
@@ -164,7 +187,7 @@ static void jumped_out(void) {
 int main(int count, char **names) {
   static const struct test TESTS[] = {{"load", load}, {"freed", freed_at_any_time}, {"forked", forked_at_any_time},
                                       {"key", key_forked_at_any_time}, {"handlers", called_in_handlers},
-                                      {"jumped", jumped_out}, {NULL, NULL}};
+                                      {"cancelled", cancellation}, {"jumped", jumped_out}, {NULL, NULL}};
   make_text(load_texts[0], "right", 4, 8, 1);
   make_text(load_texts[1], "right", 6, 8, 1);
   make_text(load_texts[2], "right", 4, 8, 3);

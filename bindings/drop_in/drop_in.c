@@ -7,7 +7,6 @@
 #include <errno.h>
 #include <stdlib.h>
 #include <string.h>
-#include <sys/random.h>
 
 #define API __attribute__((visibility("default")))
 
@@ -180,7 +179,7 @@ API int crypto_pwhash_scryptsalsa208sha256_str(char text[TEXT_LEN + 1], const ch
   memset(text, 0, TEXT_LEN + 1);
   choose(work, memory, &log_n, &r, &p);
   if (log_n > MOST_LOG_N) return refused(EINVAL);
-  if (getrandom(salt, sizeof salt, 0) != (ssize_t)sizeof salt) return refused(EIO);
+  if (scrypt_draw_salt(salt, sizeof salt) != SCRYPT_OK) return refused(EIO);
   if (hash_in_memory(password, (size_t)password_len, salt, log_n, r, p, made) != SCRYPT_OK)
     return refused(EINVAL); /* if memory ran out too, as libsodium does */
   memcpy(text, made, sizeof made);
