@@ -49,6 +49,7 @@ struct queue {
   uint64_t places;    /* how many have been given */
   size_t calls;       /* that began in this process and are not over */
   uint32_t no_calls;  /* the bell for that, in a closed hasher */
+  size_t given;       /* how many turns have ever been given: the first ones, and only these can have tables */
   struct call *first[LEVELS];
   struct turn turn[];
 };
@@ -166,6 +167,7 @@ static size_t width_of(const scrypt_hasher *hasher, size_t turn) {
 static void give(scrypt_hasher *hasher, size_t turn, struct call *call) {
   struct turn *it = &hasher->queue->turn[turn];
   it->is_taken = 1;
+  if (hasher->queue->given <= turn) hasher->queue->given = turn + 1;
   call->turn = turn;
   call->tables = it->tables;
   it->tables = NO_TABLES;
@@ -322,16 +324,17 @@ scrypt_hasher *queue_new(const scrypt_options *options, int *status) {
 
 void scrypt_hasher_close(scrypt_hasher *hasher) {
   struct call *to_ring, *it;
-  size_t turn;
+  size_t turn, given;
   if (hasher == NULL) return;
   lock(hasher);
   hasher->is_closed = 1;
+  given = hasher->queue->given;
   to_ring = hasher->queue->first[0];
   for (it = to_ring; it != NULL; it = it->next[0]) end(it, SCRYPT_CLOSED);
   memset(hasher->queue->first, 0, sizeof hasher->queue->first);
   unlock(hasher);
   ring_all(to_ring);
-  for (turn = 0; turn < hasher->turns; turn++) {
+  for (turn = 0; turn < given; turn++) {
     struct tables unused = NO_TABLES;
     lock(hasher);
     if (!hasher->queue->turn[turn].is_taken) {

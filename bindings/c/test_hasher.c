@@ -297,6 +297,9 @@ static void numbers_of_turns(void) {
       expect(all == (at_once < most ? at_once : most), "%zu, %zu: %zu tables", processors, at_once, all);
       scrypt_hasher_free(hasher);
     }
+  clock_t begun_at = clock();
+  scrypt_hasher_free(made(1 << 23, 1 << 23, 4));
+  expect(clock() - begun_at < 3 * CLOCKS_PER_SEC / 2, "turns that were never given take time");
 }
 
 /* Waits that end in a mixed order, and waits that come back to their places, take n * log n. */
