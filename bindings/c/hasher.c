@@ -56,7 +56,7 @@ int scrypt_hasher_hash(scrypt_hasher *hasher, const void *password, size_t passw
                        size_t salt_len, char *text, size_t capacity, int64_t most_ms, uint64_t *place) {
   struct call call = NO_CALL;
   uint8_t drawn[MOST_SALT_LEN];
-  if (hasher == NULL || is_null(password, password_len) || is_null(salt, salt_len) || text == NULL)
+  if (hasher == NULL || is_null(password, password_len) || is_null(salt, salt_len) || is_null(text, capacity))
     return SCRYPT_NULL_POINTER;
   call.derive = derive_text;
   call.salt = salt;

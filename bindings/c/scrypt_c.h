@@ -320,7 +320,7 @@ const scrypt_options *scrypt_hasher_options(const scrypt_hasher *hasher);
  * fork: in a child nobody waits or derives, and a hasher works as in its parent. A call during which a signal handler forked
  * returns SCRYPT_CANCELLED in the child, where what it would have written is zeros.
  * A handler must not leave a call by siglongjmp, which would lose a processor for ever. If it waits without a bound while its
- * own thread derives on the only processor, it waits for ever.
+ * own thread waits or derives in a call, it may wait for ever, because that call has the processor or gets it first.
  * SCRYPT_NULL_POINTER; the errors of scrypt_hash_needs, without waiting; SCRYPT_CLOSED, SCRYPT_TIMEOUT, SCRYPT_CANCELLED,
  * SCRYPT_OUT_OF_MEMORY, and last SCRYPT_MISMATCH if the password is wrong. */
 SCRYPT_CHECKED

@@ -222,6 +222,8 @@ static void calls(void) {
   IS(scrypt_hasher_hash(hasher, "a", 1, NULL, 1, text, sizeof text, -1, NULL), SCRYPT_NULL_POINTER);
   IS(scrypt_hasher_hash(hasher, "a", 1, "", 0, text, sizeof text, -1, NULL), SCRYPT_SALT_INVALID);
   IS(scrypt_hasher_hash(hasher, "a", 1, NULL, 0, text, sizeof text - 1, -1, NULL), SCRYPT_BUFFER_SIZE);
+  IS(scrypt_hasher_hash(hasher, "a", 1, NULL, 0, NULL, 0, -1, NULL), SCRYPT_BUFFER_SIZE);
+  IS(scrypt_hasher_hash(hasher, "a", 1, NULL, 0, NULL, 1, -1, NULL), SCRYPT_NULL_POINTER);
   IS(scrypt_hasher_hash(of_mcf, "a", 1, "abc", 3, mcf, sizeof mcf - 1, -1, NULL), SCRYPT_BUFFER_SIZE);
   IS(scrypt_hasher_hash(of_mcf, "a", 1, "abc", SIZE_MAX, mcf, sizeof mcf, -1, NULL), SCRYPT_BUFFER_SIZE);
   IS(scrypt_hasher_hash(hasher, "right", 5, NULL, 0, text, sizeof text, -1, NULL), SCRYPT_OK);
