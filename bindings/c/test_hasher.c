@@ -110,6 +110,7 @@ static void interrupt(char what, struct thread *it) {
   handle(SIGUSR1, what == '&' ? fork_in_handler : what == '#' ? close_in_handler : nothing_in_handler);
   while (tries-- > 0) pthread_kill(it->id, SIGUSR1), usleep(2000);
   for (tries = 0; what == '&' && READ(forks) == before && tries < 50000; tries++) usleep(200);
+  for (tries = 0; what == '#' && !is_closed(it->hasher) && tries < 50000; tries++) usleep(200);
 }
 
 static void act(char what, scrypt_hasher *hasher, const char *why) {

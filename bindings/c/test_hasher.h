@@ -195,6 +195,12 @@ static size_t calls_of(scrypt_hasher *hasher) {
   return calls;
 }
 
+static int is_closed(scrypt_hasher *hasher) {
+  int closed;
+  lock(hasher), closed = hasher->is_closed, unlock(hasher);
+  return closed;
+}
+
 /* Whether no turn is taken, nobody waits, there is no call, and a closed hasher has no memory. */
 static int is_idle(scrypt_hasher *hasher) {
   size_t turn, level, busy = hasher->queue->calls;
