@@ -23,7 +23,8 @@ static int measure(uint32_t log_n, double *seconds) {
   scrypt_hasher *hasher = scrypt_hasher_new(&with, &status);
   for (i = 0; i < TRIES && status == SCRYPT_OK; i++) {
     double begun = now(), taken;
-    status = scrypt_hasher_key(hasher, "", 0, "", 0, key, sizeof key, -1, NULL);
+    do status = scrypt_hasher_key(hasher, "", 0, "", 0, key, sizeof key, -1, NULL);
+    while (status == SCRYPT_CANCELLED); /* in a child */
     taken = now() - begun;
     if (i == 0 || taken < *seconds) *seconds = taken;
   }

@@ -365,6 +365,8 @@ static void processors(void) {
   }
 }
 
+static void fork_here(void) { fork_in_handler(0); }
+
 static void calibrated(void) {
   uint8_t log_n = 0;
   uint32_t r = 0, p = 0;
@@ -373,8 +375,11 @@ static void calibrated(void) {
   IS(scrypt_calibrate(-1, (size_t)64 << 20, &log_n, &r, &p), SCRYPT_TOO_COSTLY);
   IS(scrypt_calibrate(1, ((size_t)1 << 20) - 1, &log_n, &r, &p), SCRYPT_TOO_COSTLY);
   expect(log_n == 0 && r == 0 && p == 0, "unchanged");
+  WRITE(hook, fork_here);
   IS(scrypt_calibrate(9, (size_t)1 << 20, &log_n, &r, &p), SCRYPT_OK);
   expect(log_n == 10 && r == 8 && p > 1, "the table as large as the bound, and p takes the time: %d %u %u", log_n, r, p);
+  if (getpid() != parent) _exit(failed);
+  reap_all("forked while it measures");
 }
 
 int main(int count, char **names) {

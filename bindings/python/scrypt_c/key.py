@@ -7,7 +7,7 @@ from typing import Any
 
 from . import library
 from .arguments import Bytes, number, raw_bytes
-from .errors import INVALID_OUTPUT_LEN, InvalidParamsError, check
+from .errors import CANCELLED, INVALID_OUTPUT_LEN, InvalidParamsError, check
 from .params import Params, accepted
 
 _MOST_TABLES = 4  # of scrypt_key
@@ -51,7 +51,10 @@ def _key_in_tables(count: int, *arguments: Any) -> int:
     given = {"most_bytes": most, "most_work": most, "at_once": count, "processors": 1}
     status = ctypes.c_int()
     hasher = library.hasher_new(library.Options(ctypes.sizeof(library.Options), log_n, r, p, **given), status)
-    return status.value or int(library.hasher_key(hasher, *inputs, key, dklen, -1, None))
+    made = status.value or CANCELLED
+    while made == CANCELLED:  # after the first time: in a child that was forked during the call
+        made = int(library.hasher_key(hasher, *inputs, key, dklen, -1, None))
+    return made
 
 
 def _buffer(size: int) -> ctypes.Array[ctypes.c_char]:

@@ -18,7 +18,7 @@ import unittest
 import warnings
 from concurrent.futures import ThreadPoolExecutor
 
-from scrypt_c import PasswordHasher, VerifyMismatchError, errors, library
+from scrypt_c import PasswordHasher, VerifyMismatchError, errors, library, scrypt
 
 WAIT = 60  # seconds, after which something is taken to wait for ever
 TEXT = PasswordHasher(log_n=4).hash("pw")
@@ -34,12 +34,16 @@ def on_one_processor(**options):
         os.sched_setaffinity(0, processors)
 
 
-def outcome(hasher, text, password):
-    """True, or the type of what is raised."""
+def outcome_of(call):
+    """What a call returns, or the type of what is raised."""
     try:
-        return hasher.verify(text, password)
+        return call()
     except (Exception, KeyboardInterrupt) as error:
         return type(error)
+
+
+def outcome(hasher, text, password):
+    return outcome_of(lambda: hasher.verify(text, password))
 
 
 @contextlib.contextmanager
@@ -109,6 +113,33 @@ def resident():
         return next(int(line.split()[1]) for line in file if line.startswith("VmRSS"))
 
 
+def derived_again():
+    """Whether a handler of C, which forks in the middle of a call, leaves the call right in the parent and in the child."""
+    libc, parent, costs = ctypes.CDLL(None), os.getpid(), {"salt": b"", "n": 1 << 12, "r": 8, "p": 4}
+    hasher, key = PasswordHasher(log_n=12), scrypt(b"pw", **costs)
+    text = hasher.hash("pw")
+    calls = [
+        lambda: scrypt(b"pw", **costs) == key,
+        lambda: scrypt(b"pw", maxmem=9 << 20, **costs) == key,
+        lambda: hasher.verify(text, "pw"),
+    ]
+    libc.signal(signal.SIGALRM, libc.fork)
+    for at in range(60):
+        alarm(5e-4, 8e-3)
+        is_right = outcome_of(calls[at % 3]) is True
+        if os.getpid() != parent or not is_right:
+            os._exit(not is_right)
+    alarm(0, 0)
+    libc.signal(signal.SIGALRM, None)
+    if os.getpid() != parent:  # forked after the last look
+        os._exit(0)
+    children = []
+    with contextlib.suppress(ChildProcessError):
+        while True:
+            children.append(os.wait()[1])
+    return len(children) > 10 and not any(children)
+
+
 class Signals(unittest.TestCase):
     def test_interrupts(self):
         """10,000 at any time, without other threads and with some. The only turn is never lost."""
@@ -168,6 +199,12 @@ class Signals(unittest.TestCase):
                     os._exit([found, outcome(hasher, text, "pw")] != [VerifyMismatchError, True])
                 self.assertIs(found, VerifyMismatchError)
                 self.assertEqual(ended(children.pop()), 0)
+
+    def test_forked_in_a_handler_of_c(self):
+        child = os.fork()  # which waits for all of its own children
+        if child == 0:
+            os._exit(not derived_again())
+        self.assertEqual(ended(child), 0)
 
 
 class Threads(unittest.TestCase):
