@@ -313,10 +313,11 @@ const scrypt_options *scrypt_hasher_options(const scrypt_hasher *hasher);
 /* Verifies a password against the text of a hash, like scrypt_verify, within the bounds of the hasher. Any thread may call
  * this and the next two calls, and a signal handler.
  * They wait for at most most_ms milliseconds, without a bound if that is negative, and then return SCRYPT_TIMEOUT; time that
- * a derivation takes does not count. If place is not NULL, a signal that the waiting thread handles ends the wait too, and
- * *place, which is 0 at first, is the place in the line with SCRYPT_TIMEOUT, and otherwise 0. The same call with the same
- * *place waits there again, so that a caller can look meanwhile whether it still wants the answer; one that doesn't just
- * makes no further call. Between the calls nobody begins with it.
+ * a derivation takes does not count. If place is not NULL, a signal that the thread handles while it sleeps ends the wait too
+ * (one that comes just before does not, so such a wait needs a bound), and *place, which is 0 at first, is the place in the
+ * line with SCRYPT_TIMEOUT, and otherwise 0. The same call with the same *place waits there again, so that a caller can look
+ * meanwhile whether it still wants the answer; one that doesn't just makes no further call. Between the calls nobody begins
+ * with it.
  * fork: in a child nobody waits or derives, and a hasher works as in its parent. A call during which a signal handler forked
  * returns SCRYPT_CANCELLED in the child, where what it would have written is zeros.
  * A handler must not leave a call by siglongjmp, which would lose a processor for ever. If it waits without a bound while its
