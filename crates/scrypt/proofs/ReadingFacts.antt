@@ -183,11 +183,6 @@ module _ (limits : Limits) (reading : Result Stored Refusal) (c : Parameters) (n
       ≡ mapped {B = Parameters × ℕ} (λ s. (s.params, length s.key)) (within limits reading)
   too_costly costly = let read = whole_read reading c n is in rw (read.1, read.2, costly) refl
 
-  -- its key is too short
-  pub too_short : are_within limits c ≡ true → nat_le limits.least_key_len n ≡ false
-      → Err (KeyTooShort n) ≡ mapped {B = Parameters × ℕ} (λ s. (s.params, length s.key)) (within limits reading)
-  too_short cheap short = let read = whole_read reading c n is in rw (read.1, read.2, cheap, read.3, short) refl
-
   -- it is within the limits
   pub allowed : are_within limits c ≡ true → limits.least_key_len ≤ n
       → Ok (c, n) ≡ mapped {B = Parameters × ℕ} (λ s. (s.params, length s.key)) (within limits reading)

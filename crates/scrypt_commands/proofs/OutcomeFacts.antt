@@ -164,25 +164,6 @@ pub refused_by_options : (words rest : List (List ℕ)) (options : Options) (Rea
 refused_by_options words rest options Read status is (inl asks) = (replicate 16 0, refl, λ _ none. absurd (none (rw (← is) (inl asks))))
 refused_by_options words rest options Read status is (inr off) = (replicate 16 0, refl, λ _ none. absurd (none (rw (← is) (inr (inl off)))))
 
--- is that of the command, if none of these does
-pub unread_by_command : (words rest : List (List ℕ)) (options : Options) (drawn : Option (List ℕ)) (Unread : Type 0)
-    → (options, rest) ≡ options_of words → options.information ≡ None → fit_command options rest ≡ true → IsDrawn options drawn
-    → (IsRefused (request_by options.is_recommended drawn rest) → Unread)
-    → (salt : List ℕ) × (length salt ≡ 16) × (IsUnread salt words → Unread)
-unread_by_command words rest options drawn Unread is none fits (salt, long, by) h = (salt, long, rw (← is) unread)
-  where
-    unread : IsUnreadAfter salt (options, rest) → Unread
-    unread (inl asks) = let wrong : false ≡ true = rw none at asks in absurd cc
-    unread (inr (inl off)) = let wrong : true ≡ false = rw fits at off in absurd cc
-    unread (inr (inr early)) = h (rw by early)
-
-pub refused_by_command : (words rest : List (List ℕ)) (options : Options) (drawn : Option (List ℕ)) (Read : Type 0) (status : ℕ)
-    → (options, rest) ≡ options_of words → IsDrawn options drawn
-    → (status ≡ 2 → ¬ IsRefused (request_by options.is_recommended drawn rest) → Read)
-    → (salt : List ℕ) × (length salt ≡ 16) × (status ≡ 2 → ¬ IsUnread salt words → Read)
-refused_by_command words rest options drawn Read status is (salt, long, by) h =
-    (salt, long, λ two none. h two (λ early. none (rw (← is) (inr (inr (rw (← by) early))))))
-
 -- the outcome of a run with options that do not fit the command
 pub misfitting : (words rest : List (List ℕ)) (options : Options) (known old faults_old faults_new : Option (List ℕ)) (Written : Type 0)
     (ended : ℕ) → (options, rest) ≡ options_of words → options.information ≡ None → fit_command options rest ≡ false → ended ≡ 2
