@@ -54,10 +54,7 @@ pub extern "C" fn scrypt_hash_phc(
     let hasher = Scrypt::new_with_params(params);
     let made: Result<phc::PasswordHash> = hasher.hash_password_with_salt(alloc, password, salt);
     match made {
-        Ok(hash) => match hash.to_string(alloc) {
-            Ok(made) => copy_to(made.as_str(), text, text_len),
-            Err(_) => OUT_OF_MEMORY,
-        },
+        Ok(hash) => copy_to(hash.to_array_string().as_str(), text, text_len),
         Err(error) => status_of(error),
     }
 }

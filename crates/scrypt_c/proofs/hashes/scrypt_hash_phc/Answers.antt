@@ -1,10 +1,10 @@
 use Rattle.std.proofs.Common.{◌∙◌, ◌++◌, ap, drop, sym, rules}
 use Rattle.scrypt_c.proofs.hashes.scrypt_hash_phc.Goals as goal
 
-pub returns-in-Ok-to_string-clause-made : goal.returns-in-Ok-to_string-clause-made
-returns-in-Ok-to_string-clause-made c done =
+pub returns-in-Ok-made-clause-made : goal.returns-in-Ok-made-clause-made
+returns-in-Ok-made-clause-made c done =
     let copied = c.copy_to.ensures in
     let made = rw (c.new_with_params-hasher.ensures.value, c.in-Ok.ensures.value) at c.in-Ok-made.ensures.ok in
     let written = copied.written (search rules) ∙ ap (λ n. c.as_str.result.now ++ drop n c.args.text.now) (sym copied.len) in
-    let printed = c.as_str.ensures.value ∙ c.in-Ok-to_string.ensures.ok in
+    let printed = c.as_str.ensures.value ∙ c.to_array_string.ensures.value in
     (c.as_str.result.now, (c.as_str.utf8, (c.in-Ok-made.hash, made, printed)), copied.len, written)
