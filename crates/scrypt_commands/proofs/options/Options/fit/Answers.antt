@@ -8,6 +8,10 @@ pub returns-in-hash : goal.returns-in-hash
 unfolding fit
 returns-in-hash c = record { value = rw c.in-hash.is (search rules) }
 
+pub returns-in-verify : goal.returns-in-verify
+unfolding fit
+returns-in-verify c = record { value = rw c.in-verify.is (search rules) }
+
 pub returns-in_default : goal.returns-in_default
 unfolding fit
 returns-in_default c =
