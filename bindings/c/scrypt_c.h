@@ -78,7 +78,7 @@ extern "C" {
 #endif
 
 /* What the calls return. If several errors apply, it is the one that the call's comment names first. With any status but
- * SCRYPT_OK the outputs are unchanged, except for the salt of scrypt_draw_salt. */
+ * SCRYPT_OK the outputs are unchanged, except for the salt of scrypt_draw_salt, and zeros with SCRYPT_CANCELLED. */
 enum scrypt_status {
   SCRYPT_OK = 0,
   SCRYPT_MISMATCH = 1,            /* the password is wrong, or the hash has no salt or no key */
