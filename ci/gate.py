@@ -15,6 +15,7 @@ import contextlib
 import os
 import re
 import shutil
+import signal
 import subprocess
 import sys
 import tempfile
@@ -88,7 +89,7 @@ class Tasks:
 
     def run(self, *command, cwd=None):
         """Whether a command succeeds, and what it prints."""
-        how = {"stdout": subprocess.PIPE, "stderr": subprocess.STDOUT, "text": True, "errors": "replace"}
+        how = {"stdout": subprocess.PIPE, "stderr": subprocess.STDOUT, "text": True, "errors": "replace", "process_group": 0}
         process = subprocess.Popen(["nice", *command], cwd=cwd, **how)
         self.running.add(process)
         text = process.communicate()[0]
@@ -104,11 +105,14 @@ class Tasks:
             self.proved.add(found[1])
             self.begin()
 
-    def give_up(self):
-        """Ends the tasks."""
-        self.threads.shutdown(wait=False, cancel_futures=True)
-        for it in list(self.running):
-            it.terminate()
+    def __enter__(self):
+        return self
+
+    def __exit__(self, failure, *_):
+        """Ends the tasks, with what they have started, if the gate ends before them."""
+        self.threads.shutdown(wait=False, cancel_futures=failure is not None)
+        for it in list(self.running) if failure else ():
+            os.killpg(it.pid, signal.SIGTERM)
 
     def end(self, log):
         """Gives the tasks all processors, prints what they print, also to a file, and returns the names of those that
@@ -181,9 +185,16 @@ def proved(tasks, log):
         log.write(line)
         tasks.see(line)
     if ran.wait():
-        tasks.give_up()
         sys.exit(tasks.early or ran.returncode)
     return line
+
+
+def ask_programs():
+    """Ends if a program that was proved gives a wrong answer."""
+    verdicts = "crates/test_verdicts/out/test_verdicts"
+    for script in [["ci/program.py", PROGRAM], ["ci/hashes.py", PROGRAM, verdicts]]:
+        if subprocess.call([sys.executable, *script]):
+            sys.exit("a program gave a wrong answer")
 
 
 def has_object():
@@ -206,15 +217,12 @@ def main():
     clean()
     with tempfile.TemporaryDirectory(ignore_cleanup_errors=True) as room, open(f"{room}/log", "w+", encoding="utf-8") as log:
         os.environ["PROVED_LIBRARIES"] = f"{room}/libraries"
-        tasks = Tasks(f"{room}/libraries")
-        add_all(tasks, f"{room}/made", is_built)
-        count = proved(tasks, log)
-        verdicts = "crates/test_verdicts/out/test_verdicts"
-        for script in [["ci/program.py", PROGRAM], ["ci/hashes.py", PROGRAM, verdicts]]:
-            if subprocess.call([sys.executable, *script]):
-                tasks.give_up()
-                sys.exit("a program gave a wrong answer")
-        if failed := tasks.end(log):
+        with Tasks(f"{room}/libraries") as tasks:
+            add_all(tasks, f"{room}/made", is_built)
+            count = proved(tasks, log)
+            ask_programs()
+            failed = tasks.end(log)
+        if failed:
             sys.exit(f"failed: {'; '.join(failed)}")
         check_axioms(log)
         if not is_built:
