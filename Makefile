@@ -136,6 +136,7 @@ bench: lib
 	python3 bench/verifications.py $(MEASURED) $(subst --worker,,$(WORKERS))
 	python3 bench/verifications.py $(MEASURED) $(subst --worker,,$(WORKERS)) --processes $$(nproc) --runs 5 \
 	  --params 14,8,1:15,8,1:16,8,1:17,8,1:18,8,1 --picture docs/speed.svg
+	python3 bench/logins.py $(MEASURED)
 
 doc:
 	python3 doc/make.py
