@@ -41,10 +41,10 @@ USAGE = (
 )
 # The line for options that do not fit a command.
 MISFIT = {
-    "key": "key takes no option except --strip-newline",
-    "hash": "hash takes no option except --draw-salt, --recommended and --strip-newline",
-    "verify": "verify does not take --draw-salt and --recommended",
-    "rehash": "rehash does not take --recommended",
+    "key": "key takes no option except --strip-newline: see --help",
+    "hash": "hash takes no option except --draw-salt, --recommended and --strip-newline: see --help",
+    "verify": "verify does not take --draw-salt and --recommended: see --help",
+    "rehash": "rehash does not take --recommended: see --help",
 }
 # By default 257 MiB, four times the work of (17, 8, 1), and keys of 16 bytes.
 USUAL_BYTES, USUAL_WORK = 269484032, 16781312

@@ -76,10 +76,10 @@ fit_command o words = option_map_or (λ found. fit o found.0) (first_word words)
 -- what the line for options that do not fit has after the first word after them: it names what is allowed
 unfoldable pub misfit_reason : List ℕ → List ℕ
 misfit_reason name =
-    if bytes_eq name (codes "key") then codes " takes no option except --strip-newline\n"
-    else if bytes_eq name (codes "hash") then codes " takes no option except --draw-salt, --recommended and --strip-newline\n"
-    else if bytes_eq name (codes "verify") then codes " does not take --draw-salt and --recommended\n"
-    else if bytes_eq name (codes "rehash") then codes " does not take --recommended\n"
+    if bytes_eq name (codes "key") then codes " takes no option except --strip-newline: see --help\n"
+    else if bytes_eq name (codes "hash") then codes " takes no option except --draw-salt, --recommended and --strip-newline: see --help\n"
+    else if bytes_eq name (codes "verify") then codes " does not take --draw-salt and --recommended: see --help\n"
+    else if bytes_eq name (codes "rehash") then codes " does not take --recommended: see --help\n"
     else codes ": not an option, or its value is not allowed: see --help\n"
 
 -- whether the hash, the last word, has to be read from a file: the options have one, and fit the command

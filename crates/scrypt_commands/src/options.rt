@@ -231,10 +231,11 @@ fn misfit_reason(name: &str) -> &'static str
     ensures { result.now ≡ misfit_reason name.now }
 {
     match name {
-        "key" => " takes no option except --strip-newline\n",
-        "hash" => " takes no option except --draw-salt, --recommended and --strip-newline\n",
-        "verify" => " does not take --draw-salt and --recommended\n",
-        "rehash" => " does not take --recommended\n",
+        "key" => " takes no option except --strip-newline: see --help\n",
+        "hash" =>
+            " takes no option except --draw-salt, --recommended and --strip-newline: see --help\n",
+        "verify" => " does not take --draw-salt and --recommended: see --help\n",
+        "rehash" => " does not take --recommended: see --help\n",
         _ => ": not an option, or its value is not allowed: see --help\n",
     }
 }
