@@ -7,13 +7,14 @@ over these libraries, and the static libraries for C are built over them, so tha
 `rt lib` takes nothing from `rt ci`, and would prove the crates below it again. That crate is checked once for both
 processors and for its wrong bodies, in a folder that is empty before. What the tasks print comes after what `rt ci`
 prints, and the count of what passed stays the last line. A fault of the documents or the scripts, and one of what must
-not compile, is found in the first minutes and ends all.
+not compile, is found in the first minutes and ends all. What calls the programs and the library comes last.
 """
 
 import concurrent.futures
 import contextlib
 import os
 import re
+import resource
 import shutil
 import signal
 import subprocess
@@ -76,8 +77,14 @@ class Tasks:
             self.waiting.remove((name, needs, call))
             self.begun[name] = self.threads.submit(self.one, name, call, not needs)
 
-    def one(self, name, call, is_early):
+    def add_last(self, name, call, before=None):
+        """Runs a task that needs what `rt ci` left, and what the task `before` made."""
+        self.begun[name] = self.threads.submit(self.one, name, call, False, self.begun.get(before))
+
+    def one(self, name, call, is_early, before=None):
         """Runs a task. If one fails that needs nothing proved, the prover is ended too."""
+        if before is not None and not before.result()[0]:
+            return False, ""
         with self.lanes:
             begun = clock()
             well, text = call()
@@ -115,9 +122,7 @@ class Tasks:
             os.killpg(it.pid, signal.SIGTERM)
 
     def end(self, log):
-        """Gives the tasks all processors, prints what they print, also to a file, and returns the names of those that
-        fail."""
-        self.lanes.release(AFTERWARDS - BESIDE)
+        """Prints what the tasks print, also to a file, and returns the names of those that fail."""
         failed = [f"{name}, which did not begin" for name, _, _ in self.waiting]
         for name, it in self.begun.items():
             well, text = it.result()
@@ -189,27 +194,43 @@ def proved(tasks, log):
     return line
 
 
-def ask_programs():
-    """Ends if a program that was proved gives a wrong answer."""
-    verdicts = "crates/test_verdicts/out/test_verdicts"
-    for script in [["ci/program.py", PROGRAM], ["ci/hashes.py", PROGRAM, verdicts]]:
-        if subprocess.call([sys.executable, *script]):
-            sys.exit("a program gave a wrong answer")
+def run_all(tasks, *commands):
+    """Whether commands succeed, one after another, and what they print."""
+    texts = []
+    for command in commands:
+        well, text = tasks.run(*command)
+        texts.append(text)
+        if not well:
+            return False, "".join(texts)
+    return True, "".join(texts)
 
 
-def has_object():
+def make_object(tasks):
     """Makes the program's object, over the libraries that were proved, where `rt ci` gave only the program, since it proved
     the same earlier on this machine."""
     if os.path.isfile(f"{PROGRAM}.o"):
-        return True
+        return True, ""
     command = [*words.of("build", "scrypt_tool"), "--toolchain", f"{words.kit()}/toolchain", "--backend", "llvm"]
-    return not subprocess.call([*command, "-o", "out/scrypt_tool.o"], cwd="crates/scrypt_tool")
+    return tasks.run(*command, "-o", "out/scrypt_tool.o", cwd="crates/scrypt_tool")
 
 
-def called():
+def called(tasks, made):
     """Links the libraries and the program, and calls them. What is packed is this."""
-    commands = [["bindings/lib.sh", "built"], ["bindings/terminal/build.sh"], ["bindings/callers.sh", "short"]]
-    return has_object() and not any(map(subprocess.call, commands))
+    place(made)
+    well, text = make_object(tasks)
+    if not well:
+        return well, text
+    return run_all(tasks, ["bindings/lib.sh", "built"], ["bindings/terminal/build.sh"], ["bindings/callers.sh", "short"])
+
+
+def add_last(tasks, made, is_built):
+    """Adds what calls the programs and the libraries, and gives the tasks all processors."""
+    verdicts, python = "crates/test_verdicts/out/test_verdicts", sys.executable
+    if is_built:
+        tasks.add_last("callers of the library", lambda: called(tasks, made), "the library for C")
+    tasks.add_last("answers of the program", lambda: tasks.run(python, "ci/program.py", PROGRAM))
+    tasks.add_last("answers to hashes", lambda: tasks.run(python, "ci/hashes.py", PROGRAM, verdicts))
+    tasks.lanes.release(AFTERWARDS - BESIDE)
 
 
 def main():
@@ -220,7 +241,7 @@ def main():
         with Tasks(f"{room}/libraries") as tasks:
             add_all(tasks, f"{room}/made", is_built)
             count = proved(tasks, log)
-            ask_programs()
+            add_last(tasks, f"{room}/made", is_built)
             failed = tasks.end(log)
         if failed:
             sys.exit(f"failed: {'; '.join(failed)}")
@@ -228,11 +249,10 @@ def main():
         if not is_built:
             print("No C compiler is here (package gcc): the library was not called.")
         else:
-            place(f"{room}/made")
-            if not called():
-                sys.exit("the library could not be built or called")
             log.flush()
             subprocess.run([sys.executable, "-B", "release/proved.py", "keep", log.name], check=True)
+    used = resource.getrusage(resource.RUSAGE_CHILDREN)
+    print(f"{clock()}, {(used.ru_utime + used.ru_stime) / 60:.1f} processor minutes")
     print(count, end="")
 
 
