@@ -72,7 +72,9 @@ libraries() {
   for page in "$room"/man3/*.3; do put 644 "$page" "$mandir/man3/${page##*/}"; done
   put 644 LICENSE "$docdir/LICENSE"
   put 644 release/NOTICES "$docdir/NOTICES"
-  for page in README.md SECURITY.md docs/*.md docs/*.svg; do put 644 "$page" "$docdir/$page"; done
+  python3 release/documents.py "$room/documents"
+  (cd "$room/documents" && find . -type f | sed 's|^\./||') > "$room/pages"
+  while read -r page; do put 644 "$room/documents/$page" "$docdir/$page"; done < "$room/pages"
 }
 
 python_package() {

@@ -64,9 +64,8 @@ cp "$parts"/cargo/package/*.crate "$dist"
 
 mkdir "$parts/$name-linux-x86_64"
 mv "$parts/files" "$parts/$name-linux-x86_64/"
-mkdir "$parts/$name-linux-x86_64/docs"
-cp "$@" README.md SECURITY.md release/install.sh "$dist"/*.whl "$parts/$name-linux-x86_64"
-cp docs/*.md docs/*.svg "$parts/$name-linux-x86_64/docs"
+cp "$@" release/install.sh "$dist"/*.whl "$parts/$name-linux-x86_64"
+cp -R "$parts/doc/README.md" "$parts/doc/SECURITY.md" "$parts/doc/docs" "$parts/$name-linux-x86_64"
 packed "$name-linux-x86_64"
 git archive --format=tar --prefix="$name/" HEAD | gzip -9n > "$dist/$name-source.tar.gz"
 chmod 644 "$dist"/*
