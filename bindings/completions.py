@@ -5,7 +5,9 @@ usage: completions.py SHARE       writes them below the folder SHARE (as /usr/sh
        completions.py --test      writes them to a folder of their own, and completes words by each shell that is here
 """
 
+import contextlib
 import os
+import pty
 import re
 import shutil
 import subprocess
@@ -13,6 +15,8 @@ import sys
 import tempfile
 
 SOURCES = os.path.join(os.path.dirname(os.path.abspath(__file__)), "../crates/scrypt_commands/src")
+
+FILE = "--hash-file="  # the option whose value is a file
 
 BASH = """# Completes the words of scrypt_tool, which its usage line names.
 _scrypt_tool() {{
@@ -23,7 +27,7 @@ _scrypt_tool() {{
     first=$((first + 1))
   done
   case $((COMP_CWORD - first + 1)):${{COMP_WORDS[first]}} in
-    1:*) choices="{commands} {options}" ;;
+    1:*) choices="{commands} {flags} {valued}" ;;
 {cases}
   esac
   COMPREPLY=($(compgen -W "$choices" -- "$word"))
@@ -35,8 +39,15 @@ ZSH = """#compdef scrypt_tool
 # Completes the words of scrypt_tool, which its usage line names.
 integer first=2
 while (( first < CURRENT )) && [[ $words[first] == --* ]]; do (( first++ )); done
+if (( first == CURRENT )) && compset -P '{file}'; then
+  _files
+  return
+fi
 case $(( CURRENT - first + 2 )):$words[first] in
-  2:*) compadd -- {commands} {options} ;;
+  2:*)
+    compadd -- {commands} {flags}
+    compadd -S '' -- {valued}
+    ;;
 {cases}
 esac
 """
@@ -44,7 +55,8 @@ esac
 FISH = """# Completes the words of scrypt_tool, which its usage line names.
 complete -c scrypt_tool -f
 set -l words 'commandline -opc | string match -v -- "--*" | count'
-complete -c scrypt_tool -f -n "test ($words) -eq 1" -a '{commands} {options}'
+complete -c scrypt_tool -f -n "test ($words) -eq 1" -a '{commands} {flags} {valued}'
+complete -c scrypt_tool -n "test ($words) -eq 1; and string match -q -- '{file}*' (commandline -ct)" -l {long} -r -F
 {cases}
 """
 
@@ -72,7 +84,9 @@ def choices():
 
 def written(share):
     """Writes the three files, and gives their paths."""
-    words = {"commands": " ".join(commands()), "options": " ".join(options())}
+    valued = [it for it in options() if it.endswith("=")]
+    words = {"commands": " ".join(commands()), "valued": " ".join(valued), "file": FILE, "long": FILE.strip("-=")}
+    words["flags"] = " ".join(it for it in options() if it not in valued)
     bash = "\n".join(f'    {place}:{name}) choices="{" ".join(of)}" ;;' for name, place, of in choices())
     zsh = "\n".join(f"  {place + 1}:{name}) compadd {' '.join(of)} ;;" for name, place, of in choices())
     fish = "\n".join(
@@ -105,6 +119,8 @@ LINES = [
     ("scrypt_tool rehash p", {"phc"}),
     ("scrypt_tool key ", set()),
 ]
+# the same where the word is a file of the folder, which bash completes itself
+FILES = [("scrypt_tool --hash-file=sto", {"--hash-file=stored"}), ("scrypt_tool --usual-limits --hash-file=sto", {"--hash-file=stored"})]
 
 
 def by_bash(path, line):
@@ -118,24 +134,42 @@ def by_fish(path, line):
     return subprocess.run(["fish", "--no-config", "-c", script], capture_output=True, text=True).stdout
 
 
+def by_zsh(path, line):
+    """The last word after a tab, in an interactive shell whose scrypt_tool prints it."""
+    ours, theirs = pty.openpty()
+    shell = subprocess.Popen(["zsh", "-fi"], stdin=theirs, stdout=theirs, stderr=theirs, start_new_session=True)
+    os.close(theirs)
+    prepared = f"fpath=('{os.path.dirname(path)}' $fpath); autoload -U compinit; compinit -u -D"
+    os.write(ours, f'{prepared}; scrypt_tool() {{ print "<<$@[-1]>>" }}\n{line}\t\nexit\n'.encode())
+    printed = b""
+    with contextlib.suppress(OSError):  # as a terminal says that the shell has ended
+        while read := os.read(ours, 4096):
+            printed += read
+    os.close(ours)
+    shell.wait()
+    return re.findall(r"<<(.*?)>>", printed.decode())[-1]
+
+
 def test():
     """Whether each shell that is here offers those words."""
     failed = 0
     with tempfile.TemporaryDirectory() as share:
         bash, zsh, fish = written(share)
-        for shell, path, offers in [("bash", bash, by_bash), ("fish", fish, by_fish)]:
+        open(os.path.join(share, "stored"), "w").close()
+        os.chdir(share)
+        one = [it for it in LINES if len(it[1]) == 1]
+        for shell, path, offers, lines in [
+            ("bash", bash, by_bash, LINES),
+            ("fish", fish, by_fish, LINES + FILES),
+            ("zsh", zsh, by_zsh, one + FILES),
+        ]:
             if not shutil.which(shell):
                 print(f"{shell} is not installed: its completions were not tried")
                 continue
-            for line, wanted in LINES:
+            for line, wanted in lines:
                 offered = set(offers(path, line).split())
                 failed += offered != wanted
                 print(f"{shell}: {line!r} offers {sorted(offered)}{'' if offered == wanted else ', WRONG'}")
-        if shutil.which("zsh"):
-            failed += subprocess.run(["zsh", "-n", zsh]).returncode != 0
-            print("zsh reads its completions")
-        else:
-            print("zsh is not installed: its completions were not read")
     sys.exit(1 if failed else 0)
 
 
