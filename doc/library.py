@@ -37,7 +37,7 @@ class Library:
                 self.modules[name] = specs.read_module(name, os.path.relpath(path, self.folder), sources.read(path))
 
     def crates(self):
-        """The crates that are promised: libraries, but for those that only tests use."""
+        """The crates that are promised: libraries, except those that only tests use."""
         tests = {it for it in self.uses if it.endswith("_tests")}
         used = {crate: {it for it, those in self.uses.items() if crate in those} for crate in self.uses}
         tests |= {it for it, by in used.items() if by and by <= tests}
