@@ -116,22 +116,25 @@ ANSWERS = [
 NO_COMMANDS = {
     "no command": ["", "help", "Key 4 1 1 64 ", "--usual-limits", "--draw-salt", "--recommended", "--strip-newline", "--most-work=1"],
     "no command after an option": ["--usual-limits help"],
+    "one minus begins no option": ["-h", "-", "-key 4 1 1 64 ", f"-verify {EMPTY}"],
     "too few arguments": ["key", "key 4 1 1 16", "hash", "hash phc", "hash phc 4 1 1", "--draw-salt hash phc 4 1", "verify",
                           "rehash phc 4 1 1 32 00", f"rehash phc 4 1 1 00 {EMPTY}"],
     "too many": ["key 4 1 1 16 00 x", "hash phc 4 1 1 00 32 x", f"verify {EMPTY} x", f"rehash phc 4 1 1 32 00 {EMPTY} x"],
-    "no format": ["hash md5 4 1 1 00", "hash 4 1 1 00", f"rehash 4 1 1 32 00 {EMPTY}"],
+    "no format": ["hash md5 4 1 1 00", "hash 4 1 1 00", f"rehash 4 1 1 32 00 {EMPTY}", "hash PHC 4 1 1 00", "hash  4 1 1 00"],
     "a hash is of the format that it begins as": [f"verify phc {EMPTY_PHC}"],
-    "an option after the command": [f"verify --usual-limits {EMPTY}", "key --help"],
+    "an option after the command": [f"verify --usual-limits {EMPTY}", "key --help", "hash phc 4 1 1 00 --help",
+                                    "hash --draw-salt phc 4 1 1", f"rehash phc 4 1 1 --draw-salt 32 {EMPTY}"],
 }
 
 # What is not a number, and each place for one.
 NO_NUMBERS = {"": "nothing", "04": "a leading zero", "00": "two digits for 0", "+4": "a plus", "-4": "a minus", "4.": "a dot",
               "0x4": "hexadecimal", "\u0664": "a digit that is not ASCII"}
-NUMBER_PLACES = ["key {} 1 1 64 ", "key 4 {} 1 64 ", "key 4 1 {} 64 ", "key 4 1 1 {} ", "hash mcf {} 1 1 ", "hash mcf 4 1 1  {}",
-                 "rehash mcf {} 1 1 32  " + EMPTY, "rehash mcf 4 1 1 {}  " + EMPTY]
+NUMBER_PLACES = ["key {} 1 1 64 ", "key 4 {} 1 64 ", "key 4 1 {} 64 ", "key 4 1 1 {} ", "hash mcf {} 1 1 ", "hash phc 4 {} 1 00",
+                 "hash mcf 4 1 {} ", "hash mcf 4 1 1  {}", "rehash mcf {} 1 1 32  " + EMPTY, "rehash mcf 4 {} 1 32  " + EMPTY,
+                 "rehash phc 4 1 {} 32 00 " + EMPTY, "rehash mcf 4 1 1 {}  " + EMPTY]
 
-# Numbers above the range of their place.
-GREAT_NUMBERS = ["key 256 1 1 16 ", "key 4 4294967296 1 16 ", "key 4 1 4294967296 16 ", "key 4 1 1 18446744073709551616 "]
+# The greatest number of each place, which is read, and then not accepted; the next one is no number there.
+GREATEST = list(zip(NUMBER_PLACES, itertools.cycle((255, 2**32 - 1, 2**32 - 1, 2**64 - 1))))
 
 # Parameters that are not accepted.
 NOT_ACCEPTED = {"4 0 1": "r is 0", "4 1 0": "p is 0", "57 1 1": "N * r is 2^57", "28 1073741823 1": "N * r is above 2^57",
@@ -141,9 +144,12 @@ NOT_ACCEPTED = {"4 0 1": "r is 0", "4 1 0": "p is 0", "57 1 1": "N * r is 2^57",
 FAULTS = [
     *((line, "", 2, USAGE, reason) for reason, lines in NO_COMMANDS.items() for line in lines),
     *((place.format(it), "", 2, USAGE, reason) for place in NUMBER_PLACES for it, reason in NO_NUMBERS.items()),
-    *((line, "", 2, USAGE, "a number above its range") for line in GREAT_NUMBERS),
+    *((place.format(greatest + 1), "", 2, USAGE, "a number above its range") for place, greatest in GREATEST),
+    *((place.format(greatest), "", 2, "invalid scrypt parameters", "the greatest number")
+      for place, greatest in GREATEST if place != "key 4 1 1 {} "),
     *((f"key {params} 32 ", "", 2, "invalid scrypt parameters", reason) for params, reason in NOT_ACCEPTED.items()),
-    *((f"hash mcf 4 1 1  {it}", "", 2, "invalid scrypt parameters", "a stored key has 10 to 64 bytes") for it in (0, 9, 65)),
+    *((f"hash {form} 4 1 1 00 {it}", "", 2, "invalid scrypt parameters", "a stored key has 10 to 64 bytes")
+      for form in ("phc", "mcf") for it in (0, 9, 65)),
     *((f"rehash mcf 4 1 1 {it}  {EMPTY}", "", 2, "invalid scrypt parameters", "the same") for it in (0, 9, 65)),
     *((f"key 4 1 1 {it} ", "", 2, "invalid output buffer length", "a key has 1 to 137438953440 bytes")
       for it in (0, 137438953441, 137438953471, 18446744073709551615)),
@@ -160,12 +166,18 @@ FAULTS = [
     ("key 04 1 1 64 0", "", 2, USAGE, "numbers come before the salt"),
     ("key 4 0 1 64 0", "", 2, "salt is not hexadecimal", "the salt before the parameters"),
     ("key 4 0 1 0 ", "", 2, "invalid scrypt parameters", "the parameters before the length of a key"),
+    ("hash phc 04 1 1 0", "", 2, USAGE, "numbers before the salt of a hash"),
+    ("hash phc 57 1 1 0", "", 2, "salt is not hexadecimal", "this salt before the parameters"),
+    ("hash mcf 4 1 1 0 9", "", 2, "salt is not hexadecimal", "and before the length of the key"),
+    ("hash phc 4 1 1 --draw-salt", "", 2, "salt is not hexadecimal", "a salt like an option is a salt"),
+    (f"rehash phc 4 1 1 32 --draw-salt {EMPTY}", "", 2, "salt is not hexadecimal", "the same for a new hash"),
     ("rehash phc 57 1 1 32 0 $", "", 2, "salt is not hexadecimal", "the salt before the wanted parameters"),
     ("rehash phc 57 1 1 32 00 $", "", 2, "invalid scrypt parameters", "these before the text of the hash"),
     ("rehash phc 4 1 1 32 00 $", "", 2, "hash refused: EncodingInvalid", "the text of the hash"),
     ("verify --version", "", 2, "hash refused: EncodingInvalid", "a text like an option is a text"),
     ("hash phc 4 1 1 ", "password", 2, "hash refused: SaltInvalid", "a PHC hash has a salt"),
     ("hash phc 4 1 1 " + "00" * 65, "", 2, "hash refused: SaltInvalid", "a salt of 65 bytes"),
+    ("hash phc 56 1 1 ", "", 2, "hash refused: SaltInvalid", "the salt of a PHC hash comes before memory"),
     ("key 56 1 1 32 ", "", 3, "out of memory", "a table of 2^63 bytes"),
     ("key 27 1073741823 1 32 ", "", 3, "out of memory", "a table of almost 2^64 bytes"),
     ("hash phc 56 1 1 00", "", 3, "out of memory", "the same for a hash"),
@@ -179,6 +191,7 @@ REHASHES = [
     (f"rehash phc 4 1 1 32  {EMPTY}", "", 0, "ok", "as wanted, so that neither the other format nor its salt counts"),
     (f"rehash phc 4 1 1 64  {EMPTY}", "", 2, "hash refused: SaltInvalid", "a PHC hash takes no empty salt"),
     (f"rehash phc 4 1 1 64  {EMPTY}", "x", 1, "no", "a wrong password comes before a salt that the new hash refuses"),
+    (f"rehash mcf 56 1 1 32  {EMPTY}", "x", 1, "no", "and before memory that the new hash needs"),
     (f"rehash phc 14 8 1 32 536f6469756d43686c6f72696465 {SHORT}", "pleaseletmein", 0, RFC,
      "a key of 10 bytes is replaced by one of 32"),
     (f"rehash phc 3 2 1 32 abcd {HASHLIB}", "password", 0,
@@ -263,6 +276,9 @@ def rows(program):
         wanted = (status, f"{printed}\n", "") if status < 2 else (status, "", f"{printed}\n")
         yield f"{line!r} ({reason})", run([program, *line.split(" ")], text.encode()), wanted
     yield "no words", run([program]), (2, "", f"{USAGE}\n")
+    # Python passes this character as the byte ff.
+    for words in ("\udcff", "verify \udcff", "key 4 1 1 \udcff"):
+        yield f"{words!r} (an argument is not UTF-8)", run([program, *words.split(" ")]), (3, "", "the arguments can't be read\n")
 
 
 def long_passwords(program):

@@ -17,7 +17,9 @@ ORDERS = [
     ("rehash phc 4 1 1 32  $", 2, "hash refused: EncodingInvalid", "so is that of an old hash"),
     ("verify $7$", 4, "input failed", "the fields of an MCF text are read after it"),
     ("verify $argon2id", 4, "input failed", "the algorithm is looked at after it"),
+    ("rehash mcf 4 1 1 32  $7$", 4, "input failed", "so are the fields of an old hash"),
     ("hash phc 4 1 1 ", 4, "input failed", "so is the length of a salt"),
+    ("key 56 1 1 32 ", 4, "input failed", "and memory is asked for after it"),
     ("--usual-limits verify $7$s/..../....$r/", 4, "input failed", "and the limits"),
 ]
 
