@@ -174,15 +174,6 @@ class Signals(unittest.TestCase):
                 self.assertIs(outcome(hasher, TEXT, "pw"), result)
                 self.assertLess(time.monotonic() - began, seconds, result)
 
-    def test_closed_in_a_handler(self):
-        """At any time of a call, which returns or is refused."""
-        for _ in range(1000):
-            hasher = PasswordHasher(log_n=4, at_once=1, timeout=WAIT)
-            with on_alarm(lambda *_: hasher.close()):
-                alarm(1e-6, 2e-4)
-                for _ in range(8):
-                    self.assertIn(outcome(hasher, TEXT, "pw"), (True, ValueError))
-
     def test_forked_in_a_handler(self):
         """At any time of a call, which goes on in the child too, and has the right verdict there, also if another thread
         derives for it."""
@@ -221,13 +212,9 @@ class Threads(unittest.TestCase):
                         self.assertTrue(least - 2e-3 <= time.monotonic() - began < most, timeout)
 
     def test_closed(self):
-        """One that waits is refused, and later ones. One that derives goes on, and comparing needs no memory."""
-        with ThreadPoolExecutor(1) as threads:
-            with PasswordHasher(log_n=4, at_once=1) as hasher, busy(hasher, 2):
-                waiting = threads.submit(hasher.hash, "pw")
-                time.sleep(0.05)
-                hasher.close()  # twice is allowed
-            self.assertRaisesRegex(ValueError, "the hasher is closed", waiting.result, WAIT)
+        """Later calls are refused, and comparing needs no memory. Closing twice is allowed."""
+        with PasswordHasher(log_n=4) as hasher:
+            hasher.close()
         for call in (lambda: hasher.hash("pw"), lambda: hasher.verify(TEXT, "pw")):
             self.assertRaisesRegex(ValueError, "the hasher is closed", call)
         self.assertFalse(hasher.check_needs_rehash(TEXT))
@@ -245,8 +232,7 @@ class Threads(unittest.TestCase):
         before = resident()
         for _ in range(500):
             hasher = PasswordHasher(log_n=4)
-            for _ in range(50):
-                hasher.verify(TEXT, "pw")
+            self.assertTrue(all(hasher.verify(TEXT, "pw") for _ in range(50)))
         self.assertLess(resident() - before, 1 << 10)
 
     def test_asyncio(self):
@@ -279,26 +265,16 @@ class Threads(unittest.TestCase):
 
 
 class Processes(unittest.TestCase):
-    def test_forked_while_others_derive(self):
+    def test_pools(self):
+        """Of processes that are forked while others derive, and that get a hasher and its methods."""
         hasher = PasswordHasher(log_n=4, at_once=2)
         with load(hasher, 6), warnings.catch_warnings():
             warnings.simplefilter("ignore", DeprecationWarning)
-            for _ in range(50):
-                child = os.fork()
-                if child == 0:
-                    os._exit([outcome(hasher, TEXT, it) for it in ("pw", "PW")] != [True, VerifyMismatchError])
-                self.assertEqual(ended(child), 0)
-            for _ in range(3):
-                with multiprocessing.get_context("fork").Pool(2) as pool:
-                    self.assertEqual(pool.starmap_async(hasher.verify, 4 * [(TEXT, "pw")]).get(WAIT), 4 * [True])
-
-    def test_pools(self):
-        """A hasher and its methods can be passed to processes that are not forked."""
-        for method in ("spawn", "forkserver"):
-            with multiprocessing.get_context(method).Pool(1) as pool:
-                self.assertTrue(pool.apply_async(PasswordHasher(log_n=4).verify, (TEXT, "pw")).get(WAIT))
-                with self.assertRaises(VerifyMismatchError):
-                    pool.apply_async(PasswordHasher(log_n=4).verify, (TEXT, "PW")).get(WAIT)
+            for method in 3 * ["fork"] + ["spawn", "forkserver"]:
+                with multiprocessing.get_context(method).Pool(2) as pool:
+                    self.assertEqual(pool.starmap_async(hasher.verify, 4 * [(TEXT, "pw")]).get(WAIT), 4 * [True], method)
+                    with self.assertRaises(VerifyMismatchError):
+                        pool.apply_async(hasher.verify, (TEXT, "PW")).get(WAIT)
 
     def test_copies(self):
         """Each argument is in the copy, which has a queue of its own."""
