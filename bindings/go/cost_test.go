@@ -6,7 +6,6 @@ package scrypt
 import (
 	"context"
 	"runtime"
-	"sync"
 	"sync/atomic"
 	"syscall"
 	"testing"
@@ -46,17 +45,11 @@ func TestMemoryOfAHasher(t *testing.T) {
 		forget()
 		before := resident(t)
 		hasher := newHasher(t, Options{Processors: it.processors, AtOnce: it.atOnce})
-		var all sync.WaitGroup
-		for i := 0; i < 12; i++ {
-			all.Add(1)
-			go func() {
-				defer all.Done()
-				if err := hasher.Verify(context.Background(), text, []byte("pw")); err != nil {
-					t.Errorf("%s: %v", it.why, err)
-				}
-			}()
-		}
-		all.Wait()
+		together(12, func(int) {
+			if err := hasher.Verify(context.Background(), text, []byte("pw")); err != nil {
+				t.Errorf("%s: %v", it.why, err)
+			}
+		})
 		kept := resident(t) - before
 		it.end(&hasher)
 		left := resident(t) - before
@@ -90,25 +83,20 @@ func TestManyCancelledWaits(t *testing.T) {
 		least := time.Hour
 		for i := 0; i < 2; i++ {
 			ctx, cancel := context.WithCancel(context.Background())
-			var all sync.WaitGroup
 			var waiting int64
-			for i := 0; i < count; i++ {
-				all.Add(1)
-				go func() {
-					defer all.Done()
-					err := wait(&watched{Context: ctx, onDone: func(int64) { atomic.AddInt64(&waiting, 1) }})
-					if err != context.Canceled {
-						t.Error(err)
+			begin := make(chan time.Duration, 1)
+			together(count, func(int) {
+				err := wait(&watched{Context: ctx, on: func(call string) {
+					if call == "Done 1" && atomic.AddInt64(&waiting, 1) == count {
+						begin <- used(t)
+						cancel()
 					}
-				}()
-			}
-			for atomic.LoadInt64(&waiting) < count {
-				time.Sleep(time.Millisecond)
-			}
-			begin := used(t)
-			cancel()
-			all.Wait()
-			if taken := used(t) - begin; taken < least {
+				}})
+				if err != context.Canceled {
+					t.Error(err)
+				}
+			})
+			if taken := used(t) - <-begin; taken < least {
 				least = taken
 			}
 		}
@@ -142,19 +130,13 @@ func TestWaitsTakeNoProcessor(t *testing.T) {
 	hasher, text := newHasher(t, Options{Params: small(), Processors: 1, AtOnce: 2}), hashOf(t, Params{LogN: 15})
 	verifying := func(ctx context.Context) time.Duration {
 		begin := used(t)
-		var all sync.WaitGroup
-		for i := 0; i < 8; i++ {
-			all.Add(1)
-			go func() {
-				defer all.Done()
-				for j := 0; j < 4; j++ {
-					if err := hasher.Verify(ctx, text, []byte("pw")); err != nil {
-						t.Error(err)
-					}
+		together(8, func(int) {
+			for j := 0; j < 4; j++ {
+				if err := hasher.Verify(ctx, text, []byte("pw")); err != nil {
+					t.Error(err)
 				}
-			}()
-		}
-		all.Wait()
+			}
+		})
 		return used(t) - begin
 	}
 	ctx, cancel := context.WithCancel(context.Background())

@@ -2,9 +2,7 @@ package scrypt
 
 import (
 	"context"
-	"errors"
 	"strings"
-	"sync"
 	"testing"
 )
 
@@ -98,39 +96,5 @@ func TestSaltsAreRandom(t *testing.T) {
 	}
 	if text, err := mcf.HashWithSalt(ctx, nil, long); err != nil || mcf.Verify(ctx, text, nil) != nil {
 		t.Errorf("a $7$ hash with a salt of 1000 bytes: %s, %v", text, err)
-	}
-}
-
-// Each of many gets what it gets alone, whatever the others are.
-func TestManyVerdictsAtOnce(t *testing.T) {
-	type verification struct {
-		text, password string
-		want           error
-	}
-	all := []verification{{"", "pw", ErrEncodingInvalid}, {"$scrypt$ln=4,r=8,p=1", "pw", ErrMismatch},
-		{"$scrypt$ln=1,r=1,p=2000000" + shortKey, "pw", ErrTooCostly}, {"$scrypt$ln=4,r=8,p=1" + shortKey, "pw", ErrKeyTooShort}}
-	for _, params := range []Params{{LogN: 4}, {LogN: 5}, {LogN: 4, R: 7}, {LogN: 4, P: 2}, {LogN: 9}} {
-		text := hashOf(t, params)
-		all = append(all, verification{text, "pw", nil}, verification{text, "PW", ErrMismatch}, verification{text, "", ErrMismatch})
-	}
-	for _, options := range []Options{{Processors: 1, AtOnce: 1}, {Processors: 1, AtOnce: 4}, {Processors: 2, AtOnce: 3}, {}} {
-		options.Params = small()
-		hasher := newHasher(t, options)
-		ctx, cancel := context.WithCancel(context.Background())
-		var group sync.WaitGroup
-		for i := 0; i < 16; i++ {
-			group.Add(1)
-			go func(i int) {
-				defer group.Done()
-				for j := 0; j < 200; j++ {
-					it := all[(i*7+j*5)%len(all)]
-					if err := hasher.Verify(ctx, it.text, []byte(it.password)); !errors.Is(err, it.want) {
-						t.Errorf("%s, %q: %v", it.text, it.password, err)
-					}
-				}
-			}(i)
-		}
-		group.Wait()
-		cancel()
 	}
 }

@@ -3,59 +3,78 @@ package scrypt
 import (
 	"context"
 	"errors"
+	"fmt"
 	"io"
 	"os/exec"
 	"runtime"
 	"strings"
 	"sync"
-	"sync/atomic"
 	"testing"
 	"time"
 )
 
 var _ io.Closer = (*Hasher)(nil)
 
-// A watched context does something before its Err or Done returns, with the number of that call.
+// A watched context does something before its Err or Done returns, which is told "Err 2" for the second Err.
 type watched struct {
 	context.Context
-	onErr, onDone   func(int64)
-	errors, waiting int64
+	on          func(call string)
+	errs, dones int
 }
 
 func (w *watched) Err() error {
-	if w.onErr != nil {
-		w.onErr(atomic.AddInt64(&w.errors, 1))
-	}
+	w.errs++
+	w.on(fmt.Sprint("Err ", w.errs))
 	return w.Context.Err()
 }
 
 func (w *watched) Done() <-chan struct{} {
-	if w.onDone != nil {
-		w.onDone(atomic.AddInt64(&w.waiting, 1))
-	}
+	w.dones++
+	w.on(fmt.Sprint("Done ", w.dones))
 	return w.Context.Done()
+}
+
+// An ended context is done, and has no error.
+type ended struct{ context.Context }
+
+func (ended) Done() <-chan struct{} {
+	done := make(chan struct{})
+	close(done)
+	return done
+}
+
+// together runs as many goroutines, and waits for all.
+func together(count int, run func(number int)) {
+	var all sync.WaitGroup
+	for i := 0; i < count; i++ {
+		all.Add(1)
+		go func(i int) {
+			defer all.Done()
+			run(i)
+		}(i)
+	}
+	all.Wait()
 }
 
 // fill lets as many goroutines in as there is room for, which do not go on to C before the result is called.
 func fill(hasher *Hasher) (leave func()) {
 	ctx, cancel := context.WithCancel(context.Background())
-	var inside, done sync.WaitGroup
+	inside, done := make(chan bool), make(chan bool)
+	go func() {
+		together(cap(hasher.of.inside), func(int) {
+			_, _ = hasher.Hash(&watched{Context: ctx, on: func(call string) {
+				if call == "Err 2" { // with its place
+					inside <- true
+					<-ctx.Done()
+				}
+			}}, nil)
+		})
+		close(done)
+	}()
 	for i := 0; i < cap(hasher.of.inside); i++ {
-		inside.Add(1)
-		done.Add(1)
-		stopped := &watched{Context: ctx, onErr: func(count int64) {
-			if count == 2 { // with its place
-				inside.Done()
-				<-ctx.Done()
-			}
-		}}
-		go func() {
-			_, _ = hasher.Hash(stopped, nil)
-			done.Done()
-		}()
+		<-inside
 	}
-	inside.Wait()
-	return func() { cancel(); done.Wait() }
+	return func() { cancel(); <-done }
 }
 
 // busy lets a goroutine derive on the only processor for a second or more, and returns when it has begun.
@@ -69,6 +88,8 @@ func busy(hasher *Hasher) (end func()) {
 	return func() { <-done }
 }
 
+func nobody(*Hasher) (end func()) { return func() {} }
+
 // Where a goroutine waits for room, and where it is in C.
 const (
 	inGo = ".enter("
@@ -81,8 +102,7 @@ func untilThereAre(count int, place string) {
 	for found := -1; found != count; time.Sleep(5 * time.Millisecond) {
 		found = 0
 		for _, it := range strings.Split(string(stacks[:runtime.Stack(stacks, true)]), "\n\n") {
-			stays := strings.Contains(it, " [select") || strings.Contains(it, " [syscall")
-			if stays && strings.Contains(it, place) {
+			if (strings.Contains(it, " [select") || strings.Contains(it, " [syscall")) && strings.Contains(it, place) {
 				found++
 			}
 		}
@@ -92,17 +112,13 @@ func untilThereAre(count int, place string) {
 	}
 }
 
-// slow are options for busy.
-func slow() Options { return Options{Params: Params{LogN: 12, P: 128}, AtOnce: 1} }
-
 // works reports whether a Hasher lets somebody in, and derives.
 func works(t *testing.T, hasher *Hasher, why string) {
 	t.Helper()
 	ctx, cancel := context.WithTimeout(context.Background(), 20*time.Second)
 	defer cancel()
-	text := "$scrypt$ln=4,r=8,p=1$c2FsdHNhbHQ$AAAAAAAAAAAAAAAAAAAAAA"
 	for i := 0; i < 2*cap(hasher.of.inside); i++ {
-		if err := hasher.Verify(ctx, text, nil); err != ErrMismatch {
+		if err := hasher.Verify(ctx, "$scrypt$ln=4,r=8,p=1"+shortKey+"AA", nil); err != ErrMismatch {
 			t.Fatalf("%s: afterwards %v", why, err)
 		}
 	}
@@ -111,144 +127,91 @@ func works(t *testing.T, hasher *Hasher, why string) {
 	}
 }
 
-// A context that panics in any of its calls takes nothing with it.
-func TestContextsThatPanic(t *testing.T) {
-	for _, it := range []struct {
-		why               string
-		at                func(*Hasher) func()
-		errCall, doneCall int64
-	}{
-		{"Err before anything", nil, 1, 0},
-		{"Err when it is let in", nil, 2, 0},
-		{"Done while it is let in", nil, 0, 1},
-		{"Err before it waits for others", fill, 1, 0},
-		{"Done while it waits for others", fill, 0, 1},
-		{"Err while it waits in C", busy, 3, 0},
-	} {
-		hasher := newHasher(t, slow())
-		end := func() {}
-		if it.at != nil {
-			end = it.at(hasher)
+// outcome returns the error of a call, or with what it panics.
+func outcome(hasher *Hasher, ctx context.Context) (result any) {
+	defer func() {
+		if panicked := recover(); panicked != nil {
+			result = panicked
 		}
-		base, cancel := context.WithCancel(context.Background())
-		panics := func(at int64) func(int64) {
-			return func(count int64) {
-				if count == at {
-					panic(it.why)
-				}
-			}
-		}
-		ctx := &watched{Context: base, onErr: panics(it.errCall), onDone: panics(it.doneCall)}
-		func() {
-			defer func() {
-				if recovered := recover(); recovered != it.why {
-					t.Errorf("%s: %v", it.why, recovered)
-				}
-			}()
-			_, _ = hasher.Hash(ctx, nil)
-		}()
-		end()
-		works(t, hasher, it.why)
-		cancel()
-	}
+	}()
+	_, err := hasher.Hash(ctx, nil)
+	return err
 }
 
-// A context that ends, and Close, end a wait wherever it is, and no derivation.
+// A context that ends or panics, and Close, end a wait wherever it is, and no derivation. They take nothing with them.
 func TestEndsOfWaits(t *testing.T) {
+	const cancels, closes, late, ends = "cancels", "closes", "late", "ends"
 	for _, it := range []struct {
-		why    string
-		at     func(*Hasher) func()
-		there  func()
-		closes bool
-		want   error
+		why   string
+		at    func(*Hasher) func() // who is there already
+		what  string               // what happens, or which call of the context panics
+		place string
+		there int // how many have to be at the place before
+		want  any
 	}{
-		{"cancelled while it waits for others", fill, func() { untilThereAre(1, inGo) }, false, context.Canceled},
-		{"closed while it waits for others", fill, func() { untilThereAre(1, inGo) }, true, ErrClosed},
-		{"cancelled while it waits in C", busy, func() { untilThereAre(2, inC) }, false, context.Canceled},
-		{"closed while it waits in C", busy, func() { untilThereAre(2, inC) }, true, ErrClosed},
-		{"cancelled while it derives", nil, func() { untilThereAre(1, inC) }, false, nil},
-		{"closed while it derives", nil, func() { untilThereAre(1, inC) }, true, nil},
+		{"while it waits for others", fill, cancels, inGo, 1, context.Canceled},
+		{"while it waits for others", fill, closes, inGo, 1, ErrClosed},
+		{"while it waits for others", fill, late, "", 0, context.DeadlineExceeded},
+		{"without an error", fill, ends, "", 0, context.Canceled},
+		{"while it waits in C", busy, cancels, inC, 2, context.Canceled},
+		{"while it waits in C", busy, closes, inC, 2, ErrClosed},
+		{"while it waits in C", busy, late, "", 0, context.DeadlineExceeded},
+		{"while it derives", nobody, cancels, inC, 1, nil},
+		{"while it derives", nobody, closes, inC, 1, nil},
+		{"before anything", nobody, "Err 1", "", 0, "Err 1"},
+		{"when it is let in", nobody, "Err 2", "", 0, "Err 2"},
+		{"while it is let in", nobody, "Done 1", "", 0, "Done 1"},
+		{"before it waits for others", fill, "Err 1", "", 0, "Err 1"},
+		{"while it waits for others", fill, "Done 1", "", 0, "Done 1"},
+		{"while it waits in C", busy, "Err 3", "", 0, "Err 3"},
 	} {
-		hasher, end := newHasher(t, slow()), func() {}
-		if it.at != nil {
-			end = it.at(hasher)
-		}
-		ctx, cancel := context.WithCancel(context.Background())
-		result := make(chan error)
-		go func() {
-			_, err := hasher.Hash(ctx, nil)
-			result <- err
-		}()
-		it.there()
-		if it.closes {
-			if err := hasher.Close(); err != nil {
-				t.Error(err)
+		hasher := newHasher(t, Options{Params: Params{LogN: 12, P: 128}, AtOnce: 1})
+		end := it.at(hasher)
+		base, cancel := context.WithCancel(context.Background())
+		var ctx context.Context = &watched{Context: base, on: func(call string) {
+			if call == it.what {
+				panic(call)
 			}
-		} else {
+		}}
+		if it.what == ends {
+			ctx = ended{base}
+		} else if it.what == late {
+			ctx, cancel = context.WithTimeout(base, 20*time.Millisecond)
+		}
+		result := make(chan any)
+		go func() { result <- outcome(hasher, ctx) }()
+		if it.there > 0 {
+			untilThereAre(it.there, it.place)
+		}
+		if it.what == cancels {
 			cancel()
+		} else if it.what == closes {
+			_ = hasher.Close()
 		}
-		if err := <-result; err != it.want {
-			t.Errorf("%s: %v", it.why, err)
-		}
-		if _, err := hasher.Hash(ctx, nil); it.closes && err != ErrClosed || !it.closes && err != context.Canceled {
-			t.Errorf("%s: the next call: %v", it.why, err)
-		}
-		cancel()
-		end()
-		if !it.closes {
-			works(t, hasher, it.why)
-		}
-	}
-}
-
-func TestDeadlines(t *testing.T) {
-	for _, at := range []func(*Hasher) func(){fill, busy} {
-		hasher := newHasher(t, slow())
-		end := at(hasher)
-		ctx, cancel := context.WithTimeout(context.Background(), 20*time.Millisecond)
-		if _, err := hasher.Hash(ctx, nil); err != context.DeadlineExceeded {
-			t.Error(err)
+		if got := <-result; got != it.want {
+			t.Errorf("%s, %s: %v", it.what, it.why, got)
 		}
 		cancel()
 		end()
+		if it.what != closes {
+			works(t, hasher, it.what+", "+it.why)
+		}
 	}
-}
-
-// An ended context is done, and has no error.
-type ended struct{ context.Context }
-
-func (ended) Done() <-chan struct{} {
-	done := make(chan struct{})
-	close(done)
-	return done
-}
-
-func TestAContextWithoutAnError(t *testing.T) {
-	hasher := newHasher(t, slow())
-	leave := fill(hasher)
-	if _, err := hasher.Hash(ended{context.Background()}, nil); err != context.Canceled {
-		t.Error(err)
-	}
-	leave()
-	works(t, hasher, "after a context without an error")
 }
 
 // Who has waited longest is let in next.
 func TestInOrder(t *testing.T) {
 	hasher, order := newHasher(t, Options{Params: small(), AtOnce: 1}), make(chan int, 8)
 	leave := fill(hasher)
+	ctx, cancel := context.WithCancel(context.Background())
+	defer cancel()
 	for i := 0; i < 8; i++ {
-		ctx, cancel := context.WithCancel(context.Background())
-		defer cancel()
 		go func(i int) {
-			inside := func(count int64) {
-				if count == 2 {
+			_ = outcome(hasher, &watched{Context: ctx, on: func(call string) {
+				if call == "Err 2" {
 					order <- i
 				}
-			}
-			if _, err := hasher.Hash(&watched{Context: ctx, onErr: inside}, nil); err != nil {
-				t.Error(err)
-			}
+			}})
 		}(i)
 		untilThereAre(i+1, inGo)
 	}
@@ -263,61 +226,62 @@ func TestInOrder(t *testing.T) {
 	leave()
 }
 
-// Other programs start while many derive.
-func TestFork(t *testing.T) {
-	hasher, text := newHasher(t, Options{Params: small()}), hashOf(t, Params{LogN: 10})
-	ctx, cancel := context.WithCancel(context.Background())
-	var all sync.WaitGroup
-	for i := 0; i < 8; i++ {
-		all.Add(1)
-		go func() {
-			defer all.Done()
-			for ctx.Err() == nil {
-				if err := hasher.Verify(ctx, text, []byte("pw")); err != nil && !errors.Is(err, context.Canceled) {
-					t.Error(err)
+// One that is closed, also twice, and one that NewHasher did not make. The errors of a text come first, where it is read.
+func TestClosedHashers(t *testing.T) {
+	ctx, text := context.Background(), "$scrypt$ln=4,r=8,p=1"+shortKey+"AA"
+	made := newHasher(t, Options{Params: small()})
+	for _, it := range []struct {
+		hasher       *Hasher
+		noText, weak error
+	}{{made, ErrEncodingInvalid, nil}, {&Hasher{}, ErrClosed, ErrClosed}} {
+		if one, other := it.hasher.Close(), it.hasher.Close(); one != nil || other != nil {
+			t.Error(one, other)
+		}
+		_, hashed := it.hasher.Hash(ctx, nil)
+		_, salted := it.hasher.HashWithSalt(ctx, nil, []byte("saltsalt"))
+		_, key := it.hasher.Key(ctx, nil, nil, 32)
+		for i, err := range []error{hashed, salted, key, it.hasher.Verify(ctx, text, nil)} {
+			if err != ErrClosed {
+				t.Errorf("call %d: %v", i, err)
+			}
+		}
+		if err := it.hasher.Verify(ctx, "", nil); err != it.noText {
+			t.Errorf("a text that is no hash: %v", err)
+		}
+		if weak, err := it.hasher.NeedsRehash(text); weak != (it.weak == nil) || err != it.weak {
+			t.Errorf("NeedsRehash: %v, %v", weak, err)
+		}
+	}
+}
+
+// Each of many gets what it gets alone, whatever the others are, and while other programs start.
+func TestManyVerdictsAtOnce(t *testing.T) {
+	type verification struct {
+		text, password string
+		want           error
+	}
+	all := []verification{{"", "pw", ErrEncodingInvalid}, {"$scrypt$ln=4,r=8,p=1", "pw", ErrMismatch},
+		{"$scrypt$ln=1,r=1,p=2000000" + shortKey, "pw", ErrTooCostly}, {"$scrypt$ln=4,r=8,p=1" + shortKey, "pw", ErrKeyTooShort}}
+	for _, params := range []Params{{LogN: 4}, {LogN: 5}, {LogN: 4, R: 7}, {LogN: 4, P: 2}, {LogN: 9}} {
+		text := hashOf(t, params)
+		all = append(all, verification{text, "pw", nil}, verification{text, "PW", ErrMismatch}, verification{text, "", ErrMismatch})
+	}
+	for _, options := range []Options{{Processors: 1, AtOnce: 1}, {Processors: 1, AtOnce: 4}, {Processors: 2, AtOnce: 3}, {}} {
+		options.Params = small()
+		hasher := newHasher(t, options)
+		together(17, func(i int) {
+			for j := 0; j < 200; j++ {
+				it := all[(i*7+j*5)%len(all)]
+				if err := hasher.Verify(context.Background(), it.text, []byte(it.password)); !errors.Is(err, it.want) {
+					t.Errorf("%s, %q: %v", it.text, it.password, err)
+				}
+				if j != 12*i {
+					continue
+				}
+				if output, err := exec.Command("echo", "here").Output(); err != nil || string(output) != "here\n" {
+					t.Errorf("%q, %v", output, err)
 				}
 			}
-		}()
-	}
-	for i := 0; i < 50; i++ {
-		if output, err := exec.Command("echo", "here").Output(); err != nil || string(output) != "here\n" {
-			t.Errorf("%q, %v", output, err)
-		}
-	}
-	cancel()
-	all.Wait()
-	works(t, hasher, "after 50 programs")
-}
-
-func TestAZeroHasher(t *testing.T) {
-	var hasher Hasher
-	_, hashed := hasher.Hash(context.Background(), nil)
-	_, salted := hasher.HashWithSalt(context.Background(), nil, []byte("saltsalt"))
-	_, key := hasher.Key(context.Background(), nil, nil, 32)
-	_, weak := hasher.NeedsRehash("$scrypt$ln=4,r=8,p=1")
-	for i, err := range []error{hashed, salted, key, weak, hasher.Verify(context.Background(), "", nil)} {
-		if err != ErrClosed {
-			t.Errorf("call %d: %v", i, err)
-		}
-	}
-	if err := hasher.Close(); err != nil {
-		t.Errorf("Close: %v", err)
-	}
-}
-
-func TestClosedTwice(t *testing.T) {
-	hasher := newHasher(t, Options{Params: small()})
-	if one, other := hasher.Close(), hasher.Close(); one != nil || other != nil {
-		t.Error(one, other)
-	}
-	text := "$scrypt$ln=4,r=8,p=1" + shortKey + "AA"
-	if err := hasher.Verify(context.Background(), text, nil); err != ErrClosed {
-		t.Error(err)
-	}
-	if err := hasher.Verify(context.Background(), "", nil); err != ErrEncodingInvalid {
-		t.Errorf("a text that is no hash: %v", err)
-	}
-	if weak, err := hasher.NeedsRehash(text); !weak || err != nil {
-		t.Errorf("NeedsRehash: %v, %v", weak, err)
+		})
 	}
 }
