@@ -185,8 +185,8 @@ impl Hasher {
     ///
     /// # Errors
     ///
-    /// `InvalidOutputLen` unless the output has 1 to 137438953440 bytes, `Closed` and `OutOfMemory`. All leave the output
-    /// unchanged.
+    /// `InvalidOutputLen` unless the output has 1 to 137438953440 bytes, `Closed` and `OutOfMemory`, which leave the output
+    /// unchanged; and [`Error::Cancelled`], which writes zeros.
     pub fn key(
         &self,
         password: impl AsRef<[u8]>,
