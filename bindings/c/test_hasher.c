@@ -249,29 +249,6 @@ static void calls(void) {
   scrypt_hasher_free(of_mcf);
 }
 
-/* Of one to four, right and wrong, in room for one to four: what each is alone. */
-static void verdicts(void) {
-  char text[4][SCRYPT_PHC_CAPACITY], password[2] = "a";
-  struct tables tables = {NULL, 0, NULL, 0, 0, 0};
-  scrypt_needs needs;
-  scrypt_login logins[4];
-  int statuses[4], right, i, n;
-  scrypt_options with = {sizeof with, 4, 8, 2, 0, 32, 16, SIZE_MAX, UINT64_MAX, 0, 1, 1};
-  IS(needs_of_new(&with, &needs), SCRYPT_OK);
-  for (i = 0; i < 4; i++) password[0] = (char)('a' + i), make_text(text[i], password, 4, 8, 2);
-  for (n = 1; n <= 4; n++)
-    for (right = 0; right < 1 << n; right++) {
-      size_t room = tables_room(&tables, &needs, (size_t)(1 + right % 4));
-      struct buffers of = tables_buffers(&tables, &needs, room, (size_t)n);
-      for (i = 0; i < n; i++)
-        logins[i] = (scrypt_login){&"abcd"[right >> i & 1 ? i : (i + 1) % 4], 1, text[i], strlen(text[i])};
-      for (i = 0; i < n; i++) statuses[i] = SCRYPT_CANCELLED;
-      verify_group(logins, (size_t)n, statuses, &of);
-      for (i = 0; i < n; i++) expect(statuses[i] == !(right >> i & 1), "%d of %d: %d", i, n, statuses[i]);
-    }
-  tables_free(&tables);
-}
-
 /* Of what a call leaves in the memory that is kept, only the table isn't zeros. */
 static void kept(void) {
   scrypt_hasher *hasher = made(1, 1, 4);
@@ -384,7 +361,7 @@ static void calibrated(void) {
 
 int main(int count, char **names) {
   static const struct test TESTS[] = {
-      {"rows", rows}, {"options", options}, {"calls", calls}, {"verdicts", verdicts}, {"kept", kept},
+      {"rows", rows}, {"options", options}, {"calls", calls}, {"kept", kept},
       {"turns", numbers_of_turns}, {"waits", many_waits}, {"processors", processors}, {"calibrated", calibrated}, {NULL, NULL}};
   return run_tests(TESTS, count > 1 ? names[1] : NULL);
 }
