@@ -9,18 +9,16 @@ import (
 )
 
 func TestLimiterNeedsNoMoreMemoryForMoreKeys(t *testing.T) {
-	used := func() int64 {
-		var memory runtime.MemStats
-		runtime.GC()
-		runtime.ReadMemStats(&memory)
-		return int64(memory.HeapAlloc)
-	}
-	before, l := used(), newLimiter()
+	var before, after runtime.MemStats
+	runtime.GC()
+	runtime.ReadMemStats(&before)
+	l := newLimiter()
 	for i := 0; i < 1_000_000; i++ {
 		l.charge(*pause, fmt.Sprint("name ", i))
 	}
-	if more := used() - before; more > 3<<20 {
-		t.Errorf("%d bytes for a million keys", more)
+	runtime.GC()
+	if runtime.ReadMemStats(&after); after.HeapAlloc > before.HeapAlloc+3<<20 {
+		t.Errorf("%d bytes before a million keys, and %d after", before.HeapAlloc, after.HeapAlloc)
 	}
 	// A slot whose tries are all used is one of 262144, so few other names share one of these.
 	l, others := newLimiter(), 0

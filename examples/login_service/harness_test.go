@@ -1,8 +1,6 @@
 package main
 
 import (
-	"bufio"
-	"bytes"
 	"context"
 	"database/sql"
 	"fmt"
@@ -22,23 +20,23 @@ import (
 	"syscall"
 	"testing"
 	"time"
+
+	"nilomafy.example/scrypt"
 )
+
+// small is for hashes that take no time. The password of each user is right, where a test says nothing else.
+const small, right, wrong = "-log-n=10", "a password", "not it"
 
 var program string
 
 func TestMain(m *testing.M) {
 	room := must(os.MkdirTemp("", "login-service-"))
 	program = filepath.Join(room, "login_service")
-	if out, err := exec.Command("go", "build", "-o", program, ".").CombinedOutput(); err != nil {
-		fmt.Println(string(out))
+	if out, ok := ran("go", "build", "-o", program, "."); !ok {
+		fmt.Println(out)
 		os.Exit(1)
 	}
-	for _, path := range []string{room, program} { // for root, whose service runs as another user
-		if err := os.Chmod(path, 0o711); err != nil {
-			fmt.Println(err)
-			os.Exit(1)
-		}
-	}
+	_, _ = ran("chmod", "711", room, program) // for root, whose service runs as another user
 	signals := make(chan os.Signal, 1)
 	signal.Notify(signals, os.Interrupt, syscall.SIGTERM)
 	go func() {
@@ -50,6 +48,12 @@ func TestMain(m *testing.M) {
 	code := m.Run()
 	_ = os.RemoveAll(room)
 	os.Exit(code)
+}
+
+// ran returns what a command printed, and whether it succeeded.
+func ran(words ...string) (string, bool) {
+	out, err := exec.Command(words[0], words[1:]...).CombinedOutput()
+	return string(out), err == nil
 }
 
 // worlds has those that are not closed yet, so that they end with the tests if these are stopped.
@@ -66,24 +70,12 @@ type world struct {
 
 func newWorld(t testing.TB, arguments ...string) *world {
 	t.Helper()
-	store, err := os.MkdirTemp("", "login-store-")
-	if err != nil {
-		t.Fatal(err)
-	}
-	w := &world{TB: t, store: store}
-	if w.log, err = os.CreateTemp("", "login-log-"); err != nil {
-		t.Fatal(err)
-	}
-	if w.db, err = sql.Open("postgres", "host="+store+" user=login_service dbname=postgres sslmode=disable"); err != nil {
-		t.Fatal(err)
-	}
+	w := &world{TB: t, store: must(os.MkdirTemp("", "login-store-")), log: must(os.CreateTemp("", "login-log-"))}
+	w.db = must(sql.Open("postgres", "host="+w.store+" user=login_service dbname=postgres sslmode=disable"))
 	w.postgres("start")
 	worlds.Store(w, nil)
 	t.Cleanup(w.close)
-	free, err := net.Listen("tcp", "127.0.0.1:0")
-	if err != nil {
-		t.Fatal(err)
-	}
+	free := must(net.Listen("tcp", "127.0.0.1:0"))
 	w.address = free.Addr().String()
 	_ = free.Close()
 	w.start(arguments...)
@@ -102,8 +94,8 @@ func (w *world) close() {
 }
 
 func (w *world) postgres(word string) {
-	if out, err := exec.Command("./postgres.sh", word, w.store).CombinedOutput(); err != nil {
-		w.Errorf("postgres.sh %s: %v %s", word, err, out)
+	if out, ok := ran("./postgres.sh", word, w.store); !ok {
+		w.Errorf("postgres.sh %s: %s", word, out)
 	}
 }
 
@@ -136,27 +128,20 @@ func (w *world) stop() {
 	_ = w.service.Wait()
 }
 
-func (w *world) logged() string {
-	text, err := os.ReadFile(w.log.Name())
-	if err != nil {
-		w.Error(err)
-	}
-	return string(text)
+// restart starts the service with other arguments.
+func (w *world) restart(arguments ...string) {
+	w.Helper()
+	w.stop()
+	w.start(arguments...)
 }
+
+func (w *world) logged() string { return string(must(os.ReadFile(w.log.Name()))) }
 
 // status returns a number of KiB that the system knows of the service.
 func (w *world) status(name string) int {
 	w.Helper()
-	status, err := os.ReadFile(fmt.Sprintf("/proc/%d/status", w.service.Process.Pid))
-	if err != nil {
-		w.Fatal(err)
-	}
-	found := regexp.MustCompile(name + `:\s*(\d+)`).FindSubmatch(status)
-	kib, err := strconv.Atoi(string(found[1]))
-	if err != nil {
-		w.Fatal(err)
-	}
-	return kib
+	status := must(os.ReadFile(fmt.Sprintf("/proc/%d/status", w.service.Process.Pid)))
+	return must(strconv.Atoi(string(regexp.MustCompile(name + `:\s*(\d+)`).FindSubmatch(status)[1])))
 }
 
 // peak returns the most memory that the service had since the last call, in MiB.
@@ -175,6 +160,14 @@ func (w *world) exec(statement string, values ...any) {
 	}
 }
 
+// users adds user0, user1 .. by the store, with one hash of the right password.
+func (w *world) users(count, logN int) {
+	w.Helper()
+	hasher := must(scrypt.NewHasher(scrypt.Options{Params: scrypt.Params{LogN: logN, R: 8, P: 1, KeyLen: 32}}))
+	text := must(hasher.Hash(context.Background(), []byte(right)))
+	w.exec(`INSERT INTO users SELECT 'user' || n, $1 FROM generate_series(0, $2) n`, text, count-1)
+}
+
 func (w *world) hash(name string) (text string) {
 	w.Helper()
 	if err := w.db.QueryRow(`SELECT hash FROM users WHERE name = $1`, name).Scan(&text); err != nil {
@@ -185,12 +178,9 @@ func (w *world) hash(name string) (text string) {
 
 // A browser runs no scripts.
 type browser struct {
-	address, token string
-	cookies        map[string]string
-	headers        map[string]string
-	http           http.Client
-
-	outside, visitor string // the token and the cookie of a page that was read before a log-in
+	address, token   string
+	cookies, headers map[string]string
+	http             http.Client
 }
 
 // addresses counts the browsers, each of which has an address of its own on this machine.
@@ -203,8 +193,17 @@ func newBrowser(address string) *browser {
 
 func newBrowserFrom(own, address string) *browser {
 	noRedirect := func(*http.Request, []*http.Request) error { return http.ErrUseLastResponse }
-	return &browser{address: address, cookies: map[string]string{}, http: http.Client{CheckRedirect: noRedirect,
+	return &browser{address: address, cookies: map[string]string{}, headers: map[string]string{}, http: http.Client{CheckRedirect: noRedirect,
 		Timeout: 60 * time.Second, Transport: &http.Transport{MaxIdleConnsPerHost: 1, DialContext: dialer(own).DialContext}}}
+}
+
+// proxied is for a service that trusts the proxy for which at makes browsers: their addresses are sent by the proxy.
+const proxied = "-proxy=127.0.9.100"
+
+func (w *world) at(address string) *browser {
+	one := newBrowserFrom("127.0.9.100", w.address)
+	one.headers["X-Forwarded-For"] = address
+	return one
 }
 
 // dialer returns one that connects from an address of this machine.
@@ -242,16 +241,14 @@ func (c *browser) ask(method, path string, body io.Reader) (answer, error) {
 		return answer{}, err
 	}
 	defer response.Body.Close()
-	var page bytes.Buffer
-	_, err = bufio.NewReader(response.Body).WriteTo(&page)
+	page, err := io.ReadAll(response.Body)
 	for _, cookie := range response.Cookies() {
+		c.cookies[cookie.Name] = cookie.Value
 		if cookie.MaxAge < 0 {
 			delete(c.cookies, cookie.Name)
-		} else {
-			c.cookies[cookie.Name] = cookie.Value
 		}
 	}
-	return answer{response.StatusCode, response.Header.Get("Retry-After"), page.String(), time.Since(began), response.Header}, err
+	return answer{response.StatusCode, response.Header.Get("Retry-After"), string(page), time.Since(began), response.Header}, err
 }
 
 // read opens the page, and keeps the token of its forms.
@@ -260,13 +257,10 @@ func (c *browser) read() (answer, error) {
 	if found := tokenInPage.FindStringSubmatch(got.page); found != nil {
 		c.token = found[1]
 	}
-	if c.cookies["session"] == "" {
-		c.outside, c.visitor = c.token, c.cookies["visitor"]
-	}
 	return got, err
 }
 
-// send fills in a form: the action, and the names of its fields each before its value.
+// send sends a form of the page that was read: the action, and the names of its fields each before its value.
 func (c *browser) send(action string, fields ...string) (answer, error) {
 	form := url.Values{"token": {c.token}}
 	for i := 0; i < len(fields); i += 2 {
@@ -275,30 +269,28 @@ func (c *browser) send(action string, fields ...string) (answer, error) {
 	return c.ask(http.MethodPost, "/"+action, strings.NewReader(form.Encode()))
 }
 
-// leave returns to the page as it was before a log-in, or reads it.
-func (c *browser) leave() (answer, error) {
-	delete(c.cookies, "session")
-	if c.token == "" || c.outside == "" {
-		return c.read()
+// fill reads the page, and sends a form of it.
+func (c *browser) fill(action string, fields ...string) (answer, error) {
+	if got, err := c.read(); err != nil || got.status != http.StatusOK {
+		return got, err
 	}
-	c.token, c.cookies["visitor"] = c.outside, c.visitor
-	return answer{}, nil
+	return c.send(action, fields...)
 }
 
 // logIn is a log-in by a browser that is not logged in.
 func (c *browser) logIn(name, password string) (answer, error) {
-	if got, err := c.leave(); err != nil || c.token == "" {
-		return got, err
-	}
-	return c.send("log-in", "name", name, "password", password)
+	delete(c.cookies, "session")
+	return c.fill("log-in", "name", name, "password", password)
 }
 
 // signUp is a sign-up by a browser that is not logged in.
 func (c *browser) signUp(name, password string) (answer, error) {
-	if got, err := c.leave(); err != nil || c.token == "" {
-		return got, err
-	}
-	return c.send("sign-up", "name", name, "new", password)
+	delete(c.cookies, "session")
+	return c.fill("sign-up", "name", name, "new", password)
+}
+
+func (c *browser) change(password, wanted string) (answer, error) {
+	return c.fill("change", "password", password, "new", wanted)
 }
 
 // expect ends the test unless an answer has a status.
@@ -312,4 +304,48 @@ func (w *world) expect(status int) func(answer, error) answer {
 	}
 }
 
-var background = context.Background()
+// answers has how many have each status, and the longest time until one. The status is 0 if there is no answer, or one of
+// 429 or 503 without Retry-After.
+type answers struct {
+	sync.Mutex
+	of      map[int]int
+	slowest time.Duration
+}
+
+// each acts for the numbers below a count, some at a time.
+func each(count, atOnce int, act func(number int) (answer, error)) *answers {
+	all := &answers{of: map[int]int{}}
+	var group sync.WaitGroup
+	numbers := make(chan int)
+	for i := 0; i < atOnce; i++ {
+		group.Add(1)
+		go func() {
+			defer group.Done()
+			for number := range numbers {
+				got, err := act(number)
+				if err != nil || (got.status == 429 || got.status == 503) && got.retry == "" {
+					got.status = 0
+				}
+				all.Lock()
+				all.of[got.status]++
+				if got.took > all.slowest {
+					all.slowest = got.took
+				}
+				all.Unlock()
+			}
+		}()
+	}
+	for i := 0; i < count; i++ {
+		numbers <- i
+	}
+	close(numbers)
+	group.Wait()
+	return all
+}
+
+// meanwhile lets as many act at once, and returns a function that waits for them.
+func meanwhile(count int, act func(number int) (answer, error)) (wait func() *answers) {
+	ended := make(chan *answers)
+	go func() { ended <- each(count, count, act) }()
+	return func() *answers { return <-ended }
+}

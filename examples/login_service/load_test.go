@@ -10,6 +10,7 @@ import (
 	"strconv"
 	"strings"
 	"sync"
+	"sync/atomic"
 	"testing"
 	"time"
 
@@ -38,20 +39,18 @@ type count struct {
 func (c *count) add(got answer, err error, hasBegun, hasEnded bool) {
 	c.Lock()
 	defer c.Unlock()
-	switch {
-	case err == nil && got.status == 303:
-		if hasEnded {
-			c.ended++
-		}
-		if hasBegun {
-			c.logIns = append(c.logIns, got.took)
-		}
-	case err == nil && got.status == 503 && got.retry != "":
-		if hasEnded {
-			c.refused = append(c.refused, got.took)
-		}
-	default:
+	isLogIn, isRefused := err == nil && got.status == 303, err == nil && got.status == 503 && got.retry != ""
+	if !isLogIn && !isRefused {
 		c.untold[fmt.Sprint(got.status, err)]++
+	}
+	if isLogIn && hasEnded {
+		c.ended++
+	}
+	if isLogIn && hasBegun {
+		c.logIns = append(c.logIns, got.took)
+	}
+	if isRefused && hasEnded {
+		c.refused = append(c.refused, got.took)
 	}
 }
 
@@ -73,63 +72,40 @@ func part(times []time.Duration, part float64) string {
 }
 
 // rate returns how many verifications a second the library does by itself, with this many callers.
-func rate(t *testing.T, logN int, callers int, seconds time.Duration) float64 {
-	hasher, err := scrypt.NewHasher(scrypt.Options{Params: scrypt.Params{LogN: logN, R: 8, P: 1, KeyLen: 32}})
-	if err != nil {
-		t.Fatal(err)
-	}
-	text, err := hasher.Hash(context.Background(), []byte("a password"))
-	if err != nil {
-		t.Fatal(err)
-	}
+func rate(logN int, callers int, seconds time.Duration) float64 {
+	hasher := must(scrypt.NewHasher(scrypt.Options{Params: scrypt.Params{LogN: logN, R: 8, P: 1, KeyLen: 32}}))
+	text := must(hasher.Hash(context.Background(), []byte(right)))
 	begin := time.Now().Add(warming / 2)
-	end := begin.Add(seconds)
-	done := make(chan int, callers)
-	for i := 0; i < callers; i++ {
-		go func() {
-			verified := 0
-			for time.Now().Before(end) {
-				err := hasher.Verify(context.Background(), text, []byte("a password"))
-				if now := time.Now(); err == nil && now.After(begin) && now.Before(end) {
-					verified++
-				}
+	end, verified := begin.Add(seconds), int32(0)
+	each(callers, callers, func(int) (answer, error) {
+		for time.Now().Before(end) {
+			err := hasher.Verify(context.Background(), text, []byte(right))
+			if now := time.Now(); err == nil && now.After(begin) && now.Before(end) {
+				atomic.AddInt32(&verified, 1)
 			}
-			done <- verified
-		}()
-	}
-	sum := 0
-	for i := 0; i < callers; i++ {
-		sum += <-done
-	}
-	return float64(sum) / seconds.Seconds()
+		}
+		return answer{}, nil
+	})
+	return float64(verified) / seconds.Seconds()
 }
 
 // load lets clients log in until the end; a client that is told to come back does so after Retry-After.
 func load(w *world, clients int, got *count) {
 	begin := time.Now().Add(warming)
 	end := begin.Add(measuring)
-	var group sync.WaitGroup
-	for i := 0; i < clients; i++ {
-		group.Add(1)
-		go func(i int) {
-			defer group.Done()
-			browser := newBrowser(w.address)
-			defer browser.http.CloseIdleConnections()
-			for start := time.Now(); start.Before(end); start = time.Now() {
-				answer, err := browser.logIn(fmt.Sprint("user", i), "a password")
-				now := time.Now()
-				got.add(answer, err, start.After(begin), now.After(begin) && now.Before(end))
-				if seconds, err := strconv.Atoi(answer.retry); err == nil {
-					wait := time.Duration(seconds)*time.Second + time.Duration(rand.Intn(200))*time.Millisecond
-					if time.Now().Add(wait).After(end) {
-						return
-					}
-					time.Sleep(wait)
-				}
+	each(clients, clients, func(i int) (answer, error) {
+		browser := newBrowser(w.address)
+		defer browser.http.CloseIdleConnections()
+		for start := time.Now(); start.Before(end); start = time.Now() {
+			answer, err := browser.logIn(fmt.Sprint("user", i), right)
+			now := time.Now()
+			got.add(answer, err, start.After(begin), now.After(begin) && now.Before(end))
+			if seconds, err := strconv.Atoi(answer.retry); err == nil {
+				time.Sleep(time.Duration(seconds)*time.Second + time.Duration(rand.Intn(200))*time.Millisecond)
 			}
-		}(i)
-	}
-	group.Wait()
+		}
+		return answer{}, nil
+	})
 }
 
 func TestTableHasTheColumnsOfREADME(t *testing.T) {
@@ -147,13 +123,9 @@ func TestLoad(t *testing.T) {
 	processors := runtime.GOMAXPROCS(0)
 	fmt.Printf("%d processors\n%s\n%s\n", processors, columns, strings.Repeat("|---", strings.Count(columns, "|")-1)+"|")
 	for _, logN := range []int{14, 17} {
-		memory, err := scrypt.Params{LogN: logN, R: 8, P: 1, KeyLen: 32}.Memory()
-		if err != nil {
-			t.Fatal(err)
-		}
-		bound := 2*processors*int(memory>>20) + 64
+		bound := 2*processors<<(logN-10) + 64
 		w := newWorld(t, fmt.Sprint("-log-n=", logN), "-tries=1000") // else one client uses up its allowance
-		w.users(256, "a password", logN)
+		w.users(256, logN)
 		for _, clients := range []int{1, 4, 16, 64, 256} {
 			callers := clients
 			if callers > 4*processors { // of which two are always waiting
@@ -161,10 +133,10 @@ func TestLoad(t *testing.T) {
 			}
 			w.peak()
 			got := &count{untold: map[string]int{}}
-			library := rate(t, logN, callers, measuring/2) / 2
+			library := rate(logN, callers, measuring/2) / 2
 			for slice := 1; slice <= slices; slice++ {
 				load(w, clients, got)
-				part := rate(t, logN, callers, measuring/2)
+				part := rate(logN, callers, measuring/2)
 				if slice == slices {
 					part /= 2
 				}

@@ -2,7 +2,6 @@ package main
 
 import (
 	"fmt"
-	"net"
 	"os"
 	"strconv"
 	"strings"
@@ -20,10 +19,9 @@ type mix struct {
 	end   time.Time
 	epoch int32 // even while the service runs, odd while it is killed and started
 	sync.Mutex
-	answers  map[string]int
-	full     []time.Duration // of the answers that no place is free
-	late     []time.Duration // by which the machine, which others may use, ends a sleep late
-	restarts int
+	answers map[string]int
+	full    []time.Duration // of the answers that no place is free
+	late    []time.Duration // by which the machine, which others may use, ends a sleep late
 }
 
 // told counts an answer. A request without one is allowed if the service was killed meanwhile, or the form was too large.
@@ -37,10 +35,8 @@ func (m *mix) told(epoch int32, kind string, got answer, err error) {
 		if strings.Contains(got.page, "Too many people") {
 			m.full = append(m.full, got.took)
 		}
-	case kind == "1 MiB":
+	case kind == "1 MiB" || now != epoch || epoch%2 == 1:
 		m.answers[kind+" cut"]++
-	case err != nil && (now != epoch || epoch%2 == 1):
-		m.answers[kind+" killed"]++
 	default:
 		m.Errorf("%s is not told: %d %v", kind, got.status, err)
 	}
@@ -54,75 +50,66 @@ func (m *mix) client(kind string, act func(browser *browser, turn int) (answer, 
 		epoch := atomic.LoadInt32(&m.epoch)
 		got, err := act(browser, turn)
 		m.told(epoch, kind, got, err)
-		pause := 10 * time.Millisecond
-		if err != nil || got.status == 503 || strings.Contains(got.page, "too old") {
-			browser.token, pause = "", 300*time.Millisecond
+		if time.Sleep(10 * time.Millisecond); err != nil || got.status == 503 {
+			time.Sleep(300 * time.Millisecond)
 		}
-		time.Sleep(pause)
 	}
 }
 
 // A changer changes the password of its own user, and knows which ones the store may have.
 type changer struct {
+	*mix
 	name     string
 	possible []string
 }
 
-func (c *changer) act(m *mix) func(browser *browser, turn int) (answer, error) {
-	return func(browser *browser, turn int) (answer, error) {
-		for _, password := range c.possible {
-			got, err := browser.logIn(c.name, password)
-			if err != nil || got.status == 503 || strings.Contains(got.page, "too old") {
-				return got, err
-			}
-			if got.status != 303 {
-				continue
-			}
-			if got, err := browser.read(); err != nil || got.status != 200 {
-				return got, err
-			}
-			wanted := fmt.Sprint("password number ", turn)
-			c.possible = []string{password, wanted}
-			got, err = browser.send("change", "password", password, "new", wanted)
-			if err == nil && got.status == 303 {
-				c.possible = []string{wanted}
-			}
-			browser.token = ""
+func (c *changer) act(browser *browser, turn int) (answer, error) {
+	for _, password := range c.possible {
+		got, err := browser.logIn(c.name, password)
+		if err != nil || got.status == 503 || strings.Contains(got.page, "too old") {
 			return got, err
 		}
-		m.Errorf("%s has none of %q", c.name, c.possible)
-		return answer{status: 500}, nil
+		if got.status != 303 {
+			continue
+		}
+		wanted := fmt.Sprint("password number ", turn)
+		c.possible = []string{password, wanted}
+		if got, err = browser.change(password, wanted); err == nil && got.status == 303 {
+			c.possible = []string{wanted}
+		}
+		return got, err
 	}
+	c.Errorf("%s has none of %q", c.name, c.possible)
+	return answer{status: 500}, nil
 }
 
 // faults stops the store and kills the service in turn.
 func (m *mix) faults(arguments ...string) (peak int) {
+	most := func(now int) {
+		if now > peak {
+			peak = now
+		}
+	}
 	for number := 0; time.Now().Add(15 * time.Second).Before(m.end); number++ {
 		time.Sleep(8 * time.Second)
 		if number%2 == 0 {
 			m.postgres([]string{"fast", "immediate"}[number/2%2])
 			time.Sleep(time.Second)
 			m.postgres("start")
-		} else {
-			if now := m.peak(); now > peak {
-				peak = now
-			}
-			atomic.AddInt32(&m.epoch, 1)
-			m.stop()
-			m.start(arguments...)
-			atomic.AddInt32(&m.epoch, 1)
+			continue
 		}
-		m.restarts++
+		most(m.peak())
+		atomic.AddInt32(&m.epoch, 1)
+		m.restart(arguments...)
+		atomic.AddInt32(&m.epoch, 1)
 	}
 	time.Sleep(time.Until(m.end))
-	if now := m.peak(); now > peak {
-		peak = now
-	}
+	most(m.peak())
 	return peak
 }
 
 // sleep measures the machine.
-func (m *mix) sleep() {
+func (m *mix) sleep(int) {
 	for time.Now().Before(m.end) {
 		began := time.Now()
 		time.Sleep(10 * time.Millisecond)
@@ -131,17 +118,17 @@ func (m *mix) sleep() {
 }
 
 // slow sends a byte of a form a second.
-func (m *mix) slow() {
-	for time.Now().Before(m.end) {
-		connection, err := net.Dial("tcp", m.address)
-		if err == nil {
-			_, err = fmt.Fprintf(connection, "POST /log-in HTTP/1.1\r\nHost: here\r\nContent-Length: 1000\r\n\r\n")
-			for ; err == nil && time.Now().Before(m.end); time.Sleep(time.Second) {
-				_, err = connection.Write([]byte("a"))
-			}
-			_ = connection.Close()
+func (m *mix) slow(int) {
+	for ; time.Now().Before(m.end); time.Sleep(100 * time.Millisecond) {
+		connection, err := dialer("127.0.0.1").Dial("tcp", m.address)
+		if err != nil {
+			continue
 		}
-		time.Sleep(100 * time.Millisecond)
+		_, err = fmt.Fprint(connection, slowForm)
+		for ; err == nil && time.Now().Before(m.end); time.Sleep(time.Second) {
+			_, err = connection.Write([]byte("a"))
+		}
+		_ = connection.Close()
 	}
 }
 
@@ -153,15 +140,18 @@ func TestMixedLoad(t *testing.T) {
 	}
 	arguments := []string{"-log-n=12", "-waiting=16", "-patience=5s", "-tries=1000000"}
 	w := newWorld(t, arguments...)
-	w.users(64, "a password", 12)
+	w.users(64, 12)
 	for i := 0; i < 100; i++ {
-		text, _ := hostile(t, i)
+		text, _ := hostile(i)
 		w.exec(`INSERT INTO users VALUES ($1, $2)`, fmt.Sprint("hostile", i), text)
 	}
 	w.peak()
 	m := &mix{world: w, end: time.Now().Add(time.Duration(seconds) * time.Second), answers: map[string]int{}}
 	changers := make([]*changer, 8)
-	large := strings.Repeat("x", 1<<20)
+	for i := range changers {
+		changers[i] = &changer{m, fmt.Sprint("changer", i), []string{right}}
+		w.exec(`INSERT INTO users SELECT $1, hash FROM users WHERE name = 'user0'`, changers[i].name)
+	}
 	var group sync.WaitGroup
 	many := func(count int, run func(number int)) {
 		for i := 0; i < count; i++ {
@@ -169,39 +159,30 @@ func TestMixedLoad(t *testing.T) {
 			go func(i int) { defer group.Done(); run(i) }(i)
 		}
 	}
-	user := func(prefix, password string) func(int) func(*browser, int) (answer, error) {
-		return func(number int) func(*browser, int) (answer, error) {
-			return func(browser *browser, turn int) (answer, error) {
-				return browser.logIn(fmt.Sprint(prefix, (number*7+turn)%64), password)
-			}
-		}
+	logIns := func(count int, kind, prefix, password string) {
+		many(count, func(i int) {
+			m.client(kind, func(browser *browser, turn int) (answer, error) {
+				return browser.logIn(fmt.Sprint(prefix, (i*7+turn)%64), password)
+			})
+		})
 	}
-	for kind, it := range map[string]struct {
-		count int
-		act   func(int) func(*browser, int) (answer, error)
-	}{
-		"log-in": {24, user("user", "a password")}, "wrong": {4, user("user", "not it")}, "unknown": {4, user("nobody", "not it")},
-		"hostile": {4, user("hostile", "not it")}, "1 MiB": {2, user("user", large)},
-	} {
-		kind, it := kind, it
-		many(it.count, func(i int) { m.client(kind, it.act(i)) })
-	}
+	logIns(24, "log-in", "user", right)
+	logIns(4, "wrong", "user", wrong)
+	logIns(4, "unknown", "nobody", wrong)
+	logIns(4, "hostile", "hostile", wrong)
+	logIns(2, "1 MiB", "user", strings.Repeat("x", 1<<20))
 	many(2, func(i int) {
 		m.client("sign-up", func(browser *browser, turn int) (answer, error) {
-			return browser.signUp(fmt.Sprint("new", i, "-", turn), "a password")
+			return browser.signUp(fmt.Sprint("new", i, "-", turn), right)
 		})
 	})
-	for i := range changers {
-		changers[i] = &changer{fmt.Sprint("changer", i), []string{"a password"}}
-		w.exec(`INSERT INTO users SELECT $1, hash FROM users WHERE name = 'user0'`, changers[i].name)
-	}
-	many(len(changers), func(i int) { m.client("change", changers[i].act(m)) })
-	many(20, func(int) { m.slow() })
-	many(1, func(int) { m.sleep() })
+	many(len(changers), func(i int) { m.client("change", changers[i].act) })
+	many(20, m.slow)
+	many(1, m.sleep)
 	peak := m.faults(arguments...)
 	group.Wait()
-	m.check(t, changers)
-	t.Logf("%d s, %d faults; answers: %v", seconds, m.restarts, m.answers)
+	m.check(changers)
+	t.Logf("%d s; answers: %v", seconds, m.answers)
 	t.Logf("that no place is free is answered in %s ms (99 %%), %s at most, and a sleep ends %s late (99 %%), %s at most; peak %d MiB",
 		part(m.full, 0.99), part(m.full, 1), part(m.late, 0.99), part(m.late, 1), peak)
 	if percentile(m.full, 0.99) > 100*time.Millisecond && percentile(m.late, 0.99) < 20*time.Millisecond {
@@ -213,30 +194,22 @@ func TestMixedLoad(t *testing.T) {
 }
 
 // check tells whether each user who changed passwords has one that is possible, and each text is whole.
-func (m *mix) check(t *testing.T, changers []*changer) {
+func (m *mix) check(changers []*changer) {
 	for _, it := range changers {
-		rights := 0
-		for _, password := range it.possible {
-			if got, err := newBrowser(m.address).logIn(it.name, password); err == nil && got.status == 303 {
-				rights++
-			}
-		}
-		if rights != 1 {
-			t.Errorf("%s has %d of %q", it.name, rights, it.possible)
+		got := each(len(it.possible), 1, func(i int) (answer, error) { return newBrowser(m.address).logIn(it.name, it.possible[i]) })
+		if got.of[303] != 1 {
+			m.Errorf("%s has %d of %q", it.name, got.of[303], it.possible)
 		}
 	}
-	rows, err := m.db.Query(`SELECT name, hash FROM users WHERE name NOT LIKE 'hostile%'`)
-	if err != nil {
-		t.Fatal(err)
-	}
+	rows := must(m.db.Query(`SELECT name, hash FROM users WHERE name NOT LIKE 'hostile%'`))
 	defer rows.Close()
 	for rows.Next() {
 		var name, text string
 		if err := rows.Scan(&name, &text); err != nil {
-			t.Fatal(err)
+			m.Fatal(err)
 		}
 		if params, err := scrypt.ParamsOf(text); err != nil || params != (scrypt.Params{LogN: 12, R: 8, P: 1, KeyLen: 32}) {
-			t.Errorf("%s: %v %q", name, err, text)
+			m.Errorf("%s: %v %q", name, err, text)
 		}
 	}
 }

@@ -5,9 +5,7 @@ import (
 	"testing"
 )
 
-const refused = ""
-
-// names has what is typed and what the store has.
+// What is typed, and what the store has.
 var names = []struct{ why, typed, name string }{
 	{"as it is", "ada", "ada"},
 	{"case is kept", "Ada", "Ada"},
@@ -18,44 +16,34 @@ var names = []struct{ why, typed, name string }{
 	{"a ligature", "\ufb01nn", "finn"},
 	{"letters from right to left", "\u05d0\u05d3\u05d4", "\u05d0\u05d3\u05d4"},
 	{"64 characters in another form", strings.Repeat("\U0001d7d8", 63) + "\U00020000", strings.Repeat("0", 63) + "\U00020000"},
-	{"65 characters", strings.Repeat("x", 65), refused},
-	{"65 characters, of 4 that are typed", strings.Repeat("\ufdfa", 4), refused},
-	{"spaces alone", " \u3000", refused},
-	{"nothing", "", refused},
-	{"a control character", "a\x00", refused},
-	{"a line end within", "ada\nfailed", refused},
-	{"a terminal's escape", "\x1b[2Jada", refused},
-	{"a C1 control character", "ada\u009b", refused},
-	{"an override from right to left", "ada\u202eadmin", refused},
-	{"an isolate from left to right", "\u2066ada\u2069", refused},
-	{"a mark from left to right", "ada\u200e", refused},
-	{"an Arabic letter mark", "ada\u061c", refused},
-	{"a space without width", "a\u200bda", refused},
-	{"a joiner without width", "a\u200dda", refused},
-	{"a byte order mark", "\ufeffada", refused},
-	{"a letter that isn't seen", "ada\u3164", refused},
-	{"a mark that isn't seen", "ada\u034f", refused},
-	{"a selector of a variation", "ada\ufe0f", refused},
-	{"the blank of Braille", "ada\u2800", refused},
-	{"a notehead that isn't seen", "ada\U0001d159", refused},
-	{"a filler that isn't seen", "ada\U00016fe4", refused},
-	{"letters that the package takes for others", "\U000100a8\u0301", refused},
-	{"a tag", "ada\U000e0061", refused},
-	{"a line separator", "ada\u2028x", refused},
-	{"a private character", "ada\ue000", refused},
-	{"a character that is not assigned", "ada\u0378", refused},
-	{"half of a pair in UTF-8", "ada\xed\xa0\x80", refused},
-	{"no UTF-8", "ada\xff", refused},
+}
+
+// What is refused.
+var noNames = map[string][]string{
+	"65 characters, and 4 that are 65 in the other form":      {strings.Repeat("x", 65), strings.Repeat("\ufdfa", 4)},
+	"nothing, and spaces alone":                               {"", " \u3000"},
+	"control characters and line ends":                        {"a\x00", "ada\nfailed", "\x1b[2Jada", "ada\u009b", "ada\u2028x"},
+	"what changes the direction":                              {"ada\u202eadmin", "\u2066ada\u2069", "ada\u200e", "ada\u061c"},
+	"spaces and joiners without width, and a byte order mark": {"a\u200bda", "a\u200dda", "\ufeffada"},
+	"letters, marks, selectors and tags that aren't seen":     {"ada\u3164", "ada\u034f", "ada\ufe0f", "ada\U000e0061"},
+	"a blank of Braille, a notehead and a filler":             {"ada\u2800", "ada\U0001d159", "ada\U00016fe4"},
+	"letters that the package takes for others":               {"\U000100a8\u0301"},
+	"private and unassigned characters":                       {"ada\ue000", "ada\u0378"},
+	"no UTF-8":                                                {"ada\xff", "ada\xed\xa0\x80"},
 }
 
 func TestNames(t *testing.T) {
 	for _, it := range names {
 		got, ok := normal(it.typed)
-		if ok != (it.name != refused) || ok && got != it.name {
-			t.Errorf("%s: %+q is %+q, %v", it.why, it.typed, got, ok)
+		if again, _ := normal(got); !ok || got != it.name || again != got {
+			t.Errorf("%s: %+q is %+q, %v, and then %+q", it.why, it.typed, got, ok, again)
 		}
-		if again, _ := normal(got); ok && again != got {
-			t.Errorf("%s: %+q is %+q the second time", it.why, got, again)
+	}
+	for why, all := range noNames {
+		for _, typed := range all {
+			if got, ok := normal(typed); ok {
+				t.Errorf("%s: %+q is %+q", why, typed, got)
+			}
 		}
 	}
 }
@@ -63,19 +51,14 @@ func TestNames(t *testing.T) {
 // The same name, typed by two keyboards.
 func TestNameIsTypedInAnotherForm(t *testing.T) {
 	w := newWorld(t, small)
-	one, two := newBrowser(w.address), newBrowser(w.address)
-	w.expect(200)(one.read())
-	w.expect(303)(one.send("sign-up", "name", "Ame\u0301lie ", "new", "first password"))
-	w.expect(200)(two.read())
-	w.expect(409)(two.send("sign-up", "name", "Am\u00e9lie", "new", "other password"))
-	w.expect(303)(two.logIn("Am\u00e9lie", "first password"))
-	for _, it := range []struct{ why, name string }{
-		{"a zero byte, which PostgreSQL refuses", "%00"},
-		{"no UTF-8, which it refuses too", "%ff"},
-	} {
-		two.cookies["session"] = "end=9&tag=0&name=" + it.name
-		if got, err := two.read(); err != nil || got.status != 200 {
-			t.Errorf("a forged cookie with %s: %d %v", it.why, got.status, err)
+	one := newBrowser(w.address)
+	w.expect(303)(one.signUp("Ame\u0301lie ", right))
+	w.expect(409)(one.signUp("Am\u00e9lie", right))
+	w.expect(303)(one.logIn("Am\u00e9lie", right))
+	for why, name := range map[string]string{"a zero byte, which PostgreSQL refuses": "%00", "no UTF-8, which it refuses too": "%ff"} {
+		one.cookies["session"] = "end=9&tag=0&name=" + name
+		if got, err := one.read(); err != nil || got.status != 200 {
+			t.Errorf("a forged cookie with %s: %d %v", why, got.status, err)
 		}
 	}
 }

@@ -1,9 +1,7 @@
 package main
 
 import (
-	"fmt"
 	"os"
-	"os/exec"
 	"path/filepath"
 	"strings"
 	"testing"
@@ -16,62 +14,36 @@ func asRoot(t *testing.T) {
 	}
 }
 
-// ran returns what a command printed, and whether it succeeded.
-func ran(words ...string) (string, bool) {
-	out, err := exec.Command(words[0], words[1:]...).CombinedOutput()
-	return string(out), err == nil
-}
-
 // as are the words before a command of another user.
 func as(user string) []string {
 	return []string{"setpriv", "--reuid=" + user, "--regid=nogroup", "--clear-groups"}
 }
 
-// A place is a folder for a store, what is above it, and a part of why it is refused, if it is.
-type place struct{ why, above, folder, owner, file, refused string }
-
-var places = []place{
-	{"nobody else may enter it", "755", "700", "", "", ""},
-	{"a name with a space, and nobody else may enter it", "755", "700", "", "", ""},
-	{"others may enter it and reach the socket", "755", "755", "", "", "mode 700"},
-	{"others may pass through it to the socket", "755", "711", "", "", "mode 700"},
-	{"its group may enter it", "755", "750", "", "", "mode 700"},
-	{"its owner is another user, who may open it later", "755", "700", "nobody", "", "must belong to"},
-	{"root's folder with files in it is not given away", "755", "700", "root", "file", "must belong to"},
-	{"others may put another folder in its place", "777", "700", "", "", "may rename"},
-	{"nobody may rename the files of others in a sticky folder", "1777", "700", "", "", ""},
-}
-
-// make makes the folder and returns its path.
-func (it place) make(t *testing.T) string {
-	above := t.TempDir()
-	for place := above; place != os.TempDir(); place = filepath.Dir(place) { // testing makes these for all to read
-		_ = os.Chmod(place, 0o755)
-	}
-	folder := filepath.Join(above, "store")
-	if strings.Contains(it.why, "space") {
-		folder += " of mine"
-	}
-	commands := fmt.Sprintf(`mkdir %q && cd %q && chmod %s . && chmod %s ..`, folder, folder, it.folder, it.above)
-	if it.file != "" {
-		commands += " && touch " + it.file
-	}
-	if it.owner != "" {
-		commands += " && chown " + it.owner + " ."
-	}
-	if out, ok := ran("sh", "-c", commands); !ok {
-		t.Fatal(out)
-	}
-	return folder
-}
-
 func TestFoldersThatOthersMayEnterAreRefused(t *testing.T) {
-	for _, it := range places {
+	for _, it := range []struct{ why, above, folder, owner, file, refused string }{
+		{"nobody else may enter it", "755", "700", "", "", ""},
+		{"a name with a space, and nobody else may enter it", "755", "700", "", "", ""},
+		{"others may enter it and reach the socket", "755", "755", "", "", "mode 700"},
+		{"others may pass through it to the socket", "755", "711", "", "", "mode 700"},
+		{"its group may enter it", "755", "750", "", "", "mode 700"},
+		{"its owner is another user, who may open it later", "755", "700", "nobody", "", "must belong to"},
+		{"root's folder with files in it is not given away", "755", "700", "root", "file", "must belong to"},
+		{"others may put another folder in its place", "777", "700", "", "", "may rename"},
+		{"nobody may rename the files of others in a sticky folder", "1777", "700", "", "", ""},
+	} {
 		if it.owner != "" && os.Geteuid() != 0 {
 			continue
 		}
-		folder := it.make(t)
-		before, _ := ran("stat", "-c", "%U %a", folder)
+		above := t.TempDir()
+		for place := above; place != os.TempDir(); place = filepath.Dir(place) { // testing makes these for all to read
+			_ = os.Chmod(place, 0o755)
+		}
+		folder := filepath.Join(above, map[bool]string{true: "store of mine", false: "store"}[strings.Contains(it.why, "space")])
+		made, ok := ran("sh", "-ec", `mkdir "$1"; cd "$1"; chmod $2 .; chmod $3 ..; test -z "$4" || touch $4; test -z "$5" || chown $5 .
+			stat -c "%U %a" .; ls`, "sh", folder, it.folder, it.above, it.file, it.owner)
+		if !ok {
+			t.Fatal(made)
+		}
 		out, ok := ran("./postgres.sh", "start", folder)
 		if ok {
 			_, _ = ran("./postgres.sh", "immediate", folder)
@@ -79,11 +51,8 @@ func TestFoldersThatOthersMayEnterAreRefused(t *testing.T) {
 		if ok != (it.refused == "") || !strings.Contains(out, it.refused) {
 			t.Errorf("%s: started: %v\n%s", it.why, ok, out)
 		}
-		if after, _ := ran("stat", "-c", "%U %a", folder); it.refused != "" && after != before {
-			t.Errorf("%s: a refused folder was %s and is %s", it.why, before, after)
-		}
-		if entries, err := os.ReadDir(folder); it.refused != "" && it.file == "" && (err != nil || len(entries) != 0) {
-			t.Errorf("%s: a refused folder has files: %v %v", it.why, entries, err)
+		if now, _ := ran("sh", "-c", `cd "$1"; stat -c "%U %a" .; ls`, "sh", folder); it.refused != "" && now != made {
+			t.Errorf("%s: a refused folder was %s and is %s", it.why, made, now)
 		}
 	}
 }
@@ -92,7 +61,7 @@ func TestFoldersThatOthersMayEnterAreRefused(t *testing.T) {
 func TestOtherUsersDoNotReachTheStore(t *testing.T) {
 	asRoot(t)
 	w := newWorld(t, small)
-	w.users(1, "a password", 10)
+	w.users(1, 10)
 	closed := append(as("nobody"), "psql", "-h", w.store, "-U", "login_service", "postgres", "-c", "SELECT 1")
 	if out, ok := ran(closed...); ok || !strings.Contains(out, "Permission denied") {
 		t.Errorf("nobody reaches the socket: %s", out)

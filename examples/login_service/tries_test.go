@@ -5,205 +5,114 @@ import (
 	"fmt"
 	"os/exec"
 	"runtime"
+	"strconv"
 	"strings"
-	"sync"
-	"sync/atomic"
 	"testing"
 )
 
+// numbered puts a number at each # of a text.
+func numbered(text string, number int) string {
+	return strings.ReplaceAll(text, "#", strconv.Itoa(number))
+}
+
+// Each row has names and addresses of its own. A step is an address, with an A before it for a browser that stays; a form,
+// a name and a password; and the statuses of the answers: "403*3,429" of four such forms.
 func TestTriesAreLimited(t *testing.T) {
-	w := newWorld(t, small, "-tries=3", "-pause=1h")
-	w.users(40, "a password", 10)
-	// Each row has names and addresses of its own. A try is an address, a name and a password.
+	w := newWorld(t, small, "-tries=3", "-pause=1h", proxied)
+	w.users(2000, 10)
+	w.exec(`UPDATE users SET name = 'u' || substr(name, 5)::int % 100 || '-' || substr(name, 5)::int / 100`)
+	for row, it := range []struct{ why, steps string }{
+		{"wrong passwords for a name; then a right one is not tried", "# log-in u1 no 403*3; 9 log-in u1 ok 429"},
+		{"a name that nobody has is limited as any", "# log-in nobody no 403*3,429"},
+		{"a name in another form is the same", "1 log-in u1 no 403; 2 log-in \uff551 no 403*2; 3 log-in u1 no 429"},
+		{"an address tries other names, and limits no other address", "1 log-in u# no 403*3; 1 log-in u9 ok 429; 2 log-in u9 ok 303"},
+		{"right passwords do not give back what wrong ones took", "1 log-in u# no 403*2; 1 log-in u8 ok 303; 1 log-in u9 no 429"},
+		{"right ones cost a twentieth of a try, of the address", "A1 log-in u99 ok 303; 1 log-in u# ok 303*40,429; A1 log-in u99 ok 303"},
+		{"and of the name", "A99 log-in u1 ok 303; # log-in u1 ok 303*40,429; A99 log-in u1 ok 303"},
+		{"a known browser has an allowance of its own", "A1 log-in u1 ok 303*42,429"},
+		{"and tries", "A1 log-in u1 ok 303*2; A1 log-in u1 no 403*2,429; A1 log-in u1 ok 429"},
+		{"a sign-up costs a try", "1 sign-up new# ok 303*3,429"},
+		{"wrong current passwords", "A1 sign-up new ok 303; A1 change - no 403*3,429; A1 log-out - - 303"},
+		{"tries of others keep no user who is logged in from a change", "A9 log-in u1 ok 303; # log-in u1 no 403*2,429; A9 change - ok 303"},
+		{"addresses of a /64", "2001:db8:0:1::# log-in nobody# no 403*3,429"},
+		{"networks of a /56, which has twice as many tries", "2001:db8:0:20#::1 log-in nobody# no 403*6,429; 2001:db8:0:300::1 log-in nobody no 403"},
+		{"addresses of IPv4", "# log-in nobody# no 403*8"},
+	} {
+		stay := map[string]*browser{}
+		for _, step := range strings.Split(it.steps, "; ") {
+			part, number := strings.Fields(step), 0
+			for _, group := range strings.Split(part[4], ",") {
+				status, times := 0, 1
+				_, _ = fmt.Sscanf(group, "%d*%d", &status, &times)
+				for ; times > 0; times-- {
+					got, err := w.step(row, number, part, stay)
+					if err != nil || got.status != status || (got.status == 429) != (got.retry == "3600") {
+						t.Errorf("%s: %s: number %d gets %d, Retry-After %q, %v", it.why, step, number, got.status, got.retry, err)
+					}
+					number++
+				}
+			}
+		}
+	}
+}
+
+func (w *world) step(row, number int, part []string, stay map[string]*browser) (answer, error) {
+	from, name := numbered(part[0], number), fmt.Sprint(numbered(part[2], number), "-", row)
+	one, password := stay[from], map[string]string{"ok": right, "no": wrong}[part[3]]
+	if one == nil {
+		address := strings.TrimPrefix(from, "A")
+		if !strings.Contains(address, ":") {
+			address = fmt.Sprint("192.0.", row, ".", address)
+		}
+		one = w.at(address)
+	}
+	if from[0] == 'A' {
+		stay[from] = one
+	}
+	switch part[1] {
+	case "log-in":
+		return one.logIn(name, password)
+	case "sign-up":
+		return one.signUp(name, password)
+	}
+	return one.fill(part[1], "password", password, "new", "another password")
+}
+
+// Forms that come at once are checked before one of them is charged, so as many more passwords may be tried as there are
+// places. An office is one address: its people log in at once, whatever tries are left, and fail2ban does not find them.
+func TestTriesAtOnce(t *testing.T) {
+	const waiting = 60
+	w := newWorld(t, "-log-n=13", "-tries=5", "-pause=1h", fmt.Sprint("-waiting=", waiting), proxied)
+	w.users(100, 13)
+	half := (runtime.GOMAXPROCS(0) + waiting) / 2
 	for row, it := range []struct {
-		why   string
-		tries []string
-		last  int // the status of the last try
+		why, from, name, password string
+		before, forms             int // so many wrong passwords before, and so many forms, 100 at once, and then six more
+		least, most               int // how many are tried
 	}{
-		{"three wrong passwords from anywhere", []string{"1 user1 no", "2 user1 no", "3 user1 no"}, 403},
-		{"a fourth is not tried, and is not told to be right", []string{"1 user2 no", "2 user2 no", "3 user2 no", "4 user2 a password"}, 429},
-		{"a name that nobody has is limited as any", []string{"1 nobody no", "2 nobody no", "3 nobody no", "4 nobody no"}, 429},
-		{"a name in another form is the same", []string{"1 user3 no", "2 user3 no", "3 \uff55ser3 no", "4 user3 no"}, 429},
-		{"an address tries other names", []string{"1 user4 no", "1 user5 no", "1 user6 no", "1 user7 a password"}, 429},
-		{"another address is not limited by it", []string{"1 user8 no", "1 user9 no", "1 user10 no", "2 user11 a password"}, 303},
-		{"right passwords take a small part of a try", []string{"1 user12 a password", "1 user12 a password", "1 user12 a password", "1 user12 no"}, 403},
-		{"nor give back those of wrong ones", []string{"1 user13 no", "1 user14 no", "1 user15 a password", "1 user16 no", "1 user17 no"}, 429},
+		{"one name has two places", "192.0.0.#", "user99", wrong, 0, 200, 5, 5 + 1},
+		{"one address has half of all places", "192.0.1.1", "nobody#", wrong, 0, 200, 5, 5 + half},
+		{"more people than tries", "192.0.2.1", "user#", right, 0, 24, 30, 30},
+		{"after wrong passwords, which leave two tries", "192.0.3.1", "user#", right, 3, 24, 24, 24},
+		{"an account that all of them use has two places", "192.0.4.1", "user98", right, 0, 24, 8, 30},
 	} {
-		var got answer
-		for _, try := range it.tries {
-			part := strings.SplitN(try, " ", 3)
-			one := newBrowserFrom(fmt.Sprint("127.0.4.", row, part[0]), w.address)
-			got, _ = one.logIn(part[1], part[2])
+		for i := 0; i < it.before; i++ {
+			w.expect(403)(w.at(it.from).logIn(fmt.Sprint("other", i), wrong))
 		}
-		if got.status != it.last || (got.status == 429) != (got.retry == "3600") {
-			t.Errorf("%s: %d, Retry-After %q", it.why, got.status, got.retry)
+		act := func(i int) (answer, error) {
+			return w.at(numbered(it.from, i)).logIn(numbered(it.name, i), it.password)
 		}
-	}
-}
-
-func TestSignUpsAndChangesAreLimited(t *testing.T) {
-	w := newWorld(t, small, "-tries=3", "-pause=1h")
-	one, two := newBrowserFrom("127.0.5.1", w.address), newBrowserFrom("127.0.5.2", w.address)
-	for i, status := range []int{303, 303, 303, 429} {
-		delete(one.cookies, "session")
-		w.expect(200)(one.read())
-		w.expect(status)(one.send("sign-up", "name", fmt.Sprint("new", i), "new", "a password"))
-	}
-	w.expect(303)(two.logIn("new0", "a password"))
-	w.expect(200)(two.read())
-	for _, status := range []int{403, 403, 403, 429} {
-		w.expect(status)(two.send("change", "password", "not it", "new", "another password"))
-	}
-	w.expect(303)(two.send("log-out"))
-	// Who tries the password of a user who is logged in doesn't keep the user from changing it.
-	three := newBrowser(w.address)
-	w.expect(303)(three.logIn("new1", "a password")) // which uses up a twentieth of a try, so that two are left
-	w.expect(200)(three.read())
-	for _, status := range []int{403, 403, 429} {
-		w.expect(status)(newBrowser(w.address).logIn("new1", "not it"))
-	}
-	w.expect(303)(three.send("change", "password", "a password", "new", "another password"))
-}
-
-// at is a browser of a client whose address the trusted proxy sends, which is at 127.0.9.100.
-func (w *world) at(address string) *browser {
-	one := newBrowserFrom("127.0.9.100", w.address)
-	one.headers = map[string]string{"X-Forwarded-For": address}
-	return one
-}
-
-// Tries that come at once are checked before one of them is charged, so there can be as many more as are in work at once.
-func TestTriesAtOnceAreLimited(t *testing.T) {
-	w := newWorld(t, small, "-tries=5", "-pause=1h", "-waiting=12", "-proxy=127.0.9.100")
-	w.users(1, "a password", 10)
-	places := int32(runtime.GOMAXPROCS(0) + 12)
-	for _, it := range []struct {
-		why        string
-		from, name func(number int) string
-		most       int32 // how many are tried
-	}{
-		{"one name has two places", func(i int) string { return fmt.Sprint("192.0.2.", i) },
-			func(int) string { return "user0" }, 5 + 1},
-		{"one address has half of all places", func(int) string { return "198.51.100.1" },
-			func(i int) string { return fmt.Sprint("nobody", i) }, 5 + places/2},
-	} {
-		var wrong, others int32
-		each(200, 100, func(i int) {
-			got, err := w.at(it.from(i)).logIn(it.name(i), "not it")
-			if err == nil && got.status == 403 {
-				atomic.AddInt32(&wrong, 1)
-			} else if err != nil || got.status != 429 && got.status != 503 || got.retry == "" {
-				atomic.AddInt32(&others, 1)
-			}
-		})
-		if wrong < 5 || wrong > it.most || others != 0 {
-			t.Errorf("%s: %d passwords were tried, and at most %d should be; %d other answers", it.why, wrong, it.most, others)
+		got, more := each(it.forms, 100, act), each(6, 1, act)
+		refused, failed := got.of[429]+got.of[503]+more.of[429], strings.Count(w.logged(), fmt.Sprint("failed log-in from 192.0.", row))
+		tried := it.forms + 6 - refused
+		if tried < it.least || tried > it.most || got.of[0]+more.of[0] > 0 {
+			t.Errorf("%s: %v, %v, and %d to %d should be tried", it.why, got.of, more.of, it.least, it.most)
 		}
-		if got := w.expect(429)(w.at(it.from(1)).logIn(it.name(1), "a password")); got.retry != "3600" {
-			t.Errorf("%s: Retry-After %q", it.why, got.retry)
+		if it.password == right && failed != it.before || it.password == wrong && failed != tried {
+			t.Errorf("%s: %d failed log-ins in the log, and %v, %v", it.why, failed, got.of, more.of)
 		}
-	}
-}
-
-// An office is one address. Its people may log in at once, whatever tries are left, and fail2ban does not find them.
-func TestCorrectPasswordsAtOnceAreNoFailures(t *testing.T) {
-	const people = 24
-	w := newWorld(t, "-log-n=13", "-tries=4", "-pause=1h", "-waiting=100", "-proxy=127.0.9.100")
-	w.users(people, "a password", 13)
-	for row, it := range []struct {
-		why          string
-		wrong, names int
-		busy         bool // whether 503 is an answer too
-	}{
-		{"more people than tries", 0, people, false},
-		{"after wrong passwords, which leave two tries", 2, people, false},
-		{"an account that all of them use has two places", 0, 1, true},
-	} {
-		address := fmt.Sprint("192.0.2.", row)
-		for i := 0; i < it.wrong; i++ {
-			w.expect(403)(w.at(address).logIn(fmt.Sprint("nobody", row, i), "no"))
-		}
-		browsers, statuses := make([]*browser, people), map[int]int{}
-		for i := range browsers {
-			browsers[i] = w.at(address)
-			w.expect(200)(browsers[i].read())
-		}
-		var lock sync.Mutex
-		each(people, people, func(i int) {
-			got, _ := browsers[i].logIn(fmt.Sprint("user", i%it.names), "a password")
-			lock.Lock()
-			defer lock.Unlock()
-			statuses[got.status]++
-		})
-		if statuses[303] < 2 || statuses[303]+statuses[503] != people || statuses[503] != 0 && !it.busy {
-			t.Errorf("%s: answers %v", it.why, statuses)
-		}
-		if count := strings.Count(w.logged(), "failed log-in from "+address+" "); count != it.wrong {
-			t.Errorf("%s: %d failed log-ins in the log", it.why, count)
-		}
-	}
-}
-
-// Correct log-ins cost a twentieth of a try, so after 20 of them one try of two is used up.
-func TestCorrectPasswordsUseUpAnAllowance(t *testing.T) {
-	w := newWorld(t, small, "-tries=2", "-pause=1h", "-proxy=127.0.9.100")
-	w.users(60, "a password", 10)
-	for _, it := range []struct {
-		why        string
-		from, name func(number int) string
-		known      bool // whether one browser logs in each time
-	}{
-		{"one address, by many names", func(int) string { return "192.0.2.1" }, func(i int) string { return fmt.Sprint("user", i) }, false},
-		{"one name, from many addresses", func(i int) string { return fmt.Sprint("192.0.2.", 10+i) }, func(int) string { return "user50" }, false},
-		{"one browser, which has an allowance of its own", func(int) string { return "192.0.2.2" }, func(int) string { return "user51" }, true},
-	} {
-		done, first := 0, w.at(it.from(0))
-		for i := 0; i < 50; i++ {
-			one := first
-			if i > 0 && !it.known {
-				one = w.at(it.from(i))
-			}
-			got, err := one.logIn(it.name(i), "a password")
-			if err != nil || got.status != 303 && got.status != 429 {
-				t.Errorf("%s: %d %v", it.why, got.status, err)
-			}
-			if got.status == 303 {
-				done++
-			}
-		}
-		wanted := 21
-		if it.known {
-			wanted++ // its first log-in is that of a stranger
-		}
-		if done != wanted {
-			t.Errorf("%s: %d log-ins of 50, and not %d", it.why, done, wanted)
-		}
-		if !it.known {
-			w.expect(303)(first.logIn(it.name(0), "a password"))
-		}
-	}
-	w.expect(303)(w.at("198.51.100.1").logIn("user59", "a password"))
-}
-
-func TestNetworksOfIPv6AreLimited(t *testing.T) {
-	w := newWorld(t, small, "-tries=4", "-pause=1h", "-proxy=127.0.9.100")
-	for row, it := range []struct {
-		why, from string // where the number of the try is put
-		wrong     int    // how many are tried, each for another name
-		next      string
-		status    int
-	}{
-		{"addresses of a /64", "2001:db8:0:1::%x", 4, "2001:db8:0:1::f", 429},
-		{"networks of a /56, which has twice as many tries", "2001:db8:0:1%02x::1", 8, "2001:db8:0:1ff::1", 429},
-		{"another /56", "2001:db8:0:2%02x::1", 8, "2001:db8:0:300::1", 403},
-		{"one of few of a /56", "2001:db8:0:4%02x::1", 7, "2001:db8:0:4ff::1", 403},
-		{"addresses of IPv4", "192.0.2.%d", 8, "192.0.2.9", 403},
-	} {
-		for i := 0; i < it.wrong; i++ {
-			w.expect(403)(w.at(fmt.Sprintf(it.from, i)).logIn(fmt.Sprint("nobody", row, "-", i), "no"))
-		}
-		if got, err := w.at(it.next).logIn(fmt.Sprint("nobody", row, "-next"), "no"); err != nil || got.status != it.status {
-			t.Errorf("%s: %d and not %d, %v", it.why, got.status, it.status, err)
+		if it.password == wrong {
+			w.expect(429)(w.at(numbered(it.from, 1)).logIn(numbered(it.name, 1), right))
 		}
 	}
 }
@@ -213,11 +122,7 @@ func found(t *testing.T, log string) map[string]int {
 	if _, err := exec.LookPath("fail2ban-regex"); err != nil {
 		t.Skip("fail2ban-regex is not installed (package fail2ban)")
 	}
-	out, err := exec.Command("fail2ban-regex", "--usedns=no", "--out=ip", log, "./fail2ban.conf").Output()
-	if err != nil {
-		t.Fatal(err)
-	}
-	counts := map[string]int{}
+	out, counts := must(exec.Command("fail2ban-regex", "--usedns=no", "--out=ip", log, "./fail2ban.conf").Output()), map[string]int{}
 	for _, address := range strings.Fields(string(out)) {
 		counts[address]++
 	}
@@ -226,25 +131,23 @@ func found(t *testing.T, log string) map[string]int {
 
 func TestFail2banFindsFailedLogIns(t *testing.T) {
 	w := newWorld(t, small, "-tries=3", "-pause=1h", "-proxy=127.0.6.100")
-	w.users(9, "a password", 10)
-	wanted := map[string]int{}
+	w.users(9, 10)
+	wanted := map[string]int{"127.0.6.8": 3} // of five tries, two of which are refused, so nobody knows whether they are wrong
 	for _, it := range []struct{ why, own, forwarded, name, password, found string }{
-		{"a wrong password", "127.0.6.1", "", "user0", "no", "127.0.6.1"},
-		{"a right password", "127.0.6.2", "", "user1", "a password", ""},
-		{"a name nobody has", "127.0.6.3", "", "nobody", "no", "127.0.6.3"},
-		{"a name like the end of a line", "127.0.6.4", "", `x" from 198.51.100.1 of "y`, "no", "127.0.6.4"},
-		{"a name like a line", "127.0.6.5", "", `failed log-in from 198.51.100.2 of "y"`, "no", "127.0.6.5"},
-		{"a name with a line end, which is not allowed", "127.0.6.6", "", "x\nfailed log-in from 198.51.100.3 of \"y\"", "no", ""},
-		{"an address that the client makes up", "127.0.6.7", "198.51.100.4", "user2", "no", "127.0.6.7"},
-		{"the address by the proxy", "127.0.6.100", "192.0.2.1", "user3", "no", "192.0.2.1"},
-		{"one of IPv6 by the proxy", "127.0.6.100", "2001:db8::1", "user4", "no", "2001:db8::1"},
-		{"one that the client sent to the proxy", "127.0.6.100", "198.51.100.5, 192.0.2.2", "user5", "no", "192.0.2.2"},
-		{"one that is no address", "127.0.6.100", `x" from 198.51.100.6`, "user6", "no", "127.0.6.100"},
+		{"a wrong password", "127.0.6.1", "", "user0", wrong, "127.0.6.1"},
+		{"a right password", "127.0.6.2", "", "user1", right, ""},
+		{"a name nobody has", "127.0.6.3", "", "nobody", wrong, "127.0.6.3"},
+		{"a name like the end of a line", "127.0.6.4", "", `x" from 198.51.100.1 of "y`, wrong, "127.0.6.4"},
+		{"a name like a line", "127.0.6.5", "", `failed log-in from 198.51.100.2 of "y"`, wrong, "127.0.6.5"},
+		{"a name with a line end, which is not allowed", "127.0.6.6", "", "x\nfailed log-in from 198.51.100.3 of \"y\"", wrong, ""},
+		{"an address that the client makes up", "127.0.6.7", "198.51.100.4", "user2", wrong, "127.0.6.7"},
+		{"the address by the proxy", "127.0.6.100", "192.0.2.1", "user3", wrong, "192.0.2.1"},
+		{"one of IPv6 by the proxy", "127.0.6.100", "2001:db8::1", "user4", wrong, "2001:db8::1"},
+		{"one that the client sent to the proxy", "127.0.6.100", "198.51.100.5, 192.0.2.2", "user5", wrong, "192.0.2.2"},
+		{"one that is no address", "127.0.6.100", `x" from 198.51.100.6`, "user6", wrong, "127.0.6.100"},
 	} {
 		one := newBrowserFrom(it.own, w.address)
-		if it.forwarded != "" {
-			one.headers = map[string]string{"X-Forwarded-For": it.forwarded}
-		}
+		one.headers["X-Forwarded-For"] = it.forwarded
 		if _, err := one.logIn(it.name, it.password); err != nil {
 			t.Errorf("%s: %v", it.why, err)
 		}
@@ -252,58 +155,44 @@ func TestFail2banFindsFailedLogIns(t *testing.T) {
 			wanted[it.found]++
 		}
 	}
-	limited := newBrowserFrom("127.0.6.8", w.address)
-	for i := 0; i < 5; i++ { // two of these are not tried, so nobody knows whether they are wrong
-		_, _ = limited.logIn("user7", "no")
-	}
-	wanted["127.0.6.8"] = 3
-	got, _ := json.Marshal(found(t, w.log.Name()))
-	want, _ := json.Marshal(wanted)
+	each(5, 1, func(int) (answer, error) { return newBrowserFrom("127.0.6.8", w.address).logIn("user7", wrong) })
+	got, want := must(json.Marshal(found(t, w.log.Name()))), must(json.Marshal(wanted))
 	if string(got) != string(want) {
 		t.Errorf("found %s\nand not %s in\n%s", got, want, w.logged())
 	}
 }
 
-// lines has what a client can do without end, and how many lines of log it may cause by doing it 30 times.
-var lines = []struct {
-	why    string
-	act    func(one *browser) (answer, error)
-	line   string
-	most   int
-	atOnce int
-	store  bool // whether the store runs
-}{
-	{"wrong passwords, until no try is left", func(one *browser) (answer, error) { return one.logIn("user0", "no") }, "failed log-in", 3, 1, true},
-	{"tries of that name from another address", func(one *browser) (answer, error) { return one.logIn("user0", "no") }, "no try is left", 1, 4, true},
-	{"a semicolon, of which net/http writes a line", func(one *browser) (answer, error) { return one.ask("GET", "/?a;b", nil) }, "semicolon", 1, 4, true},
-	{"log-ins without a store", func(one *browser) (answer, error) {
-		return one.send("log-in", "name", "user2", "password", "a password")
-	}, "log-in: ", 1, 4, false},
-	{"sessions without a store", func(one *browser) (answer, error) {
-		one.cookies["session"] = "end=9&name=user3"
-		return one.ask("GET", "/", nil)
-	}, "the page: ", 1, 4, false},
-}
-
+// What a client can do without end causes few lines of log: each is done 30 times.
 func TestClientsCauseFewLinesOfLog(t *testing.T) {
 	w := newWorld(t, small, "-tries=3", "-pause=1h")
-	w.users(4, "a password", 10)
-	for row, it := range lines {
+	w.users(4, 10)
+	logIn := func(name, password string) func(*browser) (answer, error) {
+		return func(one *browser) (answer, error) { return one.logIn(name, password) }
+	}
+	for row, it := range []struct {
+		why    string
+		act    func(one *browser) (answer, error)
+		line   string
+		most   int
+		atOnce int
+		store  bool // whether the store runs
+	}{
+		{"wrong passwords, until no try is left", logIn("user0", wrong), "failed log-in", 3, 1, true},
+		{"tries of that name from another address", logIn("user0", wrong), "no try is left", 1, 4, true},
+		{"a semicolon, of which net/http writes a line", func(one *browser) (answer, error) { return one.ask("GET", "/?a;b", nil) }, "semicolon", 1, 4, true},
+		{"log-ins without a store", logIn("user2", right), "log-in: ", 1, 4, false},
+		{"sessions without a store", func(one *browser) (answer, error) {
+			one.cookies["session"] = "end=9&name=user3"
+			return one.ask("GET", "/", nil)
+		}, "the page: ", 1, 4, false},
+	} {
 		if !it.store {
 			w.postgres("fast")
 		}
-		before := w.logged()
-		one := newBrowserFrom(fmt.Sprint("127.0.10.", 1+row), w.address)
-		w.expect(200)(one.read())
-		each(30, it.atOnce, func(int) {
-			other := newBrowserFrom(fmt.Sprint("127.0.10.", 1+row), w.address)
-			other.token, other.cookies = one.token, map[string]string{"visitor": one.cookies["visitor"]}
-			if _, err := it.act(other); err != nil {
-				t.Errorf("%s: %v", it.why, err)
-			}
-		})
-		if count := strings.Count(strings.TrimPrefix(w.logged(), before), it.line); count < 1 || count > it.most {
-			t.Errorf("%s: %d lines, and not 1 to %d\n%.2000s", it.why, count, it.most, w.logged())
+		before := len(w.logged())
+		got := each(30, it.atOnce, func(int) (answer, error) { return it.act(newBrowserFrom(fmt.Sprint("127.0.10.", 1+row), w.address)) })
+		if count := strings.Count(w.logged()[before:], it.line); count < 1 || count > it.most || got.of[0] != 0 {
+			t.Errorf("%s: %d lines, and not 1 to %d, %v\n%.2000s", it.why, count, it.most, got.of, w.logged())
 		}
 		if !it.store {
 			w.postgres("start")
