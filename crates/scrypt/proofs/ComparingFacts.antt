@@ -5,22 +5,7 @@ use Rattle.std.proofs.Math.Seq.{take-add}
 use Rattle.std.proofs.lemmas.Bool.{and_from, and_parts}
 use Rattle.std.proofs.lemmas.List.{drop_at, length-take-le, take_at}
 use Rattle.scrypt_kernel.specs.Pbkdf2.{pbkdf2, pbkdf2_from}
-use Rattle.scrypt.specs.Cost.{chunks_bytes}
-use Rattle.scrypt.specs.Key.{derived_key, mixed_chunks}
-use Rattle.scrypt.specs.Reading.{Stored, is_right}
-use Rattle.scrypt.specs.StoredParts.{ArePartsOf}
-use Rattle.scrypt.specs.declared.stored_hash.parts.Parts.{Parts}
-use Rattle.scrypt.proofs.ReadingFacts.{told_right}
 use Rattle.scrypt_kernel.proofs.Pbkdf2Facts.{length-pbkdf2, pbkdf2-append}
-
--- the password is right exactly if the key by the mixed chunks is that of the hash
-pub right_by_parts : (password b mixed : List ℕ) (s : Stored) (parts : Parts) (same : Bool) → ArePartsOf s parts
-    → b ≡ pbkdf2 password parts.salt.now (chunks_bytes parts.params.r parts.params.p)
-    → mixed ≡ mixed_chunks b parts.params.log_n parts.params.r parts.params.p
-    → (same ≡ true) ↔ (s.key ≡ pbkdf2 password mixed (length s.key)) → same ≡ is_right password s
-unfolding derived_key
-right_by_parts password b mixed s parts same are b_is is tells =
-    told_right password s same (rw (is, b_is, ← are.salt, ← are.params) at tells)
 
 -- after one more piece
 pub compared_more : (password salt key piece : List ℕ) (at size : ℕ) (before matches : Bool)

@@ -4,7 +4,7 @@ use Rattle.std.proofs.Common.{refl, sym, ap, ap₂, ◌∙◌, arith, add-zero, 
 use Rattle.std.specs.List.{flat_map, range_with_len}
 use Rattle.std.proofs.Math.Nat.{mul-le-mul_right}
 use Rattle.std.proofs.lemmas.Nat.{mul-le}
-use Rattle.std.proofs.lemmas.List.{drop-drop, drop_at, take_at}
+use Rattle.std.proofs.lemmas.List.{drop-drop}
 use Rattle.std.proofs.lemmas.Slice.{drop-put_mid, take-put_mid}
 use Rattle.std.proofs.lemmas.List.FromFn.{length-map-range_with_len, take-map-range_with_len}
 use borrow.Rule.Slice.PartMut.{put_mid}
@@ -93,19 +93,20 @@ length-mixed_chunk b log_n r i some room =
     length-bytes_of (ro_mix x log_n) ∙ omega (arith, length-ro_mix x (omega arith) (omega arith) log_n)
 
 -- the chunks of two derivations, mixed as one list
-pub both_mixed : (b w x : List ℕ) (log_n r p q : ℕ) → 0 < r → length b ≡ p * (128 * r) → x ≡ mixed_chunks (b ++ w) log_n r (p + q)
-    → (take (p * (128 * r)) x ≡ mixed_chunks b log_n r p) × (drop (p * (128 * r)) x ≡ mixed_chunks w log_n r q)
-both_mixed b w x log_n r p q some long is =
+pub both_mixed : (b w : List ℕ) (log_n r p q : ℕ) → 0 < r → length b ≡ p * (128 * r)
+    → mixed_chunks (b ++ w) log_n r (p + q) ≡ mixed_chunks b log_n r p ++ mixed_chunks w log_n r q
+both_mixed b w log_n r p q some long =
     let s : ℕ = 128 * r in
-    let inside : (i : ℕ) → i < p → i * s + s ≤ length b = λ i below. omega (arith, parts_apart s i p below) in
     let mixed = λ (z : List ℕ). bytes_of (ro_mix (words_of z) log_n) in
-    let all : x ≡ mixed_chunks b log_n r p ++ mixed_chunks w log_n r q =
-    is ∙ made_append (mixed_chunk (b ++ w) log_n r) 0 p p q (zero-add p) ∙ ap₂ (λ y z. y ++ z)
-    (made_alike _ _ 0 0 p (λ i below. ap mixed (part_append_front s (0 + i) b w (inside (0 + i) (omega arith)))))
-    (made_alike _ _ p 0 q (λ i below. rw zero-add (ap mixed (part_after s p i b w long)))) in
-    let count : length (mixed_chunks b log_n r p) ≡ p * s =
-    length-parts (mixed_chunk b log_n r) s 0 p (λ i below. length-mixed_chunk b log_n r (0 + i) some (inside (0 + i) (omega arith))) in
-    (ap (take (p * s)) all ∙ take_at _ _ (p * s) count, ap (drop (p * s)) all ∙ drop_at _ _ (p * s) count)
+    made_append (mixed_chunk (b ++ w) log_n r) 0 p p q (zero-add p) ∙ ap₂ (λ y z. y ++ z)
+    (made_alike _ _ 0 0 p (λ i below. ap mixed (part_append_front s (0 + i) b w (omega (arith, parts_apart s i p below, long)))))
+    (made_alike _ _ p 0 q (λ i below. rw zero-add (ap mixed (part_after s p i b w long))))
+
+-- and their length
+pub length-mixed_chunks : (b : List ℕ) (log_n r p : ℕ) → 0 < r → length b ≡ p * (128 * r)
+    → length (mixed_chunks b log_n r p) ≡ p * (128 * r)
+length-mixed_chunks b log_n r p some long = length-parts (mixed_chunk b log_n r) (128 * r) 0 p (λ i below.
+    length-mixed_chunk b log_n r (0 + i) some (omega (arith, parts_apart (128 * r) i p below, long)))
 
 -- a shorter key is the beginning of a longer one
 pub key_prefix : (password salt : List ℕ) (log_n r p m n : ℕ) → m ≤ n

@@ -5,8 +5,10 @@ use Rattle.std.specs.Str.{bytes_eq}
 use Rattle.password_hash.specs.Refusal.{Refusal, KeyTooShort, OutOfMemory, ParamsInvalid, PasswordInvalid, TooCostly}
 pub use Rattle.password_hash.specs.Refusal.{told}
 use Rattle.scrypt.specs.Accepted.{Parameters, are_accepted}
+use Rattle.scrypt.specs.Cost.{chunks_bytes}
 use Rattle.scrypt.specs.Hashing.{key_len_or_default}
-use Rattle.scrypt.specs.Key.{derived_key}
+use Rattle.scrypt.specs.Key.{derived_key, mixed_chunks}
+use Rattle.scrypt_kernel.specs.Pbkdf2.{pbkdf2}
 
 -- f of the value, or the same error, as `Result::and_then`
 infixl 10 ◌and_then◌
@@ -24,6 +26,14 @@ pub record Stored : Type 0 where
   pub params : Parameters
   pub salt : List ℕ
   pub key : List ℕ
+
+-- the chunks of its derivation from a password (step 1)
+abbrev pub chunks_of : List ℕ → Stored → List ℕ
+chunks_of password s = pbkdf2 password s.salt (chunks_bytes s.params.r s.params.p)
+
+-- those chunks after scryptROMix (step 2)
+abbrev pub mixed_of : List ℕ → Stored → List ℕ
+mixed_of password s = mixed_chunks (chunks_of password s) s.params.log_n s.params.r s.params.p
 
 -- whether the hash accepts the password: the stored key is the key of its length that the parameters and the salt
 -- of the hash derive from the password

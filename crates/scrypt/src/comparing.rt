@@ -1,8 +1,7 @@
 // Comparing a stored key with the derived one (RFC 7914, section 6, step 3), without a copy of either.
 
-ghost use Rattle.std.specs.Prelude.{◌≡◌, ◌↔◌, length, IsTrue};
-ghost use Rattle.scrypt_kernel.specs.Pbkdf2.{pbkdf2};
-ghost use Rattle.scrypt.specs.Reading.{Stored};
+ghost use Rattle.std.specs.Prelude.{◌≡◌};
+ghost use Rattle.scrypt.specs.Reading.{Stored, is_right, mixed_of};
 ghost use Rattle.scrypt.specs.StoredParts.{ArePartsOf};
 
 use crate::stored_hash::parts::Parts;
@@ -15,8 +14,8 @@ const PIECE_LEN: usize = 96;
 /// as salt. Every piece is compared, also after a difference. Does not allocate.
 pub(crate) fn is_derived_key(password: &[u8], mixed: &[u8], parts: &Parts<'_>) -> bool
     requires parts { (s : Stored) × ArePartsOf s parts.now }
-    ensures exact { (s : Stored) → ArePartsOf s parts.now
-        → IsTrue result ↔ (s.key ≡ pbkdf2 password.now mixed.now (length s.key)) }
+    ensures exact { (s : Stored) → ArePartsOf s parts.now → mixed.now ≡ mixed_of password.now s
+        → result ≡ is_right password.now s }
 {
     let len = parts.key_len;
     let blocks = Blocks::new(password, mixed);

@@ -12,6 +12,7 @@ ghost use Rattle.scrypt.specs.WorkInBuffers.{IsLeft, verdict_in, work_in};
 pub(crate) mod parts;
 pub(crate) mod within;
 
+use crate::mcf::reading::parts_of_mcf;
 use crate::phc::reading::read_params;
 use crate::rehashing::is_below;
 use crate::verifying::{verify_allocating, verify_in_buffers};
@@ -182,7 +183,10 @@ impl<'a> StoredHash<'a> {
         ensures value { told result ≡ params_reading self.now }
     {
         match &self.format {
-            Format::Mcf(_) => self.whole_params_and_key_len(),
+            Format::Mcf(hash) => match parts_of_mcf(hash) {
+                Ok(parts) => Ok((parts.params, parts.key_len)),
+                Err(error) => Err(error),
+            },
             Format::Phc(hash, params) => match params {
                 Ok(params) => Ok((*params, key_len(hash))),
                 Err(error) => Err(*error),

@@ -1,16 +1,19 @@
 // Verifying with stored hashes of either format within limits.
 
-ghost use Rattle.std.specs.Prelude.{◌≡◌, ◌↔◌, length, IsOk, IsTrue};
+ghost use Rattle.std.specs.Prelude.{◌≡◌, length, Err, IfErr, IfOk};
 ghost use Rattle.password_hash.specs.Refusal.{TooCostly};
 ghost use Rattle.scrypt.specs.Limits.{buffers_bytes, work};
 ghost use Rattle.scrypt.specs.Cost.{chunks_bytes, scratch_words, table_words};
 ghost use Rattle.scrypt.specs.Reading.{mapped, told};
 ghost use Rattle.scrypt.specs.StoredHash.{reading};
+ghost use Rattle.scrypt.specs.StoredParts.{HasParts};
 ghost use Rattle.scrypt.specs.WithinLimits.{limited_refusal, told_limited, within};
 ghost use Rattle.scrypt.specs.WorkInBuffers.{IsLeft, verdict_in, work_in};
 
 use super::StoredHash;
+use super::parts::Parts;
 use crate::errors::LimitedError;
+use crate::verifying::verify_in_buffers;
 use crate::{BufferLens, CoreCount, Limits, Params};
 
 impl<'a> StoredHash<'a> {
@@ -54,18 +57,12 @@ impl<'a> StoredHash<'a> {
         ensures left { IsLeft (within limits.now (reading self.now))
             (work_in chunks.old table.old scratch.old cores.old) (work_in chunks.new table.new scratch.new cores.new) }
     {
-        if let Err(error) = self.params_and_key_len_within(limits) {
-            return Err(error);
+        match self.parts_within(limits) {
+            Ok(parts) => limited(verify_in_buffers(
+                password, &parts, chunks, table, scratch, cores,
+            )),
+            Err(error) => Err(error),
         }
-        limited(self.verify_with_buffers(password, chunks, table, scratch, cores))
-    }
-
-    // Returns whether the hash can be read and is within the limits.
-    pub(crate) fn is_within(&self, limits: &Limits) -> bool
-        ensures exact { IsTrue result ↔ IsOk (within limits.now (reading self.now)) }
-        ensures same { IsTrue result → within limits.now (reading self.now) ≡ reading self.now }
-    {
-        self.params_and_key_len_within(limits).is_ok()
     }
 
     /// Returns `log_n`, `r` and `p` of a hash that is within the limits, with no length, and the length of
@@ -79,27 +76,29 @@ impl<'a> StoredHash<'a> {
         ensures value { told_limited result
             ≡ mapped (λ s. (s.params, length s.key)) (within limits.now (reading self.now)) }
     {
-        let (params, key_len) = match self.whole_params_and_key_len() {
-            Ok(read) => read,
-            Err(error) => return Err(LimitedError::Hash(error)),
-        };
-        if !limits.allow(&params) {
-            return Err(too_costly(&params));
-        }
-        if key_len < limits.least_key_len {
-            return Err(LimitedError::KeyTooShort { key_len });
-        }
-        Ok((params, key_len))
-    }
-
-    // Returns the parameters of the hash and the length of its key, if it has a salt and a key.
-    pub(super) fn whole_params_and_key_len(&self) -> password_hash::Result<(Params, usize)>
-        ensures { told result ≡ mapped (λ s. (s.params, length s.key)) (reading self.now) }
-    {
-        match self.parts() {
+        match self.parts_within(limits) {
             Ok(parts) => Ok((parts.params, parts.key_len)),
             Err(error) => Err(error),
         }
+    }
+
+    /// Returns the parts of a hash that is within the limits, or the first error.
+    pub(crate) fn parts_within(&self, limits: &Limits) -> Result<Parts<'_>, LimitedError>
+        ensures ok { IfOk result (HasParts (within limits.now (reading self.now))) }
+        ensures err { IfErr result (λ e. within limits.now (reading self.now) ≡ Err (limited_refusal e)) }
+    {
+        let parts = match self.parts() {
+            Ok(parts) => parts,
+            Err(error) => return Err(LimitedError::Hash(error)),
+        };
+        if !limits.allow(&parts.params) {
+            return Err(too_costly(&parts.params));
+        }
+        let key_len = parts.key_len;
+        if key_len < limits.least_key_len {
+            return Err(LimitedError::KeyTooShort { key_len });
+        }
+        Ok(parts)
     }
 }
 

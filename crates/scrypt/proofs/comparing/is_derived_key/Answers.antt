@@ -2,7 +2,9 @@ use Rattle.std.proofs.Common.{◌≡◌, ◌≤◌, ◌-◌, ◌*◌, ◌+◌, �
 use Rattle.std.proofs.lemmas.List.{length-take-le}
 use Rattle.std.proofs.lemmas.List.FromFn.{length-map-range_with_len}
 use Rattle.scrypt_kernel.specs.Pbkdf2.{pbkdf2_byte, pbkdf2_from}
+use Rattle.scrypt.specs.Key.{derived_key}
 use Rattle.scrypt.proofs.ComparingFacts.{compared_more}
+use Rattle.scrypt.proofs.ReadingFacts.{told_right}
 use Rattle.scrypt.proofs.comparing.is_derived_key.Goals as goal
 
 pub loop-i-init : goal.loop-i-init
@@ -31,9 +33,10 @@ loop-i-preserved c s are =
     (rw here at (c.loop-i.invariant s are)) (c.matches_at-same.ensures.exact s.key are.key))
 
 pub returns : goal.returns
+unfolding derived_key
 returns c = record {
-  exact = λ s are.
+  exact = λ s are mixed.
       let all : min (96 * c.loop-i.i) (length s.key) ≡ length s.key = omega (arith, are.key_len, c.div_ceil-i-end.ensures) in
       let whole = take_all (length s.key) s.key (omega arith) in
-      rw whole at (rw all at (c.loop-i.invariant s are));
+      told_right c.args.password.now s c.loop-i.same (rw (mixed, whole) at (rw all at (c.loop-i.invariant s are)));
 }
