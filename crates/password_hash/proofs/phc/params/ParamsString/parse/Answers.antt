@@ -1,7 +1,7 @@
-use Rattle.std.proofs.Common.{◌≡◌, ◌<◌, ◌==◌, ◌++◌, ◌∷◌, [], ◌∙◌, ℕ, List, length, map, Bor, ap, sym, refl, lit<, arith, rules}
+use Rattle.std.proofs.Common.{◌≡◌, ◌<◌, ◌==◌, ◌∙◌, length, map, ap, sym, refl, lit<, arith, rules}
 use Rattle.std.specs.List.{join_with_byte, slice_split}
 use Rattle.std.proofs.lemmas.Bool.{eqb-true, eqb-false, false≢true}
-use Rattle.std.proofs.lemmas.List.{map_push, nil_from_length}
+use Rattle.std.proofs.lemmas.List.{nil_from_length}
 use Rattle.std.proofs.lemmas.List.Splits.{join_with_byte-slice_split}
 use Rattle.std.proofs.lemmas.Iterator.Splits.{YieldsList-from_str_split}
 use Rattle.std.proofs.lemmas.Iterator.Consumers.{YieldsList-so_far, YieldsList-turn, YieldsList-end}
@@ -17,17 +17,6 @@ unfolding parsed_pairs
 returns-then-is_empty c = record {
   value = rw (nil_from_length c.args.text.now (eqb-true _ _ (sym c.if-is_empty.ensures)), c.new-params.ensures.value) refl;
 }
-
-pub loop-pair-preserved : goal.loop-pair-preserved
-loop-pair-preserved c =
-    let text = λ (piece : Bor (List ℕ)). piece.now in
-    let more = ap (map pair_of) (map_push text c.loop-pair.yielded c.in-Some.pair)
-    ∙ map_push pair_of (map text c.loop-pair.yielded) c.in-Some.pair.now in
-    record {
-      pairs = rw c.in_ok-add.ensures.ok (c.in_ok-add.ensures.exact.0 refl);
-      read = rw (c.in_ok-add.ensures.ok, more, c.cut.ensures.before, c.cut.ensures.after)
-          (ap (λ params. params ++ pair_of c.in-Some.pair.now ∷ []) c.loop-pair.invariant.read);
-    }
 
 pub returns-in_err-add : goal.returns-in_err-add
 returns-in_err-add c =
