@@ -1,12 +1,17 @@
 -- Base64 of bytes, and the bytes that letters decode to.
-use Rattle.std.proofs.Common.{◌≡◌, ℕ, ◌+◌, ◌*◌, ◌/◌, List, length, ap, ◌∙◌, refl}
+use Rattle.std.proofs.Common.{◌≡◌, ℕ, suc, ◌+◌, ◌*◌, ◌/◌, ◌%◌, ◌<◌, ◌==◌, false, List, [], ◌∷◌, length, slice_index, ap, arith, ◌∙◌, refl}
 use Rattle.std.specs.Prelude.{Some, Ok}
+use Rattle.std.specs.List.{AllByRecursion as ByRecursion}
 use Rattle.std.proofs.lemmas.List.{append-nil}
+use Rattle.std.proofs.lemmas.List.Elements.{All-get_or, All-from_recursion}
+use Rattle.base64.specs.Rfc4648.{encode_symbols}
 use Rattle.base64.specs.GeneralPurpose.{IsBytes, decode_of, decoded_of}
 use Rattle.base64.specs.Engines.{standard_no_pad}
 use Rattle.base64.proofs.EngineFacts.{decode_of-encode_of}
 use Rattle.base64.proofs.RoundTrip.{length-encode_symbols}
+use Rattle.password_hash.specs.Letters.{is_value_letter}
 use Rattle.password_hash.specs.Phc.{base64}
+use Rattle.password_hash.proofs.PairsFacts.{Lacks, letters_lack}
 
 pub length-base64 : (bytes : List ℕ) → length (base64 bytes) ≡ (4 * length bytes + 2) / 3
 length-base64 bytes = rw append-nil (length-encode_symbols standard_no_pad.encode_table bytes)
@@ -18,3 +23,26 @@ decode_of-base64 letters bytes are same = ap (decode_of standard_no_pad) same �
 pub decoded_of-base64 : (bytes : List ℕ) → IsBytes bytes → decoded_of standard_no_pad (base64 bytes) ≡ Some bytes
 unfolding decoded_of
 decoded_of-base64 bytes are = rw (decode_of-base64 (base64 bytes) bytes are refl) refl
+
+-- the symbols of six bits of a table
+symbols_hold : (P : ℕ → Type 0) (t : List ℕ) → ((v : ℕ) → v < 64 → P (slice_index t v)) → (m : List ℕ) → IsBytes m
+    → ByRecursion P (encode_symbols t m)
+unfolding encode_symbols
+symbols_hold P t each [] h = tt
+symbols_hold P t each (a ∷ []) h = (each (a / 4) (omega (arith, h 0)), (each (a % 4 * 16) (omega arith), tt))
+symbols_hold P t each (a ∷ b ∷ []) h =
+    let second = each (a % 4 * 16 + b / 16) (omega (arith, h 1)) in
+    (each (a / 4) (omega (arith, h 0)), (second, (each (b % 16 * 4) (omega arith), tt)))
+symbols_hold P t each (a ∷ b ∷ c ∷ m) h =
+    let first = each (a / 4) (omega (arith, h 0)) in
+    let second = each (a % 4 * 16 + b / 16) (omega (arith, h 1)) in
+    let third = each (b % 16 * 4 + c / 64) (omega (arith, h 2)) in
+    (first, (second, (third, (each (c % 64) (omega arith), symbols_hold P t each m (λ i. h (suc (suc (suc i))))))))
+
+-- Base64 lacks each byte that is not a letter of values
+pub base64_lacks : (c : ℕ) → is_value_letter c ≡ false → (bytes : List ℕ) → IsBytes bytes → Lacks c (base64 bytes)
+base64_lacks c other bytes h =
+    let table : List ℕ = standard_no_pad.encode_table in
+    let none : Lacks c table = letters_lack is_value_letter c other table refl in
+    let symbols = symbols_hold (λ b. (b == c) ≡ false) table (λ v below. All-get_or (λ b. (b == c) ≡ false) table v 0 below none) bytes h in
+    rw append-nil (All-from_recursion (λ b. (b == c) ≡ false) (encode_symbols table bytes) symbols)

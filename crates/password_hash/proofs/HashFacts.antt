@@ -1,18 +1,25 @@
 -- A hash and the parts of its text.
-use Rattle.std.proofs.Common.{◌≡◌, ℕ, ◌==◌, false, List, [], ◌∷◌, ◌++◌, map, codes, refl, sym, ap, subst, ◌∙◌, arith}
+use Rattle.std.proofs.Common.{◌≡◌, ◌≢◌, ℕ, ◌^◌, ◌<◌, ◌==◌, false, List, [], ◌∷◌, ◌++◌, map, codes, refl, sym, ap, subst, ◌∙◌, arith}
 use Rattle.std.specs.Prelude.{All, Option, None, Some, IfSome, decimal}
 use Rattle.std.specs.List.{join_with_byte, before_first}
 use Rattle.std.proofs.lemmas.Bool.{false≢true}
 use Rattle.std.proofs.lemmas.List.Elements.{All-nil, All-cons, All-head, All-tail, All-append, All-from_recursion, All-get_or}
 use Rattle.password_hash.specs.Letters.{is_identifier_letter, is_value_letter}
 use Rattle.password_hash.specs.Pairs.{IsPair, pair_text, pairs_text, ArePairs}
-use Rattle.password_hash.specs.PhcParts.{IsVersion, LackVersion, LackEquals}
 use Rattle.password_hash.specs.Phc.{base64, version_part, params_part, salt_and_key_parts, hash_parts, IsSalt}
 use Rattle.password_hash.specs.Phc.{IsKey, IsHashText}
 use Rattle.password_hash.specs.declared.phc.hash.PasswordHash.{PasswordHash}
 use Rattle.password_hash.proofs.PairsFacts.{Lacks, letters_lack, texts_lack, cut_at_first, equals_of_pairs}
 use Rattle.password_hash.proofs.DecimalFacts.{IsValue-decimal}
-use Rattle.password_hash.proofs.PhcPartsFacts.{LacksVersion, base64_lacks}
+use Rattle.password_hash.proofs.Base64Facts.{base64_lacks}
+
+-- a version below 2 ^ 32, or none
+abbrev pub IsVersion : Option ℕ → Type 0
+IsVersion version = IfSome version (λ number. number < 2 ^ 32)
+
+-- a part that does not begin with `v=`
+abbrev pub LacksVersion : List ℕ → Type 0
+LacksVersion part = (rest : List ℕ) → part ≢ codes "v=" ++ rest
 
 -- a row of pieces that lack a byte lacks it, unless it separates them
 join_lacks : (c separator : ℕ) → (separator == c) ≡ false → (pieces : List (List ℕ)) → All (Lacks c) pieces
@@ -57,7 +64,7 @@ parts_lack text hash h =
     (salt_and_key_lack 36 refl hash.salt hash.hash h.salt h.key)))
 
 -- the text of parameters does not begin with `v=`, since no name is `v`
-pub params_no_version : (params : List (List ℕ × List ℕ)) → ArePairs params → LackVersion (params_part params)
+pub params_no_version : (params : List (List ℕ × List ℕ)) → ArePairs params → All LacksVersion (params_part params)
 params_no_version [] h = All-nil LacksVersion
 params_no_version (pair ∷ params) h =
     let is : IsPair pair = All-head IsPair pair params h.each in
@@ -69,7 +76,7 @@ params_no_version (pair ∷ params) h =
     All-from_recursion LacksVersion (pairs_text (pair ∷ params) ∷ []) (text, tt)
 
 -- nor does what has no `=`
-pub lacking_no_version : (parts : List (List ℕ)) → LackEquals parts → LackVersion parts
+pub lacking_no_version : (parts : List (List ℕ)) → All (Lacks 61) parts → All LacksVersion parts
 lacking_no_version parts h = λ k d below rest e.
     let equals = subst (Lacks 61) e (h k d below) in
     false≢true (sym (All-get_or (λ b. (b == 61) ≡ false) (codes "v=" ++ rest) 1 0 (omega arith) equals))

@@ -12,8 +12,6 @@ pub mod Base64Facts
 pub mod DecimalFacts
 -- Texts of parts, each after a `$`.
 pub mod PartsFacts
--- The parts of a PHC text.
-pub mod PhcPartsFacts
 -- A hash and the parts of its text.
 pub mod HashFacts
 -- PHC texts are read as the hashes that they are printed of.
@@ -28,9 +26,5 @@ pub mod GroupFacts
 pub mod DecodedFacts
 -- What follows from the definition of MCF texts: each has one id and one list of fields, and texts put together by parts are MCF texts.
 pub mod McfFacts
--- Facts on the letters of a piece of bytes: of whole groups of three bytes, or of all that are left.
-pub mod PieceFacts
--- Tests of the definitions of texts that compute, and what each shows.
-pub mod TextTests
 -- Texts, read and printed by the definitions alone, so that a wrong letter, order or bound in a definition does not check.
 pub mod StandardFacts

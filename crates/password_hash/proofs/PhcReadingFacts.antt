@@ -2,7 +2,7 @@
 use Rattle.std.proofs.Common.{◌≡◌, ◌≢◌, ◌↔◌, ◌^◌, ◌<◌, ◌≤◌, ◌==◌, ℕ, zero, suc, Bool, false, true, not, List, [], ◌∷◌, ◌++◌}
 use Rattle.std.proofs.Common.{length, drop, get_or, take, codes, Option, None, Some, refl, sym, ap, subst, ◌∙◌, arith, inl, inr}
 use Rattle.std.specs.Borrow.{Bor}
-use Rattle.std.specs.Prelude.{AllPairs, IfSome, IsSome, MatchOption, OnSome, decimal, is_some, nat_le, nat_lt, option_and_then, option_map}
+use Rattle.std.specs.Prelude.{All, AllPairs, IfSome, IsSome, MatchOption, OnSome, decimal, is_some, nat_le, nat_lt, option_map}
 use Rattle.std.specs.Bool.{Decides}
 use Rattle.std.specs.List.{list_all, list_any}
 use Rattle.std.specs.Str.{bytes_eq}
@@ -14,25 +14,24 @@ use Rattle.std.proofs.lemmas.List.Elements.{All-append, All-from_get_or, All-hea
 use Rattle.std.proofs.lemmas.List.Folds.{list_any_at, list_any_none}
 use Rattle.std.proofs.lemmas.List.Kept.{AllPairs-cons}
 use Rattle.std.proofs.lemmas.List.Splits.{length-slice_split, slice_split_at}
+use Rattle.std.proofs.lemmas.Option.{cond_some, option_and_then_some}
 use Rattle.std.proofs.lemmas.Slice.Eq.{bytes_eq-Decides}
 use Rattle.base64.specs.Engines.{standard_no_pad}
 use Rattle.base64.specs.GeneralPurpose.{IsBytes, decoded_of}
-use Rattle.password_hash.specs.Decimal.{IsDecimal, decimal_below}
+use Rattle.password_hash.specs.Decimal.{decimal_below}
 use Rattle.password_hash.specs.Letters.{IsIdentifier, IsValue}
 use Rattle.password_hash.specs.Pairs.{IsPair, ArePairs, pairs_of, pairs_text}
 use Rattle.password_hash.specs.Parts.{after_prefix, parts_left, parts_of, parts_text}
 use Rattle.password_hash.specs.Phc.{IsHashText, IsKey, IsSalt, base64, hash_parts, hash_text, params_part, salt_and_key_parts, version_part}
-use Rattle.password_hash.specs.PhcParts.{IsVersion, LackEquals, LackVersion}
 use Rattle.password_hash.specs.PhcReading.{are_bytes_from_to, are_pairs, decoded_bytes, hash_after, hash_of_parts, is_identifier, is_pair, is_value}
 use Rattle.password_hash.specs.PhcReading.{kept, names_differ, params_and_rest, parsed_pairs, read_hash, salt_and_key, version_and_rest, version_of}
 use Rattle.password_hash.specs.ShortBytes.{AreBytesFromTo}
 use Rattle.password_hash.specs.declared.phc.hash.PasswordHash.{PasswordHash}
 use Rattle.password_hash.proofs.Base64Facts.{decoded_of-base64}
 use Rattle.password_hash.proofs.DecimalFacts.{IsDecimal-decimal, decimal_found, decimal_of, decimal_only}
-use Rattle.password_hash.proofs.HashFacts.{lacking_no_version, params_no_version, parts_lack, salt_and_key_lack}
+use Rattle.password_hash.proofs.HashFacts.{IsVersion, LacksVersion, lacking_no_version, params_no_version, parts_lack, salt_and_key_lack}
 use Rattle.password_hash.proofs.PairsFacts.{Lacks, equals_of_pairs, pairs_of-pairs_text}
 use Rattle.password_hash.proofs.PartsFacts.{parts_of-parts_text, prefix_stripped, text_of_parts}
-use Rattle.password_hash.proofs.PhcPartsFacts.{LacksVersion}
 
 -- the tests decide
 
@@ -102,13 +101,7 @@ kept_exact : {X : Type 0} (p : X → Bool) (P : X → Type 0) (candidate : Optio
     → ((x : X) → P x → candidate ≡ Some x) → (x : X) → (kept p candidate ≡ Some x) ↔ P x
 kept_exact p P None decided only x = (λ is. absurd cc, λ is. let e = only x is in absurd cc)
 kept_exact p P (Some y) decided only x = (
-  λ is. elim (cases_Bool (p y)) [
-    | inl passes ↦
-        let said = rw passes at is in
-        let same : y ≡ x = cc in
-        subst P same ((decided y).0 passes)
-    | inr fails ↦ let said = rw fails at is in absurd cc
-  ],
+  λ is. let (passes, same) = cond_some (p y) y x is in subst P same ((decided y).0 passes),
   λ is.
       let found = only x is in
       let same : y ≡ x = cc in
@@ -138,7 +131,7 @@ none_exact P (Some x) exact none = absurd (none x ((exact x).0 refl))
 
 -- what the parts are printed of is read
 
-version_taken : (version : Option ℕ) (others : List (List ℕ)) → IsVersion version → LackVersion others
+version_taken : (version : Option ℕ) (others : List (List ℕ)) → IsVersion version → All LacksVersion others
     → version_and_rest (version_part version ++ others) ≡ Some (version, others)
 unfolding after_prefix
 version_taken None [] is none = refl
@@ -148,9 +141,9 @@ version_taken None (part ∷ others) is none =
     (sym (take-append-drop 2 part) ∙ ap (λ front. front ++ drop 2 part) ((bytes_eq-Decides (take 2 part) (codes "v=")).0 same))) in
     rw other refl
 version_taken (Some number) others is none =
-    ap (option_map (λ version. (Some version, others))) (decimal_only (decimal number) number (IsDecimal-decimal number is))
+    rw (decimal_only (decimal number) number (IsDecimal-decimal number is)) refl
 
-params_taken : (params : List (List ℕ × List ℕ)) (others : List (List ℕ)) → ArePairs params → LackEquals others
+params_taken : (params : List (List ℕ × List ℕ)) (others : List (List ℕ)) → ArePairs params → All (Lacks 61) others
     → params_and_rest (params_part params ++ others) ≡ Some (params, others)
 params_taken [] [] are none = refl
 params_taken [] (part ∷ others) are none =
@@ -203,26 +196,24 @@ version_read [] read is = let same : read ≡ (None, []) = cc in rw same (tt, re
 version_read (part ∷ after) read is = elim (cases_Bool (bytes_eq (take 2 part) (codes "v="))) [
   | inl begins ↦
       let front = ap (λ front. front ++ drop 2 part) (sym ((bytes_eq-Decides (take 2 part) (codes "v=")).0 begins)) ∙ take-append-drop 2 part in
-      digits front (decimal_below (2 ^ 32) (drop 2 part)) (decimal_found (drop 2 part)) (rw begins at is)
+      option_and_then_some _ (decimal_below (2 ^ 32) (drop 2 part)) read (rw begins at is) (λ number below is.
+      let found = rw below at (decimal_found (drop 2 part)) in
+      let same : read ≡ (Some number, after) = cc in
+      rw same (found.small, ap (λ part. part ∷ after) (sym front ∙ ap (λ digits. codes "v=" ++ digits) (decimal_of (drop 2 part) number found))))
   | inr other ↦
       let said = rw other at is in
       let same : read ≡ (None, part ∷ after) = cc in
       rw same (tt, refl)
 ]
-  where
-    digits : codes "v=" ++ drop 2 part ≡ part → (number : Option ℕ) → IfSome number (IsDecimal (drop 2 part))
-        → option_map (λ version. (Some version, after)) number ≡ Some read
-        → IsVersion read.0 × (part ∷ after ≡ version_part read.0 ++ read.1)
-    digits front None found is = absurd cc
-    digits front (Some number) found is =
-        let same : read ≡ (Some number, after) = cc in
-        rw same (found.small, ap (λ part. part ∷ after) (sym front ∙ ap (λ digits. codes "v=" ++ digits) (decimal_of (drop 2 part) number found)))
 
 params_read : (parts : List (List ℕ)) (read : List (List ℕ × List ℕ) × List (List ℕ)) → params_and_rest parts ≡ Some read
     → ArePairs read.0 × (parts ≡ params_part read.0 ++ read.1)
 params_read [] read is = let same : read ≡ ([], []) = cc in rw same (no_pairs, refl)
 params_read (part ∷ after) read is = elim (cases_Bool (list_any (λ b. b == 61) part)) [
-  | inl has ↦ pairs has (parsed_pairs part) refl (rw has at is)
+  | inl has ↦ option_and_then_some _ (parsed_pairs part) read (rw has at is) (λ pairs parsed is.
+      let exact = (pairs_exact part pairs).0 parsed in
+      let same : read ≡ (pairs, after) = cc in
+      rw same (exact.0, shown pairs has exact.1))
   | inr other ↦
       let said = rw other at is in
       let same : read ≡ ([], part ∷ after) = cc in
@@ -233,14 +224,6 @@ params_read (part ∷ after) read is = elim (cases_Bool (list_any (λ b. b == 61
         → part ∷ after ≡ params_part found ++ after
     shown [] has text = absurd (false≢true (rw text at has))
     shown (pair ∷ found) has text = ap (λ part. part ∷ after) text
-
-    pairs : list_any (λ b. b == 61) part ≡ true → (found : Option (List (List ℕ × List ℕ))) → parsed_pairs part ≡ found
-        → option_map (λ pairs. (pairs, after)) found ≡ Some read → ArePairs read.0 × (part ∷ after ≡ params_part read.0 ++ read.1)
-    pairs has None same is = absurd cc
-    pairs has (Some found) same is =
-        let one : read ≡ (found, after) = cc in
-        let exact = (pairs_exact part found).0 same in
-        rw one (exact.0, shown found has exact.1)
 
 -- the parts are a salt and a key, a salt alone, or none
 record AreSaltAndKey (parts : List (List ℕ)) (read : Option (List ℕ) × Option (List ℕ)) : Type 0 where
@@ -254,34 +237,17 @@ salt_and_key_read : (parts : List (List ℕ)) (read : Option (List ℕ) × Optio
 salt_and_key_read [] read is =
     let one : read ≡ (None, None) = cc in
     rw one (record { whole = refl; salt_bytes = tt; key_bytes = tt; key_after_salt = tt })
-salt_and_key_read (letters ∷ []) read is = at (decoded_bytes 1 letters) refl is
-  where
-    at : (found : Option (List ℕ)) → decoded_bytes 1 letters ≡ found → option_map (λ salt. (Some salt, None)) found ≡ Some read
-        → AreSaltAndKey (letters ∷ []) read
-    at None same is = absurd cc
-    at (Some found) same is =
-        let one : read ≡ (Some found, None) = cc in
-        let exact = (bytes_exact 1 letters found).0 same in
-        rw (one, exact.1) (record { whole = refl; salt_bytes = exact.0; key_bytes = tt; key_after_salt = tt })
-salt_and_key_read (letters ∷ more ∷ []) read is = at (decoded_bytes 1 letters) (decoded_bytes 10 more) refl refl is
-  where
-    at : (first second : Option (List ℕ)) → decoded_bytes 1 letters ≡ first → decoded_bytes 10 more ≡ second
-        → option_and_then (λ salt. option_and_then (λ key. Some (Some salt, Some key)) second) first ≡ Some read
-        → AreSaltAndKey (letters ∷ more ∷ []) read
-    at None second same same' is = absurd cc
-    at (Some first) None same same' is = absurd cc
-    at (Some first) (Some second) same same' is =
-        let one : read ≡ (Some first, Some second) = cc in
-        let salt = (bytes_exact 1 letters first).0 same in
-        let key = (bytes_exact 10 more second).0 same' in
-        rw (one, salt.1, key.1) (record { whole = refl; salt_bytes = salt.0; key_bytes = key.0; key_after_salt = refl })
+salt_and_key_read (letters ∷ []) read is = option_and_then_some _ (decoded_bytes 1 letters) read is (λ salt same is.
+    let one : read ≡ (Some salt, None) = cc in
+    let exact = (bytes_exact 1 letters salt).0 same in
+    rw (one, exact.1) (record { whole = refl; salt_bytes = exact.0; key_bytes = tt; key_after_salt = tt }))
+salt_and_key_read (letters ∷ more ∷ []) read is = option_and_then_some _ (decoded_bytes 1 letters) read is (λ salt same is.
+    option_and_then_some _ (decoded_bytes 10 more) read is (λ key same' is.
+    let one : read ≡ (Some salt, Some key) = cc in
+    let first = (bytes_exact 1 letters salt).0 same in
+    let second = (bytes_exact 10 more key).0 same' in
+    rw (one, first.1, second.1) (record { whole = refl; salt_bytes = first.0; key_bytes = second.0; key_after_salt = refl })))
 salt_and_key_read (letters ∷ more ∷ last ∷ parts) read is = absurd cc
-
--- the first step gave the value of the second
-first_step : {A B : Type 0} (o : Option A) (f : A → Option B) (b : B) → option_and_then f o ≡ Some b
-    → (a : A) × (o ≡ Some a) × (f a ≡ Some b)
-first_step None f b is = absurd cc
-first_step (Some a) f b is = (a, refl, is)
 
 pub read_is_hash : (text : List ℕ) (hash : PasswordHash) → read_hash text ≡ Some hash → IsHashText text hash
 unfolding read_hash
@@ -290,15 +256,15 @@ read_is_hash text hash is = at (parts_of text) refl is
     after : (algorithm : List ℕ) (parts : List (List ℕ)) → parts_of text ≡ [] ∷ algorithm ∷ parts → IsIdentifier algorithm
         → hash_after algorithm parts ≡ Some hash → IsHashText text hash
     after algorithm parts split named is =
-        let version = first_step (version_and_rest parts) _ hash is in
-        let params = first_step (params_and_rest version.0.1) _ hash version.2 in
-        let last = first_step (salt_and_key params.0.1) _ hash params.2 in
-        let is_version = version_read parts version.0 version.1 in
-        let are_pairs = params_read version.0.1 params.0 params.1 in
-        let both = salt_and_key_read params.0.1 last.0 last.1 in
-        let parts_are = is_version.1 ∙ ap (λ rest. version_part version.0.0 ++ rest)
-        (are_pairs.1 ∙ ap (λ rest. params_part params.0.0 ++ rest) both.whole) in
-        let made : record { algorithm = algorithm; version = version.0.0; params = params.0.0; salt = last.0.0; hash = last.0.1 } ≡ hash = cc in
+        option_and_then_some _ (version_and_rest parts) hash is (λ version one is.
+        option_and_then_some _ (params_and_rest version.1) hash is (λ params two is.
+        option_and_then_some _ (salt_and_key params.1) hash is (λ last three is.
+        let is_version = version_read parts version one in
+        let are_pairs = params_read version.1 params two in
+        let both = salt_and_key_read params.1 last three in
+        let parts_are = is_version.1 ∙ ap (λ rest. version_part version.0 ++ rest)
+        (are_pairs.1 ∙ ap (λ rest. params_part params.0 ++ rest) both.whole) in
+        let made : record { algorithm = algorithm; version = version.0; params = params.0; salt = last.0; hash = last.1 } ≡ hash = cc in
         rw (← made) (record {
           whole = text_of_parts text algorithm parts split ∙ ap (λ parts. parts_text (algorithm ∷ parts)) parts_are;
           algorithm = named;
@@ -307,7 +273,7 @@ read_is_hash text hash is = at (parts_of text) refl is
           salt = both.salt_bytes;
           key = both.key_bytes;
           key_after_salt = both.key_after_salt;
-        })
+        }))))
 
     at : (parts : List (List ℕ)) → parts_of text ≡ parts → hash_of_parts parts ≡ Some hash → IsHashText text hash
     at [] split is = absurd cc

@@ -1,21 +1,23 @@
 -- Texts, read and printed by the definitions alone, so that a wrong letter, order or bound in a
 -- definition does not check.
-use Rattle.std.proofs.Common.{◌≡◌, ◌+◌, ◌*◌, ◌%◌, ℕ, Option, List, [], ◌∷◌, ◌++◌, map, replicate, codes, None, Some, refl}
+use Rattle.std.proofs.Common.{◌≡◌, ◌+◌, ◌*◌, ◌%◌, ℕ, Option, List, [], ◌∷◌, ◌++◌, map, replicate, codes, None, Some, refl, arith, lit<}
 use Rattle.std.specs.Prelude.{All}
 use Rattle.std.specs.Char.{digit_value}
 use Rattle.std.specs.Fmt.{digits}
 use Rattle.std.specs.List.{range_with_len}
+use Rattle.std.proofs.lemmas.Bool.{false≢true}
+use Rattle.std.proofs.lemmas.List.Elements.{All-from_recursion, All-weaker}
 unfoldable pub use Rattle.base64.specs.Decode.{groups_bytes, groups_error, scan_steps}
 unfoldable pub use Rattle.base64.specs.GeneralPurpose.{decoded_of}
 unfoldable pub use Rattle.base64.specs.Rfc4648.{encode_symbols}
 use Rattle.password_hash.specs.Crypt64.{bytes_of_number, crypt64_of, decoded, letter, letter_value, letters_of, number_of}
 use Rattle.password_hash.specs.Decimal.{decimal_below, has_plus_or_leading_zero}
-use Rattle.password_hash.specs.Mcf.{IsMcf, IsMcfText, id_of}
+use Rattle.password_hash.specs.Mcf.{IsId, IsMcf, IsMcfText, id_of}
 use Rattle.password_hash.specs.Phc.{hash_text}
-use Rattle.password_hash.specs.Parts.{after_prefix}
+use Rattle.password_hash.specs.Parts.{after_prefix, parts_of}
 use Rattle.password_hash.specs.PhcReading.{decoded_bytes, parsed_pairs, read_hash}
 use Rattle.password_hash.specs.declared.phc.hash.PasswordHash.{PasswordHash}
-use Rattle.password_hash.proofs.TextTests.{all_shown, has_no_id, is_mcf_text, mcf_text_shown, no_id_shown}
+use Rattle.password_hash.proofs.McfFacts.{IsMcfText-from_parts, IsMcfText-read}
 
 -- the bytes that hexadecimal digits spell, two for each
 abbrev bytes : List ℕ → List ℕ
@@ -165,7 +167,12 @@ mcf_texts =
     ∷ []
 
 pub mcf_texts_read : All (λ (row : List ℕ × (List ℕ × List (List ℕ))). IsMcfText row.0 row.1.0 row.1.1) mcf_texts
-mcf_texts_read = all_shown is_mcf_text _ mcf_text_shown mcf_texts refl
+mcf_texts_read =
+    let read = λ (row : List ℕ × (List ℕ × List (List ℕ))). (parts_of row.0 ≡ [] ∷ row.1.0 ∷ row.1.1) × IsId row.1.0 in
+    All-weaker read _ (λ row is. IsMcfText-from_parts row.0 row.1.0 row.1.1 is.0 is.1) mcf_texts (All-from_recursion read mcf_texts (
+      (refl, (lit< tt, refl)),
+      ((refl, (lit< tt, refl)), ((refl, (lit< tt, refl)), ((refl, (lit< tt, refl)), tt))),
+    ))
 
 -- texts without an id
 abbrev refused_mcf_texts : List (List ℕ)
@@ -173,4 +180,10 @@ refused_mcf_texts = codes "" ∷ codes "$" ∷ codes "7" ∷ codes "$A$a" ∷ co
 
 pub mcf_texts_refused : All (λ text. ¬ IsMcf text) refused_mcf_texts
 unfolding id_of
-mcf_texts_refused = all_shown has_no_id (λ text. ¬ IsMcf text) no_id_shown refused_mcf_texts refl
+mcf_texts_refused =
+    let empty = λ (id : IsId []). absurd (omega (arith, id.0)) in
+    All-weaker (λ text. ¬ IsId (id_of text)) (λ text. ¬ IsMcf text) (λ text none is. none (IsMcfText-read text is).is_id) refused_mcf_texts
+    (All-from_recursion (λ text. ¬ IsId (id_of text)) refused_mcf_texts (
+      empty,
+      (empty, (empty, (λ id. false≢true id.1, (empty, (λ id. false≢true id.1, tt))))),
+    ))

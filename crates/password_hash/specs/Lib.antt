@@ -18,8 +18,6 @@ pub mod Pairs
 pub mod Phc
 -- how a PHC text is read
 pub mod PhcReading
--- private: the parts of a PHC text, taken one by one
-pub mod PhcParts
 -- crypt Base64
 pub mod Crypt64
 -- MCF texts

@@ -20,6 +20,10 @@ abbrev pub parts_left : Option (Bor (List ℕ)) → List (List ℕ)
 parts_left None = []
 parts_left (Some text) = parts_of text.now
 
+-- what was read of the front of a text, and the parts of what is left of it
+abbrev pub before_parts : {A : Type 0} → A × Option (Bor (List ℕ)) → A × List (List ℕ)
+before_parts (read, left) = (read, parts_left left)
+
 -- what comes after this prefix
 unfoldable pub after_prefix : List ℕ → List ℕ → Option (List ℕ)
 after_prefix prefix text =

@@ -1,6 +1,6 @@
 -- The reading of a PHC text: its parts are read one after another, each only as what it is printed of.
 use Rattle.std.specs.Prelude.{ℕ, ◌^◌, ◌==◌, ◌&&◌, Bool, true, not, nat_le, nat_lt, if◌then◌else◌, List, [], ◌∷◌, codes, length}
-use Rattle.std.specs.Prelude.{Option, None, Some, option_and_then, option_map}
+use Rattle.std.specs.Prelude.{Option, None, Some, option_and_then}
 use Rattle.std.specs.List.{list_all, list_any}
 use Rattle.std.specs.Str.{bytes_eq}
 use Rattle.base64.specs.Engines.{standard_no_pad}
@@ -57,7 +57,9 @@ decoded_bytes least letters =
 
 -- the version of these digits, with the parts after them; without digits there is none
 abbrev pub version_of : Option (List ℕ) → List (List ℕ) → List (List ℕ) → Option (Option ℕ × List (List ℕ))
-version_of (Some digits) after parts = option_map (λ version. (Some version, after)) (decimal_below (2 ^ 32) digits)
+version_of (Some digits) after parts = do
+  version ← decimal_below (2 ^ 32) digits
+  Some (Some version, after)
 version_of None after parts = Some (None, parts)
 
 -- the version, if the first part begins with `v=`, and the parts after it
@@ -69,12 +71,12 @@ version_and_rest (part ∷ after) = version_of (after_prefix (codes "v=") part) 
 abbrev pub params_and_rest : List (List ℕ) → Option (List (List ℕ × List ℕ) × List (List ℕ))
 params_and_rest [] = Some ([], [])
 params_and_rest (part ∷ after) =
-    if list_any (λ byte. byte == 61) part then option_map (λ pairs. (pairs, after)) (parsed_pairs part) else Some ([], part ∷ after)
+    if list_any (λ byte. byte == 61) part then parsed_pairs part >>= (λ pairs. Some (pairs, after)) else Some ([], part ∷ after)
 
 -- the salt and the key after it, each if there is one; nothing may be left
 abbrev pub salt_and_key : List (List ℕ) → Option (Option (List ℕ) × Option (List ℕ))
 salt_and_key [] = Some (None, None)
-salt_and_key (salt ∷ []) = option_map (λ salt. (Some salt, None)) (decoded_bytes 1 salt)
+salt_and_key (salt ∷ []) = decoded_bytes 1 salt >>= λ salt. Some (Some salt, None)
 salt_and_key (salt ∷ key ∷ []) = do
   salt ← decoded_bytes 1 salt
   key ← decoded_bytes 10 key

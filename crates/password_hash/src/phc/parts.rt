@@ -3,8 +3,7 @@
 //! Each function takes what is left of the text: all that follows the `$` after the parts already
 //! read, or `None` after the last part. `None` as its result means that the text is not a PHC text.
 ghost use Rattle.std.specs.Prelude.{◌≡◌, option_map};
-ghost use Rattle.password_hash.specs.Parts.{parts_left};
-ghost use Rattle.password_hash.specs.PhcParts.{before_parts};
+ghost use Rattle.password_hash.specs.Parts.{before_parts, parts_left};
 ghost use Rattle.password_hash.specs.PhcReading.{params_and_rest, salt_and_key, version_and_rest};
 
 use crate::Version;
