@@ -36,11 +36,11 @@ pub trait Memory {
 
     /// Appends the block mix of row `i`, the last one, as row `i + 1`, and counts its cores.
     ///
-    /// A row has `spare.len()` words, which are `s` words for each chunk. What `spare` holds after the
-    /// call is unspecified.
-    fn append_mix<O: Order>(&mut self, i: usize, s: usize, spare: &mut [u32], cores: &mut CoreCount)
+    /// A row has `y.len()` words, which are `s` words for each chunk. What `y` holds after the call is
+    /// unspecified.
+    fn append_mix<O: Order>(&mut self, i: usize, s: usize, y: &mut [u32], cores: &mut CoreCount)
         requires row { IsRowLen s }
-        requires chunks { length spare.old ≡ O.count * s }
+        requires chunks { length y.old ≡ O.count * s }
         requires last { length (words self.old) ≡ (i + 1) * (O.count * s) }
         requires room { (i + 2) * (O.count * s) ≤ room self.old }
         ensures words { AddsRow (mixed_in O.pivot O.inverse_pivot 1) O.count s i (words self.old) (words self.new) }
@@ -94,14 +94,8 @@ impl<'a> Memory for Buffer<'a> {
     }
 
     #[inline(always)]
-    fn append_mix<O: Order>(
-        &mut self,
-        i: usize,
-        s: usize,
-        spare: &mut [u32],
-        cores: &mut CoreCount,
-    ) {
-        let row_len = spare.len();
+    fn append_mix<O: Order>(&mut self, i: usize, s: usize, y: &mut [u32], cores: &mut CoreCount) {
+        let row_len = y.len();
         let memory = &mut *self.memory;
         let (rows, rest) = memory.split_at_mut(self.len);
         let last = Parts::of(part(row_len, rows, i), s, O::count());
@@ -132,15 +126,9 @@ impl Memory for Vec<u32> {
     }
 
     #[inline(always)]
-    fn append_mix<O: Order>(
-        &mut self,
-        i: usize,
-        s: usize,
-        spare: &mut [u32],
-        cores: &mut CoreCount,
-    ) {
-        let last = Parts::of(part(spare.len(), self.as_slice(), i), s, O::count());
-        mix::<O, Parts<'_>>(&last, spare, s, cores);
-        self.extend_from_slice(spare).unwrap();
+    fn append_mix<O: Order>(&mut self, i: usize, s: usize, y: &mut [u32], cores: &mut CoreCount) {
+        let last = Parts::of(part(y.len(), self.as_slice(), i), s, O::count());
+        mix::<O, Parts<'_>>(&last, y, s, cores);
+        self.extend_from_slice(y).unwrap();
     }
 }

@@ -12,7 +12,7 @@ returns-clause-words g c =
     let q = g.O.Order.inverse_pivot in
     let s = c.args.s in
     let front = c.split_at_mut-rows in
-    let row_len = length c.args.spare.now in
+    let row_len = length c.args.y.now in
     let full : length c.mix.new.output ≡ row_len = c.mix.auto.output ∙ length-take-le row_len _ (omega arith) in
     let row_is = rw c.requires.chunks at (c.part.ensures.value ∙ ap (λ z. part row_len z c.args.i) front.ensures.front) in
     adds_row (mixed_in p q 1) g.O.Order.count s c.args.i _ _ c.mix.new.output c.requires.last
