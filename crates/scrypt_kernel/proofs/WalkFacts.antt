@@ -1,16 +1,15 @@
 -- Facts on the walk over a table that keeps some rows, or all of them.
 use Rattle.std.proofs.Common.{◌≡◌, Bool, ℕ, zero, suc, ◌<◌, ◌≤◌, ◌+◌, ◌-◌, ◌*◌, ◌/◌, ◌%◌, ◌^◌, List, length, refl, sym, ap}
 use Rattle.std.proofs.Common.{subst, ◌∙◌, arith, add-one}
-use Rattle.std.proofs.lemmas.Nat.{one_shl, pow-add, pow_pos, shr_below}
+use Rattle.std.proofs.lemmas.Nat.{mod_below, one_shl, pow-add, pow_pos, shr_below}
 use Rattle.std.proofs.Math.Nat.{div-mul-le_self, lt_of_mul-lt-mul_left}
-use Rattle.scrypt_kernel.specs.Words.{part, xor_words}
+use Rattle.scrypt_kernel.specs.Words.{part}
 use Rattle.scrypt_kernel.specs.declared.cores.CoreCount.{CoreCount}
 use Rattle.scrypt_kernel.specs.Count.{AreCountedAs}
-use Rattle.scrypt_kernel.specs.BlockMix.{block_mix}
 use Rattle.scrypt_kernel.specs.RoMix.{integerify, row, walk}
 use Rattle.scrypt_kernel.specs.RoMixCost.{ro_mix_cost}
 use Rattle.scrypt_kernel.specs.Table.{extra_rows, recomputed_rows, thin_ro_mix_cost}
-use Rattle.scrypt_kernel.specs.KeptRows.{IsFilled, KeepsRows, mixed_in, place, steps_cost}
+use Rattle.scrypt_kernel.specs.KeptRows.{AreWalkLens, IsFilled, KeepsRows, mixed_in, place, steps_cost, x_after}
 use Rattle.scrypt_kernel.specs.Diagonal.{AreInverse, permuted}
 use Rattle.scrypt_kernel.proofs.CountFacts.{counted_both}
 use Rattle.scrypt_kernel.proofs.PartFacts.{length-part}
@@ -90,18 +89,25 @@ some_missing (suc s) j missing = omega arith
 pub missing_rows : (s j i : ℕ) → s ≤ 56 → j ≡ i → j % (1 * 2 ^ s % 2 ^ 64) ≡ i % 2 ^ s
 missing_rows s j i small is = ap (λ n. j % n) (one_shl s 64 (omega arith)) ∙ ap (λ j. j % 2 ^ s) is
 
--- the step after one of chunk k, whose X is x, which takes in row j: the kept row below it is low
-pub next_step : (p q : List ℕ) → AreInverse p q → (n k s log_n t : ℕ) (kept x low : List ℕ) (j : ℕ) → 0 < s → s % 32 ≡ 0 → length x ≡ s
-    → j ≡ integerify (permuted q x) % 2 ^ log_n → j < 2 ^ log_n → low ≡ part s kept (place n (j / 2 ^ t) k) → length low ≡ s
-    → (b : List ℕ) (i : ℕ) → KeepsRows p b n k s t (2 ^ log_n) kept → x ≡ permuted p (walk b log_n i)
-    → permuted p (block_mix (permuted q (xor_words x (mixed_in p q (j % 2 ^ t) low)))) ≡ permuted p (walk b log_n (i + 1))
-next_step p q inverse n k s log_n t kept x low j some whole size names inside below long b i keeps is =
+-- the step after one of chunk k, from the X in x to the one in y
+pub next_step : (p q : List ℕ) → AreInverse p q → {n s log_n t a c d : ℕ} {kept : List ℕ} → AreWalkLens n s log_n t a c d (length kept)
+    → (x y : List ℕ) (k : ℕ) → k < n → length x ≡ n * s → part s y k ≡ x_after p q n k s log_n t kept (part s x k)
+    → (b : List ℕ) (i : ℕ) → KeepsRows p b n k s t (2 ^ log_n) kept → part s x k ≡ permuted p (walk b log_n i)
+    → part s y k ≡ permuted p (walk b log_n (i + 1))
+next_step p q inverse {n} {s} {log_n} {t} {kept = kept} lens x y k below size stepped b i keeps is =
+    let j : ℕ = integerify (permuted q (part s x k)) % 2 ^ log_n in
     let step : ℕ = 2 ^ t in
+    let inside : j < 2 ^ log_n = mod_below _ (2 ^ log_n) (pow_pos log_n) in
+    let at : ℕ = place n (j / step) k in
+    let low : List ℕ = part s kept at in
+    let long = length-part s at kept (kept_place n s t log_n j k _ lens.spacing inside below lens.rows) in
     let kept_row : j / step * step < 2 ^ log_n = omega (arith, div-mul-le_self j step, inside) in
     let there : j / step * step + j % step ≡ j = omega arith in
-    let same = length-mixed_in p q low (j % step) (omega arith) (omega arith) in
-    let taken = row_after_in p q inverse b low (j / step * step) (j % step) (omega arith) (below ∙ keeps.each (j / step) kept_row) in
-    next_step_in p q inverse b log_n i x _ j (omega arith) (same ∙ long ∙ sym size) is names (taken ∙ ap (λ i. permuted p (row b i)) there)
+    let x_long = length-part_of_row n s k x below size in
+    let same = length-mixed_in p q low (j % step) (omega (arith, long, lens.row.some)) (omega (arith, long, lens.row.whole)) in
+    let taken = row_after_in p q inverse b low (j / step * step) (j % step) (omega (arith, long, lens.row.whole)) (keeps.each (j / step) kept_row) in
+    stepped ∙ next_step_in p q inverse b log_n i (part s x k) _ j (omega (arith, x_long, lens.row.whole)) (same ∙ long ∙ sym x_long) is refl
+    (taken ∙ ap (λ i. permuted p (row b i)) there)
 
 -- the steps of all turns, two in each
 pub all_steps : (log_n k : ℕ) → 0 < log_n → log_n ≤ 56 → k ≡ 1 * 2 ^ (log_n - 1) % 2 ^ 64 → 2 * k ≡ 2 ^ log_n

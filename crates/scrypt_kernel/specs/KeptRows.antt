@@ -1,8 +1,9 @@
 -- Only functions that scrypt does not export cite this: the rows that a table keeps, and the walk over
 -- them.
 use Rattle.std.specs.Prelude.{◌≡◌, ℕ, ◌+◌, ◌-◌, ◌*◌, ◌/◌, ◌%◌, ◌^◌, ◌<◌, ◌≤◌, List, length}
-use Rattle.scrypt_kernel.specs.Words.{part}
-use Rattle.scrypt_kernel.specs.RoMix.{row, walk}
+use Rattle.scrypt_kernel.specs.Words.{part, xor_words}
+use Rattle.scrypt_kernel.specs.BlockMix.{block_mix}
+use Rattle.scrypt_kernel.specs.RoMix.{integerify, row}
 use Rattle.scrypt_kernel.specs.Diagonal.{permuted}
 use Rattle.scrypt_kernel.specs.Table.{extra_rows}
 
@@ -57,11 +58,15 @@ pub record AreWalkLens (n s log_n t x y spare v : ℕ) : Type 0 where
   pub room : 0 < t → s ≤ spare
   pub rows : v ≡ 2 ^ (log_n - t) * (n * s)
 
--- in part k y is the X after x, for each input whose rows are kept and whose walk reaches x
-abbrev pub IsNext : List ℕ → ℕ → ℕ → ℕ → ℕ → ℕ → List ℕ → List ℕ → List ℕ → Type 0
-IsNext p n k s log_n spacing kept x y =
-    (b : List ℕ) (i : ℕ) → KeepsRows p b n k s spacing (2 ^ log_n) kept → part s x k ≡ permuted p (walk b log_n i)
-    → part s y k ≡ permuted p (walk b log_n (i + 1))
+-- the block mix of the exclusive or of x and y, which are in the order p
+abbrev pub mix_of : List ℕ → List ℕ → List ℕ → List ℕ → List ℕ
+mix_of p q x y = permuted p (block_mix (permuted q (xor_words x y)))
+
+-- X after x, which is that of chunk k of n: row j is recomputed from the kept row below it
+abbrev pub x_after : List ℕ → List ℕ → ℕ → ℕ → ℕ → ℕ → ℕ → List ℕ → List ℕ → List ℕ
+x_after p q n k s log_n spacing kept x =
+    let j = integerify (permuted q x) % 2 ^ log_n in
+    mix_of p q x (mixed_in p q (j % 2 ^ spacing) (part s kept (place n (j / 2 ^ spacing) k)))
 
 -- the cores of i steps of the walk for the input b of the first chunk, and of the rows that were recomputed
 abbrev pub steps_cost : List ℕ → ℕ → ℕ → ℕ → ℕ → ℕ → ℕ

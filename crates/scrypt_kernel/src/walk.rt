@@ -1,13 +1,12 @@
 //! The walk of scryptROMix (RFC 7914, section 5, step 3).
 
 ghost use Rattle.std.specs.Prelude.{◌≡◌, ℕ, ◌+◌, ◌-◌, ◌*◌, ◌/◌, ◌%◌, ◌^◌, ◌<◌, ◌≤◌, List, length, slice_index};
-ghost use Rattle.scrypt_kernel.specs.Words.{part, xor_words};
+ghost use Rattle.scrypt_kernel.specs.Words.{part};
 ghost use Rattle.scrypt_kernel.specs.Count.{AreCountedAs};
-ghost use Rattle.scrypt_kernel.specs.BlockMix.{block_mix};
 ghost use Rattle.scrypt_kernel.specs.Diagonal.{permuted};
 ghost use Rattle.scrypt_kernel.specs.RoMix.{integerify, walk};
 ghost use Rattle.scrypt_kernel.specs.Table.{recomputed_rows};
-ghost use Rattle.scrypt_kernel.specs.KeptRows.{AreWalkLens, IsNext, IsRowLen, StartsWalk, mixed_in, place, steps_cost};
+ghost use Rattle.scrypt_kernel.specs.KeptRows.{AreWalkLens, IsRowLen, StartsWalk, mix_of, mixed_in, place, steps_cost, x_after};
 
 use crate::CoreCount;
 use crate::block_mix::{Xor, mix};
@@ -64,7 +63,8 @@ fn step<O: Order>(
     cores: &mut CoreCount,
 )
     requires lens { AreWalkLens O.count len log_n s (length x.now) (length y.old) (length spare.old) (length v.now) }
-    ensures value { (k : ℕ) → k < O.count → IsNext O.pivot O.count k len log_n s v.now x.now y.new }
+    ensures value { (k : ℕ) → k < O.count → part len y.new k
+        ≡ x_after O.pivot O.inverse_pivot O.count k len log_n s v.now (part len x.now k) }
     ensures counted { let j = integerify (permuted O.inverse_pivot (part len x.now 0)) % 2 ^ log_n in
         AreCountedAs O.simd ((recomputed_rows s j + 1) * (O.count * (2 * (len / 32)))) cores.old cores.new }
 {
@@ -99,8 +99,8 @@ fn mix_recomputed<O: Order>(
     requires kept { length kept.now ≡ length x.now }
     requires output { length y.old ≡ length x.now }
     requires room { length x.now ≤ length spare.old }
-    ensures value { (k : ℕ) → k < O.count → part len y.new k ≡ permuted O.pivot (block_mix (permuted O.inverse_pivot
-        (xor_words (part len x.now k) (mixed_in O.pivot O.inverse_pivot missing (part len kept.now k))))) }
+    ensures value { (k : ℕ) → k < O.count → part len y.new k
+        ≡ mix_of O.pivot O.inverse_pivot (part len x.now k) (mixed_in O.pivot O.inverse_pivot missing (part len kept.now k)) }
     ensures counted { AreCountedAs O.simd ((missing + 1) * (O.count * (2 * (len / 32)))) cores.old cores.new }
 {
     let row = &mut spare[..x.len()];

@@ -4,9 +4,6 @@ use Rattle.std.proofs.lemmas.List.FromFn.{fill_by_all}
 use Rattle.scrypt_kernel.specs.Words.{le_number, part}
 use Rattle.scrypt_kernel.proofs.words.read_words.Goals as goal
 
-pub loop-i-preserved : goal.loop-i-preserved
-loop-i-preserved c = grind (arith, common_steps)
-
 pub returns : goal.returns
 returns c =
     let b = c.args.bytes.now in
