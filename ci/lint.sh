@@ -1,6 +1,7 @@
 #!/bin/sh
 # Runs the linters and formatters that are installed over everything but what is built, and names the others.
 set -eu
+failed=0
 
 # The files of a kind, the Debian package of the linter, and its command, which prints nothing if all is well.
 lint() {
@@ -12,7 +13,7 @@ lint() {
   fi
   wrong=$(find ci compare doc bench bindings examples release -name "$kind" -not -path '*/out/*' \
     -not -path '*/target/*' -exec "$@" {} + 2>&1) || test -n "$wrong" || wrong="$1 failed"
-  test -z "$wrong" || { echo "$wrong"; exit 1; }
+  test -z "$wrong" || { echo "$wrong"; failed=1; }
 }
 
 lint '*.py' pyflakes3 pyflakes3
@@ -20,6 +21,10 @@ lint '*.sh' shellcheck shellcheck --severity=error
 lint '*.go' golang-go gofmt -l
 # A user's CDPATH would make cd go elsewhere.
 for script in .ci/run $(find ci compare doc bench bindings examples release -name '*.sh'); do
-  if grep -qE '^[^#]*\bcd ' "$script" && ! grep -qx 'unset CDPATH' "$script"; then echo "$script: no unset CDPATH"; exit 1; fi
+  if grep -qE '^[^#]*\bcd ' "$script" && ! grep -qx 'unset CDPATH' "$script"; then
+    echo "$script: no unset CDPATH"
+    failed=1
+  fi
 done
 lint '*.rs' rustfmt rustfmt --check --edition 2021 --config-path bindings/rust
+exit $failed
