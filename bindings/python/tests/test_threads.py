@@ -21,7 +21,7 @@ from concurrent.futures import ThreadPoolExecutor
 from scrypt_c import PasswordHasher, VerifyMismatchError, errors, library, scrypt
 
 WAIT = 60  # seconds, after which something is taken to wait for ever
-TEXT = PasswordHasher(log_n=4).hash("pw")
+TEXT, SLOW = PasswordHasher(log_n=4).hash("pw"), PasswordHasher(log_n=15).hash("pw")
 
 
 def on_one_processor(**options):
@@ -160,19 +160,31 @@ class Signals(unittest.TestCase):
                     self.assertTrue(hasher.verify(TEXT, "pw"))
 
     def test_handlers_while_it_waits(self):
-        """They run at once. What raises ends the wait, and what returns does not."""
+        """They run at once, whichever thread gets the signal. What raises ends the wait, and what returns does not."""
+        to_another = lambda: signal.pthread_kill(threading.get_ident(), signal.SIGALRM)
         for handler, seconds, result in [
             (signal.default_int_handler, 0.5, KeyboardInterrupt),
             (lambda *_: hasher.close(), 0.5, ValueError),
             (lambda *_: None, WAIT, True),
             (lambda *_: hasher.verify(TEXT, "pw"), WAIT, True),
         ]:
-            hasher = PasswordHasher(log_n=4, at_once=1, timeout=WAIT)
-            with busy(hasher, 4), on_alarm(handler):
-                alarm(0.05, 0.05)
-                began = time.monotonic()
-                self.assertIs(outcome(hasher, TEXT, "pw"), result)
-                self.assertLess(time.monotonic() - began, seconds, result)
+            for start in (lambda: alarm(0.05, 0.05), threading.Timer(0.05, to_another).start):
+                hasher = PasswordHasher(log_n=4, at_once=1, timeout=WAIT)
+                with busy(hasher, 4), on_alarm(handler):
+                    start()
+                    began = time.monotonic()
+                    self.assertIs(outcome(hasher, TEXT, "pw"), result)
+                    self.assertLess(time.monotonic() - began, seconds, result)
+
+    def test_its_place_is_kept(self):
+        """The main thread, which waits in slices, begins before one that came later."""
+        hasher, order = PasswordHasher(log_n=4, at_once=1), []
+        later = threading.Timer(0.2, lambda: order.append(hasher.verify(SLOW, "pw")))
+        with busy(hasher, 4):
+            later.start()
+            order.append(outcome(hasher, TEXT, "PW"))
+        later.join()
+        self.assertEqual(order, [VerifyMismatchError, True])
 
     def test_forked_in_a_handler(self):
         """At any time of a call, which goes on in the child too, and has the right verdict there, also if another thread
@@ -286,7 +298,8 @@ class Processes(unittest.TestCase):
             hasher = Other(**options)
             for copied in (pickle.loads(pickle.dumps(hasher)), copy.copy(hasher), copy.deepcopy(hasher)):
                 self.assertEqual((type(copied), repr(copied)), (Other, repr(hasher)))
-                self.assertEqual((copied.params, copied._options), (hasher.params, hasher._options))
+                same = [(it.params, it._options, it._timeout) for it in (copied, hasher)]
+                self.assertEqual(*same)
                 hasher.close()
                 self.assertTrue(copied.hash("pw"))
 
