@@ -16,7 +16,7 @@ use Rattle.scrypt.specs.McfParams.{field_params}
 use Rattle.scrypt.specs.PhcHash.{phc_params}
 use Rattle.scrypt.specs.PhcParams.{read_pairs}
 use Rattle.scrypt.specs.Reading.{Stored, checked}
-use Rattle.scrypt.specs.StoredHash.{is_mcf_text, reading}
+use Rattle.scrypt.specs.StoredHash.{formatted, is_mcf_text, reading}
 
 -- a text, and the parameters, the salt and the key that it is read as
 abbrev read_as : List ℕ → ℕ → ℕ → ℕ → List ℕ → List ℕ → List ℕ × Result Stored Refusal
@@ -56,7 +56,7 @@ phc_readings =
     ∷ []
 
 pub phc_texts_read : map (λ row. reading row.0) phc_readings ≡ map (λ row. row.1) phc_readings
-unfolding after_prefix are_accepted checked decimal_below decoded_bytes decoded_of digits encode_symbols groups_bytes groups_error
+unfolding after_prefix are_accepted checked decimal_below decoded_bytes decoded_of digits encode_symbols formatted groups_bytes groups_error
     has_plus_or_leading_zero is_mcf_text parsed_pairs phc_params read_hash read_pairs reading scan_steps
 phc_texts_read = refl
 
@@ -81,6 +81,6 @@ mcf_readings =
     ∷ []
 
 pub mcf_texts_read : map (λ row. reading row.0) mcf_readings ≡ map (λ row. row.1) mcf_readings
-unfolding are_accepted bytes_of_number checked crypt64_of decoded field_params is_mcf_text is_output_len letter letter_value letters_of
+unfolding are_accepted bytes_of_number checked crypt64_of decoded field_params formatted is_mcf_text is_output_len letter letter_value letters_of
     number_of read_mcf reading
 mcf_texts_read = refl

@@ -1,6 +1,6 @@
 -- Facts on stored hashes of either format: how their texts are read.
 use Rattle.std.proofs.Common.{◌≡◌, ◌∙◌, List, ℕ, [], ◌∷◌, Bool, true, false, Ok, Err, refl, sym, ap, arith, lit<}
-use Rattle.std.specs.Prelude.{◌||◌, IfErr, Option, Some, None, Result, codes, if◌then◌else◌, is_some, length, ok_or}
+use Rattle.std.specs.Prelude.{◌||◌, IfErr, Option, Some, None, Result, codes, is_some, length, ok_or}
 use Rattle.std.proofs.lemmas.Bool.{false≢true}
 use Rattle.std.proofs.lemmas.Bool.Decides.{nat_tests}
 use Rattle.password_hash.proofs.McfFacts.{IsMcfText-from_parts}
@@ -15,13 +15,10 @@ use Rattle.scrypt.specs.McfHash.{mcf_id, read_fields, read_mcf}
 use Rattle.scrypt.specs.PhcHash.{phc_params, read_phc}
 use Rattle.scrypt.specs.Accepted.{Parameters}
 use Rattle.scrypt.specs.Reading.{◌and_then◌, IsOfText, NamesNoPassword, Stored, mapped}
-use Rattle.scrypt.specs.StoredHash.{is_mcf_text, is_stored_text, key_len_or_zero, params_reading, reading}
-use Rattle.scrypt.specs.StoredRead.{IsHashOf}
-use Rattle.scrypt.specs.declared.stored_hash.Format.{Format}
-use Rattle.scrypt.specs.declared.stored_hash.Format.TheVariants.{Mcf, Phc}
+use Rattle.scrypt.specs.StoredHash.{Formatted, McfText, PhcHash, formatted, is_mcf_text, is_stored_text, key_len_or_zero, params_and_len, params_reading, reading, whole}
 use Rattle.scrypt.proofs.McfHashFacts.{fields_fault, is_mcf, mcf_fault, mcf_none, read_seven}
 use Rattle.scrypt.proofs.PhcHashFacts.{params_fault, params_none}
-use Rattle.scrypt.proofs.ReadingFacts.{IsFault, mapped_refused, no_password, part_fault}
+use Rattle.scrypt.proofs.ReadingFacts.{IsFault, mapped_refused, no_password, part_fault, some_fault, then_fault}
 
 or_true : (b : Bool) → (b || true) ≡ true
 or_true true = refl
@@ -51,65 +48,32 @@ seven_read text seven = read_seven (seven_is_mcf text seven) refl
 
 -- a `$7$` text, the text of a PHC hash and any other text
 
-pub mcf_reading : (text : List ℕ) → is_mcf_text text ≡ true → reading text ≡ read_mcf text
+pub mcf_formatted : (text : List ℕ) → is_mcf_text text ≡ true → formatted text ≡ Some (McfText text)
+unfolding formatted
+mcf_formatted text seven = rw seven refl
+
+pub phc_formatted : (text : List ℕ) {hash : PasswordHash} → is_mcf_text text ≡ false → read_hash text ≡ Some hash
+    → formatted text ≡ Some (PhcHash hash)
+unfolding formatted
+phc_formatted text differs is = rw (differs, is) refl
+
+pub not_formatted : (text : List ℕ) → is_mcf_text text ≡ false → read_hash text ≡ None → formatted text ≡ None
+unfolding formatted
+not_formatted text differs none = rw (differs, none) refl
+
+pub reading_of : (text : List ℕ) {it : Formatted} → formatted text ≡ Some it → reading text ≡ whole it
 unfolding reading
-mcf_reading text seven = rw seven refl
-
-pub phc_reading : (text : List ℕ) {hash : PasswordHash} → is_mcf_text text ≡ false → read_hash text ≡ Some hash
-    → reading text ≡ read_phc hash
-unfolding reading
-phc_reading text differs is = rw (differs, is) refl
-
-pub mcf_params : (text : List ℕ) → is_mcf_text text ≡ true
-    → params_reading text ≡ mapped (λ s. (s.params, length s.key)) (reading text)
-unfolding params_reading reading
-mcf_params text seven = rw seven refl
-
-pub phc_params_are : (text : List ℕ) {hash : PasswordHash} → is_mcf_text text ≡ false → read_hash text ≡ Some hash
-    → params_reading text ≡ mapped (λ c. (c, key_len_or_zero hash.hash)) (phc_params hash)
-unfolding params_reading
-phc_params_are text differs is = rw (differs, is) refl
-
-pub mcf_is_stored : (text : List ℕ) → is_mcf_text text ≡ true → is_stored_text text ≡ true
-unfolding is_stored_text
-mcf_is_stored text seven = rw seven refl
-
-pub phc_is_stored : (text : List ℕ) {hash : PasswordHash} → read_hash text ≡ Some hash → is_stored_text text ≡ true
-unfolding is_stored_text
-phc_is_stored text is = rw is (or_true _)
-
-pub not_stored : (text : List ℕ) → is_mcf_text text ≡ false → read_hash text ≡ None → is_stored_text text ≡ false
-unfolding is_stored_text
-not_stored text differs none = rw (differs, none) refl
-
--- what a call that reads a PHC text returns tells its reading
-
-pub hash_read : {E : Type 0} (answer : Option PasswordHash) (hash : PasswordHash) (e : E) → Ok hash ≡ ok_or answer e → answer ≡ Some hash
-hash_read (Some read) hash e is = cc
-hash_read None hash e is = absurd cc
-
-pub none_read : {E : Type 0} (answer : Option PasswordHash) (error e : E) → Err error ≡ ok_or answer e → answer ≡ None
-none_read (Some read) error e is = absurd cc
-none_read None error e is = refl
-
--- the text of a hash in its format is that of a stored hash
-pub format_is_stored : (text : List ℕ) (format : Format) → IsHashOf text format → is_stored_text text ≡ true
-format_is_stored text (Mcf hash) is = mcf_is_stored text is.0
-format_is_stored text (Phc hash params) is = phc_is_stored text is.1
+reading_of text is = rw is refl
 
 pub no_reading : (text : List ℕ) → is_stored_text text ≡ false
     → (reading text ≡ Err EncodingInvalid) × (params_reading text ≡ Err EncodingInvalid)
 unfolding is_stored_text reading params_reading
-no_reading text none = at (is_mcf_text text) (read_hash text) none
+no_reading text none = at (formatted text) none
   where
-    at : (seven : Bool) (answer : Option PasswordHash) → (seven || is_some answer) ≡ false
-        → ((if seven then read_mcf text else (ok_or answer EncodingInvalid and_then read_phc)) ≡ Err EncodingInvalid)
-        × ((if seven then mapped {B = Parameters × ℕ} (λ s. (s.params, length s.key)) (read_mcf text)
-        else (ok_or answer EncodingInvalid and_then λ hash. mapped (λ c. (c, key_len_or_zero hash.hash)) (phc_params hash)))
-        ≡ Err EncodingInvalid)
-    at true answer none = absurd (false≢true (sym none))
-    at false (Some hash) none = absurd (false≢true (sym none))
-    at false None none = (refl, refl)
+    at : (found : Option Formatted) → is_some found ≡ false → ((ok_or found EncodingInvalid and_then whole) ≡ Err EncodingInvalid)
+        × ((ok_or found EncodingInvalid and_then params_and_len) ≡ Err EncodingInvalid)
+    at (Some it) none = absurd (false≢true (sym none))
+    at None none = (refl, refl)
 
 -- the parameters and the whole of a hash
 
@@ -127,41 +91,33 @@ phc_whole (Err why) salt key s is = absurd cc
 
 pub params_of_whole : (text : List ℕ) (s : Stored) → reading text ≡ Ok s → params_reading text ≡ Ok (s.params, length s.key)
 unfolding reading params_reading
-params_of_whole text s is = at (is_mcf_text text) (read_hash text) is
+params_of_whole text s is = at (formatted text) is
   where
-    at : (seven : Bool) (answer : Option PasswordHash)
-        → (if seven then read_mcf text else (ok_or answer EncodingInvalid and_then read_phc)) ≡ Ok s
-        → (if seven then mapped {B = Parameters × ℕ} (λ z. (z.params, length z.key)) (read_mcf text)
-        else (ok_or answer EncodingInvalid and_then λ hash. mapped (λ c. (c, key_len_or_zero hash.hash)) (phc_params hash)))
-        ≡ Ok (s.params, length s.key)
-    at true answer is = ap (mapped (λ z. (z.params, length z.key))) is
-    at false (Some hash) is = phc_whole (phc_params hash) hash.salt hash.hash s is
-    at false None is = absurd cc
+    at : (found : Option Formatted) → (ok_or found EncodingInvalid and_then whole) ≡ Ok s
+        → (ok_or found EncodingInvalid and_then params_and_len) ≡ Ok (s.params, length s.key)
+    at (Some (McfText text)) is = ap (mapped (λ z. (z.params, length z.key))) is
+    at (Some (PhcHash hash)) is = phc_whole (phc_params hash) hash.salt hash.hash s is
+    at None is = absurd cc
 
 pub params_refused : (text : List ℕ) (why : Refusal) → params_reading text ≡ Err why → reading text ≡ Err why
 unfolding reading params_reading
-params_refused text why is = at (is_mcf_text text) (read_hash text) is
+params_refused text why is = at (formatted text) is
   where
-    at : (seven : Bool) (answer : Option PasswordHash)
-        → (if seven then mapped {B = Parameters × ℕ} (λ s. (s.params, length s.key)) (read_mcf text)
-        else (ok_or answer EncodingInvalid and_then λ hash. mapped (λ c. (c, key_len_or_zero hash.hash)) (phc_params hash))) ≡ Err why
-        → (if seven then read_mcf text else (ok_or answer EncodingInvalid and_then read_phc)) ≡ Err why
-    at true answer is = mapped_refused _ (read_mcf text) why is
-    at false (Some hash) is = rw (mapped_refused _ (phc_params hash) why is) refl
-    at false None is = cc
+    at : (found : Option Formatted) → (ok_or found EncodingInvalid and_then params_and_len) ≡ Err why
+        → (ok_or found EncodingInvalid and_then whole) ≡ Err why
+    at (Some (McfText text)) is = mapped_refused _ (read_mcf text) why is
+    at (Some (PhcHash hash)) is = rw (mapped_refused _ (phc_params hash) why is) refl
+    at None is = cc
 
 -- the error of its parameters, and of the whole, which may lack the salt or the key
 
+params_and_len_fault : (it : Formatted) → IfErr (params_and_len it) IsFault
+params_and_len_fault (McfText text) = part_fault _ (read_mcf text) (mcf_fault text)
+params_and_len_fault (PhcHash hash) = part_fault _ (phc_params hash) (params_fault hash)
+
 pub stored_none : (text : List ℕ) → NamesNoPassword (params_reading text)
 unfolding params_reading
-stored_none text = at (is_mcf_text text) (read_hash text)
-  where
-    at : (seven : Bool) (answer : Option PasswordHash)
-        → NamesNoPassword {A = Parameters × ℕ} (if seven then mapped (λ s. (s.params, length s.key)) (read_mcf text)
-        else (ok_or answer EncodingInvalid and_then λ hash. mapped (λ c. (c, key_len_or_zero hash.hash)) (phc_params hash)))
-    at true answer = no_password _ (part_fault _ (read_mcf text) (mcf_fault text))
-    at false (Some hash) = no_password _ (part_fault _ (phc_params hash) (params_fault hash))
-    at false None = (λ is. absurd cc, (λ is. absurd cc, λ bytes work is. absurd cc, λ key_len is. absurd cc))
+stored_none text = no_password _ (then_fault _ params_and_len (some_fault (formatted text) EncodingInvalid tt) params_and_len_fault)
 
 phc_of_text : (params : Result Parameters Refusal) (salt key : Option (List ℕ)) → IfErr params IsFault
     → IsOfText {A = Stored} (params and_then λ c. ok_or salt PasswordInvalid and_then λ salt. ok_or key PasswordInvalid
@@ -173,13 +129,12 @@ phc_of_text (Err why) salt key fault = (no_password (Err why) fault).1
 
 pub whole_of_text : (text : List ℕ) → IsOfText (reading text)
 unfolding reading
-whole_of_text text = at (is_mcf_text text) (read_hash text)
+whole_of_text text = at (formatted text)
   where
-    at : (seven : Bool) (answer : Option PasswordHash)
-        → IsOfText {A = Stored} (if seven then read_mcf text else (ok_or answer EncodingInvalid and_then read_phc))
-    at true answer = (no_password _ (mcf_fault text)).1
-    at false (Some hash) = phc_of_text (phc_params hash) hash.salt hash.hash (params_fault hash)
-    at false None = (λ is. absurd cc, λ bytes work is. absurd cc, λ key_len is. absurd cc)
+    at : (found : Option Formatted) → IsOfText (ok_or found EncodingInvalid and_then whole)
+    at (Some (McfText text)) = (no_password _ (mcf_fault text)).1
+    at (Some (PhcHash hash)) = phc_of_text (phc_params hash) hash.salt hash.hash (params_fault hash)
+    at None = (no_password {A = Stored} (Err EncodingInvalid) tt).1
 
 -- a text with the id `7` is read as a `$7$` text
 pub mcf_is_seven : {text : List ℕ} {fields : List (List ℕ)} → IsMcfText text mcf_id fields → is_mcf_text text ≡ true
@@ -196,11 +151,11 @@ scrypt_is_phc is named = rw (is.whole, named) refl
 -- a hash that is read in its format is read so by its text
 
 pub made_mcf : (text : List ℕ) {s : Stored} → read_mcf text ≡ Ok s → reading text ≡ Ok s
-made_mcf text is = mcf_reading text (mcf_is_seven (is_mcf is).1) ∙ is
+made_mcf text is = reading_of text (mcf_formatted text (mcf_is_seven (is_mcf is).1)) ∙ is
 
 pub made_phc : (text : List ℕ) (hash : PasswordHash) → IsHashText text hash → hash.algorithm ≡ codes "scrypt"
     → reading text ≡ read_phc hash
-made_phc text hash is named = phc_reading text (scrypt_is_phc is named) (hash_is_read text hash is)
+made_phc text hash is named = reading_of text (phc_formatted text (scrypt_is_phc is named) (hash_is_read text hash is))
 
 -- the errors of reading
 pub ruleset errors_of_reading = (mcf_none, params_none, stored_none, whole_of_text)

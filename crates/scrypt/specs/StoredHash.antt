@@ -1,8 +1,9 @@
 -- Stored hashes of either format, by their texts: in which format a text is read, and with which result.
 use Rattle.std.specs.Prelude.{ℕ, ◌==◌, ◌&&◌, ◌||◌, Bool, if◌then◌else◌, List, length, slice_index}
-use Rattle.std.specs.Prelude.{Option, is_some, ok_or, option_map, unwrap_or, Result}
+use Rattle.std.specs.Prelude.{Option, Some, is_some, ok_or, option_map, unwrap_or, Result}
 use Rattle.password_hash.specs.PhcReading.{read_hash}
 use Rattle.password_hash.specs.Refusal.{Refusal, EncodingInvalid}
+use Rattle.password_hash.specs.declared.phc.hash.PasswordHash.{PasswordHash}
 use Rattle.scrypt.specs.Accepted.{Parameters}
 use Rattle.scrypt.specs.McfHash.{read_mcf}
 use Rattle.scrypt.specs.PhcHash.{phc_params, read_phc}
@@ -12,20 +13,38 @@ use Rattle.scrypt.specs.Reading.{◌and_then◌, Stored, mapped}
 unfoldable pub is_mcf_text : List ℕ → Bool
 is_mcf_text text = slice_index text 0 == 36 && slice_index text 1 == 55 && (length text == 2 || slice_index text 2 == 36)
 
+-- a text in its format: a `$7$` text, or the hash that a PHC text encodes
+pub data Formatted : Type 0 where
+  McfText : List ℕ → Formatted
+  PhcHash : PasswordHash → Formatted
+
+-- a text in its format, if it is one of it
+unfoldable pub formatted : List ℕ → Option Formatted
+formatted text = if is_mcf_text text then Some (McfText text) else option_map PhcHash (read_hash text)
+
 -- the text is one of its format; the reading of any other text is `EncodingInvalid`
 unfoldable pub is_stored_text : List ℕ → Bool
-is_stored_text text = is_mcf_text text || is_some (read_hash text)
+is_stored_text text = is_some (formatted text)
+
+-- the reading of a text in its format
+abbrev pub whole : Formatted → Result Stored Refusal
+whole (McfText text) = read_mcf text
+whole (PhcHash hash) = read_phc hash
 
 -- the reading of a text
 unfoldable pub reading : List ℕ → Result Stored Refusal
-reading text = if is_mcf_text text then read_mcf text else (ok_or (read_hash text) EncodingInvalid and_then read_phc)
+reading text = ok_or (formatted text) EncodingInvalid and_then whole
 
 -- the length of a key, 0 if there is none
 abbrev pub key_len_or_zero : Option (List ℕ) → ℕ
 key_len_or_zero key = unwrap_or (option_map length key) 0
 
+-- the parameters that are read of a text in its format, and the length of the key
+abbrev pub params_and_len : Formatted → Result (Parameters × ℕ) Refusal
+params_and_len (McfText text) = mapped (λ s. (s.params, length s.key)) (read_mcf text)
+params_and_len (PhcHash hash) = mapped (λ c. (c, key_len_or_zero hash.hash)) (phc_params hash)
+
 -- The parameters that are read of a text, and the length of the key, which is 0 if there is none. A PHC hash without a
 -- salt or a key has parameters too, though its reading is an error.
 unfoldable pub params_reading : List ℕ → Result (Parameters × ℕ) Refusal
-params_reading text = if is_mcf_text text then mapped (λ s. (s.params, length s.key)) (read_mcf text)
-    else (ok_or (read_hash text) EncodingInvalid and_then λ hash. mapped (λ c. (c, key_len_or_zero hash.hash)) (phc_params hash))
+params_reading text = ok_or (formatted text) EncodingInvalid and_then params_and_len

@@ -1,11 +1,11 @@
 // Stored hashes of either format.
 
-ghost use Rattle.std.specs.Prelude.{◌≡◌, ◌≢◌, ◌↔◌, Err, IfErr, IfOk, IsOk, IsTrue};
+ghost use Rattle.std.specs.Prelude.{◌≡◌, ◌≢◌, ◌↔◌, Err, IfErr, IfOk, IsOk, IsTrue, None};
 ghost use Rattle.password_hash.specs.Refusal.{PasswordInvalid};
 ghost use Rattle.password_hash.specs.declared.error.Error.TheVariants.{EncodingInvalid};
 ghost use Rattle.scrypt.specs.Cost.{chunks_bytes, scratch_words, table_words};
 ghost use Rattle.scrypt.specs.Reading.{◌and_then◌, IsVerdict, mapped, told, weaker};
-ghost use Rattle.scrypt.specs.StoredHash.{is_mcf_text, is_stored_text, key_len_or_zero, params_reading, reading};
+ghost use Rattle.scrypt.specs.StoredHash.{formatted, is_mcf_text, is_stored_text, key_len_or_zero, params_reading, reading};
 ghost use Rattle.scrypt.specs.StoredRead.{IsHashOf};
 ghost use Rattle.scrypt.specs.WorkInBuffers.{IsLeft, verdict_in, work_in};
 
@@ -54,6 +54,7 @@ impl<'a> StoredHash<'a> {
     ///
     /// Returns `EncodingInvalid` if `text` is not one of its format. Errors of its parameters, its
     /// salt and its key are returned later, by the calls below.
+    #[tactic(auto, unfolding(crate::specs::StoredHash::is_stored_text, crate::specs::StoredHash::reading, crate::specs::StoredHash::params_reading))]
     pub fn read(text: &'a str) -> Result<StoredHash<'a>>
         ensures exact { IsOk result ↔ IsTrue (is_stored_text text.now) }
         ensures ok { IfOk result (λ hash. hash ≡ text.now) }
@@ -68,6 +69,7 @@ impl<'a> StoredHash<'a> {
     }
 
     /// Returns the text that was read.
+    #[tactic(auto, unfolding(crate::specs::StoredHash::is_stored_text))]
     pub fn as_str(&self) -> &'a str
         ensures value { result.now ≡ self.now }
         ensures stored { IsTrue (is_stored_text self.now) }
@@ -179,6 +181,7 @@ impl<'a> StoredHash<'a> {
     }
 
     /// Returns what [`StoredHash::params`] and [`StoredHash::key_len`] return, read once.
+    #[tactic(auto, unfolding(crate::specs::StoredHash::params_reading))]
     pub fn params_and_key_len(&self) -> Result<(Params, usize)>
         ensures value { told result ≡ params_reading self.now }
     {
@@ -196,9 +199,10 @@ impl<'a> StoredHash<'a> {
 }
 
 // Reads a text in its format.
+#[tactic(auto, unfolding(crate::specs::StoredHash::formatted))]
 fn read_format(text: &str) -> Result<Format<'_>>
     ensures ok { IfOk result (IsHashOf text.now) }
-    ensures exact { IsOk result ↔ IsTrue (is_stored_text text.now) }
+    ensures none { IfErr result (λ e. formatted text.now ≡ None) }
     ensures err { IfErr result (λ e. e ≡ EncodingInvalid) }
 {
     if is_mcf_text(text.as_bytes()) {

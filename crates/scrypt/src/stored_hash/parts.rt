@@ -48,6 +48,7 @@ pub(crate) struct Parts<'a> {
 
 impl<'a> StoredHash<'a> {
     /// Returns the parts of the hash, or the error of reading it.
+    #[tactic(auto, unfolding(crate::specs::StoredHash::reading))]
     pub(crate) fn parts(&self) -> Result<Parts<'_>>
         ensures ok { IfOk result (HasParts (reading self.now)) }
         ensures err { IfErr result (λ e. reading self.now ≡ Err (refusal e)) }
