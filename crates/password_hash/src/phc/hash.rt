@@ -1,7 +1,8 @@
 //! A password hash in the PHC string format.
 ghost use Rattle.std.specs.Prelude.{◌≡◌, IfOk, ok_or};
+ghost use Rattle.password_hash.specs.Parts.{parts_left};
 ghost use Rattle.password_hash.specs.Phc.{hash_text};
-ghost use Rattle.password_hash.specs.PhcReading.{read_hash};
+ghost use Rattle.password_hash.specs.PhcReading.{hash_after, read_hash};
 ghost use Rattle.password_hash.specs.declared.error.Error.TheVariants.{EncodingInvalid};
 
 use crate::parts::first_part;
@@ -53,6 +54,13 @@ fn parse(text: &str) -> Option<PasswordHash>
     let Ok(algorithm) = Ident::new(algorithm) else {
         return None;
     };
+    parse_after(algorithm, left)
+}
+
+/// Parses what is left of a password hash after its algorithm.
+fn parse_after(algorithm: Ident, left: Option<&str>) -> Option<PasswordHash>
+    ensures { result ≡ hash_after algorithm (parts_left left.entry) }
+{
     let (version, left) = take_version(left)?;
     let (params, left) = take_params(left)?;
     let (salt, hash) = take_salt_and_key(left)?;

@@ -25,49 +25,8 @@ returns-in_default c =
     false≢true (c.in_default.ensures.exact.1 ((identifier_decided _).0 named))) in
     record { value = rw (start (goal.at.returns-in_default c).After-first_part, other) refl }
 
-pub returns-in_err-version : goal.returns-in_err-version
-returns-in_err-version c =
-    let named = (identifier_decided _).1 (c.in-Ok.ensures.exact.0 refl) in
-    record {
-      value = rw (start (goal.at.returns-in_err-version c).After-first_part, named, ← c.in_err-version.ensures.value)
-          c.from_residual-in_err-version.ensures;
-    }
-
-pub returns-in_err-params : goal.returns-in_err-params
-returns-in_err-params c =
-    let named = (identifier_decided _).1 (c.in-Ok.ensures.exact.0 refl) in
-    record {
-      value = rw (
-        start (goal.at.returns-in_err-params c).After-first_part,
-        named,
-        ← c.in_ok-version.ensures.value,
-        ← c.in_err-params.ensures.value,
-      ) c.from_residual-in_err-params.ensures;
-    }
-
-pub returns-in_err-salt : goal.returns-in_err-salt
-returns-in_err-salt c =
-    let named = (identifier_decided _).1 (c.in-Ok.ensures.exact.0 refl) in
-    record {
-      value = rw (
-        start (goal.at.returns-in_err-salt c).After-first_part,
-        named,
-        ← c.in_ok-version.ensures.value,
-        ← c.in_ok-params.ensures.value,
-        ← c.in_err-salt.ensures.value,
-      ) c.from_residual-in_err-salt.ensures;
-    }
-
 pub returns : goal.returns
-returns c =
-    let named = (identifier_decided _).1 (c.in-Ok.ensures.exact.0 refl) in
-    record {
-      value = rw (
-        start (goal.at.returns c).After-first_part,
-        named,
-        ← c.in_ok-version.ensures.value,
-        ← c.in_ok-params.ensures.value,
-        ← c.in_ok-salt.ensures.value,
-        c.in-Ok.ensures.value,
-      ) refl;
-    }
+returns c = record {
+  value = rw (start (goal.at.returns c).After-first_part, (identifier_decided _).1 (c.in-Ok.ensures.exact.0 refl), ← c.in-Ok.ensures.value)
+      c.parse_after.ensures;
+}
