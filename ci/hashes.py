@@ -183,18 +183,19 @@ def made(tool):
 
 
 def by_line(rows, *words):
-    """The verdicts on the first parts of rows, one a line, if they are errors."""
+    """What VERDICTS prints of the first parts of rows, one a line."""
     status, printed, error = runs.run(words, "".join(f"{text}\n" for text, _ in rows).encode())
     lines = printed.splitlines()
     yield words, (status, len(lines), error), (0, len(rows), "")
-    for (text, verdict), line in zip(rows, lines):
-        yield repr(text[:100]), line, f"Err({verdict})"
+    for (text, wanted), line in zip(rows, lines):
+        yield repr(text[:100]), line, wanted
 
 
 def main():
     tool, program = sys.argv[1:]
-    long = [(EMPTY[:KEY_AT] + "." * 1_000_000, "PasswordInvalid"), ("$7" + "$" * 1_000_000, "EncodingInvalid")]
-    within = [(text, hostile.verdict(text, hostile.compared_within)) for text in known.costly()]
+    long = [(EMPTY[:KEY_AT] + "." * 1_000_000, "Err(PasswordInvalid)"), ("$7" + "$" * 1_000_000, "Err(EncodingInvalid)")]
+    within = [(text, f"Err({hostile.verdict(text, hostile.compared_within)})") for text in known.costly()]
+    within += [(known.EMPTY_PHC, "Ok(true)"), (EMPTY, "Ok(true)"), (known.HASHLIB, "Ok(false)")]
     cases = verified(tool), made(tool), by_line(long, program), by_line(within, program, "within")
     _, wrong = runs.report("hashes", itertools.chain(*cases))
     sys.exit(1 if wrong else 0)
