@@ -7,17 +7,11 @@
 
 #define MOST_SALT_LEN 64
 
-static const struct call NO_CALL;
-
 int scrypt_hasher_verify(scrypt_hasher *hasher, const void *password, size_t password_len, const char *text,
                          size_t text_len, int64_t most_ms, uint64_t *place) {
-  struct call call = NO_CALL;
+  struct call call = {.login = {password, password_len, text != NULL ? text : "", text_len}};
   int status;
   if (hasher == NULL || is_null(password, password_len) || is_null(text, text_len)) return SCRYPT_NULL_POINTER;
-  call.login.password = password;
-  call.login.password_len = password_len;
-  call.login.text = text != NULL ? text : "";
-  call.login.text_len = text_len;
   status = scrypt_hash_needs(call.login.text, text_len, hasher->options.most_bytes, hasher->options.most_work,
                              hasher->options.least_key_len, &call.needs);
   return status == SCRYPT_OK ? queue_run(hasher, &call, most_ms, place) : status;
@@ -39,14 +33,10 @@ static int derive_key(struct call *call, const struct buffers *of) {
                         with->r, with->p, (uint8_t *)call->output, call->output_len, of);
 }
 
-static int run_new(scrypt_hasher *hasher, struct call *call, const void *password, size_t password_len, int64_t most_ms,
-                   uint64_t *place) {
+static int run_new(scrypt_hasher *hasher, struct call *call, int64_t most_ms, uint64_t *place) {
   int status = needs_of_new(&hasher->options, &call->needs);
-  if (status != SCRYPT_OK) return status;
-  call->login.password = password;
-  call->login.password_len = password_len;
   call->options = &hasher->options;
-  status = queue_run(hasher, call, most_ms, place);
+  if (status == SCRYPT_OK) status = queue_run(hasher, call, most_ms, place);
   /* In a child the derivation may have gone on with zeros, whose result can be computed without scrypt's cost. */
   if (status == SCRYPT_CANCELLED) memset(call->output, 0, call->output_len);
   return status;
@@ -54,15 +44,12 @@ static int run_new(scrypt_hasher *hasher, struct call *call, const void *passwor
 
 int scrypt_hasher_hash(scrypt_hasher *hasher, const void *password, size_t password_len, const void *salt,
                        size_t salt_len, char *text, size_t capacity, int64_t most_ms, uint64_t *place) {
-  struct call call = NO_CALL;
+  struct call call = {.derive = derive_text, .login = {password, password_len, NULL, 0}, .salt = salt, .salt_len = salt_len,
+                      .output = text, .output_len = capacity};
   uint8_t drawn[MOST_SALT_LEN];
   if (hasher == NULL || is_null(password, password_len) || is_null(salt, salt_len) || is_null(text, capacity))
     return SCRYPT_NULL_POINTER;
-  call.derive = derive_text;
-  call.salt = salt;
-  call.salt_len = salt != NULL ? salt_len : hasher->options.salt_len;
-  call.output = text;
-  call.output_len = capacity;
+  if (salt == NULL) call.salt_len = hasher->options.salt_len;
   if (!hasher->options.mcf && (call.salt_len == 0 || call.salt_len > MOST_SALT_LEN)) return SCRYPT_SALT_INVALID;
   /* A PHC text that doesn't fit would be found after the derivation. */
   if (!hasher->options.mcf && capacity < SCRYPT_PHC_CAPACITY) return SCRYPT_BUFFER_SIZE;
@@ -72,21 +59,17 @@ int scrypt_hasher_hash(scrypt_hasher *hasher, const void *password, size_t passw
     if (scrypt_draw_salt(drawn, call.salt_len) != SCRYPT_OK) return SCRYPT_NO_RANDOM_BYTES;
     call.salt = drawn;
   }
-  return run_new(hasher, &call, password, password_len, most_ms, place);
+  return run_new(hasher, &call, most_ms, place);
 }
 
 int scrypt_hasher_key(scrypt_hasher *hasher, const void *password, size_t password_len, const void *salt,
                       size_t salt_len, uint8_t *key, size_t key_len, int64_t most_ms, uint64_t *place) {
-  struct call call = NO_CALL;
+  struct call call = {.derive = derive_key, .login = {password, password_len, NULL, 0}, .salt = salt, .salt_len = salt_len,
+                      .output = key, .output_len = key_len};
   if (hasher == NULL || is_null(password, password_len) || is_null(salt, salt_len) || is_null(key, key_len))
     return SCRYPT_NULL_POINTER;
   if (key_len == 0 || key_len > SCRYPT_MAX_OUTPUT_LEN) return SCRYPT_INVALID_OUTPUT_LEN;
-  call.derive = derive_key;
-  call.salt = salt;
-  call.salt_len = salt_len;
-  call.output = key;
-  call.output_len = key_len;
-  return run_new(hasher, &call, password, password_len, most_ms, place);
+  return run_new(hasher, &call, most_ms, place);
 }
 
 int scrypt_hasher_needs_rehash(const scrypt_hasher *hasher, const char *text, size_t text_len) {
@@ -121,15 +104,11 @@ static int complete(scrypt_options *with) {
 }
 
 scrypt_hasher *scrypt_hasher_new(const scrypt_options *options, int *status) {
-  scrypt_options with;
+  scrypt_options with = {.size = sizeof with};
   scrypt_hasher *hasher = NULL;
   int result = SCRYPT_OK;
-  memset(&with, 0, sizeof with);
-  if (options != NULL) {
-    if (options->size == sizeof with) memcpy(&with, options, sizeof with);
-    else result = SCRYPT_INVALID_PARAMS;
-  }
-  with.size = sizeof with;
+  if (options != NULL && options->size != sizeof with) result = SCRYPT_INVALID_PARAMS;
+  else if (options != NULL) with = *options;
   if (result == SCRYPT_OK) result = complete(&with);
   if (result == SCRYPT_OK) hasher = queue_new(&with, &result);
   if (status != NULL) *status = result;
