@@ -138,33 +138,36 @@ func outcome(hasher *Hasher, ctx context.Context) (result any) {
 	return err
 }
 
+const cancels, closes, late, ends = "cancels", "closes", "late", "ends"
+
 // A context that ends or panics, and Close, end a wait wherever it is, and no derivation. They take nothing with them.
+var endsOfWaits = []struct {
+	why   string
+	at    func(*Hasher) func() // who is there already
+	what  string               // what happens, or which call of the context panics
+	place string
+	there int // how many have to be at the place before
+	want  any
+}{
+	{"while it waits for others", fill, cancels, inGo, 1, context.Canceled},
+	{"while it waits for others", fill, closes, inGo, 1, ErrClosed},
+	{"while it waits for others", fill, late, "", 0, context.DeadlineExceeded},
+	{"without an error", fill, ends, "", 0, context.Canceled},
+	{"while it waits in C", busy, cancels, inC, 2, context.Canceled},
+	{"while it waits in C", busy, closes, inC, 2, ErrClosed},
+	{"while it waits in C", busy, late, "", 0, context.DeadlineExceeded},
+	{"while it derives", nobody, cancels, inC, 1, nil},
+	{"while it derives", nobody, closes, inC, 1, nil},
+	{"before anything", nobody, "Err 1", "", 0, "Err 1"},
+	{"when it is let in", nobody, "Err 2", "", 0, "Err 2"},
+	{"while it is let in", nobody, "Done 1", "", 0, "Done 1"},
+	{"before it waits for others", fill, "Err 1", "", 0, "Err 1"},
+	{"while it waits for others", fill, "Done 1", "", 0, "Done 1"},
+	{"while it waits in C", busy, "Err 3", "", 0, "Err 3"},
+}
+
 func TestEndsOfWaits(t *testing.T) {
-	const cancels, closes, late, ends = "cancels", "closes", "late", "ends"
-	for _, it := range []struct {
-		why   string
-		at    func(*Hasher) func() // who is there already
-		what  string               // what happens, or which call of the context panics
-		place string
-		there int // how many have to be at the place before
-		want  any
-	}{
-		{"while it waits for others", fill, cancels, inGo, 1, context.Canceled},
-		{"while it waits for others", fill, closes, inGo, 1, ErrClosed},
-		{"while it waits for others", fill, late, "", 0, context.DeadlineExceeded},
-		{"without an error", fill, ends, "", 0, context.Canceled},
-		{"while it waits in C", busy, cancels, inC, 2, context.Canceled},
-		{"while it waits in C", busy, closes, inC, 2, ErrClosed},
-		{"while it waits in C", busy, late, "", 0, context.DeadlineExceeded},
-		{"while it derives", nobody, cancels, inC, 1, nil},
-		{"while it derives", nobody, closes, inC, 1, nil},
-		{"before anything", nobody, "Err 1", "", 0, "Err 1"},
-		{"when it is let in", nobody, "Err 2", "", 0, "Err 2"},
-		{"while it is let in", nobody, "Done 1", "", 0, "Done 1"},
-		{"before it waits for others", fill, "Err 1", "", 0, "Err 1"},
-		{"while it waits for others", fill, "Done 1", "", 0, "Done 1"},
-		{"while it waits in C", busy, "Err 3", "", 0, "Err 3"},
-	} {
+	for _, it := range endsOfWaits {
 		hasher := newHasher(t, Options{Params: Params{LogN: 12, P: 128}, AtOnce: 1})
 		end := it.at(hasher)
 		base, cancel := context.WithCancel(context.Background())

@@ -14,7 +14,7 @@ import (
 
 // slowly opens connections that send no whole header, and returns how many the service keeps.
 func (w *world) slowly(count int, from string, addresses int) (kept int32) {
-	_ = each(count, 64, func(i int) (answer, error) {
+	each(count, 64, func(i int) (answer, error) {
 		connection, err := dialer(numbered(from, 1+i%addresses)).Dial("tcp", w.address)
 		if err != nil {
 			return answer{}, err
@@ -60,23 +60,25 @@ func TestManySlowConnections(t *testing.T) {
 }
 
 // While 60 clients log in again and again, others find places: 48 others, or the user's known browser.
+var floods = []struct {
+	why, tries, from string
+	addresses, names int // of those clients, and of each of their addresses
+	password, cookie string
+	known            bool
+}{
+	{"one address", "1000000", "192.0.2.#", 1, 1, right, "", false},
+	{"two addresses", "1000000", "192.0.2.#", 2, 1, right, "", false},
+	{"two addresses, each with many accounts", "1000000", "192.0.2.#", 2, 30, right, "", false},
+	{"all networks of a /56, with many accounts", "1000000", "2001:db8:0:#::1", 60, 1, right, "", false},
+	{"others whose tries are used up", "2", "192.0.2.#", 1, 1, wrong, "", true},
+	{"forged cookies, which are compared with the store", "2", "192.0.2.#", 1, 1, wrong, "end=9&id=0&name=user0&tag=0", true},
+	{"others who have tries for the name", "1000000", "198.51.100.1", 1, 1, wrong, "", true},
+}
+
 func TestOthersFindPlaces(t *testing.T) {
 	w := newWorld(t, small)
 	w.users(60+48, 14)
-	for _, it := range []struct {
-		why, tries, from string
-		addresses, names int // of those clients, and of each of their addresses
-		password, cookie string
-		known            bool
-	}{
-		{"one address", "1000000", "192.0.2.#", 1, 1, right, "", false},
-		{"two addresses", "1000000", "192.0.2.#", 2, 1, right, "", false},
-		{"two addresses, each with many accounts", "1000000", "192.0.2.#", 2, 30, right, "", false},
-		{"all networks of a /56, with many accounts", "1000000", "2001:db8:0:#::1", 60, 1, right, "", false},
-		{"others whose tries are used up", "2", "192.0.2.#", 1, 1, wrong, "", true},
-		{"forged cookies, which are compared with the store", "2", "192.0.2.#", 1, 1, wrong, "end=9&id=0&name=user0&tag=0", true},
-		{"others who have tries for the name", "1000000", "198.51.100.1", 1, 1, wrong, "", true},
-	} {
+	for _, it := range floods {
 		w.restart("-log-n=14", "-waiting=12", "-pause=1h", "-tries="+it.tries, proxied)
 		known, others, atOnce := w.at("192.0.2.0"), 48, 4
 		if it.known {

@@ -132,26 +132,8 @@ func (m *mix) slow(int) {
 	}
 }
 
-// TestMixedLoad has all clients and faults at once, for MIXED_SECONDS or five minutes.
-func TestMixedLoad(t *testing.T) {
-	seconds, err := strconv.Atoi(os.Getenv("MIXED_SECONDS"))
-	if err != nil {
-		seconds = 300
-	}
-	arguments := []string{"-log-n=12", "-waiting=16", "-patience=5s", "-tries=1000000"}
-	w := newWorld(t, arguments...)
-	w.users(64, 12)
-	for i := 0; i < 100; i++ {
-		text, _ := hostile(i)
-		w.exec(`INSERT INTO users VALUES ($1, $2)`, fmt.Sprint("hostile", i), text)
-	}
-	w.peak()
-	m := &mix{world: w, end: time.Now().Add(time.Duration(seconds) * time.Second), answers: map[string]int{}}
-	changers := make([]*changer, 8)
-	for i := range changers {
-		changers[i] = &changer{m, fmt.Sprint("changer", i), []string{right}}
-		w.exec(`INSERT INTO users SELECT $1, hash FROM users WHERE name = 'user0'`, changers[i].name)
-	}
+// clients starts all of them, and returns a function that waits for their end.
+func (m *mix) clients(changers []*changer) (wait func()) {
 	var group sync.WaitGroup
 	many := func(count int, run func(number int)) {
 		for i := 0; i < count; i++ {
@@ -179,8 +161,32 @@ func TestMixedLoad(t *testing.T) {
 	many(len(changers), func(i int) { m.client("change", changers[i].act) })
 	many(20, m.slow)
 	many(1, m.sleep)
+	return group.Wait
+}
+
+// TestMixedLoad has all clients and faults at once, for MIXED_SECONDS or five minutes.
+func TestMixedLoad(t *testing.T) {
+	seconds, err := strconv.Atoi(os.Getenv("MIXED_SECONDS"))
+	if err != nil {
+		seconds = 300
+	}
+	arguments := []string{"-log-n=12", "-waiting=16", "-patience=5s", "-tries=1000000"}
+	w := newWorld(t, arguments...)
+	w.users(64, 12)
+	for i := 0; i < 100; i++ {
+		text, _ := hostile(i)
+		w.exec(`INSERT INTO users VALUES ($1, $2)`, fmt.Sprint("hostile", i), text)
+	}
+	w.peak()
+	m := &mix{world: w, end: time.Now().Add(time.Duration(seconds) * time.Second), answers: map[string]int{}}
+	changers := make([]*changer, 8)
+	for i := range changers {
+		changers[i] = &changer{m, fmt.Sprint("changer", i), []string{right}}
+		w.exec(`INSERT INTO users SELECT $1, hash FROM users WHERE name = 'user0'`, changers[i].name)
+	}
+	wait := m.clients(changers)
 	peak := m.faults(arguments...)
-	group.Wait()
+	wait()
 	m.check(changers)
 	t.Logf("%d s; answers: %v", seconds, m.answers)
 	t.Logf("that no place is free is answered in %s ms (99 %%), %s at most, and a sleep ends %s late (99 %%), %s at most; peak %d MiB",

@@ -11,9 +11,41 @@ import (
 func field(name string) string { return `id="name" name="name" value="` + name + `"` }
 func own(name string) string   { return `id="own" name="name" value="` + name + `"` }
 
+// What is sent by somebody who is not logged in, or by ada, and parts of the page after it: what was wrong, and the name in
+// its field.
+var forms = []struct {
+	why, action string
+	in          bool // whether the browser is logged in
+	status      int
+	fields      []string
+	seen        []string
+}{
+	{"the old password", "log-in", false, 403, []string{"name", "ada", "password", "first password"},
+		[]string{"The name or the password is wrong.", field("ada"), own("")}},
+	{"an unknown user", "log-in", false, 403, []string{"name", "eve", "password", "first password"}, nil},
+	{"a name that is taken", "sign-up", false, 409, []string{"name", "ada", "new", "another password"},
+		[]string{"The name is taken.", field(""), own("ada")}},
+	{"a short password", "sign-up", false, 400, []string{"name", "eve", "new", "7 chars"}, nil},
+	{"a long password", "sign-up", false, 400, []string{"name", "eve", "new", strings.Repeat("x", 1025)}, nil},
+	{"no name", "sign-up", false, 400, []string{"name", "", "new", "first password"}, nil},
+	{"a name with a zero byte", "log-in", false, 400, []string{"name", "a\x00", "password", "first password"}, nil},
+	{"a name that is no text", "log-in", false, 400, []string{"name", "a\xffda\x00", "password", "no"},
+		[]string{"visible characters", field("ada\ufffd")}},
+	{"a name as it was typed", "log-in", false, 403, []string{"name", " Am\u00e9lie", "password", "no"}, []string{field(" Am\u00e9lie")}},
+	{"a name with a sign of HTML", "log-in", false, 403, []string{"name", `"><script>`, "password", "no"},
+		[]string{field("&#34;&gt;&lt;script&gt;")}},
+	{"another token", "log-in", false, 403, []string{"name", "ada", "password", "second password", "token", "no"}, nil},
+	{"a change without a session", "change", false, 400, []string{"password", "second password", "new", "third password"}, nil},
+	{"a page that is not there", "else", false, 404, nil, nil},
+	{"another current password", "change", true, 403, []string{"password", "not it", "new", "third password"},
+		[]string{"The current password is wrong."}},
+	{"a short new password", "change", true, 400, []string{"password", "second password", "new", "short"},
+		[]string{`role="alert">A new password has 8 characters or more`}},
+}
+
 func TestPages(t *testing.T) {
 	w := newWorld(t, small)
-	one, two, none := newBrowser(w.address), newBrowser(w.address), newBrowser(w.address)
+	one, two := newBrowser(w.address), newBrowser(w.address)
 	is := func(of *browser, in bool, why string) {
 		t.Helper() // and not ada alone, which a token in hexadecimal may have
 		if strings.Contains(w.expect(200)(of.read()).page, "logged in as <b>ada</b>") != in {
@@ -33,36 +65,9 @@ func TestPages(t *testing.T) {
 	one.cookies["session"] = strings.Replace(session, "name=ada", "name=eve", 1)
 	is(one, false, "a session of another name")
 	one.cookies["session"] = session
-	for _, it := range []struct {
-		why, action string
-		from        *browser
-		status      int
-		fields      []string
-		seen        []string // parts of the page: what was wrong, and the name in its field
-	}{
-		{"the old password", "log-in", none, 403, []string{"name", "ada", "password", "first password"},
-			[]string{"The name or the password is wrong.", field("ada"), own("")}},
-		{"an unknown user", "log-in", none, 403, []string{"name", "eve", "password", "first password"}, nil},
-		{"a name that is taken", "sign-up", none, 409, []string{"name", "ada", "new", "another password"},
-			[]string{"The name is taken.", field(""), own("ada")}},
-		{"a short password", "sign-up", none, 400, []string{"name", "eve", "new", "7 chars"}, nil},
-		{"a long password", "sign-up", none, 400, []string{"name", "eve", "new", strings.Repeat("x", 1025)}, nil},
-		{"no name", "sign-up", none, 400, []string{"name", "", "new", "first password"}, nil},
-		{"a name with a zero byte", "log-in", none, 400, []string{"name", "a\x00", "password", "first password"}, nil},
-		{"a name that is no text", "log-in", none, 400, []string{"name", "a\xffda\x00", "password", "no"},
-			[]string{"visible characters", field("ada\ufffd")}},
-		{"a name as it was typed", "log-in", none, 403, []string{"name", " Am\u00e9lie", "password", "no"}, []string{field(" Am\u00e9lie")}},
-		{"a name with a sign of HTML", "log-in", none, 403, []string{"name", `"><script>`, "password", "no"},
-			[]string{field("&#34;&gt;&lt;script&gt;")}},
-		{"another token", "log-in", none, 403, []string{"name", "ada", "password", "second password", "token", "no"}, nil},
-		{"a change without a session", "change", none, 400, []string{"password", "second password", "new", "third password"}, nil},
-		{"a page that is not there", "else", none, 404, nil, nil},
-		{"another current password", "change", one, 403, []string{"password", "not it", "new", "third password"},
-			[]string{"The current password is wrong."}},
-		{"a short new password", "change", one, 400, []string{"password", "second password", "new", "short"},
-			[]string{`role="alert">A new password has 8 characters or more`}},
-	} {
-		got, err := it.from.fill(it.action, it.fields...)
+	browsers := map[bool]*browser{true: one, false: newBrowser(w.address)}
+	for _, it := range forms {
+		got, err := browsers[it.in].fill(it.action, it.fields...)
 		if err != nil || got.status != it.status {
 			t.Errorf("%s: %d and not %d, %v", it.why, got.status, it.status, err)
 		}
@@ -72,13 +77,18 @@ func TestPages(t *testing.T) {
 			}
 		}
 	}
-	// The page of a store that is stopped has no form, so the way back has the name.
+}
+
+// The page of a store that is stopped has no form, so the way back has the name.
+func TestNameStaysWithoutAStore(t *testing.T) {
+	w := newWorld(t, small)
+	one := newBrowser(w.address)
 	w.postgres("fast")
-	if got := w.expect(503)(none.logIn("ad\u00e4 &c", "no")); !strings.Contains(got.page, `<a href="/?name=ad%c3%a4%20%26c">`) {
+	if got := w.expect(503)(one.logIn("ad\u00e4 &c", "no")); !strings.Contains(got.page, `<a href="/?name=ad%c3%a4%20%26c">`) {
 		t.Errorf("the way back has no name: %s", got.page)
 	}
 	w.postgres("start")
-	if got := w.expect(200)(none.ask("GET", "/?name=ad%c3%a4%20%26c", nil)); !strings.Contains(got.page, field("ad\u00e4 &amp;c")) {
+	if got := w.expect(200)(one.ask("GET", "/?name=ad%c3%a4%20%26c", nil)); !strings.Contains(got.page, field("ad\u00e4 &amp;c")) {
 		t.Errorf("the page after it: %s", got.page)
 	}
 }

@@ -6,24 +6,27 @@ import (
 	"testing"
 )
 
+const proxyAddress, other = "127.0.8.1", "127.0.8.2"
+
 // Who says that https is used, and sends the address of a client; whether it is believed, and how often the log names a proxy
 // that is not trusted, which makes all clients one address.
+var protocols = []struct {
+	why, flag, own, proto, client string
+	secure                        bool
+	lines                         int
+}{
+	{"http", "-https=false", other, "", "", false, 0},
+	{"the flag says https", "-https", other, "", "", true, 0},
+	{"the proxy says https", "-proxy=" + proxyAddress, proxyAddress, "https", "192.0.2.1", true, 0},
+	{"the proxy says http", "-proxy=" + proxyAddress, proxyAddress, "http", "192.0.2.1", false, 0},
+	{"the proxy says nothing", "-proxy=" + proxyAddress, proxyAddress, "", "", false, 0},
+	{"somebody else says https", "-proxy=" + proxyAddress, other, "https", "192.0.2.1", false, 1},
+	{"no proxy is trusted", "-https=false", proxyAddress, "https", "192.0.2.1", false, 1},
+}
+
 func TestProtocolsAndProxies(t *testing.T) {
-	const proxy, other = "127.0.8.1", "127.0.8.2"
 	w := newWorld(t, small)
-	for row, it := range []struct {
-		why, flag, own, proto, client string
-		secure                        bool
-		lines                         int
-	}{
-		{"http", "-https=false", other, "", "", false, 0},
-		{"the flag says https", "-https", other, "", "", true, 0},
-		{"the proxy says https", "-proxy=" + proxy, proxy, "https", "192.0.2.1", true, 0},
-		{"the proxy says http", "-proxy=" + proxy, proxy, "http", "192.0.2.1", false, 0},
-		{"the proxy says nothing", "-proxy=" + proxy, proxy, "", "", false, 0},
-		{"somebody else says https", "-proxy=" + proxy, other, "https", "192.0.2.1", false, 1},
-		{"no proxy is trusted", "-https=false", proxy, "https", "192.0.2.1", false, 1},
-	} {
+	for row, it := range protocols {
 		before := len(w.logged())
 		w.restart(small, it.flag)
 		one := newBrowserFrom(it.own, w.address)
