@@ -56,6 +56,10 @@ def to_der(tag, content):
     return bytes([tag]) + (bytes([len(content)]) if len(content) < 0x80 else bytes([0x80 | len(size)]) + size) + content
 
 
+def xor(one, other):
+    return bytes(a ^ b for a, b in zip(one, other))
+
+
 def rotated(word, by):
     return (word << by | word >> 64 - by) & WORD
 

@@ -14,7 +14,7 @@ from cryptography.hazmat.primitives.hashes import SHA256
 from cryptography.hazmat.primitives.kdf.hkdf import HKDF
 from cryptography.hazmat.primitives.serialization import Encoding, NoEncryption, PrivateFormat, PublicFormat
 
-from key_codecs import INTEGER, SEQUENCE, keccak_256, to_base64, to_der
+from key_codecs import INTEGER, SEQUENCE, keccak_256, to_base64, to_der, xor
 
 OCTET_STRING, OBJECT_ID = 0x04, 0x06
 PBES2_ID = bytes.fromhex("2a864886f70d01050d")
@@ -28,10 +28,6 @@ def hkdf(key, salt, info):
 def aes(key, mode, data):
     """The data encrypted, or by CTR decrypted."""
     return Cipher(algorithms.AES(key), mode).encryptor().update(data)
-
-
-def xor(one, other):
-    return bytes(a ^ b for a, b in zip(one, other))
 
 
 def age_nonces(count):

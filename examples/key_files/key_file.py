@@ -15,7 +15,7 @@ from cryptography.hazmat.primitives.ciphers.aead import ChaCha20Poly1305
 from cryptography.hazmat.primitives.serialization import load_der_private_key
 
 import scrypt_c
-from key_codecs import from_base64, from_der, keccak_256
+from key_codecs import from_base64, from_der, keccak_256, xor
 
 MOST_MEMORY = 256 << 20  # bytes of the table
 MOST_WORK = scrypt_c.MOST_WORK  # four times the work of the recommended parameters (17, 8, 1)
@@ -100,7 +100,3 @@ def minisign_secret(text, password, **limits):
     if hashlib.blake2b(data[:2] + number + secret, digest_size=32).digest() != digest:
         raise ValueError("wrong password")
     return number, secret
-
-
-def xor(one, other):
-    return bytes(a ^ b for a, b in zip(one, other))
