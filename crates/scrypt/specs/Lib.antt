@@ -52,8 +52,6 @@ pub mod WithinLimits
 pub mod Logins
 -- private: the chunks of B, mixed one after another
 pub mod Mixing
--- private: a `$7$` text before its key is written
-pub mod McfText
 -- private: what a stored hash holds, and its key
 pub mod StoredRead
 pub mod StoredParts

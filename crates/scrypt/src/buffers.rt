@@ -109,12 +109,11 @@ impl Buffers {
             (vec_capacity got.1.table) (length got.1.scratch.items)) }
     {
         let width = BufferLens::tables_within(params, most_bytes);
-        match Buffers::allocate(alloc, &BufferLens::times(params, width)) {
-            Ok(own) => Ok((width, own)),
-            Err(_) => match Buffers::allocate(alloc, &BufferLens::of(params)) {
-                Ok(own) => Ok((1, own)),
-                Err(error) => Err(error),
-            },
+        if width > 1
+            && let Ok(own) = Buffers::allocate(alloc, &BufferLens::times(params, width))
+        {
+            return Ok((width, own));
         }
+        Ok((1, Buffers::allocate(alloc, &BufferLens::of(params))?))
     }
 }

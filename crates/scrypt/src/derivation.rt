@@ -171,22 +171,8 @@ pub fn scrypt_counted(
     ensures refused { OnErr result (output.new ≡ output.old) }
     ensures uncounted { OnErr result (cores.new ≡ cores.old) }
 {
-    if !output_len_ok(output.len()) {
-        return Err(DeriveError::InvalidOutputLen);
-    }
-    let mut own = Buffers::allocate(alloc, &BufferLens::of(params))?;
-    derive_in::<Vec<u32>>(
-        password,
-        salt,
-        params,
-        1,
-        &mut own.chunks,
-        &mut own.table,
-        &mut own.scratch,
-        output,
-        cores,
-    );
-    Ok(())
+    // In no bytes a derivation takes one table.
+    scrypt_in_groups(alloc, password, salt, params, 0, output, cores)
 }
 
 /// Does what [`scrypt_counted`] does, in buffers that may have `most_bytes` bytes together: with as many

@@ -8,10 +8,9 @@ ghost use Rattle.password_hash.specs.Crypt64.{crypt64_of, encoded_len};
 ghost use Rattle.password_hash.specs.Mcf.{IsMcf};
 ghost use Rattle.password_hash.specs.Parts.{dollar};
 ghost use Rattle.password_hash.specs.declared.error.Error.TheVariants.{OutOfMemory};
-ghost use Rattle.scrypt.specs.Accepted.{AreAccepted, Parameters};
+ghost use Rattle.scrypt.specs.Accepted.{AreAccepted};
 ghost use Rattle.scrypt.specs.KeyOfParams.{key_by};
 ghost use Rattle.scrypt.specs.McfParams.{params_text};
-ghost use Rattle.scrypt.specs.McfText.{IsBegun};
 ghost use Rattle.scrypt.specs.Hashing.{key_len_or_default};
 ghost use Rattle.scrypt.specs.McfHash.{HashIsRefused, IsMadeHash, IsMcfOrNone, made_text_len};
 ghost use Rattle.password_hash.specs.Refusal.{refusal};
@@ -80,6 +79,7 @@ impl CustomizedPasswordHasher<PasswordHash> for Scrypt {
 }
 
 // Hashes a password with a salt.
+#[tactic(auto, using(crate::proofs::McfTextFacts::key_fills))]
 fn hash_of(alloc: Global, password: &[u8], salt: &[u8], params: &Params) -> Result<PasswordHash>
     ensures value { IfOk result (IsMadeHash params.now password.now salt.now) }
     ensures memory { IfErr result (λ e. e ≡ OutOfMemory) }
@@ -87,13 +87,13 @@ fn hash_of(alloc: Global, password: &[u8], salt: &[u8], params: &Params) -> Resu
     // The whole text is allocated before the buffers of the derivation.
     let mut text = vec![in alloc; 0u8; hash_len(params, salt)]?;
     let out = text.as_mut_slice();
-    write_params_and_salt(out, params, salt);
-    let letters = salt_letters(out, salt);
+    let letters = &mut out[PARAMS_LEN..PARAMS_LEN + Base64::Crypt.encoded_len(salt.len())];
+    encode(salt, letters);
     let key = match key_allocating(alloc, password, letters, params) {
         Ok(key) => key,
         Err(error) => return Err(error),
     };
-    write_key(out, params, salt, &key);
+    write_text(out, params, salt, &key);
     Ok(hash_of_text(text))
 }
 
@@ -104,27 +104,9 @@ pub fn hash_len(params: &Params, salt: &[u8]) -> usize
     ensures each { (password text : List ℕ) → IsMadeHash params.now password salt.now text → length text ≡ result }
 {
     params.known();
-    key_at(salt) + 1 + Base64::Crypt.encoded_len(key_len_or_default(params))
-}
-
-// Returns where `$` and the key begin in the text.
-fn key_at(salt: &[u8]) -> usize
-    ensures value { result ≡ 14 + length (crypt64_of salt.now) }
-    ensures len { result ≡ 14 + encoded_len (length salt.now) }
-{
-    PARAMS_LEN + Base64::Crypt.encoded_len(salt.len())
-}
-
-// Writes `$7$`, the letters of the parameters and those of the salt.
-fn write_params_and_salt(out: &mut [u8], params: &Params, salt: &[u8])
-    requires { length out.old ≡ made_text_len params.now (length salt.now) }
-    ensures { IsBegun params.now salt.now out.new }
-{
-    let (front, rest) = out.split_at_mut(PARAMS_LEN);
-    front.copy_from_slice(&params_letters(params));
-    let Ok(_) = Base64::Crypt.encode_slice(salt, rest) else {
-        unreachable!();
-    };
+    PARAMS_LEN
+        + Base64::Crypt.encoded_len(salt.len())
+        + (1 + Base64::Crypt.encoded_len(key_len_or_default(params)))
 }
 
 // Returns `$7$` and the eleven letters of the parameters.
@@ -139,37 +121,34 @@ fn params_letters(params: &Params) -> [u8; PARAMS_LEN]
     letters
 }
 
-// Returns the letters of the salt, which are in the text after the parameters.
-fn salt_letters<'a>(text: &'a [u8], salt: &[u8]) -> &'a [u8]
-    requires { (c : Parameters) × IsBegun c salt.now text.now }
-    ensures { result.now ≡ crypt64_of salt.now }
-{
-    &text[PARAMS_LEN..key_at(salt)]
-}
-
-// Writes `$` and the letters of the key, which fill the text after the parameters and the salt.
-fn write_key(text: &mut [u8], params: &Params, salt: &[u8], key: &Output)
-    requires begun { IsBegun params.now salt.now text.old }
-    requires len { length text.old ≡ made_text_len params.now (length salt.now) }
+// Writes the text of a hash, all of which fills `out`.
+fn write_text(out: &mut [u8], params: &Params, salt: &[u8], key: &Output)
+    requires len { length out.old ≡ made_text_len params.now (length salt.now) }
     requires key_len { length key.now ≡ key_len_or_default params.now }
     ensures made { (password : List ℕ)
         → key.now ≡ key_by params.now password (crypt64_of salt.now) (key_len_or_default params.now)
-        → IsMadeHash params.now password salt.now text.new }
-    ensures ascii { IsAscii text.new }
+        → IsMadeHash params.now password salt.now out.new }
+    ensures ascii { IsAscii out.new }
+    ensures modular { IsMcf out.new }
 {
     params.known();
-    write_key_letters(&mut text[key_at(salt)..], key.as_bytes());
+    let _ = key_len_or_default(params);
+    let (front, rest) = out.split_at_mut(PARAMS_LEN);
+    front.copy_from_slice(&params_letters(params));
+    let (letters, rest) = rest.split_at_mut(Base64::Crypt.encoded_len(salt.len()));
+    encode(salt, letters);
+    let (sign, last) = rest.split_at_mut(1);
+    sign.copy_from_slice(b"$");
+    encode(key.as_bytes(), last);
 }
 
-// Writes `$` and the letters of the key, which fill `out`.
-#[tactic(auto, using(crate::proofs::McfTextFacts::put_after_dollar))]
-fn write_key_letters(out: &mut [u8], key: &[u8])
-    requires { length out.old ≡ 1 + length (crypt64_of key.now) }
-    ensures written { out.new ≡ dollar ∷ crypt64_of key.now }
-    ensures bytes { All (λ byte. byte < 256) key.now }
+// Writes the letters that encode `bytes`, which fill `out`.
+#[tactic(auto, using(password_hash::proofs::GroupFacts::lengths))]
+fn encode(bytes: &[u8], out: &mut [u8])
+    requires { length out.old ≡ encoded_len (length bytes.now) }
+    ensures { out.new ≡ crypt64_of bytes.now }
 {
-    out[0] = b'$';
-    let Ok(_) = Base64::Crypt.encode_slice(key, &mut out[1..]) else {
+    let Ok(_) = Base64::Crypt.encode_slice(bytes, out) else {
         unreachable!();
     };
 }
@@ -200,6 +179,7 @@ fn hash_of_text(text: Vec<u8>) -> PasswordHash
 /// unspecified. `cores` counts the `4 * N * r * p` cores of `params`.
 ///
 /// Returns `OutOfMemory` exactly if `text` or another buffer is too short, and then changes nothing.
+#[tactic(auto, using(crate::proofs::McfTextFacts::key_fills, crate::specs::Hashing::by_memory))]
 pub fn hash_with_buffers(
     password: &[u8],
     salt: &[u8],
@@ -231,11 +211,11 @@ pub fn hash_with_buffers(
         return Err(Error::OutOfMemory);
     };
     let text = &mut text[..len];
-    write_params_and_salt(text, params, salt);
-    let letters = salt_letters(text, salt);
+    let letters = &mut text[PARAMS_LEN..PARAMS_LEN + Base64::Crypt.encoded_len(salt.len())];
+    encode(salt, letters);
     let key = key_in_buffers(
         password, letters, params, width, chunks, table, scratch, cores,
     );
-    write_key(text, params, salt, &key);
+    write_text(text, params, salt, &key);
     Ok(len)
 }
