@@ -89,11 +89,6 @@ decimal_gives k text answer given = elim (cases_Bool (has_plus_or_leading_zero t
       (parse_plain (numerals_by_value _ tells_all_ascii_digits) k text read.0 read.1.0 (no_plus text plain))
 ]
 
--- what a decimal text of a 32-bit number gives, and what gives one
-pub record ReadsDecimal (text : List ℕ) (answer : Option ℕ) : Type 0 where
-  pub found : IfSome answer (IsDecimal text)
-  pub only : (n : ℕ) → IsDecimal text n → answer ≡ Some n
-
 pub decimal_found : (text : List ℕ) → IfSome (decimal_below (2 ^ 32) text) (IsDecimal text)
 unfolding decimal_below has_plus_or_leading_zero
 decimal_found text = elim (cases_Bool (is_decimal text && nat_lt (digits_value 10 text) (2 ^ 32))) [
@@ -122,7 +117,5 @@ decimal_only text n h =
     no_plus_in_digits [] h e = cc
     no_plus_in_digits (digit ∷ text) h e = let range = digit_from_value digit h.0 in absurd (omega (arith, range, e))
 
-pub reads_decimal : (text : List ℕ) (answer : Option ℕ) → DecimalGives (UnsignedGives 32) text answer → ReadsDecimal text answer
-reads_decimal text answer given =
-    let same = decimal_gives 32 text answer given in
-    record { found = rw same (decimal_found text); only = λ n h. same ∙ decimal_only text n h }
+-- what a decimal text gives
+pub ruleset decimals = (decimal_found, decimal_only)

@@ -1,11 +1,13 @@
 -- Texts of parts, each after a `$`.
 use Rattle.std.proofs.Common.{◌≡◌, ◌≢◌, ℕ, ◌<◌, ◌==◌, false, true, List, [], ◌∷◌, ◌++◌, length, get_or, refl, sym, ap, ◌∙◌}
-use Rattle.std.proofs.Common.{None, Option, Some, bytes_eq, drop, subst, take}
+use Rattle.std.proofs.Common.{◌&&◌, ◌||◌, ◌↔◌, Bool, IsTrue, None, Option, Some, bytes_eq, drop, not, subst, take}
 use Rattle.std.specs.Borrow.{Bor}
 use Rattle.std.specs.Prelude.{All, MatchOption, option_map}
-use Rattle.std.specs.List.{join_with_byte}
+use Rattle.std.specs.List.{join_with_byte, list_any}
 use Rattle.std.specs.Str.Pattern.{FindsTextPrefix, StripsPrefix}
-use Rattle.std.proofs.lemmas.Bool.{false_from_ne_true, ne_eqb}
+use Rattle.std.proofs.lemmas.Bool.{eq-eqb, false_from_ne_true, false≢true, ne_eqb}
+use Rattle.std.proofs.lemmas.Bool.Decides.{Decides-by_and, Decides-eqb, Decides-not}
+use Rattle.std.proofs.lemmas.List.Folds.{list_any_at, list_any_none}
 use Rattle.std.proofs.lemmas.Grind.{flat_map-append}
 use Rattle.std.proofs.lemmas.List.{append-nil, take-append-drop, take_at}
 use Rattle.std.proofs.lemmas.Slice.Eq.{bytes_eq-Decides}
@@ -72,3 +74,23 @@ prefix_stripped prefix text None none =
 prefix_stripped prefix text (Some x) (n, (is, split, boundary), rest, len) =
     let front = subst (λ t. take (length prefix) t ≡ prefix) (sym split) (take_at prefix (drop n text) (length prefix) refl) in
     rw ((bytes_eq-Decides (take (length prefix) text) prefix).1 front, rest, is) refl
+
+-- whether a text has a byte
+pub byte_found : (c : ℕ) (text : List ℕ) (found : Bool) → (found ≡ true → (k : ℕ) × (k < length text) × (get_or text k 0 ≡ c))
+    × ((k : ℕ) → k < length text → get_or text k 0 ≡ c → found ≡ true) → found ≡ list_any (λ b. b == c) text
+byte_found c text true (at, other) =
+    let place = at refl in
+    sym (list_any_at (λ b. b == c) text place.0 0 place.1 (eq-eqb _ c place.2))
+byte_found c text false (at, other) = sym (list_any_none (λ b. b == c) text
+    (All-from_get_or (λ b. (b == c) ≡ false) text 0 (λ k below. ne_eqb (get_or text k 0) c (λ is. false≢true (other k below is)))))
+
+-- and whether it lacks one
+pub lacks_decided : (c : ℕ) (text : List ℕ) (found : Bool) → found ≡ list_any (λ b. b == c) text
+    → IsTrue (not found) ↔ All (λ b. b ≢ c) text
+lacks_decided c text found is =
+    rw is (Decides-by_and (λ b. not (b == c)) (λ b. b ≢ c) (λ text. not (list_any (λ b. b == c) text))
+    (λ b. Decides-not (b == c) (Decides-eqb b c)) refl (λ b text. not_or (b == c) (list_any (λ b. b == c) text)) text)
+  where
+    not_or : (a b : Bool) → not (a || b) ≡ (not a && not b)
+    not_or true b = refl
+    not_or false b = refl

@@ -307,21 +307,6 @@ none_is_read text = none_exact (IsHashText text) (read_hash text) (λ hash. (rea
 pub one_reading : (text : List ℕ) (a b : PasswordHash) → IsHashText text a → IsHashText text b → a ≡ b
 one_reading text a b ha hb = let both = sym (hash_is_read text a ha) ∙ hash_is_read text b hb in cc
 
--- the version, taken off the parts
-pub version_given : (text part : List ℕ) (after : List (List ℕ)) (digits : Option (Bor (List ℕ))) → parts_of text ≡ part ∷ after
-    → MatchOption digits (FindsTextPrefix (codes "v=") part None) (λ x. StripsPrefix (FindsTextPrefix (codes "v=")) part x.now)
-    → version_and_rest (parts_of text) ≡ version_of (option_map (λ x. x.now) digits) after (part ∷ after)
-version_given text part after digits split found = rw (split, prefix_stripped (codes "v=") part digits found) refl
-
--- a part with a `=`
-pub equals_found : (text : List ℕ) (found : Bool) → (found ≡ true → (k : ℕ) × (k < length text) × (get_or text k 0 ≡ 61))
-    × ((k : ℕ) → k < length text → get_or text k 0 ≡ 61 → found ≡ true) → found ≡ list_any (λ b. b == 61) text
-equals_found text true (at, other) =
-    let place = at refl in
-    sym (list_any_at (λ b. b == 61) text place.0 0 place.1 (eq-eqb _ 61 place.2))
-equals_found text false (at, other) = sym (list_any_none (λ b. b == 61) text
-    (All-from_get_or (λ b. (b == 61) ≡ false) text 0 (λ k below. ne_eqb (get_or text k 0) 61 (λ is. false≢true (other k below is)))))
-
 -- more parts than a salt and a key
 pub parts_left_over : (salt key : List ℕ) (left : Option (Bor (List ℕ))) → is_some left ≡ true
     → salt_and_key (salt ∷ key ∷ parts_left left) ≡ None

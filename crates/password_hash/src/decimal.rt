@@ -1,6 +1,6 @@
 //! Numbers in decimal digits.
-ghost use Rattle.std.specs.Prelude.{◌≡◌};
-ghost use Rattle.password_hash.specs.Decimal.{DecimalGives, has_plus_or_leading_zero};
+ghost use Rattle.std.specs.Prelude.{◌≡◌, ◌^◌};
+ghost use Rattle.password_hash.specs.Decimal.{DecimalGives, decimal_below, has_plus_or_leading_zero};
 
 use std::str::FromStr;
 
@@ -17,6 +17,13 @@ where
         return None;
     }
     text.parse().ok()
+}
+
+/// Parses a number below 2^32.
+pub(crate) fn read_u32(text: &str) -> Option<u32>
+    ensures { result ≡ decimal_below (2 ^ 32) text.now }
+{
+    read_decimal(text)
 }
 
 /// Returns whether `text` begins with a plus, or with a zero that is not its only digit: `parse`

@@ -1,6 +1,7 @@
 //! The parts of a text, separated by `$`.
-ghost use Rattle.std.specs.Prelude.{◌≡◌, ◌∷◌};
-ghost use Rattle.password_hash.specs.Parts.{parts_left, parts_of};
+ghost use Rattle.std.specs.Prelude.{◌≡◌, ◌<◌, ◌==◌, ◌∷◌, option_map};
+ghost use Rattle.std.specs.List.{list_any};
+ghost use Rattle.password_hash.specs.Parts.{after_prefix, parts_left, parts_of};
 
 /// Returns the text before the first `$`, and the text after it, if there is one.
 pub(crate) fn first_part(text: &str) -> (&str, Option<&str>)
@@ -10,4 +11,19 @@ pub(crate) fn first_part(text: &str) -> (&str, Option<&str>)
         Some((part, left)) => (part, Some(left)),
         None => (text, None),
     }
+}
+
+/// Returns what comes after `prefix`, if `text` begins with it.
+pub(crate) fn after_prefix<'a>(prefix: &str, text: &'a str) -> Option<&'a str>
+    ensures { option_map (λ rest. rest.now) result ≡ after_prefix prefix.now text.now }
+{
+    text.strip_prefix(prefix)
+}
+
+/// Returns whether `text` has this ASCII character.
+pub(crate) fn contains(text: &str, letter: char) -> bool
+    requires { letter < 128 }
+    ensures { result ≡ list_any (λ b. b == letter) text.now }
+{
+    text.contains(letter)
 }

@@ -3,7 +3,7 @@ ghost use Rattle.std.specs.Prelude.{◌↔◌, IsTrue};
 ghost use Rattle.password_hash.specs.Mcf.{IsField};
 
 use super::field::Field;
-use crate::parts::first_part;
+use crate::parts::{contains, first_part};
 
 /// An iterator over the fields of an MCF text, in order.
 #[derive(Debug, Drop)]
@@ -33,5 +33,5 @@ impl<'a> Iterator for Fields<'a> {
 pub(super) fn is_field(text: &str) -> bool
     ensures { IsTrue result ↔ IsField text.now }
 {
-    !text.contains('$')
+    !contains(text, '$')
 }

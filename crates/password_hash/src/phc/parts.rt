@@ -7,8 +7,8 @@ ghost use Rattle.password_hash.specs.Parts.{before_parts, parts_left};
 ghost use Rattle.password_hash.specs.PhcReading.{params_and_rest, salt_and_key, version_and_rest};
 
 use crate::Version;
-use crate::decimal::read_decimal;
-use crate::parts::first_part;
+use crate::decimal::read_u32;
+use crate::parts::{after_prefix, contains, first_part};
 use crate::phc::encoding::decode;
 use crate::phc::{Output, ParamsString, Salt};
 
@@ -20,10 +20,10 @@ pub(super) fn take_version(left: Option<&str>) -> Option<(Option<Version>, Optio
         return Some((None, None));
     };
     let (part, after) = first_part(text);
-    let Some(digits) = part.strip_prefix("v=") else {
+    let Some(digits) = after_prefix("v=", part) else {
         return Some((None, left));
     };
-    let version = read_decimal(digits)?;
+    let version = read_u32(digits)?;
     Some((Some(version), after))
 }
 
@@ -35,7 +35,7 @@ pub(super) fn take_params(left: Option<&str>) -> Option<(ParamsString, Option<&s
         return Some((ParamsString::new(), None));
     };
     let (part, after) = first_part(text);
-    if !part.contains('=') {
+    if !contains(part, '=') {
         return Some((ParamsString::new(), left));
     }
     let Ok(params) = ParamsString::parse(part) else {

@@ -4,7 +4,7 @@ ghost use Rattle.password_hash.specs.Decimal.{IsDecimal};
 ghost use Rattle.password_hash.specs.Value.{value_text};
 ghost use Rattle.password_hash.specs.declared.error.Error.TheVariants.{EncodingInvalid};
 
-use crate::decimal::read_decimal;
+use crate::decimal::read_u32;
 use crate::{Error, Result};
 
 /// The value of a parameter: one or more of the letters `a-zA-Z0-9/+.-`.
@@ -25,11 +25,12 @@ impl<'a> Value<'a> {
     ///
     /// Returns `EncodingInvalid` unless it is a number below 2^32 in decimal digits, without a
     /// leading zero except in `0` itself.
+    #[tactic(auto, using(crate::proofs::DecimalFacts::decimals))]
     pub fn decimal(&self) -> Result<u32>
         ensures ok { IfOk result (IsDecimal (value_text self.now)) }
         ensures only { (n : ℕ) → IsDecimal (value_text self.now) n → result ≡ Ok n }
         ensures err { IfErr result (λ e. e ≡ EncodingInvalid) }
     {
-        read_decimal(self.text).ok_or(Error::EncodingInvalid)
+        read_u32(self.text).ok_or(Error::EncodingInvalid)
     }
 }
