@@ -288,14 +288,7 @@ read_is_hash text hash is = at (parts_of text) refl is
 pub printed_back : (text : List ℕ) (hash : PasswordHash) → read_hash text ≡ Some hash → hash_text hash ≡ text
 printed_back text hash is = sym (read_is_hash text hash is).whole
 
--- a text that begins with a `$` and these parts
-pub begun : (text rest part : List ℕ) (parts : List (List ℕ)) → text ≡ 36 ∷ rest → parts_of rest ≡ part ∷ parts
-    → read_hash text ≡ hash_of_parts ([] ∷ part ∷ parts)
-unfolding read_hash
-begun text rest part parts begins split = ap hash_of_parts (ap parts_of begins
-    ∙ slice_split_at (λ b. b == 36) [] 36 rest (All-nil (λ b. (b == 36) ≡ false)) refl ∙ ap (λ parts. [] ∷ parts) split)
-
--- no other text is read
+-- a text that begins with no `$` is not read
 pub not_begun : (text : List ℕ) → ((rest : List ℕ) → text ≢ 36 ∷ rest) → read_hash text ≡ None
 not_begun text none = none_exact (IsHashText text) (read_hash text) (λ hash. (read_is_hash text hash, hash_is_read text hash))
     (λ hash is. none _ is.whole)

@@ -1,7 +1,7 @@
 //! The parts of a text, separated by `$`.
-ghost use Rattle.std.specs.Prelude.{◌≡◌, ◌<◌, ◌==◌, ◌∷◌, option_map};
+ghost use Rattle.std.specs.Prelude.{◌≡◌, ◌≢◌, ◌<◌, ◌==◌, ℕ, List, [], ◌∷◌, MatchOption, option_map};
 ghost use Rattle.std.specs.List.{list_any};
-ghost use Rattle.password_hash.specs.Parts.{after_prefix, parts_left, parts_of};
+ghost use Rattle.password_hash.specs.Parts.{after_prefix, dollar, parts_left, parts_of};
 
 /// Returns the text before the first `$`, and the text after it, if there is one.
 pub(crate) fn first_part(text: &str) -> (&str, Option<&str>)
@@ -11,6 +11,16 @@ pub(crate) fn first_part(text: &str) -> (&str, Option<&str>)
         Some((part, left)) => (part, Some(left)),
         None => (text, None),
     }
+}
+
+/// Returns the first part after the `$` that a text begins with, and the text after the next `$`, if
+/// there is one. Returns `None` if the text begins with anything else.
+pub(crate) fn split_first(text: &str) -> Option<(&str, Option<&str>)>
+    ensures { MatchOption result ((rest : List ℕ) → text.now ≢ dollar ∷ rest)
+        (λ split. parts_of text.now ≡ [] ∷ split.0.now ∷ parts_left split.1) }
+{
+    let rest = text.strip_prefix('$')?;
+    Some(first_part(rest))
 }
 
 /// Returns what comes after `prefix`, if `text` begins with it.

@@ -6,7 +6,7 @@ ghost use Rattle.password_hash.specs.Parts.{dollar, parts_of, parts_left};
 use super::fields::Fields;
 use super::{Error, Result};
 use crate::letters::are_identifier_letters;
-use crate::parts::first_part;
+use crate::parts::split_first;
 
 /// A borrowed MCF text: `$`, an id, and any number of fields, each after a `$`.
 #[derive(Clone, Copy, Debug)]
@@ -45,7 +45,7 @@ impl<'a> PasswordHashRef<'a> {
         ensures value { result.now ≡ id_of (borrowed_text self.now) }
         ensures reading { IsMcfText (borrowed_text self.now) result.now (fields_of (borrowed_text self.now)) }
     {
-        split_id(self.text).unwrap().0
+        split_first(self.text).unwrap().0
     }
 
     /// Returns an iterator over the fields, in order.
@@ -55,25 +55,16 @@ impl<'a> PasswordHashRef<'a> {
         ensures reading { IsMcfText (borrowed_text self.now) (id_of (borrowed_text self.now)) (fields_left result) }
     {
         Fields {
-            left: split_id(self.text).unwrap().1,
+            left: split_first(self.text).unwrap().1,
         }
     }
-}
-
-/// Returns the id of a text that begins with `$`, and the text after the next `$`, if there is one.
-fn split_id(text: &str) -> Option<(&str, Option<&str>)>
-    ensures { MatchOption result ((rest : List ℕ) → text.now ≢ dollar ∷ rest)
-        (λ split. parts_of text.now ≡ [] ∷ split.0.now ∷ parts_left split.1) }
-{
-    let rest = text.strip_prefix('$')?;
-    Some(first_part(rest))
 }
 
 /// Returns whether `text` is an MCF text.
 pub(super) fn is_mcf(text: &str) -> bool
     ensures { IsTrue result ↔ IsMcf text.now }
 {
-    match split_id(text) {
+    match split_first(text) {
         Some((id, _)) => is_id(id),
         None => false,
     }

@@ -5,7 +5,7 @@ ghost use Rattle.password_hash.specs.Phc.{hash_text};
 ghost use Rattle.password_hash.specs.PhcReading.{hash_after, read_hash};
 ghost use Rattle.password_hash.specs.declared.error.Error.TheVariants.{EncodingInvalid};
 
-use crate::parts::first_part;
+use crate::parts::split_first;
 use crate::phc::parts::{take_params, take_salt_and_key, take_version};
 use crate::phc::{Ident, Output, ParamsString, Salt};
 use crate::{Error, Result, Version};
@@ -49,8 +49,7 @@ impl PasswordHash {
 fn parse(text: &str) -> Option<PasswordHash>
     ensures value { result ≡ read_hash text.now }
 {
-    let text = text.strip_prefix('$')?;
-    let (algorithm, left) = first_part(text);
+    let (algorithm, left) = split_first(text)?;
     let Ok(algorithm) = Ident::new(algorithm) else {
         return None;
     };
