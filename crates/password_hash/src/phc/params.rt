@@ -115,10 +115,13 @@ impl ParamsString {
         ensures unchanged { OnErr result (self.new ≡ self.old) }
         ensures err { IfErr result (λ e. e ≡ ParamsInvalid) }
     {
-        if !is_pair(name, value) || self.get(name).is_some() {
+        if !is_pair(name, value) {
             return Err(Error::ParamsInvalid);
         }
-        push_pair(&mut self.text, name, value)
+        match self.get(name) {
+            Some(_there) => Err(Error::ParamsInvalid),
+            None => push_pair(&mut self.text, name, value),
+        }
     }
 }
 
