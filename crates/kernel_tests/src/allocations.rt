@@ -17,24 +17,38 @@ enum Call {
     DeriveKey,
 }
 
-// How this call ends.
-fn end_of(call: &Call, alloc: Global, params: &Params) -> CallEnd {
-    let mut output = [0u8; 32];
-    let answer = match call {
-        Call::Scrypt => scrypt(alloc, b"", b"", params, &mut output),
-        Call::ScryptCounted => {
-            scrypt_counted(alloc, b"", b"", params, &mut output, &mut CoreCount::new())
-        }
-        Call::DeriveKey => match Scrypt::from(*params).derive_key(alloc, b"", b"", &mut output) {
-            Ok(()) => Ok(()),
-            Err(kdf::Error::OutOfMemory) => Err(DeriveError::OutOfMemory),
-            Err(kdf::Error::Refused) => Err(DeriveError::InvalidOutputLen),
-        },
-    };
+// How a call ends with this answer.
+fn end_of(answer: Result<(), DeriveError>) -> CallEnd {
     match answer {
         Ok(()) => CallEnd::Done,
         Err(DeriveError::OutOfMemory) => CallEnd::OutOfMemory,
         Err(_) => CallEnd::Otherwise,
+    }
+}
+
+// How a call of the trait ends.
+fn end_of_trait(alloc: Global, params: &Params, output: &mut [u8]) -> CallEnd {
+    match Scrypt::from(*params).derive_key(alloc, b"", b"", output) {
+        Ok(()) => CallEnd::Done,
+        Err(kdf::Error::OutOfMemory) => CallEnd::OutOfMemory,
+        Err(kdf::Error::Refused) => CallEnd::Otherwise,
+    }
+}
+
+// How this call ends.
+fn ended(call: Call, alloc: Global, params: &Params) -> CallEnd {
+    let (mut output, mut cores) = ([0u8; 32], CoreCount::new());
+    match call {
+        Call::Scrypt => end_of(scrypt(alloc, b"", b"", params, &mut output)),
+        Call::ScryptCounted => end_of(scrypt_counted(
+            alloc,
+            b"",
+            b"",
+            params,
+            &mut output,
+            &mut cores,
+        )),
+        Call::DeriveKey => end_of_trait(alloc, params, &mut output),
     }
 }
 
@@ -47,7 +61,7 @@ fn derivations(rt: HostRuntime) -> Result<(), Fail> {
         (Call::DeriveKey, "the trait adds none"),
     ] {
         let allocations = failing_allocations(rt.alloc(), &BUFFERS, || {
-            end_of(&call, rt.alloc(), &params)
+            ended(call, rt.alloc(), &params)
         })?;
         holds(allocations == BUFFERS.len(), reason)?;
     }

@@ -1,13 +1,16 @@
 // The keys of RFC 7914, section 12, by each call that makes one in memory of its own.
 
 use hex::encode;
-use scrypt::{
-    CoreCount, DeriveError, Params, Pbkdf, Scrypt, kdf, output_len_ok, scrypt, scrypt_counted,
-};
+use scrypt::{CoreCount, DeriveError, Params, Pbkdf, Scrypt, kdf, scrypt, scrypt_counted};
 use std::alloc::Global;
 use std::test::Fail;
 use test_support::holds;
 use test_support::vectors::{RFC_KEY_1, RFC_KEY_2, RFC_KEY_3};
+
+/// Fails a test with this text unless the key is the one of these hexadecimal digits.
+pub fn reads(alloc: Global, key: &[u8], digits: &str, text: &'static str) -> Result<(), Fail> {
+    holds(encode(alloc, key)?.as_str() == digits, text)
+}
 
 // A password, a salt, the costs, their key, and the reason for the row.
 const KEYS: [(&str, &str, (u8, u32, u32), &str, &str); 3] = [
@@ -27,15 +30,10 @@ fn rfc_7914_keys(rt: HostRuntime) -> Result<(), Fail> {
     let alloc = rt.alloc();
     for &(password, salt, (log_n, r, p), wanted, reason) in &KEYS {
         let params = Params::new(log_n, r, p)?;
+        let (password, salt) = (password.as_bytes(), salt.as_bytes());
         let mut key = [0u8; 64];
-        scrypt(
-            alloc,
-            password.as_bytes(),
-            salt.as_bytes(),
-            &params,
-            &mut key,
-        )?;
-        holds(encode(alloc, key)?.as_str() == wanted, reason)?;
+        scrypt(alloc, password, salt, &params, &mut key)?;
+        reads(alloc, &key, wanted, reason)?;
     }
     Ok(())
 }
@@ -48,25 +46,18 @@ fn key_by<K: Pbkdf>(alloc: Global, function: &K, out: &mut [u8]) -> kdf::Result<
 #[test]
 fn the_first_key_by_other_calls(rt: HostRuntime) -> Result<(), Fail> {
     let (alloc, params) = (rt.alloc(), Params::new(4, 1, 1)?);
-    let mut key = [0u8; 64];
-    scrypt_counted(alloc, b"", b"", &params, &mut key, &mut CoreCount::new())?;
-    holds(encode(alloc, key)?.as_str() == RFC_KEY_1, "counted")?;
-    let mut key = [0u8; 64];
-    key_by(alloc, &Scrypt::new_with_params(params), &mut key)?;
-    holds(encode(alloc, key)?.as_str() == RFC_KEY_1, "by the trait")
-}
-
-#[test]
-fn lengths_of_keys() -> Result<(), Fail> {
-    for &(len, allowed, reason) in &[
-        (0, false, "an empty key is refused"),
-        (1, true, "the shortest key"),
-        (137_438_953_440, true, "the last block has number 2^32 - 1"),
-        (137_438_953_441, false, "one byte of block 2^32"),
-    ] {
-        holds(output_len_ok(len) == allowed, reason)?;
-    }
-    Ok(())
+    let (mut counted, mut by_trait) = ([0u8; 64], [0u8; 64]);
+    scrypt_counted(
+        alloc,
+        b"",
+        b"",
+        &params,
+        &mut counted,
+        &mut CoreCount::new(),
+    )?;
+    key_by(alloc, &Scrypt::new_with_params(params), &mut by_trait)?;
+    reads(alloc, &counted, RFC_KEY_1, "counted")?;
+    reads(alloc, &by_trait, RFC_KEY_1, "by the trait")
 }
 
 #[test]

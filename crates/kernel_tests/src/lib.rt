@@ -1,5 +1,8 @@
 //! Tests of derived keys and of the kernel, of what no contract can say: that calls succeed if memory is available, that
-//! the standards' vectors are computed, and how much each call allocates.
+//! the compiled code gives the standards' keys, and how much each call allocates.
+//!
+//! A function that returns no error is exactly what its contract says, and its definition is evaluated on the standards'
+//! vectors in `proofs/StandardFacts.antt` of its crate: such a function has no test of its own here.
 #![tactic(auto)]
 
 #[cfg(test)]
@@ -10,7 +13,5 @@ mod buffers;
 mod derived_keys;
 #[cfg(test)]
 mod parameters;
-#[cfg(test)]
-mod primitives;
 #[cfg(test)]
 mod romix;

@@ -1,6 +1,6 @@
-// Which parameters are accepted, the lengths of their buffers, and what is equal.
+// Which parameters and lengths are accepted, and the lengths of tables.
 
-use scrypt::{BufferLens, Params, Scrypt};
+use scrypt::{BufferLens, Params, output_len_ok};
 use std::test::Fail;
 use test_support::holds;
 
@@ -34,71 +34,40 @@ fn accepted_parameters() -> Result<(), Fail> {
     Ok(())
 }
 
+// A length, whether a key of it can be derived, whether one can be stored, and the reason for the row.
+const LENGTHS: [(usize, bool, bool, &str); 8] = [
+    (0, false, false, "an empty key is refused"),
+    (1, true, false, "the shortest key"),
+    (9, true, false, "a stored key has at least 10 bytes"),
+    (10, true, true, "the shortest stored key"),
+    (64, true, true, "the longest stored key"),
+    (65, true, false, "a stored key has at most 64 bytes"),
+    (137_438_953_440, true, false, "block 2^32 - 1 is the last"),
+    (137_438_953_441, false, false, "one byte of block 2^32"),
+];
+
 #[test]
-fn accepted_lengths_of_stored_keys() -> Result<(), Fail> {
-    for &(len, accepted, reason) in &[
-        (9, false, "a stored key has at least 10 bytes"),
-        (10, true, "the shortest"),
-        (64, true, "the longest"),
-        (65, false, "a stored key has at most 64 bytes"),
-    ] {
+fn lengths_of_keys() -> Result<(), Fail> {
+    for &(len, derived, stored, reason) in &LENGTHS {
         let made = Params::new_with_output_len(17, 8, 1, len);
-        holds(made.is_ok() == accepted, reason)?;
+        holds(output_len_ok(len) == derived, reason)?;
+        holds(made.is_ok() == stored, reason)?;
     }
     Ok(())
 }
 
-// log_n, r, s, the length of the table, and the reason for the row. A whole table has no s.
-const TABLES: [(u8, u32, Option<u8>, Option<usize>, &str); 5] = [
-    (4, 1, None, Some(512), "16 rows of 32 words"),
-    (17, 8, None, Some(33_554_432), "the recommended parameters"),
-    (56, 1, None, Some(1 << 61), "a table that no machine has"),
-    (4, 1, Some(4), Some(32), "one row in 16"),
-    (4, 1, Some(5), None, "s is above log_n"),
+// log_n, r, the length of the table, and the reason for the row.
+const TABLES: [(u8, u32, usize, &str); 3] = [
+    (4, 1, 512, "16 rows of 32 words"),
+    (17, 8, 33_554_432, "the recommended parameters"),
+    (56, 1, 1 << 61, "a table that no machine has"),
 ];
 
 #[test]
 fn lengths_of_tables() -> Result<(), Fail> {
-    for &(log_n, r, s, wanted, reason) in &TABLES {
+    for &(log_n, r, wanted, reason) in &TABLES {
         let params = Params::new(log_n, r, 1)?;
-        let lens = match s {
-            None => Some(BufferLens::of(&params)),
-            Some(s) => BufferLens::thin(&params, s),
-        };
-        let table = match lens {
-            None => None,
-            Some(lens) => Some(lens.table),
-        };
-        holds(table == wanted, reason)?;
-    }
-    Ok(())
-}
-
-#[test]
-#[allow(deprecated)]
-fn recommended_parameters() -> Result<(), Fail> {
-    let bare = Params::new(17, 8, 1)?;
-    let sized = Params::new_with_output_len(17, 8, 1, 32)?;
-    for &(params, reason) in &[
-        (Params::RECOMMENDED, "the constant"),
-        (Params::recommended(), "the call"),
-        (Params::default(), "the default"),
-    ] {
-        holds(params == bare, reason)?;
-        holds(params != sized, reason)?;
-    }
-    Ok(())
-}
-
-#[test]
-fn recommended_hashers() -> Result<(), Fail> {
-    let wanted = Scrypt::new_with_params(Params::new(17, 8, 1)?);
-    for &(hasher, reason) in &[
-        (Scrypt::new(), "the call"),
-        (Scrypt::default(), "the default"),
-        (Scrypt::from(Params::RECOMMENDED), "of its parameters"),
-    ] {
-        holds(hasher == wanted, reason)?;
+        holds(BufferLens::of(&params).table == wanted, reason)?;
     }
     Ok(())
 }
