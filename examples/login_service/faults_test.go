@@ -121,6 +121,33 @@ func TestStoreThatFails(t *testing.T) {
 	}
 }
 
+// What another request stores while a form is derived is kept.
+func TestAChangeMeanwhileIsKept(t *testing.T) {
+	w := newWorld(t, "-log-n=11")
+	w.users(1, 10)
+	w.db.SetMaxOpenConns(1) // which has the transaction
+	one := newBrowser(w.address)
+	for _, it := range []struct {
+		why    string
+		act    func() (answer, error)
+		status int
+	}{
+		{"a log-in, which would replace a weaker hash", func() (answer, error) { return one.logIn("user0", right) }, 303},
+		{"a change of the password", func() (answer, error) { return one.change(right, "another password") }, 409},
+	} {
+		w.expect(303)(newBrowser(w.address).signUp(it.why, right))
+		text := w.hash(it.why)
+		w.exec(`BEGIN`)
+		w.exec(`UPDATE users SET hash = $1 WHERE name = 'user0'`, text)
+		wait := meanwhile(1, func(int) (answer, error) { return it.act() })
+		time.Sleep(time.Second)
+		w.exec(`COMMIT`)
+		if got := wait(); got.of[it.status] != 1 || w.hash("user0") != text {
+			t.Errorf("%s: %v, and %q is stored in place of %q", it.why, got.of, w.hash("user0"), text)
+		}
+	}
+}
+
 // The limit leaves 256 MiB above what the service has with all its threads, and the hash needs 512.
 func TestMemoryRefused(t *testing.T) {
 	w := newWorld(t, small, "-most-mib=1024")

@@ -2,8 +2,12 @@ package main
 
 import (
 	"fmt"
+	"net/http"
+	"net/http/httptest"
+	"net/url"
 	"strings"
 	"testing"
+	"time"
 )
 
 const proxyAddress, other = "127.0.8.1", "127.0.8.2"
@@ -126,6 +130,27 @@ func TestNoCookieIsKept(t *testing.T) {
 	}
 	one.cookies["visitor"], one.token = visitor, token
 	w.expect(403)(one.send("log-in", "name", "ada", "password", right)) // a form of before the log-in, the cookie of after it
+}
+
+func TestCookiesEnd(t *testing.T) {
+	w := newWorld(t, small)
+	w.users(1, 10)
+	s := &Service{key: drawn(32), accounts: &Accounts{store: w.db}}
+	for kind, seconds := range map[string]string{"session": "3600", "known": "7776000"} {
+		for later, name := range map[time.Duration]string{-time.Second: "", time.Minute: "user0"} {
+			end := time.Now().Add(later).UTC().Format(time.RFC3339)
+			tag := s.tag(kind, "1", "user0", end, w.hash("user0"))
+			r := httptest.NewRequest("GET", "/", nil)
+			r.AddCookie(&http.Cookie{Name: kind, Value: url.Values{"id": {"1"}, "name": {"user0"}, "end": {end}, "tag": {tag}}.Encode()})
+			if got, err := s.user(r, kind); got != name || err != nil {
+				t.Errorf("a cookie that ends in %v is of %q, %v", later, got, err)
+			}
+		}
+		set := w.expect(303)(newBrowser(w.address).logIn("user0", right)).header.Values("Set-Cookie")
+		if !strings.Contains(fmt.Sprint(set), "Max-Age="+seconds+";") {
+			t.Errorf("%s does not end after %s seconds: %q", kind, seconds, set)
+		}
+	}
 }
 
 // All tries of an address are used up, and in the second part all tries of the name.
