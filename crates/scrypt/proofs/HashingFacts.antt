@@ -34,3 +34,6 @@ refused_once (by_memory named none fits) (by_algorithm other) = absurd (other na
 refused_once (by_memory named none fits) (by_version named' some) = absurd (versioned some none)
 refused_once (by_memory named none fits) (by_salt named' none' unfit) = absurd (unfit fits)
 refused_once (by_memory named none fits) (by_memory named' none' fits') = refl
+
+-- the errors of hashing
+pub ruleset errors = (refused_call, by_memory, by_salt)

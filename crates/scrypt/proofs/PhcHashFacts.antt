@@ -3,8 +3,7 @@ use Rattle.std.proofs.Common.{◌≡◌, ℕ, List, refl, rules, arith, lit≤, 
 use Rattle.std.specs.Prelude.{IfErr, IfSome}
 use Rattle.password_hash.specs.Phc.{IsHashText, IsSalt, hash_text}
 use Rattle.password_hash.specs.declared.phc.hash.PasswordHash.{PasswordHash}
-use Rattle.scrypt.specs.Accepted.{AreAccepted, IsStoredLen, Parameters, without_len}
-use Rattle.scrypt.specs.KeyOfParams.{key_by}
+use Rattle.scrypt.specs.Accepted.{AreAccepted, IsStoredLen, Parameters}
 use Rattle.scrypt.specs.PhcHash.{IsMadeHash, phc_params, read_phc}
 use Rattle.scrypt.specs.Hashing.{key_len_or_default}
 use Rattle.scrypt.specs.Reading.{NamesNoPassword}
@@ -12,7 +11,7 @@ use Rattle.scrypt.proofs.AcceptedFacts.{key_len_stored, small_params}
 use Rattle.scrypt.proofs.KeyFacts.{key_by-are_bytes, length-key_by}
 use Rattle.scrypt.proofs.PhcParamsFacts.{three_pairs}
 use Rattle.scrypt.proofs.PhcReadingFacts.{pairs_fault, written_read}
-use Rattle.scrypt.proofs.ReadingFacts.{IsFault, faults, no_password}
+use Rattle.scrypt.proofs.ReadingFacts.{IsFault, faults, made_stored, no_password}
 
 -- the error of the parameters of a hash
 pub params_fault : (hash : PasswordHash) → IfErr (phc_params hash) IsFault
@@ -25,7 +24,7 @@ params_none hash = no_password (phc_params hash) (params_fault hash)
 -- a made hash is read as it was made
 pub made_read : (c : Parameters) (password salt : List ℕ) (hash : PasswordHash) → AreAccepted c.log_n c.r c.p
     → IsMadeHash c password salt hash
-    → read_phc hash ≡ Ok (record { params = without_len c; salt = salt; key = key_by c password salt (key_len_or_default c) })
+    → read_phc hash ≡ Ok (made_stored c password salt)
 unfolding phc_params
 made_read c password salt hash fits made =
     rw (made.algorithm, made.version, made.params, written_read c fits, made.salt_is, made.key_is) refl

@@ -111,21 +111,23 @@ verdict_wrong password (Ok s) is =
     right_is_told : s.key ≡ key_by s.params password s.salt (length s.key) → verdict password (Ok s) ≡ Ok tt
     right_is_told same = rw ((right_decided password s).1 same) refl
 
--- a key that was derived from a password accepts it
-pub made_right : (c : Parameters) (password salt : List ℕ)
-    → verdict password (Ok (record { params = without_len c; salt = salt; key = key_by c password salt (key_len_or_default c) })) ≡ Ok tt
-made_right c password salt =
-    (verdict_right password _).1 (_, refl, ap (key_by c password salt) (sym (length-key_by c password salt (key_len_or_default c))))
+-- the hash that these parameters make of a password and a salt
+abbrev pub made_stored : Parameters → List ℕ → List ℕ → Stored
+made_stored c password salt = record { params = without_len c; salt = salt; key = key_by c password salt (key_len_or_default c) }
 
--- and is not weaker than its parameters ask for
-pub not_weaker : (c : Parameters) (salt key : List ℕ) → length key ≡ key_len_or_default c
-    → weaker c (Ok (record { params = without_len c; salt = salt; key = key })) ≡ Ok false
+-- it accepts the password, and is not weaker than its parameters ask for
+pub made_accepts : (c : Parameters) (password salt : List ℕ) {reading : Result Stored Refusal} → reading ≡ Ok (made_stored c password salt)
+    → (verdict password reading ≡ Ok tt) × (weaker c reading ≡ Ok false)
 unfolding is_below
-not_weaker c salt key long =
-    let same = λ (n : ℕ). le-ltb n n (omega arith) in
-    rw (same c.log_n, same c.r, same c.p, le-ltb (length key) (key_len_or_default c) (omega arith)) refl
+made_accepts c password salt {reading} is =
+    let long = length-key_by c password salt (key_len_or_default c) in
+    let key = key_by c password salt (key_len_or_default c) in
+    let same = λ (n : ℕ). le-ltb n n (omega arith) in (
+      (verdict_right password reading).1 (_, is, ap (key_by c password salt) (sym long)),
+      rw (is, same c.log_n, same c.r, same c.p, le-ltb (length key) (key_len_or_default c) (omega (arith, long))) refl,
+    )
 
--- and a hash that was read is, if it is below them
+-- a hash that was read is weaker, if it is below them
 pub weaker_read : (wanted : Parameters) (reading : Result Stored Refusal) (parts : Parts) (below : Bool) → HasParts reading parts
     → below ≡ is_below wanted parts.params parts.key_len → Ok below ≡ weaker wanted reading
 weaker_read wanted reading parts below read is =

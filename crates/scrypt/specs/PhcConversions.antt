@@ -1,10 +1,9 @@
 -- The results of the conversions between parameters and PHC values.
-use Rattle.std.specs.Prelude.{◌≡◌, ℕ, List, length, Option, Some, if◌then◌else◌, is_some, option_map, unwrap_or, Result, Ok, Err}
+use Rattle.std.specs.Prelude.{ℕ, List, length, Option, Some, if◌then◌else◌, is_some, option_map, unwrap_or, Result, Err}
 use Rattle.password_hash.specs.Refusal.{Refusal, Version}
-use Rattle.password_hash.specs.declared.error.Error.{Error}
 use Rattle.password_hash.specs.declared.phc.hash.PasswordHash.{PasswordHash}
 use Rattle.scrypt.specs.Accepted.{Parameters}
-use Rattle.scrypt.specs.PhcParams.{params_of_pairs, written_pairs}
+use Rattle.scrypt.specs.PhcParams.{params_of_pairs}
 use Rattle.scrypt.specs.Reading.{mapped}
 
 -- the length of a hash's key, or 32 if it has no key
@@ -16,8 +15,3 @@ abbrev pub params_with_len : PasswordHash → Result Parameters Refusal
 params_with_len hash =
     let with_len = λ (c : Parameters). record c { output_len = Some (output_len_of hash.hash) } in
     if is_some hash.version then Err Version else mapped with_len (params_of_pairs hash.params)
-
--- the pairs that parameters are written as
-abbrev pub Writes : Parameters → Result (List (List ℕ × List ℕ)) Error → Type 0
-Writes c (Ok pairs) = pairs ≡ written_pairs c
-Writes c (Err e) = ⊥

@@ -64,6 +64,7 @@ impl CustomizedPasswordHasher<PasswordHash> for Scrypt {
     ///
     /// Returns the first of these errors: `Algorithm` if `alg_id` is given and not `7`, `Version`
     /// if `version` is given, and `OutOfMemory` if an allocation fails.
+    #[tactic(auto, using(crate::proofs::HashingFacts::errors))]
     fn hash_password_customized(
         &self,
         alloc: Global,
@@ -179,7 +180,7 @@ fn hash_of_text(text: Vec<u8>) -> PasswordHash
 /// unspecified. `cores` counts the `4 * N * r * p` cores of `params`.
 ///
 /// Returns `OutOfMemory` exactly if `text` or another buffer is too short, and then changes nothing.
-#[tactic(auto, using(crate::proofs::McfTextFacts::key_fills, crate::specs::Hashing::by_memory))]
+#[tactic(auto, using(crate::proofs::McfTextFacts::key_fills, crate::proofs::HashingFacts::errors))]
 pub fn hash_with_buffers(
     password: &[u8],
     salt: &[u8],

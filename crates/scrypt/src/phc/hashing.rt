@@ -50,6 +50,7 @@ impl CustomizedPasswordHasher<PasswordHash> for Scrypt {
     /// Returns the first of these errors: `Algorithm` if `alg_id` is given and not `scrypt`,
     /// `Version` if `version` is given, `SaltInvalid` if `salt` does not have 1 to 64 bytes, and
     /// `OutOfMemory` if an allocation fails.
+    #[tactic(auto, using(crate::proofs::HashingFacts::errors))]
     fn hash_password_customized(
         &self,
         alloc: Global,
@@ -95,6 +96,7 @@ fn hash_of(params: &Params, salt: Salt, key: Output) -> PasswordHash
 ///
 /// Returns `SaltInvalid` if `salt` does not have 1 to 64 bytes, and otherwise `OutOfMemory` exactly
 /// if a buffer is too short. On an error the buffers and the count are unchanged.
+#[tactic(auto, using(crate::proofs::HashingFacts::errors))]
 pub fn hash_with_buffers(
     password: &[u8],
     salt: &[u8],

@@ -1,11 +1,11 @@
 // Conversions between parameters and the PHC format.
 
-ghost use Rattle.std.specs.Prelude.{◌≡◌, ◌^◌, codes, ok_or};
+ghost use Rattle.std.specs.Prelude.{◌≡◌, ◌^◌, codes, ok_or, Ok};
 ghost use Rattle.password_hash.specs.Decimal.{decimal_below};
 ghost use Rattle.password_hash.specs.Refusal.{ParamInvalid};
 ghost use Rattle.password_hash.specs.Value.{value_text};
 ghost use Rattle.scrypt.specs.Accepted.{IsStoredLen};
-ghost use Rattle.scrypt.specs.PhcConversions.{Writes, output_len_of, params_with_len};
+ghost use Rattle.scrypt.specs.PhcConversions.{output_len_of, params_with_len};
 ghost use Rattle.scrypt.specs.PhcParams.{params_of_pairs, written_pairs};
 ghost use Rattle.scrypt.specs.Reading.{told};
 
@@ -113,7 +113,7 @@ fn output_len_of(hash: &PasswordHash) -> usize
 impl TryFrom<&Params> for ParamsString {
     type Error = Error;
 
-    ghost try_from_gives = { λ params answer. Writes params.now answer };
+    ghost try_from_gives = { λ params answer. told answer ≡ Ok (written_pairs params.now) };
 
     /// Writes the parameters as `ln=..,r=..,p=..` in decimal digits. Never returns an error.
     fn try_from(params: &Params) -> Result<ParamsString> {
@@ -124,7 +124,7 @@ impl TryFrom<&Params> for ParamsString {
 impl TryFrom<Params> for ParamsString {
     type Error = Error;
 
-    ghost try_from_gives = { λ params answer. Writes params answer };
+    ghost try_from_gives = { λ params answer. told answer ≡ Ok (written_pairs params) };
 
     /// Writes the parameters as `ln=..,r=..,p=..` in decimal digits. Never returns an error.
     fn try_from(params: Params) -> Result<ParamsString> {

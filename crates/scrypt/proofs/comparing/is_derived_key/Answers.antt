@@ -1,4 +1,4 @@
-use Rattle.std.proofs.Common.{◌≡◌, ◌≤◌, ◌-◌, ◌*◌, ◌+◌, ℕ, List, min, arith, length, refl, replicate, take, take_all}
+use Rattle.std.proofs.Common.{◌≡◌, ◌≤◌, ◌-◌, ◌*◌, ◌+◌, ℕ, List, min, arith, length, replicate, take, take_all}
 use Rattle.std.proofs.lemmas.List.{length-take-le}
 use Rattle.std.proofs.lemmas.List.FromFn.{length-map-range_with_len}
 use Rattle.scrypt_kernel.specs.Pbkdf2.{pbkdf2_byte, pbkdf2_from}
@@ -6,11 +6,6 @@ use Rattle.scrypt.specs.Key.{derived_key}
 use Rattle.scrypt.proofs.ComparingFacts.{compared_more}
 use Rattle.scrypt.proofs.ReadingFacts.{told_right}
 use Rattle.scrypt.proofs.comparing.is_derived_key.Goals as goal
-
-pub loop-i-init : goal.loop-i-init
-loop-i-init c s are =
-    let none : min (96 * 0) (length s.key) ≡ 0 = omega arith in
-    rw none (λ _. refl, λ _. refl)
 
 pub loop-i-preserved : goal.loop-i-preserved
 loop-i-preserved c s are =

@@ -4,13 +4,6 @@ use Rattle.scrypt_kernel.proofs.WalkFacts.{whole_cost}
 use Rattle.scrypt.proofs.KeyFacts.{group_inside, group_small}
 use Rattle.scrypt.proofs.derivation.mixing.mix_groups.Goals as goal
 
-pub overflow_mul-i : goal.overflow_mul-i
-overflow_mul-i g c =
-    let small : c.args.first + c.groups.k * c.count.result ≤ length c.groups.chunks =
-    rw c.count.ensures.value (group_small (128 * c.args.params.now.r) g.O.Order.count c.groups.k c.args.groups c.args.first
-    (length c.groups.chunks) (omega arith) (omega arith) (omega arith)) in
-    search rules
-
 pub overflow_add-i : goal.overflow_add-i
 overflow_add-i g c =
     let small : c.args.first + c.groups.k * c.count.result ≤ length c.groups.chunks =

@@ -1,11 +1,10 @@
-use Rattle.std.proofs.Common.{◌≡◌, ◌*◌, drop, arith}
+use Rattle.std.proofs.Common.{◌*◌, drop, arith}
 use Rattle.scrypt_kernel.specs.Words.{part}
 use Rattle.scrypt.specs.Cost.{extra_rows_of_chunks}
-use Rattle.scrypt.proofs.KeyFacts.{all_mixed, none_mixed, part_at}
+use Rattle.scrypt.proofs.KeyFacts.{none_mixed, part_at}
 use Rattle.scrypt_kernel.proofs.ChunkFacts.{counted_alone}
 use Rattle.scrypt_kernel.proofs.CountFacts.{counted_both}
 use Rattle.scrypt.proofs.CostFacts.{more_chunks}
-use Rattle.scrypt_kernel.proofs.PartFacts.{parts_apart}
 use Rattle.scrypt.proofs.derivation.mixing.mix_thin.Goals as goal
 
 pub chunks-init : goal.chunks-init
@@ -15,10 +14,6 @@ chunks-init g c = record {
   room = omega arith;
   counted = record { all = omega arith; lanes = omega arith };
 }
-
-pub mix_group-requires-clause-inside : goal.mix_group-requires-clause-inside
-mix_group-requires-clause-inside g c =
-    omega (arith, c.requires.chunks, parts_apart (128 * c.args.params.now.r) c.chunks.i c.args.params.now.p (omega arith))
 
 pub chunks-preserved : goal.chunks-preserved
 chunks-preserved g c =
@@ -31,8 +26,3 @@ chunks-preserved g c =
       room = omega (arith, before.room, c.mix_group.ensures.room);
       counted = counted_both _ before.counted (rw before.mixed.rest at counted) (rw more_chunks (omega arith));
     }
-
-pub returns-clause-value : goal.returns-clause-value
-returns-clause-value g c =
-    let all : c.chunks.i ≡ c.args.params.now.p = omega arith in
-    all_mixed c.args.params.now.p (omega (arith, c.requires.chunks)) (rw all at c.chunks.invariant.mixed)
