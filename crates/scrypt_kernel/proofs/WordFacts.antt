@@ -12,12 +12,6 @@ pub zip2_all : (f : ℕ → ℕ → ℕ) (x y out : List ℕ) → length out ≡
 zip2_all f x y out long same each =
     ext_get_or 0 _ _ (long ∙ sym (length-zip2 f x y same)) (λ k h. grind (arith, each k h, get_or-zip2 f x y k 0 0 0))
 
--- the exclusive or of two lists of the same length
-pub length-xor : (x y : List ℕ) → length x ≡ length y → length (xor_words x y) ≡ length x
-length-xor x y same = length-zip2 bit_xor x y same
-
-pub ruleset xor_lengths = (length-xor)
-
 -- x holds f of x0 and y below place i, and x0 from there on
 pub record IsMerged (f : ℕ → ℕ → ℕ) (x0 y : List ℕ) (i : ℕ) (x : List ℕ) : Type 0 where
   pub below : (k : ℕ) → k < i → get_or x k 0 ≡ f (get_or x0 k 0) (get_or y k 0)
