@@ -1,6 +1,6 @@
 //! One field of an MCF text.
-ghost use Rattle.std.specs.Prelude.{◌≡◌, ◌↔◌, ℕ, List, length, take, drop, IsTrue, IfOk, IfErr, IsErrOf, MatchOption};
-ghost use Rattle.password_hash.specs.Crypt64.{Crypt64, IsCrypt64, IsPiece};
+ghost use Rattle.std.specs.Prelude.{◌≡◌, ◌↔◌, ◌+◌, ◌*◌, ◌/◌, ◌≤◌, ℕ, List, length, take, drop, IsTrue, IfOk, IfErr, IsErrOf, MatchOption};
+ghost use Rattle.password_hash.specs.Crypt64.{Crypt64, IsCrypt64, IsPiece, encoded_len};
 
 use super::crypt64::{Base64, decoded_len, is_encoding};
 use super::{Error, Result};
@@ -62,9 +62,15 @@ impl<'a> Field<'a> {
         ensures exact { (all : List ℕ) → Crypt64 all (field_text self.now)
             → IsTrue result ↔ (bytes.now ≡ take (length bytes.now) (drop at all)) }
     {
-        let letters = self.text.as_bytes();
-        let from = at / 3 * 4;
-        let len = Base64::Crypt.encoded_len(bytes.len());
-        is_encoding(&letters[from..from + len], bytes)
+        is_encoding(letters_of(self.text.as_bytes(), at, bytes.len()), bytes)
     }
+}
+
+/// Returns those of `letters` that encode `n` bytes from byte `at` on.
+fn letters_of(letters: &[u8], at: usize, n: usize) -> &[u8]
+    requires { at / 3 * 4 + encoded_len n ≤ length letters.now }
+    ensures { result.now ≡ take (encoded_len n) (drop (at / 3 * 4) letters.now) }
+{
+    let from = at / 3 * 4;
+    &letters[from..from + Base64::Crypt.encoded_len(n)]
 }

@@ -1,11 +1,9 @@
 use Rattle.std.proofs.Common.{◌≡◌, ◌∙◌, ℕ, ◌+◌, ◌-◌, ◌*◌, ◌/◌, ◌<◌, ◌≤◌, List, ap, refl, arith, length, take, drop, length-drop}
 use Rattle.std.proofs.lemmas.List.Elements.{All-take, All-drop}
 use Rattle.password_hash.specs.Crypt64.{Crypt64, IsPiece, encoded_len}
-use Rattle.password_hash.specs.McfViews.{field_text}
 use Rattle.password_hash.proofs.DecodedFacts.{Crypt64-one}
 use Rattle.password_hash.proofs.GroupFacts.{crypt64_of-cut, length-crypt64_of}
 use Rattle.password_hash.proofs.mcf.field.Field.base64_matches_at.Goals as goal
-use Rattle.password_hash.proofs.mcf.field.Field.base64_matches_at.Goals.{After-as_bytes-letters}
 
 -- the letters of a piece are together
 letters_of_piece : (all letters : List ℕ) (at n : ℕ) → Crypt64 all letters → IsPiece at n (length all)
@@ -27,44 +25,18 @@ piece_inside all letters at n is piece =
     let letters_are : length letters ≡ encoded_len (length all) = ap length is.encoding ∙ length-crypt64_of all in
     omega (arith, letters_are, piece.begins, piece.inside, piece.ends)
 
--- the letters of the piece are within the field's
-inside : (c : After-as_bytes-letters) → c.args.at / 3 * 4 + encoded_len (length c.args.bytes.now) ≤ length c.as_bytes-letters.result.now
-inside c =
+pub letters_of-requires : goal.letters_of-requires
+letters_of-requires c =
     let piece = c.requires.piece in
-    omega (
-      arith,
-      piece_inside piece.0 (field_text c.args.self.now) c.args.at (length c.args.bytes.now) piece.1 piece.2,
-      ap length c.as_bytes-letters.ensures.value,
-    )
-
-pub overflow_mul-from : goal.overflow_mul-from
-overflow_mul-from c = omega (arith, inside (goal.at.overflow_mul-from c).After-as_bytes-letters, c.as_bytes-letters.type_inv)
-
-pub overflow_add-from : goal.overflow_add-from
-overflow_add-from c = omega (
-  arith,
-  inside (goal.at.overflow_add-from c).After-as_bytes-letters,
-  c.as_bytes-letters.type_inv,
-  c.encoded_len-len.ensures.len,
-)
-
-pub slice_bounds-is_encoding-end : goal.slice_bounds-is_encoding-end
-slice_bounds-is_encoding-end c = omega (
-  arith,
-  inside (goal.at.slice_bounds-is_encoding-end c).After-as_bytes-letters,
-  c.encoded_len-len.ensures.len,
-)
+    rw c.as_bytes.ensures.value (piece_inside piece.0 _ c.args.at (length c.args.bytes.now) piece.1 piece.2)
 
 pub returns : goal.returns
 returns c = record {
   exact = λ all is.
-      let bytes = c.args.bytes.now in
       let at = c.args.at in
-      let same : c.requires.piece.0 ≡ all = Crypt64-one (field_text c.args.self.now) _ _ c.requires.piece.1 is in
-      let count : at / 3 * 4 + c.encoded_len-len.result - at / 3 * 4 ≡ encoded_len (length bytes) =
-      omega (arith, c.encoded_len-len.ensures.len) in
-      let compared = rw (count, c.as_bytes-letters.ensures.value) at c.is_encoding.ensures in
-      let piece = letters_of_piece all _ at (length bytes) is (rw (← same) c.requires.piece.2) in (
+      let same : c.requires.piece.0 ≡ all = Crypt64-one _ _ _ c.requires.piece.1 is in
+      let compared = rw (c.letters_of.ensures, c.as_bytes.ensures.value) at c.is_encoding.ensures in
+      let piece = letters_of_piece all _ at (length c.args.bytes.now) is (rw (← same) c.requires.piece.2) in (
         λ matches. Crypt64-one _ _ _ (compared.0 matches) piece,
         λ is_piece. compared.1 (rw (← is_piece) at piece),
       );
