@@ -1,4 +1,4 @@
-use Rattle.std.proofs.Common.{rules}
+use Rattle.std.proofs.Common.{rules, sym}
 use Rattle.scrypt_c.proofs.needs.scrypt_params_need.Goals as goal
 
 pub returns-clause-lens : goal.returns-clause-lens
@@ -6,4 +6,11 @@ returns-clause-lens c = λ ok. record {
   chunks_are = search rules;
   table_is = search rules;
   scratch_is = search rules;
+}
+
+pub returns-clause-status : goal.returns-clause-status
+returns-clause-status c = record {
+  params = search rules;
+  costly = (λ is. search rules, λ costly. absurd (costly.1 (rw (c.in-Ok.ensures.value, c.if-not-allow.false) at (sym c.allow.ensures.exact))));
+  one = search rules;
 }
