@@ -91,7 +91,7 @@ int scrypt_verify_group_with_buffers(const scrypt_login *logins, size_t count, i
     if (each[i].text == NULL) each[i].text = "";
   }
 #define EACH(i) (const uint8_t *)each[i].password, each[i].password_len, each[i].text, each[i].text_len
-  cleared_scrypt_verify_group_with_buffers(EACH(0), EACH(1), EACH(2), EACH(3), count, made, THE_BUFFERS);
+  cleared_scrypt_verify_group_with_buffers(EACH(0), EACH(1), EACH(2), EACH(3), made, THE_BUFFERS);
   for (i = 0; i < count; i++) statuses[i] = made[i];
   return SCRYPT_OK;
 }

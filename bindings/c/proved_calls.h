@@ -27,8 +27,8 @@ PROVED_CALL(scrypt_verify_with_buffers, (STORED, BUFFERS), (THE_STORED, THE_BUFF
 #define ANOTHER(n) const uint8_t *password_##n, size_t password_##n##_len, const char *text_##n, size_t text_##n##_len
 #define THE_OTHER(n) password_##n, password_##n##_len, text_##n, text_##n##_len
 PROVED_PROCEDURE(scrypt_verify_group_with_buffers,
-                 (STORED, ANOTHER(2), ANOTHER(3), ANOTHER(4), size_t count, int *statuses, BUFFERS),
-                 (THE_STORED, THE_OTHER(2), THE_OTHER(3), THE_OTHER(4), count, statuses, THE_BUFFERS))
+                 (STORED, ANOTHER(2), ANOTHER(3), ANOTHER(4), int *statuses, BUFFERS),
+                 (THE_STORED, THE_OTHER(2), THE_OTHER(3), THE_OTHER(4), statuses, THE_BUFFERS))
 
 /* The others take no password; those with a text read the key in it. */
 #define NEEDS size_t *tables, size_t *chunks_len, size_t *table_len, size_t *scratch_len

@@ -1,24 +1,24 @@
 //! Hashes in the caller's buffers.
 
-ghost use Rattle.std.specs.Prelude.{◌≡◌, ◌≢◌, ◌↔◌, ◌⊎◌, [], ◌∷◌, length, replicate, take, IsOk};
+ghost use Rattle.std.specs.Prelude.{◌≡◌, ◌≢◌, ◌↔◌, ◌⊎◌, [], ◌∷◌, length, replicate, IsOk};
 ghost use Rattle.password_hash.specs.Refusal.{told};
 ghost use Rattle.scrypt.specs.InBuffers.{AreEnough};
 ghost use Rattle.scrypt.specs.McfHash.{IsMadeHash as IsMadeMcf, made_text_len};
 ghost use Rattle.scrypt.specs.PhcHash.{IsMadeText, IsSaltLen};
 ghost use Rattle.scrypt.specs.Logins.{reading_of};
 ghost use Rattle.scrypt.specs.WithinLimits.{told_limited};
-ghost use Rattle.scrypt.specs.WorkInBuffers.{verdict_in, work_in};
-ghost use Rattle.scrypt_c.specs.InBuffers.{AreLeft, AreLeftBy, AreUsed, IsLeftBy, IsStatusIn, buffers, statuses_in, whole_of};
+ghost use Rattle.scrypt.specs.WorkInBuffers.{IsDone, IsLeft, verdict_in};
+ghost use Rattle.scrypt_c.specs.InBuffers.{AreLeftBy, LeftIn, buffers, statuses_in};
 ghost use Rattle.scrypt_c.specs.Made.{AreHashParams, IsTooLong, IsTooShort, IsWrittenTo, wanted};
 ghost use Rattle.scrypt_c.specs.Statuses.{buffers_status};
 ghost use Rattle.scrypt_c.specs.Texts.{bytes_reading};
 
 use crate::statuses::{
-    BUFFER_SIZE, INVALID_PARAMS, MISMATCH, OK, SALT_INVALID, limited_status_of, status_of,
+    BUFFER_SIZE, INVALID_PARAMS, OK, SALT_INVALID, limited_status_of, status_of,
 };
 use crate::texts::{copy_to, stored_hash};
 use password_hash::{Error, Result};
-use scrypt::{CoreCount, LimitedError, Login, Logins, Params, StoredHash, mcf, phc, wipe};
+use scrypt::{CoreCount, Keys, LimitedError, Login, Logins, Params, mcf, phc, wipe};
 
 /// Does what `scrypt_hash_phc` does, in the caller's buffers, and allocates nothing.
 ///
@@ -53,8 +53,8 @@ pub extern "C" fn scrypt_hash_phc_with_buffers(
         → IsTooLong (IsMadeText (wanted log_n r p key_len) password.now salt.now) text.old text_len.new }
     ensures status { (result ≡ OK) ⊎ (result ≡ INVALID_PARAMS) ⊎ (result ≡ SALT_INVALID) ⊎ (result ≡ BUFFER_SIZE) }
     ensures used { (result ≡ OK) ⊎ (result ≡ BUFFER_SIZE)
-        → AreEnough (wanted log_n r p key_len) chunks.old table.old scratch.old → AreUsed (wanted log_n r p key_len)
-        (buffers chunks.old table.old scratch.old) (buffers chunks.new table.new scratch.new) }
+        → AreEnough (wanted log_n r p key_len) chunks.old table.old scratch.old → LeftIn (IsDone (wanted log_n r p key_len)
+        (buffers chunks.old table.old scratch.old)) chunks.new table.new scratch.new }
     ensures refused { result ≢ OK → text.new ≡ text.old }
     ensures unchanged { (result ≡ INVALID_PARAMS) ⊎ (result ≡ SALT_INVALID)
         ⊎ (¬ AreEnough (wanted log_n r p key_len) chunks.old table.old scratch.old)
@@ -102,8 +102,8 @@ pub extern "C" fn scrypt_hash_mcf_with_buffers(
         (made_text_len (wanted log_n r p key_len) (length salt.now))
         (AreEnough (wanted log_n r p key_len) chunks.old table.old scratch.old) text.old text_len.old text_len.new }
     ensures status { (result ≡ OK) ⊎ (result ≡ INVALID_PARAMS) ⊎ (result ≡ BUFFER_SIZE) }
-    ensures used { result ≡ OK → AreUsed (wanted log_n r p key_len)
-        (buffers chunks.old table.old scratch.old) (buffers chunks.new table.new scratch.new) }
+    ensures used { result ≡ OK → LeftIn (IsDone (wanted log_n r p key_len)
+        (buffers chunks.old table.old scratch.old)) chunks.new table.new scratch.new }
     ensures unchanged { result ≢ OK → (text.new ≡ text.old) × (chunks.new ≡ chunks.old) × (table.new ≡ table.old)
         × (scratch.new ≡ scratch.old) }
     ensures len { result ≡ INVALID_PARAMS → text_len.new ≡ text_len.old }
@@ -138,21 +138,30 @@ pub extern "C" fn scrypt_verify_with_buffers(
     table: &mut [u32],
     scratch: &mut [u32],
 ) -> i32
-    ensures status { IsStatusIn (buffers chunks.old table.old scratch.old) password.now text.now result }
-    ensures left { IsLeftBy text.now (buffers chunks.old table.old scratch.old) (buffers chunks.new table.new scratch.new) }
+    ensures status { result
+        ≡ buffers_status (verdict_in (buffers chunks.old table.old scratch.old) password.now (bytes_reading text.now)) }
+    ensures left { LeftIn (IsLeft (bytes_reading text.now) (buffers chunks.old table.old scratch.old))
+        chunks.new table.new scratch.new }
 {
-    status_in(stored_hash(text), password, chunks, table, scratch)
+    let mut cores = CoreCount::new();
+    match stored_hash(text) {
+        Ok(hash) => {
+            let verified = hash.verify_with_buffers(password, chunks, table, scratch, &mut cores);
+            buffers_status(verified)
+        }
+        Err(error) => buffers_status::<()>(Err(error)),
+    }
 }
 
-/// Verifies up to four passwords, each with its own hash, in the caller's buffers. Does not allocate.
+/// Verifies four passwords, each with its own hash, in the caller's buffers. Does not allocate. If there are fewer, the
+/// last texts have no bytes: such a hash is refused, and takes no time.
 ///
-/// Writes to each of the first `count` statuses what `scrypt_verify_with_buffers` returns for that one
-/// alone in these buffers, whatever the others are, and `MISMATCH` to the others. The first two are a
-/// pair, and so are the last two: if keys of both are compared, `log_n` and `r` of both hashes are the
-/// same, and each buffer is long enough for one derivation with as many chunks as both have, both
-/// keys are derived at once, and so are those of two such pairs. As many chunks are mixed at a time
-/// as have a table and a scratch, at most four. Afterwards what was used of the chunks and of the
-/// scratch is zeros, what was used of the table is unspecified, and nothing after them has changed.
+/// Writes to each status what `scrypt_verify_with_buffers` returns for that one alone in these buffers, whatever the
+/// others are. The first two are a pair, and so are the last two: if keys of both are compared, `log_n` and `r` of both
+/// hashes are the same, and each buffer is long enough for one derivation with as many chunks as both have, both keys are
+/// derived at once, and so are those of two such pairs, or of the first pair and the third if the fourth is refused. As
+/// many chunks are mixed at a time as have a table and a scratch, at most four. Afterwards what was used of the chunks and
+/// of the scratch is zeros, what was used of the table is unspecified, and nothing after them has changed.
 #[unsafe(no_mangle)]
 pub extern "C" fn scrypt_verify_group_with_buffers(
     password: &[u8],
@@ -163,38 +172,28 @@ pub extern "C" fn scrypt_verify_group_with_buffers(
     text_3: &[u8],
     password_4: &[u8],
     text_4: &[u8],
-    count: usize,
     statuses: &mut [i32; 4],
     chunks: &mut [u8],
     table: &mut [u32],
     scratch: &mut [u32],
 )
-    ensures statuses { take count statuses.new ≡ take count (statuses_in (buffers chunks.old table.old scratch.old)
-        ((password.now, text.now) ∷ (password_2.now, text_2.now) ∷ (password_3.now, text_3.now) ∷ (password_4.now, text_4.now) ∷ [])) }
-    ensures left { (before after : CoreCount) × AreLeftBy (take count
-        (bytes_reading text.now ∷ bytes_reading text_2.now ∷ bytes_reading text_3.now ∷ bytes_reading text_4.now ∷ []))
-        (work_in chunks.old table.old scratch.old before) (work_in chunks.new table.new scratch.new after) }
+    ensures statuses { statuses.new ≡ statuses_in (buffers chunks.old table.old scratch.old)
+        ((password.now, text.now) ∷ (password_2.now, text_2.now) ∷ (password_3.now, text_3.now) ∷ (password_4.now, text_4.now) ∷ []) }
+    ensures left { LeftIn (AreLeftBy (bytes_reading text.now) (bytes_reading text_2.now) (bytes_reading text_3.now)
+        (bytes_reading text_4.now) (buffers chunks.old table.old scratch.old)) chunks.new table.new scratch.new }
 {
-    let (one, two) = (login(password, text), login(password_2, text_2));
+    let first = (login(password, text), login(password_2, text_2));
     let (three, four) = (login(password_3, text_3), login(password_4, text_4));
     let mut cores = CoreCount::new();
-    *statuses = match count {
-        0 => [MISMATCH; 4],
-        1 => {
-            let a = one.verify(chunks, table, scratch, &mut cores);
-            [status(a), MISMATCH, MISMATCH, MISMATCH]
-        }
-        2 => {
-            let (a, b) = (one, two).verify(chunks, table, scratch, &mut cores);
-            [status(a), status(b), MISMATCH, MISMATCH]
-        }
-        3 => {
-            let ((a, b), c) = ((one, two), three).verify(chunks, table, scratch, &mut cores);
-            [status(a), status(b), status(c), MISMATCH]
-        }
-        _ => {
-            let group = ((one, two), (three, four));
+    *statuses = match four.shared() {
+        Some(_) => {
+            let group = (first, (three, four));
             let ((a, b), (c, d)) = group.verify(chunks, table, scratch, &mut cores);
+            [status(a), status(b), status(c), status(d)]
+        }
+        None => {
+            let ((a, b), c) = (first, three).verify(chunks, table, scratch, &mut cores);
+            let d = four.verify(chunks, table, scratch, &mut cores);
             [status(a), status(b), status(c), status(d)]
         }
     };
@@ -231,29 +230,6 @@ pub extern "C" fn scrypt_wipe(chunks: &mut [u8], table: &mut [u32], scratch: &mu
     ensures scratch { scratch.new ≡ replicate (length scratch.old) 0 }
 {
     wipe(chunks, table, scratch);
-}
-
-// Verifies the password with what was read of a hash, in the caller's buffers.
-fn status_in(
-    read: Result<StoredHash<'_>>,
-    password: &[u8],
-    chunks: &mut [u8],
-    table: &mut [u32],
-    scratch: &mut [u32],
-) -> i32
-    ensures status { result ≡ buffers_status
-        (verdict_in (buffers chunks.old table.old scratch.old) password.now (whole_of read.entry)) }
-    ensures left { AreLeft (whole_of read.entry)
-        (buffers chunks.old table.old scratch.old) (buffers chunks.new table.new scratch.new) }
-{
-    let mut cores = CoreCount::new();
-    match read {
-        Ok(hash) => {
-            let verified = hash.verify_with_buffers(password, chunks, table, scratch, &mut cores);
-            buffers_status(verified)
-        }
-        Err(error) => buffers_status::<()>(Err(error)),
-    }
 }
 
 // Returns the status of the result of hashing or verifying in the caller's buffers.

@@ -2,6 +2,8 @@ use Rattle.std.proofs.Common.{◌≡◌, ◌∙◌, arith, pos, rules, sym}
 use Rattle.std.proofs.lemmas.Bool.{false≢true}
 use Rattle.std.specs.Prelude.{IsOk}
 use Rattle.scrypt.specs.McfHash.{IsMadeHash}
+use Rattle.scrypt.specs.WorkInBuffers.{IsDone, work_in}
+use Rattle.scrypt_c.proofs.InBuffersFacts.{from_zero}
 use Rattle.scrypt_c.proofs.MadeFacts.{written_by}
 use Rattle.scrypt_c.specs.Made.{wanted}
 use Rattle.scrypt_c.proofs.with_buffers.scrypt_hash_mcf_with_buffers.Goals as goal
@@ -47,4 +49,9 @@ returns-clause-size c short =
     ]
 
 pub returns-clause-used : goal.returns-clause-used
-returns-clause-used c = search rules
+returns-clause-used c zero =
+    let before = work_in c.args.chunks.now c.args.table.now c.args.scratch.now c.new-cores.result in
+    let left = c.hash_with_buffers-hashed.new in
+    let after = work_in left.chunks left.table left.scratch left.cores in
+    let done : IsDone (wanted c.args.log_n c.args.r c.args.p c.args.key_len) before after = search rules in
+    rw (← from_zero before c.new-cores.ensures.none) (after, done)
