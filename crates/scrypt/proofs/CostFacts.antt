@@ -4,8 +4,11 @@ use Rattle.std.proofs.Math.Nat.{div-mul-le_self, mul-le-mul_right, one-le-pow}
 use Rattle.std.proofs.lemmas.Nat.{le-div, mul-le}
 use Rattle.std.specs.Prelude.{◌↔◌}
 use Rattle.scrypt_kernel.specs.Words.{part, words_of}
-use Rattle.scrypt_kernel.specs.Table.{extra_rows}
-use Rattle.scrypt_kernel.proofs.WalkFacts.{extra_rows-whole}
+use Rattle.scrypt_kernel.specs.Count.{AreCounted}
+use Rattle.scrypt_kernel.specs.RoMixCost.{ro_mix_cost}
+use Rattle.scrypt_kernel.specs.Table.{extra_rows, thin_ro_mix_cost}
+use Rattle.scrypt_kernel.specs.declared.cores.CoreCount.{CoreCount}
+use Rattle.scrypt_kernel.proofs.WalkFacts.{extra_rows-whole, whole_cost}
 use Rattle.scrypt.specs.Cost.{cost, extra_rows_of_chunks, table_words, thin_chunks_cost}
 
 none_of_chunks : (b : List ℕ) (log_n r i : ℕ) → extra_rows_of_chunks b log_n 0 r i ≡ 0
@@ -15,6 +18,13 @@ none_of_chunks b log_n r (suc i) =
     let before = none_of_chunks b log_n r i in
     let none = extra_rows-whole (words_of (part (128 * r) b i)) log_n (2 ^ log_n) in
     omega arith
+
+-- n chunks in tables that keep every row
+pub whole_count : {a b : CoreCount} (x : List ℕ) (log_n r n : ℕ) → AreCounted (n * thin_ro_mix_cost x log_n 0 r) a b
+    → AreCounted (ro_mix_cost log_n r * n) a b
+whole_count x log_n r n counted =
+    let whole = rw whole_cost at counted in
+    record { all = omega (arith, whole.all); lanes = omega (arith, whole.lanes) }
 
 -- a table that keeps every row has the cost of the standard's
 pub whole_table_cost : (b : List ℕ) (log_n r p : ℕ) → thin_chunks_cost b log_n r p 0 ≡ cost log_n r p

@@ -2,8 +2,6 @@
 use Rattle.std.proofs.Common.{◌≡◌, ℕ, zero, suc, ◌<◌, ◌≤◌, ◌+◌, ◌*◌, List, ◌++◌, length, take, drop, slice_index}
 use Rattle.std.proofs.Common.{refl, sym, ap, ap₂, ◌∙◌, arith, add-zero, zero-add, append_assoc, take_all}
 use Rattle.std.specs.List.{flat_map, range_with_len}
-use Rattle.std.proofs.Math.Nat.{mul-le-mul_right}
-use Rattle.std.proofs.lemmas.Nat.{mul-le}
 use Rattle.std.proofs.lemmas.List.{drop-drop}
 use Rattle.std.proofs.lemmas.Slice.{drop-put_mid, take-put_mid}
 use Rattle.std.proofs.lemmas.List.FromFn.{length-map-range_with_len, take-map-range_with_len}
@@ -134,16 +132,3 @@ key_by-are_bytes c password salt n i = pbkdf2-are_bytes password _ n i
 
 -- the passwords of one key
 pub ruleset same_keys = (same_key, padded_digest, padded_zero_byte)
-
--- group k of n chunks of s bytes each, of those from `first` on
-pub group_inside : (s n k groups first len : ℕ) → k < groups → (first + groups * n) * s ≤ len → (first + k * n) * s + n * s ≤ len
-group_inside s n k groups first len below room =
-    let apart = parts_apart n k groups below in
-    let inside : first + k * n + n ≤ first + groups * n = omega (arith, apart) in
-    omega (arith, room, mul-le-mul_right s inside)
-
--- it begins at a place that a length can have
-pub group_small : (s n k groups first len : ℕ) → 0 < s → k < groups → (first + groups * n) * s ≤ len → first + k * n ≤ len
-group_small s n k groups first len some below room =
-    let apart = parts_apart n k groups below in
-    omega (arith, room, mul-le (first + groups * n) 1 (first + groups * n) s (omega arith) some)

@@ -16,8 +16,8 @@ use scrypt_kernel::order::diagonal::{Both, Diagonal};
 use scrypt_kernel::romix;
 use std::simd::{u32x4, u32x8};
 
-/// Each of `count` chunks becomes its scryptROMix, `width` of them at a time, and then the rest. They are
-/// those of one derivation or of several, all with the `N` and the `r` of `params`.
+/// Each of `count` chunks becomes its scryptROMix, at most `width` of them at a time. They are those of one
+/// derivation or of several, all with the `N` and the `r` of `params`.
 pub(crate) fn mix_all<M: Memory>(
     params: &Params,
     count: usize,
@@ -32,67 +32,55 @@ pub(crate) fn mix_all<M: Memory>(
     ensures value { chunks.new ≡ mixed_chunks chunks.old params.now.log_n params.now.r count }
     ensures counted { AreCounted (cost params.now.log_n params.now.r count) cores.old cores.new }
 {
-    let groups = count / width;
-    let rest = count % width;
-    mix_in_groups::<M>(params, width, 0, groups, chunks, rows, scratch, cores);
-    if rest > 0 {
-        mix_in_groups::<M>(params, rest, count - rest, 1, chunks, rows, scratch, cores);
+    let mut i = 0;
+    'groups: while i < count {
+        let n = next_group(width, count - i);
+        mix_at_once::<M>(params, n, i, chunks, rows, scratch, cores);
+        i += n;
     }
 }
 
-// Mixes so many groups of `width` chunks from `first` on.
-fn mix_in_groups<M: Memory>(
+// Returns how many of the chunks that are left are mixed next: four and one would take longer than three and two.
+fn next_group(width: usize, left: usize) -> usize
+    requires some { 0 < width }
+    requires left { 0 < left }
+    ensures some { 0 < result }
+    ensures within { result ≤ width }
+    ensures left { result ≤ left }
+{
+    if width > 2 && left - 1 == width {
+        width - 1
+    } else {
+        width.min(left)
+    }
+}
+
+// Mixes the `n` chunks from `i` on at once.
+fn mix_at_once<M: Memory>(
     params: &Params,
-    width: usize,
-    first: usize,
-    groups: usize,
+    n: usize,
+    i: usize,
     chunks: &mut [u8],
     rows: &mut M,
     scratch: &mut [u32],
     cores: &mut CoreCount,
 )
-    requires inside { (first + groups * width) * (128 * params.now.r) ≤ length chunks.old }
-    requires memory { HasTables params.now.log_n params.now.r width (M.room rows.old) (length scratch.old) }
-    ensures mixed { (b : List ℕ) → AreMixed b params.now.log_n params.now.r first chunks.old
-        → AreMixed b params.now.log_n params.now.r (first + groups * width) chunks.new }
+    requires inside { i * (128 * params.now.r) + n * (128 * params.now.r) ≤ length chunks.old }
+    requires memory { HasTables params.now.log_n params.now.r n (M.room rows.old) (length scratch.old) }
+    ensures mixed { (b : List ℕ) → AreMixed b params.now.log_n params.now.r i chunks.old
+        → AreMixed b params.now.log_n params.now.r (i + n) chunks.new }
     ensures room { M.room rows.old ≤ M.room rows.new }
-    ensures counted { AreCounted (ro_mix_cost params.now.log_n params.now.r * (groups * width)) cores.old cores.new }
+    ensures counted { AreCounted (ro_mix_cost params.now.log_n params.now.r * n) cores.old cores.new }
 {
-    match width {
-        1 => mix_groups::<Diagonal<u32x4>, M>(params, first, groups, chunks, rows, scratch, cores),
-        2 => mix_groups::<Diagonal<u32x8>, M>(params, first, groups, chunks, rows, scratch, cores),
-        3 => mix_groups::<Diagonal<Both<u32x8, u32x4>>, M>(
-            params, first, groups, chunks, rows, scratch, cores,
+    match n {
+        1 => mix_group::<Diagonal<u32x4>, M>(params, 0, i, chunks, rows, scratch, cores),
+        2 => mix_group::<Diagonal<u32x8>, M>(params, 0, i, chunks, rows, scratch, cores),
+        3 => mix_group::<Diagonal<Both<u32x8, u32x4>>, M>(
+            params, 0, i, chunks, rows, scratch, cores,
         ),
-        _ => mix_groups::<Diagonal<Both<u32x8, u32x8>>, M>(
-            params, first, groups, chunks, rows, scratch, cores,
+        _ => mix_group::<Diagonal<Both<u32x8, u32x8>>, M>(
+            params, 0, i, chunks, rows, scratch, cores,
         ),
-    }
-}
-
-// Mixes so many groups from `first` on, each of as many chunks as `O` holds blocks.
-fn mix_groups<O: Order, M: Memory>(
-    params: &Params,
-    first: usize,
-    groups: usize,
-    chunks: &mut [u8],
-    rows: &mut M,
-    scratch: &mut [u32],
-    cores: &mut CoreCount,
-)
-    requires inside { (first + groups * O.count) * (128 * params.now.r) ≤ length chunks.old }
-    requires table { O.count * table_words params.now.log_n params.now.r ≤ M.room rows.old }
-    requires scratch { O.count * scratch_words params.now.r ≤ length scratch.old }
-    ensures mixed { (b : List ℕ) → AreMixed b params.now.log_n params.now.r first chunks.old
-        → AreMixed b params.now.log_n params.now.r (first + groups * O.count) chunks.new }
-    ensures room { M.room rows.old ≤ M.room rows.new }
-    ensures counted { AreCountedAs O.simd (ro_mix_cost params.now.log_n params.now.r * (groups * O.count))
-        cores.old cores.new }
-{
-    params.known();
-    'groups: for k in 0..groups {
-        let i = first + k * O::count();
-        mix_group::<O, M>(params, 0, i, chunks, rows, scratch, cores);
     }
 }
 
