@@ -90,7 +90,7 @@ func TestHeadersOfEachAnswer(t *testing.T) {
 			continue
 		}
 		for name, value := range map[string]string{"X-Content-Type-Options": "nosniff", "Cache-Control": "no-store",
-			"Content-Security-Policy": "base-uri 'none'", "Referrer-Policy": "no-referrer", "Strict-Transport-Security": ""} {
+			"Content-Security-Policy": "default-src 'none'; style-src 'unsafe-inline'; form-action 'self'; frame-ancestors 'none'; base-uri 'none'", "Referrer-Policy": "no-referrer", "Strict-Transport-Security": ""} {
 			if header := got.header.Get(name); !strings.Contains(header, value) || value == "" && header != "" {
 				t.Errorf("%s: %s: %q", it.why, name, header)
 			}
@@ -121,7 +121,10 @@ func TestNoCookieIsKept(t *testing.T) {
 	if page := w.expect(200)(one.read()).page; strings.Contains(page, "logged in") {
 		t.Error("the id of a session is not signed")
 	}
+	delete(one.cookies, "session")
+	w.expect(200)(one.read())
 	one.cookies["session"] = session
+	w.expect(403)(one.send("change", "password", right, "new", "another password")) // by a form of the same browser without a user
 	got := w.expect(303)(one.fill("log-out"))
 	known := one.cookies["known"]
 	delete(one.cookies, "known") // is left, since it gives no access
@@ -136,6 +139,9 @@ func TestCookiesEnd(t *testing.T) {
 	w := newWorld(t, small)
 	w.users(1, 10)
 	s := &Service{key: drawn(32), accounts: &Accounts{store: w.db}}
+	if s.tag("ab", "c") == s.tag("a", "bc") {
+		t.Error("two lists have one tag")
+	}
 	for kind, seconds := range map[string]string{"session": "3600", "known": "7776000"} {
 		for later, name := range map[time.Duration]string{-time.Second: "", time.Minute: "user0"} {
 			end := time.Now().Add(later).UTC().Format(time.RFC3339)

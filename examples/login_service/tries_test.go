@@ -7,6 +7,7 @@ import (
 	"strconv"
 	"strings"
 	"testing"
+	"time"
 )
 
 // numbered puts a number at each # of a text.
@@ -114,6 +115,25 @@ func TestTriesAtOnce(t *testing.T) {
 			w.expect(429)(w.at(numbered(it.from, 1)).logIn(numbered(it.name, 1), right))
 		}
 	}
+}
+
+// Who leaves before the answer pays, so that nobody tries passwords in this way.
+func TestWhoLeavesPays(t *testing.T) {
+	w := newWorld(t, "-log-n=17", "-tries=1", "-pause=1h", proxied)
+	one, all := w.at("192.0.2.1"), 4*runtime.GOMAXPROCS(0)
+	w.expect(200)(one.read())
+	wait := meanwhile(all, func(i int) (answer, error) {
+		return w.at(fmt.Sprint("198.51.100.", i)).logIn(fmt.Sprint("nobody", i), wrong)
+	})
+	time.Sleep(100 * time.Millisecond) // all processors derive
+	one.http.Timeout = 50 * time.Millisecond
+	if got, err := one.send("log-in", "name", "nobody", "password", wrong); err == nil {
+		t.Errorf("a client that has to wait gets %d", got.status)
+	}
+	if got := wait(); got.of[403] != all {
+		t.Errorf("the others get %v", got.of)
+	}
+	w.expect(429)(w.at("192.0.2.1").logIn("another", wrong))
 }
 
 func TestFail2banFindsFailedLogIns(t *testing.T) {
