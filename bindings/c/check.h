@@ -14,6 +14,4 @@ static void check(int holds, const char *what) {
   }
 }
 
-static inline const uint8_t *b(const char *text) { return (const uint8_t *)text; }
-
 #endif

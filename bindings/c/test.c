@@ -154,26 +154,6 @@ static void hash_in_buffers(int is_mcf, const char *made) {
             (is_mcf ? SCRYPT_OK : SCRYPT_SALT_INVALID), "an empty salt");
 }
 
-/* Hashes of two chunks, in buffers in which both are mixed at a time: the same texts, which verify. */
-static void two_chunks_in_buffers(void) {
-  static uint8_t chunks[2048];
-  static uint32_t table[8192], scratch[1025];
-  char phc[SCRYPT_PHC_CAPACITY], mcf[SCRYPT_MCF_CAPACITY(8)], text[SCRYPT_PHC_CAPACITY];
-  check(scrypt_hash_phc("pw", 2, "saltsalt", 8, 4, 8, 2, 32, phc, sizeof phc) == SCRYPT_OK, "phc");
-  check(scrypt_hash_mcf("pw", 2, "saltsalt", 8, 4, 8, 2, 32, mcf, sizeof mcf) == SCRYPT_OK, "mcf");
-  scratch[1024] = 7;
-  check(scrypt_hash_phc_with_buffers("pw", 2, "saltsalt", 8, 4, 8, 2, 32, text, sizeof text, chunks, 2048,
-                                     table, 8192, scratch, 1024) == SCRYPT_OK, "two chunks");
-  check(strcmp(text, phc) == 0, "the same PHC text");
-  check(scrypt_verify_with_buffers("pw", 2, text, strlen(text), chunks, 2048, table, 8192, scratch, 1024) == SCRYPT_OK, "phc");
-  check(scrypt_hash_mcf_with_buffers("pw", 2, "saltsalt", 8, 4, 8, 2, 32, text, sizeof text, chunks, 2048,
-                                     table, 8192, scratch, 1024) == SCRYPT_OK, "two chunks");
-  check(strcmp(text, mcf) == 0, "the same $7$ text");
-  check(scrypt_verify_with_buffers("pw", 2, text, strlen(text), chunks, 2048, table, 8192, scratch, 1024) == SCRYPT_OK, "mcf");
-  check(is_all(0, chunks, 2048) && is_all(0, scratch, 4096) && scratch[1024] == 7,
-        "zeros in both scratches, and nothing after them is written");
-}
-
 static void hash_params(const char *text) {
   uint8_t log_n = 99;
   uint32_t r = 99, p = 99;
@@ -212,7 +192,6 @@ static void hashes(void) {
   verify_in_buffers(phc);
   verify_group_in_buffers(phc);
   several_tables_are_used();
-  two_chunks_in_buffers();
   verify_in_buffers(mcf);
   verify_group_in_buffers(mcf);
   hash_params(phc);
