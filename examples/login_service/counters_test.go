@@ -20,6 +20,7 @@ func TestLimiterNeedsNoMoreMemoryForMoreKeys(t *testing.T) {
 	if runtime.ReadMemStats(&after); after.HeapAlloc > before.HeapAlloc+3<<20 {
 		t.Errorf("%d bytes before a million keys, and %d after", before.HeapAlloc, after.HeapAlloc)
 	}
+	runtime.KeepAlive(l)
 	// A slot whose tries are all used is one of 262144, so few other names share one of these.
 	l, others := newLimiter(), 0
 	for i := 0; i < 100*20; i++ {

@@ -9,8 +9,6 @@ import (
 	"sync/atomic"
 	"testing"
 	"time"
-
-	"nilomafy.example/scrypt"
 )
 
 // A mix is the state that the clients of the mixed load share.
@@ -54,33 +52,6 @@ func (m *mix) client(kind string, act func(browser *browser, turn int) (answer, 
 			time.Sleep(300 * time.Millisecond)
 		}
 	}
-}
-
-// A changer changes the password of its own user, and knows which ones the store may have.
-type changer struct {
-	*mix
-	name     string
-	possible []string
-}
-
-func (c *changer) act(browser *browser, turn int) (answer, error) {
-	for _, password := range c.possible {
-		got, err := browser.logIn(c.name, password)
-		if err != nil || got.status == 503 || strings.Contains(got.page, "too old") {
-			return got, err
-		}
-		if got.status != 303 {
-			continue
-		}
-		wanted := fmt.Sprint("password number ", turn)
-		c.possible = []string{password, wanted}
-		if got, err = browser.change(password, wanted); err == nil && got.status == 303 {
-			c.possible = []string{wanted}
-		}
-		return got, err
-	}
-	c.Errorf("%s has none of %q", c.name, c.possible)
-	return answer{status: 500}, nil
 }
 
 // faults stops the store and kills the service in turn.
@@ -133,7 +104,7 @@ func (m *mix) slow(int) {
 }
 
 // clients starts all of them, and returns a function that waits for their end.
-func (m *mix) clients(changers []*changer) (wait func()) {
+func (m *mix) clients() (wait func()) {
 	var group sync.WaitGroup
 	many := func(count int, run func(number int)) {
 		for i := 0; i < count; i++ {
@@ -153,12 +124,11 @@ func (m *mix) clients(changers []*changer) (wait func()) {
 	logIns(4, "unknown", "nobody", wrong)
 	logIns(4, "hostile", "hostile", wrong)
 	logIns(2, "1 MiB", "user", strings.Repeat("x", 1<<20))
-	many(2, func(i int) {
+	many(8, func(i int) {
 		m.client("sign-up", func(browser *browser, turn int) (answer, error) {
 			return browser.signUp(fmt.Sprint("new", i, "-", turn), right)
 		})
 	})
-	many(len(changers), func(i int) { m.client("change", changers[i].act) })
 	many(20, m.slow)
 	many(1, m.sleep)
 	return group.Wait
@@ -179,15 +149,9 @@ func TestMixedLoad(t *testing.T) {
 	}
 	w.peak()
 	m := &mix{world: w, end: time.Now().Add(time.Duration(seconds) * time.Second), answers: map[string]int{}}
-	changers := make([]*changer, 8)
-	for i := range changers {
-		changers[i] = &changer{m, fmt.Sprint("changer", i), []string{right}}
-		w.exec(`INSERT INTO users SELECT $1, hash FROM users WHERE name = 'user0'`, changers[i].name)
-	}
-	wait := m.clients(changers)
+	wait := m.clients()
 	peak := m.faults(arguments...)
 	wait()
-	m.check(changers)
 	t.Logf("%d s; answers: %v", seconds, m.answers)
 	t.Logf("that no place is free is answered in %s ms (99 %%), %s at most, and a sleep ends %s late (99 %%), %s at most; peak %d MiB",
 		part(m.full, 0.99), part(m.full, 1), part(m.late, 0.99), part(m.late, 1), peak)
@@ -196,26 +160,5 @@ func TestMixedLoad(t *testing.T) {
 	}
 	if peak > 8*4+64 {
 		t.Error("more memory than eight verifications and 64 MiB")
-	}
-}
-
-// check tells whether each user who changed passwords has one that is possible, and each text is whole.
-func (m *mix) check(changers []*changer) {
-	for _, it := range changers {
-		got := each(len(it.possible), 1, func(i int) (answer, error) { return newBrowser(m.address).logIn(it.name, it.possible[i]) })
-		if got.of[303] != 1 {
-			m.Errorf("%s has %d of %q", it.name, got.of[303], it.possible)
-		}
-	}
-	rows := must(m.db.Query(`SELECT name, hash FROM users WHERE name NOT LIKE 'hostile%'`))
-	defer rows.Close()
-	for rows.Next() {
-		var name, text string
-		if err := rows.Scan(&name, &text); err != nil {
-			m.Fatal(err)
-		}
-		if params, err := scrypt.ParamsOf(text); err != nil || params != (scrypt.Params{LogN: 12, R: 8, P: 1, KeyLen: 32}) {
-			m.Errorf("%s: %v %q", name, err, text)
-		}
 	}
 }
