@@ -35,9 +35,6 @@ FIRST, MORE = "wrong-bodies", "more-wrong-bodies"
 # One check takes up to 2 GB. `taskset` gives fewer processors.
 AT_ONCE = min(4, len(os.sched_getaffinity(0)))
 
-# The most edits of one check, which has one job: it is the last to end otherwise.
-MOST = 12
-
 
 def changed(edit, name, crate):
     """The paths of the functions that an edit changes, or none if it changes what is outside of them."""
@@ -78,12 +75,6 @@ def rounds(name, *folders):
     return made + alone
 
 
-def parts(tried):
-    """The edits of a round in as few parts as have no more than MOST, all of about the same size."""
-    count = -(-len(tried) // MOST)
-    return [dict(list(tried.items())[at::count]) for at in range(count)]
-
-
 def check(name, tried, kept=()):
     """What a check of a crate prints that has these edits. It takes what they leave as it was from what was kept."""
     with tempfile.TemporaryDirectory() as crate:
@@ -109,7 +100,7 @@ def try_all(names, folders, kept=()):
     """Tries the edits of crates, prints each that isn't refused with a goal, and returns how many these are."""
     tried = wrong = 0
     # The longest begin first.
-    all_rounds = [(name, part) for name in names for it in rounds(name, *folders) for part in parts(it)]
+    all_rounds = [(name, it) for name in names for it in rounds(name, *folders)]
     all_rounds.sort(key=lambda it: -len(it[1]))
     with concurrent.futures.ThreadPoolExecutor(AT_ONCE) as lanes:
         running = [lanes.submit(judged, *it, kept) for it in all_rounds]
