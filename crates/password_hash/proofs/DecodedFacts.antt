@@ -1,10 +1,10 @@
 -- Letters of crypt Base64 are decoded as the bytes that they encode.
 use Rattle.std.proofs.Common.{◌≡◌, ℕ, zero, suc, ◌+◌, ◌*◌, ◌/◌, ◌%◌, ◌<◌, List, [], ◌∷◌, length, Some, None, true}
-use Rattle.std.proofs.Common.{◌∙◌, refl, sym, ap, arith, inl, inr}
+use Rattle.std.proofs.Common.{◌∙◌, refl, sym, ap, arith}
 use Rattle.std.specs.Prelude.{Option, unwrap_or}
 use Rattle.std.specs.Str.{bytes_eq}
-use Rattle.std.proofs.lemmas.Bool.{cases_Bool}
 use Rattle.std.proofs.lemmas.List.Elements.{All-cons, All-head, All-nil, All-tail}
+use Rattle.std.proofs.lemmas.Option.{cond_some}
 use Rattle.std.proofs.lemmas.Slice.Eq.{bytes_eq-Decides}
 use Rattle.password_hash.specs.Crypt64.{Crypt64, IsCrypt64, bytes_of_number, crypt64_of, decoded, number_of}
 use Rattle.password_hash.proofs.Crypt64Facts.{AreBytes}
@@ -40,16 +40,11 @@ pub encoded_is : (bytes letters : List ℕ) → decoded letters ≡ Some bytes �
 unfolding decoded
 encoded_is bytes letters is =
     let made : List ℕ = bytes_of_number (3 * length letters / 4) (unwrap_or (number_of letters) 0) in
-    elim (cases_Bool (bytes_eq letters (crypt64_of made))) [
-      | inl same ↦
-          let said = rw same at is in
-          let one : made ≡ bytes = cc in
-          rw (← one) (record {
-            are_bytes = bytes_of_number-are_bytes (3 * length letters / 4) (unwrap_or (number_of letters) 0);
-            encoding = (bytes_eq-Decides letters (crypt64_of made)).0 same;
-          })
-      | inr other ↦ let said = rw other at is in absurd (cc)
-    ]
+    let (same, one) = cond_some (bytes_eq letters (crypt64_of made)) made bytes is in
+    rw (← one) (record {
+      are_bytes = bytes_of_number-are_bytes (3 * length letters / 4) (unwrap_or (number_of letters) 0);
+      encoding = (bytes_eq-Decides letters (crypt64_of made)).0 same;
+    })
 
 -- others are not decoded
 pub not_decoded : (letters : List ℕ) → ¬ IsCrypt64 letters → decoded letters ≡ None

@@ -13,7 +13,7 @@ use Rattle.password_hash.specs.Mcf.{IsId, IsField, IsMcfText, IsMcf, id_of, fiel
 use Rattle.password_hash.specs.Parts.{dollar, parts_of}
 use Rattle.password_hash.proofs.Crypt64Facts.{IsPlain, crypt64_of-plain}
 use Rattle.password_hash.proofs.PairsFacts.{Lacks, letters_lack}
-use Rattle.password_hash.proofs.PartsFacts.{parts_of-parts_text, parts_text-parts_of, parts_text-push}
+use Rattle.password_hash.proofs.PartsFacts.{parts_of-parts_text, parts_text-push, text_of_parts}
 
 -- a field has no byte that is a dollar
 no_dollar : (field : List ℕ) → IsField field → All (λ byte. (byte == dollar) ≡ false) field
@@ -50,11 +50,10 @@ pub IsMcfText-from_parts : (text id : List ℕ) (fields : List (List ℕ)) → p
     → IsMcfText text id fields
 IsMcfText-from_parts text id fields parts is =
     let each : All IsField ([] ∷ id ∷ fields) = subst (All IsField) parts (are_fields-slice_split text) in
-    let whole = parts_text-parts_of text [] (id ∷ fields) parts in
     record {
       is_id = is;
       are_fields = All-tail IsField id fields (All-tail IsField [] (id ∷ fields) each);
-      written = cc;
+      written = text_of_parts text id fields parts;
     }
 
 pub id_of_parts : (text id : List ℕ) (fields : List (List ℕ)) → parts_of text ≡ [] ∷ id ∷ fields → id_of text ≡ id

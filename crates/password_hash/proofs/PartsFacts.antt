@@ -21,14 +21,7 @@ parts_text-join : (part : List ℕ) (parts : List (List ℕ)) → parts_text (pa
 parts_text-join part [] = ap (λ text. dollar ∷ text) (append-nil part)
 parts_text-join part (next ∷ parts) = ap (λ rest. dollar ∷ (part ++ rest)) (parts_text-join next parts)
 
--- the parts of a text give the text
-pub parts_text-parts_of : (text part : List ℕ) (parts : List (List ℕ)) → parts_of text ≡ part ∷ parts
-    → dollar ∷ text ≡ parts_text (part ∷ parts)
-parts_text-parts_of text part parts e =
-    ap (λ rest. dollar ∷ rest) (sym (join_with_byte-slice_split dollar text) ∙ ap (join_with_byte dollar) e)
-    ∙ sym (parts_text-join part parts)
-
--- and parts without `$` are those of their text
+-- parts without `$` are those of their text
 pub parts_of-parts_text : (text part : List ℕ) (parts : List (List ℕ)) → All (Lacks dollar) (part ∷ parts)
     → dollar ∷ text ≡ parts_text (part ∷ parts) → parts_of text ≡ part ∷ parts
 parts_of-parts_text text part parts none e =

@@ -1,16 +1,15 @@
 -- PHC texts are read as the hashes that they are printed of.
 use Rattle.std.proofs.Common.{◌≡◌, ◌≢◌, ◌↔◌, ◌^◌, ◌<◌, ◌≤◌, ◌==◌, ℕ, zero, suc, Bool, false, true, not, List, [], ◌∷◌, ◌++◌}
-use Rattle.std.proofs.Common.{length, drop, get_or, take, codes, Option, None, Some, refl, sym, ap, subst, ◌∙◌, arith, inl, inr}
+use Rattle.std.proofs.Common.{length, drop, take, codes, Option, None, Some, refl, sym, ap, subst, ◌∙◌, arith, inl, inr}
 use Rattle.std.specs.Borrow.{Bor}
-use Rattle.std.specs.Prelude.{All, AllPairs, IfSome, IsSome, MatchOption, OnSome, decimal, is_some, nat_le, nat_lt, option_map}
+use Rattle.std.specs.Prelude.{All, AllPairs, IfSome, IsSome, OnSome, decimal, is_some, nat_le, nat_lt}
 use Rattle.std.specs.Bool.{Decides}
 use Rattle.std.specs.List.{list_all, list_any}
 use Rattle.std.specs.Str.{bytes_eq}
-use Rattle.std.specs.Str.Pattern.{FindsTextPrefix, StripsPrefix}
-use Rattle.std.proofs.lemmas.Bool.{cases_Bool, eq-eqb, false≢true, false_from_ne_true, ne_eqb}
+use Rattle.std.proofs.lemmas.Bool.{cases_Bool, false≢true, false_from_ne_true}
 use Rattle.std.proofs.lemmas.Bool.Decides.{Decides-and, Decides-by_and, Decides-like, Decides-ltb, Decides-not, nat_tests}
 use Rattle.std.proofs.lemmas.List.{get_or_at, length-append, take-append-drop}
-use Rattle.std.proofs.lemmas.List.Elements.{All-append, All-from_get_or, All-head, All-nil}
+use Rattle.std.proofs.lemmas.List.Elements.{All-append, All-head, All-nil}
 use Rattle.std.proofs.lemmas.List.Folds.{list_any_at, list_any_none}
 use Rattle.std.proofs.lemmas.List.Kept.{AllPairs-cons}
 use Rattle.std.proofs.lemmas.List.Splits.{length-slice_split, slice_split_at}
@@ -24,14 +23,14 @@ use Rattle.password_hash.specs.Pairs.{IsPair, ArePairs, pairs_of, pairs_text}
 use Rattle.password_hash.specs.Parts.{after_prefix, parts_left, parts_of, parts_text}
 use Rattle.password_hash.specs.Phc.{IsHashText, IsKey, IsSalt, base64, hash_parts, hash_text, params_part, salt_and_key_parts, version_part}
 use Rattle.password_hash.specs.PhcReading.{are_bytes_from_to, are_pairs, decoded_bytes, hash_after, hash_of_parts, is_identifier, is_pair, is_value}
-use Rattle.password_hash.specs.PhcReading.{kept, names_differ, params_and_rest, parsed_pairs, read_hash, salt_and_key, version_and_rest, version_of}
+use Rattle.password_hash.specs.PhcReading.{kept, names_differ, params_and_rest, parsed_pairs, read_hash, salt_and_key, version_and_rest}
 use Rattle.password_hash.specs.ShortBytes.{AreBytesFromTo}
 use Rattle.password_hash.specs.declared.phc.hash.PasswordHash.{PasswordHash}
 use Rattle.password_hash.proofs.Base64Facts.{decoded_of-base64}
 use Rattle.password_hash.proofs.DecimalFacts.{IsDecimal-decimal, decimal_found, decimal_of, decimal_only}
 use Rattle.password_hash.proofs.HashFacts.{IsVersion, LacksVersion, lacking_no_version, params_no_version, parts_lack, salt_and_key_lack}
 use Rattle.password_hash.proofs.PairsFacts.{Lacks, equals_of_pairs, pairs_of-pairs_text}
-use Rattle.password_hash.proofs.PartsFacts.{parts_of-parts_text, prefix_stripped, text_of_parts}
+use Rattle.password_hash.proofs.PartsFacts.{parts_of-parts_text, text_of_parts}
 
 -- the tests decide
 
@@ -288,13 +287,12 @@ read_is_hash text hash is = at (parts_of text) refl is
 pub printed_back : (text : List ℕ) (hash : PasswordHash) → read_hash text ≡ Some hash → hash_text hash ≡ text
 printed_back text hash is = sym (read_is_hash text hash is).whole
 
--- a text that begins with no `$` is not read
-pub not_begun : (text : List ℕ) → ((rest : List ℕ) → text ≢ 36 ∷ rest) → read_hash text ≡ None
-not_begun text none = none_exact (IsHashText text) (read_hash text) (λ hash. (read_is_hash text hash, hash_is_read text hash))
-    (λ hash is. none _ is.whole)
-
 pub none_is_read : (text : List ℕ) → ((hash : PasswordHash) → ¬ IsHashText text hash) → read_hash text ≡ None
 none_is_read text = none_exact (IsHashText text) (read_hash text) (λ hash. (read_is_hash text hash, hash_is_read text hash))
+
+-- a text that begins with no `$` is not read
+pub not_begun : (text : List ℕ) → ((rest : List ℕ) → text ≢ 36 ∷ rest) → read_hash text ≡ None
+not_begun text none = none_is_read text (λ hash is. none _ is.whole)
 
 -- two hashes with one text are one
 pub one_reading : (text : List ℕ) (a b : PasswordHash) → IsHashText text a → IsHashText text b → a ≡ b
