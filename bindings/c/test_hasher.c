@@ -355,7 +355,7 @@ static void calibrated(void) {
   WRITE(hook, fork_here);
   IS(scrypt_calibrate(9, (size_t)1 << 20, &log_n, &r, &p), SCRYPT_OK);
   expect(log_n == 10 && r == 8 && p > 1, "the table as large as the bound, and p takes the time: %d %u %u", log_n, r, p);
-  if (getpid() != parent) _exit(failed);
+  if (getpid() != parent) end_child();
   reap_all("forked while it measures");
 }
 

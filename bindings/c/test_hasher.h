@@ -237,6 +237,13 @@ static void fork_in_handler(int number) {
   errno = before;
 }
 
+static void end_child(void) {
+#ifdef HELGRIND
+  VALGRIND_ENABLE_ERROR_REPORTING; /* or each child would print that it is disabled */
+#endif
+  _exit(failed);
+}
+
 /* In a child: the hasher works, and nothing of the parent is in it; exits. */
 static void be_child(scrypt_hasher *hasher, int interrupted) {
   char text[SCRYPT_PHC_CAPACITY];
@@ -249,7 +256,7 @@ static void be_child(scrypt_hasher *hasher, int interrupted) {
   expect(closed != -1 ? right == closed && wrong == closed : right == SCRYPT_OK && wrong == SCRYPT_MISMATCH,
          "in a child: %d %d", right, wrong);
   expect(is_idle(hasher), "something of the parent is left");
-  _exit(failed);
+  end_child();
 }
 
 static void reap(pid_t child, const char *what) {

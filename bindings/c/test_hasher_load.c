@@ -117,7 +117,7 @@ static void key_forked_at_any_time(void) {
   }
   ualarm(0, 0);
   handle(SIGALRM, nothing_in_handler); /* a checker may deliver a signal late */
-  if (getpid() != parent) _exit(failed);
+  if (getpid() != parent) end_child();
   expect(READ(forks) > 5, "%d forks", READ(forks));
   reap_all("forked in a handler during a key");
 }
