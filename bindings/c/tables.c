@@ -30,7 +30,7 @@ size_t tables_for_key(uint8_t log_n, uint32_t r, uint32_t p, scrypt_needs *needs
   if (scrypt_params_need(log_n, r, p, SIZE_MAX, UINT64_MAX, needs) != SCRYPT_OK) return 1;
   if (4 * needs->table_len < LEAST_OF_SEVERAL) return 1;
   fit = MOST_OF_SEVERAL / 4 / needs->table_len;
-  return fit < most ? fit : most;
+  return fit == 0 ? 1 : fit < most ? fit : most;
 }
 
 static int has_huge(const scrypt_needs *one) { return 4 * one->table_len >= HUGE_PAGE; }

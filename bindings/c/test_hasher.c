@@ -282,6 +282,15 @@ static void numbers_of_turns(void) {
   expect(clock() - begun_at < 3 * CLOCKS_PER_SEC / 2, "turns that were never given take time");
 }
 
+/* Several tables pay for one key if they are not tiny, and take at most 128 MiB. */
+static void tables_of_keys(void) {
+  static const struct { uint8_t log_n; uint32_t p; size_t count; } KEYS[] = {
+      {5, 4, 1}, {6, 4, 4}, {14, 1, 1}, {14, 3, 3}, {14, 9, 4}, {15, 4, 4}, {16, 4, 2}, {17, 4, 1}, {18, 1, 1}, {20, 4, 1}, {60, 4, 1}};
+  scrypt_needs needs;
+  for (size_t i = 0; i < sizeof KEYS / sizeof KEYS[0]; i++)
+    expect(tables_for_key(KEYS[i].log_n, 8, KEYS[i].p, &needs) == KEYS[i].count, "tables for (%d, 8, %u)", KEYS[i].log_n, KEYS[i].p);
+}
+
 /* Waits that end in a mixed order, and waits that come back to their places, take n * log n. */
 static double mixed_ends(uint64_t n) {
   scrypt_hasher *hasher = made(1, 1, 4);
@@ -362,6 +371,6 @@ static void calibrated(void) {
 int main(int count, char **names) {
   static const struct test TESTS[] = {
       {"rows", rows}, {"options", options}, {"calls", calls}, {"kept", kept},
-      {"turns", numbers_of_turns}, {"waits", many_waits}, {"processors", processors}, {"calibrated", calibrated}, {NULL, NULL}};
+      {"turns", numbers_of_turns}, {"tables", tables_of_keys}, {"waits", many_waits}, {"processors", processors}, {"calibrated", calibrated}, {NULL, NULL}};
   return run_tests(TESTS, count > 1 ? names[1] : NULL);
 }
