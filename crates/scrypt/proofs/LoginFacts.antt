@@ -1,16 +1,14 @@
 -- Facts on several logins, whose keys are derived at once.
-use Rattle.std.proofs.Common.{◌≡◌, ◌∙◌, ℕ, ◌<◌, ◌≤◌, ◌+◌, ◌*◌, ◌^◌, ◌++◌, length, true, false, refl, sym, ap, ap₂, arith, length-append}
+use Rattle.std.proofs.Common.{◌≡◌, ◌∙◌, ◌<◌, ◌≤◌, ◌+◌, ◌*◌, ◌^◌, ◌++◌, length, true, false, refl, sym, ap, ap₂, arith, length-append}
 use Rattle.std.specs.Prelude.{if◌then◌else◌, Bool, Option, None, Some, Result, Ok, Err, ⊤}
 use Rattle.password_hash.specs.Refusal.{Refusal}
 use Rattle.std.proofs.Math.Nat.{mul-le-mul_right}
-use Rattle.std.proofs.lemmas.Nat.{mul-le}
 use Rattle.std.proofs.lemmas.Bool.Decides.{Decides-and, Decides-eqb, Decides-ltb}
 use Rattle.scrypt_kernel.proofs.Pbkdf2Facts.{length-pbkdf2}
 use Rattle.scrypt.specs.Accepted.{Parameters}
 use Rattle.scrypt.specs.Cost.{chunks_bytes, scratch_words, table_words}
 use Rattle.scrypt.specs.Key.{mixed_chunks}
 use Rattle.scrypt.specs.Logins.{AreLeft, AreVerdicts, Both, Group, One, Readings, all_chunks, all_mixed, joined, shared}
-use Rattle.scrypt.specs.Mixing.{IsWidth}
 use Rattle.scrypt.specs.Reading.{verdict}
 use Rattle.scrypt.specs.WorkInBuffers.{IsDone, Work, has_room, verdict_in}
 use Rattle.scrypt.proofs.AcceptedFacts.{not_true}
@@ -42,20 +40,6 @@ are_joined (Some c) (Some d) e is = at _ (Decides-and _ _ (Decides-and _ _ (Deci
     at false alike is = absurd cc
 are_joined (Some c) None e is = absurd cc
 are_joined None t e is = absurd cc
-
-pub joined_some : (c d : Parameters) (n : ℕ) → c.log_n ≡ d.log_n → c.r ≡ d.r → c.p + d.p < 2 ^ 32 → c.p + d.p ≡ n
-    → joined (Some c) (Some d) ≡ Some (record c { p = n })
-unfolding joined
-joined_some c d n log_n r few sum =
-    let test = (Decides-and _ _ (Decides-and _ _ (Decides-eqb c.log_n d.log_n) (Decides-eqb c.r d.r)) (Decides-ltb (c.p + d.p) (2 ^ 32))).1
-    ((log_n, r), few) in
-    rw (test, sum) refl
-
-pub joined_none : (c d : Parameters) → ¬ ((c.log_n ≡ d.log_n) × (c.r ≡ d.r) × (c.p + d.p < 2 ^ 32)) → joined (Some c) (Some d) ≡ None
-unfolding joined
-joined_none c d apart =
-    let decided = Decides-and _ _ (Decides-and _ _ (Decides-eqb c.log_n d.log_n) (Decides-eqb c.r d.r)) (Decides-ltb (c.p + d.p) (2 ^ 32)) in
-    rw (not_true _ (λ is. let all = decided.0 is in apart (all.0.0, all.0.1, all.1))) refl
 
 -- the chunks of all are one list
 
@@ -130,16 +114,6 @@ no_room_for s c e w one other short =
 pub left_at_once : (s : Option Parameters) (e : Parameters) (First Second : Work → Work → Type 0) (before after : Work) → s ≡ Some e
     → has_room e before ≡ true → IsDone e before after → AreLeft s First Second before after
 left_at_once s e First Second before after is room done = rw (is, room) done
-
-fits_one : (n w len : ℕ) → 0 < w → w * n ≤ len → n ≤ len
-fits_one n w len some fits = omega (arith, fits, mul-le 1 n w n some (omega arith))
-
-pub room_by_width : (e : Parameters) (m : Work) (w : ℕ) → IsWidth e.log_n e.r e.p w m.chunks m.table m.scratch → has_room e m ≡ true
-room_by_width e m w width = room_enough e m (record {
-  chunks_fit = width.chunks_fit;
-  table_fits = fits_one (table_words e.log_n e.r) w _ width.memory.some width.memory.tables;
-  scratch_fits = fits_one (scratch_words e.r) w _ width.memory.some width.memory.scratches;
-})
 
 -- how many bytes the chunks of one have
 pub ruleset lens_of_chunks = (length-pbkdf2, length-mixed_chunks)

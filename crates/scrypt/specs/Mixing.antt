@@ -1,7 +1,6 @@
 -- Private: the chunks of B, mixed one after another, and the memory for it.
-use Rattle.std.specs.Prelude.{◌≡◌, ℕ, ◌-◌, ◌*◌, ◌<◌, ◌≤◌, List, length, take, drop}
-use Rattle.scrypt.specs.Accepted.{Parameters}
-use Rattle.scrypt.specs.Cost.{chunks_bytes, scratch_words, table_words, thin_scratch_words}
+use Rattle.std.specs.Prelude.{◌≡◌, ℕ, ◌*◌, ◌<◌, ◌≤◌, List, length, take, drop}
+use Rattle.scrypt.specs.Cost.{chunks_bytes, scratch_words, table_words}
 use Rattle.scrypt.specs.Key.{mixed_chunks}
 use Rattle.scrypt.specs.WorkInBuffers.{at_once}
 
@@ -9,13 +8,6 @@ use Rattle.scrypt.specs.WorkInBuffers.{at_once}
 pub record AreMixed (b : List ℕ) (log_n r i : ℕ) (x : List ℕ) : Type 0 where
   pub done : take (i * (128 * r)) x ≡ mixed_chunks b log_n r i
   pub rest : drop (i * (128 * r)) x ≡ drop (i * (128 * r)) b
-
--- room, in words, for a table that keeps one row in 2 ^ s and for its scratch
-pub record HasRoom (c : Parameters) (s room scratch : ℕ) : Type 0 where
-  pub spacing : s ≤ c.log_n
-  pub table : table_words (c.log_n - s) c.r ≤ room
-  pub scratch_fits : scratch_words c.r ≤ scratch
-  pub spare : 0 < s → thin_scratch_words c.r ≤ scratch
 
 -- room, in words, for w tables and w scratches, in which w chunks are mixed at a time
 pub record HasTables (log_n r w room scratch : ℕ) : Type 0 where

@@ -61,10 +61,8 @@ pub fn used_lens(
     ensures enough { IsSome result ↔ AreEnough params.now chunks.now table.now scratch.now }
     ensures used { IfSome result (λ lens. AreUsed params.now lens chunks.now table.now scratch.now) }
 {
-    match width_in(params, params.p(), chunks, table, scratch) {
-        Some(width) => Some(BufferLens::times(params, width)),
-        None => None,
-    }
+    let width = width_in(params, params.p(), chunks, table, scratch)?;
+    Some(BufferLens::times(params, width))
 }
 
 /// Buffers for one derivation.

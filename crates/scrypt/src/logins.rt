@@ -5,6 +5,7 @@ ghost use Rattle.std.specs.Option.{option_map};
 ghost use Rattle.password_hash.specs.Refusal.{Refusal};
 ghost use Rattle.scrypt.specs.Accepted.{Parameters};
 ghost use Rattle.scrypt.specs.Cost.{chunks_bytes};
+ghost use Rattle.scrypt.specs.InBuffers.{AreEnough};
 ghost use Rattle.scrypt.specs.Logins.{AreVerdicts, Both, Group, One, all_chunks, all_mixed, are_left, joined, reading_of, shared};
 ghost use Rattle.scrypt.specs.Mixing.{IsWidth};
 ghost use Rattle.scrypt.specs.Reading.{Stored, verdict};
@@ -221,7 +222,7 @@ impl<A: Logins, B: Logins> Logins for (A, B) {
 
 // Returns the parameters of two groups at once and the number of their chunks, if they have any, the same `N` and
 // the same `r`.
-#[tactic(auto, using(crate::proofs::LoginFacts::joined_some, crate::proofs::LoginFacts::joined_none), unfolding(crate::specs::Logins::joined))]
+#[tactic(auto, unfolding(crate::specs::Logins::joined))]
 fn joined(first: Option<(Params, u32)>, second: Option<(Params, u32)>) -> Option<(Params, u32)>
     requires first { IfSome first (λ got. 0 < got.1) }
     ensures some { IfSome result (λ got. 0 < got.1) }
@@ -246,6 +247,7 @@ fn room_for<L: Keys>(
 ) -> Option<(Params, u32, usize)>
     ensures shared { IfSome result (λ got. shared (L.logins logins.now) ≡ Some (record got.0 { p = got.1 })) }
     ensures width { IfSome result (λ got. IsWidth got.0.log_n got.0.r got.1 got.2 chunks.now table.now scratch.now) }
+    ensures room { IfSome result (λ got. AreEnough (record got.0 { p = got.1 }) chunks.now table.now scratch.now) }
     ensures none { result ≡ None → (c : Parameters) (cores : CoreCount) → shared (L.logins logins.now) ≡ Some c
         → has_room c (work_in chunks.now table.now scratch.now cores) ≡ false }
 {

@@ -99,15 +99,10 @@ impl Params {
         ensures accepted { IsOk result ↔ AreAccepted log_n r p × IsStoredLen len }
         ensures value { IfOk result (λ made. made ≡ record { log_n = log_n; r = r; p = p; output_len = Some len }) }
     {
-        if !(Output::MIN_LENGTH..=Output::MAX_LENGTH).contains(&len) || !are_accepted(log_n, r, p) {
+        if !(Output::MIN_LENGTH..=Output::MAX_LENGTH).contains(&len) {
             return Err(InvalidParams);
         }
-        Ok(Params {
-            log_n,
-            r,
-            p,
-            output_len: Some(len),
-        })
+        Ok(Params::new(log_n, r, p)?.with_output_len(len))
     }
 
     /// Returns the recommended parameters.

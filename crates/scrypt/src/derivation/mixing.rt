@@ -7,7 +7,7 @@ ghost use Rattle.scrypt_kernel.specs.Table.{thin_ro_mix_cost};
 ghost use Rattle.scrypt_kernel.specs.Words.{part, words_of};
 ghost use Rattle.scrypt.specs.Cost.{chunks_bytes, cost, scratch_words, table_words, thin_chunks_cost, thin_scratch_words};
 ghost use Rattle.scrypt.specs.Key.{mixed_chunks};
-ghost use Rattle.scrypt.specs.Mixing.{AreMixed, HasRoom, HasTables};
+ghost use Rattle.scrypt.specs.Mixing.{AreMixed, HasTables};
 
 use crate::{CoreCount, Params};
 use scrypt_kernel::memory::Memory;
@@ -94,7 +94,10 @@ pub(crate) fn mix_thin<M: Memory>(
     cores: &mut CoreCount,
 )
     requires chunks { length chunks.old ≡ chunks_bytes params.now.r params.now.p }
-    requires memory { HasRoom params.now s (M.room rows.old) (length scratch.old) }
+    requires spacing { s ≤ params.now.log_n }
+    requires table { table_words (params.now.log_n - s) params.now.r ≤ M.room rows.old }
+    requires scratch { scratch_words params.now.r ≤ length scratch.old }
+    requires spare { 0 < s → thin_scratch_words params.now.r ≤ length scratch.old }
     ensures value { chunks.new ≡ mixed_chunks chunks.old params.now.log_n params.now.r params.now.p }
     ensures counted { AreCounted (thin_chunks_cost chunks.old params.now.log_n params.now.r params.now.p s)
         cores.old cores.new }

@@ -25,30 +25,23 @@ impl TryFrom<&ParamsString> for Params {
     /// not a decimal of at most 255 or `r` or `p` is not a decimal, and `ParamsInvalid` for any
     /// other name. Otherwise returns `ParamsInvalid` if [`Params::new`] does not accept the
     /// parameters.
+    #[tactic(auto, using(crate::proofs::AcceptedFacts::reading_numbers), unfolding(crate::specs::PhcParams::read_pairs))]
     fn try_from(text: &ParamsString) -> Result<Params> {
-        params_of_pairs(text)
-    }
-}
-
-// Reads `ln`, `r` and `p`.
-#[tactic(auto, using(crate::proofs::AcceptedFacts::reading_numbers), unfolding(crate::specs::PhcParams::read_pairs))]
-fn params_of_pairs(text: &ParamsString) -> Result<Params>
-    ensures { told result ≡ params_of_pairs text.now }
-{
-    let mut log_n = Params::RECOMMENDED_LOG_N;
-    let mut r = Params::RECOMMENDED_R;
-    let mut p = Params::RECOMMENDED_P;
-    'pairs: for (name, value) in text.iter() {
-        match name.as_str() {
-            "ln" => log_n = log_n_of(value)?,
-            "r" => r = number_of(value, "r")?,
-            "p" => p = number_of(value, "p")?,
-            _ => return Err(Error::ParamsInvalid),
+        let mut log_n = Params::RECOMMENDED_LOG_N;
+        let mut r = Params::RECOMMENDED_R;
+        let mut p = Params::RECOMMENDED_P;
+        'pairs: for (name, value) in text.iter() {
+            match name.as_str() {
+                "ln" => log_n = log_n_of(value)?,
+                "r" => r = number_of(value, "r")?,
+                "p" => p = number_of(value, "p")?,
+                _ => return Err(Error::ParamsInvalid),
+            }
         }
-    }
-    match Params::new(log_n, r, p) {
-        Ok(params) => Ok(params),
-        Err(_) => Err(Error::ParamsInvalid),
+        match Params::new(log_n, r, p) {
+            Ok(params) => Ok(params),
+            Err(_) => Err(Error::ParamsInvalid),
+        }
     }
 }
 
@@ -92,7 +85,7 @@ impl TryFrom<&PasswordHash> for Params {
         if hash.version.is_some() {
             return Err(Error::Version);
         }
-        match params_of_pairs(&hash.params) {
+        match Params::try_from(&hash.params) {
             Ok(params) => Ok(params.with_output_len(output_len_of(hash))),
             Err(refused) => Err(refused),
         }

@@ -1,6 +1,6 @@
 use Rattle.std.proofs.Common.{◌≡◌}
 use Rattle.scrypt.specs.PhcParams.{params_of_pairs, read_pairs}
-use Rattle.scrypt.proofs.phc.params.params_of_pairs.Given as goal
+use Rattle.scrypt.proofs.phc.params.ParamsTryFromRefParamsString.try_from.Given as goal
 
 -- what is left gives what all gives
 abbrev pub invariant-pairs : goal.invariant-pairs
