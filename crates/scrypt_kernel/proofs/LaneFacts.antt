@@ -105,34 +105,24 @@ pub lanes_joined : (l : List ℕ × List ℕ × List ℕ × List ℕ) (x : List 
 lanes_joined l x long is = ap joined is ∙ joined_lanes x long
 
 pub length-joined : (l : List ℕ × List ℕ × List ℕ × List ℕ) → AreFourEach l → length (joined l) ≡ 16
-length-joined l four =
-    let one = length-append l.0 l.1 in
-    let two = length-append (l.0 ++ l.1) l.2 in
-    let three = length-append ((l.0 ++ l.1) ++ l.2) l.3 in
-    omega (arith, one, two, three, four.a, four.b, four.c, four.d)
+length-joined l four = simp length-append (omega (arith, four.a, four.b, four.c, four.d))
 
 pub length-round : (x : List ℕ) → length (diagonal_round x) ≡ length x
 length-round x = length-permuted pivot _ ∙ length-double_round _ ∙ length-permuted inverse_pivot x
-
--- an operation on lists that are joined
-zip2-append : (f : ℕ → ℕ → ℕ) (a b x y : List ℕ) → length a ≡ length b → zip2 f (a ++ x) (b ++ y) ≡ zip2 f a b ++ zip2 f x y
-zip2-append f [] [] x y same = refl
-zip2-append f [] (b ∷ bs) x y same = absurd (omega arith)
-zip2-append f (a ∷ us) [] x y same = absurd (omega arith)
-zip2-append f (a ∷ us) (b ∷ bs) x y same = ap (λ z. f a b ∷ z) (zip2-append f us bs x y (omega arith))
 
 -- an operation on the lanes of two blocks
 pub zip_joined : (f : ℕ → ℕ → ℕ) (l m : List ℕ × List ℕ × List ℕ × List ℕ) → AreFourEach l → AreFourEach m
     → joined (zip2 f l.0 m.0, zip2 f l.1 m.1, zip2 f l.2 m.2, zip2 f l.3 m.3) ≡ zip2 f (joined l) (joined m)
 zip_joined f l m four_l four_m =
-    let same = four_l.a ∙ sym four_m.a in
-    let both : length (l.0 ++ l.1) ≡ length (m.0 ++ m.1) =
-    omega (arith, length-append l.0 l.1, length-append m.0 m.1, same, four_l.b, four_m.b) in
-    let three : length ((l.0 ++ l.1) ++ l.2) ≡ length ((m.0 ++ m.1) ++ m.2) =
-    omega (arith, length-append (l.0 ++ l.1) l.2, length-append (m.0 ++ m.1) m.2, both, four_l.c, four_m.c) in
-    sym (zip2-append f ((l.0 ++ l.1) ++ l.2) ((m.0 ++ m.1) ++ m.2) l.3 m.3 three
-    ∙ ap (λ z. z ++ zip2 f l.3 m.3) (zip2-append f (l.0 ++ l.1) (m.0 ++ m.1) l.2 m.2 both
-    ∙ ap (λ z. z ++ zip2 f l.2 m.2) (zip2-append f l.0 m.0 l.1 m.1 same)))
+    four_vectors (λ a b c d. joined (zip2 f a m.0, zip2 f b m.1, zip2 f c m.2, zip2 f d m.3) ≡ zip2 f (joined (a, b, c, d)) (joined m))
+    (λ a0 a1 a2 a3 b0 b1 b2 b3 c0 c1 c2 c3 d0 d1 d2 d3.
+    let a = a0 ∷ a1 ∷ a2 ∷ a3 ∷ [] in
+    let b = b0 ∷ b1 ∷ b2 ∷ b3 ∷ [] in
+    let c = c0 ∷ c1 ∷ c2 ∷ c3 ∷ [] in
+    let d = d0 ∷ d1 ∷ d2 ∷ d3 ∷ [] in
+    four_vectors (λ w x y z. joined (zip2 f a w, zip2 f b x, zip2 f c y, zip2 f d z) ≡ zip2 f (joined (a, b, c, d)) (joined (w, x, y, z)))
+    (λ w0 w1 w2 w3 x0 x1 x2 x3 y0 y1 y2 y3 z0 z1 z2 z3. refl) m.0 four_m.a m.1 four_m.b m.2 four_m.c m.3 four_m.d)
+    l.0 four_l.a l.1 four_l.b l.2 four_l.c l.3 four_l.d
 
 -- a double round of a block that is in standard order
 next_round : (s : List ℕ) → length s ≡ 16 → diagonal_round (diagonal_order s) ≡ diagonal_order (double_round s)

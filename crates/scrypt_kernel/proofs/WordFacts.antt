@@ -1,10 +1,10 @@
 -- Facts on lists of words.
 use Rattle.std.proofs.Common.{◌≡◌, ℕ, zero, suc, ◌<◌, ◌≤◌, ◌*◌, List, [], ◌∷◌, length, take, drop}
-use Rattle.std.proofs.Common.{bit_xor, refl, get_or, sym, ap, ◌∙◌, arith}
+use Rattle.std.proofs.Common.{refl, get_or, sym, ap, ◌∙◌, arith}
 use Rattle.std.proofs.lemmas.List.{ext_get_or, places}
 use Rattle.std.specs.Simd.Lanes.{zip2}
 use Rattle.std.proofs.lemmas.Simd.{length-zip2, get_or-zip2}
-use Rattle.scrypt_kernel.specs.Words.{bytes_of, part, xor_words}
+use Rattle.scrypt_kernel.specs.Words.{bytes_of, part}
 
 -- a list that holds f of two lists at each place
 pub zip2_all : (f : ℕ → ℕ → ℕ) (x y out : List ℕ) → length out ≡ length x → length x ≡ length y

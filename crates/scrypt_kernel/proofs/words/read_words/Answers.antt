@@ -1,5 +1,4 @@
 use Rattle.std.proofs.Common.{◌/◌, length, arith}
-use Rattle.std.proofs.lemmas.Grind.{common_steps}
 use Rattle.std.proofs.lemmas.List.FromFn.{fill_by_all}
 use Rattle.scrypt_kernel.specs.Words.{le_number, part}
 use Rattle.scrypt_kernel.proofs.words.read_words.Goals as goal
