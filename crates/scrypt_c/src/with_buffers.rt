@@ -144,13 +144,8 @@ pub extern "C" fn scrypt_verify_with_buffers(
         chunks.new table.new scratch.new }
 {
     let mut cores = CoreCount::new();
-    match stored_hash(text) {
-        Ok(hash) => {
-            let verified = hash.verify_with_buffers(password, chunks, table, scratch, &mut cores);
-            buffers_status(verified)
-        }
-        Err(error) => buffers_status::<()>(Err(error)),
-    }
+    let verdict = login(password, text).verify(chunks, table, scratch, &mut cores);
+    status(verdict)
 }
 
 /// Verifies four passwords, each with its own hash, in the caller's buffers. Does not allocate. If there are fewer, the
@@ -232,7 +227,7 @@ pub extern "C" fn scrypt_wipe(chunks: &mut [u8], table: &mut [u32], scratch: &mu
     wipe(chunks, table, scratch);
 }
 
-// Returns the status of the result of hashing or verifying in the caller's buffers.
+// Returns the status of the result of hashing in the caller's buffers.
 fn buffers_status<T: Drop>(done: Result<T>) -> i32
     ensures status { result ≡ buffers_status (told done) }
     ensures ok { (result ≡ OK) ↔ IsOk done }
