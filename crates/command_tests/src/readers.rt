@@ -49,22 +49,6 @@ fn readers_that_fail(rt: HostRuntime) -> Result<(), Fail> {
     Ok(())
 }
 
-#[test]
-fn long_password_in_pieces(rt: HostRuntime) -> Result<(), Fail> {
-    let password = vec![in rt.alloc(); b'x'; 99_999]?;
-    for &(most, reason) in &[
-        (1, "one byte a call"),
-        (1000, "less than is asked for"),
-        (usize::MAX, "all that is asked for"),
-    ] {
-        let mut input = Input::new(&password, most);
-        let page = Page::new();
-        let printed = run_line(rt.alloc(), "key 4 1 1 16 ", &mut input, page, Page::new())?;
-        printed.check(DONE, "d9d598b48803bb1bbed2d5892c9870b3\n", "", reason)?;
-    }
-    Ok(())
-}
-
 // How many bytes a reader gives a call, how many a writer takes, and the reason for the row.
 const SLOW_STREAMS: [(usize, usize, &str); 4] = [
     (usize::MAX, usize::MAX, "everything at once"),
@@ -82,79 +66,6 @@ fn slow_streams(rt: HostRuntime) -> Result<(), Fail> {
             let printed = run_line(rt.alloc(), line, &mut input, output, Page::new())?;
             printed.check(Ended { status, ..DONE }, written, "", reason)?;
         }
-    }
-    Ok(())
-}
-
-// A command line over a reader that fails at once, its status and fault line, and the reason.
-const ORDERS: [(&str, u8, &str, &str); 9] = [
-    (
-        "verify $scrypt$",
-        2,
-        "hash refused: EncodingInvalid\n",
-        "a PHC text is read before the input",
-    ),
-    (
-        "verify $argon2id",
-        4,
-        "input failed\n",
-        "its algorithm is looked at after the input",
-    ),
-    (
-        "verify $scrypt",
-        4,
-        "input failed\n",
-        "a missing salt is a verdict, after the input",
-    ),
-    (
-        "verify $7$",
-        4,
-        "input failed\n",
-        "a modular text, whose fields are read after the input",
-    ),
-    (
-        "verify $7$2/..../....$",
-        4,
-        "input failed\n",
-        "its key is read after the input",
-    ),
-    (
-        "hash phc 4 1 1 ",
-        4,
-        "input failed\n",
-        "the length of a salt is looked at after the input",
-    ),
-    (
-        "rehash phc 4 1 1 32  $scrypt$",
-        2,
-        "hash refused: EncodingInvalid\n",
-        "the text of the old hash is read before the input",
-    ),
-    (
-        "rehash phc 4 1 1 32  $argon2id",
-        4,
-        "input failed\n",
-        "its algorithm is looked at after the input",
-    ),
-    (
-        "rehash phc 5 1 1 32  $7$2/..../....$rNxJWVHNv/mCNcgE/f6/L4zO6Fos5c2uTzhyzoisI62",
-        4,
-        "input failed\n",
-        "the length of a new salt is looked at after the input",
-    ),
-];
-
-#[test]
-fn order_of_reading_and_refusing(rt: HostRuntime) -> Result<(), Fail> {
-    for &(line, status, fault, reason) in &ORDERS {
-        let mut input = Input::failing(b"", ErrorKind::Other);
-        let printed = run_line(rt.alloc(), line, &mut input, Page::new(), Page::new())?;
-        let ended = Ended {
-            status,
-            input_failed: status == 4,
-            fault_told: true,
-        };
-        printed.check(ended, "", fault, reason)?;
     }
     Ok(())
 }

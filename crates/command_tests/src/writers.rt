@@ -48,47 +48,29 @@ fn writers_that_fail(rt: HostRuntime) -> Result<(), Fail> {
     Ok(())
 }
 
+// The kind of an error, and whether a write that fails with it is tried again. A flush is not.
+const KINDS: [(ErrorKind, bool, &str); 2] = [
+    (ErrorKind::Other, false, "fails once"),
+    (ErrorKind::Interrupted, true, "is interrupted once"),
+];
+
 // With one byte a call, the call after the last byte is the flush.
 #[test]
 fn writers_that_fail_at_each_call(rt: HostRuntime) -> Result<(), Fail> {
-    for &(line, _, written, _) in &COMMANDS {
-        for call in 0..=written.len() {
-            let input = &mut b"password".as_slice();
-            let printed = run_line(rt.alloc(), line, input, Page::failing(1, call), Page::new())?;
-            let text = first(written, call);
-            printed.check(OUTPUT_FAILED, text, "output failed\n", "fails once")?;
-        }
-    }
-    Ok(())
-}
-
-// A write that is interrupted is tried again by write_all, as a read is not.
-#[test]
-fn writes_that_are_interrupted(rt: HostRuntime) -> Result<(), Fail> {
     for &(line, status, written, _) in &COMMANDS {
-        for call in 0..written.len() {
-            let input = &mut b"password".as_slice();
-            let output = Page::failing_by(ErrorKind::Interrupted, 1, call);
-            let printed = run_line(rt.alloc(), line, input, output, Page::new())?;
-            printed.check(Ended { status, ..DONE }, written, "", "interrupted once")?;
+        for &(kind, again, reason) in &KINDS {
+            for call in 0..=written.len() {
+                let input = &mut b"password".as_slice();
+                let output = Page::failing_by(kind, 1, call);
+                let printed = run_line(rt.alloc(), line, input, output, Page::new())?;
+                if again && call < written.len() {
+                    printed.check(Ended { status, ..DONE }, written, "", reason)?;
+                } else {
+                    let text = first(written, call);
+                    printed.check(OUTPUT_FAILED, text, "output failed\n", reason)?;
+                }
+            }
         }
-    }
-    Ok(())
-}
-
-// A flush that is interrupted is not.
-#[test]
-fn flushes_that_are_interrupted(rt: HostRuntime) -> Result<(), Fail> {
-    for &(line, _, written, _) in &COMMANDS {
-        let input = &mut b"password".as_slice();
-        let output = Page::failing_by(ErrorKind::Interrupted, 1, written.len());
-        let printed = run_line(rt.alloc(), line, input, output, Page::new())?;
-        printed.check(
-            OUTPUT_FAILED,
-            written,
-            "output failed\n",
-            "interrupted at the flush",
-        )?;
     }
     Ok(())
 }
