@@ -1,5 +1,3 @@
--- The numbers of limits.
-pub mod BoundsFacts
 -- The options before a command.
 pub mod OptionsFacts
 -- The words of the arguments.

@@ -1,6 +1,6 @@
 -- The arguments of each command, with their decimals read.
 use Rattle.std.specs.Prelude.{ℕ, ◌^◌, bytes_eq, if◌then◌else◌, List, [], ◌∷◌, codes, map, Option, Some, None}
-use Rattle.std.specs.Prelude.{Bool, length, nat_eq, option_and_then, option_map, String, string_bytes}
+use Rattle.std.specs.Prelude.{Bool, false, true, ◌&&◌, is_some, option_and_then, option_map, String, string_bytes}
 use Rattle.std.specs.Global.{Global}
 use Rattle.password_hash.specs.Decimal.{decimal_below}
 use Rattle.scrypt_commands.specs.declared.args.Format.{Format}
@@ -14,11 +14,17 @@ pub data SaltArg : Type 0 where
   Digits : (digits : List ℕ) → SaltArg
   Drawn : (salt : List ℕ) → SaltArg
 
--- the arguments of a command: the digits of a salt and the text of a hash are not read yet
+-- what is to be made of a password: the digits of a salt are not read yet
+pub record MakingArgs : Type 0 where
+  pub target : Target
+  pub unchecked : UncheckedParams
+  pub salt : SaltArg
+
+-- The arguments of a command. The text of a hash is not read yet; there may be something to make in its place, if the hash is
+-- weaker than that.
 pub data CommandArgs : Type 0 where
-  MakeArgs : (target : Target) (unchecked : UncheckedParams) (salt : SaltArg) → CommandArgs
-  VerifyArgs : (text : List ℕ) → CommandArgs
-  RehashArgs : (format : Format) (unchecked : UncheckedParams) (salt : SaltArg) (text : List ℕ) → CommandArgs
+  MakeArgs : (making : MakingArgs) → CommandArgs
+  VerifyArgs : (text : List ℕ) (wanted : Option MakingArgs) → CommandArgs
 
 -- the texts of arguments
 abbrev pub texts_of : List (String Global) → List (List ℕ)
@@ -39,9 +45,14 @@ abbrev pub last_word : List (List ℕ) → Option (List ℕ)
 last_word (word ∷ []) = Some word
 last_word words = None
 
--- LOG_N R P, the first below 2 ^ 8 and the others below 2 ^ 32, and the words after them
-unfoldable pub params_word : List (List ℕ) → Option (UncheckedParams × List (List ℕ))
-params_word words = do
+-- the recommended parameters
+abbrev pub recommended : UncheckedParams
+recommended = record { log_n = 17; r = 8; p = 1; key_len = None }
+
+-- LOG_N R P, the first below 2 ^ 8 and the others below 2 ^ 32, and the words after them; the recommended parameters have no words
+unfoldable pub params_word : Bool → List (List ℕ) → Option (UncheckedParams × List (List ℕ))
+params_word true words = Some (recommended, words)
+params_word false words = do
   (log_n, words) ← first_word words
   (r, words) ← first_word words
   (p, words) ← first_word words
@@ -79,54 +90,40 @@ optional_len words = do
   Some (Some len)
 
 -- after `key`: LOG_N R P LEN SALT_HEX
-unfoldable pub key_args : List (List ℕ) → Option CommandArgs
+unfoldable pub key_args : List (List ℕ) → Option MakingArgs
 key_args words = do
-  (params, words) ← params_word words
+  (params, words) ← params_word false words
   (len, words) ← len_word words
   salt_hex ← last_word words
-  Some (MakeArgs (Key len) params (Digits salt_hex))
+  Some (record { target = Key len; unchecked = params; salt = Digits salt_hex })
 
--- phc|mcf LOG_N R P SALT_HEX [LEN]
-unfoldable pub numbered_args : Option (List ℕ) → List (List ℕ) → Option CommandArgs
-numbered_args drawn words = do
+-- after `hash`: phc|mcf LOG_N R P SALT_HEX [LEN], or phc|mcf SALT_HEX for the recommended parameters
+unfoldable pub hash_args : Bool → Option (List ℕ) → List (List ℕ) → Option MakingArgs
+hash_args is_recommended drawn words = do
   (format, words) ← format_word words
-  (params, words) ← params_word words
+  (params, words) ← params_word is_recommended words
   (salt, words) ← salt_word drawn words
   len ← optional_len words
-  Some (MakeArgs (Hash format) (record params { key_len = len }) salt)
-
--- the recommended parameters
-abbrev pub recommended : UncheckedParams
-recommended = record { log_n = 17; r = 8; p = 1; key_len = None }
-
--- phc|mcf SALT_HEX, for the recommended parameters
-unfoldable pub recommended_args : Option (List ℕ) → List (List ℕ) → Option CommandArgs
-recommended_args drawn words = do
-  (format, words) ← format_word words
-  (salt, words) ← salt_word drawn words
-  if nat_eq (length words) 0 then Some (MakeArgs (Hash format) recommended salt) else None
-
--- after `hash`
-abbrev pub hash_args : Bool → Option (List ℕ) → List (List ℕ) → Option CommandArgs
-hash_args is_recommended drawn words = if is_recommended then recommended_args drawn words else numbered_args drawn words
+  if is_recommended && is_some len then None
+      else Some (record { target = Hash format; unchecked = record params { key_len = len }; salt = salt })
 
 -- after `rehash`: phc|mcf LOG_N R P LEN SALT_HEX HASH
 unfoldable pub rehash_args : Option (List ℕ) → List (List ℕ) → Option CommandArgs
 rehash_args drawn words = do
   (format, words) ← format_word words
-  (params, words) ← params_word words
+  (params, words) ← params_word false words
   (len, words) ← len_word words
   (salt, words) ← salt_word drawn words
   text ← last_word words
-  Some (RehashArgs format (record params { key_len = Some len }) salt text)
+  Some (VerifyArgs text (Some (record { target = Hash format; unchecked = record params { key_len = Some len }; salt = salt })))
 
 -- The arguments of a command, after the program's name. A salt may have been drawn, and the parameters of `hash` be the
 -- recommended ones: then no words stand for these.
 unfoldable pub args_of : Bool → Option (List ℕ) → List (List ℕ) → Option CommandArgs
 args_of is_recommended drawn words = do
   (name, words) ← first_word words
-  if bytes_eq name (codes "key") then key_args words
-      else if bytes_eq name (codes "hash") then hash_args is_recommended drawn words
-      else if bytes_eq name (codes "verify") then last_word words >>= (λ text. Some (VerifyArgs text))
+  if bytes_eq name (codes "key") then option_map MakeArgs (key_args words)
+      else if bytes_eq name (codes "hash") then option_map MakeArgs (hash_args is_recommended drawn words)
+      else if bytes_eq name (codes "verify") then option_map (λ text. VerifyArgs text None) (last_word words)
       else if bytes_eq name (codes "rehash") then rehash_args drawn words
       else None

@@ -16,24 +16,6 @@ status_of InputFailed = 4
 status_of OutputFailed = 4
 status_of refused = 2
 
--- what a hash needs that needs more than one of the limits
-abbrev pub needed_text : ℕ → ℕ → List ℕ
-needed_text bytes work = (codes "hash refused: TooCostly, it needs " ++ decimal bytes) ++ (codes " bytes and work " ++ decimal work)
-
--- what is allowed
-abbrev pub allowed_text : Limits → List ℕ
-allowed_text limits =
-    (codes ", and --most-bytes is " ++ decimal limits.most_bytes) ++ (codes " and --most-work " ++ decimal limits.most_work)
-
--- the line with both
-abbrev pub too_costly_line : ℕ → ℕ → Limits → List ℕ
-too_costly_line bytes work limits = needed_text bytes work ++ (allowed_text limits ++ codes "\n")
-
--- the line of a hash whose key is too short: how long it is, and how long it has to be
-abbrev pub too_short_line : ℕ → Limits → List ℕ
-too_short_line key_len limits = (codes "hash refused: KeyTooShort, its key has " ++ decimal key_len)
-    ++ ((codes " bytes, and --least-key-len is " ++ decimal limits.least_key_len) ++ codes "\n")
-
 -- the line of an error, with its newline: that of a refused hash has the name of the library's error, and of its parameter
 abbrev pub error_line : CliError → List ℕ
 error_line Usage =
@@ -50,8 +32,10 @@ error_line PInvalid = codes "hash refused: ParamInvalid p\n"
 error_line ParamsInvalid = codes "hash refused: ParamsInvalid\n"
 error_line SaltInvalid = codes "hash refused: SaltInvalid\n"
 error_line Version = codes "hash refused: Version\n"
-error_line (TooCostly bytes work limits) = too_costly_line bytes work limits
-error_line (KeyTooShort key_len limits) = too_short_line key_len limits
+error_line (TooCostly bytes work limits) = codes "hash refused: TooCostly, it needs " ++ decimal bytes ++ codes " bytes and work " ++ decimal work
+    ++ codes ", and --most-bytes is " ++ decimal limits.most_bytes ++ codes " and --most-work " ++ decimal limits.most_work ++ codes "\n"
+error_line (KeyTooShort key_len limits) = codes "hash refused: KeyTooShort, its key has " ++ decimal key_len
+    ++ codes " bytes, and --least-key-len is " ++ decimal limits.least_key_len ++ codes "\n"
 error_line OutOfMemory = codes "out of memory\n"
 error_line InputFailed = codes "input failed\n"
 error_line OutputFailed = codes "output failed\n"

@@ -1,22 +1,26 @@
 -- What the arguments ask for, or the error of the first thing that is wrong with them. They are read in this order:
 -- the arguments and their decimals, the salt, the parameters, the length of the key, the text of a hash.
-use Rattle.std.specs.Prelude.{◌≡◌, ℕ, ◌&&◌, Bool, false, true, nat_le, if◌then◌else◌, List, Option, None, Some, Result, Ok, Err, ⊤}
+use Rattle.std.specs.Prelude.{ℕ, ◌&&◌, Bool, false, true, nat_le, if◌then◌else◌, List, Option, None, Some, Result, Ok, Err, IsErr}
 use Rattle.hex.specs.Hex.{decode_of}
 use Rattle.scrypt.specs.Accepted.{Parameters, are_accepted, is_output_len}
 use Rattle.scrypt.specs.StoredHash.{is_stored_text}
-use Rattle.scrypt_commands.specs.Args.{CommandArgs, Digits, Drawn, MakeArgs, RehashArgs, SaltArg, VerifyArgs, args_of}
-use Rattle.scrypt_commands.specs.declared.args.Format.{Format}
+use Rattle.scrypt_commands.specs.Args.{CommandArgs, Digits, Drawn, MakeArgs, MakingArgs, SaltArg, VerifyArgs, args_of}
 use Rattle.scrypt_commands.specs.declared.args.Target.{Target}
 use Rattle.scrypt_commands.specs.declared.args.Target.TheVariants.{Key, Hash}
 use Rattle.scrypt_commands.specs.declared.args.UncheckedParams.{UncheckedParams}
 use Rattle.scrypt_commands.specs.declared.error.CliError.{CliError}
-use Rattle.scrypt_commands.specs.declared.error.CliError.TheVariants.{Usage, SaltNotHex, InvalidParams, InvalidOutputLen}
+use Rattle.scrypt_commands.specs.declared.error.CliError.TheVariants.{EncodingInvalid, InvalidOutputLen, InvalidParams, SaltNotHex, Usage}
 
--- what arguments ask for, with their salt; the text of a hash is not read yet
+-- what is to be made of a password
+pub record Making : Type 0 where
+  pub target : Target
+  pub params : Parameters
+  pub salt : List ℕ
+
+-- what arguments ask for: to make something, or to verify a hash, and to make something in its place if it is weaker
 pub data Request : Type 0 where
-  ToMake : (target : Target) (params : Parameters) (salt : List ℕ) → Request
-  ToVerify : (text : List ℕ) → Request
-  ToRehash : (format : Format) (wanted : Parameters) (salt text : List ℕ) → Request
+  ToMake : (making : Making) → Request
+  ToVerify : (text : List ℕ) (wanted : Option Making) → Request
 
 -- the second step, if the first gave a value
 infixl 10 ◌>>=◌
@@ -39,56 +43,47 @@ unfoldable pub is_stored_len : Option ℕ → Bool
 is_stored_len None = true
 is_stored_len (Some len) = nat_le 10 len && nat_le len 64
 
--- whether parameters are accepted
-abbrev pub are_params_accepted : UncheckedParams → Bool
-are_params_accepted unchecked = are_accepted unchecked.log_n unchecked.r unchecked.p && is_stored_len unchecked.key_len
-
--- the parameters, if they are
-abbrev pub params_of : UncheckedParams → Parameters
-params_of unchecked =
-    record { log_n = unchecked.log_n; r = unchecked.r; p = unchecked.p; output_len = unchecked.key_len }
-
--- the salt, and the parameters if they are accepted
-unfoldable pub salt_and_params : UncheckedParams → SaltArg → Result (List ℕ × Parameters) CliError
-salt_and_params unchecked salt = do
-  salt ← salt_of salt
-  if are_params_accepted unchecked then Ok (salt, params_of unchecked) else Err InvalidParams
+-- the parameters, if they are accepted
+unfoldable pub checked_params : UncheckedParams → Result Parameters CliError
+checked_params it =
+    if are_accepted it.log_n it.r it.p && is_stored_len it.key_len
+    then Ok (record { log_n = it.log_n; r = it.r; p = it.p; output_len = it.key_len })
+    else Err InvalidParams
 
 -- whether a key of that length can be derived; a hash has an allowed length of its own
 abbrev pub has_allowed_len : Target → Bool
 has_allowed_len (Key len) = is_output_len len
 has_allowed_len (Hash format) = true
 
--- what the arguments of a command ask for
-unfoldable pub command_request : CommandArgs → Result Request CliError
-command_request (MakeArgs target unchecked salt) = do
-  (salt, params) ← salt_and_params unchecked salt
-  if has_allowed_len target then Ok (ToMake target params salt) else Err InvalidOutputLen
-command_request (VerifyArgs text) = Ok (ToVerify text)
-command_request (RehashArgs format unchecked salt text) = do
-  (salt, params) ← salt_and_params unchecked salt
-  Ok (ToRehash format params salt text)
+-- what is to be made
+unfoldable pub making_of : MakingArgs → Result Making CliError
+making_of args = do
+  salt ← salt_of args.salt
+  params ← checked_params args.unchecked
+  if has_allowed_len args.target then Ok (record { target = args.target; params = params; salt = salt }) else Err InvalidOutputLen
 
--- what arguments ask for, if they are those of a command
-abbrev pub usage_or_request : Option CommandArgs → Result Request CliError
-usage_or_request None = Err Usage
-usage_or_request (Some args) = command_request args
+-- the same, if something is
+abbrev pub wanted_of : Option MakingArgs → Result (Option Making) CliError
+wanted_of None = Ok None
+wanted_of (Some args) = making_of args >>= λ making. Ok (Some making)
+
+-- the text of a hash, if it is one of its format
+abbrev pub hash_of : List ℕ → Result (List ℕ) CliError
+hash_of text = if is_stored_text text then Ok text else Err EncodingInvalid
+
+-- what the arguments of a command ask for, if they are those of one
+unfoldable pub request_of_args : Option CommandArgs → Result Request CliError
+request_of_args None = Err Usage
+request_of_args (Some (MakeArgs args)) = making_of args >>= λ making. Ok (ToMake making)
+request_of_args (Some (VerifyArgs text args)) = do
+  wanted ← wanted_of args
+  text ← hash_of text
+  Ok (ToVerify text wanted)
 
 -- what words ask for, where options may draw the salt and take the recommended parameters
 abbrev pub request_by : Bool → Option (List ℕ) → List (List ℕ) → Result Request CliError
-request_by is_recommended drawn words = usage_or_request (args_of is_recommended drawn words)
-
--- what words ask for
-abbrev pub request_of : List (List ℕ) → Result Request CliError
-request_of words = request_by false None words
-
--- there is nothing to be asked for, or the text of its hash is not one
-abbrev pub IsRefused : Result Request CliError → Type 0
-IsRefused (Ok (ToMake target params salt)) = ⊥
-IsRefused (Ok (ToVerify text)) = is_stored_text text ≡ false
-IsRefused (Ok (ToRehash format wanted salt text)) = is_stored_text text ≡ false
-IsRefused (Err error) = ⊤
+request_by is_recommended drawn words = request_of_args (args_of is_recommended drawn words)
 
 -- the words are refused before the input is read
 abbrev pub AreRefused : List (List ℕ) → Type 0
-AreRefused words = IsRefused (request_of words)
+AreRefused words = IsErr (request_by false None words)

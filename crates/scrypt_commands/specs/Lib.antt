@@ -13,7 +13,7 @@ pub mod CliError
 pub mod Command
 -- what the program prints for its arguments and its input
 pub mod Outcome
--- the texts that --help and --version print
-pub mod Information
+-- how a run goes: what it prints, and what it reads and writes
+pub mod Run
 -- private: the steps of a run
 pub mod Steps

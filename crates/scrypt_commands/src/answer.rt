@@ -1,20 +1,17 @@
 // The answer to a command.
 
-ghost use Rattle.std.specs.Prelude.{◌≡◌, ◌++◌, IfOk, IfErr, IsOk, IsTrue, Ok, codes, option_map, string_bytes};
-ghost use Rattle.scrypt.specs.Accepted.{IsOutputLen};
+ghost use Rattle.std.specs.Prelude.{◌≡◌, false, option_map, string_bytes};
+ghost use Rattle.std.specs.Result.{result_unwrap_or};
 ghost use Rattle.scrypt.specs.Reading.{IsVerdict, verdict, weaker};
 ghost use Rattle.scrypt.specs.StoredHash.{reading};
-ghost use Rattle.scrypt.specs.WithinLimits.{limited_refusal, told_limited};
-ghost use Rattle.scrypt_commands.specs.Bounds.{rehash_limits, verify_limits};
-ghost use Rattle.scrypt_commands.specs.Command.{has_allowed_len};
-ghost use Rattle.scrypt_commands.specs.Outcome.{IsAnswer, bounded, new_hash, new_text};
-ghost use Rattle.scrypt_commands.specs.Steps.{Answers, Gives, IsPossible, answer_line, answer_status, command_outcome, right_of};
+ghost use Rattle.scrypt.specs.WithinLimits.{told_limited};
+ghost use Rattle.scrypt_commands.specs.Outcome.{bounded, limits_by, made_reply, new_hash, new_text, reply_to, right_of, right_reply};
+ghost use Rattle.scrypt_commands.specs.Steps.{Gives, making_view, reply_view, request_view};
 ghost use Rattle.scrypt_commands.specs.declared.args.Target.TheVariants.{Key};
-ghost use Rattle.scrypt_commands.specs.declared.error.CliError.TheVariants.{OutOfMemory};
 
 use crate::args::{Format, Target};
 use crate::bounds::Bounds;
-use crate::command::Command;
+use crate::command::{Command, Making};
 use crate::error::CliError;
 use password_hash::{PasswordHasher, mcf, phc};
 use scrypt::laws::{hashers_are_accepted, made_hashes_are_accepted, texts_have_one_reading};
@@ -24,110 +21,76 @@ use std::alloc::Global;
 /// The answer to a command.
 #[derive(Drop)]
 pub enum Answer {
-    /// Whether the password is that of the hash.
-    Verdict { right: bool },
+    /// The password is that of the hash.
+    Right,
+    /// The password is not that of the hash.
+    Wrong,
     /// What was made of the password, and a newline.
     Made { line: String },
 }
 
 impl Answer {
-    /// Returns the exit status: 1 if the password is wrong, and 0 otherwise.
-    pub fn status(&self) -> u8
-        ensures value { result ≡ answer_status self.now }
-        ensures answered { IsAnswer result }
+    /// Returns the exit status, which is 1 if the password is wrong, and the line for the output, with its
+    /// newline.
+    pub fn reply(&self) -> (u8, &str)
+        ensures value { reply_view self.now ≡ record { status = result.0; line = result.1.now } }
     {
         match self {
-            Answer::Verdict { right: true } => 0,
-            Answer::Verdict { right: false } => 1,
-            Answer::Made { .. } => 0,
-        }
-    }
-
-    /// Returns the line for the output, with its newline.
-    pub fn line(&self) -> &str
-        ensures value { result.now ≡ answer_line self.now }
-    {
-        match self {
-            Answer::Verdict { right: true } => "ok\n",
-            Answer::Verdict { right: false } => "no\n",
-            Answer::Made { line } => line.as_str(),
+            Answer::Right => (0, "ok\n"),
+            Answer::Wrong => (1, "no\n"),
+            Answer::Made { line } => (0, line.as_str()),
         }
     }
 }
 
 impl<'a> Command<'a> {
-    /// Carries out the command on this input, which is the password. A hash is verified only
-    /// within the bounds, if there are any.
+    /// Carries out the command on this password. A hash is verified only within the bounds, if there are any.
     ///
     /// Returns the error of hashing or verifying, also `TooCostly` or `KeyTooShort` if a hash exceeds
     /// the bounds, and `OutOfMemory` if an allocation fails.
-    #[tactic(auto, using(crate::proofs::OutcomeFacts::answers))]
     pub fn answer(
         &self,
         alloc: Global,
-        input: &[u8],
+        password: &[u8],
         bounds: Option<Bounds>,
     ) -> Result<Answer, CliError>
-        requires possible { IsPossible self.now }
-        ensures outcome { Answers (command_outcome bounds self.now input.now) result }
+        ensures reply { Gives reply_view (reply_to bounds (request_view self.now) password.now) result }
     {
         match self {
-            Command::Make {
-                target,
-                params,
-                salt,
-            } => on_a_line(make(alloc, input, salt, params, target)?),
-            Command::Verify { hash } => {
-                let limits = verify_limits(bounds);
-                let right = verify(alloc, hash, input, limits)?;
-                Ok(Answer::Verdict { right })
-            }
-            Command::Rehash {
-                format,
-                params,
-                salt,
-                hash,
-            } => {
-                let limits = rehash_limits(bounds, params);
-                let right = match verify(alloc, hash, input, limits) {
-                    Ok(right) => right,
-                    Err(error) => return Err(error),
-                };
-                if right && is_weaker(hash, params) {
-                    on_a_line(make_hash(alloc, input, salt, params, *format)?)
-                } else {
-                    Ok(Answer::Verdict { right })
+            Command::Make(making) => make(alloc, password, making),
+            Command::Verify { hash, wanted } => {
+                if !verify(alloc, hash, password, limits_by(bounds, wanted))? {
+                    return Ok(Answer::Wrong);
                 }
+                replace(alloc, hash, password, wanted)
             }
         }
     }
 }
 
-// Returns the limits of `verify`, if there are bounds.
-fn verify_limits(bounds: Option<Bounds>) -> Option<Limits>
-    ensures { result ≡ option_map verify_limits bounds }
+// Returns the limits on a hash, if there are bounds.
+fn limits_by(bounds: Option<Bounds>, wanted: &Option<Making>) -> Option<Limits>
+    ensures { result ≡ limits_by bounds (option_map making_view wanted.now) }
 {
-    Some(bounds?.for_verifying())
+    let bounds = bounds?;
+    match wanted {
+        Some(making) => Some(bounds.limits(Some(&making.params))),
+        None => Some(bounds.limits(None)),
+    }
 }
 
-// Returns the limits of `rehash`, if there are bounds.
-fn rehash_limits(bounds: Option<Bounds>, wanted: &Params) -> Option<Limits>
-    ensures { result ≡ option_map (λ b. rehash_limits b wanted.now) bounds }
+// Makes what is wanted in place of a hash with this password, if the hash is weaker.
+fn replace(
+    alloc: Global,
+    hash: &StoredHash<'_>,
+    password: &[u8],
+    wanted: &Option<Making>,
+) -> Result<Answer, CliError>
+    ensures { Gives reply_view (right_reply (option_map making_view wanted.now) (reading hash.now) password.now) result }
 {
-    Some(bounds?.for_rehashing(wanted))
-}
-
-// Returns the error of a hash that cannot be read, or exceeds the limits, if there are limits.
-fn check(hash: &StoredHash<'_>, limits: Option<Limits>) -> Result<(), LimitedError>
-    ensures same { IsOk result → bounded limits (reading hash.now) ≡ reading hash.now }
-    ensures err { IfErr result (λ e. bounded limits (reading hash.now) ≡ Err (limited_refusal e)) }
-{
-    let Some(limits) = limits else {
-        return Ok(());
-    };
-    match hash.buffer_lens_within(&limits) {
-        Ok(_) => Ok(()),
-        Err(error) => Err(error),
+    match wanted {
+        Some(making) if is_weaker(hash, &making.params) => make(alloc, password, making),
+        _ => Ok(Answer::Right),
     }
 }
 
@@ -159,8 +122,10 @@ fn verify_within(
 ) -> Result<(), LimitedError>
     ensures { IsVerdict password.now (bounded limits (reading hash.now)) (told_limited result) }
 {
-    if let Err(refused) = check(hash, limits) {
-        return Err(refused);
+    if let Some(limits) = limits {
+        if let Err(refused) = hash.buffer_lens_within(&limits) {
+            return Err(refused);
+        }
     }
     match hash.verify(alloc, password) {
         Ok(()) => Ok(()),
@@ -168,27 +133,34 @@ fn verify_within(
     }
 }
 
-// Returns whether the hash is weaker than these parameters. A hash that accepts a password can be
-// read, so there is no error.
+// Returns whether the hash can be read, and is weaker than these parameters.
 fn is_weaker(hash: &StoredHash<'_>, wanted: &Params) -> bool
-    requires { IsOk (reading hash.now) }
-    ensures { weaker wanted.now (reading hash.now) ≡ Ok result }
+    ensures { result ≡ result_unwrap_or (weaker wanted.now (reading hash.now)) false }
 {
-    hash.needs_rehash(wanted).unwrap()
+    match hash.needs_rehash(wanted) {
+        Ok(weaker) => weaker,
+        Err(_) => false,
+    }
+}
+
+// Makes the line of what is made of the password.
+fn make(alloc: Global, password: &[u8], making: &Making) -> Result<Answer, CliError>
+    ensures { Gives reply_view (made_reply (making_view making.now) password.now) result }
+{
+    let mut line = text(alloc, password, making)?;
+    line.push('\n')?;
+    Ok(Answer::Made { line })
 }
 
 // Returns the text of what is made of the password.
-#[tactic(auto, using(crate::proofs::CommandFacts::output_len_decided))]
-fn make(
-    alloc: Global,
-    password: &[u8],
-    salt: &[u8],
-    params: &Params,
-    target: &Target,
-) -> Result<String, CliError>
-    requires { IsTrue (has_allowed_len target.now) }
-    ensures { Gives string_bytes (new_text target.now params.now password.now salt.now) result }
+fn text(alloc: Global, password: &[u8], making: &Making) -> Result<String, CliError>
+    ensures { Gives string_bytes (new_text making.now.target making.now.params password.now making.now.salt.items) result }
 {
+    let Making {
+        target,
+        params,
+        salt,
+    } = making;
     match target {
         Target::Key { len } => key(alloc, password, salt, params, *len),
         Target::Hash { format } => make_hash(alloc, password, salt, params, *format),
@@ -232,7 +204,8 @@ fn make_hash(
     }
 }
 
-// Returns the derived key of `len` bytes in lower-case hexadecimal.
+// Returns the derived key of `len` bytes in lower-case hexadecimal, if it can have that length.
+#[tactic(auto, using(crate::proofs::CommandFacts::output_len_decided))]
 fn key(
     alloc: Global,
     password: &[u8],
@@ -240,21 +213,9 @@ fn key(
     params: &Params,
     len: usize,
 ) -> Result<String, CliError>
-    requires { IsOutputLen len }
     ensures { Gives string_bytes (new_text (Key len) params.now password.now salt.now) result }
 {
     let mut key = vec![in alloc; 0u8; len]?;
     scrypt(alloc, password, salt, params, &mut key)?;
     Ok(hex::encode(alloc, key.as_slice())?)
-}
-
-// Appends a newline.
-fn on_a_line(text: String) -> Result<Answer, CliError>
-    ensures status { IfOk result (λ answer. answer_status answer ≡ 0) }
-    ensures line { IfOk result (λ answer. answer_line answer ≡ string_bytes text ++ codes "\n") }
-    ensures err { IfErr result (λ error. error ≡ OutOfMemory) }
-{
-    let mut line = text;
-    line.push('\n')?;
-    Ok(Answer::Made { line })
 }

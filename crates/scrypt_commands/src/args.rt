@@ -2,34 +2,33 @@
 
 ghost use Rattle.std.specs.Prelude.{◌≡◌, ◌^◌, option_map};
 ghost use Rattle.password_hash.specs.Decimal.{decimal_below};
-ghost use Rattle.scrypt_commands.specs.Args.{args_of, first_word, format_word, hash_args, key_args, last_word, len_word, numbered_args};
-ghost use Rattle.scrypt_commands.specs.Args.{optional_len, params_word, recommended, recommended_args, rehash_args, salt_word, texts_of};
-ghost use Rattle.scrypt_commands.specs.Steps.{args_view, before_words, salt_before_words};
+ghost use Rattle.scrypt_commands.specs.Args.{args_of, first_word, format_word, hash_args, key_args, last_word, len_word};
+ghost use Rattle.scrypt_commands.specs.Args.{optional_len, params_word, rehash_args, salt_word, texts_of};
+ghost use Rattle.scrypt_commands.specs.Steps.{args_view, before_words, making_args_view, salt_before_words};
 
 use password_hash::decimal::read_decimal;
 use password_hash::laws::decimals_are_read;
 use scrypt::Params;
 
-/// The arguments of a command. The salt's digits and the text of a hash are not read yet.
-#[derive(Drop)]
+/// The arguments of a command. The text of a hash is not read yet.
+#[derive(Clone, Copy)]
 pub enum Args<'a> {
     /// `key LOG_N R P LEN SALT_HEX` or `hash phc|mcf LOG_N R P SALT_HEX [LEN]`
-    Make {
-        target: Target,
-        unchecked: UncheckedParams,
-        salt: Salt<'a>,
-    },
-    /// `verify HASH`
+    Make(MakingArgs<'a>),
+    /// `verify HASH`, or `rehash phc|mcf LOG_N R P LEN SALT_HEX HASH`, which makes a new hash in place of a
+    /// weaker one
     Verify {
         text: &'a str,
+        wanted: Option<MakingArgs<'a>>,
     },
-    /// `rehash phc|mcf LOG_N R P LEN SALT_HEX HASH`
-    Rehash {
-        format: Format,
-        unchecked: UncheckedParams,
-        salt: Salt<'a>,
-        text: &'a str,
-    },
+}
+
+/// What is to be made of a password. The salt's digits are not read yet.
+#[derive(Clone, Copy)]
+pub struct MakingArgs<'a> {
+    pub target: Target,
+    pub unchecked: UncheckedParams,
+    pub salt: Salt<'a>,
 }
 
 /// The salt of a command.
@@ -91,10 +90,11 @@ impl<'a> Args<'a> {
     {
         let (name, args) = first_word(args)?;
         match name {
-            "key" => parse_key(args),
-            "hash" => parse_hash(is_recommended, drawn, args),
+            "key" => Some(Args::Make(parse_key(args)?)),
+            "hash" => Some(Args::Make(parse_hash(is_recommended, drawn, args)?)),
             "verify" => Some(Args::Verify {
                 text: last_word(args)?,
+                wanted: None,
             }),
             "rehash" => parse_rehash(drawn, args),
             _ => None,
@@ -104,60 +104,36 @@ impl<'a> Args<'a> {
 
 // Parses LOG_N R P LEN SALT_HEX.
 #[tactic(auto, unfolding(crate::specs::Args::key_args))]
-fn parse_key<'a>(args: &'a [String]) -> Option<Args<'a>>
-    ensures { option_map args_view result ≡ key_args (texts_of args.now) }
+fn parse_key<'a>(args: &'a [String]) -> Option<MakingArgs<'a>>
+    ensures { option_map making_args_view result ≡ key_args (texts_of args.now) }
 {
-    let (unchecked, args) = parse_params(args)?;
+    let (unchecked, args) = parse_params(false, args)?;
     let (len, args) = len_word(args)?;
     let salt_hex = last_word(args)?;
-    Some(Args::Make {
+    Some(MakingArgs {
         target: Target::Key { len },
         unchecked,
         salt: Salt::Digits(salt_hex),
     })
 }
 
-// Parses what comes after `hash`.
+// Parses phc|mcf LOG_N R P SALT_HEX [LEN], or phc|mcf SALT_HEX for the recommended parameters.
+#[tactic(auto, unfolding(crate::specs::Args::hash_args))]
 fn parse_hash<'a>(
     is_recommended: bool,
     drawn: Option<[u8; 16]>,
     args: &'a [String],
-) -> Option<Args<'a>>
-    ensures { option_map args_view result ≡ hash_args is_recommended drawn (texts_of args.now) }
-{
-    if is_recommended {
-        return parse_recommended(drawn, args);
-    }
-    parse_numbered(drawn, args)
-}
-
-// Parses phc|mcf SALT_HEX, for the recommended parameters.
-#[tactic(auto, unfolding(crate::specs::Args::recommended_args))]
-fn parse_recommended<'a>(drawn: Option<[u8; 16]>, args: &'a [String]) -> Option<Args<'a>>
-    ensures { option_map args_view result ≡ recommended_args drawn (texts_of args.now) }
+) -> Option<MakingArgs<'a>>
+    ensures { option_map making_args_view result ≡ hash_args is_recommended drawn (texts_of args.now) }
 {
     let (format, args) = parse_format(args)?;
-    let (salt, args) = salt_word(drawn, args)?;
-    if !args.is_empty() {
-        return None;
-    }
-    Some(Args::Make {
-        target: Target::Hash { format },
-        unchecked: RECOMMENDED,
-        salt,
-    })
-}
-
-// Parses phc|mcf LOG_N R P SALT_HEX [LEN].
-#[tactic(auto, unfolding(crate::specs::Args::numbered_args))]
-fn parse_numbered<'a>(drawn: Option<[u8; 16]>, args: &'a [String]) -> Option<Args<'a>>
-    ensures { option_map args_view result ≡ numbered_args drawn (texts_of args.now) }
-{
-    let (format, args) = parse_format(args)?;
-    let (params, args) = parse_params(args)?;
+    let (params, args) = parse_params(is_recommended, args)?;
     let (salt, args) = salt_word(drawn, args)?;
     let key_len = optional_len(args)?;
-    Some(Args::Make {
+    if is_recommended && key_len.is_some() {
+        return None;
+    }
+    Some(MakingArgs {
         target: Target::Hash { format },
         unchecked: UncheckedParams { key_len, ..params },
         salt,
@@ -170,26 +146,34 @@ fn parse_rehash<'a>(drawn: Option<[u8; 16]>, args: &'a [String]) -> Option<Args<
     ensures { option_map args_view result ≡ rehash_args drawn (texts_of args.now) }
 {
     let (format, args) = parse_format(args)?;
-    let (params, args) = parse_params(args)?;
+    let (params, args) = parse_params(false, args)?;
     let (len, args) = len_word(args)?;
     let (salt, args) = salt_word(drawn, args)?;
     let text = last_word(args)?;
-    Some(Args::Rehash {
-        format,
-        unchecked: UncheckedParams {
-            key_len: Some(len),
-            ..params
-        },
-        salt,
+    Some(Args::Verify {
         text,
+        wanted: Some(MakingArgs {
+            target: Target::Hash { format },
+            unchecked: UncheckedParams {
+                key_len: Some(len),
+                ..params
+            },
+            salt,
+        }),
     })
 }
 
-// Parses LOG_N R P, and returns the words after them too.
+// Parses LOG_N R P, and returns the words after them too. No words stand for the recommended parameters.
 #[tactic(auto, unfolding(crate::specs::Args::params_word))]
-fn parse_params<'a>(args: &'a [String]) -> Option<(UncheckedParams, &'a [String])>
-    ensures { option_map before_words result ≡ params_word (texts_of args.now) }
+fn parse_params<'a>(
+    is_recommended: bool,
+    args: &'a [String],
+) -> Option<(UncheckedParams, &'a [String])>
+    ensures { option_map before_words result ≡ params_word is_recommended (texts_of args.now) }
 {
+    if is_recommended {
+        return Some((RECOMMENDED, args));
+    }
     let (log_n, args) = first_word(args)?;
     let (r, args) = first_word(args)?;
     let (p, args) = first_word(args)?;

@@ -1,7 +1,7 @@
 // What a stored hash may need, and how short its key may be.
 
-ghost use Rattle.std.specs.Prelude.{◌≡◌};
-ghost use Rattle.scrypt_commands.specs.Bounds.{number_of, rehash_limits, verify_limits, with_number};
+ghost use Rattle.std.specs.Prelude.{◌≡◌, option_map};
+ghost use Rattle.scrypt_commands.specs.Bounds.{limits_of, with_number};
 
 use crate::args::parse_len;
 use scrypt::{BufferLens, Limits, Params};
@@ -25,22 +25,42 @@ pub const USUAL: Bounds = Bounds {
 };
 
 impl Bounds {
-    /// Returns the limits of `verify`: a key has at least 16 bytes, unless another length is named.
-    pub fn for_verifying(self) -> Limits
-        ensures value { result ≡ verify_limits self }
+    /// Returns the bounds with the one of this name, or `None` if there is none of it, or the value is not
+    /// a number.
+    #[tactic(auto, using(crate::proofs::ArgsFacts::other), unfolding(crate::specs::Bounds::with_number))]
+    pub fn with_number(self, name: &str, value: &str) -> Option<Bounds>
+        ensures value { result ≡ with_number self name.now value.now }
     {
-        Limits {
-            most_bytes: self.most_bytes,
-            most_work: self.most_work,
-            least_key_len: self.least_key_len.unwrap_or(Limits::USUAL.least_key_len),
+        match name {
+            "--most-bytes" => Some(Bounds {
+                most_bytes: parse_len(value)?,
+                ..self
+            }),
+            "--most-work" => Some(Bounds {
+                most_work: parse_len(value)? as u64,
+                ..self
+            }),
+            "--least-key-len" => Some(Bounds {
+                least_key_len: Some(parse_len(value)?),
+                ..self
+            }),
+            _ => None,
         }
     }
 
-    /// Returns the limits of `rehash`, which are at least what a hash with the wanted parameters
-    /// needs. A short key is weaker than wanted, and so allowed unless a length is named.
-    pub fn for_rehashing(self, wanted: &Params) -> Limits
-        ensures value { result ≡ rehash_limits self wanted.now }
+    /// Returns the limits on a hash: a key has at least 16 bytes, unless another length is named. If a new
+    /// hash is wanted in its place, they are at least what that needs, and a short key, which is weaker
+    /// than wanted, is allowed unless a length is named.
+    pub fn limits(self, wanted: Option<&Params>) -> Limits
+        ensures value { result ≡ limits_of self (option_map (λ c. c.now) wanted.entry) }
     {
+        let Some(wanted) = wanted else {
+            return Limits {
+                most_bytes: self.most_bytes,
+                most_work: self.most_work,
+                least_key_len: self.least_key_len.unwrap_or(Limits::USUAL.least_key_len),
+            };
+        };
         let bytes = BufferLens::of(wanted).bytes();
         let work = wanted.work();
         Limits {
@@ -51,34 +71,4 @@ impl Bounds {
             least_key_len: self.least_key_len.unwrap_or(0),
         }
     }
-}
-
-/// Returns the bounds with the one that an option names, or `None` if the word is none of these options.
-#[tactic(auto, unfolding(crate::specs::Bounds::with_number))]
-pub fn with_number(bounds: Bounds, word: &str) -> Option<Bounds>
-    ensures value { result ≡ with_number bounds word.now }
-{
-    match number(word, "--most-bytes=") {
-        Some(most_bytes) => Some(Bounds {
-            most_bytes,
-            ..bounds
-        }),
-        None => match number(word, "--most-work=") {
-            Some(most_work) => Some(Bounds {
-                most_work: most_work as u64,
-                ..bounds
-            }),
-            None => Some(Bounds {
-                least_key_len: Some(number(word, "--least-key-len=")?),
-                ..bounds
-            }),
-        },
-    }
-}
-
-// Returns the number of the option of this name.
-fn number(word: &str, name: &str) -> Option<usize>
-    ensures { result ≡ number_of name.now word.now }
-{
-    parse_len(word.strip_prefix(name)?)
 }

@@ -1,41 +1,35 @@
 // What the arguments ask for.
 
-ghost use Rattle.std.specs.Prelude.{◌≡◌, ◌↔◌, true, false, Err, IfOk, IfErr, IsOk};
-ghost use Rattle.password_hash.specs.Refusal as refusals;
-ghost use Rattle.hex.specs.Hex.{decode_of};
-ghost use Rattle.scrypt.specs.StoredHash.{is_stored_text, reading};
-ghost use Rattle.scrypt_commands.specs.Args.{MakeArgs, RehashArgs, texts_of};
-ghost use Rattle.scrypt_commands.specs.Command.{command_request, has_allowed_len, decoded_salt, params_of, request_by, salt_and_params, salt_of};
-ghost use Rattle.scrypt_commands.specs.Steps.{AreParamsAccepted, Gives, IsCommandFor, salt_view};
-ghost use Rattle.scrypt_commands.specs.declared.error.CliError.TheVariants.{EncodingInvalid};
+ghost use Rattle.std.specs.Prelude.{◌≡◌, option_map};
+ghost use Rattle.scrypt_commands.specs.Args.{texts_of};
+ghost use Rattle.scrypt_commands.specs.Command.{checked_params, has_allowed_len, hash_of, making_of, request_by, salt_of, wanted_of};
+ghost use Rattle.scrypt_commands.specs.Steps.{Gives, making_args_view, making_view, request_view, salt_view};
 
-use crate::args::{Args, Format, Salt, Target, UncheckedParams};
+use crate::args::{Args, MakingArgs, Salt, Target, UncheckedParams};
 use crate::error::CliError;
 use hex::FromHexError;
-use scrypt::{InvalidParams, Params, StoredHash, output_len_ok};
+use scrypt::{Params, StoredHash, output_len_ok};
 use std::alloc::Global;
 
 /// What the arguments ask for.
 #[derive(Drop)]
 pub enum Command<'a> {
     /// The key or the text of the hash that is made of the password.
-    Make {
-        target: Target,
-        params: Params,
-        salt: Vec<u8>,
-    },
-    /// Whether the password is that of the hash.
+    Make(Making),
+    /// Whether the password is that of the hash. If it is, and the hash is weaker than what is wanted, that is
+    /// made in its place.
     Verify {
         hash: StoredHash<'a>,
+        wanted: Option<Making>,
     },
-    /// The verdict on the password, or a new hash of this format if the password is right and the
-    /// old hash is weaker than these parameters.
-    Rehash {
-        format: Format,
-        params: Params,
-        salt: Vec<u8>,
-        hash: StoredHash<'a>,
-    },
+}
+
+/// What is to be made of a password.
+#[derive(Drop)]
+pub struct Making {
+    pub target: Target,
+    pub params: Params,
+    pub salt: Vec<u8>,
 }
 
 impl<'a> Command<'a> {
@@ -44,87 +38,69 @@ impl<'a> Command<'a> {
     ///
     /// Returns the error of the first of these that is wrong: `Usage`, `SaltNotHex`,
     /// `InvalidParams`, `InvalidOutputLen`, and `EncodingInvalid`. Returns `OutOfMemory` if the allocation of the salt fails.
-    #[tactic(auto, using(crate::proofs::OutcomeFacts::unread_bounded), unfolding(crate::specs::Command::command_request))]
+    #[tactic(auto, unfolding(crate::specs::Command::request_of_args))]
     pub fn from_args(
         alloc: Global,
         is_recommended: bool,
         drawn: Option<[u8; 16]>,
         args: &'a [String],
     ) -> Result<Command<'a>, CliError>
-        ensures command { IsCommandFor (request_by is_recommended drawn (texts_of args.now)) result }
+        ensures command { Gives request_view (request_by is_recommended drawn (texts_of args.now)) result }
     {
         let Some(args) = Args::parse(is_recommended, drawn, args) else {
             return Err(CliError::Usage);
         };
         match args {
-            Args::Make {
-                target,
-                unchecked,
-                salt,
-            } => make_command(alloc, target, unchecked, salt),
-            Args::Verify { text } => {
+            Args::Make(args) => Ok(Command::Make(read_making(alloc, args)?)),
+            Args::Verify { text, wanted } => {
+                let wanted = wanted_making(alloc, wanted)?;
                 let hash = stored_hash(text)?;
-                Ok(Command::Verify { hash })
+                Ok(Command::Verify { hash, wanted })
             }
-            Args::Rehash {
-                format,
-                unchecked,
-                salt,
-                text,
-            } => rehash_command(alloc, format, unchecked, salt, text),
         }
     }
 }
 
-// Returns the command that makes this target, with these parameters and this salt.
-#[tactic(auto, unfolding(crate::specs::Command::command_request))]
-fn make_command<'a>(
-    alloc: Global,
-    target: Target,
-    unchecked: UncheckedParams,
-    salt: Salt<'_>,
-) -> Result<Command<'a>, CliError>
-    ensures { IsCommandFor (command_request (MakeArgs target unchecked (salt_view salt.entry))) result }
+// Returns what is to be made in place of a hash, if something is.
+fn wanted_making(alloc: Global, args: Option<MakingArgs<'_>>) -> Result<Option<Making>, CliError>
+    ensures { Gives (option_map making_view) (wanted_of (option_map making_args_view args.entry)) result }
 {
-    let (salt, params) = salt_and_params(alloc, unchecked, salt)?;
-    if !has_allowed_len(target) {
+    let Some(args) = args else {
+        return Ok(None);
+    };
+    Ok(Some(read_making(alloc, args)?))
+}
+
+// Reads the salt, and then checks the parameters and the length of a key.
+#[tactic(auto, unfolding(crate::specs::Command::making_of))]
+fn read_making(alloc: Global, args: MakingArgs<'_>) -> Result<Making, CliError>
+    ensures { Gives making_view (making_of (making_args_view args.entry)) result }
+{
+    let salt = read_salt(alloc, args.salt)?;
+    let params = checked_params(args.unchecked)?;
+    if !has_allowed_len(args.target) {
         return Err(CliError::InvalidOutputLen);
     }
-    Ok(Command::Make {
-        target,
+    Ok(Making {
+        target: args.target,
         params,
         salt,
     })
 }
 
-// Reads the salt, and then checks the parameters.
-#[tactic(auto, using(crate::proofs::CommandFacts::params_decided), unfolding(crate::specs::Command::salt_and_params))]
-fn salt_and_params(
-    alloc: Global,
-    unchecked: UncheckedParams,
-    salt: Salt<'_>,
-) -> Result<(Vec<u8>, Params), CliError>
-    ensures { Gives (λ read. (read.0.items, read.1)) (salt_and_params unchecked (salt_view salt.entry)) result }
-{
-    let salt = read_salt(alloc, salt)?;
-    let params = checked_params(unchecked)?;
-    Ok((salt, params))
-}
-
 // Returns the parameters, with the length that is named for a hash.
-fn checked_params(unchecked: UncheckedParams) -> Result<Params, InvalidParams>
-    ensures accepted { IsOk result ↔ AreParamsAccepted unchecked }
-    ensures value { IfOk result (λ params. params ≡ params_of unchecked) }
+#[tactic(auto, using(crate::proofs::CommandFacts::accepted_decided, crate::proofs::CommandFacts::stored_len_decided), unfolding(crate::specs::Command::checked_params))]
+fn checked_params(unchecked: UncheckedParams) -> Result<Params, CliError>
+    ensures { Gives (λ params. params) (checked_params unchecked) result }
 {
-    let UncheckedParams {
-        log_n,
-        r,
-        p,
-        key_len,
-    } = unchecked;
-    match key_len {
-        Some(len) => Params::new_with_output_len(log_n, r, p, len),
-        None => Params::new(log_n, r, p),
+    match unchecked.key_len {
+        Some(len) => Ok(Params::new_with_output_len(
+            unchecked.log_n,
+            unchecked.r,
+            unchecked.p,
+            len,
+        )?),
+        None => Ok(Params::new(unchecked.log_n, unchecked.r, unchecked.p)?),
     }
 }
 
@@ -138,32 +114,9 @@ fn has_allowed_len(target: Target) -> bool
     }
 }
 
-// Returns the command that makes the hash of this text again, with these parameters and this salt.
-#[tactic(auto, using(crate::proofs::OutcomeFacts::unread_bounded), unfolding(crate::specs::Command::command_request))]
-fn rehash_command<'a>(
-    alloc: Global,
-    format: Format,
-    unchecked: UncheckedParams,
-    salt: Salt<'_>,
-    text: &'a str,
-) -> Result<Command<'a>, CliError>
-    ensures { IsCommandFor (command_request (RehashArgs format unchecked (salt_view salt.entry) text.now)) result }
-{
-    let (salt, params) = salt_and_params(alloc, unchecked, salt)?;
-    let hash = stored_hash(text)?;
-    Ok(Command::Rehash {
-        format,
-        params,
-        salt,
-        hash,
-    })
-}
-
 // Returns the hash of a text.
 fn stored_hash(text: &str) -> Result<StoredHash<'_>, CliError>
-    ensures ok { IfOk result (λ hash. (hash ≡ text.now) × (is_stored_text text.now ≡ true)) }
-    ensures err { IfErr result (λ error. (error ≡ EncodingInvalid) × (is_stored_text text.now ≡ false)
-        × (reading text.now ≡ Err refusals.EncodingInvalid)) }
+    ensures { Gives (λ hash. hash) (hash_of text.now) result }
 {
     match StoredHash::read(text) {
         Ok(hash) => Ok(hash),
@@ -171,23 +124,16 @@ fn stored_hash(text: &str) -> Result<StoredHash<'_>, CliError>
     }
 }
 
-// Returns the bytes of the salt.
+// Returns the bytes of the salt. SALT_HEX is an even number of hexadecimal digits of either case.
 fn read_salt(alloc: Global, salt: Salt<'_>) -> Result<Vec<u8>, CliError>
     ensures { Gives (λ salt. salt.items) (salt_of (salt_view salt.entry)) result }
 {
     match salt {
-        Salt::Digits(digits) => decode_salt(alloc, digits),
+        Salt::Digits(digits) => match hex::decode(alloc, digits) {
+            Ok(salt) => Ok(salt),
+            Err(FromHexError::OutOfMemory) => Err(CliError::OutOfMemory),
+            Err(_) => Err(CliError::SaltNotHex),
+        },
         Salt::Drawn(salt) => Ok(salt.to_vec(alloc)?),
-    }
-}
-
-// Decodes SALT_HEX, an even number of hexadecimal digits of either case.
-fn decode_salt(alloc: Global, salt_hex: &str) -> Result<Vec<u8>, CliError>
-    ensures { Gives (λ salt. salt.items) (decoded_salt (decode_of salt_hex.now)) result }
-{
-    match hex::decode(alloc, salt_hex) {
-        Ok(salt) => Ok(salt),
-        Err(FromHexError::OutOfMemory) => Err(CliError::OutOfMemory),
-        Err(_) => Err(CliError::SaltNotHex),
     }
 }

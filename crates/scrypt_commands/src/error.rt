@@ -1,14 +1,13 @@
 // Why a run ends without an answer.
 
-ghost use Rattle.std.specs.Prelude.{◌≡◌, ◌++◌, decimal, OnOk, Some};
+ghost use Rattle.std.specs.Prelude.{◌≡◌, OnOk};
 ghost use Rattle.std.specs.Io.KnownBytes.{Appends};
 ghost use Rattle.password_hash.specs.Refusal.{refusal};
 ghost use Rattle.scrypt.specs.WithinLimits.{limited_refusal};
-ghost use Rattle.scrypt_commands.specs.CliError.{allowed_text, error_line, error_of, limited_error_of, needed_text, status_of, too_costly_line, too_short_line};
+ghost use Rattle.scrypt_commands.specs.CliError.{error_line, error_of, limited_error_of, status_of};
 ghost use Rattle.scrypt_commands.specs.Steps.{derive_error};
-ghost use Rattle.scrypt_commands.specs.declared.error.CliError.TheVariants.{InvalidParams as BadParams, OutOfMemory};
+ghost use Rattle.scrypt_commands.specs.declared.error.CliError.TheVariants.{InvalidParams as BadParams, KeyTooShort, OutOfMemory, TooCostly};
 
-use itoa::Buffer;
 use password_hash::Error;
 use scrypt::{DeriveError, InvalidParams, LimitedError, Limits};
 use std::alloc::AllocError;
@@ -159,53 +158,28 @@ fn write_too_costly<F: Write>(
     work: u128,
     limits: Limits,
 ) -> io::Result<()>
-    ensures written { OnOk result (Appends (F.contents faults.old) (F.contents faults.new) (too_costly_line bytes work limits)) }
+    ensures written { OnOk result (Appends (F.contents faults.old) (F.contents faults.new) (error_line (TooCostly bytes work limits))) }
 {
-    write_needed(faults, bytes, work)?;
-    write_allowed(faults, limits)?;
-    faults.write_all(b"\n")
-}
-
-// Writes what a hash needs.
-fn write_needed<F: Write>(faults: &mut F, bytes: u128, work: u128) -> io::Result<()>
-    ensures written { OnOk result (Appends (F.contents faults.old) (F.contents faults.new) (needed_text bytes work)) }
-{
-    write_number(faults, b"hash refused: TooCostly, it needs ", bytes)?;
-    write_number(faults, b" bytes and work ", work)
-}
-
-// Writes what is allowed.
-fn write_allowed<F: Write>(faults: &mut F, limits: Limits) -> io::Result<()>
-    ensures written { OnOk result (Appends (F.contents faults.old) (F.contents faults.new) (allowed_text limits)) }
-{
-    write_number(faults, b", and --most-bytes is ", limits.most_bytes as u128)?;
-    write_number(faults, b" and --most-work ", limits.most_work as u128)
+    let Limits {
+        most_bytes,
+        most_work,
+        ..
+    } = limits;
+    write!(
+        faults,
+        "hash refused: TooCostly, it needs {bytes} bytes and work {work}, and --most-bytes is {most_bytes} and --most-work {most_work}\n"
+    )
 }
 
 // Writes the line of a hash whose key is too short.
 fn write_too_short<F: Write>(faults: &mut F, key_len: usize, limits: Limits) -> io::Result<()>
-    ensures written { OnOk result (Appends (F.contents faults.old) (F.contents faults.new) (too_short_line key_len limits)) }
+    ensures written { OnOk result (Appends (F.contents faults.old) (F.contents faults.new) (error_line (KeyTooShort key_len limits))) }
 {
-    write_number(
+    let least = limits.least_key_len;
+    write!(
         faults,
-        b"hash refused: KeyTooShort, its key has ",
-        key_len as u128,
-    )?;
-    write_number(
-        faults,
-        b" bytes, and --least-key-len is ",
-        limits.least_key_len as u128,
-    )?;
-    faults.write_all(b"\n")
-}
-
-// Writes a text and then a number in decimal.
-fn write_number<F: Write>(faults: &mut F, text: &[u8], n: u128) -> io::Result<()>
-    ensures written { OnOk result (Appends (F.contents faults.old) (F.contents faults.new) (text.now ++ decimal n)) }
-{
-    let mut buffer = Buffer::new();
-    faults.write_all(text)?;
-    faults.write_all(buffer.format(n).as_bytes())
+        "hash refused: KeyTooShort, its key has {key_len} bytes, and --least-key-len is {least}\n"
+    )
 }
 
 impl From<AllocError> for CliError {

@@ -1,17 +1,11 @@
-//! The options before a command, and the program with them.
+//! The options before a command.
 
-ghost use Rattle.std.specs.Prelude.{◌≡◌, ◌++◌, OnOk, codes, is_some};
-ghost use Rattle.std.specs.Io.KnownBytes.{Appends};
-ghost use Rattle.password_hash.specs.Parts.{after_prefix};
-ghost use Rattle.std.specs.Io.BufRead.{ends_with_byte, strip_last};
+ghost use Rattle.std.specs.Prelude.{◌≡◌, ◌++◌, option_map};
 ghost use Rattle.scrypt_commands.specs.Args.{texts_of};
-ghost use Rattle.scrypt_commands.specs.Information.{information_text};
-ghost use Rattle.scrypt_commands.specs.Options.{draws, fit, fit_command, is_about_hash, is_hash_file, misfit_reason, options_of, password_of, with_option, with_value, without_newline};
+ghost use Rattle.scrypt_commands.specs.Options.{information_text, is_about_hash, misfit, misfit_line, options_of, password_of, with_option, with_value, without_newline};
 
 use crate::args::first_word;
-use crate::bounds::{Bounds, USUAL, with_number};
-use std::io;
-use std::io::Write;
+use crate::bounds::{Bounds, USUAL};
 
 /// The options before a command.
 #[derive(Clone, Copy)]
@@ -119,57 +113,40 @@ impl Options {
     fn with(self, word: &str) -> Option<Options>
         ensures value { result ≡ with_option self word.now }
     {
+        let mut options = self;
         match word {
-            "--usual-limits" => Some(Options {
-                bounds: Some(USUAL),
-                ..self
-            }),
-            "--draw-salt" => Some(Options {
-                draws_salt: true,
-                ..self
-            }),
-            "--recommended" => Some(Options {
-                is_recommended: true,
-                ..self
-            }),
-            "--strip-newline" => Some(Options {
-                strips_newline: true,
-                ..self
-            }),
-            "--help" => Some(Options {
-                information: Some(Information::Help),
-                ..self
-            }),
-            "--version" => Some(Options {
-                information: Some(Information::Version),
-                ..self
-            }),
-            _ => self.with_value(word),
+            "--usual-limits" => options.bounds = Some(USUAL),
+            "--draw-salt" => options.draws_salt = true,
+            "--recommended" => {
+                options.is_recommended = true;
+                options.draws_salt = true;
+            }
+            "--strip-newline" => options.strips_newline = true,
+            "--help" => options.information = Some(Information::Help),
+            "--version" => options.information = Some(Information::Version),
+            _ => return self.with_value(word),
         }
+        Some(options)
     }
 
-    // Returns the options with this one that has a value too, or `None` if the word is not one.
+    // Returns the options with this one too, whose value comes after its first `=`, or `None` if it takes no such
+    // value.
+    #[tactic(auto, using(crate::proofs::ArgsFacts::other))]
     fn with_value(self, word: &str) -> Option<Options>
         ensures value { result ≡ with_value self word.now }
     {
-        if is_hash_file(word) {
+        let (name, value) = word.split_once('=')?;
+        if name == "--hash-file" {
             return Some(Options {
                 has_hash_file: true,
                 ..self
             });
         }
-        let bounds = with_number(self.bounds.unwrap_or(USUAL), word)?;
+        let bounds = self.bounds.unwrap_or(USUAL).with_number(name, value)?;
         Some(Options {
             bounds: Some(bounds),
             ..self
         })
-    }
-
-    /// Returns whether a salt is drawn.
-    pub fn draws(self) -> bool
-        ensures value { result ≡ draws self }
-    {
-        self.draws_salt || self.is_recommended
     }
 
     // Returns whether an option is about a stored hash.
@@ -179,29 +156,36 @@ impl Options {
         self.bounds.is_some() || self.has_hash_file
     }
 
-    /// Returns whether the options fit the command of these words.
-    #[tactic(auto, unfolding(crate::specs::Options::fit_command))]
-    pub fn fit_command(self, words: &[String]) -> bool
-        ensures value { result ≡ fit_command self (texts_of words.now) }
+    /// Returns the first of these words, and why the options do not fit that command, if they don't.
+    pub fn misfit(self, words: &[String]) -> Option<(&str, &'static str)>
+        ensures value { option_map (λ line. line.0.now ++ line.1.now) result ≡ misfit_line self (texts_of words.now) }
     {
-        match first_word(words) {
-            Some((name, _)) => self.fit(name),
-            None => true,
-        }
+        let (name, _) = first_word(words)?;
+        Some((name, self.reason(name)?))
     }
 
-    // Returns whether the options fit the command of this name. A name that begins as an option does is one
-    // that is unknown.
-    #[tactic(auto, using(crate::proofs::ArgsFacts::other), unfolding(crate::specs::Options::fit))]
-    fn fit(self, name: &str) -> bool
-        ensures value { result ≡ fit self name.now }
+    // Returns what the error line has after the name of the command, if the options do not fit that. A name
+    // that begins as an option does is one that is unknown.
+    #[tactic(auto, using(crate::proofs::ArgsFacts::other), unfolding(crate::specs::Options::misfit))]
+    fn reason(self, name: &str) -> Option<&'static str>
+        ensures { option_map (λ reason. reason.now) result ≡ misfit self name.now }
     {
         match name {
-            "key" => !self.is_about_hash() && !self.draws(),
-            "hash" => !self.is_about_hash(),
-            "verify" => !self.draws(),
-            "rehash" => !self.is_recommended,
-            _ => !is_option(name),
+            "key" => (self.is_about_hash() || self.draws_salt).then_some(
+                " takes no option except --strip-newline: see --help\n",
+            ),
+            "hash" => self.is_about_hash().then_some(
+                " takes no option except --draw-salt, --recommended and --strip-newline: see --help\n",
+            ),
+            "verify" => self.draws_salt.then_some(
+                " does not take --draw-salt and --recommended: see --help\n",
+            ),
+            "rehash" => self
+                .is_recommended
+                .then_some(" does not take --recommended: see --help\n"),
+            _ => name.as_bytes().starts_with(b"--").then_some(
+                ": not an option, or its value is not allowed: see --help\n",
+            ),
         }
     }
 
@@ -217,68 +201,15 @@ impl Options {
     }
 }
 
-/// Writes the error line of options that do not fit the command of this name.
-pub fn write_misfit<F: Write>(name: &str, faults: &mut F) -> io::Result<()>
-    ensures written { OnOk result (Appends (F.contents faults.old) (F.contents faults.new) (name.now ++ misfit_reason name.now)) }
-{
-    faults.write_all(name.as_bytes())?;
-    faults.write_all(misfit_reason(name).as_bytes())
-}
-
-// Returns what the line has after the name.
-#[tactic(auto, using(crate::proofs::ArgsFacts::other), unfolding(crate::specs::Options::misfit_reason))]
-fn misfit_reason(name: &str) -> &'static str
-    ensures { result.now ≡ misfit_reason name.now }
-{
-    match name {
-        "key" => " takes no option except --strip-newline: see --help\n",
-        "hash" =>
-            " takes no option except --draw-salt, --recommended and --strip-newline: see --help\n",
-        "verify" => " does not take --draw-salt and --recommended: see --help\n",
-        "rehash" => " does not take --recommended: see --help\n",
-        _ => ": not an option, or its value is not allowed: see --help\n",
-    }
-}
-
-// Returns whether the word is the option that names the file of a hash.
-fn is_hash_file(word: &str) -> bool
-    ensures { result ≡ is_hash_file word.now }
-{
-    word.strip_prefix("--hash-file=").is_some()
-}
-
-// Returns whether the word begins as an option does.
-fn is_option(word: &str) -> bool
-    ensures { result ≡ is_some (after_prefix (codes "--") word.now) }
-{
-    word.strip_prefix("--").is_some()
-}
-
 // Returns the text without the newline at its end, which is one `\n` or `\r\n`.
 fn without_newline(text: &[u8]) -> &[u8]
     ensures { result.now ≡ without_newline text.now }
 {
-    if ends_with_byte(text, b'\n') {
-        strip_last(strip_last(text, b'\n'), b'\r')
-    } else {
-        text
+    if text.ends_with(b"\r\n") {
+        return &text[..text.len() - 2];
     }
-}
-
-// Returns the text without its last byte, if that is this one.
-fn strip_last(text: &[u8], byte: u8) -> &[u8]
-    ensures { result.now ≡ strip_last byte text.now }
-{
-    if ends_with_byte(text, byte) {
-        &text[..text.len() - 1]
-    } else {
-        text
+    if text.ends_with(b"\n") {
+        return &text[..text.len() - 1];
     }
-}
-
-// Returns whether the text ends with this byte.
-fn ends_with_byte(text: &[u8], byte: u8) -> bool
-    ensures { result ≡ ends_with_byte byte text.now }
-{
-    text.len() > 0 && text[text.len() - 1] == byte
+    text
 }

@@ -1,12 +1,14 @@
 // The program over any reader and any two writers.
 
-ghost use Rattle.std.specs.Prelude.{◌≡◌, ◌⊎◌, ◌↔◌, IsTrue, IfOk, IfErr, IfSome, IsErr, OnOk, if◌then◌else◌, false, true};
+ghost use Rattle.std.specs.Prelude.{◌≡◌, ◌⊎◌, ◌↔◌, IsTrue, IfOk, IfErr, IfSome, Err, IsErr, None, OnOk, false, true};
 ghost use Rattle.std.specs.Io.KnownBytes.{Appends, IsAtEnd, Keeps};
 ghost use Rattle.scrypt_commands.specs.Args.{texts_of};
-ghost use Rattle.scrypt_commands.specs.Command.{AreRefused, IsRefused, request_by};
+ghost use Rattle.scrypt_commands.specs.Command.{AreRefused, request_by};
 ghost use Rattle.scrypt_commands.specs.CliError.{error_line, status_of};
-ghost use Rattle.scrypt_commands.specs.Outcome.{outcome_of, outcome_by, IsAnswer, OutcomeIs};
-ghost use Rattle.scrypt_commands.specs.Steps.{AppendsAnswer, Ends};
+ghost use Rattle.scrypt_commands.specs.Options.{no_options};
+ghost use Rattle.scrypt_commands.specs.Outcome.{reply_by};
+ghost use Rattle.scrypt_commands.specs.Run.{IsAnswer, IsRun, OnInput, plan_by};
+ghost use Rattle.scrypt_commands.specs.Steps.{AppendsReply};
 ghost use Rattle.scrypt_commands.specs.declared.error.CliError.TheVariants.{InputFailed, OutOfMemory, OutputFailed};
 
 use crate::command::Command;
@@ -42,31 +44,17 @@ pub fn run<R: Read, W: Write, F: Write>(
     writer: &mut W,
     faults: &mut F,
 ) -> Ended
-    ensures outcome { (result.status ≡ 3) ⊎ (result.status ≡ 4) ⊎ OutcomeIs (outcome_of (texts_of words.now)) (R.remaining reader.old)
-        (λ outcome. (result.status ≡ outcome.status) × Appends (W.contents writer.old) (W.contents writer.new) outcome.line
-        × (IsTrue result.fault_told → Appends (F.contents faults.old) (F.contents faults.new) outcome.error)) }
-    ensures out_of_memory { result.status ≡ 3 → IsTrue result.fault_told →
-        Appends (F.contents faults.old) (F.contents faults.new) (error_line OutOfMemory) }
-    ensures failed { result.status ≡ 4 → IsTrue result.fault_told → Appends (F.contents faults.old) (F.contents faults.new)
-        (error_line (if result.input_failed then InputFailed else OutputFailed)) }
-    ensures input_failed { IsTrue result.input_failed → result.status ≡ 4 }
-    ensures nothing { (result.status ≡ 2) ⊎ (result.status ≡ 3) ⊎ IsTrue result.input_failed →
-        Keeps (W.contents writer.old) (W.contents writer.new) }
-    // With every reader, whether its bytes are known or not.
+    ensures run { IsRun (plan_by no_options None (texts_of words.now))
+        (record { input = R.remaining reader.old; output = W.contents writer.old; faults = F.contents faults.old })
+        (record { input = R.remaining reader.new; output = W.contents writer.new; faults = F.contents faults.new }) result }
     ensures refused { AreRefused (texts_of words.now) → (result.status ≡ 2) ⊎ (result.status ≡ 3) }
-    ensures unread { AreRefused (texts_of words.now) → Keeps (R.remaining reader.old) (R.remaining reader.new) }
-    ensures read_before_refusal { result.status ≡ 2 → ¬ AreRefused (texts_of words.now) → IsAtEnd (R.remaining reader.new) }
-    ensures read { IsAnswer result.status ⊎ ((result.status ≡ 4) × (result.input_failed ≡ false)) →
-        IsAtEnd (R.remaining reader.new) }
-    ensures done { IsAnswer result.status → IsTrue result.fault_told }
-    ensures no_error { IsAnswer result.status → Keeps (F.contents faults.old) (F.contents faults.new) }
 {
     run_by(alloc, NONE, None, words, reader, writer, faults)
 }
 
 /// The same by options: within their limits, with the salt that they have drawn, and of the password that
 /// they take.
-#[tactic(auto, using(crate::proofs::OutcomeFacts::read_before_refusal))]
+#[tactic(auto, using(crate::proofs::OutcomeFacts::ends))]
 pub(crate) fn run_by<R: Read, W: Write, F: Write>(
     alloc: Global,
     options: Options,
@@ -76,25 +64,10 @@ pub(crate) fn run_by<R: Read, W: Write, F: Write>(
     writer: &mut W,
     faults: &mut F,
 ) -> Ended
-    ensures outcome { (result.status ≡ 3) ⊎ (result.status ≡ 4) ⊎ OutcomeIs (outcome_by options drawn (texts_of words.now))
-        (R.remaining reader.old) (λ outcome. (result.status ≡ outcome.status)
-        × Appends (W.contents writer.old) (W.contents writer.new) outcome.line
-        × (IsTrue result.fault_told → Appends (F.contents faults.old) (F.contents faults.new) outcome.error)) }
-    ensures out_of_memory { result.status ≡ 3 → IsTrue result.fault_told →
-        Appends (F.contents faults.old) (F.contents faults.new) (error_line OutOfMemory) }
-    ensures failed { result.status ≡ 4 → IsTrue result.fault_told → Appends (F.contents faults.old) (F.contents faults.new)
-        (error_line (if result.input_failed then InputFailed else OutputFailed)) }
-    ensures input_failed { IsTrue result.input_failed → result.status ≡ 4 }
-    ensures nothing { (result.status ≡ 2) ⊎ (result.status ≡ 3) ⊎ IsTrue result.input_failed →
-        Keeps (W.contents writer.old) (W.contents writer.new) }
-    // With every reader, whether its bytes are known or not.
-    ensures refused { IsRefused (request_by options.is_recommended drawn (texts_of words.now)) → (result.status ≡ 2) ⊎ (result.status ≡ 3) }
-    ensures unread { IsRefused (request_by options.is_recommended drawn (texts_of words.now)) → Keeps (R.remaining reader.old) (R.remaining reader.new) }
-    ensures read_before_refusal { result.status ≡ 2 → ¬ IsRefused (request_by options.is_recommended drawn (texts_of words.now)) → IsAtEnd (R.remaining reader.new) }
-    ensures read { IsAnswer result.status ⊎ ((result.status ≡ 4) × (result.input_failed ≡ false)) →
-        IsAtEnd (R.remaining reader.new) }
-    ensures done { IsAnswer result.status → IsTrue result.fault_told }
-    ensures no_error { IsAnswer result.status → Keeps (F.contents faults.old) (F.contents faults.new) }
+    ensures run { IsRun (plan_by options drawn (texts_of words.now))
+        (record { input = R.remaining reader.old; output = W.contents writer.old; faults = F.contents faults.old })
+        (record { input = R.remaining reader.new; output = W.contents writer.new; faults = F.contents faults.new }) result }
+    ensures refused { IsErr (request_by options.is_recommended drawn (texts_of words.now)) → (result.status ≡ 2) ⊎ (result.status ≡ 3) }
 {
     match execute(alloc, options, drawn, words, reader, writer) {
         Ok(status) => answered(status),
@@ -112,23 +85,26 @@ fn execute<R: Read, W: Write>(
     reader: &mut R,
     writer: &mut W,
 ) -> Result<u8, CliError>
-    ensures line { IfOk result (AppendsAnswer (outcome_by options drawn (texts_of words.now)) (R.remaining reader.old)
+    ensures line { IfOk result (AppendsReply (reply_by options drawn (texts_of words.now)) (R.remaining reader.old)
         (W.contents writer.old) (W.contents writer.new)) }
     ensures ok { IfOk result IsAnswer }
     ensures read { OnOk result (IsAtEnd (R.remaining reader.new)) }
-    ensures err { IfErr result (Ends (IsRefused (request_by options.is_recommended drawn (texts_of words.now)))
-        (outcome_by options drawn (texts_of words.now)) (R.remaining reader.old) (IsAtEnd (R.remaining reader.new))) }
+    ensures err { IfErr result (λ error. status_of error ≡ 2
+        → OnInput (R.remaining reader.old) (λ input. reply_by options drawn (texts_of words.now) input ≡ Err error)) }
+    ensures read_before_error { IfErr result (λ error. (error ≡ OutOfMemory) ⊎ (error ≡ InputFailed)
+        ⊎ IsErr (request_by options.is_recommended drawn (texts_of words.now)) ⊎ IsAtEnd (R.remaining reader.new)) }
     ensures nothing { IfErr result (λ error. (error ≡ OutputFailed)
         ⊎ Keeps (W.contents writer.old) (W.contents writer.new)) }
-    ensures refused { IsRefused (request_by options.is_recommended drawn (texts_of words.now))
+    ensures refused { IsErr (request_by options.is_recommended drawn (texts_of words.now))
         → IfErr result (λ error. (error ≡ OutOfMemory) ⊎ (status_of error ≡ 2))
         × IsErr result × Keeps (R.remaining reader.old) (R.remaining reader.new) }
 {
     let command = Command::from_args(alloc, options.is_recommended, drawn, words)?;
     let input = read_all(alloc, reader)?;
     let answer = command.answer(alloc, options.password(&input), options.bounds)?;
-    write_line(writer, answer.line())?;
-    Ok(answer.status())
+    let (status, line) = answer.reply();
+    write_line(writer, line)?;
+    Ok(status)
 }
 
 // Returns every byte of the input.

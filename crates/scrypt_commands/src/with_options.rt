@@ -1,16 +1,12 @@
 //! The program with the options that may come before its command.
 
-ghost use Rattle.std.specs.Prelude.{◌≡◌, ◌⊎◌, ℕ, IfOk, IfSome, IsTrue, List, false, true, if◌then◌else◌, length};
-ghost use Rattle.std.specs.Io.KnownBytes.{Appends, IsAtEnd, Keeps};
+ghost use Rattle.std.specs.Prelude.{◌≡◌, ◌++◌, ℕ, IfOk, List, Option, [], length};
 ghost use Rattle.scrypt_commands.specs.Args.{texts_of};
-ghost use Rattle.scrypt_commands.specs.CliError.{error_line};
-ghost use Rattle.scrypt_commands.specs.Options.{draws, needs_hash, options_of};
-ghost use Rattle.scrypt_commands.specs.Outcome.{misfit_of, outcome_with_options, IsUnread, OutcomeIs};
+ghost use Rattle.scrypt_commands.specs.Options.{needs_hash, options_of};
+ghost use Rattle.scrypt_commands.specs.Run.{IsRun, at_once, plan_of};
 ghost use Rattle.scrypt_commands.specs.Steps.{IsDrawn};
-ghost use Rattle.scrypt_commands.specs.declared.error.CliError.TheVariants.{InputFailed, OutOfMemory, OutputFailed};
 
-use crate::args::first_word;
-use crate::options::{Options, parse_options, write_misfit};
+use crate::options::parse_options;
 use crate::run::{Ended, answered, end, run_by, write_line};
 use std::alloc::Global;
 use std::io;
@@ -32,34 +28,18 @@ pub fn run_with_options<S: RandomSource, R: Read, W: Write, F: Write>(
     writer: &mut W,
     faults: &mut F,
 ) -> io::Result<Ended>
-    ensures outcome { IfOk result (λ ended. (ended.status ≡ 3) ⊎ (ended.status ≡ 4) ⊎ ((salt : List ℕ) × (length salt ≡ 16)
-        × OutcomeIs (outcome_with_options salt (texts_of words.now)) (R.remaining reader.old)
-        (λ outcome. (ended.status ≡ outcome.status) × Appends (W.contents writer.old) (W.contents writer.new) outcome.line
-        × (IsTrue ended.fault_told → Appends (F.contents faults.old) (F.contents faults.new) outcome.error)))) }
-    ensures out_of_memory { IfOk result (λ ended. ended.status ≡ 3 → IsTrue ended.fault_told →
-        Appends (F.contents faults.old) (F.contents faults.new) (error_line OutOfMemory)) }
-    ensures failed { IfOk result (λ ended. ended.status ≡ 4 → IsTrue ended.fault_told →
-        Appends (F.contents faults.old) (F.contents faults.new)
-        (error_line (if ended.input_failed then InputFailed else OutputFailed))) }
-    ensures input_failed { IfOk result (λ ended. IsTrue ended.input_failed → ended.status ≡ 4) }
-    ensures nothing { IfOk result (λ ended. (ended.status ≡ 2) ⊎ (ended.status ≡ 3) ⊎ IsTrue ended.input_failed →
-        Keeps (W.contents writer.old) (W.contents writer.new)) }
-    ensures no_error { IfOk result (λ ended. (ended.status ≡ 0) ⊎ (ended.status ≡ 1) →
-        Keeps (F.contents faults.old) (F.contents faults.new)) }
-    // With every reader, whether its bytes are known or not.
-    ensures unread { IfOk result (λ _. (salt : List ℕ) × (length salt ≡ 16)
-        × (IsUnread salt (texts_of words.now) → Keeps (R.remaining reader.old) (R.remaining reader.new))) }
-    ensures read_before_refusal { IfOk result (λ ended. (salt : List ℕ) × (length salt ≡ 16) × (ended.status ≡ 2
-        → ¬ IsUnread salt (texts_of words.now) → IsAtEnd (R.remaining reader.new))) }
+    ensures run { IfOk result (λ ended. (salt : List ℕ) × (length salt ≡ 16) × IsRun (plan_of salt (texts_of words.now))
+        (record { input = R.remaining reader.old; output = W.contents writer.old; faults = F.contents faults.old })
+        (record { input = R.remaining reader.new; output = W.contents writer.new; faults = F.contents faults.new }) ended) }
 {
     let (options, words) = parse_options(words);
     if let Some(information) = options.information {
         return Ok(print(information.text(), writer, faults));
     }
-    if !options.fit_command(words) {
-        return Ok(misfit(words, faults));
+    if let Some((name, reason)) = options.misfit(words) {
+        return Ok(refuse(name, reason, writer, faults));
     }
-    let drawn = draw(source, options)?;
+    let drawn = draw(source, options.draws_salt)?;
     Ok(run_by(alloc, options, drawn, words, reader, writer, faults))
 }
 
@@ -70,16 +50,16 @@ pub fn needs_hash(words: &[String]) -> bool
 {
     let (options, after) = parse_options(words);
     options.has_hash_file
-        && options.information.is_none()
-        && !after.is_empty()
-        && options.fit_command(after)
+        & options.information.is_none()
+        & !after.is_empty()
+        & options.misfit(after).is_none()
 }
 
-// Draws a salt, if the options say so.
-fn draw<S: RandomSource>(source: &S, options: Options) -> io::Result<Option<[u8; 16]>>
-    ensures { IfOk result (IsDrawn options) }
+// Draws a salt, if one is to be.
+fn draw<S: RandomSource>(source: &S, is_drawn: bool) -> io::Result<Option<[u8; 16]>>
+    ensures { IfOk result (IsDrawn is_drawn) }
 {
-    if !options.draws() {
+    if !is_drawn {
         return Ok(None);
     }
     let mut salt = [0u8; 16];
@@ -87,32 +67,26 @@ fn draw<S: RandomSource>(source: &S, options: Options) -> io::Result<Option<[u8;
     Ok(Some(salt))
 }
 
-// Ends a run whose options do not fit the words after them, and says why.
-fn misfit<F: Write>(words: &[String], faults: &mut F) -> Ended
-    ensures status { result.status ≡ 2 }
-    ensures written { IsTrue result.fault_told →
-        Appends (F.contents faults.old) (F.contents faults.new) (misfit_of (texts_of words.now)).error }
-    ensures input_failed { result.input_failed ≡ false }
+// Ends a run whose options do not fit the command of this name, and says why.
+#[tactic(auto, using(crate::proofs::OutcomeFacts::at_once))]
+fn refuse<W: Write, F: Write>(name: &str, reason: &str, writer: &mut W, faults: &mut F) -> Ended
+    ensures run { (input : Option (List ℕ)) → IsRun (at_once (record { status = 2; line = []; error = name.now ++ reason.now }))
+        (record { input = input; output = W.contents writer.old; faults = F.contents faults.old })
+        (record { input = input; output = W.contents writer.new; faults = F.contents faults.new }) result }
 {
-    let name = match first_word(words) {
-        Some((name, _)) => name,
-        None => "",
-    };
     Ended {
         status: 2,
         input_failed: false,
-        fault_told: write_misfit(name, faults).is_ok(),
+        fault_told: write!(faults, "{name}{reason}").is_ok(),
     }
 }
 
-// Writes a text to the output. The status is 0, or 4 if the output failed, which the error line says.
+// Writes a text to the output.
+#[tactic(auto, using(crate::proofs::OutcomeFacts::at_once))]
 fn print<W: Write, F: Write>(text: &str, writer: &mut W, faults: &mut F) -> Ended
-    ensures status { (result.status ≡ 0) ⊎ (result.status ≡ 4) }
-    ensures written { result.status ≡ 0 → Appends (W.contents writer.old) (W.contents writer.new) text.now }
-    ensures no_error { result.status ≡ 0 → Keeps (F.contents faults.old) (F.contents faults.new) × (result.fault_told ≡ true) }
-    ensures failed { result.status ≡ 4 → IsTrue result.fault_told →
-        Appends (F.contents faults.old) (F.contents faults.new) (error_line OutputFailed) }
-    ensures input_failed { result.input_failed ≡ false }
+    ensures run { (input : Option (List ℕ)) → IsRun (at_once (record { status = 0; line = text.now; error = [] }))
+        (record { input = input; output = W.contents writer.old; faults = F.contents faults.old })
+        (record { input = input; output = W.contents writer.new; faults = F.contents faults.new }) result }
 {
     match write_line(writer, text) {
         Ok(()) => answered(0),

@@ -3,18 +3,6 @@ use Rattle.scrypt_commands.specs.Args.{args_of}
 use Rattle.scrypt_commands.proofs.ArgsFacts.{other}
 use Rattle.scrypt_commands.proofs.args.Args.parse.Goals as goal
 
-pub returns-in-hash : goal.returns-in-hash
-unfolding args_of
-returns-in-hash c = record {
-  value = rw (← c.first_word.ensures.first, c.in_ok-name.was, c.in-hash.is) c.parse_hash.ensures;
-}
-
-pub returns-in-rehash : goal.returns-in-rehash
-unfolding args_of
-returns-in-rehash c = record {
-  value = rw (← c.first_word.ensures.first, c.in_ok-name.was, c.in-rehash.is) c.parse_rehash.ensures;
-}
-
 pub returns-in_default : goal.returns-in_default
 unfolding args_of
 returns-in_default c =

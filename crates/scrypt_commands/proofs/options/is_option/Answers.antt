@@ -1,6 +1,0 @@
-use Rattle.std.proofs.Common.{rules}
-use Rattle.scrypt_commands.proofs.BoundsFacts.{prefix_stripped}
-use Rattle.scrypt_commands.proofs.options.is_option.Goals as goal
-
-pub returns : goal.returns
-returns c = rw (prefix_stripped _ _ _ c.strip_prefix.ensures.cases) search rules
