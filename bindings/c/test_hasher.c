@@ -147,6 +147,7 @@ static void check_row(const struct row *row, scrypt_hasher *hasher, const struct
 
 static void run_row(const struct row *row) {
   struct thread all[16];
+  size_t before = READ(mapped); /* with the queues of other rows, which are given back by queue.c itself */
   scrypt_hasher *hasher = of_signals = made(row->processors, row->at_once, 4);
   const char *at;
   char how = ' ';
@@ -168,7 +169,11 @@ static void run_row(const struct row *row) {
   WRITE(most_mapped, SIZE_MAX);
   reap_all(row->why);
   check_row(row, hasher, all, started);
+  scrypt_hasher_close(hasher);
+  expect(READ(mapped) == before + size_of_queue(hasher), "%s: %zu bytes are left", row->why, READ(mapped) - before);
   scrypt_hasher_free(hasher);
+  expect(READ(refusals) <= 3, "%s: what was refused for 4, 3 and 2 tables is tried again", row->why);
+  WRITE(refusals, 0);
 }
 
 static void rows(void) {
@@ -298,7 +303,8 @@ static double mixed_ends(uint64_t n) {
   clock_t begun_at = clock();
   double ms;
   uint64_t i;
-  for (i = 0; i <= n; i++) lock(hasher), enter(hasher, &all[i], 0), unlock(hasher);
+  for (i = 0; i <= n; i++) lock(hasher), enter(hasher, &all[i], i % 3 == 0 ? UINT64_MAX : 0), unlock(hasher);
+  expect(all[n].place == n + 1, "a place that was not given is a new one");
   for (i = 0; i < n; i++) {
     struct call *it = &all[1 + i * 7919 % n];
     uint64_t place = it->place;

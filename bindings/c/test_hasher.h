@@ -48,9 +48,11 @@ static int failed;
   } while (0)
 #define IS(call, wanted) expect((call) == (wanted), #call)
 
-static size_t most_mapped = SIZE_MAX;
+static size_t most_mapped = SIZE_MAX, mapped; /* how much one mapping may be, and how much there is */
+static int refusals;
 static void *test_mmap(void *at, size_t size, int protection, int flags, int file, off_t offset) {
-  if (size > READ(most_mapped)) return errno = ENOMEM, MAP_FAILED;
+  if (size > READ(most_mapped)) return (void)__atomic_add_fetch(&refusals, 1, __ATOMIC_ACQ_REL), errno = ENOMEM, MAP_FAILED;
+  (void)__atomic_add_fetch(&mapped, size, __ATOMIC_ACQ_REL);
   return mmap(at, size, protection, flags, file, offset);
 }
 
@@ -59,6 +61,7 @@ static int test_munmap(void *at, size_t size) {
   size_t words = size / sizeof(size_t);
   while (words > 0 && ((size_t *)at)[words - 1] == 0) words--;
   expect(words == 0, "memory is given back that is not wiped");
+  (void)__atomic_sub_fetch(&mapped, size, __ATOMIC_ACQ_REL);
   return munmap(at, size);
 }
 
