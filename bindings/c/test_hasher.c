@@ -367,6 +367,8 @@ static void calibrated(void) {
   IS(scrypt_calibrate(-1, (size_t)64 << 20, &log_n, &r, &p), SCRYPT_TOO_COSTLY);
   IS(scrypt_calibrate(1, ((size_t)1 << 20) - 1, &log_n, &r, &p), SCRYPT_TOO_COSTLY);
   expect(log_n == 0 && r == 0 && p == 0, "unchanged");
+  IS(scrypt_calibrate(0.5, (size_t)1 << 20, &log_n, &r, &p), SCRYPT_OK);
+  expect(p > 1, "p takes the time that is left");
   WRITE(hook, fork_here);
   IS(scrypt_calibrate(9, (size_t)1 << 20, &log_n, &r, &p), SCRYPT_OK);
   expect(log_n == 10 && r == 8 && p > 1, "the table as large as the bound, and p takes the time: %d %u %u", log_n, r, p);
