@@ -3,6 +3,12 @@ use Rattle.scrypt_commands.specs.Args.{args_of}
 use Rattle.scrypt_commands.proofs.ArgsFacts.{other}
 use Rattle.scrypt_commands.proofs.args.Args.parse.Goals as goal
 
+pub returns-in_ok-parse_hash-in-hash : goal.returns-in_ok-parse_hash-in-hash
+unfolding args_of
+returns-in_ok-parse_hash-in-hash c = record {
+  value = rw (← c.first_word.ensures.first, c.in_ok-name.was, c.in-hash.is, ← c.parse_hash.ensures, c.in_ok-parse_hash-in-hash.was) refl;
+}
+
 pub returns-in_default : goal.returns-in_default
 unfolding args_of
 returns-in_default c =
