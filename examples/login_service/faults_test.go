@@ -40,6 +40,7 @@ func TestKilledInTheMiddleOf500Changes(t *testing.T) {
 		}
 		return got, err
 	})
+	kill.Do(w.stop) // if too few were answered
 	w.start(small)
 	var old, new int32
 	each(users, 16, func(i int) (answer, error) {
