@@ -112,7 +112,7 @@ func untilThereAre(count int, place string) {
 	}
 }
 
-// works reports whether a Hasher lets somebody in, and derives.
+// works reports whether a Hasher still derives.
 func works(t *testing.T, hasher *Hasher, why string) {
 	t.Helper()
 	ctx, cancel := context.WithTimeout(context.Background(), 20*time.Second)

@@ -17,7 +17,7 @@ enum { INPUT_FAILED = 4 }; /* the status of the program when it can't read its i
 static int differ;  /* whether two passwords were typed that differ */
 static int is_hash; /* whether the command is `hash`, whose password is asked for twice */
 static volatile sig_atomic_t caught;
-static sigset_t callers; /* the signals that are blocked but for the time of a question, when all are */
+static sigset_t callers; /* the signals that are blocked, except during a question, when all are */
 static sigjmp_buf without_line;
 
 /* glibc hands a constructor the arguments of main. The first word that names a command is the command. */

@@ -36,7 +36,7 @@ at_once log_n r n table scratch = min (min (min 4 n) (table / table_words log_n 
 abbrev pub tables_used : Parameters → List ℕ → List ℕ → ℕ
 tables_used c table scratch = at_once c.log_n c.r c.p (length table) (length scratch)
 
--- so much of these buffers is used: all of the tables and the scratches, which are at least one
+-- `lens` is the part of each buffer that the derivation uses: one table and one scratch at least
 pub record AreUsed (c : Parameters) (lens : BufferLens) (chunks table scratch : List ℕ) : Type 0 where
   pub chunks_len : lens.chunks ≡ chunks_bytes c.r c.p
   pub table_len : lens.table ≡ tables_used c table scratch * table_words c.log_n c.r

@@ -19,7 +19,7 @@ use password_hash::{Error, Result, Version};
 use scrypt_kernel::memory::{Buffer, Memory};
 use std::alloc::Global;
 
-/// Checks what a hashing call names beside its parameters.
+/// Checks the algorithm and version arguments.
 ///
 /// Returns `Algorithm` if `alg_id` is given and not `name`, and otherwise `Version` if `version` is
 /// given.

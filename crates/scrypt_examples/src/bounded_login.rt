@@ -1,4 +1,4 @@
-//! Logins by texts that somebody else may have written: a text that asks for too much is refused before any work.
+//! Logins by untrusted texts: one that is too costly is refused before any work.
 
 ghost use Rattle.std.specs.Prelude.{◌≡◌, ◌+◌, ◌≤◌};
 ghost use Rattle.scrypt.specs.StoredHash.{reading};

@@ -45,7 +45,7 @@ fn take_all(alloc: Global) -> Result<Vec<Vec<u8>>, AllocError> {
 
 /// The number of allocations of a call, whose sizes these are: it ends out of memory if the process has
 /// room for fewer of them, and is done as soon as it has room for all. The room is made by holding
-/// every block that the process can have, but for the first ones of these sizes.
+/// every block that the process can have, except the first ones of these sizes.
 pub fn failing_allocations<F: Fn() -> CallEnd>(
     alloc: Global,
     sizes: &[usize],
