@@ -165,29 +165,8 @@ unfolding has_room
 same_verdict w w' chunks table scratch password (Ok s) = rw (chunks, table, scratch) refl
 same_verdict w w' chunks table scratch password (Err why) = refl
 
--- within limits
-
--- a hash with these parameters and a key of this length
-whole_read : (reading : Result Stored Refusal) (c : Parameters) (n : ℕ)
-    → Ok (c, n) ≡ mapped {B = Parameters × ℕ} (λ s. (s.params, length s.key)) reading
-    → (s : Stored) × (reading ≡ Ok s) × (s.params ≡ c) × (length s.key ≡ n)
-whole_read (Err why) c n is = absurd cc
-whole_read (Ok s) c n is =
-    let one : Parameters × ℕ = (c, n) in
-    let other : Parameters × ℕ = (s.params, length s.key) in
-    let pairs : other ≡ one = cc in
-    (s, refl, ap (λ (pair : Parameters × ℕ). pair.0) pairs, ap (λ (pair : Parameters × ℕ). pair.1) pairs)
-
-module _ (limits : Limits) (reading : Result Stored Refusal) (c : Parameters) (n : ℕ)
-    (is : Ok (c, n) ≡ mapped {B = Parameters × ℕ} (λ s. (s.params, length s.key)) reading) where
-  -- its parameters need too much
-  pub too_costly : are_within limits c ≡ false → Err (TooCostly (buffers_bytes c.log_n c.r c.p) (work c.log_n c.r c.p))
-      ≡ mapped {B = Parameters × ℕ} (λ s. (s.params, length s.key)) (within limits reading)
-  too_costly costly = let read = whole_read reading c n is in rw (read.1, read.2, costly) refl
-
-  -- it is within the limits
-  pub allowed : are_within limits c ≡ true → limits.least_key_len ≤ n
-      → Ok (c, n) ≡ mapped {B = Parameters × ℕ} (λ s. (s.params, length s.key)) (within limits reading)
-  allowed cheap long =
-      let read = whole_read reading c n is in
-      rw (read.1, read.2, cheap, read.3, (leb_decided limits.least_key_len n).1 long) (ap₂ (λ d m. Ok (d, m)) (sym read.2) (sym read.3))
+-- a hash with these parts, whose parameters need more than the limits allow
+pub too_costly : (limits : Limits) (reading : Result Stored Refusal) (parts : Parts) → HasParts reading parts
+    → are_within limits parts.params ≡ false → let c = parts.params in
+    within limits reading ≡ Err (TooCostly (buffers_bytes c.log_n c.r c.p) (work c.log_n c.r c.p))
+too_costly limits reading parts read costly = rw (read.2, read.1.params, costly) refl
