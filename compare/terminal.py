@@ -20,12 +20,16 @@ def session(words, answers):
         for each in signal.valid_signals() - {signal.SIGKILL, signal.SIGSTOP}:
             signal.signal(each, signal.SIG_DFL)
         os.execvp(words[0], words)
-    shown, line, answers, echo = b"", b"", list(answers), []
+    shown, line, answers, echo, is_closed = b"", b"", list(answers), [], False
     while True:
         try:
             part = os.read(terminal, 1024)
         except OSError:
-            break
+            # Linux may say that the program has closed its side before it gives what was written last.
+            if is_closed:
+                break
+            is_closed = True
+            continue
         shown, line = shown + part, line + part
         if line.rstrip().endswith(b":") and answers:
             echo.append(has_echo(terminal))
