@@ -133,7 +133,7 @@ NUMBER_PLACES = ["key {} 1 1 64 ", "key 4 {} 1 64 ", "key 4 1 {} 64 ", "key 4 1 
                  "hash mcf 4 1 {} ", "hash mcf 4 1 1  {}", "rehash mcf {} 1 1 32  " + EMPTY, "rehash mcf 4 {} 1 32  " + EMPTY,
                  "rehash phc 4 1 {} 32 00 " + EMPTY, "rehash mcf 4 1 1 {}  " + EMPTY]
 
-# The greatest number of each place, which is read, and then not accepted; the next one is no number there.
+# The greatest number that each place takes. It is read, and then not accepted; one more is a usage error.
 GREATEST = list(zip(NUMBER_PLACES, itertools.cycle((255, 2**32 - 1, 2**32 - 1, 2**64 - 1))))
 
 # Parameters that are not accepted.
