@@ -3,15 +3,16 @@
 
 usage: bench.py LIBRARY [--worker NAME=PATH].. [--runs 15] [--cpu N] [--params 14,8,1:17,8,1]
 
-All libraries are called in one process: this one (LIBRARY is libscrypt_c.so) by scrypt_key;
-libxcrypt, libsodium, libscrypt-kdf, and hashlib, which calls OpenSSL. A library that isn't installed is named and left out.
+All libraries are called in one process: this one (LIBRARY is libscrypt_c.so) by scrypt_key_with_buffers, in buffers that
+are kept from call to call, with as many tables as there are chunks, at most four, and by scrypt_key; libxcrypt, libsodium,
+libscrypt-kdf, and hashlib, which calls OpenSSL. A library that isn't installed is named and left out.
 Each round calls every one once, in a new random order, on one processor (--cpu, by default the last). The minimum and the
 median of the rounds are printed as a table in Markdown. An implementation has no figure if it returns an error or another
 key than OpenSSL.
 
-Each call allocates its table and frees it, so page faults are part of its time. This library asks for pages of 2 MiB; with
-GLIBC_TUNABLES=glibc.malloc.hugetlb=1 in the environment malloc asks for them for the others too, but for those that map
-their table.
+Each call but the first kind allocates its table and frees it, so page faults are part of its time. This library asks for
+pages of 2 MiB; with GLIBC_TUNABLES=glibc.malloc.hugetlb=1 in the environment malloc asks for them for the others too,
+except for those that map their table.
 
 Other programs can be added with --worker. A worker is a process of its own on the same processor that reads lines and
 answers each one with a line, immediately:
@@ -30,7 +31,7 @@ import tables
 from libraries import OPENSSL, libraries, of_this_repository
 from worker import Refused, Worker
 
-PARAMS = "10,8,16:14,8,1:17,8,1:20,8,1:14,32,1"
+PARAMS = "10,8,16:13,8,10:14,8,1:14,8,5:15,8,3:16,8,4:17,8,1:20,8,1:14,32,1"
 PASSWORD, SALT, LENGTH = b"pleaseletmein", b"SodiumChloride", 64
 
 # The parameters of some calls before the first that is timed. The C library maps a block of 16 MiB for each of the first

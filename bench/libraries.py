@@ -2,6 +2,7 @@
 
 import ctypes
 import ctypes.util
+import functools
 import hashlib
 import hmac
 import os
@@ -54,7 +55,15 @@ def deriving(name, derive, first=lambda log_n: log_n, verify=None):
 
 
 def of_this_repository(path):
-    return [deriving(OURS, ours.loaded(path).scrypt_key)]
+    """This library in buffers that are kept, with as many tables as there are chunks, at most four, and as it allocates."""
+    library = ours.loaded(path)
+    kept = functools.lru_cache(maxsize=1)(lambda *params: list(ours.buffers(library, params, min(params[2], 4))))
+
+    def in_buffers(password, password_len, salt, salt_len, log_n, r, p, key, length):
+        texts = password, password_len, salt, salt_len
+        return library.scrypt_key_with_buffers(*texts, log_n, r, p, key, length, *kept(log_n, r, p))
+
+    return [deriving(f"{OURS}, in kept tables", in_buffers), deriving(OURS, library.scrypt_key)]
 
 
 def openssl():

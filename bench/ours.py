@@ -1,6 +1,7 @@
 """The calls of this library that are measured, by ctypes."""
 
 import ctypes
+import mmap
 import os
 import sys
 import time
@@ -59,6 +60,18 @@ def verifying(library, most_bytes, most_work):
     options = Options(ctypes.sizeof(Options), 1, 1, 1, most_bytes=most_bytes, most_work=most_work, at_once=1, processors=1)
     hasher = library.scrypt_hasher_new(ctypes.byref(options), None)
     return lambda *login: library.scrypt_hasher_verify(hasher, *login, -1, None)
+
+
+def buffers(library, params, tables, logins=1):
+    """The chunks of so many logins, so many tables, at most four, and their scratch, in huge pages if there are some: each
+    with its length after it."""
+    needs = Needs()
+    if library.scrypt_params_need(*params, UNBOUNDED, UNBOUNDED, needs) != 0:
+        sys.exit(f"no lengths for {params}")
+    for length, times, width in ((needs.chunks_len, logins, 1), (needs.table_len, tables, 4), (needs.scratch_len, tables, 4)):
+        room = mmap.mmap(-1, length * times * width)
+        room.madvise(mmap.MADV_HUGEPAGE)
+        yield from ((ctypes.c_char * len(room)).from_buffer(room), length * times)
 
 
 def seconds(verify, log_n, r, p):

@@ -20,7 +20,6 @@ import ctypes
 import functools
 import hashlib
 import hmac
-import mmap
 import multiprocessing
 import os
 import random
@@ -60,21 +59,10 @@ def timed(verify, count=1):
     return verified
 
 
-def buffers_for(library, params, tables, logins):
-    """The buffers for so many tables and logins, in huge pages if there are some, with their lengths."""
-    needs = ours.Needs()
-    if library.scrypt_params_need(*params, ours.UNBOUNDED, ours.UNBOUNDED, needs) != 0:
-        sys.exit(f"no lengths for {params}")
-    for length, times, width in ((needs.chunks_len, logins, 1), (needs.table_len, tables, 4), (needs.scratch_len, tables, 4)):
-        room = mmap.mmap(-1, length * times * width)
-        room.madvise(mmap.MADV_HUGEPAGE)
-        yield from ((ctypes.c_char * len(room)).from_buffer(room), length * times)
-
-
 def of_this_repository(path):
     library = ours.loaded(path)
     hasher = ours.verifying(library, ours.UNBOUNDED, ours.UNBOUNDED)
-    buffers = functools.lru_cache(maxsize=2)(lambda *of: list(buffers_for(library, *of)))
+    buffers = functools.lru_cache(maxsize=2)(lambda *of: list(ours.buffers(library, *of)))
 
     def in_memory(password, text, *_):
         return hasher(password, len(password), text, len(text)) == 0
