@@ -51,8 +51,8 @@ not counted.
 
 ## What is proved
 
-The public functions of each file, the number of clauses of each, and a checksum of the text of these clauses. If a
-promise changes, so does its checksum.
+The public functions of each file, and its traits and implementations that have clauses; the number of clauses of each,
+and a checksum of the text of these clauses. If a promise changes, so does its checksum.
 
 {functions}
 
