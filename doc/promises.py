@@ -163,9 +163,10 @@ def wrong(views):
     yield from views.wrong()
     if read(PAGE) != page(views):
         yield f"{PAGE} differs from the sources: make promises"
-    lines = sum(it.lines for _, shown in views.reading(views.clauses(KEY)) for it in shown)
-    if f"{lines} lines for the key" not in read("README.md"):
-        yield f"README.md: the key has {lines} lines to read"
+    key, verdict = (sum(it.lines for _, shown in views.reading(views.clauses(its)) for it in shown) for its in (KEY, VERDICT))
+    lines = f"{key} lines for the key, {verdict} for the verdict"
+    if lines not in read("README.md"):
+        yield f"README.md: what to read is {lines}"
 
 
 def main():
