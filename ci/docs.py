@@ -36,7 +36,7 @@ LIBRARY_PROOF = re.compile(r"Rattle\.(?:scrypt|scrypt_kernel|password_hash)\.pro
 def known_names():
     """Every word that the sources and the bindings have, which is what a name may consist of."""
     names = set(re.findall(r"^([\w-]+):", read("Makefile"), re.M))
-    for path in (it for pattern in SOURCES for it in glob.glob(pattern, recursive=True)):
+    for path in (found for pattern in SOURCES for found in glob.glob(pattern, recursive=True)):
         if "/out/" not in path and (path.startswith("crates/") or "test" not in path):
             names.update(re.findall(r"[A-Za-z_][A-Za-z0-9_']*", read(path)))
             names.update(re.split(r"[/.]", path))
@@ -66,7 +66,7 @@ def unknown_names(path, text, names):
 
 def headings(text):
     """The places of a document that a link can lead to, as forges name them."""
-    return {re.sub(r"[^\w -]", "", it.lower()).replace(" ", "-") for it in re.findall(r"^#+ (.*)", text, re.M)}
+    return {re.sub(r"[^\w -]", "", title.lower()).replace(" ", "-") for title in re.findall(r"^#+ (.*)", text, re.M)}
 
 
 def broken_links(path, text):
@@ -86,7 +86,7 @@ def broken_links(path, text):
 
 
 def stripped(text):
-    return "\n" + "\n".join(it.strip() for it in text.strip().splitlines()) + "\n"
+    return "\n" + "\n".join(line.strip() for line in text.strip().splitlines()) + "\n"
 
 
 def other_examples(path, text):
@@ -112,21 +112,21 @@ def unexplained_modules(path, text):
 
 def inner_proofs(path, text):
     """What a caller's proof names of the proofs of libraries."""
-    return [f"{path}: a proof of a library, {it}" for it in LIBRARY_PROOF.findall(text)]
+    return [f"{path}: a proof of a library, {name}" for name in LIBRARY_PROOF.findall(text)]
 
 
-def names_of(source, it):
+def names_of(source, item):
     """The names that a picture may have for a function: with its module, its type or its trait, or without."""
-    owners = [re.sub(r"<.*", "", owner) for owner in it.owner.split(" for ")]
-    return {it.name, *(f"{owner}::{it.name}" for owner in [source.module.split("::")[-1], *owners])}
+    owners = [re.sub(r"<.*", "", owner) for owner in item.owner.split(" for ")]
+    return {item.name, *(f"{owner}::{item.name}" for owner in [source.module.split("::")[-1], *owners])}
 
 
 def missing_calls(path, crates):
     """The edges of a picture that are not calls: the first function's body doesn't have the second one's name."""
-    known = [(source, it) for crate in crates for source in crate.values() for it in source.items if it.kind == "fn"]
+    known = [(source, item) for crate in crates for source in crate.values() for item in source.items if item.kind == "fn"]
     for edge in re.findall(r'"([\w:]+)" -> "([\w:]+)"', read(path)):
-        caller, called = ([it for it in known if name in names_of(*it)] for name in edge)
-        lines = [line for source, it in caller for line in source.text.splitlines()[it.opened : it.last]]
+        caller, called = ([function for function in known if name in names_of(*function)] for name in edge)
+        lines = [line for source, item in caller for line in source.text.splitlines()[item.opened : item.last]]
         if not called or not re.search(rf"\b{called[0][1].name}(::<.*>)?\(", "\n".join(lines)):
             yield f"{path}: {edge[0]} doesn't call {edge[1]}"
 
@@ -134,7 +134,7 @@ def missing_calls(path, crates):
 def main():
     names = known_names()
     documents = sorted(path for pattern in DOCS for path in glob.glob(pattern, recursive=True))
-    found = [it for path in documents for it in complaints(path, read(path), names)]
+    found = [complaint for path in documents for complaint in complaints(path, read(path), names)]
     for path in glob.glob("crates/*/proofs/Lib.antt"):
         found += unexplained_modules(path, read(path))
     for name in CALLERS:
@@ -142,7 +142,7 @@ def main():
             found += inner_proofs(path, read(path))
     if f"`axioms={len(read('doc/axioms.txt').split())}`" not in read("README.md"):
         found.append("README.md: doc/axioms.txt has another number of axioms")
-    found += missing_calls("docs/data_path.dot", [read_crate(it, f"crates/{it}") for it in ("scrypt", "scrypt_kernel")])
+    found += missing_calls("docs/data_path.dot", [read_crate(name, f"crates/{name}") for name in ("scrypt", "scrypt_kernel")])
     sys.exit("\n".join(found) or 0)
 
 

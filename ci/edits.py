@@ -26,12 +26,12 @@ class BadEdit(Exception):
 
 def crates_with(*folders):
     """The crates that have edits in one of these folders."""
-    return sorted({it.split("/")[1] for it in edits_of("*", *folders)})
+    return sorted({edit.split("/")[1] for edit in edits_of("*", *folders)})
 
 
 def edits_of(name, *folders):
     """The edits of a crate in these folders."""
-    return sorted(it for folder in folders for it in glob.glob(f"crates/{name}/{folder}/*.edit"))
+    return sorted(edit for folder in folders for edit in glob.glob(f"crates/{name}/{folder}/*.edit"))
 
 
 def pairs(edit):

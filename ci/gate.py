@@ -1,13 +1,14 @@
 #!/usr/bin/env python3
-"""Runs `rt ci`, and beside it, on the processors that it leaves idle, all else that the gate tries.
+"""Runs `rt ci`, which proves every crate, and all else that the gate checks.
 
-`rt ci` proves every crate from nothing. Each other task begins as soon as `rt ci` says that the libraries that it needs
-are proved, over a copy of them, and gives way to `rt ci`, whose crates wait for one another. The wrong bodies are tried
-over these libraries, and the static libraries for C are built over them, so that only their own crate is checked again:
-`rt lib` takes nothing from `rt ci`, and would prove the crates below it again. That crate is checked once for both
-processors and for its wrong bodies, in a folder that is empty before. What the tasks print comes after what `rt ci`
-prints, and the count of what passed stays the last line. A fault of the documents or the scripts, and one of what must
-not compile, is found in the first minutes and ends all. What calls the programs and the library comes last.
+- At once: the documents, the scripts and what must not compile. A fault there ends the gate early.
+- When the crates below are proved, over a copy of their libraries: the wrong bodies, and the static libraries for C, since
+  `rt lib` takes nothing from `rt ci` and would prove the crates below again. The first of these libraries checks its crate
+  in an empty folder; the second, and the wrong bodies of that crate, take from it what they leave unchanged.
+- At the end: calls of the programs and of the libraries.
+
+The first two run on the processors that `rt ci` leaves idle, at a lower priority, since its crates wait for one another.
+What they print, with the time that each took, follows what `rt ci` prints. The count of what passed is the last line.
 """
 
 import concurrent.futures
@@ -22,12 +23,17 @@ import sys
 import tempfile
 import threading
 import time
+from pathlib import Path
 
 import edits
-import words
+import prover_command
+
+sys.path.append(str(Path(__file__).parent.parent / "doc"))
+import kit
+import sources
 
 # How many tasks run beside `rt ci`, and how many after it.
-BESIDE, AFTERWARDS = 2, 4
+BESIDE, AFTERWARDS = 3, 4
 
 # What `rt ci` prints of a crate whose library is there.
 PROVED = re.compile(r"rt: (\w+) (?:proved$|is kept: )")
@@ -39,10 +45,14 @@ PROGRAM = "crates/scrypt_tool/out/scrypt_tool"
 BEGUN = time.monotonic()
 
 
+def in_minutes(seconds):
+    """The minutes and seconds."""
+    return f"{int(seconds) // 60}:{int(seconds) % 60:02}"
+
+
 def clock():
     """The minutes and seconds since the gate began."""
-    minutes, seconds = divmod(int(time.monotonic() - BEGUN), 60)
-    return f"{minutes}:{seconds:02}"
+    return in_minutes(time.monotonic() - BEGUN)
 
 
 def left_by_ci(name):
@@ -53,7 +63,7 @@ def left_by_ci(name):
 
 def clean():
     """Removes what an earlier run left, and the libraries for C: `rt ci` refuses a clone with their links."""
-    for name in words.crates():
+    for name in sources.crates():
         if left_by_ci(name):
             shutil.rmtree(f"crates/{name}/out/rlib")
     shutil.rmtree("build/lib", ignore_errors=True)
@@ -68,45 +78,50 @@ class Tasks:
         self.libraries, self.proved, self.waiting, self.begun, self.running = libraries, set(), [], {}, set()
         self.lanes, self.threads = threading.Semaphore(BESIDE), concurrent.futures.ThreadPoolExecutor(2 * AFTERWARDS)
         self.prover = self.early = None
+        self.spent = threading.local()
 
     def add(self, name, needs, call):
         self.waiting.append((name, needs, call))
 
     def begin(self):
-        for name, needs, call in [it for it in self.waiting if self.proved.issuperset(it[1])]:
+        for name, needs, call in [task for task in self.waiting if self.proved.issuperset(task[1])]:
             self.waiting.remove((name, needs, call))
-            self.begun[name] = self.threads.submit(self.one, name, call, not needs)
+            self.begun[name] = self.threads.submit(self.run_task, name, call, not needs)
 
     def add_last(self, name, call, before=None):
         """Runs a task that needs what `rt ci` left, and what the task `before` made."""
-        self.begun[name] = self.threads.submit(self.one, name, call, False, self.begun.get(before))
+        self.begun[name] = self.threads.submit(self.run_task, name, call, False, self.begun.get(before))
 
-    def one(self, name, call, is_early, before=None):
+    def run_task(self, name, call, is_early, before=None):
         """Runs a task. If one fails that needs nothing proved, the prover is ended too."""
         if before is not None and not before.result()[0]:
             return False, ""
         with self.lanes:
-            begun = clock()
-            well, text = call()
-            text = f"{begun} to {clock()}: {name}\n{text}"
-        if is_early and not well and self.prover.poll() is None and self.early is None:
+            begun, self.spent.seconds = clock(), 0
+            is_well, text = call()
+            text = f"{begun} to {clock()}, {in_minutes(self.spent.seconds)} of a processor: {name}\n{text}"
+        if is_early and not is_well and self.prover.poll() is None and self.early is None:
             self.early = f"{text}failed: {name}"
             self.prover.terminate()
-        return well, text
+        return is_well, text
 
     def run(self, *command, cwd=None):
-        """Whether a command succeeds, and what it prints."""
+        """Whether a command succeeds, and what it prints. Adds its processor time to that of the task that runs it."""
         how = {"stdout": subprocess.PIPE, "stderr": subprocess.STDOUT, "text": True, "errors": "replace", "process_group": 0}
         process = subprocess.Popen(["nice", *command], cwd=cwd, **how)
         self.running.add(process)
-        text = process.communicate()[0]
+        text = process.stdout.read()
+        _, status, used = os.wait4(process.pid, 0)
+        process.returncode = os.waitstatus_to_exitcode(status)
+        process.stdout.close()
         self.running.remove(process)
+        self.spent.seconds += used.ru_utime + used.ru_stime
         return process.returncode == 0, text
 
-    def see(self, line):
+    def note(self, line):
         """Copies the library of a crate that `rt ci` says is proved, since it may give back an earlier one at its end."""
         found = PROVED.match(line)
-        if found and found[1] in words.crates():
+        if found and found[1] in sources.crates():
             if os.path.isdir(f"crates/{found[1]}/out/rlib"):
                 shutil.copytree(f"crates/{found[1]}/out/rlib", f"{self.libraries}/{found[1]}/out/rlib")
             self.proved.add(found[1])
@@ -118,17 +133,17 @@ class Tasks:
     def __exit__(self, failure, *_):
         """Ends the tasks, with what they have started, if the gate ends before them."""
         self.threads.shutdown(wait=False, cancel_futures=failure is not None)
-        for it in list(self.running) if failure else ():
-            os.killpg(it.pid, signal.SIGTERM)
+        for process in list(self.running) if failure else ():
+            os.killpg(process.pid, signal.SIGTERM)
 
     def end(self, log):
         """Prints what the tasks print, also to a file, and returns the names of those that fail."""
         failed = [f"{name}, which did not begin" for name, _, _ in self.waiting]
-        for name, it in self.begun.items():
-            well, text = it.result()
+        for name, task in self.begun.items():
+            is_well, text = task.result()
             print(text, end="", flush=True)
             log.write(text)
-            failed += [] if well else [name]
+            failed += [] if is_well else [name]
         return failed
 
 
@@ -138,16 +153,16 @@ def build(tasks, made):
     The verdict of the newer processor's is printed."""
     kept = f"{made}/kept"
     os.makedirs(kept)
-    command = [*words.of("build", "scrypt_c"), "--toolchain", f"{words.kit()}/toolchain", "--backend", "llvm"]
+    command = [*prover_command.of("build", "scrypt_c"), "--toolchain", f"{kit.located()}/toolchain", "--backend", "llvm"]
     command += ["--incremental", kept]
     lines = []
     for name, options in [(NEWER, ["--cpu", NEWER]), ("scrypt_c", [])]:
-        well, text = tasks.run(*command, *options, "-o", f"{made}/{name}.a", cwd="crates/scrypt_c")
-        if not well:
+        is_well, text = tasks.run(*command, *options, "-o", f"{made}/{name}.a", cwd="crates/scrypt_c")
+        if not is_well:
             return False, text
-        lines += [it for it in text.splitlines() if it.startswith("logic=proved ") and f" cpu={NEWER} " in it]
-    well, text = tasks.run(sys.executable, "ci/wrong_bodies.py", "over", kept, "scrypt_c")
-    return well and len(lines) == 1, "\n".join([f"== scrypt_c-{NEWER}", *lines, text])
+        lines += [line for line in text.splitlines() if line.startswith("logic=proved ") and f" cpu={NEWER} " in line]
+    is_well, text = tasks.run(sys.executable, "ci/wrong_bodies.py", "over", kept, "scrypt_c")
+    return is_well and len(lines) == 1, "\n".join([f"== scrypt_c-{NEWER}", *lines, text])
 
 
 def check_axioms(log):
@@ -171,16 +186,16 @@ def place(made):
 def add_all(tasks, made, is_built):
     """Adds the tasks, the longest first."""
     if is_built:
-        tasks.add("the library for C", words.below("scrypt_c"), lambda: build(tasks, made))
+        tasks.add("the library for C", prover_command.below("scrypt_c"), lambda: build(tasks, made))
     for name in edits.crates_with("wrong-bodies"):
         if name != "scrypt_c" or not is_built:
             command = [sys.executable, "ci/wrong_bodies.py", name]
-            tasks.add(f"wrong bodies of {name}", words.below(name), lambda command=command: tasks.run(*command))
+            tasks.add(f"wrong bodies of {name}", prover_command.below(name), lambda command=command: tasks.run(*command))
     tasks.add("the documents", [], lambda: tasks.run("make", "--no-print-directory", "documents"))
     tasks.add("what must not compile", [], lambda: tasks.run(sys.executable, "ci/must_not_compile.py"))
 
 
-def proved(tasks, log):
+def prove(tasks, log):
     """Runs `rt ci`, copies what it prints to a file, and returns its last line, or ends as it did."""
     tasks.prover = ran = subprocess.Popen(["rt", "ci"], stdout=subprocess.PIPE, text=True, errors="replace")
     tasks.begin()
@@ -188,7 +203,7 @@ def proved(tasks, log):
     for line in ran.stdout:
         print(f"{clock()} {line}" if line.startswith("rt: ") else line, end="", flush=True)
         log.write(line)
-        tasks.see(line)
+        tasks.note(line)
     if ran.wait():
         sys.exit(tasks.early or ran.returncode)
     return line
@@ -198,9 +213,9 @@ def run_all(tasks, *commands):
     """Whether commands succeed, one after another, and what they print."""
     texts = []
     for command in commands:
-        well, text = tasks.run(*command)
+        is_well, text = tasks.run(*command)
         texts.append(text)
-        if not well:
+        if not is_well:
             return False, "".join(texts)
     return True, "".join(texts)
 
@@ -210,16 +225,16 @@ def make_object(tasks):
     the same earlier on this machine."""
     if os.path.isfile(f"{PROGRAM}.o"):
         return True, ""
-    command = [*words.of("build", "scrypt_tool"), "--toolchain", f"{words.kit()}/toolchain", "--backend", "llvm"]
+    command = [*prover_command.of("build", "scrypt_tool"), "--toolchain", f"{kit.located()}/toolchain", "--backend", "llvm"]
     return tasks.run(*command, "-o", "out/scrypt_tool.o", cwd="crates/scrypt_tool")
 
 
-def called(tasks, made):
+def link_and_call(tasks, made):
     """Links the libraries and the program, and calls them. What is packed is this."""
     place(made)
-    well, text = make_object(tasks)
-    if not well:
-        return well, text
+    is_well, text = make_object(tasks)
+    if not is_well:
+        return is_well, text
     return run_all(tasks, ["bindings/lib.sh", "built"], ["bindings/terminal/build.sh"], ["bindings/callers.sh", "short"])
 
 
@@ -227,7 +242,7 @@ def add_last(tasks, made, is_built):
     """Adds what calls the programs and the libraries, and gives the tasks all processors."""
     verdicts, python = "crates/test_verdicts/out/test_verdicts", sys.executable
     if is_built:
-        tasks.add_last("callers of the library", lambda: called(tasks, made), "the library for C")
+        tasks.add_last("callers of the library", lambda: link_and_call(tasks, made), "the library for C")
     tasks.add_last("answers of the program", lambda: tasks.run(python, "ci/program.py", PROGRAM))
     tasks.add_last("answers to hashes", lambda: tasks.run(python, "ci/hashes.py", PROGRAM, verdicts))
     tasks.lanes.release(AFTERWARDS - BESIDE)
@@ -240,7 +255,7 @@ def main():
         os.environ["PROVED_LIBRARIES"] = f"{room}/libraries"
         with Tasks(f"{room}/libraries") as tasks:
             add_all(tasks, f"{room}/made", is_built)
-            count = proved(tasks, log)
+            count = prove(tasks, log)
             add_last(tasks, f"{room}/made", is_built)
             failed = tasks.end(log)
         if failed:

@@ -24,7 +24,7 @@ sys.path.append(str(Path(__file__).parent.parent / "doc"))
 import sources
 
 COUNTER = "crates/scrypt_kernel/proofs/cores/CoreCount/"
-HANDWRITTEN = [COUNTER + it + "/Proof.antt" for it in ["after_core", "new"]]
+HANDWRITTEN = [f"{COUNTER}{function}/Proof.antt" for function in ["after_core", "new"]]
 NEW_COUNTS = {
     "crates/scrypt/src/derivation.rt": 1,
     "crates/scrypt/src/hashing.rt": 1,
@@ -77,18 +77,18 @@ def bare(path, text):
 def own_sources():
     """The sources outside the test crates."""
     found = glob.glob("crates/*/src/**/*.rt", recursive=True)
-    return [bare(it, sources.read(it)) for it in found if not it.split("/")[1].endswith("_tests")]
+    return [bare(path, sources.read(path)) for path in found if not path.split("/")[1].endswith("_tests")]
 
 
 def count_complaints(those):
     """What is refused of new counts and their names."""
-    counts = {it.path: len(NEW.findall(it.text)) for it in those if NEW.search(it.text)}
+    counts = {source.path: len(NEW.findall(source.text)) for source in those if NEW.search(source.text)}
     if counts != NEW_COUNTS:
         yield f"new counts of cores: {counts}, where only {NEW_COUNTS} may be"
-    for it in those:
-        for found in OTHER_NAMES.findall(it.text):
-            yield f"{it.path}: another name for the counter of cores: {found}"
-    [text] = [it.text for it in those if it.path == COUNTER_SOURCE]
+    for source in those:
+        for found in OTHER_NAMES.findall(source.text):
+            yield f"{source.path}: another name for the counter of cores: {found}"
+    [text] = [source.text for source in those if source.path == COUNTER_SOURCE]
     if re.search(r"\bSelf\s*::\s*new\b", text):
         yield f"{COUNTER_SOURCE}: a new count by `Self::new`"
     if re.findall(r"#\[derive\(([^)]*)\)\]\s*pub struct CoreCount\b", text) != ["Drop"]:
@@ -97,20 +97,20 @@ def count_complaints(those):
 
 def impl_complaints(source):
     """What is refused of the implementations of a source: for the counter, and of `Clone` and `PartialEq`."""
-    for it in (it for it in source.items if it.kind == "impl"):
-        if re.search(r"\bCoreCount\b", it.text.partition(" where ")[0]) and it.text not in COUNTER_IMPLS:
-            yield f"{source.path}: an impl for the counter of cores: {it.text}"
-        trait = re.search(r"\b(Clone|PartialEq)\b(?:<[^>]*>)? for ", it.name)
-        body = "\n".join(source.text.splitlines()[it.line : it.last])
+    for item in (item for item in source.items if item.kind == "impl"):
+        if re.search(r"\bCoreCount\b", item.text.partition(" where ")[0]) and item.text not in COUNTER_IMPLS:
+            yield f"{source.path}: an impl for the counter of cores: {item.text}"
+        trait = re.search(r"\b(Clone|PartialEq)\b(?:<[^>]*>)? for ", item.name)
+        body = "\n".join(source.text.splitlines()[item.line : item.last])
         if trait and (trait[1] == "Clone" or not any(whole in body for whole in WHOLE)):
-            yield f"{source.path}: an impl that need not copy or compare the whole value: {it.text}"
+            yield f"{source.path}: an impl that need not copy or compare the whole value: {item.text}"
     for line in source.unread():
         yield f"{source.path}: not read, since it isn't formatted: {source.text.splitlines()[line - 1]}"
 
 
 def complaints(those):
     """What is refused in these sources."""
-    return [*count_complaints(those), *(found for it in those for found in impl_complaints(it))]
+    return [*count_complaints(those), *(found for source in those for found in impl_complaints(source))]
 
 
 def main():

@@ -24,8 +24,8 @@ import tempfile
 from pathlib import Path
 
 import edits
-import verdicts
-import words
+import prover_command
+import prover_output
 
 sys.path.append(str(Path(__file__).parent.parent / "doc"))
 import sources
@@ -39,7 +39,7 @@ AT_ONCE = min(4, len(os.sched_getaffinity(0)))
 def changed(edit, name, crate):
     """The paths of the functions that an edit changes, or none if it changes what is outside of them."""
     edits.texts_after([edit], f"crates/{name}")
-    found, files = set(), {it.path: it for it in crate.values()}
+    found, files = set(), {source.path: source for source in crate.values()}
     for path, old, _ in edits.pairs(edit):
         source = files[f"crates/{name}/{path}"]
         at = source.text.index(old) + len(old) - len(old.lstrip())
@@ -67,7 +67,7 @@ def rounds(name, *folders):
     crate = sources.read_crate(name, folder)
     for edit in edits.edits_of(name, *folders):
         its = changed(edit, name, crate)
-        tried = next((it for it in made if takes(it, edit, its, folder)), None)
+        tried = next((others for others in made if takes(others, edit, its, folder)), None)
         if its and tried is not None:
             tried[edit] = its
         else:
@@ -83,7 +83,7 @@ def check(name, tried, kept=()):
                 shutil.copytree(f"crates/{name}/{part}", f"{crate}/{part}")
         edits.write(edits.texts_after(tried, crate))
         only = [word for its in tried.values() for path in its for word in ("--only", path)]
-        command = [*words.of("check", name), *only, *kept]
+        command = [*prover_command.of("check", name), *only, *kept]
         ran = subprocess.run(command, cwd=crate, capture_output=True, text=True, errors="replace")
     return ran.stdout + ran.stderr
 
@@ -91,19 +91,19 @@ def check(name, tried, kept=()):
 def judged(name, tried, kept):
     """Each edit of a round with its verdict."""
     printed = check(name, tried, kept)
-    if not verdicts.statuses(printed):
+    if not prover_output.statuses(printed):
         return {edit: "BAD EDIT: " + printed.strip()[:300] for edit in tried}
-    return {edit: verdicts.verdict(printed, its) for edit, its in tried.items()}
+    return {edit: prover_output.verdict(printed, its) for edit, its in tried.items()}
 
 
 def try_all(names, folders, kept=()):
     """Tries the edits of crates, prints each that isn't refused with a goal, and returns how many these are."""
     tried = wrong = 0
     # The longest begin first.
-    all_rounds = [(name, it) for name in names for it in rounds(name, *folders)]
-    all_rounds.sort(key=lambda it: -len(it[1]))
+    all_rounds = [(name, tried) for name in names for tried in rounds(name, *folders)]
+    all_rounds.sort(key=lambda job: -len(job[1]))
     with concurrent.futures.ThreadPoolExecutor(AT_ONCE) as lanes:
-        running = [lanes.submit(judged, *it, kept) for it in all_rounds]
+        running = [lanes.submit(judged, *job, kept) for job in all_rounds]
         for done in concurrent.futures.as_completed(running):
             for edit, verdict in done.result().items():
                 tried += 1

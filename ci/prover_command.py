@@ -15,7 +15,7 @@ def below(name):
     found = []
     for used in crates()[name][1]:
         if used in crates():
-            found += [it for it in [*below(used), used] if it not in found]
+            found += [crate for crate in [*below(used), used] if crate not in found]
     return found
 
 
@@ -26,10 +26,10 @@ def of(command, name):
     root = "src/main.rt" if os.path.isfile(f"crates/{name}/src/main.rt") else "src/lib.rt"
     words = [f"{folder}/bin/rattle", command, "--crate-name", name, root]
     words += ["--crate-type", kind] if kind else []
-    for it in ["std", *used]:
-        place = f"{libraries}/{it}/out/rlib" if it in crates() else f"{folder}/rlibs"
-        words += ["--extern", f"{it}={place}/{it}.rlib"]
-    for it in below(name):
-        words += ["-L", f"dependency={libraries}/{it}/out/rlib"]
+    for library in ["std", *used]:
+        place = f"{libraries}/{library}/out/rlib" if library in crates() else f"{folder}/rlibs"
+        words += ["--extern", f"{library}={place}/{library}.rlib"]
+    for library in below(name):
+        words += ["-L", f"dependency={libraries}/{library}/out/rlib"]
     words += ["-L", f"dependency={folder}/rlibs", "--antt-project", f"{folder}/rattle/logic/antt-project.json"]
     return [*words, "--logic-built", f"{folder}/logic_built"]

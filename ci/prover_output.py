@@ -25,7 +25,8 @@ def statuses(printed):
 
 def unshown_goals(printed):
     """The reasons that a check prints and that name an unproved goal."""
-    return [it for it in reasons(printed) if STRONG.search(it) and not WEAK.search(it) and not it.startswith("so far")]
+    found = reasons(printed)
+    return [reason for reason in found if STRONG.search(reason) and not WEAK.search(reason) and not reason.startswith("so far")]
 
 
 def reasons(printed):
@@ -37,14 +38,14 @@ def own_reasons(printed, path):
     """The reasons that a check gives for one function: of its proof files, and right before its own line."""
     folder = "proofs/" + path.partition("::")[2].replace("::", "/") + "/"
     before, own = [], []
-    for it in reasons(printed):
-        if it.removeprefix("./").startswith(folder):
-            own.append(it)
-        elif re.match(r"(fn|impl|enum|struct|trait) ", it):
-            own += before if it.startswith(f"fn {path}: ") else []
+    for reason in reasons(printed):
+        if reason.removeprefix("./").startswith(folder):
+            own.append(reason)
+        elif re.match(r"(fn|impl|enum|struct|trait) ", reason):
+            own += before if reason.startswith(f"fn {path}: ") else []
             before = []
-        elif it.startswith("note: src/"):
-            before.append(it)
+        elif reason.startswith("note: src/"):
+            before.append(reason)
     return own
 
 
@@ -53,8 +54,8 @@ def verdict(printed, changed):
     if not changed:
         refused = not re.search(r"^logic=proved", printed, re.M)
         return word_for(refused, unshown_goals(printed))
-    inside = tuple(f"{it}::" for it in changed)
-    found = {it: said for it, said in statuses(printed).items() if f"{it.partition('::')[2]}::".startswith(inside)}
+    inside = tuple(f"{path}::" for path in changed)
+    found = {path: said for path, said in statuses(printed).items() if f"{path.partition('::')[2]}::".startswith(inside)}
     if not found:
         return "BAD EDIT: no such function was checked"
     refused = [path for path, said in found.items() if REFUSED.match(said)]

@@ -1,8 +1,8 @@
-"""verdicts.py takes only a goal of its own for the refusal of a function. The gate shows that it sees refusals."""
+"""prover_output.py takes only a goal of its own for the refusal of a function. The gate shows that it sees refusals."""
 
 import unittest
 
-import verdicts
+import prover_output
 
 GOAL = "./proofs/walk/step/Answers.antt:3:9: error: `returns`: the two sides differ\n  on the right: 3\n"
 FOUND = "note: src/walk.rt:40:5: it is not proved that `accepted` holds: log_n ≤ 56\n"
@@ -51,9 +51,9 @@ class Verdicts(unittest.TestCase):
         rows = [({"walk::step"}, *row) for row in VERDICTS] + [(set(), *row) for row in CONSTANTS]
         for changed, printed, wanted, reason in rows:
             with self.subTest(reason):
-                self.assertEqual(verdicts.verdict(printed, changed), wanted)
+                self.assertEqual(prover_output.verdict(printed, changed), wanted)
 
     def test_goals(self):
         for printed, reason in NO_GOALS:
             with self.subTest(reason):
-                self.assertEqual(verdicts.unshown_goals(printed), [])
+                self.assertEqual(prover_output.unshown_goals(printed), [])
