@@ -1,11 +1,11 @@
 -- Pairs and their text.
-use Rattle.std.proofs.Common.{◌≡◌, ℕ, suc, ◌+◌, ◌<◌, ◌==◌, Bool, true, false, IsTrue, List, [], ◌∷◌, ◌++◌}
-use Rattle.std.proofs.Common.{length, map, refl, sym, ap, subst, ◌∙◌, arith}
+use Rattle.std.proofs.Common.{◌≡◌, ℕ, ◌+◌, ◌<◌, ◌==◌, Bool, true, false, IsTrue, List, [], ◌∷◌, ◌++◌}
+use Rattle.std.proofs.Common.{length, map, refl, sym, ap, ◌∙◌, arith}
 use Rattle.std.specs.Prelude.{All}
 use Rattle.std.specs.List.{list_all, join_with_byte, slice_split, before_first, after_first, position_or_len}
 use Rattle.std.proofs.lemmas.Bool.Decides.{Decides-and, Decides-like}
 use Rattle.std.proofs.lemmas.Bool.{ne_eqb, eq-eqb, false≢true}
-use Rattle.std.proofs.lemmas.List.{take_all, drop_all, take_at, drop_at, append_assoc, length-append, length-drop}
+use Rattle.std.proofs.lemmas.List.{take_at, drop_at, append_assoc, length-append}
 use Rattle.std.proofs.lemmas.List.{get_or_append_left, get_or_at, length_push}
 use Rattle.std.proofs.lemmas.List.Sums.{position_or_len_is, AllPass-from_list_all}
 use Rattle.std.proofs.lemmas.List.Splits.{slice_split_none, slice_split_at}
@@ -13,7 +13,7 @@ use Rattle.std.proofs.lemmas.List.Elements.{All-cons, All-head, All-tail, All-ap
 use Rattle.std.specs.Bool.{Decides}
 use Rattle.std.specs.Cmp.Lexicographic.{pointwise}
 use Rattle.std.proofs.lemmas.Slice.Eq.{bytes_eq-Decides, slice_eq-Decides}
-use Rattle.password_hash.specs.Letters.{IsIdentifier, is_identifier_letter, is_value_letter}
+use Rattle.password_hash.specs.Letters.{is_identifier_letter, is_value_letter}
 use Rattle.password_hash.specs.Pairs.{IsPair, pair_text, pairs_text, ArePairs, pair_eq, pair_of, pairs_of, IsPairsText}
 
 -- no byte is c
@@ -36,14 +36,6 @@ cut_at_first c xs ys none =
     (λ _. rw (get_or_at xs c ys 0 (length xs) refl) (eq-eqb c c refl)) in
     let regrouped : xs ++ (c ∷ ys) ≡ (xs ++ (c ∷ [])) ++ ys = sym (append_assoc xs (c ∷ []) ys) in
     (rw at (take_at xs (c ∷ ys) (length xs) refl), rw (at, regrouped) (drop_at (xs ++ (c ∷ [])) ys (length xs + 1) (length_push xs c)))
-
--- and bytes that lack it are whole before it
-pub cut_at_none : (c : ℕ) (xs : List ℕ) → Lacks c xs → (before_first (λ b. b == c) xs ≡ xs) × (after_first (λ b. b == c) xs ≡ [])
-cut_at_none c xs none =
-    let at : position_or_len (λ b. b == c) xs ≡ length xs =
-    position_or_len_is (λ b. b == c) xs (length xs) 0 (omega arith)
-    (λ k below. All-get_or (λ b. (b == c) ≡ false) xs k 0 below none) (λ past. absurd (omega arith)) in
-    rw at (take_all (length xs) xs (omega arith), drop_all (length xs + 1) xs (omega arith))
 
 -- a pair is told by its text
 pub pair_of-pair_text : (pair : List ℕ × List ℕ) → IsPair pair → pair_of (pair_text pair) ≡ pair
@@ -115,44 +107,6 @@ pub kept_as_text : (text : List ℕ) (pairs : List (List ℕ × List ℕ)) → t
 kept_as_text text pairs e h =
     let back : pairs_of text ≡ pairs = ap pairs_of e ∙ pairs_of-pairs_text pairs h.each in
     (record { pairs = rw back h; whole = ap pairs_text back ∙ sym e }, back)
-
--- the first pair of a text, and the text of the others
-pub record IsFirstPair (text pair rest : List ℕ) : Type 0 where
-  pub head : pairs_of text ≡ pair_of pair ∷ pairs_of rest
-  pub name : IsIdentifier (pair_of pair).0
-  pub others : IsPairsText rest
-
--- they are before and after its first `,`
-cut_at_comma : (pair : List ℕ × List ℕ) (pairs : List (List ℕ × List ℕ)) → Lacks 44 (pair_text pair)
-    → (before_first (λ b. b == 44) (pairs_text (pair ∷ pairs)) ≡ pair_text pair) ×
-    (after_first (λ b. b == 44) (pairs_text (pair ∷ pairs)) ≡ pairs_text pairs)
-cut_at_comma pair [] none = cut_at_none 44 (pair_text pair) none
-cut_at_comma pair (next ∷ pairs) none = cut_at_first 44 (pair_text pair) (pairs_text (next ∷ pairs)) none
-
-first_pair_of : (pairs : List (List ℕ × List ℕ)) (text : List ℕ) → ArePairs pairs → pairs_text pairs ≡ text
-    → 0 < length text → IsFirstPair text (before_first (λ b. b == 44) text) (after_first (λ b. b == 44) text)
-first_pair_of [] text h e some = absurd (omega (arith, ap length e))
-first_pair_of (pair ∷ pairs) text h e some =
-    let is_pair : IsPair pair = All-head IsPair pair pairs h.each in
-    let same : pair_of (pair_text pair) ≡ pair = pair_of-pair_text pair is_pair in
-    let cut = cut_at_comma pair pairs (pair_text_lacks 44 refl refl refl pair is_pair) in
-    let whole : List ℕ = pairs_text (pair ∷ pairs) in
-    let others = kept_as_text (pairs_text pairs) pairs refl (record {
-      each = All-tail IsPair pair pairs h.each;
-      once = λ i j d before below. h.once (suc i) (suc j) d (omega arith) (omega arith);
-      short = omega (arith, h.short, ap length cut.1, length-drop (position_or_len (λ b. b == 44) whole + 1) whole);
-    }) in
-    rw (← e, cut.0, cut.1) (record {
-      head = pairs_of-pairs_text (pair ∷ pairs) h.each ∙ rw (same, others.1) refl;
-      name = subst (λ (p : List ℕ × List ℕ). IsIdentifier p.0) (sym same) is_pair.name;
-      others = others.0;
-    })
-
--- what comes before and after the first `,` of a text of pairs
-pub first_pair : (text pair rest : List ℕ) → IsPairsText text → 0 < length text
-    → pair ≡ before_first (λ b. b == 44) text → rest ≡ after_first (λ b. b == 44) text → IsFirstPair text pair rest
-first_pair text pair rest h some before after =
-    rw (before, after) (first_pair_of (pairs_of text) text h.pairs h.whole some)
 
 pair_eq-Decides : (first second : List ℕ × List ℕ) → Decides (pair_eq first second) (first ≡ second)
 pair_eq-Decides first second =

@@ -1,20 +1,21 @@
 -- One more pair at the end, and the pairs of a text in turn.
-use Rattle.std.proofs.Common.{◌≡◌, ◌≢◌, ℕ, ◌+◌, ◌<◌, ◌≤◌, ◌==◌, Bool, List, [], ◌∷◌, ◌++◌, min, length, take, drop, map}
-use Rattle.std.proofs.Common.{get_or, refl, sym, ap, subst, ◌∙◌, arith}
+use Rattle.std.proofs.Common.{◌≡◌, ◌≢◌, ℕ, ◌+◌, ◌<◌, ◌≤◌, ◌==◌, Bool, List, [], ◌∷◌, ◌++◌, length, map}
+use Rattle.std.proofs.Common.{get_or, refl, sym, ap, ◌∙◌, arith}
 use Rattle.std.specs.Prelude.{◌↔◌, All, Result, Ok, Err, IsOk, OnOk, OnErr, nat_eq}
 use Rattle.std.specs.List.{join_with_byte, slice_split, after_first, position_or_len}
 use Rattle.std.proofs.lemmas.Bool.{eqb-true, false≢true}
-use Rattle.std.proofs.lemmas.List.{append-nil, append_assoc, length-append, get_or_append_left, get_or_push, length_push, take-append-drop}
-use Rattle.std.proofs.lemmas.List.{length-take, get_or-take, take_more, take-map, map-append, map_push, length-drop}
+use Rattle.std.proofs.lemmas.List.{append-nil, append_assoc, length-append, get_or_append_left, get_or_push, length_push}
+use Rattle.std.proofs.lemmas.List.{map-append, map_push, length-drop}
 use Rattle.std.proofs.lemmas.List.Sums.{split_at_first, passes_at_first}
-use Rattle.std.proofs.lemmas.List.Elements.{All-head, All-push, All-tail, All-take}
+use Rattle.std.proofs.lemmas.List.Elements.{All-head, All-push, All-tail}
+use Rattle.std.proofs.lemmas.List.Splits.{join_with_byte-slice_split}
 use Rattle.std.proofs.lemmas.List.Quantifiers.{all_pairs_push}
 use Rattle.std.specs.Bool.{Decides}
 use Rattle.std.specs.Cmp.Lexicographic.{pointwise}
 use Rattle.std.proofs.lemmas.Bool.Decides.{same_from_decides}
 use Rattle.std.proofs.lemmas.Slice.Eq.{bytes_eq-Decides}
 use Rattle.password_hash.specs.Pairs.{IsPair, pair_text, pairs_text, ArePairs, pair_of, pairs_of, pair_eq, with_pair, IsPairsText}
-use Rattle.password_hash.proofs.PairsFacts.{length_pairs_text, pairs_of-pairs_text, pairs_of_some, kept_as_text, pairs_eq-Decides}
+use Rattle.password_hash.proofs.PairsFacts.{length_pairs_text, pairs_of-pairs_text, kept_as_text, pairs_eq-Decides}
 
 -- two rows of pieces in a row
 join_append : (c : ℕ) (first : List ℕ) (pieces : List (List ℕ)) (next : List ℕ) (others : List (List ℕ))
@@ -62,21 +63,15 @@ length_front c (x ∷ xs) (y ∷ ys) = omega (
 )
 
 -- the first of some parameters
-pub ArePairs-take : (n : ℕ) (pairs : List (List ℕ × List ℕ)) → ArePairs pairs → ArePairs (take n pairs)
-ArePairs-take n pairs h =
-    let texts : map pair_text (take n pairs) ++ map pair_text (drop n pairs) ≡ map pair_text pairs =
-    sym (map-append pair_text (take n pairs) (drop n pairs)) ∙ ap (map pair_text) (take-append-drop n pairs) in
+pub ArePairs-front : (front back : List (List ℕ × List ℕ)) → ArePairs (front ++ back) → ArePairs front
+ArePairs-front front back h =
+    let long = length-append front back in
     record {
-      each = All-take IsPair n pairs h.each;
+      each = λ k d below. rw (get_or_append_left front back d k below) at (h.each k d (omega arith));
       once = λ i j d before below.
-          let inside : j < min n (length pairs) = omega (arith, below, length-take n pairs) in
-          rw (get_or-take n pairs i d (omega arith), get_or-take n pairs j d (omega arith)) (h.once i j d before (omega arith));
-      short = omega (
-        arith,
-        h.short,
-        ap (λ texts. length (join_with_byte 44 texts)) texts,
-        length_front 44 (map pair_text (take n pairs)) (map pair_text (drop n pairs)),
-      );
+          rw (get_or_append_left front back d i (omega arith), get_or_append_left front back d j below) at (h.once i j d before (omega arith));
+      short = let fits = length_front 44 (map pair_text front) (map pair_text back) in
+          omega (arith, h.short, ap (λ texts. length (join_with_byte 44 texts)) (map-append pair_text front back));
     }
 
 -- what is kept after a pair was put after others, or there was no room
@@ -127,22 +122,11 @@ texts_of_pairs (piece ∷ pieces) each =
       texts_of_pairs pieces (All-tail IsPair (pair_of piece) (map pair_of pieces) each),
     ) refl
 
--- the parameters up to place k, and that of the piece at it
-pub next_of_pairs : (pairs params : List (List ℕ × List ℕ)) (pieces : List (List ℕ)) (piece : List ℕ) (k : ℕ) → ArePairs pairs
-    → pairs ≡ map pair_of pieces → params ≡ map pair_of (take k pieces) → k < length pieces → piece ≡ get_or pieces k piece
-    → ArePairs (params ++ pair_of piece ∷ [])
-next_of_pairs pairs params pieces piece k h all read below at =
-    let more = ap (map pair_of) (take_more pieces k piece below) ∙ map_push pair_of (take k pieces) (get_or pieces k piece) in
-    let front : take (k + 1) pairs ≡ params ++ pair_of piece ∷ [] =
-    ap (take (k + 1)) all ∙ take-map pair_of (k + 1) pieces ∙ more
-    ∙ (λ i. sym read i ++ pair_of (sym at i) ∷ []) in
-    subst ArePairs front (ArePairs-take (k + 1) pairs h)
-
--- others are the pairs of the pieces of their text
-pub pairs_of_pieces : (text : List ℕ) (pairs : List (List ℕ × List ℕ)) → 0 < length text → ArePairs pairs
-    → text ≡ pairs_text pairs → pairs ≡ map pair_of (slice_split (λ b. b == 44) text)
-pairs_of_pieces text pairs some h e =
-    sym (pairs_of-pairs_text pairs h.each) ∙ ap pairs_of (sym e) ∙ pairs_of_some text some
+-- so the text is that of its pairs
+pub pairs_text-pairs_of : (text : List ℕ) → All IsPair (pairs_of text) → pairs_text (pairs_of text) ≡ text
+pairs_text-pairs_of [] each = refl
+pairs_text-pairs_of (byte ∷ text) each =
+    ap (join_with_byte 44) (texts_of_pairs (slice_split (λ b. b == 44) (byte ∷ text)) each) ∙ join_with_byte-slice_split 44 (byte ∷ text)
 
 -- parameters are told by their text
 pub same_pairs : (text : List ℕ) (xs ys : List (List ℕ × List ℕ)) → ArePairs xs → ArePairs ys → text ≡ pairs_text xs

@@ -11,7 +11,7 @@ use Rattle.std.proofs.lemmas.List.Folds.{list_any_at, list_any_none}
 use Rattle.std.proofs.lemmas.Grind.{flat_map-append}
 use Rattle.std.proofs.lemmas.List.{append-nil, take-append-drop, take_at}
 use Rattle.std.proofs.lemmas.Slice.Eq.{bytes_eq-Decides}
-use Rattle.std.proofs.lemmas.List.Splits.{join_with_byte-slice_split, slice_split_at, slice_split_none}
+use Rattle.std.proofs.lemmas.List.Splits.{join_with_byte-slice_split}
 use Rattle.std.proofs.lemmas.List.Elements.{All-from_get_or}
 use Rattle.password_hash.specs.Parts.{after_prefix, dollar, parts_text, parts_of}
 use Rattle.password_hash.proofs.PairsFacts.{Lacks, slice_split-join}
@@ -38,20 +38,6 @@ text_of_parts text part parts e =
 pub parts_text-push : (parts : List (List ℕ)) (part : List ℕ) → parts_text (parts ++ part ∷ []) ≡ parts_text parts ++ dollar ∷ part
 parts_text-push parts part =
     flat_map-append (λ part. dollar ∷ part) parts (part ∷ []) ∙ ap (λ more. parts_text parts ++ more) (append-nil (dollar ∷ part))
-
-lacks_by_place : (xs : List ℕ) → ((i : ℕ) → i < length xs → get_or xs i 0 ≢ dollar) → Lacks dollar xs
-lacks_by_place xs other =
-    All-from_get_or (λ b. (b == dollar) ≡ false) xs 0 (λ i below. ne_eqb (get_or xs i 0) dollar (other i below))
-
--- the part before the first `$`, and the parts after it
-pub parts_of-first : (text part left : List ℕ) → text ≡ part ++ (dollar ∷ left)
-    → ((i : ℕ) → i < length part → get_or part i 0 ≢ dollar) → parts_of text ≡ part ∷ parts_of left
-parts_of-first text part left e other =
-    ap parts_of e ∙ slice_split_at (λ b. b == dollar) part dollar left (lacks_by_place part other) refl
-
--- a text without `$` is its one part
-pub parts_of-only : (text : List ℕ) → ((i : ℕ) → i < length text → get_or text i 0 ≢ dollar) → parts_of text ≡ text ∷ []
-parts_of-only text other = slice_split_none (λ b. b == dollar) text (lacks_by_place text other)
 
 -- what `strip_prefix` gives
 pub prefix_stripped : (prefix text : List ℕ) (rest : Option (Bor (List ℕ)))

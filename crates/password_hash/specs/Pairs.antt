@@ -1,8 +1,10 @@
 -- The parameters of a hash (PHC string format): pairs of a name and a value.
-use Rattle.std.specs.Prelude.{◌≡◌, ◌≢◌, ℕ, ◌≤◌, ◌==◌, ◌&&◌, Bool, nat_eq, List, [], ◌∷◌, ◌++◌, length, map, codes, All, AllPairs}
+use Rattle.std.specs.Prelude.{◌≡◌, ◌≢◌, ℕ, ◌≤◌, ◌==◌, ◌&&◌, Bool, nat_eq, List, [], ◌∷◌, ◌++◌, length, map, codes, All, AllPairs, Option}
+use Rattle.std.specs.Borrow.{Bor}
 use Rattle.std.specs.List.{join_with_byte, slice_split, before_first, after_first}
 use Rattle.std.specs.Cmp.Lexicographic.{pointwise}
 use Rattle.password_hash.specs.Letters.{IsIdentifier, IsValue}
+use Rattle.password_hash.specs.Parts.{pieces_left}
 
 -- a name, which is an identifier and is not `v`, and a value
 pub record IsPair (pair : List ℕ × List ℕ) : Type 0 where
@@ -41,6 +43,10 @@ pair_of text = (before_first (λ b. b == 61) text, after_first (λ b. b == 61) t
 abbrev pub pairs_of : List ℕ → List (List ℕ × List ℕ)
 pairs_of [] = []
 pairs_of (byte ∷ text) = map pair_of (slice_split (λ b. b == 44) (byte ∷ text))
+
+-- the pairs of what is left of a text of pairs, if anything is
+abbrev pub pairs_left : Option (Bor (List ℕ)) → List (List ℕ × List ℕ)
+pairs_left left = map pair_of (pieces_left 44 left)
 
 -- the text is exactly the text of the pairs that it encodes
 pub record IsPairsText (text : List ℕ) : Type 0 where

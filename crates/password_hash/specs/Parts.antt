@@ -15,10 +15,14 @@ parts_text parts = flat_map (λ part. dollar ∷ part) parts
 abbrev pub parts_of : List ℕ → List (List ℕ)
 parts_of text = slice_split (λ byte. byte == dollar) text
 
--- the parts of what is left of a text, if anything is
+-- the pieces of what is left of a text, if anything is, split at each c
+abbrev pub pieces_left : ℕ → Option (Bor (List ℕ)) → List (List ℕ)
+pieces_left c None = []
+pieces_left c (Some text) = slice_split (λ byte. byte == c) text.now
+
+-- the parts of what is left of a text
 abbrev pub parts_left : Option (Bor (List ℕ)) → List (List ℕ)
-parts_left None = []
-parts_left (Some text) = parts_of text.now
+parts_left left = pieces_left dollar left
 
 -- what was read of the front of a text, and the parts of what is left of it
 abbrev pub before_parts : {A : Type 0} → A × Option (Bor (List ℕ)) → A × List (List ℕ)

@@ -1,14 +1,16 @@
 //! The parts of a text, separated by `$`.
 ghost use Rattle.std.specs.Prelude.{◌≡◌, ◌≢◌, ◌<◌, ◌==◌, ℕ, List, [], ◌∷◌, MatchOption, option_map};
-ghost use Rattle.std.specs.List.{list_any};
-ghost use Rattle.password_hash.specs.Parts.{after_prefix, dollar, parts_left, parts_of};
+ghost use Rattle.std.specs.List.{list_any, slice_split};
+ghost use Rattle.password_hash.specs.Parts.{after_prefix, dollar, parts_left, parts_of, pieces_left};
 
-/// Returns the text before the first `$`, and the text after it, if there is one.
-pub(crate) fn first_part(text: &str) -> (&str, Option<&str>)
-    ensures { parts_of text.now ≡ result.0.now ∷ parts_left result.1 }
+/// Returns the text before the first separator, which is ASCII, and the text after it, if there is
+/// one.
+pub(crate) fn first_piece(text: &str, separator: char) -> (&str, Option<&str>)
+    requires { separator < 128 }
+    ensures { slice_split (λ b. b == separator) text.now ≡ result.0.now ∷ pieces_left separator result.1 }
 {
-    match text.split_once('$') {
-        Some((part, left)) => (part, Some(left)),
+    match text.split_once(separator) {
+        Some((piece, left)) => (piece, Some(left)),
         None => (text, None),
     }
 }
@@ -20,7 +22,7 @@ pub(crate) fn split_first(text: &str) -> Option<(&str, Option<&str>)>
         (λ split. parts_of text.now ≡ [] ∷ split.0.now ∷ parts_left split.1) }
 {
     let rest = text.strip_prefix('$')?;
-    Some(first_part(rest))
+    Some(first_piece(rest, '$'))
 }
 
 /// Returns what comes after `prefix`, if `text` begins with it.

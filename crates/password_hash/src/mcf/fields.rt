@@ -3,7 +3,7 @@ ghost use Rattle.std.specs.Prelude.{◌↔◌, IsTrue};
 ghost use Rattle.password_hash.specs.Mcf.{IsField};
 
 use super::field::Field;
-use crate::parts::{contains, first_part};
+use crate::parts::{contains, first_piece};
 
 /// An iterator over the fields of an MCF text, in order.
 #[derive(Debug, Drop)]
@@ -23,7 +23,7 @@ impl<'a> Iterator for Fields<'a> {
     ghost remaining = { item_count fields_left };
 
     fn next(&mut self) -> Option<Field<'a>> {
-        let (text, left) = first_part(self.left?);
+        let (text, left) = first_piece(self.left?, '$');
         self.left = left;
         Some(Field { text })
     }

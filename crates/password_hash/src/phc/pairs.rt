@@ -4,24 +4,27 @@ ghost use Rattle.std.specs.Iterator.{YieldsFirstBy, item_count};
 ghost use Rattle.std.specs.List.{before_first, after_first};
 ghost use Rattle.password_hash.specs.Value.{item_pair};
 
+use crate::parts::first_piece;
 use crate::phc::{Ident, Value};
 use std::marker::Model;
 
 /// An iterator over the names and values of a `ParamsString`, in order.
 #[derive(Drop)]
 pub struct Pairs<'a> {
-    pub(super) left: &'a str,
+    /// The text after the next `,`, or `None` after the last pair.
+    pub(super) left: Option<&'a str>,
 }
 
 impl<'a> Model for Pairs<'a> {
-    ghost use Rattle.std.specs.Prelude.{ℕ, List};
-    ghost use Rattle.password_hash.specs.Pairs.{pairs_of, IsPairsText};
+    ghost use Rattle.std.specs.Prelude.{ℕ, List, All};
+    ghost use Rattle.password_hash.specs.Letters.{IsIdentifier};
+    ghost use Rattle.password_hash.specs.Pairs.{pairs_left};
 
     ghost Value = { List (List ℕ × List ℕ) };
 
-    ghost view = { λ a. pairs_of a.left.now };
+    ghost view = { λ a. pairs_left a.left };
 
-    ghost invariant = { λ a. IsPairsText a.left.now };
+    ghost invariant = { λ a. All (λ pair. IsIdentifier pair.0) (pairs_left a.left) };
 }
 
 impl<'a> Iterator for Pairs<'a> {
@@ -32,10 +35,7 @@ impl<'a> Iterator for Pairs<'a> {
     ghost remaining = { item_count (λ left. left) };
 
     fn next(&mut self) -> Option<(Ident, Value<'a>)> {
-        if self.left.is_empty() {
-            return None;
-        }
-        let (pair, left) = cut(self.left, ',');
+        let (pair, left) = first_piece(self.left?, ',');
         let (name, text) = cut(pair, '=');
         self.left = left;
         // The names of parameters are identifiers.

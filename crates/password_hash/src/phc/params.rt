@@ -4,12 +4,13 @@ ghost use Rattle.std.specs.Prelude.{IsOk, IfErr, IfSome, IfNone, OnOk, OnErr, ok
 ghost use Rattle.std.specs.Cmp.{and_equiv, on_equiv, partial_equiv_from_equiv};
 ghost use Rattle.std.specs.Cmp.Lexicographic.{lists_equiv, nat_list_eq_equiv, pointwise};
 ghost use Rattle.password_hash.specs.Letters.{IsValue};
-ghost use Rattle.password_hash.specs.Pairs.{ArePairs, IsPair, pair_eq, pairs_text, with_pair};
+ghost use Rattle.password_hash.specs.Pairs.{ArePairs, IsPair, pair_eq, pairs_left, pairs_of, pairs_text, with_pair};
 ghost use Rattle.password_hash.specs.PhcReading.{parsed_pairs};
 ghost use Rattle.password_hash.specs.Value.{value_text};
 ghost use Rattle.password_hash.specs.declared.error.Error.TheVariants.{ParamsInvalid};
 
 use crate::letters::are_value_letters;
+use crate::parts::first_piece;
 use crate::phc::pairs::{Pairs, cut};
 use crate::phc::{Ident, Value};
 use crate::{Error, Result};
@@ -63,12 +64,12 @@ impl ParamsString {
         ensures value { result ≡ ok_or (parsed_pairs text.now) ParamsInvalid }
     {
         let mut params = ParamsString::new();
-        if text.is_empty() {
-            return Ok(params);
-        }
-        for pair in text.split(',') {
+        let mut left = unless_empty(text);
+        while let Some(rest) = left {
+            let (pair, after) = first_piece(rest, ',');
             let (name, value) = cut(pair, '=');
             params.add(name, value)?;
+            left = after;
         }
         Ok(params)
     }
@@ -91,7 +92,7 @@ impl ParamsString {
         ensures value { result ≡ self.now }
     {
         Pairs {
-            left: self.text.as_str(),
+            left: unless_empty(self.text.as_str()),
         }
     }
 
@@ -141,6 +142,13 @@ impl Eq for ParamsString {
     ghost laws = { lists_equiv (and_equiv
         (on_equiv (λ (pair : List ℕ × List ℕ). pair.0) nat_list_eq_equiv)
         (on_equiv (λ (pair : List ℕ × List ℕ). pair.1) nat_list_eq_equiv)) };
+}
+
+/// Returns a text of pairs, or `None` if it is empty: then there are none.
+fn unless_empty(text: &str) -> Option<&str>
+    ensures { pairs_left result ≡ pairs_of text.now }
+{
+    if text.is_empty() { None } else { Some(text) }
 }
 
 /// Appends a pair to the text of others. Returns `ParamsInvalid`, and changes nothing, if there is

@@ -8,7 +8,7 @@ ghost use Rattle.password_hash.specs.PhcReading.{params_and_rest, salt_and_key, 
 
 use crate::Version;
 use crate::decimal::read_u32;
-use crate::parts::{after_prefix, contains, first_part};
+use crate::parts::{after_prefix, contains, first_piece};
 use crate::phc::encoding::decode;
 use crate::phc::{Output, ParamsString, Salt};
 
@@ -19,7 +19,7 @@ pub(super) fn take_version(left: Option<&str>) -> Option<(Option<Version>, Optio
     let Some(text) = left else {
         return Some((None, None));
     };
-    let (part, after) = first_part(text);
+    let (part, after) = first_piece(text, '$');
     let Some(digits) = after_prefix("v=", part) else {
         return Some((None, left));
     };
@@ -34,7 +34,7 @@ pub(super) fn take_params(left: Option<&str>) -> Option<(ParamsString, Option<&s
     let Some(text) = left else {
         return Some((ParamsString::new(), None));
     };
-    let (part, after) = first_part(text);
+    let (part, after) = first_piece(text, '$');
     if !contains(part, '=') {
         return Some((ParamsString::new(), left));
     }
@@ -52,12 +52,12 @@ pub(super) fn take_salt_and_key(left: Option<&str>) -> Option<(Option<Salt>, Opt
     let Some(text) = left else {
         return Some((None, None));
     };
-    let (letters, after) = first_part(text);
+    let (letters, after) = first_piece(text, '$');
     let salt = decode(letters)?;
     let Some(text) = after else {
         return Some((Some(Salt { bytes: salt }), None));
     };
-    let (letters, after) = first_part(text);
+    let (letters, after) = first_piece(text, '$');
     let key = decode(letters)?;
     if after.is_some() {
         return None;

@@ -4,5 +4,5 @@ use Rattle.password_hash.proofs.phc.parts.take_salt_and_key.Goals as goal
 
 pub returns-then-is_some : goal.returns-then-is_some
 returns-then-is_some c =
-    let none = parts_left_over c.first_part.result.0.now c.first_part-2.result.0.now c.first_part-2.result.1 (sym c.if-is_some.ensures) in
-    rw (c.in-Some.is, c.first_part.ensures, c.in-Some-after.is, c.first_part-2.ensures, none) (search rules)
+    let none = parts_left_over c.first_piece.result.0.now c.first_piece-2.result.0.now c.first_piece-2.result.1 (sym c.if-is_some.ensures) in
+    rw (c.in-Some.is, c.first_piece.ensures, c.in-Some-after.is, c.first_piece-2.ensures, none) (search rules)

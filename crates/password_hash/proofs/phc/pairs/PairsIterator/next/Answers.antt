@@ -1,26 +1,31 @@
-use Rattle.std.proofs.Common.{◌∙◌, sym, ap, arith, length}
-use Rattle.std.proofs.lemmas.Bool.{eqb-false, false≢true}
-use Rattle.password_hash.proofs.PairsFacts.{IsFirstPair, first_pair}
+use Rattle.std.proofs.Common.{◌≡◌, ◌∷◌, ◌∙◌, sym, ap, subst, arith, length, map}
+use Rattle.std.specs.Prelude.{All}
+use Rattle.std.proofs.lemmas.Bool.{false≢true}
+use Rattle.std.proofs.lemmas.List.Elements.{All-head, All-tail}
+use Rattle.password_hash.specs.Letters.{IsIdentifier}
+use Rattle.password_hash.specs.Pairs.{pair_of, pairs_left}
 use Rattle.password_hash.proofs.phc.pairs.PairsIterator.next.Goals as goal
 use Rattle.password_hash.proofs.phc.pairs.PairsIterator.next.Goals.{After-cut}
 
-first : (c : After-cut) → IsFirstPair c.self.inside.left.now c.cut.result.0.now c.cut.result.1.now
-first c =
-    let some = eqb-false _ _ (sym c.if-is_empty.ensures) in
-    first_pair _ _ _ c.self.invariant (omega (arith, some)) c.cut.ensures.before c.cut.ensures.after
+-- the pairs that are left are the first and the others
+left_are : (c : After-cut) → pairs_left c.self.inside.left ≡ pair_of c.first_piece.result.0.now ∷ pairs_left c.first_piece.result.1
+left_are c = ap pairs_left c.in_ok-self.was ∙ ap (map pair_of) c.first_piece.ensures
+
+named : (c : After-cut) → All (λ pair. IsIdentifier pair.0) (pair_of c.first_piece.result.0.now ∷ pairs_left c.first_piece.result.1)
+named c = subst (All (λ pair. IsIdentifier pair.0)) (left_are c) c.self.invariant
 
 pub unreachable-requires : goal.unreachable-requires
 unreachable-requires c =
-    let name = (first (goal.at.unreachable-requires c).After-cut).name in
-    false≢true (c.in_default.ensures.exact.1 (rw c.cut-2.ensures.before name))
+    let is = All-head (λ pair. IsIdentifier pair.0) _ _ (named (goal.at.unreachable-requires c).After-cut) in
+    false≢true (c.in_default.ensures.exact.1 (rw c.cut.ensures.before is))
 
 pub invariant_of-self : goal.invariant_of-self
-invariant_of-self c = (first (goal.at.invariant_of-self c).After-cut).others
+invariant_of-self c = All-tail (λ pair. IsIdentifier pair.0) _ _ (named (goal.at.invariant_of-self c).After-cut)
 
 pub returns-clause-steps : goal.returns-clause-steps
 returns-clause-steps c =
-    rw (c.in-Ok.ensures.value, c.cut-2.ensures.before, c.cut-2.ensures.after)
-    (sym c.self.view_is ∙ (first (goal.at.returns-clause-steps c).After-cut).head)
+    rw (c.in-Ok.ensures.value, c.cut.ensures.before, c.cut.ensures.after)
+    (sym c.self.view_is ∙ left_are (goal.at.returns-clause-steps c).After-cut)
 
 pub returns-clause-goes : goal.returns-clause-goes
 returns-clause-goes c = record {
