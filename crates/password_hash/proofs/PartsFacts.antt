@@ -1,18 +1,16 @@
 -- Texts of parts, each after a `$`.
-use Rattle.std.proofs.Common.{◌≡◌, ◌≢◌, ℕ, ◌<◌, ◌==◌, false, true, List, [], ◌∷◌, ◌++◌, length, get_or, refl, sym, ap, ◌∙◌}
+use Rattle.std.proofs.Common.{◌≡◌, ◌≢◌, ℕ, ◌==◌, false, true, List, [], ◌∷◌, ◌++◌, length, refl, sym, ap, ◌∙◌}
 use Rattle.std.proofs.Common.{◌&&◌, ◌||◌, ◌↔◌, Bool, IsTrue, None, Option, Some, bytes_eq, drop, not, subst, take}
 use Rattle.std.specs.Borrow.{Bor}
 use Rattle.std.specs.Prelude.{All, MatchOption, option_map}
 use Rattle.std.specs.List.{join_with_byte, list_any}
 use Rattle.std.specs.Str.Pattern.{FindsTextPrefix, StripsPrefix}
-use Rattle.std.proofs.lemmas.Bool.{eq-eqb, false_from_ne_true, false≢true, ne_eqb}
+use Rattle.std.proofs.lemmas.Bool.{false_from_ne_true}
 use Rattle.std.proofs.lemmas.Bool.Decides.{Decides-by_and, Decides-eqb, Decides-not}
-use Rattle.std.proofs.lemmas.List.Folds.{list_any_at, list_any_none}
 use Rattle.std.proofs.lemmas.Grind.{flat_map-append}
 use Rattle.std.proofs.lemmas.List.{append-nil, take-append-drop, take_at}
 use Rattle.std.proofs.lemmas.Slice.Eq.{bytes_eq-Decides}
 use Rattle.std.proofs.lemmas.List.Splits.{join_with_byte-slice_split}
-use Rattle.std.proofs.lemmas.List.Elements.{All-from_get_or}
 use Rattle.password_hash.specs.Parts.{after_prefix, dollar, parts_text, parts_of}
 use Rattle.password_hash.proofs.PairsFacts.{Lacks, slice_split-join}
 
@@ -54,16 +52,7 @@ prefix_stripped prefix text (Some x) (n, (is, split, boundary), rest, len) =
     let front = subst (λ t. take (length prefix) t ≡ prefix) (sym split) (take_at prefix (drop n text) (length prefix) refl) in
     rw ((bytes_eq-Decides (take (length prefix) text) prefix).1 front, rest, is) refl
 
--- whether a text has a byte
-pub byte_found : (c : ℕ) (text : List ℕ) (found : Bool) → (found ≡ true → (k : ℕ) × (k < length text) × (get_or text k 0 ≡ c))
-    × ((k : ℕ) → k < length text → get_or text k 0 ≡ c → found ≡ true) → found ≡ list_any (λ b. b == c) text
-byte_found c text true (at, other) =
-    let place = at refl in
-    sym (list_any_at (λ b. b == c) text place.0 0 place.1 (eq-eqb _ c place.2))
-byte_found c text false (at, other) = sym (list_any_none (λ b. b == c) text
-    (All-from_get_or (λ b. (b == c) ≡ false) text 0 (λ k below. ne_eqb (get_or text k 0) c (λ is. false≢true (other k below is)))))
-
--- and whether it lacks one
+-- whether a text lacks a byte
 pub lacks_decided : (c : ℕ) (text : List ℕ) (found : Bool) → found ≡ list_any (λ b. b == c) text
     → IsTrue (not found) ↔ All (λ b. b ≢ c) text
 lacks_decided c text found is =

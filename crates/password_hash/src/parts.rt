@@ -32,10 +32,9 @@ pub(crate) fn after_prefix<'a>(prefix: &str, text: &'a str) -> Option<&'a str>
     text.strip_prefix(prefix)
 }
 
-/// Returns whether `text` has this ASCII character.
-pub(crate) fn contains(text: &str, letter: char) -> bool
-    requires { letter < 128 }
-    ensures { result ≡ list_any (λ b. b == letter) text.now }
+/// Returns whether `text` has this byte.
+pub(crate) fn contains(text: &str, byte: u8) -> bool
+    ensures { result ≡ list_any (λ b. b == byte) text.now }
 {
-    text.contains(letter)
+    text.as_bytes().contains(&byte)
 }

@@ -33,5 +33,5 @@ impl<'a> Iterator for Fields<'a> {
 pub(super) fn is_field(text: &str) -> bool
     ensures { IsTrue result ↔ IsField text.now }
 {
-    !contains(text, '$')
+    !contains(text, b'$')
 }

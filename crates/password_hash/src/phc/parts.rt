@@ -35,7 +35,7 @@ pub(super) fn take_params(left: Option<&str>) -> Option<(ParamsString, Option<&s
         return Some((ParamsString::new(), None));
     };
     let (part, after) = first_piece(text, '$');
-    if !contains(part, '=') {
+    if !contains(part, b'=') {
         return Some((ParamsString::new(), left));
     }
     let Ok(params) = ParamsString::parse(part) else {
