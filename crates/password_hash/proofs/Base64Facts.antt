@@ -1,11 +1,11 @@
 -- Base64 of bytes, and the bytes that letters decode to.
 use Rattle.std.proofs.Common.{◌≡◌, ℕ, suc, ◌+◌, ◌*◌, ◌/◌, ◌%◌, ◌<◌, ◌==◌, false, List, [], ◌∷◌, length, slice_index, ap, arith, ◌∙◌, refl}
-use Rattle.std.specs.Prelude.{Some, Ok}
+use Rattle.std.specs.Prelude.{Ok}
 use Rattle.std.specs.List.{AllByRecursion as ByRecursion}
 use Rattle.std.proofs.lemmas.List.{append-nil}
 use Rattle.std.proofs.lemmas.List.Elements.{All-get_or, All-from_recursion}
 use Rattle.base64.specs.Rfc4648.{encode_symbols}
-use Rattle.base64.specs.GeneralPurpose.{IsBytes, decode_of, decoded_of}
+use Rattle.base64.specs.GeneralPurpose.{IsBytes, decode_of}
 use Rattle.base64.specs.Engines.{standard_no_pad}
 use Rattle.base64.proofs.EngineFacts.{decode_of-encode_of}
 use Rattle.base64.proofs.RoundTrip.{length-encode_symbols}
@@ -19,10 +19,6 @@ length-base64 bytes = rw append-nil (length-encode_symbols standard_no_pad.encod
 -- the letters of bytes decode to them
 pub decode_of-base64 : (letters bytes : List ℕ) → IsBytes bytes → letters ≡ base64 bytes → decode_of standard_no_pad letters ≡ Ok bytes
 decode_of-base64 letters bytes are same = ap (decode_of standard_no_pad) same ∙ decode_of-encode_of standard_no_pad bytes refl are
-
-pub decoded_of-base64 : (bytes : List ℕ) → IsBytes bytes → decoded_of standard_no_pad (base64 bytes) ≡ Some bytes
-unfolding decoded_of
-decoded_of-base64 bytes are = rw (decode_of-base64 (base64 bytes) bytes are refl) refl
 
 -- the symbols of six bits of a table
 symbols_hold : (P : ℕ → Type 0) (t : List ℕ) → ((v : ℕ) → v < 64 → P (slice_index t v)) → (m : List ℕ) → IsBytes m

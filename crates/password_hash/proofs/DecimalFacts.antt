@@ -1,15 +1,16 @@
 -- Decimal digits.
-use Rattle.std.proofs.Common.{◌≡◌, ◌≢◌, ◌&&◌, ℕ, ◌^◌, ◌<◌, ◌≤◌, true, false, nat_lt, IsTrue, List, [], ◌∷◌, length, get_or, slice_index}
+use Rattle.std.proofs.Common.{◌≡◌, ◌≢◌, ◌&&◌, ℕ, ◌^◌, ◌<◌, ◌≤◌, true, false, nat_lt, List, length, get_or, slice_index}
 use Rattle.std.proofs.Common.{Option, None, Some, Result, Ok, Err, refl, sym, ap, ◌∙◌, arith, inl, inr}
 use Rattle.std.specs.Prelude.{decimal, IfSome}
-use Rattle.std.specs.List.{list_all}
 use Rattle.std.specs.Result.{OkIff, result_ok}
 use Rattle.std.specs.Str.{all_ascii_digits}
 use Rattle.std.specs.Str.Parse.{AllDigits, digits_value}
 use Rattle.std.proofs.lemmas.Bool.{cases_lt, cases_Bool}
 use Rattle.std.proofs.lemmas.Fmt.{decimal_digit, decimal_is_IsNumeral, first_decimal, decimal-digits_value}
 use Rattle.std.proofs.lemmas.Str.Parse.{IsNumeralModel, numerals_by_value, parse_plain, tells_digits}
-use Rattle.std.proofs.lemmas.Str.Parse.{tells_all_ascii_digits, digit_from_value}
+use Rattle.std.proofs.lemmas.Str.Parse.{tells_all_ascii_digits, digit_at, not_in_digits}
+use Rattle.std.proofs.lemmas.List.Elements.{All-from_get_or}
+use Rattle.std.proofs.lemmas.List.Sums.{list_all-from_AllPass}
 use Rattle.std.proofs.lemmas.Bool.Decides.{nat_tests}
 use Rattle.password_hash.specs.Letters.{is_value_letter, IsValue}
 use Rattle.password_hash.specs.Decimal.{DecimalGives, IsDecimal, UnsignedGives, decimal_below, has_plus_or_leading_zero, is_decimal}
@@ -40,23 +41,19 @@ IsDecimal-decimal n small =
     let both = decimal_is_IsNumeral n (omega arith) in
     record { some = both.0.0; digits = both.0.1; no_leading_zero = leads n small; value = both.1; small = small }
 
-is_value_letter_digit : (digit : ℕ) → 48 ≤ digit → digit ≤ 57 → IsTrue (is_value_letter digit)
-is_value_letter_digit digit low high = grind (arith, nat_tests)
-
--- digits are letters of values
-digits_are_letters : (text : List ℕ) → AllDigits 10 text → IsTrue (list_all is_value_letter text)
-digits_are_letters [] h = refl
-digits_are_letters (digit ∷ text) h =
-    let range = digit_from_value digit h.0 in
-    let head : IsTrue (is_value_letter digit) = is_value_letter_digit digit (omega (arith, range)) (omega (arith, range)) in
-    let tail = digits_are_letters text h.1 in
-    grind arith
-
 -- a number in decimal digits is a value
 pub IsValue-decimal : (n : ℕ) → n < 2 ^ 32 → IsValue (decimal n)
 IsValue-decimal n small =
     let written = IsDecimal-decimal n small in
-    record { some = written.some; letters = digits_are_letters (decimal n) written.digits }
+    let letter = λ (i : ℕ) (below : i < length (decimal n)). let range = digit_at (decimal n) i written.digits below in
+    is_value_letter_digit (get_or (decimal n) i 0) (omega (arith, range)) (omega (arith, range)) in
+    record {
+      some = written.some;
+      letters = list_all-from_AllPass is_value_letter (decimal n) (All-from_get_or (λ b. is_value_letter b ≡ true) (decimal n) 0 letter);
+    }
+  where
+    is_value_letter_digit : (digit : ℕ) → 48 ≤ digit → digit ≤ 57 → is_value_letter digit ≡ true
+    is_value_letter_digit digit low high = grind (arith, nat_tests)
 
 -- a text that begins with a plus or a leading zero is not a decimal
 none_after_plus_or_zero : (limit : ℕ) (text : List ℕ) → has_plus_or_leading_zero text ≡ true → decimal_below limit text ≡ None
@@ -110,12 +107,8 @@ decimal_only text n h =
     let zero = h.no_leading_zero in
     let value = h.value in
     let small = h.small in
-    let plus : slice_index text 0 ≢ 43 = no_plus_in_digits text h.digits in
+    let plus : slice_index text 0 ≢ 43 = not_in_digits (numerals_by_value (AllDigits 10) tells_digits) text 43 h.digits (λ range. omega arith) 0 h.some in
     grind (arith, nat_tests)
-  where
-    no_plus_in_digits : (text : List ℕ) → AllDigits 10 text → slice_index text 0 ≢ 43
-    no_plus_in_digits [] h e = cc
-    no_plus_in_digits (digit ∷ text) h e = let range = digit_from_value digit h.0 in absurd (omega (arith, range, e))
 
 -- what a decimal text gives
 pub ruleset decimals = (decimal_found, decimal_only)

@@ -192,27 +192,19 @@ pub begins-end : (letters bytes rest : List ℕ) → Begins letters bytes rest �
 begins-end letters bytes rest begins none =
     record { are_bytes = begins.are_bytes; encoding = begins.whole ∙ rw none (append-nil (crypt64_of bytes)) }
 
--- what is left of an encoding is one
-begins-rest : (letters bytes rest : List ℕ) → Begins letters bytes rest → IsCrypt64 letters → IsCrypt64 rest
-begins-rest letters bytes rest begins (all, is) =
+-- what is left of an encoding is one, so it is nothing if no group begins it
+pub begins-stuck : (letters bytes rest : List ℕ) → Begins letters bytes rest → (IsCrypt64 rest → rest ≡ [])
+    → IsCrypt64 letters → rest ≡ []
+begins-stuck letters bytes rest begins stuck (all, is) =
     let n : ℕ = length bytes in
-    let counts : encoded_len n + length rest ≡ encoded_len (length all) = omega (
-      arith,
-      ap length (sym begins.whole ∙ is.encoding),
-      length-append (crypt64_of bytes) rest,
-      length-crypt64_of bytes,
-      length-crypt64_of all,
-    ) in
-    let cut = crypt64_of-cut all n (omega arith) (λ below. begins.groups (omega arith)) in (
+    let left : crypt64_of bytes ++ rest ≡ crypt64_of all = sym begins.whole ∙ is.encoding in
+    let counts : encoded_len n + length rest ≡ encoded_len (length all) =
+    omega (arith, ap length left, length-append (crypt64_of bytes) rest, length-crypt64_of bytes, length-crypt64_of all) in
+    let cut = crypt64_of-cut all n (omega arith) (λ below. begins.groups (omega arith)) in
+    stuck (
       drop n all,
       record {
         are_bytes = All-drop (λ b. b < 256) n all is.are_bytes;
-        encoding = sym (drop_at (crypt64_of bytes) rest (encoded_len n) (length-crypt64_of bytes))
-            ∙ ap (drop (encoded_len n)) (sym begins.whole ∙ is.encoding) ∙ cut.1;
+        encoding = sym (drop_at (crypt64_of bytes) rest (encoded_len n) (length-crypt64_of bytes)) ∙ ap (drop (encoded_len n)) left ∙ cut.1;
       },
     )
-
--- so what is left is nothing if no group begins it
-pub begins-stuck : (letters bytes rest : List ℕ) → Begins letters bytes rest → (IsCrypt64 rest → rest ≡ [])
-    → IsCrypt64 letters → rest ≡ []
-begins-stuck letters bytes rest begins stuck is = stuck (begins-rest letters bytes rest begins is)

@@ -1,10 +1,10 @@
 -- What follows from the definition of MCF texts: each has one id and one list of fields, and texts put together by parts are MCF texts.
 use Rattle.std.proofs.Common.{◌≡◌, ◌≢◌, inl, inr, ◌∙◌, sym, ap, subst, refl, ℕ, false}
 use Rattle.std.proofs.Common.{Result, Ok, Err, IsErrOf, IfErr, ◌==◌, List, [], ◌∷◌, ◌++◌}
-use Rattle.std.specs.List.{All, onto_first}
+use Rattle.std.specs.List.{All, AllByRecursion as ByRecursion, onto_first}
 use Rattle.std.proofs.lemmas.Bool.{ne_eqb, eqb-false, cases_Bool}
 use Rattle.std.proofs.lemmas.List.{append-nil}
-use Rattle.std.proofs.lemmas.List.Elements.{All-nil, All-cons, All-head, All-tail, All-weaker, All-push}
+use Rattle.std.proofs.lemmas.List.Elements.{All-nil, All-cons, All-weaker, All-push, All-from_recursion}
 use Rattle.password_hash.specs.declared.mcf.error.Error.{Error}
 use Rattle.password_hash.specs.declared.mcf.error.Error.TheVariants.{EncodingInvalid, OutOfMemory}
 use Rattle.password_hash.specs.Crypt64.{crypt64_of}
@@ -32,27 +32,27 @@ parts_of-IsMcfText text id fields is =
     parts_of-parts_text text [] (id ∷ fields) none (ap (λ text. dollar ∷ text) is.written)
 
 -- no part of a text has a dollar
-are_fields-slice_split : (text : List ℕ) → All IsField (parts_of text)
-are_fields-slice_split [] = All-cons IsField [] [] (All-nil (λ byte. byte ≢ dollar)) (All-nil IsField)
-are_fields-slice_split (byte ∷ text) = elim (cases_Bool (byte == dollar)) [
-  | inl hit ↦ rw hit (All-cons IsField [] (parts_of text) (All-nil (λ byte. byte ≢ dollar)) (are_fields-slice_split text))
-  | inr miss ↦ rw miss (onto (parts_of text) (eqb-false byte dollar miss) (are_fields-slice_split text))
+part_fields : (text : List ℕ) → ByRecursion (ByRecursion (λ byte. byte ≢ dollar)) (parts_of text)
+part_fields [] = (tt, tt)
+part_fields (byte ∷ text) = elim (cases_Bool (byte == dollar)) [
+  | inl hit ↦ rw hit (tt, part_fields text)
+  | inr miss ↦ rw miss (onto (parts_of text) (eqb-false byte dollar miss) (part_fields text))
 ]
   where
-    onto : (parts : List (List ℕ)) → byte ≢ dollar → All IsField parts → All IsField (onto_first byte parts)
-    onto [] other each = All-cons IsField (byte ∷ []) [] (All-cons (λ b. b ≢ dollar) byte [] other (All-nil _)) (All-nil IsField)
-    onto (part ∷ parts) other each =
-        All-cons IsField (byte ∷ part) parts
-        (All-cons (λ b. b ≢ dollar) byte part other (All-head IsField part parts each)) (All-tail IsField part parts each)
+    onto : (parts : List (List ℕ)) → byte ≢ dollar → ByRecursion (ByRecursion (λ byte. byte ≢ dollar)) parts
+        → ByRecursion (ByRecursion (λ byte. byte ≢ dollar)) (onto_first byte parts)
+    onto [] other each = ((other, tt), tt)
+    onto (part ∷ parts) other each = ((other, each.0), each.1)
 
 -- a text that is split into nothing, an id and fields is an MCF text
 pub IsMcfText-from_parts : (text id : List ℕ) (fields : List (List ℕ)) → parts_of text ≡ [] ∷ id ∷ fields → IsId id
     → IsMcfText text id fields
 IsMcfText-from_parts text id fields parts is =
-    let each : All IsField ([] ∷ id ∷ fields) = subst (All IsField) parts (are_fields-slice_split text) in
+    let each = rw parts at (part_fields text) in
     record {
       is_id = is;
-      are_fields = All-tail IsField id fields (All-tail IsField [] (id ∷ fields) each);
+      are_fields = All-weaker (ByRecursion (λ byte. byte ≢ dollar)) IsField (All-from_recursion (λ byte. byte ≢ dollar)) fields
+          (All-from_recursion _ fields each.1.1);
       written = text_of_parts text id fields parts;
     }
 

@@ -128,17 +128,13 @@ pairs_text-pairs_of [] each = refl
 pairs_text-pairs_of (byte ∷ text) each =
     ap (join_with_byte 44) (texts_of_pairs (slice_split (λ b. b == 44) (byte ∷ text)) each) ∙ join_with_byte-slice_split 44 (byte ∷ text)
 
--- parameters are told by their text
-pub same_pairs : (text : List ℕ) (xs ys : List (List ℕ × List ℕ)) → ArePairs xs → ArePairs ys → text ≡ pairs_text xs
-    → text ≡ pairs_text ys → xs ≡ ys
-same_pairs text xs ys hx hy ex ey =
-    sym (pairs_of-pairs_text xs hx.each) ∙ ap pairs_of (sym ex ∙ ey) ∙ pairs_of-pairs_text ys hy.each
-
 -- a test of two texts of parameters tests the parameters
 pub tested : (xs ys : List (List ℕ × List ℕ)) (r : Bool) → ArePairs xs → ArePairs ys
     → r ≡ pointwise nat_eq (pairs_text xs) (pairs_text ys) → r ≡ pointwise pair_eq xs ys
 tested xs ys r hx hy e =
     let texts = bytes_eq-Decides (pairs_text xs) (pairs_text ys) in
-    let told : Decides r (xs ≡ ys) =
-    (λ yes. same_pairs (pairs_text xs) xs ys hx hy refl (texts.0 (sym e ∙ yes)), λ same. e ∙ texts.1 (ap pairs_text same)) in
+    let told : Decides r (xs ≡ ys) = (
+      λ yes. sym (pairs_of-pairs_text xs hx.each) ∙ ap pairs_of (texts.0 (sym e ∙ yes)) ∙ pairs_of-pairs_text ys hy.each,
+      λ same. e ∙ texts.1 (ap pairs_text same),
+    ) in
     same_from_decides r (pointwise pair_eq xs ys) told (pairs_eq-Decides xs ys)

@@ -26,7 +26,8 @@ use Rattle.password_hash.specs.PhcReading.{are_bytes_from_to, are_pairs, decoded
 use Rattle.password_hash.specs.PhcReading.{kept, names_differ, params_and_rest, parsed_pairs, read_hash, salt_and_key, version_and_rest}
 use Rattle.password_hash.specs.ShortBytes.{AreBytesFromTo}
 use Rattle.password_hash.specs.declared.phc.hash.PasswordHash.{PasswordHash}
-use Rattle.password_hash.proofs.Base64Facts.{decoded_of-base64}
+use Rattle.base64.proofs.Streams.{decoded_of-ok}
+use Rattle.password_hash.proofs.Base64Facts.{decode_of-base64}
 use Rattle.password_hash.proofs.DecimalFacts.{IsDecimal-decimal, decimal_found, decimal_of, decimal_only}
 use Rattle.password_hash.proofs.HashFacts.{IsVersion, LacksVersion, lacking_no_version, params_no_version, parts_lack, salt_and_key_lack}
 use Rattle.password_hash.proofs.PairsFacts.{Lacks, equals_of_pairs, pairs_of-pairs_text}
@@ -120,7 +121,7 @@ unfolding decoded_bytes
 bytes_exact least letters bytes =
     kept_exact _ (λ bytes. AreBytesFromTo least 64 bytes × (letters ≡ base64 bytes)) (decoded_of standard_no_pad letters)
     (λ bytes. Decides-and _ _ (within_decided least 64 bytes) (bytes_eq-Decides letters (base64 bytes)))
-    (λ bytes is. ap (decoded_of standard_no_pad) is.1 ∙ decoded_of-base64 bytes is.0.are_bytes) bytes
+    (λ bytes is. decoded_of-ok standard_no_pad letters bytes (decode_of-base64 letters bytes is.0.are_bytes is.1)) bytes
 
 -- without an allowed value there is none
 pub none_exact : {X : Type 0} (P : X → Type 0) (answer : Option X) → ((x : X) → (answer ≡ Some x) ↔ P x) → ((x : X) → ¬ P x)

@@ -1,9 +1,8 @@
-use Rattle.std.proofs.Common.{◌≡◌, ◌↔◌, ◌≤◌, ◌∙◌, ℕ, Err, List, None, Ok, Option, Some, length, ap, sym, arith, refl}
+use Rattle.std.proofs.Common.{◌≡◌, ◌↔◌, ◌≤◌, ◌∙◌, ℕ, List, None, Ok, Option, Some, length, ap, sym, arith, refl}
 use Rattle.std.specs.Prelude.{IfSome, IsSome}
 use Rattle.std.proofs.lemmas.Bool.{false≢true}
-use Rattle.base64.specs.declared.decode.DecodeError.{DecodeError}
 use Rattle.base64.specs.Engines.{standard_no_pad}
-use Rattle.base64.specs.GeneralPurpose.{IsBytes, decode_of}
+use Rattle.base64.specs.GeneralPurpose.{IsBytes, decode_of, decoded_of}
 use Rattle.base64.proofs.EngineFacts.{decode_of_strict}
 use Rattle.password_hash.specs.Phc.{base64}
 use Rattle.password_hash.specs.PhcReading.{decoded_bytes}
@@ -17,13 +16,6 @@ none : (least : ℕ) (letters : List ℕ) → ((bytes : List ℕ) → AreBytesFr
     → None ≡ decoded_bytes least letters
 none least letters other = sym (none_exact (λ bytes. AreBytesFromTo least 64 bytes × (letters ≡ base64 bytes))
     (decoded_bytes least letters) (bytes_exact least letters) (λ bytes is. other bytes is.0 is.1))
-
--- letters that are not decoded
-refused : (least : ℕ) (letters : List ℕ) (why : DecodeError) → decode_of standard_no_pad letters ≡ Err why
-    → None ≡ decoded_bytes least letters
-refused least letters why told = none least letters (λ bytes are same.
-    let both = sym told ∙ decode_of-base64 letters bytes are.are_bytes same in
-    cc)
 
 -- what is kept of the bytes that were read
 made : (least : ℕ) (letters read : List ℕ) (kept : Option (List ℕ)) → IsBytes letters
@@ -42,9 +34,8 @@ returns-then-letters-gt86 g c = record {
 }
 
 pub returns-in_default : goal.returns-in_default
-returns-in_default g c = record {
-  value = refused g.row.LEAST c.args.letters.now _ (rw c.as_bytes.ensures.value at c.in_default.ensures.err);
-}
+unfolding decoded_bytes decoded_of
+returns-in_default g c = record { value = rw (rw c.as_bytes.ensures.value at c.in_default.ensures.err) refl }
 
 pub returns : goal.returns
 returns g c = record {
