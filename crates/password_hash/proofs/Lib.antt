@@ -1,7 +1,5 @@
 -- Bytes in a fixed number of places.
 pub mod ShortBytesFacts
--- Texts of letters.
-pub mod IdentifierFacts
 -- Pairs and their text.
 pub mod PairsFacts
 -- One more pair at the end, and the pairs of a text in turn.

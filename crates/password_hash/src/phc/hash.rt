@@ -38,10 +38,7 @@ impl PasswordHash {
         ensures value { result ≡ ok_or (read_hash text.now) EncodingInvalid }
         ensures printed_back { IfOk result (λ hash. hash_text hash ≡ text.now) }
     {
-        match parse(text) {
-            Some(hash) => Ok(hash),
-            None => Err(Error::EncodingInvalid),
-        }
+        parse(text).ok_or(Error::EncodingInvalid)
     }
 }
 

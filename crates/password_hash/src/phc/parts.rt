@@ -38,10 +38,7 @@ pub(super) fn take_params(left: Option<&str>) -> Option<(ParamsString, Option<&s
     if !contains(part, b'=') {
         return Some((ParamsString::new(), left));
     }
-    let Ok(params) = ParamsString::parse(part) else {
-        return None;
-    };
-    Some((params, after))
+    Some((ParamsString::parse(part).ok()?, after))
 }
 
 /// Returns the salt and the key after it, each if there is one. They are the last parts of the
