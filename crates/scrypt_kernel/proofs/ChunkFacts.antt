@@ -1,6 +1,7 @@
 -- Facts on the words and the bytes of several chunks.
-use Rattle.std.proofs.Common.{◌≡◌, Bool, ℕ, zero, suc, ◌<◌, ◌≤◌, ◌+◌, ◌*◌, ◌/◌, ◌%◌, List, [], ◌∷◌, ◌++◌, length, get_or, take, drop, refl, sym, ap, ◌∙◌, arith}
-use Rattle.std.proofs.lemmas.List.{ext_get_or, get_or-take, get_or-drop}
+use Rattle.std.proofs.Common.{◌≡◌, Bool, ℕ, ◌<◌, ◌≤◌, ◌+◌, ◌*◌, ◌/◌, ◌%◌, List, length, get_or, take, drop, refl, sym, ap, ◌∙◌, arith}
+use Rattle.std.proofs.lemmas.Grind.{flat_map-append}
+use Rattle.std.proofs.lemmas.List.{drop_at, ext_get_or, get_or-take, get_or-drop, length-drop, length-take-le, take-append-drop, take_at}
 use Rattle.std.proofs.lemmas.List.FromFn.{length-map-range_with_len, get_or-map-range_with_len}
 use Rattle.std.specs.Int.{w32, to_le_bytes}
 use Rattle.scrypt_kernel.specs.Words.{bytes_of, le_number, part, words_of}
@@ -14,6 +15,7 @@ use Rattle.scrypt_kernel.proofs.CountFacts.{counted_both, counted_none}
 use Rattle.scrypt_kernel.proofs.PartFacts.{length-part, only_part, part_inside}
 use Rattle.scrypt_kernel.proofs.OrderFacts.{length-permuted, part_permuted, standard_of, within}
 use Rattle.scrypt_kernel.proofs.WalkFacts.{whole_cost}
+use Rattle.scrypt_kernel.proofs.WordFacts.{length-bytes_of}
 use Rattle.scrypt_kernel.proofs.RoMixFacts.{part_of_row}
 
 -- the words of bytes
@@ -33,21 +35,18 @@ part_words n k b room =
     get_or-take n _ i 0 inside ∙ get_or-drop (k * n) (words_of b) i 0 ∙ get_or-words_of b (k * n + i) (omega arith)
     ∙ ap le_number (sym (part_of_row n 4 k i b inside)) ∙ sym (get_or-words_of (part (n * 4) b k) i (omega (arith, two))))
 
--- the bytes of the words from word n on, and those of the first n words
-drop_bytes : (n : ℕ) (x : List ℕ) → drop (n * 4) (bytes_of x) ≡ bytes_of (drop n x)
-drop_bytes zero x = refl
-drop_bytes (suc n) [] = let next : suc n * 4 ≡ suc (n * 4 + 3) = omega arith in rw next refl
-drop_bytes (suc n) (a ∷ x) = let next : suc n * 4 ≡ suc (suc (suc (suc (n * 4)))) = omega arith in rw next (drop_bytes n x)
+-- the bytes of the first n words, and of the words after them
+cut_bytes : (n : ℕ) (x : List ℕ) → n ≤ length x
+    → (take (n * 4) (bytes_of x) ≡ bytes_of (take n x)) × (drop (n * 4) (bytes_of x) ≡ bytes_of (drop n x))
+cut_bytes n x inside =
+    let joined = ap bytes_of (sym (take-append-drop n x)) ∙ flat_map-append (to_le_bytes w32) (take n x) (drop n x) in
+    let long = length-bytes_of (take n x) ∙ ap (λ m. m * 4) (length-take-le n x inside) in
+    (ap (take (n * 4)) joined ∙ take_at _ _ _ long, ap (drop (n * 4)) joined ∙ drop_at _ _ _ long)
 
-take_bytes : (n : ℕ) (x : List ℕ) → take (n * 4) (bytes_of x) ≡ bytes_of (take n x)
-take_bytes zero x = refl
-take_bytes (suc n) [] = let next : suc n * 4 ≡ suc (n * 4 + 3) = omega arith in rw next refl
-take_bytes (suc n) (a ∷ x) =
-    let next : suc n * 4 ≡ suc (suc (suc (suc (n * 4)))) = omega arith in
-    rw next (ap (λ z. to_le_bytes w32 a ++ z) (take_bytes n x))
-
-part_bytes : (n k : ℕ) (x : List ℕ) → part (n * 4) (bytes_of x) k ≡ bytes_of (part n x k)
-part_bytes n k x = let at : k * (n * 4) ≡ k * n * 4 = omega arith in rw (at, drop_bytes (k * n) x) (take_bytes n (drop (k * n) x))
+part_bytes : (n k : ℕ) (x : List ℕ) → k * n + n ≤ length x → part (n * 4) (bytes_of x) k ≡ bytes_of (part n x k)
+part_bytes n k x room =
+    let at : k * (n * 4) ≡ k * n * 4 = omega arith in
+    rw (at, (cut_bytes (k * n) x (omega arith)).1) ((cut_bytes n (drop (k * n) x) (omega (arith, length-drop (k * n) x))).0)
 
 -- chunk k of bytes b: its words in the order p are x, whose scryptROMix is end, and the bytes of that are b'
 module _ (p q : List ℕ) (inverse : AreInverse p q) (n r k log_n : ℕ) (b x : List ℕ) (below : k < n) (long : length b ≡ n * (128 * r))
@@ -70,7 +69,7 @@ module _ (p q : List ℕ) (inverse : AreInverse p q) (n r k log_n : ℕ) (b x : 
       let room = part_inside (32 * r) k n (length end) below (omega arith) in
       let mixed = standard_of p q inverse (part (32 * r) end k) (ro_mix (permuted q (part (32 * r) x k)) log_n)
       (omega (arith, length-part (32 * r) k end room)) mixed_in_order in
-      ap (λ c. part (128 * r) c k) written ∙ ap (λ s. part s (bytes_of (permuted q end)) k) bytes ∙ part_bytes (32 * r) k (permuted q end)
+      ap (λ c. part (128 * r) c k) written ∙ ap (λ s. part s (bytes_of (permuted q end)) k) bytes ∙ part_bytes (32 * r) k (permuted q end) (omega (arith, length-permuted q end, room))
       ∙ ap bytes_of (part_permuted q (within q inverse.inverse_places) (32 * r) k end (omega arith) room
       ∙ mixed ∙ ap (λ w. ro_mix w log_n) chunk_words)
 

@@ -1,5 +1,5 @@
 -- Facts on lists of words.
-use Rattle.std.proofs.Common.{◌≡◌, ℕ, zero, suc, ◌<◌, ◌≤◌, ◌*◌, List, [], ◌∷◌, length, take, drop}
+use Rattle.std.proofs.Common.{◌≡◌, ℕ, zero, suc, ◌<◌, ◌*◌, List, [], ◌∷◌, length, take, drop}
 use Rattle.std.proofs.Common.{refl, get_or, sym, ap, ◌∙◌, arith}
 use Rattle.std.proofs.lemmas.List.{ext_get_or, places}
 use Rattle.std.specs.Simd.Lanes.{zip2}
@@ -11,11 +11,6 @@ pub zip2_all : (f : ℕ → ℕ → ℕ) (x y out : List ℕ) → length out ≡
     → ((k : ℕ) → k < length out → get_or out k 0 ≡ f (get_or x k 0) (get_or y k 0)) → out ≡ zip2 f x y
 zip2_all f x y out long same each =
     ext_get_or 0 _ _ (long ∙ sym (length-zip2 f x y same)) (λ k h. grind (arith, each k h, get_or-zip2 f x y k 0 0 0))
-
--- x holds f of x0 and y below place i, and x0 from there on
-pub record IsMerged (f : ℕ → ℕ → ℕ) (x0 y : List ℕ) (i : ℕ) (x : List ℕ) : Type 0 where
-  pub below : (k : ℕ) → k < i → get_or x k 0 ≡ f (get_or x0 k 0) (get_or y k 0)
-  pub above : (k : ℕ) → i ≤ k → get_or x k 0 ≡ get_or x0 k 0
 
 zip2-nil : (f : ℕ → ℕ → ℕ) (x : List ℕ) → zip2 f x [] ≡ []
 zip2-nil f [] = refl

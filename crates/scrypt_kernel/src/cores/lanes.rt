@@ -71,8 +71,7 @@ impl<V: Lanes> Diagonal<V> {
 
     #[inline(always)]
     fn salsa20_8(self) -> Diagonal<V>
-        ensures whole { (k : ℕ) → k < V.count → AreWhole V.lanes self k }
-        ensures value { (k : ℕ) → k < V.count → block_of V.lanes result k ≡ diagonal_core (block_of V.lanes self k) }
+        ensures { (k : ℕ) → k < V.count → block_of V.lanes result k ≡ diagonal_core (block_of V.lanes self k) }
     {
         let once = self.double_round();
         let twice = once.double_round();

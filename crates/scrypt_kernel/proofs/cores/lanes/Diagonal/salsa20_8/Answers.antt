@@ -6,8 +6,8 @@ use Rattle.scrypt_kernel.specs.Side.{block_of}
 use Rattle.scrypt_kernel.proofs.LaneFacts.{core_of_rounds, length-joined, zip_joined}
 use Rattle.scrypt_kernel.proofs.cores.lanes.Diagonal.salsa20_8.Goals as goal
 
-pub returns-clause-value : goal.returns-clause-value
-returns-clause-value g c k h =
+pub returns : goal.returns
+returns g c k h =
     let lanes = g.V.Lanes.lanes in
     let x = c.args.self in
     let y = c.double_round-all.result in
