@@ -140,11 +140,6 @@ pub block_same : (x z : List ℕ) (j k : ℕ) → ((i : ℕ) → i < 4 → part 
 block_same x z j k each =
     take_parts 4 4 (drop (j * 16) x) (drop (k * 16) z) (λ i h. part_of_block x j i ∙ each i h ∙ sym (part_of_block z k i))
 
--- a list of 16 words with the four parts of a block
-pub block_alone : (w x : List ℕ) (k : ℕ) → length w ≡ 16 → ((i : ℕ) → i < 4 → part 4 w i ≡ part 4 x (4 * k + i)) → w ≡ block x k
-block_alone w x k long each =
-    sym (take_all 16 w (omega arith)) ∙ take_parts 4 4 w (drop (k * 16) x) (λ i h. each i h ∙ sym (part_of_block x k i))
-
 -- a part of several is inside
 pub part_inside : (s k n len : ℕ) → k < n → n * s ≤ len → k * s + s ≤ len
 part_inside s k n len below room = let apart = parts_apart s k n below in omega arith

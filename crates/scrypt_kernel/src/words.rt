@@ -1,7 +1,7 @@
 //! Lists of words, their bytes, and the parts that they are cut into.
 
 ghost use Rattle.std.specs.Prelude.{◌≡◌, ◌≢◌, ℕ, ◌+◌, ◌*◌, ◌%◌, ◌≤◌, length};
-ghost use Rattle.scrypt_kernel.specs.Words.{add_words, xor_words, bytes_of, words_of, block, part};
+ghost use Rattle.scrypt_kernel.specs.Words.{add_words, bytes_of, part, words_of};
 
 use std::simd::u32x4;
 
@@ -46,45 +46,6 @@ pub(crate) fn part(s: usize, x: &[u32], k: usize) -> &[u32]
     ensures len { length result.now ≡ s }
 {
     &x[k * s..k * s + s]
-}
-
-/// Returns block `k` of `x`.
-#[inline(always)]
-#[tactic(auto, using(crate::proofs::PartFacts::block_alone))]
-pub(crate) fn block_at(x: &[u32], k: usize) -> [u32; 16]
-    requires { 16 * k + 16 ≤ length x.now }
-    ensures { result ≡ block x.now k }
-{
-    let mut words = [0u32; 16];
-    for j in 0..4 {
-        put_lanes(&mut words, j, lanes(x, 4 * k + j));
-    }
-    words
-}
-
-/// Writes `from` as block `k` of `x`.
-#[inline(always)]
-#[tactic(auto, using(crate::proofs::PartFacts::block_alone))]
-pub(crate) fn put_block(x: &mut [u32], k: usize, from: &[u32; 16])
-    requires { 16 * k + 16 ≤ length x.old }
-    ensures written { block x.new k ≡ from.now }
-    ensures others { (j : ℕ) → j ≢ k → block x.new j ≡ block x.old j }
-{
-    for j in 0..4 {
-        put_lanes(x, 4 * k + j, lanes(from, j));
-    }
-}
-
-/// Returns the exclusive or of two blocks.
-#[inline(always)]
-pub(crate) fn xor_blocks(x: &[u32; 16], y: &[u32; 16]) -> [u32; 16]
-    ensures { result ≡ xor_words x.now y.now }
-{
-    let mut words = [0u32; 16];
-    for j in 0..4 {
-        put_lanes(&mut words, j, lanes(x, j) ^ lanes(y, j));
-    }
-    words
 }
 
 /// Returns part `k` of `x`, which is cut into parts of four words, as the lanes of a vector.

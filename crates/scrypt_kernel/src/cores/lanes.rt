@@ -8,6 +8,7 @@ ghost use Rattle.scrypt_kernel.specs.Count.{AreCounted};
 ghost use Rattle.scrypt_kernel.specs.Diagonal.{diagonal_core, diagonal_order, standard_order};
 ghost use Rattle.scrypt_kernel.specs.Lanes.{AreFourEach, at, quarter_rounds, turned, turned_left, xor_rotated};
 ghost use Rattle.scrypt_kernel.specs.Parts.{AreParts, part_of};
+ghost use Rattle.scrypt_kernel.specs.Side.{block_of};
 
 pub mod both;
 
@@ -23,13 +24,20 @@ pub fn core(x: &mut [u32; 16], cores: &mut CoreCount)
     ensures value { x.new ≡ diagonal_order (salsa20_8 (standard_order x.old)) }
     ensures counted { AreCounted 1 cores.old cores.new }
 {
-    let from = Diagonal {
-        a: lanes(x, 0),
-        b: lanes(x, 1),
-        c: lanes(x, 2),
-        d: lanes(x, 3),
-    };
-    *x = from.mixed(cores).block(0);
+    *x = in_lanes(x).mixed(cores).block(0);
+}
+
+/// Returns these words as the lanes of four vectors.
+#[inline(always)]
+pub(crate) fn in_lanes(words: &[u32; 16]) -> Diagonal<u32x4>
+    ensures { block_of (λ v k. part 4 v k) result 0 ≡ words.now }
+{
+    Diagonal {
+        a: lanes(words, 0),
+        b: lanes(words, 1),
+        c: lanes(words, 2),
+        d: lanes(words, 3),
+    }
 }
 
 /// A block, or several side by side, with the words in diagonal order, as four vectors.
@@ -45,7 +53,7 @@ impl<V: Lanes> Diagonal<V> {
     ghost use Rattle.std.specs.Prelude.{◌≡◌, ℕ, ◌<◌};
     ghost use Rattle.scrypt_kernel.specs.Count.{AreCounted};
     ghost use Rattle.scrypt_kernel.specs.Diagonal.{diagonal_core, diagonal_round};
-    ghost use Rattle.scrypt_kernel.specs.Side.{AreWhole, block_of};
+    ghost use Rattle.scrypt_kernel.specs.Side.{AreWhole};
 
     /// Returns the Salsa20/8 core of each block, and counts them as SIMD cores.
     #[inline(always)]
@@ -98,7 +106,7 @@ impl<V: Lanes> Diagonal<V> {
     }
 
     /// Returns block `k`.
-    fn block(&self, k: usize) -> [u32; 16]
+    pub(crate) fn block(&self, k: usize) -> [u32; 16]
         requires { k < V.count }
         ensures { result ≡ block_of V.lanes self.now k }
     {

@@ -12,11 +12,11 @@ ghost use Rattle.scrypt_kernel.specs.Diagonal.{AreInverse, diagonal_order, inver
 
 use crate::CoreCount;
 pub use crate::cores::lanes::Diagonal;
-use crate::cores::lanes::Lanes;
 pub use crate::cores::lanes::both::Both;
+use crate::cores::lanes::{Lanes, in_lanes};
 use crate::order::{Order, low_bits};
 use crate::parts::Parts;
-use crate::words::{part, put_block};
+use crate::words::part;
 
 /// The place in standard order of the word at each place in diagonal order.
 pub const PIVOT_ABCD: [usize; 16] = [
@@ -158,7 +158,6 @@ fn permute(x: &mut [u32], pivot: &[usize; 16])
 }
 
 // Permutes block `k` only.
-#[tactic(auto, using(crate::proofs::OrderFacts::block_by_places))]
 fn permute_block(x: &mut [u32], k: usize, pivot: &[usize; 16])
     requires inside { 16 * k + 16 ≤ length x.old }
     requires places { IsTrue (list_all (λ j. nat_lt j 16) pivot.now) }
@@ -170,5 +169,6 @@ fn permute_block(x: &mut [u32], k: usize, pivot: &[usize; 16])
     for i in 0..16 {
         permuted[i] = from[pivot[i]];
     }
-    put_block(x, k, &permuted);
+    let len = x.len();
+    in_lanes(&permuted).write(x, len, k);
 }

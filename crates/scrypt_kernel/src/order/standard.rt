@@ -5,18 +5,23 @@ ghost use Rattle.std.specs.List.{range_with_len};
 ghost use Rattle.scrypt_kernel.specs.RoMix.{integerify};
 
 use crate::CoreCount;
+use crate::cores::lanes::{Diagonal, in_lanes};
 use crate::cores::salsa;
 use crate::order::{Order, low_bits};
 use crate::parts::Parts;
-use crate::words::{block_at, put_block, xor_blocks};
+use std::simd::u32x4;
 
-/// A block with its words in the order of the standard.
+/// A block with its words in the order of the standard. They are read and written as vectors, as
+/// those of a block in diagonal order are.
 #[derive(Clone, Copy)]
 pub struct Standard {
-    words: [u32; 16],
+    rows: Diagonal<u32x4>,
 }
 
 impl Order for Standard {
+    ghost use Rattle.scrypt_kernel.specs.Side.{block_of};
+    ghost use Rattle.scrypt_kernel.specs.Words.{part};
+
     ghost pivot = { range_with_len 0 16 };
 
     ghost inverse_pivot = { range_with_len 0 16 };
@@ -25,7 +30,7 @@ impl Order for Standard {
 
     ghost count = { 1 };
 
-    ghost held = { λ x _. x.words };
+    ghost held = { λ x k. block_of (λ v k. part 4 v k) x.rows k };
 
     #[inline(always)]
     fn count() -> usize {
@@ -47,27 +52,29 @@ impl Order for Standard {
     #[inline(always)]
     fn read(parts: &Parts<'_>, i: usize) -> Standard {
         Standard {
-            words: block_at(parts.part(0), i),
+            rows: Diagonal::read(parts, i),
         }
     }
 
     #[inline(always)]
     fn write(self, x: &mut [u32], s: usize, i: usize) {
-        put_block(&mut x[..s], i, &self.words);
+        self.rows.write(x, s, i);
     }
 
     #[inline(always)]
     #[tactic(auto, using(crate::proofs::OrderFacts::permuted_in_place))]
     fn core(self, cores: &mut CoreCount) -> Standard {
-        let mut words = self.words;
+        let mut words = self.rows.block(0);
         salsa::core(&mut words, cores);
-        Standard { words }
+        Standard {
+            rows: in_lanes(&words),
+        }
     }
 
     #[inline(always)]
     fn xor(self, y: Standard) -> Standard {
         Standard {
-            words: xor_blocks(&self.words, &y.words),
+            rows: self.rows.xor(y.rows),
         }
     }
 
