@@ -97,12 +97,9 @@ double_rounds_are = four_vectors DoubleRound (λ a0 a1 a2 a3 b0 b1 b2 b3 c0 c1 c
 abbrev pub joined : List ℕ × List ℕ × List ℕ × List ℕ → List ℕ
 joined lanes = lanes.0 ++ lanes.1 ++ lanes.2 ++ lanes.3
 
-joined_lanes : (x : List ℕ) → length x ≡ 16 → joined (lanes_of x) ≡ x
-joined_lanes x long = simp append_assoc (sym (simp append-nil at (parts_all (part 4 x) 4 4 x long (λ k h. refl))))
-
 -- a block is its four rows of lanes, which are four each
 pub lanes_joined : (l : List ℕ × List ℕ × List ℕ × List ℕ) (x : List ℕ) → length x ≡ 16 → l ≡ lanes_of x → joined l ≡ x
-lanes_joined l x long is = ap joined is ∙ joined_lanes x long
+lanes_joined l x long is = ap joined is ∙ simp append_assoc (sym (simp append-nil at (parts_all (part 4 x) 4 4 x long (λ k h. refl))))
 
 pub length-joined : (l : List ℕ × List ℕ × List ℕ × List ℕ) → AreFourEach l → length (joined l) ≡ 16
 length-joined l four = simp length-append (omega (arith, four.a, four.b, four.c, four.d))

@@ -17,25 +17,18 @@ digit_value c = if nat_lt c 58 then c - 48 else c - 87
 
 -- the bytes that these digits spell, two for each
 abbrev pub bytes : List ℕ → List ℕ
-bytes [] = []
-bytes (c ∷ []) = []
-bytes (c ∷ d ∷ rest) = (16 * digit_value c + digit_value d) ∷ bytes rest
-
-abbrev jefe_output : List ℕ
-jefe_output =
-    bytes (codes "5bdcc146bf60754e6a042426089575c75a003f089d2739839dec58b964ec3843")
+bytes (c ∷ d ∷ digits) = (16 * digit_value c + digit_value d) ∷ bytes digits
+bytes digits = []
 
 -- RFC 4231, section 4.3
-pub hmac_vector : hmac_sha256 (codes "Jefe") (codes "what do ya want for nothing?") ≡ jefe_output
+pub hmac_vector : hmac_sha256 (codes "Jefe") (codes "what do ya want for nothing?")
+    ≡ bytes (codes "5bdcc146bf60754e6a042426089575c75a003f089d2739839dec58b964ec3843")
 unfolding hmac_sha256 sha256 first_words schedule rounds compress hash_after digest_bytes
 hmac_vector = refl
 
-abbrev long_key_output : List ℕ
-long_key_output =
-    bytes (codes "eb4692e2b460982c828a3865b886231f2d852425de8f1ff47831826c0059448a")
-
 -- a key of 65 bytes, one more than a block, by OpenSSL
-pub long_key_vector : hmac_sha256 (replicate 65 0xaa) (codes "what do ya want for nothing?") ≡ long_key_output
+pub long_key_vector : hmac_sha256 (replicate 65 0xaa) (codes "what do ya want for nothing?")
+    ≡ bytes (codes "eb4692e2b460982c828a3865b886231f2d852425de8f1ff47831826c0059448a")
 unfolding hmac_sha256 sha256 first_words schedule rounds compress hash_after digest_bytes
 long_key_vector = refl
 
