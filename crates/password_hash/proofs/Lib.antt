@@ -1,5 +1,3 @@
--- Bytes in a fixed number of places.
-pub mod ShortBytesFacts
 -- Pairs and their text.
 pub mod PairsFacts
 -- One more pair at the end, and the pairs of a text in turn.

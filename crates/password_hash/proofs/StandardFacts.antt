@@ -98,18 +98,16 @@ pub key_not_printed :
 unfolding digits
 key_not_printed = refl
 
--- decimals: the number, or `None` for a text that is not a decimal below 2 ^ 32
-pub decimals : map (decimal_below 4294967296) (codes "0" ∷ codes "7" ∷ codes "10" ∷ codes "4294967295" ∷ []) ≡ Some 0 ∷
-    Some 7 ∷ Some 10 ∷ Some 4294967295 ∷ []
-unfolding decimal_below has_plus_or_leading_zero
-decimals = refl
+-- texts, and the decimals below 2 ^ 32 that they are
+abbrev decimal_texts : List (List ℕ × Option ℕ)
+decimal_texts =
+    (codes "0", Some 0) ∷ (codes "7", Some 7) ∷ (codes "10", Some 10) ∷ (codes "4294967295", Some 4294967295)
+    ∷ (codes "4294967296", None) ∷ ([], None) ∷ (codes "00", None) ∷ (codes "01", None) ∷ (codes "+1", None) ∷ (codes "-1", None)
+    ∷ (codes "1.", None) ∷ (codes "a", None) ∷ []
 
-pub other_texts_are_no_decimals :
-    map (decimal_below 4294967296) (codes "4294967296" ∷ [] ∷ codes "00" ∷ codes "01" ∷ codes "+1" ∷ codes "-1" ∷ codes
-    "1." ∷ codes "a" ∷ [])
-    ≡ None ∷ None ∷ None ∷ None ∷ None ∷ None ∷ None ∷ None ∷ []
+pub decimals_read : map (λ row. decimal_below 4294967296 row.0) decimal_texts ≡ map (λ row. row.1) decimal_texts
 unfolding decimal_below has_plus_or_leading_zero
-other_texts_are_no_decimals = refl
+decimals_read = refl
 
 -- crypt Base64
 

@@ -72,7 +72,6 @@ impl<const LEAST: usize, const MOST: usize> PartialEq for ShortBytes<LEAST, MOST
 
     ghost laws = { partial_equiv_from_equiv nat_list_eq_equiv };
 
-    #[tactic(auto, using(crate::proofs::ShortBytesFacts::tested))]
     fn eq(&self, other: &ShortBytes<LEAST, MOST>) -> bool {
         are_same(self.as_bytes(), other.as_bytes())
     }
