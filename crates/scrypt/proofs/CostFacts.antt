@@ -4,10 +4,7 @@ use Rattle.std.proofs.Math.Nat.{div-mul-le_self, mul-le-mul_right, one-le-pow}
 use Rattle.std.proofs.lemmas.Nat.{le-div, mul-le}
 use Rattle.std.specs.Prelude.{◌↔◌}
 use Rattle.scrypt_kernel.specs.Words.{part, words_of}
-use Rattle.scrypt_kernel.specs.Count.{AreCounted}
-use Rattle.scrypt_kernel.specs.RoMixCost.{ro_mix_cost}
-use Rattle.scrypt_kernel.specs.Table.{extra_rows, thin_ro_mix_cost}
-use Rattle.scrypt_kernel.specs.declared.cores.CoreCount.{CoreCount}
+use Rattle.scrypt_kernel.specs.Table.{thin_ro_mix_cost}
 use Rattle.scrypt_kernel.proofs.WalkFacts.{extra_rows-whole, whole_cost}
 use Rattle.scrypt.specs.Cost.{cost, extra_rows_of_chunks, table_words, thin_chunks_cost}
 
@@ -19,24 +16,18 @@ none_of_chunks b log_n r (suc i) =
     let none = extra_rows-whole (words_of (part (128 * r) b i)) log_n (2 ^ log_n) in
     omega arith
 
--- n chunks in tables that keep every row
-pub whole_count : {a b : CoreCount} (x : List ℕ) (log_n r n : ℕ) → AreCounted (n * thin_ro_mix_cost x log_n 0 r) a b
-    → AreCounted (ro_mix_cost log_n r * n) a b
-whole_count x log_n r n counted =
-    let whole = rw whole_cost at counted in
-    record { all = omega (arith, whole.all); lanes = omega (arith, whole.lanes) }
-
 -- a table that keeps every row has the cost of the standard's
 pub whole_table_cost : (b : List ℕ) (log_n r p : ℕ) → thin_chunks_cost b log_n r p 0 ≡ cost log_n r p
 whole_table_cost b log_n r p =
     let none = none_of_chunks b log_n r p in
     ap (λ e. cost log_n r p + 2 * r * e) none ∙ omega arith
 
--- one more chunk
-pub more_chunks : (b : List ℕ) (log_n s r i : ℕ) → extra_rows_of_chunks b log_n s r (i + 1)
-    ≡ extra_rows_of_chunks b log_n s r i + extra_rows (words_of (part (128 * r) b i)) log_n s (2 ^ log_n)
+-- n more chunks, of which there is one unless the table keeps every row
+pub more_chunks : (b : List ℕ) (log_n s r i n : ℕ) → (0 < s → n ≡ 1) → thin_chunks_cost b log_n r (i + n) s
+    ≡ thin_chunks_cost b log_n r i s + n * thin_ro_mix_cost (words_of (part (128 * r) b i)) log_n s r
 unfolding extra_rows_of_chunks
-more_chunks b log_n s r i = rw add-one refl
+more_chunks b log_n zero r i n alone = rw (whole_table_cost b log_n r (i + n), whole_table_cost b log_n r i, whole_cost) (omega arith)
+more_chunks b log_n (suc s) r i n alone = let one : n ≡ 1 = alone (omega arith) in rw (one, add-one) (omega arith)
 
 -- there is room for one at least exactly if one fits
 pub room_for_one : (n one : ℕ) → 0 < one → (0 < n / one) ↔ (one ≤ n)

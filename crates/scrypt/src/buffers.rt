@@ -17,7 +17,7 @@ pub(crate) fn at_once(params: &Params, count: usize, table: usize, scratch: usiz
     ensures exact { result ≡ at_once params.now.log_n params.now.r count table scratch }
     ensures some { (0 < result) ↔ ((0 < count)
         × (table_words params.now.log_n params.now.r ≤ table) × (scratch_words params.now.r ≤ scratch)) }
-    ensures memory { 0 < result → HasTables params.now.log_n params.now.r result table scratch }
+    ensures memory { 0 < result → HasTables params.now.log_n 0 params.now.r result table scratch }
 {
     let one = BufferLens::of(params);
     params.known();
@@ -103,7 +103,7 @@ impl Buffers {
         most_bytes: usize,
     ) -> Result<(usize, Buffers), AllocError>
         ensures chunks { IfOk result (λ got. length got.1.chunks.items ≡ chunks_bytes params.now.r params.now.p) }
-        ensures memory { IfOk result (λ got. HasTables params.now.log_n params.now.r got.0
+        ensures memory { IfOk result (λ got. HasTables params.now.log_n 0 params.now.r got.0
             (vec_capacity got.1.table) (length got.1.scratch.items)) }
     {
         let width = BufferLens::tables_within(params, most_bytes);

@@ -14,7 +14,7 @@ ghost use Rattle.scrypt.specs.declared.errors.DeriveError.TheVariants.{InvalidOu
 pub(crate) mod mixing;
 
 use crate::buffers::{Buffers, at_once};
-use crate::derivation::mixing::{mix_all, mix_thin};
+use crate::derivation::mixing::mix_all;
 use crate::{CoreCount, DeriveError, InvalidOutputLen, Params};
 use scrypt_kernel::memory::{Buffer, Memory};
 use scrypt_kernel::pbkdf2::pbkdf2_one;
@@ -204,6 +204,7 @@ pub fn scrypt_in_groups(
         password,
         salt,
         params,
+        0,
         width,
         &mut own.chunks,
         &mut own.table,
@@ -252,7 +253,7 @@ pub fn scrypt_with_buffers(
     let width = at_once(params, params.p() as usize, table.len(), scratch.len());
     let mut rows = Buffer::new(table);
     derive_in::<Buffer<'_>>(
-        password, salt, params, width, chunks, &mut rows, scratch, output, cores,
+        password, salt, params, 0, width, chunks, &mut rows, scratch, output, cores,
     );
     Ok(())
 }
@@ -298,19 +299,19 @@ pub fn scrypt_thin(
         return Err(InvalidOutputLen);
     }
     let mut rows = Buffer::new(table);
-    derive_chunks(password, salt, params, chunks);
-    mix_thin::<Buffer<'_>>(params, s, chunks, &mut rows, scratch, cores);
-    // Step 3: DK, with B as salt.
-    pbkdf2_one(password, chunks, output);
+    derive_in::<Buffer<'_>>(
+        password, salt, params, s, 1, chunks, &mut rows, scratch, output, cores,
+    );
     Ok(())
 }
 
-/// Steps 1 to 3, in any memory, with `width` chunks at a time.
+/// Steps 1 to 3, in any memory, with `width` chunks at a time and a table that keeps one row in `2^s`.
 #[tactic(auto, unfolding(crate::specs::Key::derived_key))]
 pub(crate) fn derive_in<M: Memory>(
     password: &[u8],
     salt: &[u8],
     params: &Params,
+    s: u8,
     width: usize,
     chunks: &mut [u8],
     rows: &mut M,
@@ -319,15 +320,18 @@ pub(crate) fn derive_in<M: Memory>(
     cores: &mut CoreCount,
 )
     requires chunks { length chunks.old ≡ chunks_bytes params.now.r params.now.p }
-    requires memory { HasTables params.now.log_n params.now.r width (M.room rows.old) (length scratch.old) }
+    requires memory { HasTables params.now.log_n s params.now.r width (M.room rows.old) (length scratch.old) }
     requires length { length output.old ≤ max_output_len }
     ensures value { output.new ≡ derived_key password.now salt.now
         params.now.log_n params.now.r params.now.p (length output.old) }
-    ensures counted { AreCounted (cost params.now.log_n params.now.r params.now.p) cores.old cores.new }
+    ensures counted { AreCounted (thin_cost password.now salt.now params.now.log_n params.now.r params.now.p s)
+        cores.old cores.new }
+    ensures whole { s ≡ 0 → AreCounted (cost params.now.log_n params.now.r params.now.p) cores.old cores.new }
 {
     derive_chunks(password, salt, params, chunks);
     mix_all::<M>(
         params,
+        s,
         params.p() as usize,
         width,
         chunks,

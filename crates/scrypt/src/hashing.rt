@@ -128,7 +128,7 @@ fn stored_key<M: Memory>(
     cores: &mut CoreCount,
 ) -> Output
     requires chunks { length chunks.old ≡ chunks_bytes params.now.r params.now.p }
-    requires memory { HasTables params.now.log_n params.now.r width (M.room rows.old) (length scratch.old) }
+    requires memory { HasTables params.now.log_n 0 params.now.r width (M.room rows.old) (length scratch.old) }
     ensures value { result ≡ key_by params.now password.now salt.now (key_len_or_default params.now) }
     ensures counted { AreCounted (cost params.now.log_n params.now.r params.now.p) cores.old cores.new }
     ensures chunks { chunks.new ≡ replicate (chunks_bytes params.now.r params.now.p) 0 }
@@ -137,7 +137,7 @@ fn stored_key<M: Memory>(
     let mut places = [0u8; Output::MAX_LENGTH];
     let key = &mut places[..key_len_or_default(params)];
     derive_in::<M>(
-        password, salt, params, width, chunks, rows, scratch, key, cores,
+        password, salt, params, 0, width, chunks, rows, scratch, key, cores,
     );
     chunks.fill(0);
     scratch.fill(0);

@@ -280,7 +280,7 @@ fn verify_at_once<L: Keys>(
     let chunks = &mut chunks[..count * (128 * params.r() as usize)];
     let scratch = &mut scratch[..lens.scratch];
     logins.derive(chunks);
-    mix_all::<Buffer<'_>>(params, count, width, chunks, &mut rows, scratch, cores);
+    mix_all::<Buffer<'_>>(params, 0, count, width, chunks, &mut rows, scratch, cores);
     let verdicts = logins.compare(chunks);
     chunks.fill(0);
     scratch.fill(0);

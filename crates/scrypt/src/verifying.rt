@@ -43,7 +43,7 @@ fn is_key_of<M: Memory>(
 ) -> bool
     requires parts { (s : Stored) × ArePartsOf s parts.now }
     requires chunks { length chunks.old ≡ chunks_bytes parts.now.params.r parts.now.params.p }
-    requires memory { HasTables parts.now.params.log_n parts.now.params.r width (M.room rows.old) (length scratch.old) }
+    requires memory { HasTables parts.now.params.log_n 0 parts.now.params.r width (M.room rows.old) (length scratch.old) }
     ensures exact { (s : Stored) → ArePartsOf s parts.now → result ≡ is_right password.now s }
     ensures counted { AreCounted (cost parts.now.params.log_n parts.now.params.r parts.now.params.p) cores.old cores.new }
     ensures chunks { chunks.new ≡ replicate (length chunks.old) 0 }
@@ -51,7 +51,7 @@ fn is_key_of<M: Memory>(
 {
     derive_chunks(password, parts.salt, &parts.params, chunks);
     let count = parts.params.p() as usize;
-    mix_all::<M>(&parts.params, count, width, chunks, rows, scratch, cores);
+    mix_all::<M>(&parts.params, 0, count, width, chunks, rows, scratch, cores);
     let same = is_derived_key(password, chunks, parts);
     chunks.fill(0);
     scratch.fill(0);

@@ -1,11 +1,10 @@
 // Step 2 of a derivation (RFC 7914, section 6): each chunk becomes its scryptROMix.
 
-ghost use Rattle.std.specs.Prelude.{◌≡◌, ℕ, List, ◌+◌, ◌-◌, ◌*◌, ◌<◌, ◌≤◌, drop, length};
+ghost use Rattle.std.specs.Prelude.{◌≡◌, ℕ, List, ◌+◌, ◌*◌, ◌<◌, ◌≤◌, length};
 ghost use Rattle.scrypt_kernel.specs.Count.{AreCounted, AreCountedAs};
-ghost use Rattle.scrypt_kernel.specs.RoMixCost.{ro_mix_cost};
 ghost use Rattle.scrypt_kernel.specs.Table.{thin_ro_mix_cost};
 ghost use Rattle.scrypt_kernel.specs.Words.{part, words_of};
-ghost use Rattle.scrypt.specs.Cost.{chunks_bytes, cost, scratch_words, table_words, thin_chunks_cost, thin_scratch_words};
+ghost use Rattle.scrypt.specs.Cost.{chunks_bytes, cost, thin_chunks_cost};
 ghost use Rattle.scrypt.specs.Key.{mixed_chunks};
 ghost use Rattle.scrypt.specs.Mixing.{AreMixed, HasTables};
 
@@ -17,9 +16,11 @@ use scrypt_kernel::romix;
 use std::simd::{u32x4, u32x8};
 
 /// Each of `count` chunks becomes its scryptROMix, at most `width` of them at a time. They are those of one
-/// derivation or of several, all with the `N` and the `r` of `params`.
+/// derivation or of several, all with the `N` and the `r` of `params`. The table keeps one row in `2^s`.
+#[tactic(auto, unfolding(crate::specs::Cost::extra_rows_of_chunks))]
 pub(crate) fn mix_all<M: Memory>(
     params: &Params,
+    s: u8,
     count: usize,
     width: usize,
     chunks: &mut [u8],
@@ -28,14 +29,15 @@ pub(crate) fn mix_all<M: Memory>(
     cores: &mut CoreCount,
 )
     requires chunks { length chunks.old ≡ chunks_bytes params.now.r count }
-    requires memory { HasTables params.now.log_n params.now.r width (M.room rows.old) (length scratch.old) }
+    requires memory { HasTables params.now.log_n s params.now.r width (M.room rows.old) (length scratch.old) }
     ensures value { chunks.new ≡ mixed_chunks chunks.old params.now.log_n params.now.r count }
-    ensures counted { AreCounted (cost params.now.log_n params.now.r count) cores.old cores.new }
+    ensures counted { AreCounted (thin_chunks_cost chunks.old params.now.log_n params.now.r count s) cores.old cores.new }
+    ensures whole { s ≡ 0 → AreCounted (cost params.now.log_n params.now.r count) cores.old cores.new }
 {
     let mut i = 0;
     'groups: while i < count {
         let n = next_group(width, count - i);
-        mix_at_once::<M>(params, n, i, chunks, rows, scratch, cores);
+        mix_at_once::<M>(params, s, n, i, chunks, rows, scratch, cores);
         i += n;
     }
 }
@@ -58,6 +60,7 @@ fn next_group(width: usize, left: usize) -> usize
 // Mixes the `n` chunks from `i` on at once.
 fn mix_at_once<M: Memory>(
     params: &Params,
+    s: u8,
     n: usize,
     i: usize,
     chunks: &mut [u8],
@@ -66,14 +69,15 @@ fn mix_at_once<M: Memory>(
     cores: &mut CoreCount,
 )
     requires inside { i * (128 * params.now.r) + n * (128 * params.now.r) ≤ length chunks.old }
-    requires memory { HasTables params.now.log_n params.now.r n (M.room rows.old) (length scratch.old) }
+    requires memory { HasTables params.now.log_n s params.now.r n (M.room rows.old) (length scratch.old) }
     ensures mixed { (b : List ℕ) → AreMixed b params.now.log_n params.now.r i chunks.old
         → AreMixed b params.now.log_n params.now.r (i + n) chunks.new }
     ensures room { M.room rows.old ≤ M.room rows.new }
-    ensures counted { AreCounted (ro_mix_cost params.now.log_n params.now.r * n) cores.old cores.new }
+    ensures counted { AreCounted (n
+        * thin_ro_mix_cost (words_of (part (128 * params.now.r) chunks.old i)) params.now.log_n s params.now.r) cores.old cores.new }
 {
     match n {
-        1 => mix_group::<Diagonal<u32x4>, M>(params, 0, i, chunks, rows, scratch, cores),
+        1 => mix_group::<Diagonal<u32x4>, M>(params, s, i, chunks, rows, scratch, cores),
         2 => mix_group::<Diagonal<u32x8>, M>(params, 0, i, chunks, rows, scratch, cores),
         3 => mix_group::<Diagonal<Both<u32x8, u32x4>>, M>(
             params, 0, i, chunks, rows, scratch, cores,
@@ -81,29 +85,6 @@ fn mix_at_once<M: Memory>(
         _ => mix_group::<Diagonal<Both<u32x8, u32x8>>, M>(
             params, 0, i, chunks, rows, scratch, cores,
         ),
-    }
-}
-
-/// Each of the `p` chunks becomes its scryptROMix, one after another, with a table that keeps one row in `2^s`.
-pub(crate) fn mix_thin<M: Memory>(
-    params: &Params,
-    s: u8,
-    chunks: &mut [u8],
-    rows: &mut M,
-    scratch: &mut [u32],
-    cores: &mut CoreCount,
-)
-    requires chunks { length chunks.old ≡ chunks_bytes params.now.r params.now.p }
-    requires spacing { s ≤ params.now.log_n }
-    requires table { table_words (params.now.log_n - s) params.now.r ≤ M.room rows.old }
-    requires scratch { scratch_words params.now.r ≤ length scratch.old }
-    requires spare { 0 < s → thin_scratch_words params.now.r ≤ length scratch.old }
-    ensures value { chunks.new ≡ mixed_chunks chunks.old params.now.log_n params.now.r params.now.p }
-    ensures counted { AreCounted (thin_chunks_cost chunks.old params.now.log_n params.now.r params.now.p s)
-        cores.old cores.new }
-{
-    'chunks: for i in 0..params.p() as usize {
-        mix_group::<Diagonal<u32x4>, M>(params, s, i, chunks, rows, scratch, cores);
     }
 }
 
@@ -118,17 +99,12 @@ fn mix_group<O: Order, M: Memory>(
     cores: &mut CoreCount,
 )
     requires inside { i * (128 * params.now.r) + O.count * (128 * params.now.r) ≤ length chunks.old }
-    requires alone { 0 < s → O.count ≡ 1 }
-    requires spacing { s ≤ params.now.log_n }
-    requires table { O.count * table_words (params.now.log_n - s) params.now.r ≤ M.room rows.old }
-    requires scratch { O.count * scratch_words params.now.r ≤ length scratch.old }
-    requires spare { 0 < s → thin_scratch_words params.now.r ≤ length scratch.old }
+    requires memory { HasTables params.now.log_n s params.now.r O.count (M.room rows.old) (length scratch.old) }
     ensures mixed { (b : List ℕ) → AreMixed b params.now.log_n params.now.r i chunks.old
         → AreMixed b params.now.log_n params.now.r (i + O.count) chunks.new }
     ensures room { M.room rows.old ≤ M.room rows.new }
     ensures counted { AreCountedAs O.simd (O.count
-        * thin_ro_mix_cost (words_of (part (128 * params.now.r) (drop (i * (128 * params.now.r)) chunks.old) 0)) params.now.log_n s params.now.r)
-        cores.old cores.new }
+        * thin_ro_mix_cost (words_of (part (128 * params.now.r) chunks.old i)) params.now.log_n s params.now.r) cores.old cores.new }
 {
     params.known();
     let r = params.r() as usize;

@@ -1,6 +1,8 @@
-use Rattle.std.proofs.Common.{◌≤◌, ◌+◌, ◌*◌, arith}
+use Rattle.std.proofs.Common.{◌≡◌, ◌<◌, ◌≤◌, ◌+◌, ◌-◌, ◌*◌, arith}
 use Rattle.std.proofs.Math.Nat.{mul-le-mul_right}
 use Rattle.scrypt_kernel.proofs.CountFacts.{counted_both}
+use Rattle.scrypt.specs.Cost.{scratch_words, table_words}
+use Rattle.scrypt.proofs.CostFacts.{more_chunks, whole_table_cost}
 use Rattle.scrypt.proofs.derivation.mixing.mix_all.Goals as goal
 
 pub mix_at_once-requires-clause-inside : goal.mix_at_once-requires-clause-inside
@@ -8,10 +10,34 @@ mix_at_once-requires-clause-inside g c =
     let below : c.groups.i + c.next_group-n.result ≤ c.args.count = omega arith in
     omega (arith, c.requires.chunks, mul-le-mul_right (128 * c.args.params.now.r) below)
 
+pub mix_at_once-requires-clause-memory : goal.mix_at_once-requires-clause-memory
+mix_at_once-requires-clause-memory g c =
+    let has = c.requires.memory in
+    let r = c.args.params.now.r in
+    let table = table_words (c.args.params.now.log_n - c.args.s) r in
+    let fewer : c.next_group-n.result ≤ c.args.width = c.next_group-n.ensures.within in
+    record {
+      some = c.next_group-n.ensures.some;
+      few = omega arith;
+      spacing = has.spacing;
+      alone = λ above. omega (arith, has.alone above);
+      tables = omega (arith, has.tables, c.groups.invariant.room, mul-le-mul_right table fewer);
+      scratches = omega (arith, has.scratches, mul-le-mul_right (scratch_words r) fewer);
+      spare = λ above. omega (arith, has.spare above);
+    }
+
 pub groups-preserved : goal.groups-preserved
-groups-preserved g c = record {
-  mixed = c.mix_at_once.ensures.mixed c.args.chunks.now c.groups.invariant.mixed;
-  some = omega arith;
-  room = omega arith;
-  counted = counted_both _ c.groups.invariant.counted c.mix_at_once.ensures.counted (omega arith);
-}
+groups-preserved g c =
+    let before = c.groups.invariant in
+    let alone : 0 < c.args.s → c.next_group-n.result ≡ 1 = λ above. omega (arith, c.requires.memory.alone above) in
+    record {
+      mixed = c.mix_at_once.ensures.mixed c.args.chunks.now before.mixed;
+      some = omega arith;
+      room = omega arith;
+      counted = counted_both _ before.counted (rw before.mixed.rest at c.mix_at_once.ensures.counted) (more_chunks _ _ _ _ _ _ alone);
+    }
+
+pub returns-clause-whole : goal.returns-clause-whole
+returns-clause-whole g c none =
+    let all : c.groups.i ≡ c.args.count = omega arith in
+    rw (all, none, whole_table_cost) at c.groups.invariant.counted

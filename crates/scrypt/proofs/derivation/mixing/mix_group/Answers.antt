@@ -1,7 +1,7 @@
 use Rattle.std.proofs.Common.{◌≡◌, ◌<◌, ◌≤◌, ◌+◌, ◌-◌, ◌*◌, ℕ, length, drop, ap, ap₂, ◌∙◌, arith}
 use Rattle.std.proofs.lemmas.List.{length-drop, length-take-le}
 use Rattle.scrypt_kernel.proofs.PartFacts.{part-take, parts_apart}
-use Rattle.scrypt.proofs.KeyFacts.{mixed_group, mixed_more}
+use Rattle.scrypt.proofs.KeyFacts.{mixed_group, mixed_more, part_at}
 use Rattle.scrypt.proofs.derivation.mixing.mix_group.Goals as goal
 
 pub returns-clause-mixed : goal.returns-clause-mixed
@@ -35,4 +35,5 @@ returns-clause-counted g c =
       c.count.ensures.value,
       same,
       part-take s 0 (n * s) (drop (i * s) c.args.chunks.now) (parts_apart s 0 n some),
+      part_at s i c.args.chunks.now,
     ) at c.mix_chunks.ensures.counted
