@@ -6,8 +6,9 @@ use Rattle.scrypt_kernel.specs.Pbkdf2.{max_output_len}
 use Rattle.std.specs.Prelude.{Bool, IfSome, Option, Some, None, Result, Ok, Err, if◌then◌else◌, nat_eq, nat_le, unwrap_or}
 use Rattle.std.specs.Bool.{Decides}
 use Rattle.std.specs.Option.{option_eq}
+use Rattle.std.proofs.lemmas.Bool.{false_from_ne_true}
 use Rattle.std.proofs.lemmas.Bool.Decides.{Decides-and, Decides-eqb, Decides-like, Decides-ltb, nat_tests}
-use Rattle.std.proofs.Common.{refl, ap, ◌∙◌, ◌≡◌, ◌≢◌, ℕ, ◌-◌, ◌*◌, ◌^◌, ◌<◌, ◌≤◌, arith, lit≤, true, false}
+use Rattle.std.proofs.Common.{refl, ap, ◌≡◌, ℕ, ◌-◌, ◌*◌, ◌^◌, ◌<◌, ◌≤◌, arith, lit≤, true, false}
 use Rattle.std.proofs.Math.Nat.{lt_of_not-le, mul-le-mul_right, mul_assoc}
 use Rattle.std.proofs.Math.Pow.{pow_mono}
 use Rattle.std.proofs.lemmas.Nat.{mul-le}
@@ -22,9 +23,8 @@ small_log_n log_n r some fits =
 
 -- what a test decides
 
-pub not_true : (test : Bool) → test ≢ true → test ≡ false
-not_true true none = absurd (none refl)
-not_true false none = refl
+pub refuted : {P : Type 0} (test : Bool) → Decides test P → ¬ P → test ≡ false
+refuted test decided none = false_from_ne_true test (λ is. none (decided.0 is))
 
 pub ok_if : {A E : Type 0} (test : Bool) (made : Result A E) (e : E) {x : A} → (if test then made else Err e) ≡ Ok x
     → (test ≡ true) × (made ≡ Ok x)
@@ -58,7 +58,7 @@ checked_is log_n r p fits = rw ((accepted_decided log_n r p).1 fits) refl
 
 pub not_checked : (log_n r p : ℕ) → ¬ AreAccepted log_n r p → checked log_n r p ≡ Err ParamsInvalid
 unfolding checked
-not_checked log_n r p none = rw (not_true (are_accepted log_n r p) (λ is. none ((accepted_decided log_n r p).0 is))) refl
+not_checked log_n r p none = rw (refuted _ (accepted_decided log_n r p) none) refl
 
 pub checked_ok : (log_n r p : ℕ) (c : Parameters) → checked log_n r p ≡ Ok c → AreAccepted log_n r p × (numbers log_n r p ≡ c)
 unfolding checked
@@ -111,12 +111,8 @@ pub parameters_decided : (a b : Parameters) → Decides (parameters_eq a b) (a �
 parameters_decided a b =
     let each = Decides-and _ _ (Decides-and _ _ (option_decided a.output_len b.output_len) (Decides-eqb a.log_n b.log_n))
     (Decides-and _ _ (Decides-eqb a.r b.r) (Decides-eqb a.p b.p)) in
-    let made = λ (n : Option ℕ) (log_n r p : ℕ). let c : Parameters = record { log_n = log_n; r = r; p = p; output_len = n } in c in (
-      λ e. let same = each.0 e in
-          ap (λ z. made z a.log_n a.r a.p) same.0.0 ∙ ap (λ z. made b.output_len z a.r a.p) same.0.1
-          ∙ ap (λ z. made b.output_len b.log_n z a.p) same.1.0 ∙ ap (λ z. made b.output_len b.log_n b.r z) same.1.1,
-      λ e. each.1 ((ap (λ c. c.output_len) e, ap (λ c. c.log_n) e), (ap (λ c. c.r) e, ap (λ c. c.p) e)),
-    )
+    Decides-like _ (λ same i. record { log_n = same.0.1 i; r = same.1.0 i; p = same.1.1 i; output_len = same.0.0 i })
+    (λ (e : a ≡ b). ((ap (λ c. c.output_len) e, ap (λ c. c.log_n) e), (ap (λ c. c.r) e, ap (λ c. c.p) e))) each
 
 -- the length of a key that hashing makes is one that is stored
 pub key_len_stored : (len : Option ℕ) → IfSome len IsStoredLen → IsStoredLen (unwrap_or len 32)

@@ -38,12 +38,6 @@ made_alike f g a b (suc n) same =
     let other : b + 1 + i ≡ b + suc i = omega arith in
     rw (place, other) (same (suc i) (omega arith))))
 
--- no chunk is mixed at first
-pub none_mixed : (b : List ℕ) (log_n r : ℕ) → AreMixed b log_n r 0 b
-none_mixed b log_n r =
-    let none : 0 * (128 * r) ≡ 0 = omega arith in
-    record { done = ap (λ n. take n b) none; rest = refl }
-
 -- m more chunks, mixed in place as a slice of n bytes from a on
 pub mixed_more : {b x ys : List ℕ} {log_n r i : ℕ} (m a n : ℕ) → a ≡ i * (128 * r) → n ≡ m * (128 * r)
     → length ys ≡ n → a + n ≤ length x → ys ≡ flat_map (mixed_chunk b log_n r) (range_with_len i m)

@@ -1,19 +1,20 @@
 -- Facts on several logins, whose keys are derived at once.
 use Rattle.std.proofs.Common.{◌≡◌, ◌∙◌, ◌<◌, ◌≤◌, ◌+◌, ◌*◌, ◌^◌, ◌++◌, length, true, false, refl, sym, ap, ap₂, arith, length-append}
-use Rattle.std.specs.Prelude.{if◌then◌else◌, Bool, Option, None, Some, Result, Ok, Err, ⊤}
+use Rattle.std.specs.Prelude.{Option, None, Some, Result, Ok, Err, ⊤}
 use Rattle.password_hash.specs.Refusal.{Refusal}
 use Rattle.std.proofs.Math.Nat.{mul-le-mul_right}
+use Rattle.std.proofs.lemmas.Option.{cond_some}
 use Rattle.std.proofs.lemmas.Bool.Decides.{Decides-and, Decides-eqb, Decides-ltb}
 use Rattle.scrypt_kernel.proofs.Pbkdf2Facts.{length-pbkdf2}
 use Rattle.scrypt.specs.Accepted.{Parameters}
-use Rattle.scrypt.specs.Cost.{chunks_bytes, scratch_words, table_words}
+use Rattle.scrypt.specs.Cost.{chunks_bytes}
+use Rattle.scrypt.specs.InBuffers.{AreEnough}
 use Rattle.scrypt.specs.Key.{mixed_chunks}
 use Rattle.scrypt.specs.Logins.{AreLeft, AreVerdicts, Both, Group, One, Readings, all_chunks, all_mixed, joined, shared}
 use Rattle.scrypt.specs.Reading.{verdict}
 use Rattle.scrypt.specs.WorkInBuffers.{IsDone, Work, has_room, verdict_in}
-use Rattle.scrypt.proofs.AcceptedFacts.{not_true}
 use Rattle.scrypt.proofs.KeyFacts.{both_mixed, length-mixed_chunks}
-use Rattle.scrypt.proofs.ReadingFacts.{room_decided, room_enough, same_verdict}
+use Rattle.scrypt.proofs.ReadingFacts.{room_decided, room_enough, room_too_short, same_verdict}
 
 -- the parameters of two groups
 
@@ -28,16 +29,11 @@ pub record AreJoined (s t : Option Parameters) (e : Parameters) : Type 0 where
 
 pub are_joined : (s t : Option Parameters) (e : Parameters) → joined s t ≡ Some e → AreJoined s t e
 unfolding joined
-are_joined (Some c) (Some d) e is = at _ (Decides-and _ _ (Decides-and _ _ (Decides-eqb c.log_n d.log_n) (Decides-eqb c.r d.r))
-    (Decides-ltb (c.p + d.p) (2 ^ 32))).0 is
-  where
-    at : (test : Bool) → (test ≡ true → ((c.log_n ≡ d.log_n) × (c.r ≡ d.r)) × (c.p + d.p < 2 ^ 32))
-        → ◌≡◌ {A = Option Parameters} (if test then Some (record c { p = c.p + d.p }) else None) (Some e) → AreJoined (Some c) (Some d) e
-    at true alike is =
-        let same : record c { p = c.p + d.p } ≡ e = cc in
-        let equal = (alike refl).0 in
-        rw (← same) (record { c = c; d = d; first = refl; second = refl; log_n = (refl, sym equal.0); r = (refl, sym equal.1); p = refl })
-    at false alike is = absurd cc
+are_joined (Some c) (Some d) e is =
+    let alike = Decides-and _ _ (Decides-and _ _ (Decides-eqb c.log_n d.log_n) (Decides-eqb c.r d.r)) (Decides-ltb (c.p + d.p) (2 ^ 32)) in
+    let (test, same) = cond_some _ (record c { p = c.p + d.p }) e is in
+    let equal = (alike.0 test).0 in
+    rw (← same) (record { c = c; d = d; first = refl; second = refl; log_n = (refl, sym equal.0); r = (refl, sym equal.1); p = refl })
 are_joined (Some c) None e is = absurd cc
 are_joined None t e is = absurd cc
 
@@ -104,12 +100,9 @@ alike (Both first second) (One out) w v chunks table scratch told = told
 
 -- room for all
 
-pub no_room_for : (s : Option Parameters) (c e : Parameters) (w : Work) → s ≡ Some c → s ≡ Some e
-    → ¬ ((chunks_bytes c.r c.p ≤ length w.chunks) × (table_words c.log_n c.r ≤ length w.table) × (scratch_words c.r ≤ length w.scratch))
+pub no_room_for : (s : Option Parameters) (c e : Parameters) (w : Work) → s ≡ Some c → s ≡ Some e → ¬ AreEnough c w.chunks w.table w.scratch
     → has_room e w ≡ false
-no_room_for s c e w one other short =
-    let same : e ≡ c = cc in
-    rw same (not_true _ (λ is. let fits = (room_decided c w).0 is in short (fits.0, fits.1.0, fits.1.1)))
+no_room_for s c e w one other short = let same : e ≡ c = cc in rw same (room_too_short c w short)
 
 pub left_at_once : (s : Option Parameters) (e : Parameters) (First Second : Work → Work → Type 0) (before after : Work) → s ≡ Some e
     → has_room e before ≡ true → IsDone e before after → AreLeft s First Second before after

@@ -12,7 +12,7 @@ use Rattle.scrypt.specs.Accepted.{IsOutputLen, is_output_len}
 use Rattle.scrypt.specs.McfParams.{params_letters, field_params}
 use Rattle.scrypt.specs.McfHash.{mcf_id, read_fields, read_key, read_mcf, read_parts}
 use Rattle.scrypt.specs.Reading.{NamesNoPassword, Stored}
-use Rattle.scrypt.proofs.AcceptedFacts.{not_true, ok_if, output_len_decided}
+use Rattle.scrypt.proofs.AcceptedFacts.{ok_if, output_len_decided, refuted}
 use Rattle.scrypt.proofs.McfParamsFacts.{field_fault, field_is}
 use Rattle.scrypt.proofs.ReadingFacts.{IsFault, both_read, faults, no_password}
 use Rattle.password_hash.proofs.DecodedFacts.{decoded_is, encoded_is, not_decoded}
@@ -28,8 +28,7 @@ pub read_other : {text id : List ℕ} {fields : List (List ℕ)} → IsMcfText t
     → read_mcf text ≡ Err Algorithm
 unfolding read_mcf
 read_other {text} {id} {fields} is other =
-    let differs = not_true (bytes_eq id mcf_id) (λ same. other ((bytes_eq-Decides id mcf_id).0 same)) in
-    rw (parts_of-IsMcfText text id fields is, differs) refl
+    rw (parts_of-IsMcfText text id fields is, refuted _ (bytes_eq-Decides id mcf_id) other) refl
 
 -- a key, by its length
 
@@ -37,8 +36,7 @@ pub key_read : {letters key : List ℕ} → Crypt64 key letters → IsOutputLen 
 key_read {letters} {key} is fits = rw (decoded_is key letters is, (output_len_decided (length key)).1 fits) refl
 
 pub key_refused : {letters key : List ℕ} → Crypt64 key letters → ¬ IsOutputLen (length key) → read_key (letters ∷ []) ≡ Err OutputSize
-key_refused {letters} {key} is long =
-    rw (decoded_is key letters is, not_true (is_output_len (length key)) (λ fits. long ((output_len_decided (length key)).0 fits))) refl
+key_refused {letters} {key} is long = rw (decoded_is key letters is, refuted _ (output_len_decided (length key)) long) refl
 
 pub no_key : {letters : List ℕ} (after : List (List ℕ)) → ¬ IsCrypt64 letters → read_key (letters ∷ after) ≡ Err EncodingInvalid
 no_key {letters} [] none = rw (not_decoded letters none) refl
@@ -63,31 +61,29 @@ key_is {letters} {key} is =
     at None is = absurd cc
     at (Some key) is = cc
 
-fields_read : (text : List ℕ) (fields : List (List ℕ)) (s : Stored) → parts_of text ≡ [] ∷ mcf_id ∷ fields → read_fields fields ≡ Ok s
-    → IsTextOf text s
-fields_read text [] s parts is = absurd cc
-fields_read text (field ∷ after) s parts is =
-    let params = both_read (field_params field) _ is in
-    let key = both_read (read_key after) _ params.2 in
+parts_read : (text : List ℕ) (parts : List (List ℕ)) (s : Stored) → parts_of text ≡ parts → read_parts parts ≡ Ok s → IsTextOf text s
+parts_read text ([] ∷ id ∷ field ∷ letters ∷ []) s parts is =
+    let seven = ok_if (bytes_eq id mcf_id) _ Algorithm is in
+    let params = both_read (field_params field) _ seven.1 in
+    let key = both_read (read_key (letters ∷ [])) _ params.2 in
     let made : Stored = record { params = params.0; salt = drop 11 field; key = key.0 } in
     let same : made ≡ s = cc key.2 in
-    at after parts (params.1 ∙ ap (λ (z : Stored). Ok z.params) same) (ap (λ (z : Stored). z.salt) same)
-    (key.1 ∙ ap (λ (z : Stored). Ok z.key) same)
-  where
-    at : (after : List (List ℕ)) → parts_of text ≡ [] ∷ mcf_id ∷ field ∷ after → field_params field ≡ Ok s.params
-        → drop 11 field ≡ s.salt → read_key after ≡ Ok s.key → IsTextOf text s
-    at [] parts params salt key = absurd cc
-    at (letters ∷ third ∷ after) parts params salt key = absurd cc
-    at (letters ∷ []) parts params salt key =
-        record { field = field; letters = letters; parts = parts; params = params; salt = salt; key = key_is key }
-
-parts_read : (text : List ℕ) (parts : List (List ℕ)) (s : Stored) → parts_of text ≡ parts → read_parts parts ≡ Ok s → IsTextOf text s
-parts_read text [] s parts is = absurd cc
-parts_read text ((byte ∷ first) ∷ rest) s parts is = absurd cc
+    rw (← same) (record {
+      field = field;
+      letters = letters;
+      parts = parts ∙ ap (λ z. [] ∷ z ∷ field ∷ letters ∷ []) ((bytes_eq-Decides id mcf_id).0 seven.0);
+      params = params.1;
+      salt = refl;
+      key = key_is key.1;
+    })
+parts_read text ([] ∷ id ∷ field ∷ letters ∷ third ∷ after) s parts is =
+    let none = (both_read (field_params field) _ (ok_if (bytes_eq id mcf_id) _ Algorithm is).1).2 in absurd cc
+parts_read text ([] ∷ id ∷ field ∷ []) s parts is =
+    let none = (both_read (field_params field) _ (ok_if (bytes_eq id mcf_id) _ Algorithm is).1).2 in absurd cc
+parts_read text ([] ∷ id ∷ []) s parts is = let none = (ok_if (bytes_eq id mcf_id) _ Algorithm is).1 in absurd cc
 parts_read text ([] ∷ []) s parts is = absurd cc
-parts_read text ([] ∷ id ∷ fields) s parts is =
-    let both = ok_if (bytes_eq id mcf_id) (read_fields fields) Algorithm is in
-    fields_read text fields s (parts ∙ ap (λ z. [] ∷ z ∷ fields) ((bytes_eq-Decides id mcf_id).0 both.0)) both.1
+parts_read text ((byte ∷ first) ∷ rest) s parts is = absurd cc
+parts_read text [] s parts is = absurd cc
 
 pub is_text_of : {text : List ℕ} {s : Stored} → read_mcf text ≡ Ok s → IsTextOf text s
 unfolding read_mcf
@@ -115,7 +111,7 @@ key_fault [] = tt
 key_fault (letters ∷ []) = search (rules, faults)
 key_fault (letters ∷ third ∷ after) = tt
 
-pub fields_fault : (fields : List (List ℕ)) → IfErr (read_fields fields) IsFault
+fields_fault : (fields : List (List ℕ)) → IfErr (read_fields fields) IsFault
 fields_fault [] = tt
 fields_fault (field ∷ after) = search (rules, faults, field_fault, key_fault)
 

@@ -9,8 +9,7 @@ use Rattle.std.proofs.lemmas.List.{append-nil, take_all, take-append-drop, lengt
 use Rattle.std.proofs.lemmas.List.Elements.{All-head, All-tail}
 use Rattle.password_hash.specs.Crypt64.{letter, letter_value, letters_of, number_of, with_digit}
 use Rattle.password_hash.proofs.Crypt64Facts.{length-letters_of, letters_of-number_of, number_of-letters_of}
-use Rattle.password_hash.proofs.GroupFacts.{append_parts}
-use Rattle.password_hash.proofs.AlphabetFacts.{letter_value-letter, letter-of_value}
+use Rattle.password_hash.proofs.AlphabetFacts.{letter-of_value}
 use Rattle.password_hash.specs.Refusal.{Refusal, EncodingInvalid}
 use Rattle.scrypt.specs.Accepted.{AreAccepted, Parameters}
 use Rattle.scrypt.specs.McfParams.{params_letters, field_params, five_letter_number}
@@ -105,34 +104,6 @@ five_letters_said letters five each =
     let is : five_letter_number letters ≡ number_of letters =
     five_letter_number-some letters (omega arith) ∙ ap number_of (take_all 5 letters (omega arith)) in
     rw is (number_said letters each)
-
--- letters and five letters are those of one number
-letter-once : (value other : ℕ) → value < 64 → other < 64 → letter value ≡ letter other → value ≡ other
-letter-once value other below other_below same =
-    let values : Some value ≡ Some other =
-    sym (letter_value-letter value below) ∙ ap letter_value same ∙ letter_value-letter other other_below in
-    cc
-
-five_letters_once : (number other : ℕ) → number < 2 ^ 30 → other < 2 ^ 30 → letters_of 5 number ≡ letters_of 5 other → number ≡ other
-five_letters_once number other below other_below same =
-    let numbers : Some number ≡ Some other =
-    sym (five_letters_read_back number below) ∙ ap five_letter_number same ∙ five_letters_read_back other other_below in
-    cc
-
--- the letters of accepted parameters are those of one log_n, one r and one p
-pub params_letters_once : (log_n r p other_log_n other_r other_p : ℕ) → AreAccepted log_n r p → AreAccepted other_log_n other_r other_p
-    → params_letters log_n r p ≡ params_letters other_log_n other_r other_p → (log_n ≡ other_log_n) × (r ≡ other_r) × (p ≡ other_p)
-params_letters_once log_n r p other_log_n other_r other_p fits other_fits same =
-    let small = small_params log_n r p fits in
-    let other_small = small_params other_log_n other_r other_p other_fits in
-    let first : letter log_n ≡ letter other_log_n = cc in
-    let after : letters_of 5 r ++ letters_of 5 p ≡ letters_of 5 other_r ++ letters_of 5 other_p = cc in
-    let parts = append_parts (letters_of 5 r) (letters_of 5 p) (letters_of 5 other_r) (letters_of 5 other_p)
-    (length-letters_of 5 r ∙ sym (length-letters_of 5 other_r)) after in (
-      letter-once log_n other_log_n (omega (arith, small.0)) (omega (arith, other_small.0)) first,
-      five_letters_once r other_r small.1 other_small.1 parts.0,
-      five_letters_once p other_p small.2 other_small.2 parts.1,
-    )
 
 -- a text that says a number begins with its five letters
 five_in_front : (text : List ℕ) (number : ℕ) → five_letter_number text ≡ Some number → text ≡ letters_of 5 number ++ drop 5 text

@@ -1,14 +1,16 @@
 -- The text that hashing writes is that of the hash.
-use Rattle.std.proofs.Common.{◌≡◌, ◌≢◌, ℕ, zero, suc, ◌^◌, ◌%◌, ◌<◌, ◌≤◌, List, [], ◌∷◌, ◌++◌, length, drop}
+use Rattle.std.proofs.Common.{◌≡◌, ◌≢◌, ℕ, ◌^◌, ◌%◌, ◌<◌, ◌≤◌, List, [], ◌∷◌, ◌++◌, length, drop}
 use Rattle.std.proofs.Common.{Some, Ok, true, ◌∙◌, refl, sym, ap, ap₂, arith, lit<, append_assoc, length-append}
-use Rattle.std.specs.Prelude.{All, IfSome, codes, nat_lt}
+use Rattle.std.specs.Prelude.{All, IfSome, Result, codes, nat_lt}
 use Rattle.std.proofs.lemmas.Bool.{lt-ltb}
 use Rattle.std.specs.Str.{IsAscii}
+use Rattle.std.proofs.lemmas.Str.Ascii.{IsAscii-from_all}
 use Rattle.std.proofs.lemmas.List.{append-nil, drop_all, drop_at}
-use Rattle.std.proofs.lemmas.List.Elements.{All-nil, All-cons, All-append, All-from_get_or, All-head, All-tail, All-weaker}
+use Rattle.std.proofs.lemmas.List.Elements.{All-nil, All-cons, All-append, All-from_get_or, All-from_recursion, All-weaker}
 use Rattle.password_hash.specs.Crypt64.{letter, letters_of, crypt64_of, encoded_len}
 use Rattle.password_hash.specs.Mcf.{IsField, IsMcf, IsMcfText}
 use Rattle.password_hash.specs.Parts.{dollar}
+use Rattle.password_hash.specs.Refusal.{Refusal}
 use Rattle.password_hash.proofs.AlphabetFacts.{letter-ascii, letter_value-letter}
 use Rattle.password_hash.proofs.Crypt64Facts.{IsPlain, crypt64_of-plain, length-letters_of, letters_of-plain}
 use Rattle.password_hash.proofs.GroupFacts.{length-crypt64_of}
@@ -19,16 +21,10 @@ use Rattle.scrypt.proofs.KeyFacts.{key_by-are_bytes, length-key_by}
 use Rattle.scrypt.specs.McfParams.{five_letter_number, params_letters, params_text, field_params}
 use Rattle.scrypt.specs.McfHash.{IsMadeHash, made_text_len, mcf_id, read_mcf}
 use Rattle.scrypt.specs.Hashing.{key_len_or_default}
-use Rattle.scrypt.proofs.AcceptedFacts.{checked_is, key_len_stored, small_params, small_log_n}
+use Rattle.scrypt.proofs.AcceptedFacts.{checked_is, key_len_stored, numbers, small_params, small_log_n}
 use Rattle.scrypt.proofs.McfParamsFacts.{five_letter_number_letters_of, of_numbers}
 use Rattle.scrypt.proofs.McfHashFacts.{key_read, read_seven, text_of}
 use Rattle.scrypt.proofs.PhcHashFacts.{made_is_text}
-
--- a place of a list of ASCII bytes, or after it
-ascii_by_index : (text : List ℕ) → All (λ byte. byte < 128) text → IsAscii text
-ascii_by_index [] each i = lit< tt
-ascii_by_index (byte ∷ text) each zero = All-head (λ b. b < 128) byte text each
-ascii_by_index (byte ∷ text) each (suc i) = ascii_by_index text (All-tail (λ b. b < 128) byte text each) i
 
 -- the letters of the numbers
 
@@ -61,6 +57,17 @@ field_read c salt good =
     let first : nat_lt (letter c.log_n) 128 ≡ true = lt-ltb (letter c.log_n) 128 (letter-ascii c.log_n (omega (arith, small.0))).0 in
     let log_n = letter_value-letter c.log_n (omega (arith, small.0)) in
     rw (first, log_n) (ap₂ (of_numbers c.log_n) says_r says_p ∙ checked_is c.log_n c.r c.p good)
+
+-- so the letters of accepted parameters are those of one log_n, one r and one p
+pub params_letters_once : (log_n r p other_log_n other_r other_p : ℕ) → AreAccepted log_n r p → AreAccepted other_log_n other_r other_p
+    → params_letters log_n r p ≡ params_letters other_log_n other_r other_p → (log_n ≡ other_log_n) × (r ≡ other_r) × (p ≡ other_p)
+params_letters_once log_n r p other_log_n other_r other_p fits other_fits same =
+    let c = numbers log_n r p in
+    let d = numbers other_log_n other_r other_p in
+    let read : ◌≡◌ {A = Result Parameters Refusal} (Ok c) (Ok d) =
+    sym (field_read c [] fits) ∙ ap (λ letters. field_params (letters ++ [])) same ∙ field_read d [] other_fits in
+    let one : c ≡ d = cc in
+    (ap (λ (c : Parameters). c.log_n) one, ap (λ (c : Parameters). c.r) one, ap (λ (c : Parameters). c.p) one)
 
 -- the text of some parameters, a salt without a dollar, and a key
 text_parts : (c : Parameters) (salt key : List ℕ) → AreAccepted c.log_n c.r c.p → IsField salt
@@ -112,18 +119,17 @@ made_text c password salt good fits = stored_text c password salt good (key_len_
 pub text_ascii : (c : Parameters) (salt key : List ℕ) → AreAccepted c.log_n c.r c.p
     → IsAscii (params_text c ++ (crypt64_of salt ++ dollar ∷ crypt64_of key))
 text_ascii c salt key good =
-    let small : c.log_n ≤ 56 = small_log_n c.log_n c.r good.0 good.2 in
     let ascii : ℕ → Type 0 = λ byte. byte < 128 in
     let plain = λ (letters : List ℕ) (each : All IsPlain letters). All-weaker IsPlain ascii (λ byte is. is.0) letters each in
+    let small : c.log_n ≤ 56 = small_log_n c.log_n c.r good.0 good.2 in
+    let front : All ascii (codes "$7$") = All-from_recursion ascii (codes "$7$") (lit< tt, (lit< tt, (lit< tt, tt))) in
     let letters = params_letters c.log_n c.r c.p in
     let last = dollar ∷ crypt64_of key in
-    let of_last = All-cons ascii dollar (crypt64_of key) (lit< tt) (plain (crypt64_of key) (crypt64_of-plain key)) in
-    let after = All-append ascii (crypt64_of salt) last (plain (crypt64_of salt) (crypt64_of-plain salt)) of_last in
-    let rest = letters ++ (crypt64_of salt ++ last) in
-    let whole = All-append ascii letters (crypt64_of salt ++ last) (plain letters (plain_letters c.log_n c.r c.p (omega arith))) after in
-    ascii_by_index (36 ∷ 55 ∷ 36 ∷ rest)
-    (All-cons ascii 36 (55 ∷ 36 ∷ rest) (lit< tt)
-    (All-cons ascii 55 (36 ∷ rest) (lit< tt) (All-cons ascii 36 rest (lit< tt) whole)))
+    let after = crypt64_of salt ++ last in
+    IsAscii-from_all (codes "$7$" ++ (letters ++ after)) (All-append ascii (codes "$7$") (letters ++ after) front
+    (All-append ascii letters after (plain letters (plain_letters c.log_n c.r c.p (omega arith)))
+    (All-append ascii (crypt64_of salt) last (plain (crypt64_of salt) (crypt64_of-plain salt))
+    (All-cons ascii dollar (crypt64_of key) (lit< tt) (plain (crypt64_of key) (crypt64_of-plain key))))))
 
 -- the length of the text
 pub length-made_text : (c : Parameters) (password salt : List ℕ)

@@ -11,7 +11,7 @@ use Rattle.scrypt.specs.Accepted.{Parameters, are_accepted, without_len}
 use Rattle.scrypt.specs.Cost.{chunks_bytes, scratch_words, table_words}
 use Rattle.scrypt.specs.Hashing.{key_len_or_default}
 use Rattle.scrypt.specs.KeyOfParams.{key_by}
-use Rattle.scrypt.proofs.AcceptedFacts.{leb_decided, not_true, ok_if}
+use Rattle.scrypt.proofs.AcceptedFacts.{leb_decided, ok_if, refuted}
 use Rattle.scrypt.proofs.KeyFacts.{length-key_by}
 use Rattle.std.proofs.lemmas.Bool.{le-ltb}
 use Rattle.scrypt.specs.Reading.{◌and_then◌, NamesNoPassword, Stored, checked, is_below, is_right, mapped, told, verdict, weaker}
@@ -144,7 +144,7 @@ pub room_enough : (c : Parameters) (w : Work) → AreEnough c w.chunks w.table w
 room_enough c w enough = (room_decided c w).1 (enough.chunks_fit, (enough.table_fits, enough.scratch_fits))
 
 pub room_too_short : (c : Parameters) (w : Work) → ¬ AreEnough c w.chunks w.table w.scratch → has_room c w ≡ false
-room_too_short c w short = not_true (has_room c w) (λ is. let fits = (room_decided c w).0 is in
+room_too_short c w short = refuted _ (room_decided c w) (λ fits.
     short (record { chunks_fit = fits.0; table_fits = fits.1.0; scratch_fits = fits.1.1 }))
 
 -- verifying in memory that is too short, or long enough

@@ -37,8 +37,7 @@ pub(crate) fn width_in(
     scratch: &[u32],
 ) -> Option<usize>
     requires some { 0 < count }
-    ensures enough { IsSome result ↔ ((chunks_bytes params.now.r count ≤ length chunks.now)
-        × (table_words params.now.log_n params.now.r ≤ length table.now) × (scratch_words params.now.r ≤ length scratch.now)) }
+    ensures enough { IsSome result ↔ AreEnough (record params.now { p = count }) chunks.now table.now scratch.now }
     ensures width { IfSome result (λ w. IsWidth params.now.log_n params.now.r count w chunks.now table.now scratch.now) }
 {
     let width = at_once(params, count as usize, table.len(), scratch.len());

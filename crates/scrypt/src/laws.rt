@@ -178,7 +178,7 @@ pub fn five_letters_are_inverse()
 
 /// The eleven letters that encode accepted parameters in `$7$` texts are equal exactly if `log_n`, `r`
 /// and `p` are.
-#[tactic(auto, using(crate::proofs::McfParamsFacts::params_letters_once))]
+#[tactic(auto, using(crate::proofs::McfTextFacts::params_letters_once))]
 pub fn costs_prefix_is_injective()
     ensures injective { (log_n r p other_log_n other_r other_p : ℕ) → AreAccepted log_n r p → AreAccepted other_log_n other_r other_p
         → (params_letters log_n r p ≡ params_letters other_log_n other_r other_p)
