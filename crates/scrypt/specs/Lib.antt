@@ -53,5 +53,4 @@ pub mod Logins
 -- private: the chunks of B, mixed one after another
 pub mod Mixing
 -- private: what a stored hash holds, and its key
-pub mod StoredRead
 pub mod StoredParts

@@ -1,13 +1,22 @@
--- Private: the parts of a stored hash of either format.
-use Rattle.std.specs.Prelude.{◌≡◌, ℕ, List, length, Result, Ok}
+-- Private: what a stored hash of either format holds.
+use Rattle.std.specs.Prelude.{◌≡◌, ℕ, List, length, Result, Ok, Some}
 use Rattle.password_hash.specs.Crypt64.{Crypt64}
-use Rattle.password_hash.specs.McfViews.{field_text}
+use Rattle.password_hash.specs.McfViews.{borrowed_text, field_text}
 use Rattle.password_hash.specs.Refusal.{Refusal}
 use Rattle.scrypt.specs.Accepted.{IsOutputLen}
-use Rattle.scrypt.specs.Reading.{Stored}
+use Rattle.scrypt.specs.PhcHash.{phc_params}
+use Rattle.scrypt.specs.Reading.{Stored, told}
+use Rattle.scrypt.specs.StoredHash.{McfText, PhcHash, formatted}
+use Rattle.scrypt.specs.declared.stored_hash.Format.{Format}
+use Rattle.scrypt.specs.declared.stored_hash.Format.TheVariants as format
 use Rattle.scrypt.specs.declared.stored_hash.parts.Key.{Key}
 use Rattle.scrypt.specs.declared.stored_hash.parts.Key.TheVariants.{Mcf, Phc}
 use Rattle.scrypt.specs.declared.stored_hash.parts.Parts.{Parts}
+
+-- the text is that of this hash
+abbrev pub IsHashOf : List ℕ → Format → Type 0
+IsHashOf text (format.Mcf hash) = formatted text ≡ Some (McfText (borrowed_text hash))
+IsHashOf text (format.Phc hash params) = (formatted text ≡ Some (PhcHash hash)) × (told params ≡ phc_params hash)
 
 -- these are the bytes of the key
 abbrev pub IsKey : Key → List ℕ → Type 0

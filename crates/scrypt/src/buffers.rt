@@ -12,7 +12,7 @@ use std::alloc::{AllocError, Global};
 
 /// Returns how many of `count` chunks are mixed at a time in a table and a scratch of so many words: at
 /// most four, and as many as have a table and a scratch there.
-#[tactic(auto, unfolding(crate::specs::WorkInBuffers::at_once))]
+#[tactic(auto, using(crate::proofs::CostFacts::rooms), unfolding(crate::specs::WorkInBuffers::at_once))]
 pub(crate) fn at_once(params: &Params, count: usize, table: usize, scratch: usize) -> usize
     ensures exact { result ≡ at_once params.now.log_n params.now.r count table scratch }
     ensures some { (0 < result) ↔ ((0 < count)
