@@ -1,4 +1,3 @@
--- Bounds on accepted parameters.
 use Rattle.scrypt.specs.Accepted.{AreAccepted, IsOutputLen, IsStoredLen, Parameters, are_accepted, is_output_len, parameters_eq}
 use Rattle.password_hash.specs.Refusal.{ParamsInvalid}
 use Rattle.scrypt.specs.Reading.{checked}

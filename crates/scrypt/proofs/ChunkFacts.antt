@@ -1,4 +1,3 @@
--- Facts on the chunks of B, mixed one after another in any order.
 use Rattle.std.proofs.Common.{◌≡◌, ◌≢◌, ℕ, ◌<◌, ◌≤◌, ◌+◌, ◌*◌, List, [], ◌∷◌, ◌++◌, length, take, drop, nat_eq, cond}
 use Rattle.std.proofs.Common.{refl, sym, ap, ◌∙◌, arith, inl, inr, zero-add}
 use Rattle.std.specs.List.{All, count_by}

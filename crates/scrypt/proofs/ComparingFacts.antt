@@ -1,4 +1,3 @@
--- Facts on two keys that are compared piece by piece.
 use Rattle.std.proofs.Common.{◌≡◌, ◌↔◌, ℕ, ◌+◌, ◌≤◌, ◌&&◌, Bool, true, List, ◌++◌, length, take, drop}
 use Rattle.std.proofs.Common.{◌∙◌, sym, ap, ap₂, arith}
 use Rattle.std.proofs.Math.Seq.{take-add}

@@ -1,4 +1,3 @@
--- Facts on the cores of a derivation.
 use Rattle.std.proofs.Common.{◌≡◌, ℕ, zero, suc, ◌<◌, ◌≤◌, ◌+◌, ◌*◌, ◌/◌, ◌^◌, List, refl, ap, ◌∙◌, arith, lit≤, add-one}
 use Rattle.std.proofs.Math.Nat.{div-mul-le_self, mul-le-mul_right, one-le-pow}
 use Rattle.std.proofs.lemmas.Nat.{le-div, mul-le}

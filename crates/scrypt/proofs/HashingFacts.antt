@@ -1,4 +1,3 @@
--- The errors of hashing, in every format.
 use Rattle.std.specs.Prelude.{IsSome, None, Option}
 use Rattle.std.proofs.Common.{◌≡◌, ℕ, List, refl}
 use Rattle.password_hash.specs.Refusal.{Refusal, refusal}

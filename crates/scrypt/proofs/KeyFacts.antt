@@ -1,4 +1,3 @@
--- Facts on the chunks of B, which are mixed one after another.
 use Rattle.std.proofs.Common.{◌≡◌, ℕ, zero, suc, ◌<◌, ◌≤◌, ◌+◌, ◌*◌, List, ◌++◌, length, take, drop, slice_index}
 use Rattle.std.proofs.Common.{refl, sym, ap, ap₂, ◌∙◌, arith, add-zero, zero-add, append_assoc, take_all}
 use Rattle.std.specs.List.{flat_map, range_with_len}

@@ -24,13 +24,13 @@ pub mod PhcReadingFacts
 pub mod PhcHashFacts
 -- Facts on five-letter numbers and on the parameters with which a field begins.
 pub mod McfParamsFacts
--- Facts on `$7$` hashes: a text says one hash or is refused, and says it as it was written.
+-- Facts on `$7$` hashes: what the parts of a text are read as, and the text of a hash.
 pub mod McfHashFacts
 -- The text that hashing writes is that of the hash.
 pub mod McfTextFacts
 -- Facts on stored hashes of either format: how their texts are read.
 pub mod StoredHashFacts
--- Hashing is refused for one thing.
+-- The errors of hashing, in every format: there is one at a time.
 pub mod HashingFacts
--- Texts of stored hashes, read by the definitions alone.
+-- Texts of stored hashes, read by the definitions alone, so that a wrong bound, order or refusal in a definition does not check.
 pub mod ReadingVectors

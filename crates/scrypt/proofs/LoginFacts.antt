@@ -1,4 +1,3 @@
--- Facts on several logins, whose keys are derived at once.
 use Rattle.std.proofs.Common.{◌≡◌, ◌∙◌, ◌<◌, ◌≤◌, ◌+◌, ◌*◌, ◌^◌, ◌++◌, length, true, false, refl, sym, ap, ap₂, arith, length-append}
 use Rattle.std.specs.Prelude.{Option, None, Some, Result, Ok, Err, ⊤}
 use Rattle.password_hash.specs.Refusal.{Refusal}

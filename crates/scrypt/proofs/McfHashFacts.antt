@@ -1,4 +1,3 @@
--- Facts on `$7$` hashes: what the parts of a text are read as, and the text of a hash.
 use Rattle.std.proofs.Common.{◌≡◌, ◌≢◌, ℕ, List, [], ◌∷◌, ◌++◌, length, drop, Some, None, Ok, Err, refl, rules, ap, ◌∙◌, lit<}
 use Rattle.std.specs.Prelude.{IfErr, Option, ok_or}
 use Rattle.std.specs.Str.{bytes_eq}

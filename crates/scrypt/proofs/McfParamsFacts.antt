@@ -1,4 +1,3 @@
--- Facts on five-letter numbers and on the parameters with which a field begins.
 use Rattle.std.proofs.Common.{◌≡◌, ℕ, ◌-◌, ◌/◌, ◌%◌, ◌^◌, ◌<◌, ◌≤◌, List, [], ◌∷◌, ◌++◌, length, take, drop, Some, None, unwrap_or}
 use Rattle.std.proofs.Common.{refl, rules, sym, ap, ◌∙◌, arith, inl, inr, append_assoc, length-append, length-drop}
 use Rattle.std.specs.List.{slice_get}

@@ -1,4 +1,3 @@
--- The text that hashing writes is that of the hash.
 use Rattle.std.proofs.Common.{◌≡◌, ◌≢◌, ℕ, ◌^◌, ◌%◌, ◌<◌, ◌≤◌, List, [], ◌∷◌, ◌++◌, length, drop}
 use Rattle.std.proofs.Common.{Some, Ok, true, ◌∙◌, refl, sym, ap, ap₂, arith, lit<, append_assoc, length-append}
 use Rattle.std.specs.Prelude.{All, IfSome, Result, codes, nat_lt}

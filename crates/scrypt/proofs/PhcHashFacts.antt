@@ -1,4 +1,3 @@
--- Facts on PHC hashes of scrypt.
 use Rattle.std.proofs.Common.{◌≡◌, ℕ, List, refl, rules, arith, lit≤, Ok}
 use Rattle.std.specs.Prelude.{IfErr, IfSome}
 use Rattle.password_hash.specs.Phc.{IsHashText, IsSalt, hash_text}

@@ -1,4 +1,3 @@
--- Facts on parameters as PHC pairs.
 use Rattle.std.proofs.Common.{◌≡◌, ◌≢◌, ℕ, ◌^◌, ◌<◌, ◌≤◌, List, [], ◌∷◌, false, true, length, codes, refl, sym, ◌∙◌, arith, lit<, length-append}
 use Rattle.std.specs.Prelude.{decimal}
 use Rattle.std.specs.Str.{bytes_eq}

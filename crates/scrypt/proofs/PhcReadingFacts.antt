@@ -1,4 +1,3 @@
--- Facts on parameters as they are read from PHC pairs.
 use Rattle.std.proofs.Common.{◌≡◌, ℕ, ◌^◌, ◌<◌, ◌≤◌, List, [], ◌∷◌, codes, refl, rules, ap, arith, Ok, Err, Some, None}
 use Rattle.std.specs.Prelude.{IfErr, IfSome, Option, ok_or}
 use Rattle.std.proofs.lemmas.Bool.Decides.{nat_tests}

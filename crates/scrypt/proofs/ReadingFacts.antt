@@ -1,4 +1,3 @@
--- What follows from the reading of a hash: the verdict, and the memory that is left.
 use Rattle.std.proofs.Common.{◌≡◌, ◌↔◌, ◌≢◌, ◌⊎◌, ◌∙◌, ℕ, ◌≤◌, List, length, Ok, Err, inl, inr, true, false, refl, sym, ap, ap₂, arith}
 use Rattle.std.specs.Prelude.{Bool, IfErr, None, Option, Result, Some, if◌then◌else◌, ok_or, ⊤}
 use Rattle.std.specs.Bool.{Decides}

@@ -1,5 +1,3 @@
--- Texts of stored hashes, read by the definitions alone, so that a wrong bound, order or refusal in a definition does not
--- check.
 use Rattle.std.proofs.Common.{◌≡◌, ℕ, List, [], ◌∷◌, map, codes, None, Ok, Err, refl}
 use Rattle.std.specs.Prelude.{Result}
 use Rattle.std.specs.Fmt.{digits}

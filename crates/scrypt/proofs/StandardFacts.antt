@@ -1,5 +1,3 @@
--- The standard's own vector of a derived key, computed by the definitions, so that a wrong step or
--- constant in a definition does not check.
 use Rattle.std.proofs.Common.{◌≡◌, ℕ, zero, suc, ◌+◌, ◌*◌, ◌%◌, ◌^◌, List, [], ◌∷◌, ◌++◌, codes, refl, ap, ◌∙◌, add-zero, zero-add, arith}
 use Rattle.sha2.specs.Sha256.{sha256, first_words, schedule, rounds, compress, hash_after, digest_bytes}
 use Rattle.scrypt_kernel.specs.Hmac.{hmac_sha256}

@@ -1,4 +1,3 @@
--- Facts on stored hashes of either format: how their texts are read.
 use Rattle.std.proofs.Common.{◌≡◌, ◌∙◌, List, ℕ, [], ◌∷◌, Bool, true, false, Ok, Err, refl, sym, ap, arith, lit<}
 use Rattle.std.specs.Prelude.{◌||◌, IfErr, Option, Some, None, Result, codes, is_some, length, ok_or}
 use Rattle.std.proofs.lemmas.Bool.{false≢true}
@@ -16,7 +15,7 @@ use Rattle.scrypt.specs.PhcHash.{phc_params, read_phc}
 use Rattle.scrypt.specs.Accepted.{Parameters}
 use Rattle.scrypt.specs.Reading.{◌and_then◌, IsOfText, NamesNoPassword, Stored, mapped}
 use Rattle.scrypt.specs.StoredHash.{Formatted, McfText, PhcHash, formatted, is_mcf_text, is_stored_text, key_len_or_zero, params_and_len, params_reading, reading, whole}
-use Rattle.scrypt.proofs.McfHashFacts.{fields_fault, is_mcf, mcf_fault, mcf_none, read_seven}
+use Rattle.scrypt.proofs.McfHashFacts.{is_mcf, mcf_fault, mcf_none, read_seven}
 use Rattle.scrypt.proofs.PhcHashFacts.{params_fault, params_none}
 use Rattle.scrypt.proofs.ReadingFacts.{IsFault, mapped_refused, no_password, part_fault, some_fault, then_fault}
 

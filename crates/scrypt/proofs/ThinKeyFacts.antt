@@ -1,4 +1,3 @@
--- Facts on the derived key by a table that keeps some rows.
 use Rattle.std.proofs.Common.{◌≡◌, ◌≤◌, ℕ, zero, suc, ◌+◌, ◌-◌, ◌*◌, ◌/◌, ◌%◌, ◌^◌, List, refl, ap, ◌∙◌, arith}
 use Rattle.std.proofs.lemmas.Nat.{pow_pos}
 use Rattle.scrypt_kernel.specs.Words.{bytes_of, part, words_of, xor_words}

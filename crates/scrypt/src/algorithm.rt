@@ -1,6 +1,6 @@
 // scrypt as a value with parameters: it derives keys, makes hashes and verifies passwords.
 
-ghost use Rattle.std.specs.Prelude.{◌≡◌, ℕ, List, length};
+ghost use Rattle.std.specs.Prelude.{◌≡◌, length};
 ghost use Rattle.scrypt.specs.Accepted.{IsOutputLen, Parameters, recommended_parameters};
 ghost use Rattle.scrypt.specs.KeyOfParams.{KeyIsRefused, key_by};
 

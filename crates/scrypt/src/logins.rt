@@ -1,10 +1,9 @@
 // Verifying several passwords in one memory, at once if possible.
 
-ghost use Rattle.std.specs.Prelude.{◌≡◌, ℕ, List, ◌+◌, ◌*◌, ◌^◌, ◌<◌, ◌≤◌, length, false, IfErr, IfOk, IfSome, None, Err, Result, Some, ⊤};
+ghost use Rattle.std.specs.Prelude.{◌≡◌, ℕ, List, ◌+◌, ◌*◌, ◌^◌, ◌<◌, length, false, IfErr, IfOk, IfSome, None, Err, Result, Some, ⊤};
 ghost use Rattle.std.specs.Option.{option_map};
 ghost use Rattle.password_hash.specs.Refusal.{Refusal};
 ghost use Rattle.scrypt.specs.Accepted.{Parameters};
-ghost use Rattle.scrypt.specs.Cost.{chunks_bytes};
 ghost use Rattle.scrypt.specs.InBuffers.{AreEnough};
 ghost use Rattle.scrypt.specs.Logins.{AreVerdicts, Both, Group, One, all_chunks, all_mixed, are_left, joined, reading_of, shared};
 ghost use Rattle.scrypt.specs.Mixing.{IsWidth};

@@ -32,11 +32,8 @@ impl RehashCheck<phc::PasswordHash> for Scrypt {
 impl<'a> RehashCheck<mcf::PasswordHashRef<'a>> for Scrypt {
     ghost weaker = { λ scrypt hash. weaker_than scrypt (read_mcf (borrowed_text hash)) };
 
-    /// Returns whether `log_n`, `r`, `p` or the length of the key is below that of this value's
-    /// parameters, which ask for a key of 32 bytes if they have no length. One of the four is
-    /// enough.
-    ///
-    /// Returns the same errors as verifying does before it allocates, in the same order.
+    /// Returns what it returns for a PHC hash, or the same errors as verifying does before it
+    /// allocates, in the same order.
     fn needs_rehash(&self, hash: &mcf::PasswordHashRef<'a>) -> Result<bool> {
         match parts_of_mcf(hash) {
             Ok(stored) => Ok(is_below(&self.params(), &stored.params, stored.key_len)),

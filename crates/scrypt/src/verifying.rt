@@ -1,6 +1,6 @@
 // Verifying, in every format, with any source of memory.
 
-ghost use Rattle.std.specs.Prelude.{◌≡◌, ◌↔◌, ◌+◌, ◌*◌, ◌^◌, ◌≤◌, length, replicate, if◌then◌else◌, IsTrue, Err, Ok};
+ghost use Rattle.std.specs.Prelude.{◌≡◌, length, replicate, if◌then◌else◌, Err, Ok};
 ghost use Rattle.password_hash.specs.Refusal.{PasswordInvalid};
 ghost use Rattle.scrypt_kernel.specs.Count.{AreCounted};
 ghost use Rattle.scrypt.specs.Cost.{chunks_bytes, cost};

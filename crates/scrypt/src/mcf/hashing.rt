@@ -1,12 +1,9 @@
 // Making `$7$` hashes.
 
-ghost use Rattle.std.specs.Prelude.{◌≡◌, ◌↔◌, ◌+◌, ◌<◌, ◌≤◌, ◌∷◌, ◌++◌};
-ghost use Rattle.std.specs.Prelude.{ℕ, List, None, All, length, drop, replicate, IsTrue, IfOk, IfErr, take, IsErrOf, IsOk, OnErr, OnOk};
-ghost use Rattle.std.specs.Option.{option_map};
+ghost use Rattle.std.specs.Prelude.{◌≡◌, ◌↔◌, ◌+◌, ◌<◌, ◌≤◌, ℕ, List, None, length, IfOk, IfErr, take, IsErrOf, IsOk, OnErr, OnOk};
 ghost use Rattle.std.specs.Str.{IsAscii};
 ghost use Rattle.password_hash.specs.Crypt64.{crypt64_of, encoded_len};
 ghost use Rattle.password_hash.specs.Mcf.{IsMcf};
-ghost use Rattle.password_hash.specs.Parts.{dollar};
 ghost use Rattle.password_hash.specs.declared.error.Error.TheVariants.{OutOfMemory};
 ghost use Rattle.scrypt.specs.Accepted.{AreAccepted};
 ghost use Rattle.scrypt.specs.KeyOfParams.{key_by};
@@ -173,11 +170,9 @@ fn hash_of_text(text: Vec<u8>) -> PasswordHash
 /// the text of the hash to the front of `text`, and returns its length. Does not allocate.
 ///
 /// `text` is at least as long as [`hash_len`](crate::mcf::hash_len) returns, and each other buffer as
-/// [`BufferLens::of`](crate::BufferLens::of) returns for `params`. As many chunks are mixed at a time
-/// as have a table and a scratch there, at most four. Only the first elements of each buffer are
-/// used, as many as [`used_lens`](crate::used_lens) returns. What they hold before the call does not
-/// matter. Afterwards those of `chunks` and `scratch` are zeros, and those of `table` are
-/// unspecified. `cores` counts the `4 * N * r * p` cores of `params`.
+/// [`BufferLens::of`](crate::BufferLens::of) returns for `params`. These are used and
+/// left, and the cores are counted, as
+/// [`StoredHash::verify_with_buffers`](crate::StoredHash::verify_with_buffers) does it.
 ///
 /// Returns `OutOfMemory` exactly if `text` or another buffer is too short, and then changes nothing.
 #[tactic(auto, using(crate::proofs::McfTextFacts::key_fills, crate::proofs::HashingFacts::errors))]

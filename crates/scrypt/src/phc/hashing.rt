@@ -1,8 +1,6 @@
 // Making PHC hashes.
 
-ghost use Rattle.std.specs.Prelude.{◌≡◌, ◌↔◌, ℕ, List, ◌≤◌};
-ghost use Rattle.std.specs.Prelude.{length, true, None, Some, unwrap_or, IsTrue, drop, IfErr, IfOk, IsErrOf, IsOk, OnErr, OnOk};
-ghost use Rattle.std.specs.Option.{option_map};
+ghost use Rattle.std.specs.Prelude.{◌≡◌, ◌↔◌, ℕ, List, length, None, Some, IfErr, IfOk, IsErrOf, IsOk, OnErr, OnOk};
 ghost use Rattle.scrypt.specs.Hashing.{key_len_or_default};
 ghost use Rattle.scrypt.specs.KeyOfParams.{key_by};
 ghost use Rattle.scrypt.specs.PhcHash.{HashIsRefused, IsMadeHash, IsScryptOrNone, IsSaltLen};
@@ -89,10 +87,8 @@ fn hash_of(params: &Params, salt: Salt, key: Output) -> PasswordHash
 /// allocate.
 ///
 /// Each buffer is at least as long as [`BufferLens::of`](crate::BufferLens::of) returns for `params`.
-/// As many chunks are mixed at a time as have a table and a scratch there, at most four. Only the
-/// first elements of each buffer are used, as many as [`used_lens`](crate::used_lens) returns. What
-/// they hold before the call does not matter. Afterwards those of `chunks` and `scratch` are zeros,
-/// and those of `table` are unspecified. `cores` counts the `4 * N * r * p` cores of `params`.
+/// The buffers are used and left, and the cores are counted, as
+/// [`StoredHash::verify_with_buffers`](crate::StoredHash::verify_with_buffers) does it.
 ///
 /// Returns `SaltInvalid` if `salt` does not have 1 to 64 bytes, and otherwise `OutOfMemory` exactly
 /// if a buffer is too short. On an error the buffers and the count are unchanged.
