@@ -20,8 +20,6 @@ small_log_n log_n r some fits =
     omega (arith, product, mul_assoc 128 r (2 ^ log_n), fits)) in
     omega (arith, below)
 
--- what a test decides
-
 pub refuted : {P : Type 0} (test : Bool) → Decides test P → ¬ P → test ≡ false
 refuted test decided none = false_from_ne_true test (λ is. none (decided.0 is))
 
@@ -65,19 +63,15 @@ checked_ok log_n r p c is =
     let both = ok_if (are_accepted log_n r p) (Ok (numbers log_n r p)) ParamsInvalid is in
     ((accepted_decided log_n r p).0 both.0, cc both.1)
 
--- the bytes of a table, by the test that the code makes
 pub table_bytes : (log_n r : ℕ) → 128 * r * 2 ^ log_n ≡ 128 * (r * 2 ^ log_n)
 table_bytes log_n r = mul_assoc 128 r (2 ^ log_n)
 
--- the bytes of the chunks
 pub small_chunks : (r p : ℕ) → r * p < 2 ^ 30 → p * (128 * r) ≤ max_output_len
 small_chunks r p few = omega arith
 
--- the factors of an accepted product
 pub small_factor : (r p : ℕ) → 0 < p → r * p < 2 ^ 30 → r < 2 ^ 30
 small_factor r p some few = let least = mul-le r 1 r p (omega arith) some in omega arith
 
--- accepted numbers are small
 pub small_params : (log_n r p : ℕ) → AreAccepted log_n r p → (log_n ≤ 56) × (r < 2 ^ 30) × (p < 2 ^ 30)
 small_params log_n r p fits =
     (small_log_n log_n r fits.0 fits.2, small_factor r p fits.1 fits.3, small_factor p r fits.0 (omega (arith, fits.3)))
@@ -105,7 +99,6 @@ option_decided None (Some n) = (λ e. cc, λ e. cc)
 option_decided (Some m) None = (λ e. cc, λ e. cc)
 option_decided (Some m) (Some n) = let same = Decides-eqb m n in (λ e. ap Some (same.0 e), λ e. same.1 cc)
 
--- the test of parameters tells whether they are equal
 pub parameters_decided : (a b : Parameters) → Decides (parameters_eq a b) (a ≡ b)
 parameters_decided a b =
     let each = Decides-and _ _ (Decides-and _ _ (option_decided a.output_len b.output_len) (Decides-eqb a.log_n b.log_n))
@@ -118,11 +111,8 @@ pub key_len_stored : (len : Option ℕ) → IfSome len IsStoredLen → IsStoredL
 key_len_stored None fits = (lit≤ tt, lit≤ tt)
 key_len_stored (Some len) fits = fits
 
--- the lengths of the buffers are small
 pub ruleset small_lens = (small_log_n, small_chunks, small_rows)
 
--- the number of cores is small
 pub ruleset small_cores = (small_blocks, small_factor, small_cost)
 
--- how numbers are read as parameters
 pub ruleset reading_numbers = (checked_is, not_checked)

@@ -35,9 +35,7 @@ room_for_one n one some = (
   λ fits. le-div 1 n one some (omega (arith, fits)),
 )
 
--- a table has a word at least
 pub some_table : (log_n r : ℕ) → 0 < r → 0 < table_words log_n r
 some_table log_n r some = mul-le 1 1 (2 ^ log_n) (32 * r) (one-le-pow log_n 2 (lit≤ tt)) (omega arith)
 
--- how many tables and scratches there is room for
 pub ruleset rooms = (room_for_one, some_table)

@@ -4,17 +4,14 @@ use Rattle.password_hash.specs.Refusal.{Refusal, refusal}
 use Rattle.password_hash.specs.declared.error.Error.{Error}
 use Rattle.scrypt.specs.Hashing.{HashingIsRefused, IsCallRefused, by_algorithm, by_memory, by_salt, by_version, of_algorithm, of_version}
 
--- what refuses a call refuses hashing
 pub refused_call : {name : List ℕ} {SaltFits : Type 0} {alg_id : Option (List ℕ)} {version : Option ℕ} {e : Error}
     → IsCallRefused name alg_id version e → HashingIsRefused name SaltFits alg_id version (refusal e)
 refused_call (of_algorithm other) = by_algorithm other
 refused_call (of_version named some) = by_version named some
 
--- a version that is there and is not
 versioned : {version : Option ℕ} → IsSome version → version ≡ None → ⊥
 versioned some none = let there = rw none at some in absurd cc
 
--- hashing is refused for one thing
 pub refused_once : {name : List ℕ} {SaltFits : Type 0} {alg_id : Option (List ℕ)} {version : Option ℕ} {why why' : Refusal}
     → HashingIsRefused name SaltFits alg_id version why → HashingIsRefused name SaltFits alg_id version why' → why ≡ why'
 refused_once (by_algorithm other) (by_algorithm other') = refl
@@ -34,5 +31,4 @@ refused_once (by_memory named none fits) (by_version named' some) = absurd (vers
 refused_once (by_memory named none fits) (by_salt named' none' unfit) = absurd (unfit fits)
 refused_once (by_memory named none fits) (by_memory named' none' fits') = refl
 
--- the errors of hashing
 pub ruleset errors = (refused_call, by_memory, by_salt)

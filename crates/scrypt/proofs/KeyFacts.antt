@@ -1,5 +1,5 @@
 use Rattle.std.proofs.Common.{◌≡◌, ℕ, zero, suc, ◌<◌, ◌≤◌, ◌+◌, ◌*◌, List, ◌++◌, length, take, drop, slice_index}
-use Rattle.std.proofs.Common.{refl, sym, ap, ap₂, ◌∙◌, arith, add-zero, zero-add, append_assoc, take_all}
+use Rattle.std.proofs.Common.{refl, sym, ap, ap₂, ◌∙◌, arith, add-zero, zero-add, append_assoc}
 use Rattle.std.specs.List.{flat_map, range_with_len}
 use Rattle.std.proofs.lemmas.List.{drop-drop}
 use Rattle.std.proofs.lemmas.Slice.{drop-put_mid, take-put_mid}
@@ -52,7 +52,6 @@ mixed_more {b} {x} {ys} {log_n} {r} {i} m a n at size full room made before =
           ∙ sym (drop-drop n a x) ∙ ap (drop n) rest ∙ drop-drop n a b);
     }
 
--- chunk i
 pub part_at : (s i : ℕ) (x : List ℕ) → part s (drop (i * s) x) 0 ≡ part s x i
 part_at s i x =
     let none : 0 * s ≡ 0 = omega arith in
@@ -70,11 +69,6 @@ mixed_group b x ys log_n r i n long each before =
     ∙ ap (take s) (drop-drop (k * s) (i * s) b ∙ ap (λ a. drop a b) place) in
     each k h ∙ ap (λ z. bytes_of (ro_mix (words_of z) log_n)) chunk)
 
--- all p chunks
-pub all_mixed : {b x : List ℕ} {log_n r : ℕ} (p : ℕ) → length x ≡ p * (128 * r) → AreMixed b log_n r p x → x ≡ mixed_chunks b log_n r p
-all_mixed {b} {x} {log_n} {r} p long mixed = sym (take_all (p * (128 * r)) x (omega arith)) ∙ mixed.done
-
--- a chunk keeps its length
 pub length-mixed_chunk : (b : List ℕ) (log_n r i : ℕ) → 0 < r → i * (128 * r) + 128 * r ≤ length b
     → length (mixed_chunk b log_n r i) ≡ 128 * r
 length-mixed_chunk b log_n r i some room =
@@ -93,7 +87,6 @@ both_mixed b w log_n r p q some long =
     (made_alike _ _ 0 0 p (λ i below. ap mixed (part_append_front s (0 + i) b w (omega (arith, parts_apart s i p below, long)))))
     (made_alike _ _ p 0 q (λ i below. rw zero-add (ap mixed (part_after s p i b w long))))
 
--- and their length
 pub length-mixed_chunks : (b : List ℕ) (log_n r p : ℕ) → 0 < r → length b ≡ p * (128 * r)
     → length (mixed_chunks b log_n r p) ≡ p * (128 * r)
 length-mixed_chunks b log_n r p some long = length-parts (mixed_chunk b log_n r) (128 * r) 0 p (λ i below.
@@ -113,15 +106,12 @@ same_key one other salt log_n r p n padded =
     same_pbkdf2 one other _ n padded
     ∙ ap (λ b. pbkdf2 other (mixed_chunks b log_n r p) n) (same_pbkdf2 one other salt (p * (128 * r)) padded)
 
--- a derived key has as many bytes as were asked for
 pub length-key_by : (c : Parameters) (password salt : List ℕ) (n : ℕ) → length (key_by c password salt n) ≡ n
 unfolding derived_key
 length-key_by c password salt n = length-pbkdf2 password _ n
 
--- each of them a byte
 pub key_by-are_bytes : (c : Parameters) (password salt : List ℕ) (n i : ℕ) → slice_index (key_by c password salt n) i < 256
 unfolding derived_key
 key_by-are_bytes c password salt n i = pbkdf2-are_bytes password _ n i
 
--- the passwords of one key
 pub ruleset same_keys = (same_key, padded_digest, padded_zero_byte)

@@ -87,7 +87,6 @@ alone (Both first second) (Both out outs) e w is room told =
 alone (One login) (Both out outs) e w is room told = told
 alone (Both first second) (One out) e w is room told = told
 
--- memory of the same lengths has the same verdicts
 pub alike : (g : Readings) (out : Group (Result ⊤ Refusal)) (w v : Work) → length w.chunks ≡ length v.chunks
     → length w.table ≡ length v.table → length w.scratch ≡ length v.scratch
     → AreVerdicts (verdict_in w) g out → AreVerdicts (verdict_in v) g out
@@ -97,8 +96,6 @@ alike (Both first second) (Both out outs) w v chunks table scratch told =
 alike (One login) (Both out outs) w v chunks table scratch told = told
 alike (Both first second) (One out) w v chunks table scratch told = told
 
--- room for all
-
 pub no_room_for : (s : Option Parameters) (c e : Parameters) (w : Work) → s ≡ Some c → s ≡ Some e → ¬ AreEnough c w.chunks w.table w.scratch
     → has_room e w ≡ false
 no_room_for s c e w one other short = let same : e ≡ c = cc in rw same (room_too_short c w short)
@@ -107,5 +104,4 @@ pub left_at_once : (s : Option Parameters) (e : Parameters) (First Second : Work
     → has_room e before ≡ true → IsDone e before after → AreLeft s First Second before after
 left_at_once s e First Second before after is room done = rw (is, room) done
 
--- how many bytes the chunks of one have
 pub ruleset lens_of_chunks = (length-pbkdf2, length-mixed_chunks)

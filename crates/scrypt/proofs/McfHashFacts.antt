@@ -103,8 +103,6 @@ text_of {text} {s} is =
     written ∙ ap (λ z. parts_text (mcf_id ∷ z ∷ t.letters ∷ [])) field
     ∙ ap (λ z. parts_text (mcf_id ∷ (params_letters s.params.log_n s.params.r s.params.p ++ s.salt) ∷ z ∷ [])) t.key.encoding
 
--- the error of a text
-
 key_fault : (fields : List (List ℕ)) → IfErr (read_key fields) IsFault
 key_fault [] = tt
 key_fault (letters ∷ []) = search (rules, faults)

@@ -62,8 +62,6 @@ pub field_says : (field : List ℕ) (first log_n : ℕ) (r p : Option ℕ) → s
 unfolding field_params
 field_says field first log_n r p is ascii log_n_is r_is p_is = rw (is, lt-ltb first 128 ascii, log_n_is, r_is, p_is) refl
 
--- the error of a field
-
 pub field_fault : (field : List ℕ) → IfErr (field_params field) IsFault
 unfolding field_params
 field_fault field = search (rules, faults)
@@ -144,5 +142,4 @@ field_is (first ∷ rest) c says =
     (of_r ∙ ap (λ z. letters_of 5 c.r ++ z) (of_p ∙ ap (λ z. letters_of 5 c.p ++ z) (drop-drop 5 5 rest))
     ∙ sym (append_assoc (letters_of 5 c.r) (letters_of 5 c.p) (drop 10 rest)))
 
--- how the parameters and the salt of a field are read
 pub ruleset reading_field = (empty_says_none, to_the_end)

@@ -18,12 +18,11 @@ use Rattle.scrypt.specs.Accepted.{AreAccepted, IsOutputLen, IsStoredLen, Paramet
 use Rattle.scrypt.specs.KeyOfParams.{key_by}
 use Rattle.scrypt.proofs.KeyFacts.{key_by-are_bytes, length-key_by}
 use Rattle.scrypt.specs.McfParams.{five_letter_number, params_letters, params_text, field_params}
-use Rattle.scrypt.specs.McfHash.{IsMadeHash, made_text_len, mcf_id, read_mcf}
+use Rattle.scrypt.specs.McfHash.{IsMadeHash, made_text_len, mcf_id}
 use Rattle.scrypt.specs.Hashing.{key_len_or_default}
 use Rattle.scrypt.proofs.AcceptedFacts.{checked_is, key_len_stored, numbers, small_params, small_log_n}
 use Rattle.scrypt.proofs.McfParamsFacts.{five_letter_number_letters_of, of_numbers}
 use Rattle.scrypt.proofs.McfHashFacts.{key_read, read_seven, text_of}
-use Rattle.scrypt.proofs.PhcHashFacts.{made_is_text}
 
 -- the letters of the numbers
 
@@ -34,9 +33,6 @@ plain_letters log_n r p small =
 
 count_letters : (log_n r p : ℕ) → length (params_letters log_n r p) ≡ 11
 count_letters log_n r p = omega (arith, length-append (letters_of 5 r) (letters_of 5 p), length-letters_of 5 r, length-letters_of 5 p)
-
-pub count_text : (c : Parameters) → length (params_text c) ≡ 14
-count_text c = omega (arith, count_letters c.log_n c.r c.p)
 
 -- the field that they begin is read as the parameters
 pub field_read : (c : Parameters) (salt : List ℕ) → AreAccepted c.log_n c.r c.p
@@ -87,34 +83,26 @@ text_parts c salt key good no_dollar =
           (sym (append_assoc letters salt (dollar ∷ crypt64_of key)) ∙ ap (λ z. field ++ (dollar ∷ z)) (sym (append-nil (crypt64_of key))));
     }
 
--- and its reading
-pub text_is : (c : Parameters) (salt key : List ℕ) → AreAccepted c.log_n c.r c.p → IsField salt → All (λ byte. byte < 256) key
-    → IsOutputLen (length key)
-    → read_mcf (params_text c ++ (salt ++ dollar ∷ crypt64_of key)) ≡ Ok (record { params = without_len c; salt = salt; key = key })
-text_is c salt key good no_dollar are_bytes allowed =
-    let letters = params_letters c.log_n c.r c.p in
-    let rest : drop 11 (letters ++ salt) ≡ salt = drop_at letters salt 11 (count_letters c.log_n c.r c.p) in
-    read_seven (text_parts c salt key good no_dollar) refl
-    ∙ rw (field_read c salt good, key_read (record { are_bytes = are_bytes; encoding = refl }) allowed, rest) refl
-
 -- the text that hashing makes
 pub stored_text : (c : Parameters) (password salt : List ℕ) → AreAccepted c.log_n c.r c.p → IsStoredLen (key_len_or_default c)
     → IsMadeHash c password salt (params_text c ++ (crypt64_of salt
     ++ dollar ∷ crypt64_of (key_by c password (crypt64_of salt) (key_len_or_default c))))
 stored_text c password salt good stored =
+    let front = params_letters c.log_n c.r c.p in
     let letters = crypt64_of salt in
     let key = key_by c password letters (key_len_or_default c) in
     let long = length-key_by c password letters (key_len_or_default c) in
-    text_is c letters key good (IsField-crypt64_of salt)
-    (All-from_get_or (λ byte. byte < 256) key 0 (λ i below. key_by-are_bytes c password letters (key_len_or_default c) i))
-    (omega (arith, long, stored.0), omega (arith, long, stored.1))
+    let bytes = All-from_get_or (λ byte. byte < 256) key 0 (λ i below. key_by-are_bytes c password letters (key_len_or_default c) i) in
+    let allowed : IsOutputLen (length key) = (omega (arith, long, stored.0), omega (arith, long, stored.1)) in
+    let rest : drop 11 (front ++ letters) ≡ letters = drop_at front letters 11 (count_letters c.log_n c.r c.p) in
+    read_seven (text_parts c letters key good (IsField-crypt64_of salt)) refl
+    ∙ rw (field_read c letters good, key_read (record { are_bytes = bytes; encoding = refl }) allowed, rest) refl
 
 pub made_text : (c : Parameters) (password salt : List ℕ) → AreAccepted c.log_n c.r c.p → IfSome c.output_len IsStoredLen
     → IsMadeHash c password salt (params_text c ++ (crypt64_of salt
     ++ dollar ∷ crypt64_of (key_by c password (crypt64_of salt) (key_len_or_default c))))
 made_text c password salt good fits = stored_text c password salt good (key_len_stored c.output_len fits)
 
--- every byte of it is ASCII
 pub text_ascii : (c : Parameters) (salt key : List ℕ) → AreAccepted c.log_n c.r c.p
     → IsAscii (params_text c ++ (crypt64_of salt ++ dollar ∷ crypt64_of key))
 text_ascii c salt key good =
@@ -130,7 +118,6 @@ text_ascii c salt key good =
     (All-append ascii (crypt64_of salt) last (plain (crypt64_of salt) (crypt64_of-plain salt))
     (All-cons ascii dollar (crypt64_of key) (lit< tt) (plain (crypt64_of key) (crypt64_of-plain key))))))
 
--- the length of the text
 pub length-made_text : (c : Parameters) (password salt : List ℕ)
     → length (params_text c ++ (crypt64_of salt ++ dollar ∷ crypt64_of (key_by c password (crypt64_of salt) (key_len_or_default c))))
     ≡ made_text_len c (length salt)
@@ -139,7 +126,7 @@ length-made_text c password salt =
     let key = key_by c password letters (key_len_or_default c) in
     omega (
       arith,
-      count_text c,
+      count_letters c.log_n c.r c.p,
       length-append (params_text c) (letters ++ dollar ∷ crypt64_of key),
       length-append letters (dollar ∷ crypt64_of key),
       length-crypt64_of salt,
@@ -151,9 +138,6 @@ pub made_length : (c : Parameters) (password salt text : List ℕ) → AreAccept
     → IsMadeHash c password salt text → length text ≡ made_text_len c (length salt)
 made_length c password salt text good stored made =
     ap length (text_of made ∙ sym (text_of (stored_text c password salt good stored))) ∙ length-made_text c password salt
-
--- hashes that were made, in both formats
-pub ruleset made_hashes = (made_is_text, made_text)
 
 -- a text that was written whole
 
@@ -175,5 +159,4 @@ pub filled : (letters room new : List ℕ) → new ≡ letters ++ drop (length l
 filled letters room new is full =
     is ∙ ap (λ rest. letters ++ rest) (drop_all (length letters) room (omega arith)) ∙ append-nil letters
 
--- the key of a hash fills its room
 pub ruleset key_fills = (length-key_by)

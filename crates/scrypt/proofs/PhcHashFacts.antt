@@ -12,7 +12,6 @@ use Rattle.scrypt.proofs.PhcParamsFacts.{three_pairs}
 use Rattle.scrypt.proofs.PhcReadingFacts.{pairs_fault, written_read}
 use Rattle.scrypt.proofs.ReadingFacts.{IsFault, faults, made_stored, no_password}
 
--- the error of the parameters of a hash
 pub params_fault : (hash : PasswordHash) → IfErr (phc_params hash) IsFault
 unfolding phc_params
 params_fault hash = search (rules, faults, pairs_fault)

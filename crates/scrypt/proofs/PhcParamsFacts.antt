@@ -14,7 +14,6 @@ use Rattle.password_hash.proofs.PhcReadingFacts.{identifier_decided}
 differ : (name other : List ℕ) → bytes_eq name other ≡ false → name ≢ other
 differ name other apart same = false≢true (sym apart ∙ (bytes_eq-Decides name other).1 same)
 
--- a pair of this name and a number
 is_pair : (name : List ℕ) (n : ℕ) → is_identifier name ≡ true → bytes_eq name (codes "v") ≡ false → n < 2 ^ 32 → IsPair (name, decimal n)
 is_pair name n letters apart small =
     record { name = (identifier_decided name).0 letters; no_version = differ name _ apart; value = IsValue-decimal n small }
@@ -22,11 +21,9 @@ is_pair name n letters apart small =
 short : (n : ℕ) → n < 2 ^ 32 → length (decimal n) ≤ 10
 short n small = length-decimal-le 10 n (lit< tt) (omega (arith, small)) (omega (arith, small))
 
--- the names of two pairs differ
 abbrev Differ : List ℕ × List ℕ → List ℕ × List ℕ → Type 0
 Differ first second = first.0 ≢ second.0
 
--- the three pairs
 pub three_pairs : (m n k : ℕ) → m < 2 ^ 32 → n < 2 ^ 32 → k < 2 ^ 32
     → ArePairs ((codes "ln", decimal m) ∷ (codes "r", decimal n) ∷ (codes "p", decimal k) ∷ [])
 three_pairs m n k small_m small_n small_k =

@@ -42,7 +42,6 @@ no_number name limit text fits none =
     at None found = refl
     at (Some n) found = absurd (none n found)
 
--- how the number of a value is read
 pub ruleset numbers = (number_taken, number_large, no_number)
 
 -- parameters that were written are read
@@ -54,8 +53,6 @@ written_read c fits =
     let r = number_taken (codes "r") (2 ^ 32) _ c.r (IsDecimal-decimal c.r (omega (arith, small.1))) (omega (arith, small.1)) in
     let p = number_taken (codes "p") (2 ^ 32) _ c.p (IsDecimal-decimal c.p (omega (arith, small.2))) (omega (arith, small.2)) in
     rw (ln, r, p) (checked_is c.log_n c.r c.p fits)
-
--- the error of the pairs
 
 pub pairs_fault : (log_n r p : ℕ) (pairs : List (List ℕ × List ℕ)) → IfErr (read_pairs log_n r p pairs) IsFault
 unfolding read_pairs

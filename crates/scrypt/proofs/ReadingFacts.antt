@@ -132,7 +132,6 @@ pub weaker_read : (wanted : Parameters) (reading : Result Stored Refusal) (parts
 weaker_read wanted reading parts below read is =
     rw read.2 (ap Ok (is ∙ ap₂ (is_below wanted) (sym read.1.params) (sym read.1.key_len)))
 
--- the test of the buffers
 pub room_decided : (c : Parameters) (w : Work) → Decides (has_room c w)
     ((chunks_bytes c.r c.p ≤ length w.chunks) × ((table_words c.log_n c.r ≤ length w.table) × (scratch_words c.r ≤ length w.scratch)))
 unfolding has_room
@@ -156,7 +155,6 @@ pub with_room : (password : List ℕ) (s : Stored) (out : Result ⊤ Error) (bef
     → told out ≡ verdict password (Ok s) → IsDone s.params before after → IsVerifying password (Ok s) out before after
 with_room password s out before after long is done = record { verdict = rw long is; left = rw long done }
 
--- memory of the same lengths has the same verdict
 pub same_verdict : (w w' : Work) → length w.chunks ≡ length w'.chunks → length w.table ≡ length w'.table
     → length w.scratch ≡ length w'.scratch
     → (password : List ℕ) (reading : Result Stored Refusal) → verdict_in w password reading ≡ verdict_in w' password reading

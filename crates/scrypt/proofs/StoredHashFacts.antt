@@ -41,7 +41,6 @@ seven_is_mcf text seven = IsMcfText-from_parts text mcf_id (fields_of text) (at 
         let third : c ≡ 36 = grind (arith, nat_tests) in
         rw (first, second, third) refl
 
--- and is read as such
 pub seven_read : (text : List ℕ) → is_mcf_text text ≡ true → read_mcf text ≡ read_fields (fields_of text)
 seven_read text seven = read_seven (seven_is_mcf text seven) refl
 
@@ -156,5 +155,4 @@ pub made_phc : (text : List ℕ) (hash : PasswordHash) → IsHashText text hash 
     → reading text ≡ read_phc hash
 made_phc text hash is named = reading_of text (phc_formatted text (scrypt_is_phc is named) (hash_is_read text hash is))
 
--- the errors of reading
 pub ruleset errors_of_reading = (mcf_none, params_none, stored_none, whole_of_text)

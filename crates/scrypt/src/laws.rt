@@ -78,7 +78,7 @@ pub fn texts_have_one_reading()
 /// A hash made from a password with accepted parameters verifies against that password. A PHC hash
 /// does so also after it has been printed and parsed. A `$7$` text consists of the letters of the
 /// parameters, of the salt and of the key.
-#[tactic(auto, using(crate::proofs::McfTextFacts::made_hashes))]
+#[tactic(auto, using(crate::proofs::PhcHashFacts::made_is_text, crate::proofs::McfTextFacts::made_text))]
 pub fn made_hashes_are_accepted()
     ensures phc { (c : Parameters) (password salt : List ℕ) (hash : PasswordHash) → AreAccepted c.log_n c.r c.p
         → IsMadeHash c password salt hash → verdict password (read_phc hash) ≡ Ok tt }

@@ -5,7 +5,6 @@ ghost use Rattle.std.specs.Str.{IsAscii};
 ghost use Rattle.password_hash.specs.Crypt64.{crypt64_of, encoded_len};
 ghost use Rattle.password_hash.specs.Mcf.{IsMcf};
 ghost use Rattle.password_hash.specs.declared.error.Error.TheVariants.{OutOfMemory};
-ghost use Rattle.scrypt.specs.Accepted.{AreAccepted};
 ghost use Rattle.scrypt.specs.KeyOfParams.{key_by};
 ghost use Rattle.scrypt.specs.McfParams.{params_text};
 ghost use Rattle.scrypt.specs.Hashing.{key_len_or_default};
@@ -109,8 +108,7 @@ pub fn hash_len(params: &Params, salt: &[u8]) -> usize
 
 // Returns `$7$` and the eleven letters of the parameters.
 fn params_letters(params: &Params) -> [u8; PARAMS_LEN]
-    ensures value { result ≡ params_text params.now }
-    ensures accepted { AreAccepted params.now.log_n params.now.r params.now.p }
+    ensures { result ≡ params_text params.now }
 {
     let mut letters = *b"$7$...........";
     letters[3] = letter(u32::from(params.log_n()));

@@ -2,9 +2,9 @@ use Rattle.std.proofs.Common.{refl}
 use Rattle.password_hash.specs.Crypt64.{letters_of}
 use Rattle.scrypt.proofs.mcf.hashing.params_letters.Goals as goal
 
-pub returns-clause-value : goal.returns-clause-value
+pub returns : goal.returns
 unfolding letters_of
-returns-clause-value c =
+returns c =
     rw (
       c.copy_from_slice.ensures.after,
       c.copy_from_slice-2.ensures.after,
