@@ -77,46 +77,57 @@ fn mix_at_once<M: Memory>(
         * thin_ro_mix_cost (words_of (part (128 * params.now.r) chunks.old i)) params.now.log_n s params.now.r) cores.old cores.new }
 {
     match n {
-        1 => mix_group::<Diagonal<u32x4>, M>(params, s, i, chunks, rows, scratch, cores),
-        2 => mix_group::<Diagonal<u32x8>, M>(params, 0, i, chunks, rows, scratch, cores),
+        1 => mix_group::<Diagonal<u32x4>, M>(params, s, n, i, chunks, rows, scratch, cores),
+        2 => mix_group::<Diagonal<u32x8>, M>(params, s, n, i, chunks, rows, scratch, cores),
         3 => mix_group::<Diagonal<Both<u32x8, u32x4>>, M>(
-            params, 0, i, chunks, rows, scratch, cores,
+            params, s, n, i, chunks, rows, scratch, cores,
         ),
         _ => mix_group::<Diagonal<Both<u32x8, u32x8>>, M>(
-            params, 0, i, chunks, rows, scratch, cores,
+            params, s, n, i, chunks, rows, scratch, cores,
         ),
     }
 }
 
-// Mixes the group of chunks from `i` on, as many as `O` holds blocks: B[i] = scryptROMix (r, B[i], N) for each.
+// Mixes the `n` chunks from `i` on, as many as `O` holds blocks: B[i] = scryptROMix (r, B[i], N) for each.
 fn mix_group<O: Order, M: Memory>(
     params: &Params,
     s: u8,
+    n: usize,
     i: usize,
     chunks: &mut [u8],
     rows: &mut M,
     scratch: &mut [u32],
     cores: &mut CoreCount,
 )
-    requires inside { i * (128 * params.now.r) + O.count * (128 * params.now.r) ≤ length chunks.old }
-    requires memory { HasTables params.now.log_n s params.now.r O.count (M.room rows.old) (length scratch.old) }
+    requires group { n ≡ O.count }
+    requires inside { i * (128 * params.now.r) + n * (128 * params.now.r) ≤ length chunks.old }
+    requires memory { HasTables params.now.log_n s params.now.r n (M.room rows.old) (length scratch.old) }
     ensures mixed { (b : List ℕ) → AreMixed b params.now.log_n params.now.r i chunks.old
-        → AreMixed b params.now.log_n params.now.r (i + O.count) chunks.new }
+        → AreMixed b params.now.log_n params.now.r (i + n) chunks.new }
     ensures room { M.room rows.old ≤ M.room rows.new }
-    ensures counted { AreCountedAs O.simd (O.count
+    ensures counted { AreCountedAs O.simd (n
         * thin_ro_mix_cost (words_of (part (128 * params.now.r) chunks.old i)) params.now.log_n s params.now.r) cores.old cores.new }
 {
     params.known();
     let r = params.r() as usize;
     let at = i * (128 * r);
-    let len = O::count() * (128 * r);
+    let len = n * (128 * r);
     romix::mix_chunks::<O, M>(
         &mut chunks[at..at + len],
         r,
         rows,
         scratch,
         params.log_n(),
-        s,
+        spacing::<O>(s),
         cores,
     );
+}
+
+// Returns `s`. For several chunks it is a constant, so that the compiler leaves out what a smaller table needs.
+#[inline(always)]
+fn spacing<O: Order>(s: u8) -> u8
+    requires alone { 0 < s → O.count ≡ 1 }
+    ensures { result ≡ s }
+{
+    if O::count() == 1 { s } else { 0 }
 }
