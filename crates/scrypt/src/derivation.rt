@@ -328,16 +328,8 @@ pub(crate) fn derive_in<M: Memory>(
     ensures whole { s ≡ 0 → AreCounted (cost params.now.log_n params.now.r params.now.p) cores.old cores.new }
 {
     derive_chunks(password, salt, params, chunks);
-    mix_all::<M>(
-        params,
-        s,
-        params.p() as usize,
-        width,
-        chunks,
-        rows,
-        scratch,
-        cores,
-    );
+    let count = params.p() as usize;
+    mix_all::<M>(params, s, count, width, chunks, rows, scratch, cores);
     // Step 3: DK, with B as salt.
     pbkdf2_one(password, chunks, output);
 }

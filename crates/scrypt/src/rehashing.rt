@@ -32,8 +32,9 @@ impl RehashCheck<phc::PasswordHash> for Scrypt {
 impl<'a> RehashCheck<mcf::PasswordHashRef<'a>> for Scrypt {
     ghost weaker = { λ scrypt hash. weaker_than scrypt (read_mcf (borrowed_text hash)) };
 
-    /// Returns what it returns for a PHC hash, or the same errors as verifying does before it
-    /// allocates, in the same order.
+    /// Returns whether the hash is weaker than this value's parameters ask for, as for a PHC hash.
+    ///
+    /// Returns the same errors as verifying does before it allocates, in the same order.
     fn needs_rehash(&self, hash: &mcf::PasswordHashRef<'a>) -> Result<bool> {
         match parts_of_mcf(hash) {
             Ok(stored) => Ok(is_below(&self.params(), &stored.params, stored.key_len)),
