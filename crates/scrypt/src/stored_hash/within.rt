@@ -83,7 +83,6 @@ impl<'a> StoredHash<'a> {
     }
 
     /// Returns the parts of a hash that is within the limits, or the first error.
-    #[tactic(auto, using(crate::proofs::ReadingFacts::too_costly))]
     pub(crate) fn parts_within(&self, limits: &Limits) -> Result<Parts<'_>, LimitedError>
         ensures ok { IfOk result (HasParts (within limits.now (reading self.now))) }
         ensures err { IfErr result (λ e. within limits.now (reading self.now) ≡ Err (limited_refusal e)) }
