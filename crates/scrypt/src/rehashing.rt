@@ -20,7 +20,6 @@ impl RehashCheck<phc::PasswordHash> for Scrypt {
     /// enough.
     ///
     /// Returns the same errors as verifying does before it allocates, in the same order.
-    #[tactic(auto, using(crate::proofs::ReadingFacts::weaker_read))]
     fn needs_rehash(&self, hash: &phc::PasswordHash) -> Result<bool> {
         match parts_of_phc(hash, &read_params(hash)) {
             Ok(parts) => Ok(is_below(&self.params(), &parts.params, parts.key_len)),
