@@ -31,3 +31,6 @@ returns-in-Err-clause-err c =
     (ap five_letter_number (sym (to_the_end _ _ 1 c.as_bytes-bytes.ensures.value)) ∙ c.in-Ok.ensures.ok)
     (ap five_letter_number (sym (to_the_end _ _ 6 c.as_bytes-bytes.ensures.value)) ∙ c.in-Ok-decode64_uint32.ensures.ok)
     ∙ not_checked _ _ _ (λ h. let ok = c.in-Err.ensures.accepted.1 h in cc)
+
+pub returns-in-Ok-new-clause-salt : goal.returns-in-Ok-new-clause-salt
+returns-in-Ok-new-clause-salt c = to_the_end _ _ 11 c.as_bytes-bytes.ensures.value
