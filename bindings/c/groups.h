@@ -19,6 +19,9 @@ static inline const uint8_t *bytes_of(const void *bytes) {
 /* How many at once pay on this processor, at most SCRYPT_MOST_LOGINS. */
 size_t most_at_once(void);
 
+/* How many processors this process may use: those of its affinity, and at most its CPU quota, rounded up. At least 1. */
+size_t processors_of_process(void);
+
 /* What a new hash with these options needs. The statuses of scrypt_params_need, with their bounds. */
 int needs_of_new(const scrypt_options *with, scrypt_needs *needs);
 

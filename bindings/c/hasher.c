@@ -1,6 +1,5 @@
 /* The calls of a hasher: what they derive, and their errors that come before any wait. Not proved; what reads texts, checks
  * bounds and derives is. */
-#include "processors.h"
 #include "queue.h"
 
 #include <string.h>

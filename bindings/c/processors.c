@@ -1,10 +1,9 @@
 /* How many processors this process may use. Not proved. */
 #define _GNU_SOURCE
-#include "processors.h"
+#include "groups.h"
 
 #include <pthread.h>
 #include <sched.h>
-#include <stdint.h>
 #include <stdio.h>
 #include <string.h>
 #include <unistd.h>
