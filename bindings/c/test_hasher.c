@@ -84,14 +84,13 @@ static void *run(void *of) {
 }
 
 /* Until each call that was started waits, derives or is over, and so twice. */
+static int are_settled(scrypt_hasher *hasher, int started) {
+  return READ(over) + look_at(hasher).waiting + READ(members) == started;
+}
 static void settle(scrypt_hasher *hasher, int started, const char *why) {
-  int tries, settled = 0, are = 0;
-  for (tries = 0; settled < 2 && tries < 50000; tries++) {
-    are = READ(over) + waiting(hasher) + READ(members);
-    settled = are == started ? settled + 1 : 0;
-    usleep(200);
-  }
-  expect(settled == 2, "%s: %d calls are settled, not %d", why, are, started);
+  int settled = 0;
+  until((settled = are_settled(hasher, started) ? settled + 1 : 0) == 2);
+  expect(settled == 2, "%s: %d calls are not settled", why, started);
 }
 
 static void start(struct thread *it, int number, char how, char kind, scrypt_hasher *hasher) {
@@ -109,26 +108,21 @@ static void interrupt(char what, struct thread *it) {
   int before = READ(forks), tries = what == '!' ? 10 : 1; /* one that comes before the sleep ends nothing */
   handle(SIGUSR1, what == '&' ? fork_in_handler : what == '#' ? close_in_handler : nothing_in_handler);
   while (tries-- > 0) pthread_kill(it->id, SIGUSR1), usleep(2000);
-  for (tries = 0; what == '&' && READ(forks) == before && tries < 50000; tries++) usleep(200);
-  for (tries = 0; what == '#' && !is_closed(it->hasher) && tries < 50000; tries++) usleep(200);
+  if (what == '&') until(READ(forks) != before);
+  if (what == '#') until(look_at(it->hasher).is_closed);
 }
 
 static void act(char what, scrypt_hasher *hasher, const char *why) {
   static const scrypt_needs ONE = {4, 8, 1, 32, 1, 1024, 16 * 256, 512};
-  int before = READ(ended), tries;
-  pid_t child;
+  int before = READ(ended);
   if (what == '$') scrypt_hasher_close(hasher);
   if (what == 'm') WRITE(most_mapped, table_bytes(&ONE) + sizeof(uint32_t)); /* a mark */
   if (what == '~') usleep(300000);
   if (what == '^') WRITE(forks_before_sleep, 1);
-  if (what == '|') {
-    child = fork();
-    if (child == 0) failed = 0, be_child(hasher, SCRYPT_CANCELLED);
-    reap(child, why);
-  }
+  if (what == '|') fork_here(hasher, why);
   if (what != '.') return;
   WRITE(passed, READ(passed) + 1);
-  for (tries = 0; READ(ended) == before && tries < 50000; tries++) usleep(200);
+  until(READ(ended) != before);
 }
 
 static void check_row(const struct row *row, scrypt_hasher *hasher, const struct thread *all, int started) {
@@ -153,7 +147,7 @@ static void run_row(const struct row *row) {
   char how = ' ';
   int started = 0, i;
   memset(all, 0, sizeof all);
-  memset(seen, 0, 64 * sizeof *seen);
+  memset(seen, 0, sizeof seen);
   WRITE(widest, row->widest);
   WRITE(over, 0);
   WRITE(is_stopped, 1);
@@ -189,6 +183,7 @@ static void options(void) {
       {"log_n alone", OF(4, 0, 0, 0, 0, 0, 0, 0, 0), SCRYPT_INVALID_PARAMS},
       {"log_n above 8 bits", OF(260, 8, 1, 0, 0, 0, 0, 0, 0), SCRYPT_INVALID_PARAMS},
       {"a key of 9 bytes", OF(4, 8, 1, 0, 9, 0, 0, 0, 0), SCRYPT_INVALID_PARAMS},
+      {"a key of 65", OF(4, 8, 1, 0, 65, 0, 0, 0, 0), SCRYPT_INVALID_PARAMS},
       {"a salt of 65", OF(4, 8, 1, 0, 0, 65, 0, 0, 0), SCRYPT_SALT_INVALID},
       {"too few bytes", OF(14, 8, 1, 0, 0, 0, 1 << 20, 0, 0), SCRYPT_TOO_COSTLY},
       {"too little work", OF(14, 8, 1, 0, 0, 0, 0, 1 << 10, 0), SCRYPT_TOO_COSTLY},
@@ -209,13 +204,16 @@ static void options(void) {
   expect(with->processors == processors_of_process() && with->at_once == 2 * with->processors, "turns");
   expect(scrypt_hasher_options(NULL) == NULL, "no options of NULL");
   scrypt_hasher_free(hasher);
+  clock_t begun_at = clock();
+  scrypt_hasher_free(made(1 << 23, 1 << 23, 4));
+  expect(clock() - begun_at < 3 * CLOCKS_PER_SEC / 2, "turns that were never given take time");
 }
 
 static void calls(void) {
   char text[SCRYPT_PHC_CAPACITY], mcf[SCRYPT_MCF_CAPACITY(3)], good[SCRYPT_PHC_CAPACITY];
   scrypt_options with = {sizeof with, 4, 8, 2, 1, 0, 0, 0, 0, 0, 1, 1};
   scrypt_hasher *hasher = made(1, 1, 4), *of_mcf = scrypt_hasher_new(&with, NULL);
-  uint8_t key[32], same[32];
+  uint8_t key[32];
   make_text(good, "right", 4, 8, 1);
   IS(verify(hasher, "", "", -1), SCRYPT_ENCODING_INVALID);
   IS(verify(hasher, "$scrypt$ln=20,r=8,p=1$c2FsdHNhbHQ$AAAAAAAAAAAAAAAAAAAAAA", "", -1), SCRYPT_TOO_COSTLY);
@@ -243,8 +241,6 @@ static void calls(void) {
   IS(scrypt_hasher_needs_rehash(NULL, text, 1), SCRYPT_NULL_POINTER);
   IS(scrypt_hasher_key(hasher, "pw", 2, "salt", 4, key, 0, -1, NULL), SCRYPT_INVALID_OUTPUT_LEN);
   IS(scrypt_hasher_key(of_mcf, "pw", 2, NULL, 0, key, 32, -1, NULL), SCRYPT_OK);
-  IS(scrypt_key("pw", 2, "", 0, 4, 8, 2, same, 32), SCRYPT_OK);
-  expect(memcmp(key, same, 32) == 0, "the key");
   scrypt_hasher_close(hasher);
   expect(is_idle(hasher), "closed");
   IS(verify(hasher, "", "", -1), SCRYPT_ENCODING_INVALID); /* the errors of the text come first */
@@ -263,7 +259,7 @@ static void kept(void) {
   scrypt_needs needs;
   IS(needs_of_new(&hasher->options, &needs), SCRYPT_OK);
   for (int round = 0; round < 3; round++) {
-    size_t table = 4 * needs.table_len, end = table_bytes(&needs), at = table;
+    size_t end = table_bytes(&needs), at = 4 * needs.table_len;
     if (round == 0) IS(scrypt_hasher_hash(hasher, "pw", 2, NULL, 0, text, sizeof text, -1, NULL), SCRYPT_OK);
     if (round == 1) IS(verify(hasher, text, "pw", -1), SCRYPT_OK);
     if (round == 2) IS(scrypt_hasher_key(hasher, "pw", 2, "salt", 4, key, 32, -1, NULL), SCRYPT_OK);
@@ -271,20 +267,6 @@ static void kept(void) {
     expect(tables->used == end && tables->front[0] != 0 && at == end, "round %d leaves a byte at %zu", round, at);
   }
   scrypt_hasher_free(hasher);
-}
-
-static void numbers_of_turns(void) {
-  for (size_t processors = 1; processors <= 64; processors += 21)
-    for (size_t at_once = 1; at_once <= 1000; at_once += at_once < 20 ? 1 : 97) {
-      scrypt_hasher *hasher = made(processors, at_once, 4);
-      size_t turn, all = 0, most = 0;
-      for (turn = 0; turn < hasher->turns; turn++) all += width_of(hasher, turn), most += 4;
-      expect(all == (at_once < most ? at_once : most), "%zu, %zu: %zu tables", processors, at_once, all);
-      scrypt_hasher_free(hasher);
-    }
-  clock_t begun_at = clock();
-  scrypt_hasher_free(made(1 << 23, 1 << 23, 4));
-  expect(clock() - begun_at < 3 * CLOCKS_PER_SEC / 2, "turns that were never given take time");
 }
 
 /* Several tables pay for one key if they are not tiny, and take at most 128 MiB. */
@@ -299,27 +281,22 @@ static void tables_of_keys(void) {
 /* Waits that end in a mixed order, and waits that come back to their places, take n * log n. */
 static double mixed_ends(uint64_t n) {
   scrypt_hasher *hasher = made(1, 1, 4);
-  struct call *all = (struct call *)calloc(n + 1, sizeof *all);
+  struct call *all = (struct call *)calloc(n + 1, sizeof *all), *it;
   clock_t begun_at = clock();
   double ms;
   uint64_t i;
   for (i = 0; i <= n; i++) lock(hasher), enter(hasher, &all[i], i % 3 == 0 ? UINT64_MAX : 0), unlock(hasher);
   expect(all[n].place == n + 1, "a place that was not given is a new one");
   for (i = 0; i < n; i++) {
-    struct call *it = &all[1 + i * 7919 % n];
-    uint64_t place = it->place;
+    it = &all[1 + i * 7919 % n];
     lock(hasher), leave(hasher->queue, it), unlock(hasher);
-    if (i % 2 == 0) lock(hasher), enter(hasher, it, place), unlock(hasher);
+    if (i % 2 == 0) lock(hasher), enter(hasher, it, it->place), unlock(hasher);
   }
   ms = (double)(clock() - begun_at) * 1e3 / CLOCKS_PER_SEC;
-  for (i = 0; i < n; i += 2) {
-    struct call *it = hasher->queue->first[0];
+  for (it = hasher->queue->first[0], i = 0; it != NULL; it = it->next[0], i++)
     expect(it->next[0] == NULL || is_before(it, it->next[0]), "the order of the line");
-    leave(hasher->queue, it);
-  }
-  hasher->queue->turn[0].is_taken = 0;
-  hasher->queue->calls = 0;
-  expect(is_idle(hasher), "the line is empty");
+  expect(i == n / 2, "%d come back", (int)i);
+  memset(hasher->queue, 0, size_of_queue(hasher));
   scrypt_hasher_free(hasher);
   free(all);
   return ms;
@@ -327,8 +304,7 @@ static double mixed_ends(uint64_t n) {
 
 static void many_waits(void) {
   double few = mixed_ends(10000), many = mixed_ends(80000);
-  printf("10,000 waits that end: %.0f ms; 80,000: %.0f ms\n", few, many);
-  expect(many < 40 * few + 100, "not linear");
+  expect(many < 40 * few + 100, "not linear: 10,000 waits that end take %.0f ms, and 80,000 %.0f", few, many);
 }
 
 /* Files of control groups below a folder of this test, in place of the system's. */
@@ -357,7 +333,21 @@ static void processors(void) {
   }
 }
 
-static void fork_here(void) { fork_in_handler(0); }
+static void fork_in_derivation(void) { fork_in_handler(0); }
+
+/* A key is derived again in a child that is forked meanwhile, where its tables are zeros. */
+static void key_forked(void) {
+  uint8_t key[32], right[32];
+  IS(scrypt_key("pw", 2, "salt", 4, 10, 8, 4, right, 32), SCRYPT_OK);
+  begun = 0;
+  is_wiped_by_system = 1;
+  WRITE(hook, fork_in_derivation);
+  IS(key_in_tables("pw", 2, "salt", 4, 10, 8, 4, key, 32), SCRYPT_OK);
+  expect(memcmp(key, right, 32) == 0 && begun == (getpid() == parent ? 1 : 2), "a key after %d derivations", begun);
+  if (getpid() != parent) end_child();
+  is_wiped_by_system = 0;
+  reap_all("forked while a key is derived");
+}
 
 static void calibrated(void) {
   uint8_t log_n = 0;
@@ -367,18 +357,22 @@ static void calibrated(void) {
   IS(scrypt_calibrate(-1, (size_t)64 << 20, &log_n, &r, &p), SCRYPT_TOO_COSTLY);
   IS(scrypt_calibrate(1, ((size_t)1 << 20) - 1, &log_n, &r, &p), SCRYPT_TOO_COSTLY);
   expect(log_n == 0 && r == 0 && p == 0, "unchanged");
-  IS(scrypt_calibrate(0.5, (size_t)1 << 20, &log_n, &r, &p), SCRYPT_OK);
-  expect(p > 1, "p takes the time that is left");
-  WRITE(hook, fork_here);
+  WRITE(hook, fork_in_derivation);
   IS(scrypt_calibrate(9, (size_t)1 << 20, &log_n, &r, &p), SCRYPT_OK);
   expect(log_n == 10 && r == 8 && p > 1, "the table as large as the bound, and p takes the time: %d %u %u", log_n, r, p);
   if (getpid() != parent) end_child();
   reap_all("forked while it measures");
 }
 
-int main(int count, char **names) {
-  static const struct test TESTS[] = {
-      {"rows", rows}, {"options", options}, {"calls", calls}, {"kept", kept},
-      {"turns", numbers_of_turns}, {"tables", tables_of_keys}, {"waits", many_waits}, {"processors", processors}, {"calibrated", calibrated}, {NULL, NULL}};
-  return run_tests(TESTS, count > 1 ? names[1] : NULL);
+int main(void) {
+  RUN(rows);
+  RUN(options);
+  RUN(calls);
+  RUN(kept);
+  RUN(tables_of_keys);
+  RUN(many_waits);
+  RUN(processors);
+  RUN(key_forked);
+  RUN(calibrated);
+  return failed;
 }
