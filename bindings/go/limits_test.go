@@ -27,12 +27,7 @@ func limitMemory(t *testing.T, more uint64) {
 	})
 }
 
-// resident returns how many KiB of memory the process has.
-func resident(t *testing.T) int {
-	t.Helper()
-	return statusKiB(t, "VmRSS")
-}
-
+// statusKiB returns a number of /proc/self/status.
 func statusKiB(t *testing.T, name string) int {
 	t.Helper()
 	data, err := os.ReadFile("/proc/self/status")

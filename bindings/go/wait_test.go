@@ -2,24 +2,23 @@ package scrypt
 
 import (
 	"context"
-	"errors"
 	"fmt"
 	"io"
-	"os/exec"
 	"runtime"
 	"strings"
-	"sync"
 	"testing"
 	"time"
 )
 
 var _ io.Closer = (*Hasher)(nil)
 
-// A watched context does something before its Err or Done returns, which is told "Err 2" for the second Err.
+// A watched context does something before its Err or Done returns, which is told "Err 2" for the second Err. If done is
+// set, it is closed, so that the context ends without an error.
 type watched struct {
 	context.Context
 	on          func(call string)
 	errs, dones int
+	done        chan struct{}
 }
 
 func (w *watched) Err() error {
@@ -31,50 +30,22 @@ func (w *watched) Err() error {
 func (w *watched) Done() <-chan struct{} {
 	w.dones++
 	w.on(fmt.Sprint("Done ", w.dones))
+	if w.done != nil {
+		return w.done
+	}
 	return w.Context.Done()
 }
 
-// An ended context is done, and has no error.
-type ended struct{ context.Context }
-
-func (ended) Done() <-chan struct{} {
-	done := make(chan struct{})
-	close(done)
-	return done
-}
-
-// together runs as many goroutines, and waits for all.
-func together(count int, run func(number int)) {
-	var all sync.WaitGroup
-	for i := 0; i < count; i++ {
-		all.Add(1)
-		go func(i int) {
-			defer all.Done()
-			run(i)
-		}(i)
-	}
-	all.Wait()
-}
-
-// fill lets as many goroutines in as there is room for, which do not go on to C before the result is called.
+// fill leaves no room for a goroutine to go on to C, before the result is called.
 func fill(hasher *Hasher) (leave func()) {
-	ctx, cancel := context.WithCancel(context.Background())
-	inside, done := make(chan bool), make(chan bool)
-	go func() {
-		together(cap(hasher.of.inside), func(int) {
-			_, _ = hasher.Hash(&watched{Context: ctx, on: func(call string) {
-				if call == "Err 2" { // with its place
-					inside <- true
-					<-ctx.Done()
-				}
-			}}, nil)
-		})
-		close(done)
-	}()
 	for i := 0; i < cap(hasher.of.inside); i++ {
-		<-inside
+		hasher.of.inside <- struct{}{}
 	}
-	return func() { cancel(); <-done }
+	return func() {
+		for i := 0; i < cap(hasher.of.inside); i++ {
+			<-hasher.of.inside
+		}
+	}
 }
 
 // busy lets a goroutine derive on the only processor for a second or more, and returns when it has begun.
@@ -112,18 +83,13 @@ func untilThereAre(count int, place string) {
 	}
 }
 
-// works reports whether a Hasher still derives.
+// works reports whether a Hasher still derives, and has no place that is lost.
 func works(t *testing.T, hasher *Hasher, why string) {
 	t.Helper()
 	ctx, cancel := context.WithTimeout(context.Background(), 20*time.Second)
 	defer cancel()
-	for i := 0; i < 2*cap(hasher.of.inside); i++ {
-		if err := hasher.Verify(ctx, "$scrypt$ln=4,r=8,p=1"+shortKey+"AA", nil); err != ErrMismatch {
-			t.Fatalf("%s: afterwards %v", why, err)
-		}
-	}
-	if len(hasher.of.inside) != 0 {
-		t.Errorf("%s: %d are still inside", why, len(hasher.of.inside))
+	if err := hasher.Verify(ctx, noHash, nil); err != ErrMismatch || len(hasher.of.inside) != 0 {
+		t.Errorf("%s: afterwards %v, and %d are inside", why, err, len(hasher.of.inside))
 	}
 }
 
@@ -157,11 +123,9 @@ var endsOfWaits = []struct {
 	{"while it waits in C", busy, closes, inC, 2, ErrClosed},
 	{"while it waits in C", busy, late, "", 0, context.DeadlineExceeded},
 	{"while it derives", nobody, cancels, inC, 1, nil},
-	{"while it derives", nobody, closes, inC, 1, nil},
 	{"before anything", nobody, "Err 1", "", 0, "Err 1"},
 	{"when it is let in", nobody, "Err 2", "", 0, "Err 2"},
 	{"while it is let in", nobody, "Done 1", "", 0, "Done 1"},
-	{"before it waits for others", fill, "Err 1", "", 0, "Err 1"},
 	{"while it waits for others", fill, "Done 1", "", 0, "Done 1"},
 	{"while it waits in C", busy, "Err 3", "", 0, "Err 3"},
 }
@@ -170,17 +134,21 @@ func TestEndsOfWaits(t *testing.T) {
 	for _, it := range endsOfWaits {
 		hasher := newHasher(t, Options{Params: Params{LogN: 12, P: 128}, AtOnce: 1})
 		end := it.at(hasher)
-		base, cancel := context.WithCancel(context.Background())
-		var ctx context.Context = &watched{Context: base, on: func(call string) {
+		ctx := &watched{on: func(call string) {
 			if call == it.what {
 				panic(call)
 			}
 		}}
-		if it.what == ends {
-			ctx = ended{base}
-		} else if it.what == late {
-			ctx, cancel = context.WithTimeout(base, 20*time.Millisecond)
+		lasts := time.Hour
+		switch it.what {
+		case late:
+			lasts = 20 * time.Millisecond
+		case ends:
+			ctx.done = make(chan struct{})
+			close(ctx.done)
 		}
+		var cancel func()
+		ctx.Context, cancel = context.WithTimeout(context.Background(), lasts)
 		result := make(chan any)
 		go func() { result <- outcome(hasher, ctx) }()
 		if it.there > 0 {
@@ -191,8 +159,8 @@ func TestEndsOfWaits(t *testing.T) {
 		} else if it.what == closes {
 			_ = hasher.Close()
 		}
-		if got := <-result; got != it.want {
-			t.Errorf("%s, %s: %v", it.what, it.why, got)
+		if got := <-result; got != it.want || ctx.errs > 100 {
+			t.Errorf("%s, %s: %v after %d looks at its context", it.what, it.why, got, ctx.errs)
 		}
 		cancel()
 		end()
@@ -205,86 +173,72 @@ func TestEndsOfWaits(t *testing.T) {
 // Who has waited longest is let in next.
 func TestInOrder(t *testing.T) {
 	hasher, order := newHasher(t, Options{Params: small(), AtOnce: 1}), make(chan int, 8)
-	leave := fill(hasher)
+	fill(hasher)
 	ctx, cancel := context.WithCancel(context.Background())
 	defer cancel()
-	for i := 0; i < 8; i++ {
-		go func(i int) {
-			_ = outcome(hasher, &watched{Context: ctx, on: func(call string) {
-				if call == "Err 2" {
-					order <- i
-				}
-			}})
-		}(i)
+	for i := 0; i < cap(order); i++ {
+		number := i
+		let := watched{Context: ctx, on: func(call string) {
+			if call == "Err 2" {
+				order <- number
+			}
+		}}
+		go func() { _ = outcome(hasher, &let) }()
 		untilThereAre(i+1, inGo)
 	}
-	// One place alone goes from each to the next.
-	<-hasher.of.inside
-	for i := 0; i < 8; i++ {
+	<-hasher.of.inside // this place alone goes from each to the next
+	for i := 0; i < cap(order); i++ {
 		if got := <-order; got != i {
 			t.Errorf("the place is that of %d before that of %d", got, i)
 		}
 	}
-	hasher.of.inside <- struct{}{}
-	leave()
 }
 
-// One that is closed, also twice, and one that NewHasher did not make. The errors of a text come first, where it is read.
+// One that is closed, also twice, and one that NewHasher did not make, whose texts are not read.
 func TestClosedHashers(t *testing.T) {
-	ctx, text := context.Background(), "$scrypt$ln=4,r=8,p=1"+shortKey+"AA"
-	made := newHasher(t, Options{Params: small()})
-	for _, it := range []struct {
-		hasher       *Hasher
-		noText, weak error
-	}{{made, ErrEncodingInvalid, nil}, {&Hasher{}, ErrClosed, ErrClosed}} {
-		if one, other := it.hasher.Close(), it.hasher.Close(); one != nil || other != nil {
+	ctx := context.Background()
+	for made, hasher := range map[bool]*Hasher{true: newHasher(t, Options{Params: small()}), false: {}} {
+		if one, other := hasher.Close(), hasher.Close(); one != nil || other != nil {
 			t.Error(one, other)
 		}
-		_, hashed := it.hasher.Hash(ctx, nil)
-		_, salted := it.hasher.HashWithSalt(ctx, nil, []byte("saltsalt"))
-		_, key := it.hasher.Key(ctx, nil, nil, 32)
-		for i, err := range []error{hashed, salted, key, it.hasher.Verify(ctx, text, nil)} {
-			if err != ErrClosed {
-				t.Errorf("call %d: %v", i, err)
+		_, salted := hasher.HashWithSalt(ctx, nil, []byte("saltsalt"))
+		_, key := hasher.Key(ctx, nil, nil, 32)
+		weak, weakErr := hasher.NeedsRehash(noHash)
+		for why, holds := range map[string]bool{
+			"Hash":               outcome(hasher, ctx) == ErrClosed,
+			"HashWithSalt":       salted == ErrClosed,
+			"Key":                key == ErrClosed,
+			"Verify":             hasher.Verify(ctx, noHash, nil) == ErrClosed,
+			"Verify, by no text": hasher.Verify(ctx, "", nil) == map[bool]Error{true: ErrEncodingInvalid, false: ErrClosed}[made],
+			"NeedsRehash":        weak == made && (weakErr == nil) == made,
+		} {
+			if !holds {
+				t.Errorf("%s, if NewHasher made it: %v", why, made)
 			}
-		}
-		if err := it.hasher.Verify(ctx, "", nil); err != it.noText {
-			t.Errorf("a text that is no hash: %v", err)
-		}
-		if weak, err := it.hasher.NeedsRehash(text); weak != (it.weak == nil) || err != it.weak {
-			t.Errorf("NeedsRehash: %v, %v", weak, err)
 		}
 	}
 }
 
-// Each of many gets what it gets alone, whatever the others are, and while other programs start.
-func TestManyVerdictsAtOnce(t *testing.T) {
-	type verification struct {
-		text, password string
-		want           error
-	}
-	all := []verification{{"", "pw", ErrEncodingInvalid}, {"$scrypt$ln=4,r=8,p=1", "pw", ErrMismatch},
-		{"$scrypt$ln=1,r=1,p=2000000" + shortKey, "pw", ErrTooCostly}, {"$scrypt$ln=4,r=8,p=1" + shortKey, "pw", ErrKeyTooShort}}
-	for _, params := range []Params{{LogN: 4}, {LogN: 5}, {LogN: 4, R: 7}, {LogN: 4, P: 2}, {LogN: 9}} {
-		text := hashOf(t, params)
-		all = append(all, verification{text, "pw", nil}, verification{text, "PW", ErrMismatch}, verification{text, "", ErrMismatch})
-	}
-	for _, options := range []Options{{Processors: 1, AtOnce: 1}, {Processors: 1, AtOnce: 4}, {Processors: 2, AtOnce: 3}, {}} {
-		options.Params = small()
-		hasher := newHasher(t, options)
-		together(17, func(i int) {
-			for j := 0; j < 200; j++ {
-				it := all[(i*7+j*5)%len(all)]
-				if err := hasher.Verify(context.Background(), it.text, []byte(it.password)); !errors.Is(err, it.want) {
-					t.Errorf("%s, %q: %v", it.text, it.password, err)
-				}
-				if j != 12*i {
-					continue
-				}
-				if output, err := exec.Command("echo", "here").Output(); err != nil || string(output) != "here\n" {
-					t.Errorf("%q, %v", output, err)
-				}
-			}
-		})
+// The memory of a Hasher is given back when it is closed, and when nothing refers to it.
+func TestMemoryIsGivenBack(t *testing.T) {
+	const one = 32 << 10 // KiB, with a LogN of 15
+	for _, isClosed := range []bool{true, false} {
+		before := statusKiB(t, "VmRSS")
+		hasher := newHasher(t, Options{Params: Params{LogN: 15}, AtOnce: 1})
+		_ = outcome(hasher, context.Background())
+		kept := statusKiB(t, "VmRSS") - before
+		if isClosed {
+			_ = hasher.Close()
+			defer runtime.KeepAlive(hasher)
+		}
+		left := kept
+		for i := 0; i < 50 && left > one/2; i++ {
+			runtime.GC()
+			time.Sleep(20 * time.Millisecond)
+			left = statusKiB(t, "VmRSS") - before
+		}
+		if kept < one/2 || left > one/2 {
+			t.Errorf("closed: %v: %d KiB are kept, and %d are left", isClosed, kept, left)
+		}
 	}
 }
