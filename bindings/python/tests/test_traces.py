@@ -5,11 +5,12 @@ usage: test_traces.py SECRETS TRACES     what bindings/c/traces.py printed, and 
 
 import ctypes
 import gc
+import os
 import sys
 import threading
 
 import scrypt_c
-from test_threads import busy, on_one_processor
+from test_threads import busy
 
 
 class Case(ctypes.Structure):
@@ -60,7 +61,10 @@ def verified(case, password, salt):
 
 def verified_together(case, password, salt):
     """Two threads wait for a third: one of them derives for both, as there is one processor."""
-    made = on_one_processor(log_n=case.log_n, r=case.r, p=case.p, at_once=2)
+    processors = os.sched_getaffinity(0)
+    os.sched_setaffinity(0, {min(processors)})
+    made = scrypt_c.PasswordHasher(case.log_n, case.r, case.p, at_once=2)
+    os.sched_setaffinity(0, processors)
     text = made.hash(password, salt=salt)
     with busy(made, 1):
         others = [threading.Thread(target=made.verify, args=(text, password)) for _ in range(2)]
