@@ -22,11 +22,9 @@ impl Bounds {
     /// Whether a derivation with these parameters is within the bounds.
     pub fn allow(&self, params: &Params) -> bool {
         let (log_n, r, p) = (params.log_n(), params.r(), params.p());
-        let mut needs = RawNeeds::default();
-        let Bounds { most_bytes, most_work } = *self;
+        let (bytes, work, mut needs) = (self.most_bytes, self.most_work, RawNeeds::default());
         // SAFETY: the place is this function's own.
-        let status = unsafe { scrypt_params_need(log_n, r, p, most_bytes, most_work, &mut needs) };
-        status == OK
+        unsafe { scrypt_params_need(log_n, r, p, bytes, work, &mut needs) == OK }
     }
 }
 
@@ -36,25 +34,17 @@ impl Default for Bounds {
     }
 }
 
-/// The constants are those of a hasher that is made without bounds.
+/// The constants are those of a hasher that is made without options, which is not freed, so that they can be read.
 #[cfg(test)]
 #[test]
 fn usual_bounds_of_the_library() {
-    let options = crate::calls::RawOptions {
-        size: std::mem::size_of::<crate::calls::RawOptions>(),
-        ..Default::default()
-    };
-    let mut status = -1;
-    // SAFETY: both are this function's own, the options have their size, and are read before the hasher is freed.
-    unsafe {
-        let hasher = crate::calls::scrypt_hasher_new(&options, &mut status);
-        let of = crate::calls::scrypt_hasher_options(hasher);
-        assert_eq!(status, crate::calls::OK);
-        let bounds = Bounds { most_bytes: (*of).most_bytes, most_work: (*of).most_work };
-        assert_eq!((bounds, (*of).least_key_len), (Bounds::USUAL, Bounds::LEAST_KEY_LEN));
-        let usual = Params::RECOMMENDED;
-        assert_eq!(((*of).log_n, (*of).r, (*of).p), (17, usual.r(), usual.p()));
-        assert_eq!(((*of).key_len, (*of).salt_len), (usual.key_len(), 16));
-        crate::calls::scrypt_hasher_free(hasher);
-    }
+    use crate::calls::*;
+    let raw = RawOptions { size: std::mem::size_of::<RawOptions>(), ..Default::default() };
+    // SAFETY: both are this function's own, and the options have their size.
+    let of = unsafe { &*scrypt_hasher_options(scrypt_hasher_new(&raw, &mut -1)) };
+    let bounds = Bounds { most_bytes: of.most_bytes, most_work: of.most_work };
+    assert_eq!((bounds, of.least_key_len), (Bounds::USUAL, Bounds::LEAST_KEY_LEN));
+    let usual = Params::RECOMMENDED;
+    assert_eq!((of.log_n, of.r, of.p), (usual.log_n().into(), usual.r(), usual.p()));
+    assert_eq!((of.key_len, of.salt_len), (usual.key_len(), 16));
 }

@@ -36,14 +36,8 @@ pub struct Options {
 
 impl Default for Options {
     fn default() -> Options {
-        Options {
-            params: Params::RECOMMENDED,
-            format: Format::Phc,
-            salt_len: 16,
-            at_once: 0,
-            processors: 0,
-            bounds: None,
-        }
+        let (params, format) = (Params::RECOMMENDED, Format::Phc);
+        Options { params, format, salt_len: 16, at_once: 0, processors: 0, bounds: None }
     }
 }
 
@@ -105,25 +99,25 @@ impl Hasher {
     /// `SaltInvalid` unless the salt has 1 to 64 bytes, `TooCostly` if new hashes need more than the bounds, `OutOfMemory`,
     /// and `Unsupported` before Linux 4.14.
     pub fn new(options: Options) -> Result<Hasher, Error> {
-        if options.salt_len == 0 {
+        let Options { params, format, salt_len, at_once, processors, bounds } = options;
+        if salt_len == 0 {
             return Err(Error::SaltInvalid);
         }
         // 0 would mean the default, and no derivation is within 1.
-        let bounds =
-            options.bounds.map_or((0, 0), |it| (it.most_bytes.max(1), it.most_work.max(1)));
+        let bounds = bounds.map_or((0, 0), |it| (it.most_bytes.max(1), it.most_work.max(1)));
         let raw = RawOptions {
             size: std::mem::size_of::<RawOptions>(),
-            log_n: options.params.log_n().into(),
-            r: options.params.r(),
-            p: options.params.p(),
-            mcf: (options.format == Format::Mcf).into(),
-            key_len: options.params.key_len(),
-            salt_len: options.salt_len,
+            log_n: params.log_n().into(),
+            r: params.r(),
+            p: params.p(),
+            mcf: (format == Format::Mcf).into(),
+            key_len: params.key_len(),
+            salt_len,
             most_bytes: bounds.0,
             most_work: bounds.1,
-            at_once: options.at_once,
-            processors: options.processors,
-            ..RawOptions::default()
+            least_key_len: 0, // the default
+            at_once,
+            processors,
         };
         let mut status = OK;
         // SAFETY: both are this function's own, and the options have their size.
@@ -163,19 +157,12 @@ impl Hasher {
         text.try_reserve_exact(capacity).map_err(|_| Error::OutOfMemory)?;
         text.resize(capacity, 0);
         // SAFETY: the hasher is there until this returns, and each pointer is that of a slice of the length after it.
-        result(unsafe {
-            scrypt_hasher_hash(
-                self.raw(),
-                password.as_ptr().cast(),
-                password.len(),
-                salt.cast(),
-                salt_len,
-                text.as_mut_ptr().cast(),
-                capacity,
-                NO_BOUND,
-                null_mut(),
-            )
-        })?;
+        #[rustfmt::skip]
+        let status = unsafe {
+            scrypt_hasher_hash(self.raw(), password.as_ptr().cast(), password.len(), salt.cast(), salt_len,
+                text.as_mut_ptr().cast(), capacity, NO_BOUND, null_mut())
+        };
+        result(status)?;
         text.truncate(text.iter().position(|it| *it == 0).unwrap_or(0));
         text.shrink_to_fit();
         String::from_utf8(text).map_err(|_| Error::EncodingInvalid)
@@ -195,19 +182,12 @@ impl Hasher {
     ) -> Result<(), Error> {
         let password = password.as_ref();
         // SAFETY: the hasher is there until this returns, and each pointer is that of a slice of the length after it.
-        result(unsafe {
-            scrypt_hasher_key(
-                self.raw(),
-                password.as_ptr().cast(),
-                password.len(),
-                salt.as_ptr().cast(),
-                salt.len(),
-                output.as_mut_ptr(),
-                output.len(),
-                NO_BOUND,
-                null_mut(),
-            )
-        })
+        #[rustfmt::skip]
+        let status = unsafe {
+            scrypt_hasher_key(self.raw(), password.as_ptr().cast(), password.len(), salt.as_ptr().cast(), salt.len(),
+                output.as_mut_ptr(), output.len(), NO_BOUND, null_mut())
+        };
+        result(status)
     }
 
     /// Ok if the password is that of the hash, in either format.
@@ -220,17 +200,12 @@ impl Hasher {
     pub fn verify(&self, text: &str, password: impl AsRef<[u8]>) -> Result<(), Error> {
         let password = password.as_ref();
         // SAFETY: the hasher is there until this returns, and each pointer is that of a slice of the length after it.
-        result(unsafe {
-            scrypt_hasher_verify(
-                self.raw(),
-                password.as_ptr().cast(),
-                password.len(),
-                text.as_ptr().cast(),
-                text.len(),
-                NO_BOUND,
-                null_mut(),
-            )
-        })
+        #[rustfmt::skip]
+        let status = unsafe {
+            scrypt_hasher_verify(self.raw(), password.as_ptr().cast(), password.len(), text.as_ptr().cast(), text.len(),
+                NO_BOUND, null_mut())
+        };
+        result(status)
     }
 
     /// Whether one of the parameters of the hash, or its key's length, is below that of new hashes. This also works on a
@@ -240,10 +215,9 @@ impl Hasher {
     ///
     /// Those of [`Error::is_invalid_hash`].
     pub fn needs_rehash(&self, text: &str) -> Result<bool, Error> {
+        let (hasher, text, len) = (self.raw(), text.as_ptr().cast(), text.len());
         // SAFETY: the hasher is there until this returns, and the pointer is that of a text of this length.
-        let status =
-            unsafe { scrypt_hasher_needs_rehash(self.raw(), text.as_ptr().cast(), text.len()) };
-        match status {
+        match unsafe { scrypt_hasher_needs_rehash(hasher, text, len) } {
             NEEDS_REHASH => Ok(true),
             other => result(other).map(|()| false),
         }
