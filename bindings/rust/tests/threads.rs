@@ -1,13 +1,13 @@
-//! A hasher that threads share.
+//! A hasher that threads share, and child processes.
 
 use scrypt_c::{mcf, phc, DeriveError, Error, Hasher, InvalidParams, Options, Params, Scrypt};
+use std::os::raw::c_int;
 use std::panic::{catch_unwind, AssertUnwindSafe, RefUnwindSafe, UnwindSafe};
 use std::thread;
-use std::time::Duration;
 
 fn with(log_n: u8, p: u32, at_once: usize) -> Hasher {
     let params = Params::new(log_n, 8, p).unwrap();
-    Hasher::new(Options { params, at_once, ..Options::default() }).unwrap()
+    Hasher::new(Options { params, at_once, processors: 1, ..Options::default() }).unwrap()
 }
 
 #[test]
@@ -30,48 +30,82 @@ fn panics() {
     }
     let hasher = with(4, 1, 1);
     let text = hasher.hash("pw").unwrap();
-    for _ in 0..4 {
-        assert!(catch_unwind(|| hasher.verify(&text, Panics)).is_err());
-        assert!(catch_unwind(|| hasher.hash(Panics)).is_err());
-        let clone = hasher.clone();
-        let panicked = thread::spawn(move || {
-            let _dropped_by_a_panic = clone.hash("pw").map(|text| clone.verify(&text, "pw"));
-            panic!("on purpose")
-        });
-        assert!(panicked.join().is_err());
-    }
-    let mut key = [0; 8];
-    let in_key = AssertUnwindSafe(|| hasher.key(Panics, b"", &mut key));
-    assert!(catch_unwind(in_key).is_err());
+    let (clone, mut key) = (hasher.clone(), [0; 8]);
+    let panicked = thread::spawn(move || {
+        let _dropped_by_a_panic = clone.hash("pw").map(|text| clone.verify(&text, "pw"));
+        panic!("on purpose")
+    });
+    assert!(panicked.join().is_err());
+    assert!(catch_unwind(|| hasher.verify(&text, Panics)).is_err());
+    assert!(catch_unwind(|| hasher.hash(Panics)).is_err());
+    assert!(catch_unwind(AssertUnwindSafe(|| hasher.key(Panics, b"", &mut key))).is_err());
     assert_eq!(hasher.verify(&text, "pw"), Ok(()));
 }
 
-/// A hasher that is dropped while its clones derive and wait goes on for them. Closing one ends the waits of all clones, and
-/// no derivation.
+/// A hasher that is dropped goes on for its clones, in other threads too, and closing one closes all.
 #[test]
-fn dropped_and_closed() {
-    for closes in [false, true] {
-        let hasher = with(12, 128, 1); // a second or more for each new hash, one after another
-        let text = hasher.hash("pw").unwrap();
-        let other = hasher.clone();
-        let clones = [hasher.clone(), hasher.clone(), hasher.clone()];
-        let all = clones.map(|it| {
-            thread::sleep(Duration::from_millis(50));
-            thread::spawn(move || it.hash("pw").map(|_| ()))
-        });
-        thread::sleep(Duration::from_millis(50));
-        if closes {
-            hasher.close();
-        }
+fn clones() {
+    let (hasher, other) = (with(4, 1, 1), with(4, 1, 1));
+    let clone = hasher.clone();
+    let text = thread::spawn(move || hasher.hash("pw")).join().unwrap().unwrap();
+    assert_eq!(clone.verify(&text, "pw"), Ok(()));
+    clone.clone().close();
+    assert_eq!(clone.verify(&text, "pw"), Err(Error::Closed));
+    assert_eq!(clone.key("pw", b"", &mut [0]), Err(Error::Closed));
+    assert_eq!(clone.verify("", "pw"), Err(Error::EncodingInvalid), "by its text alone");
+    assert_eq!((clone.needs_rehash(&text), other.verify(&text, "pw")), (Ok(false), Ok(())));
+}
+
+/// The memory is given back when a hasher is closed, and when its last clone is dropped.
+#[test]
+fn memory_is_given_back() {
+    let mut closed = Vec::new();
+    for number in 0..64 {
+        let hasher = with(16, 1, 1);
+        let clone = hasher.clone();
+        hasher.hash("pw").unwrap();
         drop(hasher);
-        let wanted = if closes { Err(Error::Closed) } else { Ok(()) };
-        assert_eq!(all.map(|it| it.join().unwrap()), [Ok(()), wanted, wanted]);
-        if closes {
-            assert_eq!(other.verify(&text, "pw"), Err(Error::Closed));
-            assert_eq!(other.key("pw", b"", &mut [0]), Err(Error::Closed));
-            assert_eq!(other.verify("", "pw"), Err(Error::EncodingInvalid), "by its text alone");
-            assert_eq!(other.needs_rehash(&text), Ok(false));
-            other.close();
+        if number % 2 == 0 {
+            clone.close();
+            closed.push(clone);
         }
     }
+    let status = std::fs::read_to_string("/proc/self/status").unwrap();
+    let line = status.lines().find(|it| it.starts_with("VmRSS")).unwrap();
+    let kib: usize = line.split_whitespace().nth(1).unwrap().parse().unwrap();
+    assert!(kib < 1 << 20, "{kib} KiB after 64 hashers of 64 MiB");
+}
+
+extern "C" {
+    fn fork() -> c_int;
+    fn waitpid(child: c_int, status: *mut c_int, options: c_int) -> c_int;
+    fn alarm(seconds: u32) -> u32;
+    fn _exit(status: c_int) -> !;
+}
+
+/// In a child each turn is free and nobody waits, whatever the threads of the parent are doing.
+#[test]
+fn a_child_of_a_busy_parent() {
+    let hasher = with(10, 1, 4);
+    let text = hasher.hash("pw").unwrap();
+    let verdicts = |hasher: &Hasher| [hasher.verify(&text, "pw"), hasher.verify(&text, "PW")];
+    let right = [Ok(()), Err(Error::PasswordInvalid)];
+    thread::scope(|scope| {
+        for _ in 0..12 {
+            scope.spawn(|| while verdicts(&hasher) == right {});
+        }
+        for _ in 0..20 {
+            // SAFETY: the child calls nothing but the hasher, and malloc, which glibc makes ready for it.
+            unsafe {
+                let (child, mut status) = (fork(), -1);
+                if child == 0 {
+                    alarm(60); // ends it if it waits for ever
+                    _exit(c_int::from(verdicts(&hasher.clone()) != right));
+                }
+                assert!(child > 0 && waitpid(child, &mut status, 0) == child && status == 0);
+            }
+        }
+        hasher.close();
+    });
+    assert_eq!(verdicts(&hasher), [Err(Error::Closed), Err(Error::Closed)]);
 }

@@ -1,7 +1,5 @@
 //! This crate's own traits, as code for the crate scrypt 0.12 uses theirs.
 
-mod refused;
-
 use scrypt_c::password_hash::{
     phc::{PasswordHash, Salt},
     CustomizedPasswordHasher, PasswordHasher, PasswordVerifier,
@@ -98,8 +96,19 @@ fn refused_algorithms() {
 
 #[test]
 fn refused_texts() {
-    let other = ("a $7$ text", "$7$c2FsdHNhbHQ$AAAAAAAAAAAAAAAAAAAA".to_string(), Error::Algorithm);
-    for (why, text, wanted) in refused::phc_texts().into_iter().chain([other]) {
+    for (why, front, wanted) in [
+        ("a $7$ text", "$7", Error::Algorithm),
+        ("no text of a hash", "scrypt", Error::EncodingInvalid),
+        ("not ASCII", "$scrypt$ln=ä", Error::EncodingInvalid),
+        ("another algorithm", "$argon2$ln=4,r=8,p=1", Error::Algorithm),
+        ("a version", "$scrypt$v=1$ln=4,r=8,p=1", Error::Version),
+        ("ln above 255", "$scrypt$ln=260,r=8,p=1", Error::ParamInvalid),
+        ("r of 8 in 32 bits", "$scrypt$ln=4,r=4294967304,p=1", Error::ParamInvalid),
+        ("p of 1 in 64 bits", "$scrypt$ln=4,r=8,p=18446744073709551617", Error::ParamInvalid),
+        ("a product of 0", "$scrypt$ln=4,r=65536,p=65536", Error::ParamsInvalid),
+        ("ln of 57", "$scrypt$ln=57,r=8,p=1", Error::ParamsInvalid),
+    ] {
+        let text = format!("{front}$c2FsdHNhbHQ$AAAAAAAAAAAAAAAAAAAA");
         assert_eq!(PasswordHash::new(&text), Err(wanted), "{why}");
         assert_eq!(text.parse::<PasswordHash>(), Err(wanted), "{why}");
     }
