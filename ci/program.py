@@ -15,13 +15,14 @@ import sys
 import tempfile
 
 sys.path.append(os.path.join(os.path.dirname(os.path.abspath(__file__)), "../compare"))
+import allocations
 import crypt64
 import prompt
 import reference
 import runs
 from known import CRYPT, EMPTY, EMPTY_PHC, HASHLIB, LONG, PASSLIB, PLAIN, RFC, SHORT
 from runs import run
-from streams import memory, streams
+from streams import cuts, memory, streams
 
 FIRST_KEY = (
     "77d6576238657b203b19ca42c18a0497f16b4844e3074ae8dfdffa3fede21442"
@@ -359,6 +360,14 @@ def information(program):
     yield "--help", (status, missing, error), (0, set(), "")
 
 
+def refused_memory(program):
+    """Each allocation fails in turn, if what fails it can be built here."""
+    if runs.COMPILER:
+        yield from allocations.cases(program)
+    else:
+        print("No C compiler is here (package gcc): no allocation was made to fail.")
+
+
 def terminal(program):
     """Runs on a terminal, if the program that is installed can be linked here."""
     if not runs.COMPILER:
@@ -371,7 +380,7 @@ def terminal(program):
 
 def main():
     # What a program touches counts what this one has before, so that this is first.
-    parts = [memory, rows, long_passwords, streams, salts, hash_files, information, terminal]
+    parts = [memory, rows, long_passwords, streams, cuts, refused_memory, salts, hash_files, information, terminal]
     _, wrong = runs.report("program", itertools.chain(*(part(sys.argv[1]) for part in parts)))
     sys.exit(1 if wrong else 0)
 

@@ -1,7 +1,10 @@
 """Runs the program over streams that fail, and where memory is refused."""
 
 import os
+import pty
 import subprocess
+import tempfile
+import tty
 
 import runs
 from known import EMPTY, EMPTY_PHC
@@ -35,6 +38,9 @@ STREAMS = [
     ('"$@" <&-', "input failed\n", "the standard input is closed"),
 ]
 
+# How many bytes the input has before it fails, and the reason for the row.
+ENDS = [(1, "after a first piece"), (3000, "after several reads, the last a short one")]
+
 # Parameters whose chunks take 2 GiB, and whose table is refused: log_n is 56, r is 1 and p is 2^24. Nothing is written
 # before everything is allocated, so that the run touches little memory. Each row has a bound on the addresses of the
 # run, and the reason for the row.
@@ -52,6 +58,42 @@ def without_reader(words):
     return ran.returncode, ran.stderr.decode()
 
 
+def failing_after(length, words):
+    """How a run ends whose input fails after so many bytes: one side of a terminal whose other side wrote them and closed."""
+    input, terminal = pty.openpty()
+    tty.setraw(terminal)
+    os.write(terminal, b"x" * length)
+    os.close(terminal)
+    ran = subprocess.run(words, stdin=input, capture_output=True)
+    os.close(input)
+    return ran.returncode, ran.stdout.decode(), ran.stderr.decode()
+
+
+def cut_at(length, stream, words):
+    """The status of a run one of whose outputs is a file that takes only so many bytes, and what this and the other get."""
+    with tempfile.TemporaryFile() as file:
+        # Python ignores the signal of a file that is too large, and so does what it runs: writing fails.
+        how = {"stdout": subprocess.PIPE, "stderr": subprocess.PIPE, stream: file, "restore_signals": False}
+        ran = subprocess.run(["prlimit", f"--fsize={length}", *words], stdin=subprocess.DEVNULL, **how)
+        file.seek(0)
+        return ran.returncode, file.read().decode(), (ran.stderr if stream == "stdout" else ran.stdout).decode()
+
+
+def cuts(program):
+    """Outputs that take only the start of a line: an answer fails, and a fault keeps its status."""
+    for line in STREAM_COMMANDS:
+        words = [program, *line.split(" ")]
+        answer = runs.run(words)[1]
+        for length in range(len(answer)):
+            wanted = 4, answer[:length], "output failed\n"
+            yield f"{line!r}, of whose answer {length} bytes are taken", cut_at(length, "stdout", words), wanted
+    for line, status in (("verify $7$", 2), ("key 56 1 1 32 ", 3)):
+        words = [program, *line.split(" ")]
+        fault = runs.run(words)[2]
+        for length in range(len(fault)):
+            yield f"{line!r}, of whose fault {length} bytes are taken", cut_at(length, "stderr", words), (status, fault[:length], "")
+
+
 def streams(program):
     """Every command on streams that fail: status 4, and nothing in the output."""
     for line in STREAM_COMMANDS:
@@ -60,6 +102,8 @@ def streams(program):
         for shell, fault, reason in STREAMS:
             yield f"{line!r} ({reason})", runs.redirected(shell, words), (4, "", fault)
         yield f"{line!r} (nobody reads the pipe)", without_reader(words), (4, "output failed\n")
+        for length, reason in ENDS:
+            yield f"{line!r} (an input that fails {reason})", failing_after(length, words), (4, "", "input failed\n")
     for line, status, fault, reason in ORDERS:
         ended = runs.redirected('"$@" < /', [program, *line.split(" ")])
         yield f"{line!r} over an input that fails ({reason})", ended, (status, "", f"{fault}\n")
