@@ -42,11 +42,15 @@ rehash_status (Ok false) = pos 0
 rehash_status (Ok true) = pos 1
 rehash_status (Err why) = refusal_status why
 
--- the status of hashing or verifying in the caller's buffers, where `OutOfMemory` is that one is too short
+-- the status of a refusal in the caller's buffers, where `OutOfMemory` is that one is too short
+abbrev pub short_status : Refusal → ℤ
+short_status OutOfMemory = pos 12
+short_status why = refusal_status why
+
+-- the status of hashing or verifying in the caller's buffers
 abbrev pub buffers_status : {A : Type 0} → Result A Refusal → ℤ
 buffers_status (Ok x) = pos 0
-buffers_status (Err OutOfMemory) = pos 12
-buffers_status (Err why) = refusal_status why
+buffers_status (Err why) = short_status why
 
 -- the status of a derivation in the caller's buffers: 0, or that of the first of the parameters, the length of the output
 -- and the buffers that isn't accepted

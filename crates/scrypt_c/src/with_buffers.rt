@@ -1,7 +1,7 @@
 //! Hashes in the caller's buffers.
 
-ghost use Rattle.std.specs.Prelude.{◌≡◌, ◌≢◌, ◌↔◌, ◌⊎◌, [], ◌∷◌, length, replicate, IsOk};
-ghost use Rattle.password_hash.specs.Refusal.{told};
+ghost use Rattle.std.specs.Prelude.{◌≡◌, ◌≢◌, ◌↔◌, ◌⊎◌, ◌<◌, ◌≤◌, [], ◌∷◌, length, replicate};
+ghost use Rattle.password_hash.specs.Refusal.{refusal};
 ghost use Rattle.scrypt.specs.InBuffers.{AreEnough};
 ghost use Rattle.scrypt.specs.McfHash.{IsMadeHash as IsMadeMcf, made_text_len};
 ghost use Rattle.scrypt.specs.PhcHash.{IsMadeText, IsSaltLen};
@@ -10,14 +10,14 @@ ghost use Rattle.scrypt.specs.WithinLimits.{told_limited};
 ghost use Rattle.scrypt.specs.WorkInBuffers.{IsDone, IsLeft, verdict_in};
 ghost use Rattle.scrypt_c.specs.InBuffers.{AreLeftBy, LeftIn, buffers, statuses_in};
 ghost use Rattle.scrypt_c.specs.Made.{AreHashParams, IsTooLong, IsTooShort, IsWrittenTo, wanted};
-ghost use Rattle.scrypt_c.specs.Statuses.{buffers_status};
+ghost use Rattle.scrypt_c.specs.Statuses.{buffers_status, short_status};
 ghost use Rattle.scrypt_c.specs.Texts.{bytes_reading};
 
 use crate::statuses::{
     BUFFER_SIZE, INVALID_PARAMS, OK, SALT_INVALID, limited_status_of, status_of,
 };
 use crate::texts::{copy_to, stored_hash};
-use password_hash::{Error, Result};
+use password_hash::Error;
 use scrypt::{CoreCount, Keys, LimitedError, Login, Logins, Params, mcf, phc, wipe};
 
 /// Does what `scrypt_hash_phc` does, in the caller's buffers, and allocates nothing.
@@ -67,7 +67,7 @@ pub extern "C" fn scrypt_hash_phc_with_buffers(
     let mut cores = CoreCount::new();
     match phc::hash_with_buffers(password, salt, &params, chunks, table, scratch, &mut cores) {
         Ok(hash) => copy_to(hash.to_array_string().as_str(), text, text_len),
-        Err(error) => buffers_status::<()>(Err(error)),
+        Err(error) => short_status_of(error),
     }
 }
 
@@ -115,11 +115,13 @@ pub extern "C" fn scrypt_hash_mcf_with_buffers(
     let hashed = mcf::hash_with_buffers(
         password, salt, &params, text, chunks, table, scratch, &mut cores,
     );
-    let len = mcf::hash_len(&params, salt);
-    if hashed.is_ok() || text.len() < len {
-        *text_len = len;
+    match hashed {
+        Ok(len) => {
+            *text_len = len;
+            OK
+        }
+        Err(_) => too_short(text, mcf::hash_len(&params, salt), text_len),
     }
-    buffers_status(hashed)
 }
 
 /// Does what `scrypt_verify` does, in the caller's buffers, and allocates nothing.
@@ -212,9 +214,31 @@ fn status(verdict: std::result::Result<(), LimitedError>) -> i32
 {
     match verdict {
         Ok(()) => OK,
-        Err(LimitedError::Hash(Error::OutOfMemory)) => BUFFER_SIZE,
+        Err(LimitedError::Hash(error)) => short_status_of(error),
         Err(error) => limited_status_of(error),
     }
+}
+
+// Returns the status of an error in the caller's buffers.
+fn short_status_of(error: Error) -> i32
+    ensures { result ≡ short_status (refusal error) }
+{
+    match error {
+        Error::OutOfMemory => BUFFER_SIZE,
+        _ => status_of(error),
+    }
+}
+
+// Returns that a buffer is too short, and writes how long `text` has to be if it is the one.
+fn too_short(text: &[u8], len: usize, text_len: &mut usize) -> i32
+    ensures status { result ≡ BUFFER_SIZE }
+    ensures long { length text.now < len → text_len.new ≡ len }
+    ensures fits { len ≤ length text.now → text_len.new ≡ text_len.old }
+{
+    if text.len() < len {
+        *text_len = len;
+    }
+    BUFFER_SIZE
 }
 
 /// Writes zeros to the buffers of a derivation.
@@ -225,16 +249,4 @@ pub extern "C" fn scrypt_wipe(chunks: &mut [u8], table: &mut [u32], scratch: &mu
     ensures scratch { scratch.new ≡ replicate (length scratch.old) 0 }
 {
     wipe(chunks, table, scratch);
-}
-
-// Returns the status of the result of hashing in the caller's buffers.
-fn buffers_status<T: Drop>(done: Result<T>) -> i32
-    ensures status { result ≡ buffers_status (told done) }
-    ensures ok { (result ≡ OK) ↔ IsOk done }
-{
-    match done {
-        Ok(_) => OK,
-        Err(Error::OutOfMemory) => BUFFER_SIZE,
-        Err(error) => status_of(error),
-    }
 }
