@@ -7,7 +7,9 @@ use std::alloc::Global;
 use std::test::Fail;
 use test_support::failing_allocations::{CallEnd, failing_allocations};
 use test_support::holds;
-use test_support::vectors::EMPTY_PASSWORD_HASH;
+
+// Of the empty password and the empty salt.
+const MCF_HASH: &str = "$7$2/..../....$rNxJWVHNv/mCNcgE/f6/L4zO6Fos5c2uTzhyzoisI62";
 
 // How a call ended by its answer.
 fn ended<T, E: PartialEq + Drop>(answer: &Result<T, E>, out_of_memory: E) -> CallEnd {
@@ -98,7 +100,7 @@ fn hashing_and_verifying(rt: HostRuntime) -> Result<(), Fail> {
     for &(call, len, sizes, reason) in &DERIVING {
         let hasher = Scrypt::from(Params::new_with_output_len(4, 1, 1, len)?);
         let phc_hash: phc::PasswordHash = hasher.hash_password_with_salt(alloc, b"", b"salt")?;
-        let mcf_hash = mcf::PasswordHash::new(alloc, EMPTY_PASSWORD_HASH)?;
+        let mcf_hash = mcf::PasswordHash::new(alloc, MCF_HASH)?;
         let allocations = failing_allocations(alloc, sizes, || {
             end_of_deriving(&call, alloc, &hasher, &phc_hash, &mcf_hash)
         })?;

@@ -1,8 +1,7 @@
-//! For tests alone: vectors of the standards and of other implementations, and allocations that fail.
+//! For tests alone: a comparison, and allocations that fail.
 #![tactic(auto)]
 
 pub mod failing_allocations;
-pub mod vectors;
 
 use std::test::Fail;
 
