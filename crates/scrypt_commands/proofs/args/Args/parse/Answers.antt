@@ -9,6 +9,12 @@ returns-in_ok-parse_hash-in-hash c = record {
   value = rw (← c.first_word.ensures.first, c.in_ok-name.was, c.in-hash.is, ← c.parse_hash.ensures, c.in_ok-parse_hash-in-hash.was) refl;
 }
 
+pub returns-in-rehash : goal.returns-in-rehash
+unfolding args_of
+returns-in-rehash c = record {
+  value = rw (← c.first_word.ensures.first, c.in_ok-name.was, c.in-rehash.is, ← c.parse_rehash.ensures) refl;
+}
+
 pub returns-in_default : goal.returns-in_default
 unfolding args_of
 returns-in_default c =
