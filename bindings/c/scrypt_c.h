@@ -78,7 +78,8 @@ extern "C" {
 #endif
 
 /* What the calls return. If several errors apply, it is the one that the call's comment names first. With any status but
- * SCRYPT_OK the outputs are unchanged, except for the salt of scrypt_draw_salt, and zeros with SCRYPT_CANCELLED. */
+ * SCRYPT_OK the outputs are unchanged, except for the salt of scrypt_draw_salt, *place of a hasher's call, and zeros with
+ * SCRYPT_CANCELLED. */
 enum scrypt_status {
   SCRYPT_OK = 0,
   SCRYPT_MISMATCH = 1,            /* the password is wrong, or the hash has no salt or no key */
@@ -190,8 +191,8 @@ int scrypt_hash_mcf_with_buffers(const void *password, size_t password_len, cons
                                  uint8_t *chunks, size_t chunks_len, uint32_t *table, size_t table_len,
                                  uint32_t *scratch, size_t scratch_len);
 
-/* Verifies a password against the text of a hash: SCRYPT_OK if it is the password of the hash, SCRYPT_MISMATCH if it is
- * not, or if the hash has no salt or no key.
+/* Verifies a password against the text of a hash: SCRYPT_OK if its key is that of the hash, SCRYPT_MISMATCH if it is not,
+ * or if the hash has no salt or no key.
  * A text that is $7 or begins with $7$ is read as a $7$ text, and any other as a PHC text.
  * The hash sets the parameters, and may need much memory and time: if it is not your own, call scrypt_hash_needs first,
  * or scrypt_hasher_verify instead.
@@ -276,7 +277,7 @@ int scrypt_limits_for_new(uint8_t log_n, uint32_t r, uint32_t p, size_t key_len,
 
 /* Makes and verifies password hashes for any number of threads, within bounds. At most one call for each processor derives
  * at a time; the others wait in line, first come, first served. Of those that wait, up to four verifications with the same
- * log_n, r and p are derived at once, in less time than one after another. No call waits for others to come, and an error of
+ * log_n, r and p are derived at once, in less time than one after another. No call waits for others to arrive, and an error of
  * one affects no other. A hasher keeps its memory for later calls: at most at_once tables of most_bytes, whatever p is. */
 typedef struct scrypt_hasher scrypt_hasher;
 

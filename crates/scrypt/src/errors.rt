@@ -90,7 +90,7 @@ impl From<InvalidOutputLen> for kdf::Error {
 pub enum LimitedError {
     /// An error from reading or verifying the hash.
     Hash(password_hash::Error),
-    /// The hash can be read, and its parameters need more than one of the limits.
+    /// The hash can be read, and its parameters exceed the limit on memory or the limit on work.
     TooCostly {
         /// The bytes of the three buffers together, as [`Limits::most_bytes`](crate::Limits) counts them.
         bytes: u128,

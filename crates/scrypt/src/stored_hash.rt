@@ -104,7 +104,8 @@ impl<'a> StoredHash<'a> {
     }
 
     /// Verifies `password` with the parameters, the salt and the length of the key of the hash.
-    /// Returns `Ok` only if it is the password of the hash, and `PasswordInvalid` only if it is not.
+    /// Returns `Ok` only if the key of `password` is that of the hash, and `PasswordInvalid` only if it
+    /// is not, or if the hash has no salt or no key.
     ///
     /// Returns the errors of `Scrypt::verify_password` for the format, in the same order.
     pub fn verify(&self, alloc: Global, password: &[u8]) -> Result<()>
@@ -142,6 +143,7 @@ impl<'a> StoredHash<'a> {
         }) (params_reading self.now) }
         ensures missing { told result ≢ Err PasswordInvalid }
     {
+        // Proof hint: the text is one of its format.
         let _ = self.as_str();
         match self.params() {
             Ok(params) => Ok(BufferLens::of(&params)),

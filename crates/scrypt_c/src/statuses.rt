@@ -8,10 +8,10 @@ ghost use Rattle.scrypt_c.specs.Statuses.{refusal_status};
 use password_hash::Error;
 use scrypt::LimitedError;
 
-/// The call succeeded; of `scrypt_verify`: it is the password of the hash.
+/// The call succeeded; of `scrypt_verify`: the key of the password is that of the hash.
 pub const OK: i32 = 0;
 
-/// `scrypt_verify`: it is not the password of the hash.
+/// `scrypt_verify`: the key of the password is not that of the hash, or the hash has none.
 pub const MISMATCH: i32 = 1;
 
 /// `scrypt_needs_rehash`: the hash is weaker than wanted.
@@ -50,7 +50,7 @@ pub const VERSION: i32 = 11;
 /// A buffer does not have its length, or the text does not fit its capacity.
 pub const BUFFER_SIZE: i32 = 12;
 
-/// The parameters need more than one of the limits.
+/// The parameters exceed the limit on memory or the limit on work.
 pub const TOO_COSTLY: i32 = 13;
 
 /// The key is shorter than the limits allow.

@@ -151,7 +151,7 @@ impl CliError {
     }
 }
 
-// Writes the line of a hash that needs more than one of the limits.
+// Writes the line of a hash that exceeds a limit on its cost.
 fn write_too_costly<F: Write>(
     faults: &mut F,
     bytes: u128,

@@ -11,7 +11,7 @@ use scrypt::{CoreCount, LimitedError, Limits, StoredHash};
 
 /// Whether the password is that of the stored text, in buffers that are kept from login to login.
 ///
-/// Returns the error of reading the text, `TooCostly` if its parameters need more than one of the limits,
+/// Returns the error of reading the text, `TooCostly` if its parameters exceed the limit on memory or on work,
 /// `KeyTooShort` if its key is shorter than they allow, and `OutOfMemory` exactly if a text within the limits needs
 /// longer buffers, so never if these are long enough for the limits.
 pub fn log_in(

@@ -22,7 +22,7 @@ impl<'a> StoredHash<'a> {
     ///
     /// Returns the first of these errors: those of [`StoredHash::verify`] for a hash that cannot be
     /// read, `PasswordInvalid` for one without a salt or a key among them; `TooCostly` if its
-    /// parameters need more than one of the limits; and `KeyTooShort` if its key is shorter than
+    /// parameters exceed the limit on memory or the limit on work; and `KeyTooShort` if its key is shorter than
     /// the limits allow.
     pub fn buffer_lens_within(&self, limits: &Limits) -> Result<BufferLens, LimitedError>
         ensures value { told_limited result ≡ mapped (λ s. record {
@@ -102,7 +102,7 @@ impl<'a> StoredHash<'a> {
     }
 }
 
-// Returns the error of parameters that need more than one of the limits.
+// Returns the error of parameters that exceed a limit.
 fn too_costly(params: &Params) -> LimitedError
     ensures { limited_refusal result ≡ TooCostly (buffers_bytes params.now.log_n params.now.r params.now.p)
         (work params.now.log_n params.now.r params.now.p) }
