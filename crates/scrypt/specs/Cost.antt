@@ -1,6 +1,6 @@
 -- The cost of a derivation: calls of the Salsa20/8 core, *cores* for short, and memory. One table and one scratch
--- are enough for all p chunks, which are mixed one after another. With two of each, two chunks are mixed at a time,
--- by as many cores.
+-- are enough for all p chunks, which are mixed one after another. With more of each, so many chunks are mixed at a
+-- time, at most four, by as many cores.
 use Rattle.std.specs.Prelude.{ℕ, zero, suc, ◌+◌, ◌*◌, ◌^◌, List}
 use Rattle.scrypt_kernel.specs.Words.{part, words_of}
 use Rattle.scrypt_kernel.specs.Pbkdf2.{pbkdf2}

@@ -31,8 +31,9 @@ pub mod KeyOfParams
 pub mod Hashing
 -- what reading a stored hash gives, and the verdict, in every format
 pub mod Reading
--- verifying in the caller's buffers, in every format
+-- the caller's buffers: long enough, wiped, and written to
 pub mod InBuffers
+-- the memory of one derivation: the verdict in it, and what is left in it
 pub mod WorkInBuffers
 -- parameters read from a PHC text
 pub mod PhcParams

@@ -65,7 +65,7 @@ abbrev pub IsLeft : Result Stored Refusal → Work → Work → Type 0
 IsLeft (Ok s) before after = MatchBool (has_room s.params before) (IsDone s.params before after) (after ≡ before)
 IsLeft (Err why) before after = after ≡ before
 
--- both
+-- verifying in this memory: its verdict, and what it leaves
 pub record IsVerifying (password : List ℕ) (reading : Result Stored Refusal) (out : Result ⊤ Error) (before after : Work) : Type 0 where
   pub verdict : told out ≡ verdict_in before password reading
   pub left : IsLeft reading before after

@@ -35,9 +35,9 @@ pub fn output_len_ok(len: usize) -> bool
 pub struct BufferLens {
     /// The length of the chunks in bytes: `128 * r * p`.
     pub chunks: usize,
-    /// The length of the table in words: `32 * r * N`.
+    /// The length of the table in words: `32 * r * N` for one whole table.
     pub table: usize,
-    /// The length of the scratch in words: `64 * r`.
+    /// The length of the scratch in words: `64 * r` for one whole table.
     pub scratch: usize,
 }
 
@@ -53,8 +53,8 @@ impl BufferLens {
     }
 
     /// Returns the lengths for so many chunks at a time, at most four: the table and the scratch are so
-    /// many times as long as those of [`BufferLens::of`]. A derivation with a `p` of 4 or more takes
-    /// about 0.4 of the time in four tables, 0.5 in three, and 0.6 in two.
+    /// many times as long as those of [`BufferLens::of`]. With a `p` of 2 or more, more tables take less
+    /// time: docs/DECISIONS.md has the figures.
     pub fn times(params: &Params, tables: usize) -> BufferLens
         requires few { tables ≤ 4 }
         ensures chunks { result.chunks ≡ chunks_bytes params.now.r params.now.p }

@@ -226,5 +226,6 @@ pub fn hashers_are_accepted(hasher: &crate::Scrypt)
 {
     let params = hasher.params();
     params.known();
+    // Proof hint: a length, if there is one, is 10 to 64.
     let _ = params.output_len();
 }

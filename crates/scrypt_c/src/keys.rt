@@ -85,9 +85,9 @@ pub extern "C" fn scrypt_buffer_lens(
 ///
 /// Returns `OK`, or the first of these: `INVALID_PARAMS`, `INVALID_OUTPUT_LEN`, and `BUFFER_SIZE`
 /// unless each buffer is at least as long as `scrypt_buffer_lens` returns with `s` of 0. Only so many
-/// elements at the front of each buffer are used; if `p` is at least 2 and the table and the scratch
-/// are twice as long, twice as many of both, and two chunks are mixed at a time. What the buffers hold
-/// before the call does not matter. After `OK`, what was used is unspecified, and nothing after it has
+/// elements at the front of each buffer are used, or as many times as many of the table and the
+/// scratch as chunks are mixed at a time: at most four, at most `p`, and as many as both have room
+/// for. What the buffers hold before the call does not matter. After `OK`, what was used is unspecified, and nothing after it has
 /// changed. On an error the buffers and the output are unchanged.
 #[unsafe(no_mangle)]
 pub extern "C" fn scrypt_kdf_with_buffers(
@@ -125,6 +125,7 @@ pub extern "C" fn scrypt_kdf_with_buffers(
     let derived = scrypt_with_buffers(
         password, salt, &params, chunks, table, scratch, output, &mut cores,
     );
+    // The length of the output was checked above.
     derived.unwrap();
     OK
 }
@@ -171,6 +172,7 @@ pub extern "C" fn scrypt_kdf_thin(
     let derived = scrypt_thin(
         password, salt, &params, s, chunks, table, scratch, output, &mut cores,
     );
+    // The length of the output was checked above.
     derived.unwrap();
     OK
 }

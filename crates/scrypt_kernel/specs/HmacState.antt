@@ -1,4 +1,4 @@
--- Only functions that scrypt does not export cite this: what the state of HMAC holds, a key and the text
+-- What the state of HMAC holds, a key and the text
 -- hashed with it so far.
 use Rattle.std.specs.Prelude.{ℕ, List, ◌++◌, bit_xor, map}
 use Rattle.sha2.specs.Hashers.{Holds256}

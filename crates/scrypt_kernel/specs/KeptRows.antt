@@ -1,4 +1,4 @@
--- Only functions that scrypt does not export cite this: the rows that a table keeps, and the walk over
+-- The rows that a table keeps, and the walk over
 -- them.
 use Rattle.std.specs.Prelude.{◌≡◌, ℕ, ◌+◌, ◌-◌, ◌*◌, ◌/◌, ◌%◌, ◌^◌, ◌<◌, ◌≤◌, List, length}
 use Rattle.scrypt_kernel.specs.Words.{part, xor_words}

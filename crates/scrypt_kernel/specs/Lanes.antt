@@ -1,4 +1,4 @@
--- Only functions that scrypt does not export cite this: blocks in diagonal order as four vectors, with four
+-- Blocks in diagonal order as four vectors, with four
 -- lanes of each block.
 use Rattle.std.specs.Prelude.{◌≡◌, ℕ, ◌-◌, List, ◌++◌, if◌then◌else◌, nat_lt, length, map, take, drop, slice_index, bit_xor}
 use Rattle.std.specs.Int.{w32, rotate_left}

@@ -1,4 +1,4 @@
--- Only functions that scrypt does not export cite this: what contracts see of a caller's buffer that a
+-- What contracts see of a caller's buffer that a
 -- table is in.
 use Rattle.std.specs.Prelude.{ℕ, List, length, take}
 use Rattle.scrypt_kernel.specs.declared.memory.Buffer.{Buffer}

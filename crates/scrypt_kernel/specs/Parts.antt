@@ -1,4 +1,4 @@
--- Only functions that scrypt does not export cite this: parts of the same length, as the rows of several
+-- Parts of the same length, as the rows of several
 -- chunks are.
 use Rattle.std.specs.Prelude.{◌≡◌, ℕ, ◌+◌, ◌<◌, ◌≤◌, List, length, slice_index, take, drop}
 use Rattle.scrypt_kernel.specs.declared.parts.Parts.{Parts}

@@ -1,4 +1,4 @@
--- Only functions that scrypt does not export cite this: several blocks in diagonal order, side by side in
+-- Several blocks in diagonal order, side by side in
 -- four vectors. The four lanes of block k in a vector v are `lanes v k`.
 use Rattle.std.specs.Prelude.{ℕ, List, ◌++◌}
 use Rattle.scrypt_kernel.specs.Lanes.{AreFourEach}

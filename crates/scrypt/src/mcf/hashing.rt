@@ -128,6 +128,7 @@ fn write_text(out: &mut [u8], params: &Params, salt: &[u8], key: &Output)
     ensures modular { IsMcf out.new }
 {
     params.known();
+    // Proof hint: the key has 10 to 64 bytes.
     let _ = key_len_or_default(params);
     let (front, rest) = out.split_at_mut(PARAMS_LEN);
     front.copy_from_slice(&params_letters(params));
