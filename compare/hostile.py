@@ -226,7 +226,7 @@ def short_keys():
 
 
 def judged(texts, by=compared):
-    """Texts and their verdicts, but for those whose parameters are too great."""
+    """Texts and their verdicts, except those whose parameters are too great."""
     for text in texts:
         try:
             yield text, verdict(text, by)

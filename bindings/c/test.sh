@@ -176,7 +176,7 @@ sanitized() {
 }
 emulated() {
   for test in $tests; do memcheck "$room/$test-$2" small; done
-  echo "no report by valgrind memcheck: the same on $2, but for the key of 1 GiB"
+  echo "no report by valgrind memcheck: the same on $2, except for the key of 1 GiB"
 }
 if has gcc gcc; then
   each "$built" sanitized
