@@ -1,4 +1,4 @@
-# With the Rattle kit, two commands do everything. Nothing has to be installed or built before either.
+# With the Rattle kit, make and Python 3.11, two commands do everything. Nothing has to be built before either.
 #   make run       proves and builds the program, and prints the first key of RFC 7914, section 12
 #   make test      is the gate: proves everything from nothing, checks that wrong code is rejected, runs every test, and
 #                  calls the library from C and Python
@@ -31,7 +31,8 @@ help:
 run: kit
 	$(MAKE) -j$(SIDE_BY_SIDE) $(LIBRARIES)
 	cd crates/scrypt_tool && rt run -- key 4 1 1 64 "" < /dev/null
-	$(TERMINAL)
+	@if command -v $${CC:-cc} > /dev/null && command -v objcopy > /dev/null; then $(TERMINAL); else \
+	  echo "No C compiler is here (packages gcc and binutils): build/bin/scrypt_tool was not linked." >&2; fi
 
 # The program that is installed asks for a password at a terminal, which the proved one reads as any input.
 TERMINAL = bindings/terminal/build.sh
@@ -111,8 +112,8 @@ docdir = $(datarootdir)/doc/scrypt_c
 pythondir = $(prefix)/lib/python3/dist-packages
 PLACES = DESTDIR prefix bindir libdir includedir datarootdir mandir docdir pythondir
 
-# The places go by the environment, where nothing is special to a shell. To make a $ is special: only $$ is one, and with
-# another letter after it than a bracket it would be left out with that letter.
+# The places are passed in the environment, so that a shell finds nothing special in them. make itself expands $: $$
+# stands for one, and $x would vanish, so install refuses a place with a $ that is not doubled.
 open = (
 without_names = $(subst $$$$,,$(subst $${,,$(subst $$$(open),,$(value $1))))
 stray = $(if $(filter command environment,$(origin $1)),$(findstring $$,$(without_names)))
