@@ -37,22 +37,23 @@ run: kit
 # The program that is installed asks for a password at a terminal, which the proved one reads as any input.
 TERMINAL = bindings/terminal/build.sh
 
-# The libraries below the program, each after those that it uses. Where all are built already, rt doesn't read all
-# sources once more before it begins with the program. With four processors and 12 GB of free memory, the two lowest,
-# which need nothing of each other and take about as long, are proved side by side, with three jobs each. The others
-# have as many jobs as rt chooses.
+# The libraries below the program, each after those that it uses, and those that only tests and examples use. Where all
+# are built already, rt doesn't read all sources once more before it begins with the crates above them. With four
+# processors and 12 GB of free memory, the two lowest, which need nothing of each other and take about as long, are
+# proved side by side, with three jobs each. The others have as many jobs as rt chooses.
 LIBRARIES = proved-password_hash proved-scrypt_kernel proved-scrypt proved-scrypt_commands
+OF_TESTS = proved-scrypt_examples proved-test_support
 HAS_ROOM = $(shell test $$(nproc) -ge 4 && awk '/^MemAvailable/ && $$2 > 12000000 { print "yes" }' /proc/meminfo)
 SIDE_BY_SIDE = $(if $(HAS_ROOM),2,1)
 proved-password_hash proved-scrypt_kernel: private JOBS = $(if $(HAS_ROOM),--jobs 3)
-.PHONY: $(LIBRARIES)
-$(LIBRARIES): proved-%: kit
+.PHONY: $(LIBRARIES) $(OF_TESTS)
+$(LIBRARIES) $(OF_TESTS): proved-%: kit
 	cd crates/$* && rt lib $(JOBS)
 proved-scrypt: proved-password_hash proved-scrypt_kernel
-proved-scrypt_commands: proved-scrypt
+proved-scrypt_commands proved-scrypt_examples: proved-scrypt
 
-check: kit documents
-	rt all test
+check: kit documents $(LIBRARIES) $(OF_TESTS)
+	rt all test $(if $(HAS_ROOM),--jobs 4)
 	cd crates/scrypt_tool && rt run -- key 4 1 1 64 "" < /dev/null
 	cd crates/test_verdicts && rt run < stdin > /dev/null
 	python3 ci/program.py crates/scrypt_tool/out/scrypt_tool
