@@ -40,6 +40,8 @@ PROVED = re.compile(r"rt: (\w+) (?:proved$|is kept: )")
 
 NEWER = "x86-64-v3"
 
+LIBRARY = "the library for C"
+
 PROGRAM = "crates/scrypt_tool/out/scrypt_tool"
 
 BEGUN = time.monotonic()
@@ -80,19 +82,19 @@ class Tasks:
         self.prover = self.early = None
         self.spent = threading.local()
 
-    def add(self, name, needs, call):
-        self.waiting.append((name, needs, call))
+    def add(self, name, needs, call, before=None):
+        self.waiting.append((name, needs, call, before))
 
     def begin(self):
-        for name, needs, call in [task for task in self.waiting if self.proved.issuperset(task[1])]:
-            self.waiting.remove((name, needs, call))
-            self.begun[name] = self.threads.submit(self.run_task, name, call, not needs)
+        for task in [task for task in self.waiting if self.proved.issuperset(task[1])]:
+            self.waiting.remove(task)
+            self.start(*task)
 
-    def add_last(self, name, call, before=None):
-        """Runs a task that needs what `rt ci` left, and what the task `before` made."""
-        self.begun[name] = self.threads.submit(self.run_task, name, call, False, self.begun.get(before))
+    def start(self, name, needs, call, before=None):
+        """Starts a task that needs these crates, after the task `before`, whose results it needs."""
+        self.begun[name] = self.threads.submit(self.run_task, name, call, not needs, self.begun.get(before))
 
-    def run_task(self, name, call, is_early, before=None):
+    def run_task(self, name, call, is_early, before):
         """Runs a task. If one fails that needs nothing proved, the prover is ended too."""
         if before is not None and not before.result()[0]:
             return False, ""
@@ -105,10 +107,10 @@ class Tasks:
             self.prover.terminate()
         return is_well, text
 
-    def run(self, *command, cwd=None):
+    def run(self, *command, cwd=None, nice=10):
         """Whether a command succeeds, and what it prints. Adds its processor time to that of the task that runs it."""
         how = {"stdout": subprocess.PIPE, "stderr": subprocess.STDOUT, "text": True, "errors": "replace", "process_group": 0}
-        process = subprocess.Popen(["nice", *command], cwd=cwd, **how)
+        process = subprocess.Popen(["nice", f"-n{nice}", *command], cwd=cwd, **how)
         self.running.add(process)
         text = process.stdout.read()
         _, status, used = os.wait4(process.pid, 0)
@@ -138,7 +140,7 @@ class Tasks:
 
     def end(self, log):
         """Prints what the tasks print, also to a file, and returns the names of those that fail."""
-        failed = [f"{name}, which did not begin" for name, _, _ in self.waiting]
+        failed = [f"{name}, which did not begin" for name, *_ in self.waiting]
         for name, task in self.begun.items():
             is_well, text = task.result()
             print(text, end="", flush=True)
@@ -147,22 +149,21 @@ class Tasks:
         return failed
 
 
-def build(tasks, made):
-    """Builds the static libraries for C for both processors, and tries the wrong bodies over what the first build kept.
+def build(tasks, made, kept):
+    """Builds the static libraries for C for both processors, not at a lower priority, since their callers come last.
 
     The verdict of the newer processor's is printed."""
-    kept = f"{made}/kept"
+    os.makedirs(made)
     os.makedirs(kept)
     command = [*prover_command.of("build", "scrypt_c"), "--toolchain", f"{kit.located()}/toolchain", "--backend", "llvm"]
     command += ["--incremental", kept]
     lines = []
     for name, options in [(NEWER, ["--cpu", NEWER]), ("scrypt_c", [])]:
-        is_well, text = tasks.run(*command, *options, "-o", f"{made}/{name}.a", cwd="crates/scrypt_c")
+        is_well, text = tasks.run(*command, *options, "-o", f"{made}/{name}.a", cwd="crates/scrypt_c", nice=0)
         if not is_well:
             return False, text
         lines += [line for line in text.splitlines() if line.startswith("logic=proved ") and f" cpu={NEWER} " in line]
-    is_well, text = tasks.run(sys.executable, "ci/wrong_bodies.py", "over", kept, "scrypt_c")
-    return is_well and len(lines) == 1, "\n".join([f"== scrypt_c-{NEWER}", *lines, text])
+    return len(lines) == 1, "\n".join([f"== scrypt_c-{NEWER}", *lines, ""])
 
 
 def check_axioms(log):
@@ -183,14 +184,14 @@ def place(made):
     shutil.move(f"{made}/scrypt_c.a", "crates/scrypt_c/out/libscrypt_c.a")
 
 
-def add_all(tasks, made, is_built):
-    """Adds the tasks, the longest first."""
+def add_all(tasks, made, kept, is_built):
+    """Adds the tasks, the longest first. The wrong bodies of scrypt_c are tried over what the build of the libraries kept."""
     if is_built:
-        tasks.add("the library for C", prover_command.below("scrypt_c"), lambda: build(tasks, made))
+        tasks.add(LIBRARY, prover_command.below("scrypt_c"), lambda: build(tasks, made, kept))
     for name in edits.crates_with("wrong-bodies"):
-        if name != "scrypt_c" or not is_built:
-            command = [sys.executable, "ci/wrong_bodies.py", name]
-            tasks.add(f"wrong bodies of {name}", prover_command.below(name), lambda command=command: tasks.run(*command))
+        over, before = (["over", kept], LIBRARY) if name == "scrypt_c" and is_built else ([], None)
+        command = [sys.executable, "ci/wrong_bodies.py", *over, name]
+        tasks.add(f"wrong bodies of {name}", prover_command.below(name), lambda command=command: tasks.run(*command), before)
     tasks.add("the documents", [], lambda: tasks.run("make", "--no-print-directory", "documents"))
     tasks.add("what must not compile", [], lambda: tasks.run(sys.executable, "ci/must_not_compile.py"))
 
@@ -242,9 +243,9 @@ def add_last(tasks, made, is_built):
     """Adds what calls the programs and the libraries, and gives the tasks all processors."""
     verdicts, python = "crates/test_verdicts/out/test_verdicts", sys.executable
     if is_built:
-        tasks.add_last("callers of the library", lambda: link_and_call(tasks, made), "the library for C")
-    tasks.add_last("answers of the program", lambda: tasks.run(python, "ci/program.py", PROGRAM))
-    tasks.add_last("answers to hashes", lambda: tasks.run(python, "ci/hashes.py", PROGRAM, verdicts))
+        tasks.start("callers of the library", ["scrypt_c"], lambda: link_and_call(tasks, made), LIBRARY)
+    tasks.start("answers of the program", ["scrypt_tool"], lambda: tasks.run(python, "ci/program.py", PROGRAM))
+    tasks.start("answers to hashes", ["test_verdicts"], lambda: tasks.run(python, "ci/hashes.py", PROGRAM, verdicts))
     tasks.lanes.release(AFTERWARDS - BESIDE)
 
 
@@ -254,7 +255,7 @@ def main():
     with tempfile.TemporaryDirectory(ignore_cleanup_errors=True) as room, open(f"{room}/log", "w+", encoding="utf-8") as log:
         os.environ["PROVED_LIBRARIES"] = f"{room}/libraries"
         with Tasks(f"{room}/libraries") as tasks:
-            add_all(tasks, f"{room}/made", is_built)
+            add_all(tasks, f"{room}/made", f"{room}/kept", is_built)
             count = prove(tasks, log)
             add_last(tasks, f"{room}/made", is_built)
             failed = tasks.end(log)
