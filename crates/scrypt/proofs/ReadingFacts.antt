@@ -1,4 +1,4 @@
-use Rattle.std.proofs.Common.{◌≡◌, ◌↔◌, ◌≢◌, ◌⊎◌, ◌∙◌, ℕ, ◌≤◌, List, length, Ok, Err, inl, inr, true, false, refl, sym, ap, ap₂, arith}
+use Rattle.std.proofs.Common.{◌≡◌, ◌↔◌, ◌≢◌, ◌⊎◌, ◌∙◌, ℕ, ◌<◌, ◌≤◌, List, length, Ok, Err, inl, inr, true, false, refl, sym, ap, ap₂, arith}
 use Rattle.std.specs.Prelude.{Bool, IfErr, None, Option, Result, Some, if◌then◌else◌, ok_or, ⊤}
 use Rattle.std.specs.Bool.{Decides}
 use Rattle.std.proofs.lemmas.Bool.Decides.{Decides-and, same_from_decides}
@@ -167,3 +167,18 @@ pub too_costly : (limits : Limits) (reading : Result Stored Refusal) (parts : Pa
     → are_within limits parts.params ≡ false → let c = parts.params in
     within limits reading ≡ Err (TooCostly (buffers_bytes c.log_n c.r c.p) (work c.log_n c.r c.p))
 too_costly limits reading parts read costly = rw (read.2, read.1.params, costly) refl
+
+-- a hash with these parts, whose parameters are within the limits, and whose key is too short
+pub key_too_short : (limits : Limits) (reading : Result Stored Refusal) (parts : Parts) → HasParts reading parts
+    → are_within limits parts.params ≡ true → parts.key_len < limits.least_key_len
+    → within limits reading ≡ Err (KeyTooShort parts.key_len)
+key_too_short limits reading parts read fits short =
+    let tested = leb_decided limits.least_key_len parts.key_len in
+    rw (read.2, read.1.params, fits, read.1.key_len, refuted _ tested (λ long. absurd (omega (arith, short, long)))) refl
+
+-- a hash with these parts that is within the limits
+pub parts_within : (limits : Limits) (reading : Result Stored Refusal) (parts : Parts) → HasParts reading parts
+    → are_within limits parts.params ≡ true → limits.least_key_len ≤ parts.key_len → HasParts (within limits reading) parts
+parts_within limits reading parts read fits long =
+    let tested = leb_decided limits.least_key_len parts.key_len in
+    (read.0, read.1, rw (read.2, read.1.params, fits, read.1.key_len, tested.1 long) refl)
