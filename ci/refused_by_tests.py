@@ -3,11 +3,14 @@
 
 No clause can say that an allocation succeeds, or how much a call allocates: a body that allocates once more, or that
 always returns `OutOfMemory`, is proved. Each edit of crates/NAME/refused-by-tests/ is such a body. It is applied to a
-copy of the repository, where everything still has to be proved, and a test of the crate NAME has to fail.
+copy of the repository, where everything still has to be proved, and a test of the crate NAME has to fail. The tests of
+the program are the cases of ci/program.py.
 
 usage: refused_by_tests.py [NAME..]    the crates, or all that have such a folder; minutes for each edit
 """
 
+import contextlib
+import os
 import re
 import subprocess
 import sys
@@ -24,10 +27,23 @@ def failed_tests(crate):
     return re.findall(r"^test (\S+) \.\.\. FAILED", ran.stdout, re.M)
 
 
+def failed_cases(crate):
+    """The same of the cases of the program."""
+    program = f"{crate}/out/scrypt_tool"
+    with contextlib.suppress(FileNotFoundError):
+        os.remove(program)
+    built = subprocess.run(["rt", "run", "--", "--version"], cwd=crate, stdin=subprocess.DEVNULL, capture_output=True, text=True)
+    if not os.path.isfile(program):
+        print((built.stdout + built.stderr)[-2000:])
+        return None
+    ran = subprocess.run([sys.executable, "ci/program.py", program], capture_output=True, text=True)
+    return re.findall(r"^(.*): .*, and not ", ran.stdout, re.M)[:3]
+
+
 def main():
     wrong = 0
     for edit, crate in edits.tried("refused-by-tests", sys.argv[1:]):
-        failed = failed_tests(crate)
+        failed = failed_cases(crate) if os.path.isfile(f"{crate}/src/main.rt") else failed_tests(crate)
         verdict = "NOT PROVED" if failed is None else "NOT REFUSED"
         print(f"{edit}: {f'proved, and refused by {failed}' if failed else verdict}", flush=True)
         wrong += not failed

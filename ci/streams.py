@@ -69,6 +69,15 @@ def failing_after(length, words):
     return ran.returncode, ran.stdout.decode(), ran.stderr.decode()
 
 
+def writes_of(stream, words):
+    """What each write to one of the outputs of a run writes, through a pipe that keeps them apart."""
+    read, write = os.pipe2(os.O_DIRECT)
+    subprocess.run(words, stdin=subprocess.DEVNULL, **{"stdout": subprocess.PIPE, "stderr": subprocess.PIPE, stream: write})
+    os.close(write)
+    with open(read, "rb", buffering=0) as pipe:
+        return [text.decode() for text in iter(lambda: pipe.read(1 << 16), b"")]
+
+
 def cut_at(length, stream, words):
     """The status of a run one of whose outputs is a file that takes only so many bytes, and what this and the other get."""
     with tempfile.TemporaryFile() as file:
@@ -80,16 +89,18 @@ def cut_at(length, stream, words):
 
 
 def cuts(program):
-    """Outputs that take only the start of a line: an answer fails, and a fault keeps its status."""
+    """Outputs that take only the start of a line, which is written at once: an answer fails, and a fault keeps its status."""
     for line in STREAM_COMMANDS:
         words = [program, *line.split(" ")]
         answer = runs.run(words)[1]
+        yield f"the writes of {line!r}", writes_of("stdout", words), [answer]
         for length in range(len(answer)):
             wanted = 4, answer[:length], "output failed\n"
             yield f"{line!r}, of whose answer {length} bytes are taken", cut_at(length, "stdout", words), wanted
     for line, status in (("verify $7$", 2), ("key 56 1 1 32 ", 3)):
         words = [program, *line.split(" ")]
         fault = runs.run(words)[2]
+        yield f"the writes of the fault of {line!r}", writes_of("stderr", words), [fault]
         for length in range(len(fault)):
             yield f"{line!r}, of whose fault {length} bytes are taken", cut_at(length, "stderr", words), (status, fault[:length], "")
 
