@@ -55,9 +55,8 @@ proved-scrypt_commands proved-scrypt_examples: proved-scrypt
 check: kit documents $(LIBRARIES) $(OF_TESTS)
 	rt all test $(if $(HAS_ROOM),--jobs 4)
 	cd crates/scrypt_tool && rt run -- key 4 1 1 64 "" < /dev/null
-	cd crates/test_verdicts && rt run < stdin > /dev/null
 	python3 ci/program.py crates/scrypt_tool/out/scrypt_tool
-	python3 ci/hashes.py crates/scrypt_tool/out/scrypt_tool crates/test_verdicts/out/test_verdicts
+	python3 ci/hashes.py crates/scrypt_tool/out/scrypt_tool
 
 # The documents and what must not compile are checked there too, beside the proofs.
 test: kit
@@ -93,8 +92,7 @@ oracle: lib
 	python3 compare/allocations.py crates/scrypt_tool/out/scrypt_tool
 	python3 examples/migration/test_migration.py crates/scrypt_tool/out/scrypt_tool $(if $(WORKER),--worker $(WORKER))
 	python3 examples/key_files/test_key_files.py crates/scrypt_tool/out/scrypt_tool build/lib/libscrypt_c.so
-	cd crates/test_verdicts && rt run < stdin > /dev/null
-	python3 compare/hostile.py crates/test_verdicts/out/test_verdicts
+	python3 compare/hostile.py build/lib/libscrypt_c.so
 	python3 compare/groups.py build/lib/libscrypt_c.so
 
 lib: kit

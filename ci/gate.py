@@ -241,11 +241,10 @@ def link_and_call(tasks, made):
 
 def add_last(tasks, made, is_built):
     """Adds what calls the programs and the libraries, and gives the tasks all processors."""
-    verdicts, python = "crates/test_verdicts/out/test_verdicts", sys.executable
     if is_built:
         tasks.start("callers of the library", ["scrypt_c"], lambda: link_and_call(tasks, made), LIBRARY)
-    tasks.start("answers of the program", ["scrypt_tool"], lambda: tasks.run(python, "ci/program.py", PROGRAM))
-    tasks.start("answers to hashes", ["test_verdicts"], lambda: tasks.run(python, "ci/hashes.py", PROGRAM, verdicts))
+    tasks.start("answers of the program", ["scrypt_tool"], lambda: tasks.run(sys.executable, "ci/program.py", PROGRAM))
+    tasks.start("answers to hashes", ["scrypt_tool"], lambda: tasks.run(sys.executable, "ci/hashes.py", PROGRAM))
     tasks.lanes.release(AFTERWARDS - BESIDE)
 
 

@@ -1,11 +1,10 @@
 #!/usr/bin/env python3
-"""Verifies and makes hashes by the built programs: those of other programs, and what is changed, cut or long.
+"""Verifies and makes hashes by the built program: those of other programs, and what is changed, cut or long.
 
-The hashes are those of compare/known.py, and all other keys are those of Python's hashlib. scrypt_tool takes one hash a
-run. VERDICTS, the program of crates/test_verdicts, takes one a line and prints the verdict on the empty password, also
-within limits.
+The hashes are those of compare/known.py, and all other keys are those of Python's hashlib. `compare/hostile.py` verifies
+more than a million texts by the library for C.
 
-usage: hashes.py SCRYPT_TOOL VERDICTS
+usage: hashes.py SCRYPT_TOOL
 """
 
 import hashlib
@@ -15,8 +14,6 @@ import sys
 
 sys.path.append(os.path.join(os.path.dirname(os.path.abspath(__file__)), "../compare"))
 import crypt64
-import hostile
-import known
 import reference
 import runs
 from known import CRYPT as MCF, EMPTY, PASSLIB as PHC
@@ -182,22 +179,9 @@ def made(tool):
         yield f"a password of {length} bytes, {form}", unlimited(tool, ["verify", text], password), runs.OK
 
 
-def by_line(rows, *words):
-    """What VERDICTS prints of the first parts of rows, one a line."""
-    status, printed, error = runs.run(words, "".join(f"{text}\n" for text, _ in rows).encode())
-    lines = printed.splitlines()
-    yield words, (status, len(lines), error), (0, len(rows), "")
-    for (text, wanted), line in zip(rows, lines):
-        yield repr(text[:100]), line, wanted
-
-
 def main():
-    tool, program = sys.argv[1:]
-    long = [(EMPTY[:KEY_AT] + "." * 1_000_000, "Err(PasswordInvalid)"), ("$7" + "$" * 1_000_000, "Err(EncodingInvalid)")]
-    within = [(text, f"Err({hostile.verdict(text, hostile.compared_within)})") for text in known.costly()]
-    within += [(known.EMPTY_PHC, "Ok(true)"), (EMPTY, "Ok(true)"), (known.HASHLIB, "Ok(false)")]
-    cases = verified(tool), made(tool), by_line(long, program), by_line(within, program, "within")
-    _, wrong = runs.report("hashes", itertools.chain(*cases))
+    (tool,) = sys.argv[1:]
+    _, wrong = runs.report("hashes", itertools.chain(verified(tool), made(tool)))
     sys.exit(1 if wrong else 0)
 
 

@@ -32,7 +32,6 @@ NEW_COUNTS = {
     "crates/scrypt_c/src/with_buffers.rt": 4,
     "crates/scrypt_c/src/keys.rt": 2,
     "crates/scrypt_examples/src/verdicts.rt": 2,
-    "crates/test_verdicts/src/main.rt": 1,
 }
 
 # A new count, however the type is written: `CoreCount::new`, `<CoreCount>::new`, `scrypt::CoreCount :: new`.

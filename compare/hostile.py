@@ -1,21 +1,23 @@
 #!/usr/bin/env python3
 """Compares the verdicts on hostile hashes with a reader in plain Python.
 
-usage: hostile.py VERDICTS [TEXTS [SEED]]
+usage: hostile.py LIBRARY [TEXTS [SEED]]
 
-VERDICTS is the program of crates/test_verdicts. First come the texts that are one character away from one of
-both formats, and `$7$` texts with a key of up to three letters, all of them. Then come random texts of
-both formats (a million if not given): good ones, and good ones that are mutated, spliced, cut, doubled,
-or random, from a seed that is printed. Their log_n is 0 to 4, or so great that the table is refused.
-Then the same texts, and texts with random parameters, are verified within limits, in less memory than these allow.
-Printed is how many texts fell on each verdict; it fails if a verdict differs, or if one has no text.
+LIBRARY is libscrypt_c.so. First come two long texts, the texts that are one character away from one of both formats, and
+`$7$` texts with a key of up to three letters, all of them. Then come random texts of both formats (a million if not
+given): good ones, and good ones that are mutated, spliced, cut, doubled, or random, from a seed that is printed. Their
+log_n is 0 to 4, or so great that the table is refused. Then the same texts, and texts with random parameters, are
+verified within bounds, in buffers for a log_n of 4 and an r * p of 16. Printed is how many texts fell on each verdict; it
+fails if a verdict differs, or if one has no text.
 """
 
 import collections
+import ctypes
 import functools
 import itertools
 import random
 import re
+import resource
 import sys
 
 import crypt64
@@ -26,15 +28,20 @@ import runs
 
 TEXTS = 1_000_000
 
-# the verdicts on the empty password; `ln`, `r` and `p` are the parameters whose value is refused
-VERDICTS = "Ok Algorithm EncodingInvalid OutputSize ln r p ParamsInvalid PasswordInvalid Version OutOfMemory".split()
+# the statuses of the verdicts on the empty password, and those within bounds
+STATUSES = {"Ok": 0, "PasswordInvalid": 1, "OutOfMemory": 4, "Algorithm": 5, "EncodingInvalid": 6, "OutputSize": 7}
+STATUSES |= {"ParamInvalid": 8, "ParamsInvalid": 9, "Version": 11}
+WITHIN = {"BufferSize": 12, "TooCostly": 13, "KeyTooShort": 15}
+
+# no text is to take more than this
+MEMORY = 4 << 30
 
 # from this log_n on no machine has the table
 GREAT = 50
 
-# the limits: 257 MiB, four times the recommended work and 16 bytes of key; and the buffers of the program under them
-MOST_BYTES, MOST_WORK, LEAST_KEY_LEN = 257 << 20, 16 * ((1 << 17) + 32) * 8, 16
-CHUNKS, TABLE, SCRATCH = 128 * 16, 32 * 16 * 16, 64 * 16
+# the bounds: 257 MiB, four times the recommended work and 16 bytes of key; and the lengths of the buffers
+BOUNDS = MOST_BYTES, MOST_WORK, LEAST_KEY_LEN = 257 << 20, 16 * ((1 << 17) + 32) * 8, 16
+LENS = CHUNKS, TABLE, SCRATCH = 128 * 16, 32 * 16 * 16, 64 * 16
 
 # parameters that are exactly, or almost, what is allowed
 ALLOWED = [(17, 8, 1), (17, 8, 4), (18, 8, 1), (20, 1, 4), (0, 1, 127131), (4, 16, 1), (4, 1, 16), (4, 1, 17), (5, 16, 1)]
@@ -52,6 +59,8 @@ BASES = [
     known.EMPTY,
 ]
 
+# a key of 750,000 bytes, and a text of a million empty fields
+LONG = [known.EMPTY[: known.EMPTY.rindex("$") + 1] + "." * 1_000_000, "$7" + "$" * 1_000_000]
 
 # the key of the empty password
 derived_key = functools.lru_cache(maxsize=1 << 16)(functools.partial(reference.key, b""))
@@ -64,7 +73,7 @@ class Costly(Exception):
 def compared(salt, log_n, r, p, key):
     """The verdict once all but the key is accepted."""
     # The chunks are allocated before the table, so they are to be small at every log_n.
-    if r * p > 16 or len(key) > 1 << 16:
+    if r * p > 16:
         raise Costly
     if log_n >= GREAT:
         return "OutOfMemory"
@@ -74,15 +83,15 @@ def compared(salt, log_n, r, p, key):
 
 
 def compared_within(salt, log_n, r, p, key):
-    """The same within the limits, in the buffers of the program."""
+    """The same within the bounds, in the buffers."""
     chunks, table, scratch = 128 * r * p, 32 * r << log_n, 64 * r
     size, work = chunks + 4 * table + 4 * scratch, 4 * ((1 << log_n) + 32) * r * p
     if size > MOST_BYTES or work > MOST_WORK:
-        return f"TooCostly {{ bytes: {size}, work: {work} }}"
+        return "TooCostly"
     if len(key) < LEAST_KEY_LEN:
-        return f"KeyTooShort {{ key_len: {len(key)} }}"
+        return "KeyTooShort"
     if chunks > CHUNKS or table > TABLE or scratch > SCRATCH:
-        return "OutOfMemory"
+        return "BufferSize"
     return compared(salt, log_n, r, p, key)
 
 
@@ -94,7 +103,7 @@ def phc_params(pairs):
         if name not in params:
             return "ParamsInvalid"
         if not re.fullmatch(phc.DECIMAL, value, re.VERBOSE) or int(value) >= (256 if name == "ln" else 1 << 32):
-            return name
+            return "ParamInvalid"
         params[name] = int(value)
     if not reference.accepted(*params.values()):
         return "ParamsInvalid"
@@ -141,26 +150,31 @@ def mcf_verdict(text, by):
 
 
 def verdict(text, by):
-    """The verdict on the empty password, by the program's choice of the format."""
+    """The verdict on the empty password, by the library's choice of the format."""
     return mcf_verdict(text, by) if text == "$7" or text.startswith("$7$") else phc_verdict(text, by)
 
 
-def printed(verdict):
-    """A verdict as the program prints it."""
-    if verdict == "Ok":
-        return "Ok(())"
-    if verdict in ("ln", "r", "p"):
-        return f'Err(ParamInvalid {{ name: "{verdict}" }})'
-    return f"Err({verdict})"
+class Needs(ctypes.Structure):
+    """scrypt_needs."""
+
+    _fields_ = [*((name, ctypes.c_uint32) for name in ("log_n", "r", "p")), *((f"len{at}", ctypes.c_size_t) for at in range(5))]
 
 
-def printed_within(verdict):
-    """The same within limits, where a wrong password is not an error, and an error of the limits says what the hash needs."""
-    if verdict in ("Ok", "PasswordInvalid"):
-        return "Ok(true)" if verdict == "Ok" else "Ok(false)"
-    if verdict.startswith(("TooCostly", "KeyTooShort")):
-        return printed(verdict)
-    return f"Err(Hash{printed(verdict).removeprefix('Err')})"
+def calls(path):
+    """The calls that verify a text with the empty password: in memory of their own, and within the bounds in the buffers."""
+    library, size = ctypes.CDLL(path), ctypes.c_size_t
+    login = [ctypes.c_char_p, size] * 2
+    library.scrypt_verify.argtypes = login
+    library.scrypt_verify_with_buffers.argtypes = login + [ctypes.c_void_p, size] * 3
+    library.scrypt_hash_needs.argtypes = [ctypes.c_char_p, size, size, ctypes.c_uint64, size, ctypes.POINTER(Needs)]
+    needs, rooms = Needs(), [((ctypes.c_uint32 * length)(), length) for length in LENS]
+    buffers = list(itertools.chain(*rooms))
+
+    def within(*text):
+        status = library.scrypt_hash_needs(*text, *BOUNDS, needs)
+        return status or library.scrypt_verify_with_buffers(b"", 0, *text, *buffers)
+
+    return functools.partial(library.scrypt_verify, b"", 0), within
 
 
 def random_params(rng):
@@ -234,44 +248,35 @@ def judged(texts, by=compared):
             pass
 
 
-def answers(words, texts, most_bytes):
-    """What a program that may have so much memory prints for each text."""
-    lines = "".join(f"{text}\n" for text in texts).encode()
-    status, printed, error = runs.run(["prlimit", f"--as={most_bytes}", *words], lines)
-    printed = printed.split("\n")[:-1]
-    if status or len(printed) != len(texts):
-        sys.exit(f"{words} ended with {status} after {len(printed)} of {len(texts)} lines: {error}")
-    return printed
-
-
-def disagree(title, pairs, printed, verdicts, as_printed):
-    """Whether the program has another verdict on a text, or a verdict has no text."""
-    cases = ((repr(text), answer, as_printed(wanted)) for (text, wanted), answer in zip(pairs, printed))
+def disagree(title, pairs, call, statuses):
+    """Whether the library has another verdict on a text, or a verdict has no text."""
+    encoded = ((text, text.encode(), wanted) for text, wanted in pairs)
+    cases = ((repr(text[:100]), call(data, len(data)), statuses[wanted]) for text, data, wanted in encoded)
     _, wrong = runs.report(title, cases)
-    fell = collections.Counter(wanted.split(" ")[0] for _, wanted in pairs)
-    missing = [it for it in verdicts if not fell[it]]
+    fell = collections.Counter(wanted for _, wanted in pairs)
+    missing = [it for it in statuses if not fell[it]]
     print(f"{dict(fell)}; verdicts without a text: {missing or 'none'}")
     return wrong or missing
 
 
 def main():
-    program, *numbers = sys.argv[1:]
+    path, *numbers = sys.argv[1:]
     count = int(numbers[0]) if numbers else TEXTS
     seed = int(numbers[1]) if len(numbers) > 1 else random.SystemRandom().randrange(1 << 32)
+    verified, within = calls(path)
+    resource.setrlimit(resource.RLIMIT_AS, (MEMORY, MEMORY))
     print(f"hostile texts from seed {seed}")
-    pairs = list(judged(itertools.chain(*map(neighbours, BASES), short_keys())))
-    print(f"{len(pairs)} texts near good ones, or with a short key")
+    pairs = list(judged(itertools.chain(LONG, *map(neighbours, BASES), short_keys())))
+    print(f"{len(pairs)} texts near good ones, long, or with a short key")
     rng = random.Random(seed)
     good = good_texts(rng)
     pairs += itertools.islice(judged(hostile(rng, good) for _ in itertools.count()), count)
-    texts = [text for text, _ in pairs]
-    # No text is to take more than 4 GiB.
-    failed = [disagree("hostile texts", pairs, answers([program], texts, 1 << 32), VERDICTS, printed)]
+    failed = [disagree("hostile texts", pairs, verified, STATUSES)]
     params = ALLOWED + list(itertools.islice(random_params(random.Random(seed)), count // 10))
-    texts += known.costly() + [text for it in params for text in known.texts_of(*it)]
-    pairs = list(judged(texts, compared_within))
-    within = answers([program, "within"], [text for text, _ in pairs], MOST_BYTES)
-    failed.append(disagree("within limits", pairs, within, VERDICTS + ["TooCostly", "KeyTooShort"], printed_within))
+    texts = itertools.chain((text for text, _ in pairs), known.costly(), *(known.texts_of(*it) for it in params))
+    # Where memory is allocated for a call of its own, a buffer is.
+    bounded = {name: status for name, status in (STATUSES | WITHIN).items() if name != "OutOfMemory"}
+    failed.append(disagree("within bounds", list(judged(texts, compared_within)), within, bounded))
     sys.exit(1 if any(failed) else 0)
 
 

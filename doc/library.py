@@ -37,11 +37,9 @@ class Library:
                 self.modules[name] = specs.read_module(name, os.path.relpath(path, self.folder), sources.read(path))
 
     def crates(self):
-        """The crates that are promised: libraries, except those that only tests use."""
-        tests = {it for it in self.uses if it.endswith("_tests")}
-        used = {crate: {it for it, those in self.uses.items() if crate in those} for crate in self.uses}
-        tests |= {it for it, by in used.items() if by and by <= tests}
-        return [it for it in self.uses if it not in tests and os.path.exists(f"{self.folder}/crates/{it}/src/lib.rt")]
+        """The crates that are promised: libraries, except those of tests, which have names as test_NAME or NAME_tests."""
+        shown = [it for it in self.uses if not it.startswith("test_") and not it.endswith("_tests")]
+        return [it for it in shown if os.path.exists(f"{self.folder}/crates/{it}/src/lib.rt")]
 
     def specs_of(self, crate):
         """The modules of definitions of a crate, in the order of its table of contents, with the lines on them."""
