@@ -42,7 +42,7 @@ TERMINAL = bindings/terminal/build.sh
 # processors and 12 GB of free memory, the two lowest, which need nothing of each other and take about as long, are
 # proved side by side, with three jobs each. The others have as many jobs as rt chooses.
 LIBRARIES = proved-password_hash proved-scrypt_kernel proved-scrypt proved-scrypt_commands
-OF_TESTS = proved-scrypt_examples proved-test_support
+OF_TESTS = proved-scrypt_examples
 HAS_ROOM = $(shell test $$(nproc) -ge 4 && awk '/^MemAvailable/ && $$2 > 12000000 { print "yes" }' /proc/meminfo)
 SIDE_BY_SIDE = $(if $(HAS_ROOM),2,1)
 proved-password_hash proved-scrypt_kernel: private JOBS = $(if $(HAS_ROOM),--jobs 3)

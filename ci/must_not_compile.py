@@ -74,7 +74,7 @@ def bare(path, text):
 
 
 def own_sources():
-    """The sources outside the test crates."""
+    """The sources outside the crate of tests."""
     found = glob.glob("crates/*/src/**/*.rt", recursive=True)
     return [bare(path, sources.read(path)) for path in found if not path.split("/")[1].endswith("_tests")]
 

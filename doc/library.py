@@ -9,6 +9,7 @@ import sources
 import specs
 
 STANDARD_FACTS = "StandardFacts"
+TESTS = "library_tests"
 
 
 @dataclass(frozen=True)
@@ -37,9 +38,8 @@ class Library:
                 self.modules[name] = specs.read_module(name, os.path.relpath(path, self.folder), sources.read(path))
 
     def crates(self):
-        """The crates that are promised: libraries, except those of tests, which have names as test_NAME or NAME_tests."""
-        shown = [it for it in self.uses if not it.startswith("test_") and not it.endswith("_tests")]
-        return [it for it in shown if os.path.exists(f"{self.folder}/crates/{it}/src/lib.rt")]
+        """The crates that are promised: libraries, except that of tests."""
+        return [it for it in self.uses if it != TESTS and os.path.exists(f"{self.folder}/crates/{it}/src/lib.rt")]
 
     def specs_of(self, crate):
         """The modules of definitions of a crate, in the order of its table of contents, with the lines on them."""

@@ -1,14 +1,12 @@
 // Calls whose allocations fail in turn.
 
-ghost use Rattle.std.specs.Prelude.{◌≤◌, IfOk, length};
-
 use std::alloc::{AllocError, Global};
 use std::test::Fail;
 
 // More blocks than a process can have once the larger ones are taken.
 const BLOCKS: usize = 100_000;
 
-/// How a call ended whose allocations fail.
+// How a call ended whose allocations fail.
 #[derive(Clone, Copy, Debug, PartialEq, Eq)]
 pub enum CallEnd {
     Done,
@@ -43,16 +41,15 @@ fn take_all(alloc: Global) -> Result<Vec<Vec<u8>>, AllocError> {
     Ok(blocks)
 }
 
-/// The number of allocations of a call, whose sizes these are: it ends out of memory if the process has
-/// room for fewer of them, and is done as soon as it has room for all. The room is made by holding
-/// every block that the process can have, except the first ones of these sizes.
+// The number of allocations of a call, whose sizes these are: it ends out of memory if the process has
+// room for fewer of them, and is done as soon as it has room for all. The room is made by holding
+// every block that the process can have, except the first ones of these sizes.
 pub fn failing_allocations<F: Fn() -> CallEnd>(
     alloc: Global,
     sizes: &[usize],
     call: F,
 ) -> Result<usize, Fail>
     requires callable { F.IsAlwaysCallable call }
-    ensures bound { IfOk result (λ n. n ≤ length sizes.now) }
 {
     for allowed in 0..=sizes.len() {
         let mut room = take_each(alloc, sizes)?;

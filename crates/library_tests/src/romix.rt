@@ -1,9 +1,9 @@
 // scryptROMix in the ways that no derivation takes by default.
 
+use crate::holds;
 use scrypt::CoreCount;
 use scrypt::romix::{plain_ro_mix, scrypt_ro_mix, thin_ro_mix};
 use std::test::Fail;
-use test_support::holds;
 
 // The buffers may hold anything before the call. The wanted bytes are by the way of the keys of RFC 7914.
 #[test]

@@ -1,10 +1,10 @@
 // Each allocation of a derivation fails in turn, and the exact number of them is asserted.
 
+use crate::failing_allocations::{CallEnd, failing_allocations};
+use crate::holds;
 use scrypt::{CoreCount, DeriveError, Kdf, Params, Scrypt, kdf, scrypt, scrypt_counted};
 use std::alloc::Global;
 use std::test::Fail;
-use test_support::failing_allocations::{CallEnd, failing_allocations};
-use test_support::holds;
 
 // The chunks, the table and the scratch at (4, 1, 1), in bytes.
 const BUFFERS: [usize; 3] = [128, 2048, 256];

@@ -1,12 +1,12 @@
 // Each allocation of a call fails in turn, and the exact number of them is asserted.
 
+use crate::failing_allocations::{CallEnd, failing_allocations};
+use crate::holds;
 use password_hash::mcf::{self, Base64};
 use password_hash::{Error, PasswordHasher, PasswordVerifier, phc};
 use scrypt::{Params, Scrypt};
 use std::alloc::Global;
 use std::test::Fail;
-use test_support::failing_allocations::{CallEnd, failing_allocations};
-use test_support::holds;
 
 // Of the empty password and the empty salt.
 const MCF_HASH: &str = "$7$2/..../....$rNxJWVHNv/mCNcgE/f6/L4zO6Fos5c2uTzhyzoisI62";

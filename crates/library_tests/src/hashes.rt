@@ -1,12 +1,12 @@
 // The calls that can run out of memory, once each, and the texts of errors, which no clause gives. Which texts are made,
 // verified and refused is in `ci/hashes.py` and `ci/program.py`, which ask the built programs.
 
+use crate::holds;
 use password_hash::{
     CustomizedPasswordHasher, Error, PasswordHasher, PasswordVerifier, kdf, mcf, phc,
 };
 use scrypt::{Params, Scrypt};
 use std::test::Fail;
-use test_support::holds;
 
 // HMAC hashes it first.
 const LONG_PASSWORD: [u8; 65] = [b'a'; 65];

@@ -1,8 +1,8 @@
 // Derivations with several chunks at a time.
 
+use crate::holds;
 use scrypt::{CoreCount, Params, scrypt_in_groups};
 use std::test::Fail;
-use test_support::holds;
 
 // p, the key of 16 bytes by (4, 2, p) of the password `pw` and the salt `NaCl`, by Python's hashlib, and how many chunks are
 // mixed at a time.

@@ -1,5 +1,6 @@
 // One good path of each example that allocates: what it then returns is what its contract says.
 
+use crate::holds;
 use scrypt::{CoreCount, Limits, Params};
 use scrypt_examples::derived_keys::{Deriver, key_in_a_thin_table, key_or_out_of_memory};
 use scrypt_examples::hash::stored_text;
@@ -8,7 +9,6 @@ use scrypt_examples::login::Logins;
 use scrypt_examples::migration::rewrite;
 use scrypt_examples::verdicts::{two_verdicts_within, verdict};
 use std::test::Fail;
-use test_support::holds;
 
 const PASSWORD: &[u8] = b"correct horse";
 

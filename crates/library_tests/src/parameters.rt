@@ -1,8 +1,8 @@
 // The greatest numbers that are accepted. `ci/program.py` has the smallest, and those that are refused.
 
+use crate::holds;
 use scrypt::{BufferLens, Params, output_len_ok};
 use std::test::Fail;
-use test_support::holds;
 
 #[test]
 fn the_greatest() -> Result<(), Fail> {

@@ -1,0 +1,34 @@
+//! Tests of the libraries, of what no contract can say: that calls succeed if memory is available, that the compiled code
+//! gives the standards' keys, and how much each call allocates. `ci/program.py` asks the linked program for the keys of RFC
+//! 7914, and `ci/hashes.py` which texts it verifies.
+//!
+//! A function that returns no error is exactly what its contract says, and its definition is evaluated on the standards'
+//! vectors in `proofs/StandardFacts.antt` of its crate: such a function has no test of its own here.
+#![tactic(auto)]
+
+#[cfg(test)]
+mod derivation_allocations;
+#[cfg(test)]
+mod examples;
+#[cfg(test)]
+mod failing_allocations;
+#[cfg(test)]
+mod groups;
+#[cfg(test)]
+mod hash_allocations;
+#[cfg(test)]
+mod hashes;
+#[cfg(test)]
+mod parameters;
+#[cfg(test)]
+mod romix;
+
+#[cfg(test)]
+use std::test::Fail;
+
+// Fails a test with this text unless it holds. Each `assert!` would be proved where it stands, with all that the test has
+// there: a row of eight took twice as long to prove.
+#[cfg(test)]
+fn holds(is_so: bool, text: &'static str) -> Result<(), Fail> {
+    if is_so { Ok(()) } else { Err(text.into()) }
+}
