@@ -3,9 +3,9 @@
 
 A function is proved by its own body and the contracts of those that it calls, so a wrong body does not affect the
 proofs of other functions. The edits of a crate are tried in rounds: each is one check of a copy with at most one edit
-of a function. Each function has to be refused with an unproved goal of its own: that it calls a refused one is not
-enough, nor is a search that gave up, or a name that is gone. The author has to see that the goal is false. An edit of a
-constant, or of a type, has a round of its own.
+of a function, in which the proofs of all other functions are holes. Each function has to be refused with an unproved goal
+of its own: that it calls a refused one is not enough, nor is a search that gave up, or a name that is gone. The author has
+to see that the goal is false. An edit of a constant, or of a type, has a round of its own, with every proof.
 
 usage: wrong_bodies.py [NAME..]         the edits of crates/NAME/wrong-bodies/, one round for each crate
        wrong_bodies.py all [NAME..]     those of more-wrong-bodies/ too, in as many rounds as it takes
@@ -31,6 +31,13 @@ sys.path.append(str(Path(__file__).parent.parent / "doc"))
 import sources
 
 FIRST, MORE = "wrong-bodies", "more-wrong-bodies"
+
+# The proof of a function, by its path in antt and its name, that a check takes by its contract alone.
+HOLE = """use Rattle.{}.Statement as stated
+
+pub {}_spec : {{M : Type 1}} → stated.statement M
+{}_spec = ?
+"""
 
 # One check takes up to 2 GB. `taskset` gives fewer processors.
 AT_ONCE = min(4, len(os.sched_getaffinity(0)))
@@ -75,6 +82,24 @@ def rounds(name, *folders):
     return made + alone
 
 
+def leave_out(name, changed, folder):
+    """Gives the functions of a copy of a crate, except those that are changed, a hole for their proof."""
+    crate = sources.read_crate(name, f"crates/{name}")
+    for source in crate.values():
+        lines = source.text.splitlines()
+        for it in source.items:
+            path = sources.checked_path(crate, source, it) if it.kind == "fn" else None
+            # A trait's function without a body ends in a semicolon.
+            if path is None or path in changed or lines[it.last - 1].endswith(";"):
+                continue
+            proofs = Path(folder, "proofs", *path.split("::"))
+            proofs.mkdir(parents=True, exist_ok=True)
+            for file in ("Invariants.antt", "Answers.antt"):
+                (proofs / file).unlink(missing_ok=True)
+            module = ".".join([name, "proofs", *path.split("::")])
+            (proofs / "Proof.antt").write_text(HOLE.format(module, it.name, it.name), "utf-8")
+
+
 def check(name, tried, kept=()):
     """What a check of a crate prints that has these edits. It takes what they leave as it was from what was kept."""
     with tempfile.TemporaryDirectory() as crate:
@@ -82,7 +107,11 @@ def check(name, tried, kept=()):
             if os.path.isdir(f"crates/{name}/{part}"):
                 shutil.copytree(f"crates/{name}/{part}", f"{crate}/{part}")
         edits.write(edits.texts_after(tried, crate))
-        only = [word for its in tried.values() for path in its for word in ("--only", path)]
+        changed = set().union(*tried.values())
+        only = [word for path in changed for word in ("--only", path)]
+        if changed and not kept:
+            leave_out(name, changed, crate)
+            only.append("--allow-holes")
         command = [*prover_command.of("check", name), *only, *kept]
         ran = subprocess.run(command, cwd=crate, capture_output=True, text=True, errors="replace")
     return ran.stdout + ran.stderr
