@@ -17,4 +17,5 @@ pub use output::Output;
 pub use pairs::Pairs;
 pub use params::ParamsString;
 pub use salt::Salt;
+pub use short_bytes::ShortBytes;
 pub use value::Value;

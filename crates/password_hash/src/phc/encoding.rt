@@ -18,5 +18,5 @@ pub(super) fn decode<const LEAST: usize>(letters: &str) -> Option<ShortBytes<LEA
     let Ok(len) = STANDARD_NO_PAD.decode_slice_unchecked(letters.as_bytes(), &mut places) else {
         return None;
     };
-    ShortBytes::new(&places[..len])
+    ShortBytes::copied(&places[..len])
 }

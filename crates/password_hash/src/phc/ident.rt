@@ -48,7 +48,7 @@ impl Ident {
         ensures value { IfOk result (λ ident. ident ≡ text.now) }
         ensures err { IfErr result (λ e. e ≡ EncodingInvalid) }
     {
-        match ShortBytes::new(text.as_bytes()) {
+        match ShortBytes::copied(text.as_bytes()) {
             Some(bytes) if are_identifier_letters(bytes.as_bytes()) => Ok(Ident { bytes }),
             _ => Err(Error::EncodingInvalid),
         }

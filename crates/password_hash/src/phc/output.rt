@@ -4,23 +4,9 @@ ghost use Rattle.password_hash.specs.declared.error.Error.TheVariants.{OutputSiz
 
 use crate::phc::short_bytes::{ShortBytes, are_same};
 use crate::{Error, Result};
-use std::marker::Model;
 
 /// A key of 10 to 64 bytes. Equality compares every byte, also after a difference.
-#[derive(Clone, Copy, Debug, PartialEq, Eq)]
-pub struct Output {
-    pub(super) bytes: ShortBytes<10, 64>,
-}
-
-impl Model for Output {
-    ghost use Rattle.std.specs.Prelude.{ℕ, List};
-
-    ghost Value = { List ℕ };
-
-    ghost view = { λ a. a.bytes };
-
-    ghost inverse = { λ xs. record { bytes = xs } };
-}
+pub type Output = ShortBytes<10, 64>;
 
 const _: () = prove!(Output::MIN_LENGTH == 10 && Output::MAX_LENGTH == 64);
 
@@ -39,28 +25,7 @@ impl Output {
         ensures value { IfOk result (λ output. output ≡ key.now) }
         ensures err { IfErr result (λ e. e ≡ OutputSize) }
     {
-        match ShortBytes::new(key) {
-            Some(bytes) => Ok(Output { bytes }),
-            None => Err(Error::OutputSize),
-        }
-    }
-
-    /// Returns the length of the key in bytes, from 10 to 64.
-    pub fn len(&self) -> usize
-        ensures value { result ≡ length self.now }
-        ensures least { 10 ≤ result }
-        ensures greatest { result ≤ 64 }
-    {
-        self.bytes.len()
-    }
-
-    /// Returns the bytes of the key.
-    pub fn as_bytes(&self) -> &[u8]
-        ensures value { result.now ≡ self.now }
-        ensures least { 10 ≤ length result.now }
-        ensures greatest { length result.now ≤ 64 }
-    {
-        self.bytes.as_bytes()
+        Output::copied(key).ok_or(Error::OutputSize)
     }
 
     /// Returns whether `bytes` are those of the key at byte `at`. Every byte is compared, also

@@ -52,12 +52,12 @@ pub(super) fn take_salt_and_key(left: Option<&str>) -> Option<(Option<Salt>, Opt
     let (letters, after) = first_piece(text, '$');
     let salt = decode(letters)?;
     let Some(text) = after else {
-        return Some((Some(Salt { bytes: salt }), None));
+        return Some((Some(salt), None));
     };
     let (letters, after) = first_piece(text, '$');
     let key = decode(letters)?;
     if after.is_some() {
         return None;
     }
-    Some((Some(Salt { bytes: salt }), Some(Output { bytes: key })))
+    Some((Some(salt), Some(key)))
 }

@@ -8,7 +8,7 @@ use std::marker::Model;
 
 /// `LEAST` to `MOST` bytes in a fixed array, with zeros after them.
 #[derive(Clone, Copy, Debug)]
-pub(crate) struct ShortBytes<const LEAST: usize, const MOST: usize> {
+pub struct ShortBytes<const LEAST: usize, const MOST: usize> {
     pub(super) places: [u8; MOST],
     pub(super) len: usize,
 }
@@ -34,7 +34,7 @@ impl<const LEAST: usize, const MOST: usize> Model for ShortBytes<LEAST, MOST> {
 
 impl<const LEAST: usize, const MOST: usize> ShortBytes<LEAST, MOST> {
     /// Copies `bytes`. Returns `None` if their number is out of bounds.
-    pub(crate) fn new(bytes: &[u8]) -> Option<ShortBytes<LEAST, MOST>>
+    pub(super) fn copied(bytes: &[u8]) -> Option<ShortBytes<LEAST, MOST>>
         ensures exact { IsSome result ↔ ((LEAST ≤ length bytes.now) × (length bytes.now ≤ MOST)) }
         ensures value { IfSome result (λ made. made ≡ bytes.now) }
         ensures bytes { IfSome result (AreBytesFromTo LEAST MOST) }
@@ -49,19 +49,19 @@ impl<const LEAST: usize, const MOST: usize> ShortBytes<LEAST, MOST> {
     }
 
     /// Returns the number of bytes.
-    pub(crate) fn len(&self) -> usize
+    pub fn len(&self) -> usize
         ensures value { result ≡ length self.now }
         ensures least { LEAST ≤ result }
-        ensures most { result ≤ MOST }
+        ensures greatest { result ≤ MOST }
     {
         self.len
     }
 
     /// Returns the bytes.
-    pub(crate) fn as_bytes(&self) -> &[u8]
+    pub fn as_bytes(&self) -> &[u8]
         ensures value { result.now ≡ self.now }
         ensures least { LEAST ≤ length result.now }
-        ensures most { length result.now ≤ MOST }
+        ensures greatest { length result.now ≤ MOST }
     {
         &self.places[..self.len]
     }

@@ -39,6 +39,6 @@ returns-in_default g c = record { value = rw (rw c.as_bytes.ensures.value at c.i
 
 pub returns : goal.returns
 returns g c = record {
-  value = made g.row.LEAST c.args.letters.now _ c.new.result (λ i. omega (arith, c.type_inv.letters i))
-      (rw c.as_bytes.ensures.value at c.in-Ok.ensures.ok.0) c.new.ensures.exact c.new.ensures.value c.new.ensures.bytes;
+  value = made g.row.LEAST c.args.letters.now _ c.copied.result (λ i. omega (arith, c.type_inv.letters i))
+      (rw c.as_bytes.ensures.value at c.in-Ok.ensures.ok.0) c.copied.ensures.exact c.copied.ensures.value c.copied.ensures.bytes;
 }

@@ -2,7 +2,7 @@ use Rattle.std.proofs.Common.{◌≡◌, refl, ℕ, ◌-◌, ◌≤◌, List, �
 use Rattle.std.proofs.Math.Seq.{take-append_seam}
 use Rattle.std.proofs.lemmas.List.{length-replicate, drop-replicate}
 use Rattle.password_hash.specs.ShortBytes.{AreStored}
-use Rattle.password_hash.proofs.phc.short_bytes.ShortBytes.new.Goals as goal
+use Rattle.password_hash.proofs.phc.short_bytes.ShortBytes.copied.Goals as goal
 
 -- what is written at the front of zeros is stored
 stored : (least most : ℕ) (new xs : List ℕ) → new ≡ xs → least ≤ length xs → length xs ≤ most
