@@ -1,17 +1,13 @@
 -- Texts of parts, each after a `$`.
-use Rattle.std.proofs.Common.{◌≡◌, ◌≢◌, ℕ, ◌==◌, false, true, List, [], ◌∷◌, ◌++◌, length, refl, sym, ap, ◌∙◌}
-use Rattle.std.proofs.Common.{◌&&◌, ◌||◌, ◌↔◌, Bool, IsTrue, None, Option, Some, bytes_eq, drop, not, subst, take}
-use Rattle.std.specs.Borrow.{Bor}
-use Rattle.std.specs.Prelude.{All, MatchOption, option_map}
+use Rattle.std.proofs.Common.{◌≡◌, ◌≢◌, ℕ, ◌==◌, false, true, List, [], ◌∷◌, ◌++◌, refl, sym, ap, ◌∙◌}
+use Rattle.std.proofs.Common.{◌&&◌, ◌||◌, ◌↔◌, Bool, IsTrue, not}
+use Rattle.std.specs.Prelude.{All}
 use Rattle.std.specs.List.{join_with_byte, list_any}
-use Rattle.std.specs.Str.Pattern.{FindsTextPrefix, StripsPrefix}
-use Rattle.std.proofs.lemmas.Bool.{false_from_ne_true}
 use Rattle.std.proofs.lemmas.Bool.Decides.{Decides-by_and, Decides-eqb, Decides-not}
 use Rattle.std.proofs.lemmas.Grind.{flat_map-append}
-use Rattle.std.proofs.lemmas.List.{append-nil, take-append-drop, take_at}
-use Rattle.std.proofs.lemmas.Slice.Eq.{bytes_eq-Decides}
+use Rattle.std.proofs.lemmas.List.{append-nil}
 use Rattle.std.proofs.lemmas.List.Splits.{join_with_byte-slice_split}
-use Rattle.password_hash.specs.Parts.{after_prefix, dollar, parts_text, parts_of}
+use Rattle.password_hash.specs.Parts.{dollar, parts_text, parts_of}
 use Rattle.password_hash.proofs.PairsFacts.{Lacks, slice_split-join}
 
 -- the text of parts is a `$` and the parts, joined by `$`
@@ -36,21 +32,6 @@ text_of_parts text part parts e =
 pub parts_text-push : (parts : List (List ℕ)) (part : List ℕ) → parts_text (parts ++ part ∷ []) ≡ parts_text parts ++ dollar ∷ part
 parts_text-push parts part =
     flat_map-append (λ part. dollar ∷ part) parts (part ∷ []) ∙ ap (λ more. parts_text parts ++ more) (append-nil (dollar ∷ part))
-
--- what `strip_prefix` gives
-pub prefix_stripped : (prefix text : List ℕ) (rest : Option (Bor (List ℕ)))
-    → MatchOption rest (FindsTextPrefix prefix text None) (λ x. StripsPrefix (FindsTextPrefix prefix) text x.now)
-    → after_prefix prefix text ≡ option_map (λ x. x.now) rest
-unfolding after_prefix
-prefix_stripped prefix text None none =
-    rw (false_from_ne_true _ (λ same. none (drop (length prefix) text) (begins same))) refl
-  where
-    begins : bytes_eq (take (length prefix) text) prefix ≡ true → text ≡ prefix ++ drop (length prefix) text
-    begins same = subst (λ front. text ≡ front ++ drop (length prefix) text) ((bytes_eq-Decides (take (length prefix) text) prefix).0 same)
-        (sym (take-append-drop (length prefix) text))
-prefix_stripped prefix text (Some x) (n, (is, split, boundary), rest, len) =
-    let front = subst (λ t. take (length prefix) t ≡ prefix) (sym split) (take_at prefix (drop n text) (length prefix) refl) in
-    rw ((bytes_eq-Decides (take (length prefix) text) prefix).1 front, rest, is) refl
 
 -- whether a text lacks a byte
 pub lacks_decided : (c : ℕ) (text : List ℕ) (found : Bool) → found ≡ list_any (λ b. b == c) text

@@ -1,26 +1,26 @@
 -- PHC texts are read as the hashes that they are printed of.
 use Rattle.std.proofs.Common.{◌≡◌, ◌≢◌, ◌↔◌, ◌^◌, ◌<◌, ◌≤◌, ◌==◌, ℕ, zero, suc, Bool, false, true, not, List, [], ◌∷◌, ◌++◌}
-use Rattle.std.proofs.Common.{length, drop, take, codes, Option, None, Some, refl, sym, ap, subst, ◌∙◌, arith, inl, inr}
+use Rattle.std.proofs.Common.{length, drop, codes, Option, None, Some, refl, sym, ap, subst, ◌∙◌, arith, inl, inr}
 use Rattle.std.specs.Borrow.{Bor}
-use Rattle.std.specs.Prelude.{All, AllPairs, IfSome, IsSome, OnSome, decimal, is_some, nat_le, nat_lt}
+use Rattle.std.specs.Prelude.{All, AllPairs, IfSome, IsSome, OnSome, decimal, is_some, nat_eq, nat_le, nat_lt}
 use Rattle.std.specs.Bool.{Decides}
-use Rattle.std.specs.List.{list_all, list_any}
+use Rattle.std.specs.List.{after_first, list_all, list_any, starts_with}
 use Rattle.std.specs.Str.{bytes_eq}
 use Rattle.std.proofs.lemmas.Bool.{cases_Bool, false≢true, false_from_ne_true}
-use Rattle.std.proofs.lemmas.Bool.Decides.{Decides-and, Decides-by_and, Decides-like, Decides-ltb, Decides-not, nat_tests}
-use Rattle.std.proofs.lemmas.List.{get_or_at, length-append, take-append-drop}
+use Rattle.std.proofs.lemmas.Bool.Decides.{Decides-and, Decides-by_and, Decides-eqb, Decides-like, Decides-ltb, Decides-not, nat_tests}
+use Rattle.std.proofs.lemmas.List.{get_or_at, length-append}
 use Rattle.std.proofs.lemmas.List.Elements.{All-append, All-head, All-nil}
 use Rattle.std.proofs.lemmas.List.Folds.{list_any_at, list_any_none}
 use Rattle.std.proofs.lemmas.List.Kept.{AllPairs-cons}
 use Rattle.std.proofs.lemmas.List.Splits.{length-slice_split, slice_split_at}
 use Rattle.std.proofs.lemmas.Option.{cond_some, option_and_then_some}
-use Rattle.std.proofs.lemmas.Slice.Eq.{bytes_eq-Decides}
+use Rattle.std.proofs.lemmas.Slice.Eq.{bytes_eq-Decides, starts_is}
 use Rattle.base64.specs.Engines.{standard_no_pad}
 use Rattle.base64.specs.GeneralPurpose.{IsBytes, decoded_of}
 use Rattle.password_hash.specs.Decimal.{decimal_below}
 use Rattle.password_hash.specs.Letters.{IsIdentifier, IsValue}
 use Rattle.password_hash.specs.Pairs.{IsPair, ArePairs, pairs_of, pairs_text}
-use Rattle.password_hash.specs.Parts.{after_prefix, parts_left, parts_of, parts_text}
+use Rattle.password_hash.specs.Parts.{parts_left, parts_of, parts_text}
 use Rattle.password_hash.specs.Phc.{IsHashText, IsKey, IsSalt, base64, hash_parts, hash_text, params_part, salt_and_key_parts, version_part}
 use Rattle.password_hash.specs.PhcReading.{are_bytes_from_to, are_pairs, decoded_bytes, hash_after, hash_of_parts, is_identifier, is_pair, is_value}
 use Rattle.password_hash.specs.PhcReading.{kept, names_differ, params_and_rest, parsed_pairs, read_hash, salt_and_key, version_and_rest}
@@ -133,12 +133,10 @@ none_exact P (Some x) exact none = absurd (none x ((exact x).0 refl))
 
 version_taken : (version : Option ℕ) (others : List (List ℕ)) → IsVersion version → All LacksVersion others
     → version_and_rest (version_part version ++ others) ≡ Some (version, others)
-unfolding after_prefix
 version_taken None [] is none = refl
 version_taken None (part ∷ others) is none =
-    let other = false_from_ne_true (bytes_eq (take 2 part) (codes "v=")) (λ same.
-    All-head LacksVersion part others none (drop 2 part)
-    (sym (take-append-drop 2 part) ∙ ap (λ front. front ++ drop 2 part) ((bytes_eq-Decides (take 2 part) (codes "v=")).0 same))) in
+    let other = false_from_ne_true (starts_with nat_eq part (codes "v=")) (λ begins.
+    All-head LacksVersion part others none _ ((starts_is Decides-eqb part (codes "v=") _ refl).0 begins)) in
     rw other refl
 version_taken (Some number) others is none =
     rw (decimal_only (decimal number) number (IsDecimal-decimal number is)) refl
@@ -191,15 +189,16 @@ no_pairs = (pairs_decided []).0 refl
 
 version_read : (parts : List (List ℕ)) (read : Option ℕ × List (List ℕ)) → version_and_rest parts ≡ Some read
     → IsVersion read.0 × (parts ≡ version_part read.0 ++ read.1)
-unfolding after_prefix
 version_read [] read is = let same : read ≡ (None, []) = cc in rw same (tt, refl)
-version_read (part ∷ after) read is = elim (cases_Bool (bytes_eq (take 2 part) (codes "v="))) [
+version_read (part ∷ after) read is = elim (cases_Bool (starts_with nat_eq part (codes "v="))) [
   | inl begins ↦
-      let front = ap (λ front. front ++ drop 2 part) (sym ((bytes_eq-Decides (take 2 part) (codes "v=")).0 begins)) ∙ take-append-drop 2 part in
-      option_and_then_some _ (decimal_below (2 ^ 32) (drop 2 part)) read (rw begins at is) (λ number below is.
-      let found = rw below at (decimal_found (drop 2 part)) in
-      let same : read ≡ (Some number, after) = cc in
-      rw same (found.small, ap (λ part. part ∷ after) (sym front ∙ ap (λ digits. codes "v=" ++ digits) (decimal_of (drop 2 part) number found))))
+      let front = (starts_is Decides-eqb part (codes "v=") _ refl).0 begins in
+      let digits = after_first (λ b. b == 61) part in
+      let same = sym (ap (after_first (λ b. b == 61)) front) in
+      option_and_then_some _ (decimal_below (2 ^ 32) digits) read (rw begins at is) (λ number below is.
+      let found = rw below at (decimal_found digits) in
+      let one : read ≡ (Some number, after) = cc in
+      rw one (found.small, ap (λ part. part ∷ after) (front ∙ ap (λ digits. codes "v=" ++ digits) (same ∙ decimal_of digits number found))))
   | inr other ↦
       let said = rw other at is in
       let same : read ≡ (None, part ∷ after) = cc in

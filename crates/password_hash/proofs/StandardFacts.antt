@@ -14,7 +14,7 @@ use Rattle.password_hash.specs.Crypt64.{bytes_of_number, crypt64_of, decoded, le
 use Rattle.password_hash.specs.Decimal.{decimal_below, has_plus_or_leading_zero}
 use Rattle.password_hash.specs.Mcf.{IsId, IsMcf, IsMcfText, id_of}
 use Rattle.password_hash.specs.Phc.{hash_text}
-use Rattle.password_hash.specs.Parts.{after_prefix, parts_of}
+use Rattle.password_hash.specs.Parts.{parts_of}
 use Rattle.password_hash.specs.PhcReading.{decoded_bytes, parsed_pairs, read_hash}
 use Rattle.password_hash.specs.declared.phc.hash.PasswordHash.{PasswordHash}
 use Rattle.password_hash.proofs.McfFacts.{IsMcfText-from_parts, IsMcfText-read}
@@ -66,7 +66,7 @@ hash_texts =
     ∷ []
 
 pub hash_texts_read : map (λ row. read_hash row.0) hash_texts ≡ map (λ row. Some row.1) hash_texts
-unfolding after_prefix decimal_below decoded_bytes decoded_of digits encode_symbols groups_bytes groups_error has_plus_or_leading_zero
+unfolding decimal_below decoded_bytes decoded_of digits encode_symbols groups_bytes groups_error has_plus_or_leading_zero
     parsed_pairs read_hash scan_steps
 hash_texts_read = refl
 
@@ -87,7 +87,7 @@ refused_hash_texts =
     ∷ []
 
 pub hash_texts_refused : map read_hash refused_hash_texts ≡ map (λ text. None) refused_hash_texts
-unfolding after_prefix decimal_below decoded_bytes decoded_of digits encode_symbols groups_bytes groups_error has_plus_or_leading_zero
+unfolding decimal_below decoded_bytes decoded_of digits encode_symbols groups_bytes groups_error has_plus_or_leading_zero
     parsed_pairs read_hash scan_steps
 hash_texts_refused = refl
 

@@ -1,5 +1,5 @@
 -- Texts that consist of parts, each after a `$`, as PHC and MCF texts do.
-use Rattle.std.specs.Prelude.{ℕ, ◌==◌, bytes_eq, if◌then◌else◌, List, [], ◌∷◌, length, take, drop, Option, None, Some}
+use Rattle.std.specs.Prelude.{ℕ, ◌==◌, List, [], ◌∷◌, Option, None, Some}
 use Rattle.std.specs.Borrow.{Bor}
 use Rattle.std.specs.List.{flat_map, slice_split}
 
@@ -27,8 +27,3 @@ parts_left left = pieces_left dollar left
 -- what was read of the front of a text, and the parts of what is left of it
 abbrev pub before_parts : {A : Type 0} → A × Option (Bor (List ℕ)) → A × List (List ℕ)
 before_parts (read, left) = (read, parts_left left)
-
--- what comes after this prefix
-unfoldable pub after_prefix : List ℕ → List ℕ → Option (List ℕ)
-after_prefix prefix text =
-    if bytes_eq (take (length prefix) text) prefix then Some (drop (length prefix) text) else None

@@ -1,14 +1,14 @@
 -- The reading of a PHC text: its parts are read one after another, each only as what it is printed of.
-use Rattle.std.specs.Prelude.{ℕ, ◌^◌, ◌==◌, ◌&&◌, Bool, true, not, nat_le, nat_lt, if◌then◌else◌, List, [], ◌∷◌, codes, length}
+use Rattle.std.specs.Prelude.{ℕ, ◌^◌, ◌==◌, ◌&&◌, Bool, true, not, nat_eq, nat_le, nat_lt, if◌then◌else◌, List, [], ◌∷◌, codes, length}
 use Rattle.std.specs.Prelude.{Option, None, Some, option_and_then}
-use Rattle.std.specs.List.{list_all, list_any}
+use Rattle.std.specs.List.{after_first, list_all, list_any, starts_with}
 use Rattle.std.specs.Str.{bytes_eq}
 use Rattle.base64.specs.Engines.{standard_no_pad}
 use Rattle.base64.specs.GeneralPurpose.{decoded_of}
 use Rattle.password_hash.specs.Decimal.{decimal_below}
 use Rattle.password_hash.specs.Letters.{is_identifier_letter, is_value_letter}
 use Rattle.password_hash.specs.Pairs.{pairs_of, pairs_text}
-use Rattle.password_hash.specs.Parts.{after_prefix, parts_of}
+use Rattle.password_hash.specs.Parts.{parts_of}
 use Rattle.password_hash.specs.Phc.{base64}
 use Rattle.password_hash.specs.declared.phc.hash.PasswordHash.{PasswordHash}
 
@@ -55,17 +55,13 @@ unfoldable pub decoded_bytes : ℕ → List ℕ → Option (List ℕ)
 decoded_bytes least letters =
     kept (λ bytes. are_bytes_from_to least 64 bytes && bytes_eq letters (base64 bytes)) (decoded_of standard_no_pad letters)
 
--- the version of these digits, with the parts after them; without digits there is none
-abbrev pub version_of : Option (List ℕ) → List (List ℕ) → List (List ℕ) → Option (Option ℕ × List (List ℕ))
-version_of (Some digits) after parts = do
-  version ← decimal_below (2 ^ 32) digits
-  Some (Some version, after)
-version_of None after parts = Some (None, parts)
-
 -- the version, if the first part begins with `v=`, and the parts after it
 abbrev pub version_and_rest : List (List ℕ) → Option (Option ℕ × List (List ℕ))
 version_and_rest [] = Some (None, [])
-version_and_rest (part ∷ after) = version_of (after_prefix (codes "v=") part) after (part ∷ after)
+version_and_rest (part ∷ after) =
+    if starts_with nat_eq part (codes "v=")
+    then decimal_below (2 ^ 32) (after_first (λ byte. byte == 61) part) >>= (λ version. Some (Some version, after))
+    else Some (None, part ∷ after)
 
 -- the parameters, if the first part has a `=`, and the parts after them
 abbrev pub params_and_rest : List (List ℕ) → Option (List (List ℕ × List ℕ) × List (List ℕ))

@@ -1,7 +1,7 @@
 //! The parts of a text, separated by `$`.
-ghost use Rattle.std.specs.Prelude.{◌≡◌, ◌≢◌, ◌<◌, ◌==◌, ℕ, List, [], ◌∷◌, MatchOption, option_map};
+ghost use Rattle.std.specs.Prelude.{◌≡◌, ◌≢◌, ◌<◌, ◌==◌, ℕ, List, [], ◌∷◌, MatchOption};
 ghost use Rattle.std.specs.List.{list_any, slice_split};
-ghost use Rattle.password_hash.specs.Parts.{after_prefix, dollar, parts_left, parts_of, pieces_left};
+ghost use Rattle.password_hash.specs.Parts.{dollar, parts_left, parts_of, pieces_left};
 
 /// Returns the text before the first separator, which is ASCII, and the text after it, if there is
 /// one.
@@ -23,13 +23,6 @@ pub(crate) fn split_first(text: &str) -> Option<(&str, Option<&str>)>
 {
     let rest = text.strip_prefix('$')?;
     Some(first_piece(rest, '$'))
-}
-
-/// Returns what comes after `prefix`, if `text` begins with it.
-pub(crate) fn after_prefix<'a>(prefix: &str, text: &'a str) -> Option<&'a str>
-    ensures { option_map (λ rest. rest.now) result ≡ after_prefix prefix.now text.now }
-{
-    text.strip_prefix(prefix)
 }
 
 /// Returns whether `text` has this byte.

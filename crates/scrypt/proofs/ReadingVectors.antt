@@ -3,7 +3,6 @@ use Rattle.std.specs.Prelude.{Result}
 use Rattle.std.specs.Fmt.{digits}
 use Rattle.password_hash.specs.Crypt64.{bytes_of_number, crypt64_of, decoded, letter, letter_value, letters_of, number_of}
 use Rattle.password_hash.specs.Decimal.{decimal_below, has_plus_or_leading_zero}
-use Rattle.password_hash.specs.Parts.{after_prefix}
 use Rattle.password_hash.specs.PhcReading.{decoded_bytes, parsed_pairs, read_hash}
 use Rattle.password_hash.specs.Refusal.{Refusal, Algorithm, EncodingInvalid, OutputSize, ParamInvalid, ParamsInvalid, PasswordInvalid, Version}
 use Rattle.password_hash.proofs.StandardFacts.{decoded_of, encode_symbols, groups_bytes, groups_error, scan_steps}
@@ -54,7 +53,7 @@ phc_readings =
     ∷ []
 
 pub phc_texts_read : map (λ row. reading row.0) phc_readings ≡ map (λ row. row.1) phc_readings
-unfolding after_prefix are_accepted checked decimal_below decoded_bytes decoded_of digits encode_symbols formatted groups_bytes groups_error
+unfolding are_accepted checked decimal_below decoded_bytes decoded_of digits encode_symbols formatted groups_bytes groups_error
     has_plus_or_leading_zero is_mcf_text parsed_pairs phc_params read_hash read_pairs reading scan_steps
 phc_texts_read = refl
 

@@ -8,8 +8,9 @@ ghost use Rattle.password_hash.specs.PhcReading.{params_and_rest, salt_and_key, 
 
 use crate::Version;
 use crate::decimal::read_u32;
-use crate::parts::{after_prefix, contains, first_piece};
+use crate::parts::{contains, first_piece};
 use crate::phc::encoding::decode;
+use crate::phc::pairs::cut;
 use crate::phc::{Output, ParamsString, Salt};
 
 /// Returns the version, if the next part begins with `v=`, and what is left of the text after it.
@@ -20,9 +21,10 @@ pub(super) fn take_version(left: Option<&str>) -> Option<(Option<Version>, Optio
         return Some((None, None));
     };
     let (part, after) = first_piece(text, '$');
-    let Some(digits) = after_prefix("v=", part) else {
+    if !part.starts_with("v=") {
         return Some((None, left));
-    };
+    }
+    let (_, digits) = cut(part, '=');
     let version = read_u32(digits)?;
     Some((Some(version), after))
 }
