@@ -2,7 +2,6 @@
 use Rattle.std.proofs.Common.{◌≡◌, ◌∙◌, sym, ap, refl, arith, ℕ, zero, suc, ◌+◌, ◌-◌, ◌*◌, ◌/◌, ◌%◌, ◌^◌, ◌<◌, ◌≤◌, min, Some, List, []}
 use Rattle.std.proofs.Common.{◌∷◌, ◌++◌, length, take, drop, replicate, append_assoc, length-append, length-drop}
 use Rattle.std.specs.Int.{to_le_bytes, from_le_bytes, w32}
-use Rattle.std.proofs.Math.Seq.{take-append_seam, drop-append_seam}
 use Rattle.std.proofs.lemmas.List.{append-nil, take_at, drop_at, take_min, drop_min, take-append-drop, length-take, length-take-le}
 use Rattle.std.proofs.lemmas.List.Elements.{All-nil, All-append, All-take, All-drop, All-from_recursion}
 use Rattle.password_hash.specs.Crypt64.{letters_of, number_of, crypt64_of, Crypt64, IsCrypt64, encoded_len, Begins}
@@ -19,13 +18,6 @@ length-crypt64_of (a ∷ b ∷ c ∷ rest) =
     simp (length-append, length-letters_of) (omega (arith, length-crypt64_of rest))
 
 pub ruleset lengths = (length-crypt64_of)
-
--- two texts cut at the same place are equal where both parts are
-pub append_parts : (xs ys us vs : List ℕ) → length xs ≡ length us → xs ++ ys ≡ us ++ vs → (xs ≡ us) × (ys ≡ vs)
-append_parts xs ys us vs same is = (
-  sym (take-append_seam xs ys) ∙ ap (take (length xs)) is ∙ take_at us vs (length xs) (sym same),
-  sym (drop-append_seam xs ys) ∙ ap (drop (length xs)) is ∙ drop_at us vs (length xs) (sym same),
-)
 
 -- whole groups have letters of their own, and so have any bytes with none after them
 crypt64_of-append : (front back : List ℕ) → (0 < length back → length front % 3 ≡ 0)

@@ -1,4 +1,4 @@
-use Rattle.std.proofs.Common.{◌≡◌, ◌∷◌, ◌∙◌, sym, ap, subst, arith, length, map}
+use Rattle.std.proofs.Common.{◌≡◌, ◌∷◌, ◌∙◌, ap, subst, map}
 use Rattle.std.specs.Prelude.{All}
 use Rattle.std.proofs.lemmas.Bool.{false≢true}
 use Rattle.std.proofs.lemmas.List.Elements.{All-head, All-tail}
@@ -21,15 +21,3 @@ unreachable-requires c =
 
 pub invariant_of-self : goal.invariant_of-self
 invariant_of-self c = All-tail (λ pair. IsIdentifier pair.0) _ _ (named (goal.at.invariant_of-self c).After-cut)
-
-pub returns-clause-steps : goal.returns-clause-steps
-returns-clause-steps c =
-    rw (c.in-Ok.ensures.value, c.cut.ensures.before, c.cut.ensures.after)
-    (sym c.self.view_is ∙ left_are (goal.at.returns-clause-steps c).After-cut)
-
-pub returns-clause-goes : goal.returns-clause-goes
-returns-clause-goes c = record {
-  on = λ _. (tt, tt, omega (arith, ap length (returns-clause-steps c)));
-  keeps = tt;
-  rests = λ _. tt;
-}

@@ -1,4 +1,4 @@
-use Rattle.std.proofs.Common.{◌≢◌, refl, sym, ◌∙◌}
+use Rattle.std.proofs.Common.{◌≢◌, refl}
 use Rattle.std.proofs.lemmas.Bool.{false≢true}
 use Rattle.std.proofs.lemmas.List.Elements.{All-contains}
 use Rattle.password_hash.proofs.ParamsFacts.{IsAdded, added, last_pair}
@@ -10,12 +10,6 @@ put c =
     added c.push_pair.result c.args.self.now (c.args.name.now, c.args.value.now) c.self.inside.text.bytes
     c.push_pair.new.text.bytes c.self.invariant c.self.view_is (c.is_pair.ensures.0 c.if-not-is_pair.false) c.in-None.ensures.none
     c.push_pair.ensures.exact c.push_pair.ensures.ok c.push_pair.ensures.unchanged
-
-pub returns-then-not-is_pair-clause-exact : goal.returns-then-not-is_pair-clause-exact
-returns-then-not-is_pair-clause-exact c = (
-  λ e. absurd (false≢true e),
-  λ after. sym c.if-not-is_pair.true ∙ c.is_pair.ensures.1 (last_pair c.args.self.now (c.args.name.now, c.args.value.now) after).is_pair,
-)
 
 pub returns-in-Some-clause-exact : goal.returns-in-Some-clause-exact
 returns-in-Some-clause-exact c = (
