@@ -14,7 +14,7 @@ use Rattle.std.specs.Bool.{Decides}
 use Rattle.std.specs.Cmp.Lexicographic.{pointwise}
 use Rattle.std.proofs.lemmas.Slice.Eq.{bytes_eq-Decides, slice_eq-Decides}
 use Rattle.password_hash.specs.Letters.{is_identifier_letter, is_value_letter}
-use Rattle.password_hash.specs.Pairs.{IsPair, pair_text, pairs_text, ArePairs, pair_eq, pair_of, pairs_of, IsPairsText}
+use Rattle.password_hash.specs.Pairs.{IsPair, pair_text, pairs_text, pair_eq, pair_of, pairs_of}
 
 -- no byte is c
 abbrev pub Lacks : ℕ → List ℕ → Type 0
@@ -100,13 +100,6 @@ pairs_of-pairs_text [] h = refl
 pairs_of-pairs_text (pair ∷ pairs) h =
     pairs_of_some (pairs_text (pair ∷ pairs)) (length_pairs_text pair pairs)
     ∙ ap (map pair_of) (pieces_of_pairs pair pairs h) ∙ map-pair_of (pair ∷ pairs) h
-
--- the text of parameters is kept in place of them
-pub kept_as_text : (text : List ℕ) (pairs : List (List ℕ × List ℕ)) → text ≡ pairs_text pairs → ArePairs pairs
-    → IsPairsText text × (pairs_of text ≡ pairs)
-kept_as_text text pairs e h =
-    let back : pairs_of text ≡ pairs = ap pairs_of e ∙ pairs_of-pairs_text pairs h.each in
-    (record { pairs = rw back h; whole = ap pairs_text back ∙ sym e }, back)
 
 pair_eq-Decides : (first second : List ℕ × List ℕ) → Decides (pair_eq first second) (first ≡ second)
 pair_eq-Decides first second =

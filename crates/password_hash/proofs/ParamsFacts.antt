@@ -14,8 +14,8 @@ use Rattle.std.specs.Bool.{Decides}
 use Rattle.std.specs.Cmp.Lexicographic.{pointwise}
 use Rattle.std.proofs.lemmas.Bool.Decides.{same_from_decides}
 use Rattle.std.proofs.lemmas.Slice.Eq.{bytes_eq-Decides}
-use Rattle.password_hash.specs.Pairs.{IsPair, pair_text, pairs_text, ArePairs, pair_of, pairs_of, pair_eq, with_pair, IsPairsText}
-use Rattle.password_hash.proofs.PairsFacts.{length_pairs_text, pairs_of-pairs_text, kept_as_text, pairs_eq-Decides}
+use Rattle.password_hash.specs.Pairs.{IsPair, pair_text, pairs_text, ArePairs, pair_of, pairs_of, pair_eq, with_pair}
+use Rattle.password_hash.proofs.PairsFacts.{length_pairs_text, pairs_of-pairs_text, pairs_eq-Decides}
 
 -- two rows of pieces in a row
 join_append : (c : ℕ) (first : List ℕ) (pieces : List (List ℕ)) (next : List ℕ) (others : List (List ℕ))
@@ -74,36 +74,6 @@ ArePairs-front front back h =
           omega (arith, h.short, ap (λ texts. length (join_with_byte 44 texts)) (map-append pair_text front back));
     }
 
--- what is kept after a pair was put after others, or there was no room
-pub record IsAdded {E : Type 0} (r : Result (Unit {0}) E) (pairs : List (List ℕ × List ℕ)) (pair : List ℕ × List ℕ)
-    (text : List ℕ) : Type 0 where
-  pub kept : IsPairsText text
-  pub exact : IsOk r ↔ ArePairs (pairs ++ pair ∷ [])
-  pub ok : OnOk r (pairs_of text ≡ pairs ++ pair ∷ [])
-
-with_pair-kept : (pairs : List (List ℕ × List ℕ)) (pair : List ℕ × List ℕ) (text : List ℕ) → IsPairsText text → pairs_of text ≡ pairs
-    → with_pair text pair ≡ pairs_text (pairs ++ pair ∷ [])
-with_pair-kept pairs pair text h view =
-    ap (λ t. with_pair t pair) (sym h.whole ∙ ap pairs_text view) ∙ with_pair-pairs_text pairs pair
-
-pub added : {E : Type 0} (r : Result (Unit {0}) E) (pairs : List (List ℕ × List ℕ)) (pair : List ℕ × List ℕ)
-    (old new : List ℕ) → IsPairsText old → pairs_of old ≡ pairs → IsPair pair → All (λ other. other.0 ≢ pair.0) pairs
-    → (IsOk r ↔ (length (with_pair old pair) ≤ 127)) → OnOk r (new ≡ with_pair old pair) → OnErr r (new ≡ old)
-    → IsAdded r pairs pair new
-added (Ok u) pairs pair old new h view is_pair others exact ok unchanged =
-    let text = with_pair-kept pairs pair old h view in
-    let before : ArePairs pairs = rw view at h.pairs in
-    let after : ArePairs (pairs ++ pair ∷ []) = record {
-      each = All-push IsPair pairs pair before.each is_pair;
-      once = all_pairs_push (λ first second. first.0 ≢ second.0) pairs pair before.once others;
-      short = rw text at (exact.0 refl);
-    } in
-    let kept = kept_as_text new (pairs ++ pair ∷ []) (ok ∙ text) after in
-    record { kept = kept.0; exact = (λ _. after, λ _. refl); ok = kept.1 }
-added (Err e) pairs pair old new h view is_pair others exact ok unchanged =
-    let exact_after = λ (after : ArePairs (pairs ++ pair ∷ [])). exact.1 (rw (with_pair-kept pairs pair old h view) after.short) in
-    record { kept = rw unchanged h; exact = (λ e. absurd (false≢true e), exact_after); ok = tt }
-
 -- a piece with something after its first `=` is the text of its pair
 pub pair_text-pair_of : (piece : List ℕ) → 0 < length (after_first (λ b. b == 61) piece) → pair_text (pair_of piece) ≡ piece
 pair_text-pair_of piece some =
@@ -123,10 +93,40 @@ texts_of_pairs (piece ∷ pieces) each =
     ) refl
 
 -- so the text is that of its pairs
-pub pairs_text-pairs_of : (text : List ℕ) → All IsPair (pairs_of text) → pairs_text (pairs_of text) ≡ text
-pairs_text-pairs_of [] each = refl
-pairs_text-pairs_of (byte ∷ text) each =
+pub text_of_pairs : (text : List ℕ) → All IsPair (pairs_of text) → pairs_text (pairs_of text) ≡ text
+text_of_pairs [] each = refl
+text_of_pairs (byte ∷ text) each =
     ap (join_with_byte 44) (texts_of_pairs (slice_split (λ b. b == 44) (byte ∷ text)) each) ∙ join_with_byte-slice_split 44 (byte ∷ text)
+
+-- what is kept after a pair was put after others, or there was no room
+pub record IsAdded {E : Type 0} (r : Result (Unit {0}) E) (pairs : List (List ℕ × List ℕ)) (pair : List ℕ × List ℕ)
+    (text : List ℕ) : Type 0 where
+  pub kept : ArePairs (pairs_of text)
+  pub exact : IsOk r ↔ ArePairs (pairs ++ pair ∷ [])
+  pub ok : OnOk r (pairs_of text ≡ pairs ++ pair ∷ [])
+
+with_pair-kept : (pairs : List (List ℕ × List ℕ)) (pair : List ℕ × List ℕ) (text : List ℕ) → ArePairs (pairs_of text) → pairs_of text ≡ pairs
+    → with_pair text pair ≡ pairs_text (pairs ++ pair ∷ [])
+with_pair-kept pairs pair text h view =
+    ap (λ t. with_pair t pair) (sym (text_of_pairs text h.each) ∙ ap pairs_text view) ∙ with_pair-pairs_text pairs pair
+
+pub added : {E : Type 0} (r : Result (Unit {0}) E) (pairs : List (List ℕ × List ℕ)) (pair : List ℕ × List ℕ)
+    (old new : List ℕ) → ArePairs (pairs_of old) → pairs_of old ≡ pairs → IsPair pair → All (λ other. other.0 ≢ pair.0) pairs
+    → (IsOk r ↔ (length (with_pair old pair) ≤ 127)) → OnOk r (new ≡ with_pair old pair) → OnErr r (new ≡ old)
+    → IsAdded r pairs pair new
+added (Ok u) pairs pair old new h view is_pair others exact ok unchanged =
+    let text = with_pair-kept pairs pair old h view in
+    let before : ArePairs pairs = rw view at h in
+    let after : ArePairs (pairs ++ pair ∷ []) = record {
+      each = All-push IsPair pairs pair before.each is_pair;
+      once = all_pairs_push (λ first second. first.0 ≢ second.0) pairs pair before.once others;
+      short = rw text at (exact.0 refl);
+    } in
+    let back : pairs_of new ≡ pairs ++ pair ∷ [] = ap pairs_of (ok ∙ text) ∙ pairs_of-pairs_text _ after.each in
+    record { kept = rw back after; exact = (λ _. after, λ _. refl); ok = back }
+added (Err e) pairs pair old new h view is_pair others exact ok unchanged =
+    let exact_after = λ (after : ArePairs (pairs ++ pair ∷ [])). exact.1 (rw (with_pair-kept pairs pair old h view) after.short) in
+    record { kept = rw unchanged h; exact = (λ e. absurd (false≢true e), exact_after); ok = tt }
 
 -- a test of two texts of parameters tests the parameters
 pub tested : (xs ys : List (List ℕ × List ℕ)) (r : Bool) → ArePairs xs → ArePairs ys

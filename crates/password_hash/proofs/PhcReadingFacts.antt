@@ -1,6 +1,6 @@
 -- PHC texts are read as the hashes that they are printed of.
-use Rattle.std.proofs.Common.{◌≡◌, ◌≢◌, ◌↔◌, ◌^◌, ◌<◌, ◌≤◌, ◌==◌, ℕ, zero, suc, Bool, false, true, not, List, [], ◌∷◌, ◌++◌}
-use Rattle.std.proofs.Common.{length, drop, codes, Option, None, Some, refl, sym, ap, subst, ◌∙◌, arith, inl, inr}
+use Rattle.std.proofs.Common.{◌≡◌, ◌≢◌, ◌↔◌, ◌^◌, ◌<◌, ◌≤◌, ◌==◌, ℕ, zero, suc, false, true, not, List, [], ◌∷◌, ◌++◌}
+use Rattle.std.proofs.Common.{length, drop, codes, Option, None, Some, refl, sym, ap, ◌∙◌, arith, inl, inr}
 use Rattle.std.specs.Borrow.{Bor}
 use Rattle.std.specs.Prelude.{All, AllPairs, IfSome, IsSome, OnSome, decimal, is_some, nat_eq, nat_le, nat_lt}
 use Rattle.std.specs.Bool.{Decides}
@@ -23,13 +23,14 @@ use Rattle.password_hash.specs.Pairs.{IsPair, ArePairs, pairs_of, pairs_text}
 use Rattle.password_hash.specs.Parts.{parts_left, parts_of, parts_text}
 use Rattle.password_hash.specs.Phc.{IsHashText, IsKey, IsSalt, base64, hash_parts, hash_text, params_part, salt_and_key_parts, version_part}
 use Rattle.password_hash.specs.PhcReading.{are_bytes_from_to, are_pairs, decoded_bytes, hash_after, hash_of_parts, is_identifier, is_pair, is_value}
-use Rattle.password_hash.specs.PhcReading.{kept, names_differ, params_and_rest, parsed_pairs, read_hash, salt_and_key, version_and_rest}
+use Rattle.password_hash.specs.PhcReading.{names_differ, params_and_rest, parsed_pairs, read_hash, salt_and_key, version_and_rest}
 use Rattle.password_hash.specs.ShortBytes.{AreBytesFromTo}
 use Rattle.password_hash.specs.declared.phc.hash.PasswordHash.{PasswordHash}
 use Rattle.base64.proofs.Streams.{decoded_of-ok}
 use Rattle.password_hash.proofs.Base64Facts.{decode_of-base64}
 use Rattle.password_hash.proofs.DecimalFacts.{IsDecimal-decimal, decimal_found, decimal_of, decimal_only}
 use Rattle.password_hash.proofs.HashFacts.{IsVersion, LacksVersion, lacking_no_version, params_no_version, parts_lack, salt_and_key_lack}
+use Rattle.password_hash.proofs.ParamsFacts.{text_of_pairs}
 use Rattle.password_hash.proofs.PairsFacts.{Lacks, equals_of_pairs, pairs_of-pairs_text}
 use Rattle.password_hash.proofs.PartsFacts.{parts_of-parts_text, text_of_parts}
 
@@ -74,7 +75,7 @@ names_decided (pair ∷ pairs) =
     ))
     (Decides-and _ _ first (names_decided pairs))
 
-pairs_decided : (pairs : List (List ℕ × List ℕ)) → Decides (are_pairs pairs) (ArePairs pairs)
+pub pairs_decided : (pairs : List (List ℕ × List ℕ)) → Decides (are_pairs pairs) (ArePairs pairs)
 pairs_decided pairs = Decides-like (are_pairs pairs)
     (λ h. record { each = h.0; once = h.1.0; short = h.1.1 })
     (λ (are : ArePairs pairs). (are.each, (are.once, are.short)))
@@ -96,32 +97,29 @@ within_decided least most xs = Decides-like (are_bytes_from_to least most xs)
     (λ (are : AreBytesFromTo least most xs). (are.enough, (are.fits, are.are_bytes)))
     (Decides-and _ _ (leb_decided _ _) (Decides-and _ _ (leb_decided _ _) (bytes_decided xs)))
 
--- what is kept of a candidate is what is allowed, if each allowed value is the candidate
-kept_exact : {X : Type 0} (p : X → Bool) (P : X → Type 0) (candidate : Option X) → ((x : X) → Decides (p x) (P x))
-    → ((x : X) → P x → candidate ≡ Some x) → (x : X) → (kept p candidate ≡ Some x) ↔ P x
-kept_exact p P None decided only x = (λ is. absurd cc, λ is. let e = only x is in absurd cc)
-kept_exact p P (Some y) decided only x = (
-  λ is. let (passes, same) = cond_some (p y) y x is in subst P same ((decided y).0 passes),
-  λ is.
-      let found = only x is in
-      let same : y ≡ x = cc in
-      rw (same, (decided x).1 is) refl,
-)
-
 pub pairs_exact : (text : List ℕ) (pairs : List (List ℕ × List ℕ))
     → (parsed_pairs text ≡ Some pairs) ↔ (ArePairs pairs × (text ≡ pairs_text pairs))
 unfolding parsed_pairs
-pairs_exact text pairs = kept_exact _ (λ pairs. ArePairs pairs × (text ≡ pairs_text pairs)) (Some (pairs_of text))
-    (λ pairs. Decides-and _ _ (pairs_decided pairs) (bytes_eq-Decides text (pairs_text pairs)))
-    (λ pairs is. ap (λ pairs. Some pairs) (ap pairs_of is.1 ∙ pairs_of-pairs_text pairs is.0.each)) pairs
+pairs_exact text pairs = (
+  λ is.
+      let (passes, same) = cond_some (are_pairs (pairs_of text)) (pairs_of text) pairs is in
+      let are = (pairs_decided (pairs_of text)).0 passes in
+      rw (← same) (are, sym (text_of_pairs text are.each)),
+  λ is.
+      let same : pairs_of text ≡ pairs = ap pairs_of is.1 ∙ pairs_of-pairs_text pairs is.0.each in
+      rw (same, (pairs_decided pairs).1 is.0) refl,
+)
 
 pub bytes_exact : (least : ℕ) (letters bytes : List ℕ)
     → (decoded_bytes least letters ≡ Some bytes) ↔ (AreBytesFromTo least 64 bytes × (letters ≡ base64 bytes))
 unfolding decoded_bytes
 bytes_exact least letters bytes =
-    kept_exact _ (λ bytes. AreBytesFromTo least 64 bytes × (letters ≡ base64 bytes)) (decoded_of standard_no_pad letters)
-    (λ bytes. Decides-and _ _ (within_decided least 64 bytes) (bytes_eq-Decides letters (base64 bytes)))
-    (λ bytes is. decoded_of-ok standard_no_pad letters bytes (decode_of-base64 letters bytes is.0.are_bytes is.1)) bytes
+    let decided = Decides-and _ _ (within_decided least 64 bytes) (bytes_eq-Decides letters (base64 bytes)) in (
+      λ is. option_and_then_some _ (decoded_of standard_no_pad letters) bytes is (λ found _ is.
+          let (passes, same) = cond_some _ found bytes is in
+          decided.0 (rw same at passes)),
+      λ is. rw (decoded_of-ok standard_no_pad letters bytes (decode_of-base64 letters bytes is.0.are_bytes is.1), decided.1 is) refl,
+    )
 
 -- without an allowed value there is none
 pub none_exact : {X : Type 0} (P : X → Type 0) (answer : Option X) → ((x : X) → (answer ≡ Some x) ↔ P x) → ((x : X) → ¬ P x)

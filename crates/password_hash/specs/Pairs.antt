@@ -1,5 +1,5 @@
 -- The parameters of a hash (PHC string format): pairs of a name and a value.
-use Rattle.std.specs.Prelude.{◌≡◌, ◌≢◌, ℕ, ◌≤◌, ◌==◌, ◌&&◌, Bool, nat_eq, List, [], ◌∷◌, ◌++◌, length, map, codes, All, AllPairs, Option}
+use Rattle.std.specs.Prelude.{◌≢◌, ℕ, ◌≤◌, ◌==◌, ◌&&◌, Bool, nat_eq, List, [], ◌∷◌, ◌++◌, length, map, codes, All, AllPairs, Option}
 use Rattle.std.specs.Borrow.{Bor}
 use Rattle.std.specs.List.{join_with_byte, slice_split, before_first, after_first}
 use Rattle.std.specs.Cmp.Lexicographic.{pointwise}
@@ -47,8 +47,3 @@ pairs_of (byte ∷ text) = map pair_of (slice_split (λ b. b == 44) (byte ∷ te
 -- the pairs of what is left of a text of pairs, if anything is
 abbrev pub pairs_left : Option (Bor (List ℕ)) → List (List ℕ × List ℕ)
 pairs_left left = map pair_of (pieces_left 44 left)
-
--- the text is exactly the text of the pairs that it encodes
-pub record IsPairsText (text : List ℕ) : Type 0 where
-  pub pairs : ArePairs (pairs_of text)
-  pub whole : pairs_text (pairs_of text) ≡ text

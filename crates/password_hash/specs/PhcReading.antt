@@ -42,18 +42,15 @@ infixl 10 ◌>>=◌
 abbrev pub ◌>>=◌ : {A B : Type 0} → Option A → (A → Option B) → Option B
 o >>= f = option_and_then f o
 
--- the candidate, if it passes the test
-abbrev pub kept : {X : Type 0} → (X → Bool) → Option X → Option X
-kept p candidate = candidate >>= λ x. if p x then Some x else None
-
--- the allowed pairs that the text is printed of
+-- the pairs of a text, if they are allowed
 unfoldable pub parsed_pairs : List ℕ → Option (List (List ℕ × List ℕ))
-parsed_pairs text = kept (λ pairs. are_pairs pairs && bytes_eq text (pairs_text pairs)) (Some (pairs_of text))
+parsed_pairs text = if are_pairs (pairs_of text) then Some (pairs_of text) else None
 
 -- the bytes that letters encode, if there are from `least` to 64
 unfoldable pub decoded_bytes : ℕ → List ℕ → Option (List ℕ)
-decoded_bytes least letters =
-    kept (λ bytes. are_bytes_from_to least 64 bytes && bytes_eq letters (base64 bytes)) (decoded_of standard_no_pad letters)
+decoded_bytes least letters = do
+  bytes ← decoded_of standard_no_pad letters
+  if are_bytes_from_to least 64 bytes && bytes_eq letters (base64 bytes) then Some bytes else None
 
 -- the version, if the first part begins with `v=`, and the parts after it
 abbrev pub version_and_rest : List (List ℕ) → Option (Option ℕ × List (List ℕ))

@@ -29,13 +29,13 @@ pub struct ParamsString {
 
 impl Model for ParamsString {
     ghost use Rattle.std.specs.Prelude.{ℕ, List};
-    ghost use Rattle.password_hash.specs.Pairs.{pairs_of, IsPairsText};
+    ghost use Rattle.password_hash.specs.Pairs.{ArePairs, pairs_of};
 
     ghost Value = { List (List ℕ × List ℕ) };
 
     ghost view = { λ a. pairs_of a.text.bytes };
 
-    ghost invariant = { λ a. IsPairsText a.text.bytes };
+    ghost invariant = { λ a. ArePairs (pairs_of a.text.bytes) };
 }
 
 impl ParamsString {
@@ -49,6 +49,7 @@ impl ParamsString {
     }
 
     /// Returns the text of the parameters, at most 127 bytes. It is empty if there are none.
+    #[tactic(auto, using(crate::proofs::ParamsFacts::text_of_pairs))]
     pub fn as_str(&self) -> &str
         ensures value { result.now ≡ pairs_text self.now }
         ensures pairs { ArePairs self.now }
