@@ -1,7 +1,7 @@
 -- Decimal digits.
-use Rattle.std.proofs.Common.{◌≡◌, ◌≢◌, ◌&&◌, ℕ, ◌^◌, ◌<◌, ◌≤◌, true, false, nat_lt, List, length, get_or, slice_index}
+use Rattle.std.proofs.Common.{◌≡◌, ◌≢◌, ◌↔◌, ◌&&◌, ℕ, ◌^◌, ◌<◌, ◌≤◌, true, false, nat_lt, List, length, get_or, slice_index}
 use Rattle.std.proofs.Common.{Option, None, Some, Result, Ok, Err, refl, sym, ap, ◌∙◌, arith, inl, inr}
-use Rattle.std.specs.Prelude.{decimal, IfSome}
+use Rattle.std.specs.Prelude.{decimal}
 use Rattle.std.specs.Result.{OkIff, result_ok}
 use Rattle.std.specs.Str.{all_ascii_digits}
 use Rattle.std.specs.Str.Parse.{AllDigits, digits_value}
@@ -12,19 +12,14 @@ use Rattle.std.proofs.lemmas.Str.Parse.{tells_all_ascii_digits, digit_at, not_in
 use Rattle.std.proofs.lemmas.List.Elements.{All-from_get_or}
 use Rattle.std.proofs.lemmas.List.Sums.{list_all-from_AllPass}
 use Rattle.std.proofs.lemmas.Bool.Decides.{nat_tests}
+use Rattle.std.proofs.lemmas.Option.{cond_some}
 use Rattle.password_hash.specs.Letters.{is_value_letter, IsValue}
-use Rattle.password_hash.specs.Decimal.{DecimalGives, IsDecimal, UnsignedGives, decimal_below, has_plus_or_leading_zero, is_decimal}
+use Rattle.password_hash.specs.Decimal.{DecimalGives, UnsignedGives, decimal_below, has_plus_or_leading_zero, is_decimal}
 
 digits : IsNumeralModel (AllDigits 10) (digits_value 10)
 digits = numerals_by_value (AllDigits 10) tells_digits
 
--- a decimal text is what is printed of its number
-pub decimal_of : (text : List ℕ) (n : ℕ) → IsDecimal text n → text ≡ decimal n
-decimal_of text n h =
-    let again : decimal (digits_value 10 text) ≡ text = decimal-digits_value digits text h.digits h.some
-    h.no_leading_zero (omega (arith, h.value, h.small)) in
-    sym again ∙ ap decimal h.value
-
+-- what is printed of a number does not begin with a zero, unless the number is one
 leads : (n : ℕ) → n < 2 ^ 32 → slice_index (decimal n) 0 ≡ 48 → length (decimal n) ≡ 1
 leads n small zero = elim (cases_lt 0 n) [
   | inl some ↦
@@ -35,20 +30,14 @@ leads n small zero = elim (cases_lt 0 n) [
       rw (is_zero, decimal_digit 0 (omega arith)) refl
 ]
 
--- and what is printed of a number is a decimal text
-pub IsDecimal-decimal : (n : ℕ) → n < 2 ^ 32 → IsDecimal (decimal n) n
-IsDecimal-decimal n small =
-    let both = decimal_is_IsNumeral n (omega arith) in
-    record { some = both.0.0; digits = both.0.1; no_leading_zero = leads n small; value = both.1; small = small }
-
 -- a number in decimal digits is a value
 pub IsValue-decimal : (n : ℕ) → n < 2 ^ 32 → IsValue (decimal n)
 IsValue-decimal n small =
-    let written = IsDecimal-decimal n small in
-    let letter = λ (i : ℕ) (below : i < length (decimal n)). let range = digit_at (decimal n) i written.digits below in
+    let (some, digits) = (decimal_is_IsNumeral n (omega arith)).0 in
+    let letter = λ (i : ℕ) (below : i < length (decimal n)). let range = digit_at (decimal n) i digits below in
     is_value_letter_digit (get_or (decimal n) i 0) (omega (arith, range)) (omega (arith, range)) in
     record {
-      some = written.some;
+      some = some;
       letters = list_all-from_AllPass is_value_letter (decimal n) (All-from_get_or (λ b. is_value_letter b ≡ true) (decimal n) 0 letter);
     }
   where
@@ -86,29 +75,23 @@ decimal_gives k text answer given = elim (cases_Bool (has_plus_or_leading_zero t
       (parse_plain (numerals_by_value _ tells_all_ascii_digits) k text read.0 read.1.0 (no_plus text plain))
 ]
 
-pub decimal_found : (text : List ℕ) → IfSome (decimal_below (2 ^ 32) text) (IsDecimal text)
+-- the decimal texts of numbers below 2 ^ 32 are what is printed of these
+pub decimal_exact : (text : List ℕ) (n : ℕ) → (decimal_below (2 ^ 32) text ≡ Some n) ↔ ((n < 2 ^ 32) × (text ≡ decimal n))
 unfolding decimal_below has_plus_or_leading_zero
-decimal_found text = elim (cases_Bool (is_decimal text && nat_lt (digits_value 10 text) (2 ^ 32))) [
-  | inl is ↦ rw is (record {
-    some = grind (arith, nat_tests);
-    digits = (numerals_by_value _ tells_all_ascii_digits).to text (grind (arith, nat_tests));
-    no_leading_zero = λ zero. grind (arith, nat_tests);
-    value = refl;
-    small = grind (arith, nat_tests);
-  })
-  | inr other ↦ rw other tt
-]
-
-pub decimal_only : (text : List ℕ) (n : ℕ) → IsDecimal text n → decimal_below (2 ^ 32) text ≡ Some n
-unfolding decimal_below has_plus_or_leading_zero
-decimal_only text n h =
-    let digits : all_ascii_digits text ≡ true = (numerals_by_value _ tells_all_ascii_digits).from text h.digits in
-    let some = h.some in
-    let zero = h.no_leading_zero in
-    let value = h.value in
-    let small = h.small in
-    let plus : slice_index text 0 ≢ 43 = not_in_digits (numerals_by_value (AllDigits 10) tells_digits) text 43 h.digits (λ range. omega arith) 0 h.some in
-    grind (arith, nat_tests)
-
--- what a decimal text gives
-pub ruleset decimals = (decimal_found, decimal_only)
+decimal_exact text n = (
+  λ is.
+      let (passes, value) = cond_some (is_decimal text && nat_lt (digits_value 10 text) (2 ^ 32)) (digits_value 10 text) n is in
+      let are = (numerals_by_value _ tells_all_ascii_digits).to text (grind (arith, nat_tests)) in
+      let again : decimal (digits_value 10 text) ≡ text =
+      decimal-digits_value digits text are (grind (arith, nat_tests)) (λ zero. grind (arith, nat_tests)) (grind (arith, nat_tests)) in
+      (grind (arith, nat_tests), sym again ∙ ap decimal value),
+  λ is. rw is.1 (printed is.0),
+)
+  where
+    printed : n < 2 ^ 32 → decimal_below (2 ^ 32) (decimal n) ≡ Some n
+    printed small =
+        let ((some, are), value) = decimal_is_IsNumeral n (omega arith) in
+        let ascii : all_ascii_digits (decimal n) ≡ true = (numerals_by_value _ tells_all_ascii_digits).from (decimal n) are in
+        let zero = leads n small in
+        let plus : slice_index (decimal n) 0 ≢ 43 = not_in_digits digits (decimal n) 43 are (λ range. omega arith) 0 some in
+        grind (arith, nat_tests)

@@ -28,7 +28,7 @@ use Rattle.password_hash.specs.ShortBytes.{AreBytesFromTo}
 use Rattle.password_hash.specs.declared.phc.hash.PasswordHash.{PasswordHash}
 use Rattle.base64.proofs.Streams.{decoded_of-ok}
 use Rattle.password_hash.proofs.Base64Facts.{decode_of-base64}
-use Rattle.password_hash.proofs.DecimalFacts.{IsDecimal-decimal, decimal_found, decimal_of, decimal_only}
+use Rattle.password_hash.proofs.DecimalFacts.{decimal_exact}
 use Rattle.password_hash.proofs.HashFacts.{IsVersion, LacksVersion, lacking_no_version, params_no_version, parts_lack, salt_and_key_lack}
 use Rattle.password_hash.proofs.ParamsFacts.{text_of_pairs}
 use Rattle.password_hash.proofs.PairsFacts.{Lacks, equals_of_pairs, pairs_of-pairs_text}
@@ -137,7 +137,7 @@ version_taken None (part ∷ others) is none =
     All-head LacksVersion part others none _ ((starts_is Decides-eqb part (codes "v=") _ refl).0 begins)) in
     rw other refl
 version_taken (Some number) others is none =
-    rw (decimal_only (decimal number) number (IsDecimal-decimal number is)) refl
+    rw ((decimal_exact (decimal number) number).1 (is, refl)) refl
 
 params_taken : (params : List (List ℕ × List ℕ)) (others : List (List ℕ)) → ArePairs params → All (Lacks 61) others
     → params_and_rest (params_part params ++ others) ≡ Some (params, others)
@@ -194,9 +194,9 @@ version_read (part ∷ after) read is = elim (cases_Bool (starts_with nat_eq par
       let digits = after_first (λ b. b == 61) part in
       let same = sym (ap (after_first (λ b. b == 61)) front) in
       option_and_then_some _ (decimal_below (2 ^ 32) digits) read (rw begins at is) (λ number below is.
-      let found = rw below at (decimal_found digits) in
+      let found = (decimal_exact digits number).0 below in
       let one : read ≡ (Some number, after) = cc in
-      rw one (found.small, ap (λ part. part ∷ after) (front ∙ ap (λ digits. codes "v=" ++ digits) (same ∙ decimal_of digits number found))))
+      rw one (found.0, ap (λ part. part ∷ after) (front ∙ ap (λ digits. codes "v=" ++ digits) (same ∙ found.1))))
   | inr other ↦
       let said = rw other at is in
       let same : read ≡ (None, part ∷ after) = cc in

@@ -1,18 +1,10 @@
 -- Numbers in decimal digits, as in the PHC string format.
-use Rattle.std.specs.Prelude.{◌≡◌, ℕ, ◌^◌, ◌||◌, ◌&&◌, ◌==◌, ◌<◌, not, nat_lt, Bool, if◌then◌else◌, List, length}
+use Rattle.std.specs.Prelude.{◌≡◌, ℕ, ◌||◌, ◌&&◌, ◌==◌, not, nat_lt, Bool, if◌then◌else◌, List, length}
 use Rattle.std.specs.Prelude.{slice_index, Option, Some, None, Result, MatchBool}
 use Rattle.std.specs.Result.{result_ok}
 use Rattle.std.specs.Str.{all_ascii_digits}
-use Rattle.std.specs.Str.Parse.{AllDigits, ExplainsUnsignedError, HasUnsignedDigitsIfOk, ParsesUnsigned, digits_value}
+use Rattle.std.specs.Str.Parse.{ExplainsUnsignedError, HasUnsignedDigitsIfOk, ParsesUnsigned, digits_value}
 use Rattle.std.specs.declared.num.ParseIntError.{ParseIntError}
-
--- one or more digits, the first not a zero unless it is the only one, of a number below 2 ^ 32
-pub record IsDecimal (text : List ℕ) (number : ℕ) : Type 0 where
-  pub some : 0 < length text
-  pub digits : AllDigits 10 text
-  pub no_leading_zero : slice_index text 0 ≡ 48 → length text ≡ 1
-  pub value : digits_value 10 text ≡ number
-  pub small : number < 2 ^ 32
 
 -- the text begins with a plus, or with a zero that is not its only digit
 unfoldable pub has_plus_or_leading_zero : List ℕ → Bool

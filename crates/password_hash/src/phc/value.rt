@@ -1,6 +1,6 @@
 //! The value of a parameter.
-ghost use Rattle.std.specs.Prelude.{◌≡◌, ℕ, IfOk, IfErr, Ok};
-ghost use Rattle.password_hash.specs.Decimal.{IsDecimal};
+ghost use Rattle.std.specs.Prelude.{◌≡◌, ◌^◌, ok_or};
+ghost use Rattle.password_hash.specs.Decimal.{decimal_below};
 ghost use Rattle.password_hash.specs.Value.{value_text};
 ghost use Rattle.password_hash.specs.declared.error.Error.TheVariants.{EncodingInvalid};
 
@@ -25,11 +25,8 @@ impl<'a> Value<'a> {
     ///
     /// Returns `EncodingInvalid` unless it is a number below 2^32 in decimal digits, without a
     /// leading zero except in `0` itself.
-    #[tactic(auto, using(crate::proofs::DecimalFacts::decimals))]
     pub fn decimal(&self) -> Result<u32>
-        ensures ok { IfOk result (IsDecimal (value_text self.now)) }
-        ensures only { (n : ℕ) → IsDecimal (value_text self.now) n → result ≡ Ok n }
-        ensures err { IfErr result (λ e. e ≡ EncodingInvalid) }
+        ensures value { result ≡ ok_or (decimal_below (2 ^ 32) (value_text self.now)) EncodingInvalid }
     {
         read_u32(self.text).ok_or(Error::EncodingInvalid)
     }

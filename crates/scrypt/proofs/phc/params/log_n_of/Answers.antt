@@ -1,6 +1,8 @@
-use Rattle.std.proofs.Common.{arith, codes, sym}
-use Rattle.scrypt.proofs.PhcReadingFacts.{number_large}
+use Rattle.std.proofs.Common.{arith, refl}
+use Rattle.scrypt.proofs.PhcReadingFacts.{larger, number_is}
 use Rattle.scrypt.proofs.phc.params.log_n_of.Goals as goal
 
 pub returns-in-Err : goal.returns-in-Err
-returns-in-Err c = sym (number_large (codes "ln") 256 _ c.in-Ok.number c.in-Ok.ensures.ok (omega (arith, c.in-Err.ensures)))
+returns-in-Err c =
+    let found = number_is _ _ c.in-Ok.number c.in-Ok.ensures.value in
+    rw (larger 256 _ c.in-Ok.number found (omega (arith, c.in-Err.ensures))) refl
