@@ -1,7 +1,7 @@
 //! Key derivation functions, from a password and a salt to a key.
 ghost use Rattle.std.specs.Prelude.{◌≡◌, List, ℕ, OnOk, OnErr, IfErr, length};
 
-use std::alloc::{AllocError, Global};
+use std::alloc::Global;
 
 /// An error from deriving a key.
 #[derive(Clone, Copy, Debug, PartialEq, Eq, thiserror::Error)]
@@ -16,17 +16,6 @@ pub enum Error {
 
 /// The result type of deriving a key.
 pub type Result<T> = std::result::Result<T, Error>;
-
-impl From<AllocError> for Error {
-    ghost use Rattle.std.specs.Prelude.{◌≡◌};
-    ghost use Rattle.password_hash.specs.declared.kdf.Error.TheVariants.{OutOfMemory};
-
-    ghost from_gives = { λ _ e. e ≡ OutOfMemory };
-
-    fn from(_e: AllocError) -> Error {
-        Error::OutOfMemory
-    }
-}
 
 /// A key derivation function, from a password and a salt to a key of the requested length.
 pub trait Kdf {
