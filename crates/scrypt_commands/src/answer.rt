@@ -72,11 +72,7 @@ impl<'a> Command<'a> {
 fn limits_by(bounds: Option<Bounds>, wanted: &Option<Making>) -> Option<Limits>
     ensures { result ≡ limits_by bounds (option_map making_view wanted.now) }
 {
-    let bounds = bounds?;
-    match wanted {
-        Some(making) => Some(bounds.limits(Some(&making.params))),
-        None => Some(bounds.limits(None)),
-    }
+    Some(bounds?.limits(wanted))
 }
 
 // Makes what is wanted in place of a hash with this password, if the hash is weaker.

@@ -1,10 +1,11 @@
 // What a stored hash may need, and how short its key may be.
 
 ghost use Rattle.std.specs.Prelude.{◌≡◌, option_map};
-ghost use Rattle.scrypt_commands.specs.Bounds.{limits_of, with_number};
+ghost use Rattle.scrypt_commands.specs.Bounds.{limits_of, usual, with_number};
 
 use crate::args::parse_len;
-use scrypt::{BufferLens, Limits, Params};
+use crate::command::Making;
+use scrypt::{BufferLens, Limits};
 
 /// What a stored hash may need.
 #[derive(Clone, Copy)]
@@ -17,14 +18,18 @@ pub struct Bounds {
     pub least_key_len: Option<usize>,
 }
 
-/// The usual limits on memory and work.
-pub const USUAL: Bounds = Bounds {
-    most_bytes: Limits::USUAL.most_bytes,
-    most_work: Limits::USUAL.most_work,
-    least_key_len: None,
-};
-
 impl Bounds {
+    /// Returns the usual limits on memory and work.
+    pub fn usual() -> Bounds
+        ensures value { result ≡ usual }
+    {
+        Bounds {
+            most_bytes: Limits::USUAL.most_bytes,
+            most_work: Limits::USUAL.most_work,
+            least_key_len: None,
+        }
+    }
+
     /// Returns the bounds with the one of this name, or `None` if there is none of it, or the value is not
     /// a number.
     #[tactic(auto, using(crate::proofs::ArgsFacts::other), unfolding(crate::specs::Bounds::with_number))]
@@ -51,18 +56,18 @@ impl Bounds {
     /// Returns the limits on a hash: a key has at least 16 bytes, unless another length is named. If a new
     /// hash is wanted in its place, they are at least what that needs, and a short key, which is weaker
     /// than wanted, is allowed unless a length is named.
-    pub fn limits(self, wanted: Option<&Params>) -> Limits
-        ensures value { result ≡ limits_of self (option_map (λ c. c.now) wanted.entry) }
+    pub fn limits(self, wanted: &Option<Making>) -> Limits
+        ensures value { result ≡ limits_of self (option_map (λ making. making.params) wanted.now) }
     {
-        let Some(wanted) = wanted else {
+        let Some(Making { params, .. }) = wanted else {
             return Limits {
                 most_bytes: self.most_bytes,
                 most_work: self.most_work,
                 least_key_len: self.least_key_len.unwrap_or(Limits::USUAL.least_key_len),
             };
         };
-        let bytes = BufferLens::of(wanted).bytes();
-        let work = wanted.work();
+        let bytes = BufferLens::of(params).bytes();
+        let work = params.work();
         Limits {
             most_bytes: self
                 .most_bytes

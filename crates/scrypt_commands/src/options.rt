@@ -5,7 +5,7 @@ ghost use Rattle.scrypt_commands.specs.Args.{texts_of};
 ghost use Rattle.scrypt_commands.specs.Options.{information_text, is_about_hash, misfit, misfit_line, options_of, password_of, with_option, with_value, without_newline};
 
 use crate::args::first_word;
-use crate::bounds::{Bounds, USUAL};
+use crate::bounds::Bounds;
 
 /// The options before a command.
 #[derive(Clone, Copy)]
@@ -115,7 +115,7 @@ impl Options {
     {
         let mut options = self;
         match word {
-            "--usual-limits" => options.bounds = Some(USUAL),
+            "--usual-limits" => options.bounds = Some(Bounds::usual()),
             "--draw-salt" => options.draws_salt = true,
             "--recommended" => {
                 options.is_recommended = true;
@@ -135,14 +135,19 @@ impl Options {
     fn with_value(self, word: &str) -> Option<Options>
         ensures value { result ≡ with_value self word.now }
     {
-        let (name, value) = word.split_once('=')?;
+        let Some((name, value)) = word.split_once('=') else {
+            return None;
+        };
         if name == "--hash-file" {
             return Some(Options {
                 has_hash_file: true,
                 ..self
             });
         }
-        let bounds = self.bounds.unwrap_or(USUAL).with_number(name, value)?;
+        let bounds = self
+            .bounds
+            .unwrap_or(Bounds::usual())
+            .with_number(name, value)?;
         Some(Options {
             bounds: Some(bounds),
             ..self

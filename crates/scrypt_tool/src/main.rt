@@ -57,15 +57,9 @@ fn arguments(rt: &HostRuntime) -> io::Result<Vec<String>> {
 
 // The file that the options name, the last one if they name several.
 fn file_of(args: &[String]) -> &str {
-    let mut file = "";
-    for arg in args {
-        if let Some(named) = arg.strip_prefix("--hash-file=") {
-            file = named;
-        } else if !arg.starts_with("--") {
-            break;
-        }
-    }
-    file
+    let options = args.iter().take_while(|arg| arg.starts_with("--"));
+    let files = options.filter_map(|arg| arg.strip_prefix("--hash-file="));
+    files.last().unwrap_or("")
 }
 
 // Adds the hash in that file, which is its text without the newline at its end.
