@@ -4,7 +4,7 @@
 The compiler has to refuse each crates/NAME/must-not-compile/*.edit, because it uses something private or makes the
 `prove!` of a constant false: clauses name constants, so they hold for any value.
 
-A count of cores could be wrong in three more ways, which are refused: a handwritten proof other than the two of the
+A count of cores could be wrong in three more ways, which are refused: a handwritten proof other than the one of the
 counter; a new count anywhere but where a derivation begins, or in a test; and an impl for the counter that makes
 another count. Another name for the counter is refused too, since it could hide a new count.
 
@@ -23,8 +23,7 @@ import edits
 sys.path.append(str(Path(__file__).parent.parent / "doc"))
 import sources
 
-COUNTER = "crates/scrypt_kernel/proofs/cores/CoreCount/"
-HANDWRITTEN = [f"{COUNTER}{function}/Proof.antt" for function in ["after_core", "new"]]
+HANDWRITTEN = ["crates/scrypt_kernel/proofs/cores/count/CoreCount/of/Proof.antt"]
 NEW_COUNTS = {
     "crates/scrypt/src/derivation.rt": 1,
     "crates/scrypt/src/hashing.rt": 1,
@@ -41,7 +40,7 @@ NEW = re.compile(r"\bCoreCount\s*>?\s*::\s*new\b")
 OTHER_NAMES = re.compile(r"\bCoreCount\s+as\b|\btype\s+\w+[^=;]*=[^;]*\bCoreCount\b|\buse\s[^;]*\bCoreCount\s*::")
 
 # The counter's own file, and the only impls for it.
-COUNTER_SOURCE = "crates/scrypt_kernel/src/cores.rt"
+COUNTER_SOURCE = "crates/scrypt_kernel/src/cores/count.rt"
 COUNTER_IMPLS = {"impl CoreCount", "impl Model for CoreCount"}
 
 # The clauses by which an impl of `PartialEq` compares the whole values.

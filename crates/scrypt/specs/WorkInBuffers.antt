@@ -3,7 +3,7 @@ use Rattle.std.specs.Prelude.{◌≡◌, ℕ, ◌≤◌, ◌*◌, ◌/◌, min, 
 use Rattle.password_hash.specs.Refusal.{Refusal, OutOfMemory}
 use Rattle.password_hash.specs.declared.error.Error.{Error}
 use Rattle.scrypt_kernel.specs.Count.{AreCounted}
-use Rattle.scrypt_kernel.specs.declared.cores.CoreCount.{CoreCount}
+use Rattle.scrypt_kernel.specs.declared.cores.count.CoreCount.{CoreCount}
 use Rattle.scrypt.specs.Accepted.{Parameters}
 use Rattle.scrypt.specs.Cost.{chunks_bytes, cost, scratch_words, table_words}
 use Rattle.scrypt.specs.InBuffers.{IsWiped}

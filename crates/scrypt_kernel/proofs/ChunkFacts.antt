@@ -7,7 +7,7 @@ use Rattle.std.specs.Int.{w32, to_le_bytes}
 use Rattle.scrypt_kernel.specs.Words.{bytes_of, le_number, part, words_of}
 use Rattle.scrypt_kernel.specs.RoMix.{ro_mix}
 use Rattle.scrypt_kernel.specs.Diagonal.{AreInverse, permuted}
-use Rattle.scrypt_kernel.specs.declared.cores.CoreCount.{CoreCount}
+use Rattle.scrypt_kernel.specs.declared.cores.count.CoreCount.{CoreCount}
 use Rattle.scrypt_kernel.specs.Count.{AreCountedAs}
 use Rattle.scrypt_kernel.specs.RoMixCost.{ro_mix_cost}
 use Rattle.scrypt_kernel.specs.Table.{thin_ro_mix_cost}

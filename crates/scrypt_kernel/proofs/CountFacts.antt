@@ -1,6 +1,6 @@
 -- Facts on the count of cores.
 use Rattle.std.proofs.Common.{◌≡◌, ℕ, ◌+◌, Bool, true, false, arith}
-use Rattle.scrypt_kernel.specs.declared.cores.CoreCount.{CoreCount}
+use Rattle.scrypt_kernel.specs.declared.cores.count.CoreCount.{CoreCount}
 use Rattle.scrypt_kernel.specs.Count.{AreCountedAs}
 
 -- no core more

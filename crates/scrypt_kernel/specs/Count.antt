@@ -1,6 +1,6 @@
 -- The count of Salsa20/8 cores.
 use Rattle.std.specs.Prelude.{◌≡◌, ℕ, ◌+◌, Bool, true, if◌then◌else◌}
-use Rattle.scrypt_kernel.specs.declared.cores.CoreCount.{CoreCount}
+use Rattle.scrypt_kernel.specs.declared.cores.count.CoreCount.{CoreCount}
 
 -- n more cores were run: all of them SIMD cores if simd is true, and none of them otherwise
 pub record AreCountedAs (simd : Bool) (n : ℕ) (before after : CoreCount) : Type 0 where

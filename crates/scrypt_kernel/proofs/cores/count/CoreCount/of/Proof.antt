@@ -1,5 +1,6 @@
 use mathlib.Core.Path.{refl}
-use Rattle.scrypt_kernel.specs.declared.cores.CoreCount.{CoreCount}
+use Rattle.scrypt_kernel.specs.declared.cores.count.CoreCount.{CoreCount}
+use Prim.Native.Nat.{ℕ}
 use mathlib.Core.List.{[], ◌∷◌}
 use seplogic.Ra.Ura.{Ura}
 use mir.Val.{vstruct, vcons, vunit, vnil}
@@ -21,14 +22,11 @@ use denote.Triple.Entry.{on_entry, alive}
 use denote.Triple.Spec.{Meets, triple_of}
 use denote.Triple.Table.{entered}
 use denote.Triple.Walked.{says, Stays, walk_of, Walks, ends_at, walked, walk_Meets}
-use Rattle.scrypt_kernel.specs.contracts.cores.CoreCount.new.Key.{name as key}
-use Rattle.scrypt_kernel.specs.contracts.cores.CoreCount.new as f
-use Rattle.scrypt_kernel.proofs.cores.CoreCount.new.Statement as stated
-use Rattle.scrypt_kernel.proofs.cores.CoreCount.new.Code as code
-use Rattle.scrypt_kernel.specs.contracts.cores.CoreCount as made
-
-abbrev made_count : CoreCount
-made_count = record { seal = tt; all = 0; lanes = 0 }
+use Rattle.scrypt_kernel.specs.contracts.cores.count.CoreCount.of.Key.{name as key}
+use Rattle.scrypt_kernel.specs.contracts.cores.count.CoreCount.of as f
+use Rattle.scrypt_kernel.proofs.cores.count.CoreCount.of.Statement as stated
+use Rattle.scrypt_kernel.proofs.cores.count.CoreCount.of.Code as code
+use Rattle.scrypt_kernel.specs.contracts.cores.count.CoreCount as made
 
 abbrev stayed : Stays (f.ended).signature.params (f.ended).kept
 stayed = tt
@@ -36,24 +34,27 @@ stayed = tt
 module _ {M : Type 1} {𝓤 : Ura M} (𝓛 : Logic 𝓤) (mem : Memory → SProp 𝓤) (run : Routine → Fun 𝓤) (C : Calls 𝓤 𝓛.H) (Λ : Loops 𝓤 𝓛.H) where
   open 𝓛 use {H}
 
-  abbrev bound : (walk_of 𝓛 f.ended stayed (f.clauses 𝓛 mem run)).Ghost
-  bound = ((tt, tt, tt, tt, tt), tt)
+  abbrev bound : ℕ × ℕ → (walk_of 𝓛 f.ended stayed (f.clauses 𝓛 mem run)).Ghost
+  bound numbers = ((tt, tt, tt, tt, tt), numbers)
 
-  walk : ent 𝓤 (on_entry 𝓛 f.signature tt tt tt tt)
-      (WpFn 𝓤 H C Λ code.function [] ((walk_of 𝓛 f.ended stayed (f.clauses 𝓛 mem run)).post bound))
-  walk =
+  abbrev of_numbers : ℕ × ℕ → CoreCount
+  of_numbers numbers = record { seal = tt; all = numbers.0; lanes = numbers.1 }
+
+  walk : (numbers : ℕ × ℕ) → ent 𝓤 (on_entry 𝓛 f.signature tt tt tt tt)
+      (WpFn 𝓤 H C Λ code.function [] ((walk_of 𝓛 f.ended stayed (f.clauses 𝓛 mem run)).post (bound numbers)))
+  walk numbers =
       qed 𝓛 (raw (alive 𝓛 f.signature tt tt) ∷ ‵ (owns [] tt tt) ∷ []) ∵ enter ! C Λ code.function [] _ $
       alloc_all ! (λ l. pass_all ! refl tt $ sets ! (agg ! (and_then ! (unit_lit !) (no_more !))) refl (tt, (tt, tt)) $
       returns ! (look_at ! 0 refl) $ free_all ! refl $
-      suffices ! _ (ends_at 𝓛 f.ended stayed (f.clauses 𝓛 mem run) bound (vstruct (vcons vunit vnil)) (made_count) tt tt) $
-      says ! (refl, refl) $ pure_i ! (made.the_row.own_val (made_count) (vstruct (vcons vunit vnil) ∷ []))
+      suffices ! _ (ends_at 𝓛 f.ended stayed (f.clauses 𝓛 mem run) (bound numbers) (vstruct (vcons vunit vnil)) (of_numbers numbers) tt tt) $
+      says ! (refl, refl) $ pure_i ! (made.the_row.own_val (of_numbers numbers) (vstruct (vcons vunit vnil) ∷ []))
       ((λ vss. (tt, (tt, tt))), tt) (((vunit ∷ [], tt), (refl, (refl, tt))), tt) $
       move ! (1 ∷ 2 ∷ 0 ∷ []) $ done !)
 
   walks : Walks 𝓛 f.ended stayed (WpFn 𝓤 H C Λ code.function) (f.clauses 𝓛 mem run)
   walks =
       walked 𝓛 f.ended stayed (f.clauses 𝓛 mem run) (WpFn 𝓤 H C Λ code.function) (λ κs. tt) (λ κs. tt)
-      (λ κs qs bounds a g are. via 𝓤 _ (fst∗ 𝓤 _ (emp 𝓤)) walk)
+      (λ κs qs bounds a numbers are. via 𝓤 _ (fst∗ 𝓤 _ (emp 𝓤)) (walk numbers))
 
 meets : {M : Type 1} {𝓤 : Ura M} (𝓛 : Logic 𝓤) (mem : Memory → SProp 𝓤) (run : Routine → Fun 𝓤) (𝓣 : Tables 𝓤 𝓛.H)
     → Meets 𝓛 f.signature (WpFn 𝓤 𝓛.H 𝓣.C 𝓣.Λ code.function) (f.spec 𝓛 mem run)
@@ -61,9 +62,9 @@ meets {𝓤 = 𝓤} 𝓛 mem run 𝓣 =
     walk_Meets 𝓛 f.ended stayed tt (f.clauses 𝓛 mem run) (WpFn 𝓤 𝓛.H 𝓣.C 𝓣.Λ code.function)
     (WpFn-mono 𝓤 𝓛.H 𝓛.laws 𝓣 code.function) (walks 𝓛 mem run 𝓣.C 𝓣.Λ)
 
-pub new_spec : {M : Type 1} → stated.statement M
+pub of_spec : {M : Type 1} → stated.statement M
 unfolding tables_of
-new_spec 𝓤 𝓛 𝓜 𝓡 wired =
+of_spec 𝓤 𝓛 𝓜 𝓡 wired =
     entered 𝓤 𝓛.H (triple_of 𝓛 f.signature (f.spec 𝓛 𝓜.mem 𝓡.returns))
     (tables 𝓤 𝓛.H 𝓜 𝓡 𝓡.env).C (tables 𝓤 𝓛.H 𝓜 𝓡 𝓡.env).Λ key code.function (code.unfolded 𝓤 𝓛.H 𝓜 𝓡 wired)
     (meets 𝓛 𝓜.mem 𝓡.returns (tables_of 𝓤 𝓛.H 𝓜 (tables 𝓤 𝓛.H 𝓜 𝓡 𝓡.env)))

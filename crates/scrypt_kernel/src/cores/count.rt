@@ -1,0 +1,57 @@
+//! The count of how many cores were run. Nothing outside this module and the cores can increment a count.
+
+ghost use Rattle.std.specs.Prelude.{◌≡◌, ◌+◌, ℕ, Bool, if◌then◌else◌};
+ghost use Rattle.std.specs.Borrow.{ftrue};
+ghost use Rattle.scrypt_kernel.specs.Salsa.{salsa20_8};
+ghost use Rattle.scrypt_kernel.specs.Diagonal.{diagonal_core};
+
+use std::marker::Model;
+
+/// How many Salsa20/8 cores were run: all of them, and the SIMD cores (`lanes`).
+///
+/// Contracts see two numbers without an upper bound. At run time a count has no bytes, and no
+/// running program reads it.
+#[derive(Drop)]
+pub struct CoreCount {
+    seal: (),
+    pub ghost all: { ℕ },
+    pub ghost lanes: { ℕ },
+}
+
+impl Model for CoreCount {
+    ghost also_owns = { λ _. ftrue };
+}
+
+impl CoreCount {
+    ghost use Rattle.scrypt_kernel.specs.Count.{AreCountedAs};
+
+    /// Creates a count of zero.
+    pub fn new() -> CoreCount
+        ensures none { (result.all ≡ 0) × (result.lanes ≡ 0) }
+    {
+        CoreCount::of()
+    }
+
+    // The count after one more core, whose input and output are the evidence that it was run. Those of
+    // a SIMD core are in diagonal order. `one` has whether it is such a core, and the two numbers after it.
+    pub(super) fn after_core(_before: &CoreCount, _from: &[u32; 16], _to: &[u32; 16]) -> CoreCount
+        ghost one: { Bool × ℕ × ℕ }
+        requires core { _to.now ≡ (if one.0 then diagonal_core _from.now else salsa20_8 _from.now) }
+        requires all { one.1 ≡ _before.now.all + 1 }
+        requires lanes { one.2 ≡ _before.now.lanes + (if one.0 then 1 else 0) }
+        ensures { AreCountedAs one.0 1 _before.now result }
+    {
+        CoreCount::of()
+    }
+
+    // Returns the count of these numbers.
+    #[inline(always)]
+    fn of() -> CoreCount
+        ghost numbers: { ℕ × ℕ }
+        ensures { (result.all ≡ numbers.0) × (result.lanes ≡ numbers.1) }
+    {
+        CoreCount { seal: () }
+    }
+}
+
+const _: () = prove!(size_of::<CoreCount>() == 0);
