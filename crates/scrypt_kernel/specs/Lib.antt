@@ -20,15 +20,11 @@ pub mod RoMixCost
 pub mod Diagonal
 -- what one scryptROMix costs with a table that keeps some rows of V, or all of them
 pub mod Table
--- a text that is being hashed
+-- a text that is being hashed, and PBKDF2 whose blocks are being written
 pub mod HmacState
--- RFC 8018, section 5.2: the state of PBKDF2 whose blocks are being written
-pub mod Pbkdf2State
 -- Private, since only functions that the crate scrypt does not export cite these:
 -- the lanes of the SIMD core
 pub mod Lanes
--- blocks side by side
-pub mod Side
 -- parts of the same length
 pub mod Parts
 -- the rows that a table keeps, and the walk over them

@@ -2,7 +2,7 @@
 
 ghost use Rattle.std.specs.Prelude.{◌≡◌, ℕ, ◌+◌, ◌*◌, ◌≤◌, List, length};
 ghost use Rattle.scrypt_kernel.specs.Pbkdf2.{max_output_len, pbkdf2, pbkdf2_from};
-ghost use Rattle.scrypt_kernel.specs.Pbkdf2State.{AreDerivedFrom};
+ghost use Rattle.scrypt_kernel.specs.HmacState.{AreDerivedFrom};
 
 use crate::hmac::Hmac;
 

@@ -58,10 +58,12 @@ pub fn mix_chunks<O: Order, M: Memory>(
     let (x, rest) = t.split_at_mut(n * len);
     let (y, spare) = rest.split_at_mut(n * len);
     // Step 1: X = B.
-    read_in::<O>(b, x);
+    read_words(b, x);
+    O::shuffle_in(x);
     fill_and_walk::<O, M>(rows, x, y, spare, len, log_n, s, cores);
     // Step 4: B' = X.
-    write_out::<O>(x, b);
+    O::shuffle_out(x);
+    write_words(x, b);
 }
 
 // Steps 2 and 3, for X in `x` before and after. What `y` and `spare` hold after the call is unspecified.
@@ -87,26 +89,6 @@ fn fill_and_walk<O: Order, M: Memory>(
     fill::<O, M>(rows, x, y, len, log_n, s, cores);
     // Step 3: for i = 0 to N - 1 do j = Integerify (X) mod N, T = X xor V[j], X = scryptBlockMix (T).
     take_steps::<O>(x, rows.words(), y, spare, len, log_n, s, cores);
-}
-
-// Reads the words of `b` in the order `O`.
-fn read_in<O: Order>(b: &[u8], x: &mut [u32])
-    requires same { length b.now ≡ 4 * length x.old }
-    requires whole { length x.old % 16 ≡ 0 }
-    ensures { x.new ≡ permuted O.pivot (words_of b.now) }
-{
-    read_words(b, x);
-    O::shuffle_in(x);
-}
-
-// Writes the bytes of words that are in the order `O`. What `x` holds after the call is unspecified.
-fn write_out<O: Order>(x: &mut [u32], b: &mut [u8])
-    requires same { length b.old ≡ 4 * length x.old }
-    requires whole { length x.old % 16 ≡ 0 }
-    ensures { b.new ≡ bytes_of (permuted O.inverse_pivot x.old) }
-{
-    O::shuffle_out(x);
-    write_words(x, b);
 }
 
 /// Replaces the bytes of `b` by their scryptROMix, and counts its `4 * N * r` cores, all of them as

@@ -6,9 +6,8 @@ ghost use Rattle.scrypt_kernel.specs.Words.{add_words, part, xor_words};
 ghost use Rattle.scrypt_kernel.specs.Salsa.{salsa20_8};
 ghost use Rattle.scrypt_kernel.specs.Count.{AreCounted};
 ghost use Rattle.scrypt_kernel.specs.Diagonal.{diagonal_core, diagonal_order, standard_order};
-ghost use Rattle.scrypt_kernel.specs.Lanes.{AreFourEach, at, quarter_rounds, turned, turned_left, xor_rotated};
+ghost use Rattle.scrypt_kernel.specs.Lanes.{AreFourEach, at, block_of, quarter_rounds, turned, turned_left, xor_rotated};
 ghost use Rattle.scrypt_kernel.specs.Parts.{AreParts, part_of};
-ghost use Rattle.scrypt_kernel.specs.Side.{block_of};
 
 pub mod both;
 
@@ -53,7 +52,7 @@ impl<V: Lanes> Diagonal<V> {
     ghost use Rattle.std.specs.Prelude.{◌≡◌, ℕ, ◌<◌};
     ghost use Rattle.scrypt_kernel.specs.Count.{AreCounted};
     ghost use Rattle.scrypt_kernel.specs.Diagonal.{diagonal_core, diagonal_round};
-    ghost use Rattle.scrypt_kernel.specs.Side.{AreWhole};
+    ghost use Rattle.scrypt_kernel.specs.Lanes.{AreWhole};
 
     /// Returns the Salsa20/8 core of each block, and counts them as SIMD cores.
     #[inline(always)]

@@ -42,7 +42,7 @@ pub fn pivots_are_inverse()
 {}
 
 impl<V: Lanes> Order for Diagonal<V> {
-    ghost use Rattle.scrypt_kernel.specs.Side.{block_of};
+    ghost use Rattle.scrypt_kernel.specs.Lanes.{block_of};
 
     ghost pivot = { pivot };
 

@@ -19,7 +19,7 @@ pub struct Standard {
 }
 
 impl Order for Standard {
-    ghost use Rattle.scrypt_kernel.specs.Side.{block_of};
+    ghost use Rattle.scrypt_kernel.specs.Lanes.{block_of};
     ghost use Rattle.scrypt_kernel.specs.Words.{part};
 
     ghost pivot = { range_with_len 0 16 };

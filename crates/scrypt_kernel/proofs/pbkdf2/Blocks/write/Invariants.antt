@@ -1,6 +1,6 @@
 use Rattle.std.proofs.Common.{◌≡◌, ℕ, ◌<◌, ◌+◌, ◌*◌, List, length, get_or}
 use Rattle.scrypt_kernel.specs.Pbkdf2.{pbkdf2_byte}
-use Rattle.scrypt_kernel.specs.Pbkdf2State.{AreDerivedFrom}
+use Rattle.scrypt_kernel.specs.HmacState.{AreDerivedFrom}
 use Rattle.scrypt_kernel.proofs.pbkdf2.Blocks.write.Given as goal
 
 abbrev pub invariant-loop-i : goal.invariant-loop-i
