@@ -41,6 +41,10 @@ pub no_key : {letters : List ℕ} (after : List (List ℕ)) → ¬ IsCrypt64 let
 no_key {letters} [] none = rw (not_decoded letters none) refl
 no_key (third ∷ after) none = refl
 
+pub ruleset reading_parts = (read_other, read_seven)
+
+pub ruleset reading_key = (decoded_is, key_read, key_refused, no_key)
+
 -- What a text that is read as a hash consists of.
 pub record IsTextOf (text : List ℕ) (s : Stored) : Type 0 where
   pub field : List ℕ

@@ -1,11 +1,9 @@
-use Rattle.std.proofs.Common.{◌≡◌, ◌↔◌, ◌≢◌, ◌⊎◌, ◌∙◌, ℕ, ◌<◌, ◌≤◌, List, length, Ok, Err, inl, inr, true, false, refl, sym, ap, ap₂, arith}
+use Rattle.std.proofs.Common.{◌≡◌, ◌↔◌, ◌≢◌, ◌⊎◌, ◌∙◌, ℕ, ◌≤◌, List, length, Ok, Err, inl, inr, true, false, refl, sym, ap, arith}
 use Rattle.std.specs.Prelude.{Bool, IfErr, None, Option, Result, Some, if◌then◌else◌, ok_or, ⊤}
 use Rattle.std.specs.Bool.{Decides}
 use Rattle.std.proofs.lemmas.Bool.Decides.{Decides-and, same_from_decides}
 use Rattle.std.proofs.lemmas.Slice.Eq.{bytes_eq-Decides}
 use Rattle.password_hash.specs.Refusal.{Refusal, KeyTooShort, OutOfMemory, PasswordInvalid, TooCostly}
-use Rattle.password_hash.specs.declared.error.Error.{Error}
-use Rattle.password_hash.specs.declared.error.Error.TheVariants as error
 use Rattle.scrypt.specs.Accepted.{Parameters, are_accepted, without_len}
 use Rattle.scrypt.specs.Cost.{chunks_bytes, scratch_words, table_words}
 use Rattle.scrypt.specs.Hashing.{key_len_or_default}
@@ -13,14 +11,9 @@ use Rattle.scrypt.specs.KeyOfParams.{key_by}
 use Rattle.scrypt.proofs.AcceptedFacts.{leb_decided, ok_if, refuted}
 use Rattle.scrypt.proofs.KeyFacts.{length-key_by}
 use Rattle.std.proofs.lemmas.Bool.{le-ltb}
-use Rattle.scrypt.specs.Reading.{◌and_then◌, NamesNoPassword, Stored, checked, is_below, is_right, mapped, told, verdict, weaker}
+use Rattle.scrypt.specs.Reading.{◌and_then◌, NamesNoPassword, Stored, checked, is_below, is_right, mapped, verdict, weaker}
 use Rattle.scrypt.specs.InBuffers.{AreEnough}
-use Rattle.scrypt.specs.StoredParts.{HasParts}
-use Rattle.scrypt.specs.declared.stored_hash.parts.Parts.{Parts}
-use Rattle.scrypt.specs.Limits.{are_within, buffers_bytes, work}
-use Rattle.scrypt.specs.WithinLimits.{within}
-use Rattle.scrypt.specs.declared.limits.Limits.{Limits}
-use Rattle.scrypt.specs.WorkInBuffers.{IsDone, IsVerifying, Work, has_room, verdict_in}
+use Rattle.scrypt.specs.WorkInBuffers.{Work, has_room, verdict_in}
 
 -- what is read in two steps
 
@@ -28,11 +21,6 @@ pub both_read : {A B : Type 0} (reading : Result A Refusal) (rest : A → Result
     → (x : A) × (reading ≡ Ok x) × (rest x ≡ Ok y)
 both_read (Ok x) rest is = (x, refl, is)
 both_read (Err why) rest is = absurd cc
-
-pub refused_first : {A B : Type 0} (reading : Result A Refusal) (rest : A → Result B Refusal) {why : Refusal} → reading ≡ Err why
-    → (reading and_then rest) ≡ Err why
-refused_first (Ok x) rest is = absurd cc
-refused_first (Err other) rest is = cc
 
 -- the errors of reading
 
@@ -126,12 +114,6 @@ made_accepts c password salt {reading} is =
       rw (is, same c.log_n, same c.r, same c.p, le-ltb (length key) (key_len_or_default c) (omega (arith, long))) refl,
     )
 
--- a hash that was read is weaker, if it is below them
-pub weaker_read : (wanted : Parameters) (reading : Result Stored Refusal) (parts : Parts) (below : Bool) → HasParts reading parts
-    → below ≡ is_below wanted parts.params parts.key_len → Ok below ≡ weaker wanted reading
-weaker_read wanted reading parts below read is =
-    rw read.2 (ap Ok (is ∙ ap₂ (is_below wanted) (sym read.1.params) (sym read.1.key_len)))
-
 pub room_decided : (c : Parameters) (w : Work) → Decides (has_room c w)
     ((chunks_bytes c.r c.p ≤ length w.chunks) × ((table_words c.log_n c.r ≤ length w.table) × (scratch_words c.r ≤ length w.scratch)))
 unfolding has_room
@@ -145,15 +127,7 @@ pub room_too_short : (c : Parameters) (w : Work) → ¬ AreEnough c w.chunks w.t
 room_too_short c w short = refuted _ (room_decided c w) (λ fits.
     short (record { chunks_fit = fits.0; table_fits = fits.1.0; scratch_fits = fits.1.1 }))
 
--- verifying in memory that is too short, or long enough
-
-pub no_room : (password : List ℕ) (s : Stored) (before : Work) → has_room s.params before ≡ false
-    → IsVerifying password (Ok s) (Err error.OutOfMemory) before before
-no_room password s before short = record { verdict = rw short refl; left = rw short refl }
-
-pub with_room : (password : List ℕ) (s : Stored) (out : Result ⊤ Error) (before after : Work) → has_room s.params before ≡ true
-    → told out ≡ verdict password (Ok s) → IsDone s.params before after → IsVerifying password (Ok s) out before after
-with_room password s out before after long is done = record { verdict = rw long is; left = rw long done }
+pub ruleset known_room = (room_enough, room_too_short)
 
 pub same_verdict : (w w' : Work) → length w.chunks ≡ length w'.chunks → length w.table ≡ length w'.table
     → length w.scratch ≡ length w'.scratch
@@ -161,24 +135,3 @@ pub same_verdict : (w w' : Work) → length w.chunks ≡ length w'.chunks → le
 unfolding has_room
 same_verdict w w' chunks table scratch password (Ok s) = rw (chunks, table, scratch) refl
 same_verdict w w' chunks table scratch password (Err why) = refl
-
--- a hash with these parts, whose parameters need more than the limits allow
-pub too_costly : (limits : Limits) (reading : Result Stored Refusal) (parts : Parts) → HasParts reading parts
-    → are_within limits parts.params ≡ false → let c = parts.params in
-    within limits reading ≡ Err (TooCostly (buffers_bytes c.log_n c.r c.p) (work c.log_n c.r c.p))
-too_costly limits reading parts read costly = rw (read.2, read.1.params, costly) refl
-
--- a hash with these parts, whose parameters are within the limits, and whose key is too short
-pub key_too_short : (limits : Limits) (reading : Result Stored Refusal) (parts : Parts) → HasParts reading parts
-    → are_within limits parts.params ≡ true → parts.key_len < limits.least_key_len
-    → within limits reading ≡ Err (KeyTooShort parts.key_len)
-key_too_short limits reading parts read fits short =
-    let tested = leb_decided limits.least_key_len parts.key_len in
-    rw (read.2, read.1.params, fits, read.1.key_len, refuted _ tested (λ long. absurd (omega (arith, short, long)))) refl
-
--- a hash with these parts that is within the limits
-pub parts_within : (limits : Limits) (reading : Result Stored Refusal) (parts : Parts) → HasParts reading parts
-    → are_within limits parts.params ≡ true → limits.least_key_len ≤ parts.key_len → HasParts (within limits reading) parts
-parts_within limits reading parts read fits long =
-    let tested = leb_decided limits.least_key_len parts.key_len in
-    (read.0, read.1, rw (read.2, read.1.params, fits, read.1.key_len, tested.1 long) refl)

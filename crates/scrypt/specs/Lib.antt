@@ -53,5 +53,7 @@ pub mod WithinLimits
 pub mod Logins
 -- private: the chunks of B, mixed one after another
 pub mod Mixing
--- private: what a stored hash holds, and its key
+-- private: the hash of a text, and the key of a hash
+pub mod StoredKey
+-- private: what a stored hash holds
 pub mod StoredParts

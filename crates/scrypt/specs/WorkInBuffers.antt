@@ -1,13 +1,12 @@
 -- The memory that a caller hands in for one derivation: the verdict in it, and what is left in it.
 use Rattle.std.specs.Prelude.{◌≡◌, ℕ, ◌≤◌, ◌*◌, ◌/◌, min, ◌&&◌, Bool, nat_le, if◌then◌else◌, List, length, drop, MatchBool, Result, Ok, Err, ⊤}
 use Rattle.password_hash.specs.Refusal.{Refusal, OutOfMemory}
-use Rattle.password_hash.specs.declared.error.Error.{Error}
 use Rattle.scrypt_kernel.specs.Count.{AreCounted}
 use Rattle.scrypt_kernel.specs.declared.cores.count.CoreCount.{CoreCount}
 use Rattle.scrypt.specs.Accepted.{Parameters}
 use Rattle.scrypt.specs.Cost.{chunks_bytes, cost, scratch_words, table_words}
 use Rattle.scrypt.specs.InBuffers.{IsWiped}
-use Rattle.scrypt.specs.Reading.{◌and_then◌, Stored, told, verdict}
+use Rattle.scrypt.specs.Reading.{◌and_then◌, Stored, verdict}
 use Rattle.scrypt.specs.declared.derivation.BufferLens.{BufferLens}
 
 -- the buffers and the count
@@ -64,8 +63,3 @@ verdict_in w password reading = reading and_then λ s. if has_room s.params w th
 abbrev pub IsLeft : Result Stored Refusal → Work → Work → Type 0
 IsLeft (Ok s) before after = MatchBool (has_room s.params before) (IsDone s.params before after) (after ≡ before)
 IsLeft (Err why) before after = after ≡ before
-
--- verifying in this memory: its verdict, and what it leaves
-pub record IsVerifying (password : List ℕ) (reading : Result Stored Refusal) (out : Result ⊤ Error) (before after : Work) : Type 0 where
-  pub verdict : told out ≡ verdict_in before password reading
-  pub left : IsLeft reading before after

@@ -1,8 +1,8 @@
 // Comparing a stored key with the derived one (RFC 7914, section 6, step 3), without a copy of either.
 
 ghost use Rattle.std.specs.Prelude.{◌≡◌};
-ghost use Rattle.scrypt.specs.Reading.{Stored, is_right, mixed_of};
-ghost use Rattle.scrypt.specs.StoredParts.{ArePartsOf};
+ghost use Rattle.scrypt.specs.Reading.{is_right, mixed_of};
+ghost use Rattle.scrypt.specs.StoredParts.{stored};
 
 use crate::stored_hash::parts::Parts;
 use scrypt_kernel::pbkdf2::Blocks;
@@ -13,9 +13,7 @@ const PIECE_LEN: usize = 96;
 /// Returns whether the stored key is the one that PBKDF2 derives from `password` with the mixed chunks
 /// as salt. Every piece is compared, also after a difference. Does not allocate.
 pub(crate) fn is_derived_key(password: &[u8], mixed: &[u8], parts: &Parts<'_>) -> bool
-    requires parts { (s : Stored) × ArePartsOf s parts.now }
-    ensures exact { (s : Stored) → ArePartsOf s parts.now → mixed.now ≡ mixed_of password.now s
-        → result ≡ is_right password.now s }
+    ensures exact { mixed.now ≡ mixed_of password.now (stored parts.now) → result ≡ is_right password.now (stored parts.now) }
 {
     let len = parts.key_len;
     let blocks = Blocks::new(password, mixed);

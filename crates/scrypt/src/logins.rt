@@ -1,15 +1,15 @@
 // Verifying several passwords in one memory, at once if possible.
 
-ghost use Rattle.std.specs.Prelude.{◌≡◌, ℕ, List, ◌+◌, ◌*◌, ◌^◌, ◌<◌, length, false, IfErr, IfOk, IfSome, None, Err, Result, Some, ⊤};
+ghost use Rattle.std.specs.Prelude.{◌≡◌, ℕ, List, ◌+◌, ◌*◌, ◌^◌, ◌<◌, length, false, IfSome, None, Result, Some, ⊤};
 ghost use Rattle.std.specs.Option.{option_map};
 ghost use Rattle.password_hash.specs.Refusal.{Refusal};
 ghost use Rattle.scrypt.specs.Accepted.{Parameters};
 ghost use Rattle.scrypt.specs.InBuffers.{AreEnough};
 ghost use Rattle.scrypt.specs.Logins.{AreVerdicts, Both, Group, One, all_chunks, all_mixed, are_left, joined, reading_of, shared};
 ghost use Rattle.scrypt.specs.Mixing.{IsWidth};
-ghost use Rattle.scrypt.specs.Reading.{Stored, verdict};
-ghost use Rattle.scrypt.specs.StoredParts.{HasParts};
-ghost use Rattle.scrypt.specs.WithinLimits.{limited_refusal, told_limited};
+ghost use Rattle.scrypt.specs.Reading.{Stored, mapped, verdict};
+ghost use Rattle.scrypt.specs.StoredParts.{stored};
+ghost use Rattle.scrypt.specs.WithinLimits.{told_limited};
 ghost use Rattle.scrypt.specs.WorkInBuffers.{IsDone, has_room, verdict_in, work_in};
 
 use crate::buffers::width_in;
@@ -96,8 +96,7 @@ pub trait Logins: Keys {
 impl<'a> Login<'a> {
     // Returns the parts of the hash, if it can be read and is within its limits, or the first error.
     fn parts(&self) -> std::result::Result<Parts<'_>, LimitedError>
-        ensures ok { IfOk result (HasParts (reading_of self.now)) }
-        ensures err { IfErr result (λ e. reading_of self.now ≡ Err (limited_refusal e)) }
+        ensures { mapped stored (told_limited result) ≡ reading_of self.now }
     {
         let hash = match &self.hash {
             Ok(hash) => hash,

@@ -6,7 +6,7 @@ ghost use Rattle.password_hash.specs.declared.error.Error.TheVariants.{EncodingI
 ghost use Rattle.scrypt.specs.Cost.{chunks_bytes, scratch_words, table_words};
 ghost use Rattle.scrypt.specs.Reading.{◌and_then◌, IsVerdict, mapped, told, weaker};
 ghost use Rattle.scrypt.specs.StoredHash.{formatted, is_mcf_text, is_stored_text, key_len_or_zero, params_reading, reading};
-ghost use Rattle.scrypt.specs.StoredParts.{IsHashOf};
+ghost use Rattle.scrypt.specs.StoredKey.{IsHashOf};
 ghost use Rattle.scrypt.specs.WorkInBuffers.{IsLeft, verdict_in, work_in};
 
 pub(crate) mod parts;
@@ -39,7 +39,7 @@ enum Format<'a> {
 
 impl<'a> Model for StoredHash<'a> {
     ghost use Rattle.std.specs.Prelude.{ℕ, List};
-    ghost use Rattle.scrypt.specs.StoredParts.{IsHashOf};
+    ghost use Rattle.scrypt.specs.StoredKey.{IsHashOf};
 
     ghost Value = { List ℕ };
 

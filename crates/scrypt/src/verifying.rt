@@ -5,9 +5,9 @@ ghost use Rattle.password_hash.specs.Refusal.{PasswordInvalid};
 ghost use Rattle.scrypt_kernel.specs.Count.{AreCounted};
 ghost use Rattle.scrypt.specs.Cost.{chunks_bytes, cost};
 ghost use Rattle.scrypt.specs.Mixing.{HasTables};
-ghost use Rattle.scrypt.specs.Reading.{IsVerdict, Stored, is_right, told};
-ghost use Rattle.scrypt.specs.StoredParts.{ArePartsOf};
-ghost use Rattle.scrypt.specs.WorkInBuffers.{IsVerifying, work_in};
+ghost use Rattle.scrypt.specs.Reading.{IsVerdict, is_right, told};
+ghost use Rattle.scrypt.specs.StoredParts.{stored};
+ghost use Rattle.scrypt.specs.WorkInBuffers.{IsLeft, verdict_in, work_in};
 
 use crate::buffers::{Buffers, width_in};
 use crate::comparing::is_derived_key;
@@ -41,10 +41,9 @@ fn is_key_of<M: Memory>(
     scratch: &mut [u32],
     cores: &mut CoreCount,
 ) -> bool
-    requires parts { (s : Stored) × ArePartsOf s parts.now }
     requires chunks { length chunks.old ≡ chunks_bytes parts.now.params.r parts.now.params.p }
     requires memory { HasTables parts.now.params.log_n 0 parts.now.params.r width (M.room rows.old) (length scratch.old) }
-    ensures exact { (s : Stored) → ArePartsOf s parts.now → result ≡ is_right password.now s }
+    ensures exact { result ≡ is_right password.now (stored parts.now) }
     ensures counted { AreCounted (cost parts.now.params.log_n parts.now.params.r parts.now.params.p) cores.old cores.new }
     ensures chunks { chunks.new ≡ replicate (length chunks.old) 0 }
     ensures scratch { scratch.new ≡ replicate (length scratch.old) 0 }
@@ -63,8 +62,7 @@ fn is_key_of<M: Memory>(
 ///
 /// Returns `OutOfMemory` if an allocation fails, and otherwise `PasswordInvalid` if the keys differ.
 pub(crate) fn verify_allocating(alloc: Global, password: &[u8], parts: &Parts<'_>) -> Result<()>
-    requires parts { (s : Stored) × ArePartsOf s parts.now }
-    ensures verdict { (s : Stored) → ArePartsOf s parts.now → IsVerdict password.now (Ok s) (told result) }
+    ensures verdict { IsVerdict password.now (Ok (stored parts.now)) (told result) }
 {
     let mut own = Buffers::allocate(alloc, &BufferLens::of(&parts.params))?;
     let mut cores = CoreCount::new();
@@ -84,6 +82,7 @@ pub(crate) fn verify_allocating(alloc: Global, password: &[u8], parts: &Parts<'_
 ///
 /// Returns `OutOfMemory` exactly if a buffer is too short for its parameters, and changes nothing
 /// then, and otherwise `PasswordInvalid` if the keys differ.
+#[tactic(auto, using(crate::proofs::ReadingFacts::known_room))]
 pub(crate) fn verify_in_buffers(
     password: &[u8],
     parts: &Parts<'_>,
@@ -92,8 +91,9 @@ pub(crate) fn verify_in_buffers(
     scratch: &mut [u32],
     cores: &mut CoreCount,
 ) -> Result<()>
-    requires parts { (s : Stored) × ArePartsOf s parts.now }
-    ensures verifying { (s : Stored) → ArePartsOf s parts.now → IsVerifying password.now (Ok s) result
+    ensures verdict { told result
+        ≡ verdict_in (work_in chunks.old table.old scratch.old cores.old) password.now (Ok (stored parts.now)) }
+    ensures left { IsLeft (Ok (stored parts.now))
         (work_in chunks.old table.old scratch.old cores.old) (work_in chunks.new table.new scratch.new cores.new) }
 {
     let Some(width) = width_in(&parts.params, parts.params.p(), chunks, table, scratch) else {

@@ -1,15 +1,15 @@
 // Reading `$7$` hashes.
 
-ghost use Rattle.std.specs.Prelude.{◌≡◌, ◌↔◌, Err, IfOk, IfErr, IsTrue};
-ghost use Rattle.password_hash.specs.McfViews.{borrowed_text};
-ghost use Rattle.password_hash.specs.Refusal.{refusal};
-ghost use Rattle.scrypt.specs.McfHash.{mcf_id, read_mcf};
-ghost use Rattle.scrypt.specs.StoredParts.{HasParts};
+ghost use Rattle.std.specs.Prelude.{◌≡◌, ◌↔◌, IsTrue};
+ghost use Rattle.password_hash.specs.McfViews.{borrowed_text, fields_left};
+ghost use Rattle.scrypt.specs.McfHash.{mcf_id, read_fields, read_mcf};
+ghost use Rattle.scrypt.specs.Reading.{mapped, told};
+ghost use Rattle.scrypt.specs.StoredParts.{stored};
 
 use crate::mcf::params::decode_params_and_salt;
 use crate::output_len_ok;
 use crate::stored_hash::parts::{Key, Parts};
-use password_hash::mcf::PasswordHashRef;
+use password_hash::mcf::{Fields, PasswordHashRef};
 use password_hash::{Error, Result};
 
 /// Returns the parts of a hash. Nothing is copied: the salt and the key are parts of the text, and the key is not
@@ -19,14 +19,21 @@ use password_hash::{Error, Result};
 /// first field is missing, the errors of reading the first field, `EncodingInvalid` if the second
 /// field is missing, if it is not crypt Base64 or if a third field follows, and `OutputSize` if a
 /// key of this length cannot be derived.
+#[tactic(auto, using(crate::proofs::McfHashFacts::reading_parts))]
 pub(crate) fn parts_of_mcf<'a>(hash: &PasswordHashRef<'a>) -> Result<Parts<'a>>
-    ensures ok { IfOk result (HasParts (read_mcf (borrowed_text hash.now))) }
-    ensures err { IfErr result (λ e. read_mcf (borrowed_text hash.now) ≡ Err (refusal e)) }
+    ensures { mapped stored (told result) ≡ read_mcf (borrowed_text hash.now) }
 {
     if !is_mcf(hash.id()) {
         return Err(Error::Algorithm);
     }
-    let mut fields = hash.fields();
+    parts_of_fields(hash.fields())
+}
+
+// Returns the parts that the fields after the id hold.
+#[tactic(auto, using(crate::proofs::McfHashFacts::reading_key))]
+fn parts_of_fields<'a>(mut fields: Fields<'a>) -> Result<Parts<'a>>
+    ensures { mapped stored (told result) ≡ read_fields (fields_left fields.entry) }
+{
     let Some(first) = fields.next() else {
         return Err(Error::EncodingInvalid);
     };
@@ -40,9 +47,9 @@ pub(crate) fn parts_of_mcf<'a>(hash: &PasswordHashRef<'a>) -> Result<Parts<'a>>
     let Some(key_len) = key.base64_len() else {
         return Err(Error::EncodingInvalid);
     };
-    if fields.next().is_some() {
+    let None = fields.next() else {
         return Err(Error::EncodingInvalid);
-    }
+    };
     if !output_len_ok(key_len) {
         return Err(Error::OutputSize);
     }

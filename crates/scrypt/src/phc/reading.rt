@@ -1,10 +1,9 @@
 // Reading PHC hashes.
 
-ghost use Rattle.std.specs.Prelude.{◌≡◌, ◌↔◌, codes, Err, IfErr, IfOk, IsTrue};
-ghost use Rattle.password_hash.specs.Refusal.{refusal};
+ghost use Rattle.std.specs.Prelude.{◌≡◌, ◌↔◌, codes, IsTrue};
 ghost use Rattle.scrypt.specs.PhcHash.{phc_params, read_phc};
-ghost use Rattle.scrypt.specs.Reading.{told};
-ghost use Rattle.scrypt.specs.StoredParts.{HasParts};
+ghost use Rattle.scrypt.specs.Reading.{mapped, told};
+ghost use Rattle.scrypt.specs.StoredParts.{stored};
 
 use crate::Params;
 use crate::phc::ALG_ID;
@@ -18,8 +17,7 @@ use password_hash::{Error, Result};
 /// missing.
 pub(crate) fn parts_of_phc<'a>(hash: &'a PasswordHash, params: &Result<Params>) -> Result<Parts<'a>>
     requires { told params.now ≡ phc_params hash.now }
-    ensures ok { IfOk result (HasParts (read_phc hash.now)) }
-    ensures err { IfErr result (λ e. read_phc hash.now ≡ Err (refusal e)) }
+    ensures { mapped stored (told result) ≡ read_phc hash.now }
 {
     let params = match params {
         Ok(params) => *params,

@@ -1,10 +1,9 @@
 // What a stored hash of either format holds.
 
-ghost use Rattle.std.specs.Prelude.{◌≡◌, ◌↔◌, ℕ, List, length, take, drop, IfErr, IfOk, IsTrue, Err};
+ghost use Rattle.std.specs.Prelude.{◌≡◌, ◌↔◌, length, take, drop, IsTrue, Some};
 ghost use Rattle.password_hash.specs.Crypt64.{IsPiece};
-ghost use Rattle.password_hash.specs.Refusal.{refusal};
-ghost use Rattle.scrypt.specs.StoredHash.{reading};
-ghost use Rattle.scrypt.specs.StoredParts.{HasParts, IsKey};
+ghost use Rattle.scrypt.specs.Accepted.{IsOutputLen};
+ghost use Rattle.scrypt.specs.StoredKey.{decoded_key, key_bytes};
 
 use super::{Format, StoredHash};
 use crate::Params;
@@ -24,10 +23,11 @@ pub(crate) enum Key<'a> {
 impl<'a> Key<'a> {
     /// Returns whether `bytes` are those of the key at byte `at`. Every byte is compared, also
     /// after a difference.
+    #[tactic(auto, using(password_hash::proofs::DecodedFacts::encoded_is))]
     pub(crate) fn matches_at(&self, at: usize, bytes: &[u8]) -> bool
-        requires piece { (key : List ℕ) × IsKey self.now key × IsPiece at (length bytes.now) (length key) }
-        ensures exact { (key : List ℕ) → IsKey self.now key
-            → IsTrue result ↔ (bytes.now ≡ take (length bytes.now) (drop at key)) }
+        requires encoding { decoded_key self.now ≡ Some (key_bytes self.now) }
+        requires piece { IsPiece at (length bytes.now) (length (key_bytes self.now)) }
+        ensures exact { IsTrue result ↔ (bytes.now ≡ take (length bytes.now) (drop at (key_bytes self.now))) }
     {
         match self {
             Key::Mcf(field) => field.base64_matches_at(at, bytes),
@@ -44,14 +44,20 @@ pub(crate) struct Parts<'a> {
     pub(crate) key: Key<'a>,
     /// The length of the key in bytes.
     pub(crate) key_len: usize,
+    ghost encoding: { decoded_key key ≡ Some (key_bytes key) },
+    ghost len: { length (key_bytes key) ≡ key_len },
+    ghost allowed: { IsOutputLen key_len },
 }
 
 impl<'a> StoredHash<'a> {
+    ghost use Rattle.scrypt.specs.Reading.{mapped, told};
+    ghost use Rattle.scrypt.specs.StoredHash.{reading};
+    ghost use Rattle.scrypt.specs.StoredParts.{stored};
+
     /// Returns the parts of the hash, or the error of reading it.
     #[tactic(auto, unfolding(crate::specs::StoredHash::reading))]
     pub(crate) fn parts(&self) -> Result<Parts<'_>>
-        ensures ok { IfOk result (HasParts (reading self.now)) }
-        ensures err { IfErr result (λ e. reading self.now ≡ Err (refusal e)) }
+        ensures { mapped stored (told result) ≡ reading self.now }
     {
         match &self.format {
             Format::Mcf(hash) => parts_of_mcf(hash),

@@ -1,12 +1,12 @@
 // Verifying with stored hashes of either format within limits.
 
-ghost use Rattle.std.specs.Prelude.{◌≡◌, length, Err, IfErr, IfOk};
+ghost use Rattle.std.specs.Prelude.{◌≡◌, length};
 ghost use Rattle.password_hash.specs.Refusal.{TooCostly};
 ghost use Rattle.scrypt.specs.Limits.{buffers_bytes, work};
 ghost use Rattle.scrypt.specs.Cost.{chunks_bytes, scratch_words, table_words};
 ghost use Rattle.scrypt.specs.Reading.{mapped, told};
 ghost use Rattle.scrypt.specs.StoredHash.{reading};
-ghost use Rattle.scrypt.specs.StoredParts.{HasParts};
+ghost use Rattle.scrypt.specs.StoredParts.{stored};
 ghost use Rattle.scrypt.specs.WithinLimits.{limited_refusal, told_limited, within};
 ghost use Rattle.scrypt.specs.WorkInBuffers.{IsLeft, verdict_in, work_in};
 
@@ -84,8 +84,7 @@ impl<'a> StoredHash<'a> {
 
     /// Returns the parts of a hash that is within the limits, or the first error.
     pub(crate) fn parts_within(&self, limits: &Limits) -> Result<Parts<'_>, LimitedError>
-        ensures ok { IfOk result (HasParts (within limits.now (reading self.now))) }
-        ensures err { IfErr result (λ e. within limits.now (reading self.now) ≡ Err (limited_refusal e)) }
+        ensures { mapped stored (told_limited result) ≡ within limits.now (reading self.now) }
     {
         let parts = match self.parts() {
             Ok(parts) => parts,
