@@ -1,5 +1,5 @@
-use Rattle.std.proofs.Common.{◌≡◌, ◌≢◌, ℕ, List, [], ◌∷◌, ◌++◌, length, drop, Some, None, Ok, Err, refl, rules, ap, ◌∙◌, lit<}
-use Rattle.std.specs.Prelude.{IfErr, Option, ok_or}
+use Rattle.std.proofs.Common.{◌≡◌, ◌≢◌, ℕ, List, [], ◌∷◌, ◌++◌, length, drop, Some, None, Ok, Err, refl, rules, ap, ap₂, ◌∙◌, lit<}
+use Rattle.std.specs.Prelude.{IfErr, Option, if◌then◌else◌, ok_or}
 use Rattle.std.specs.Str.{bytes_eq}
 use Rattle.std.proofs.lemmas.Slice.Eq.{bytes_eq-Decides}
 use Rattle.password_hash.specs.Crypt64.{Crypt64, IsCrypt64, crypt64_of, decoded}
@@ -10,7 +10,7 @@ use Rattle.password_hash.proofs.McfFacts.{IsMcfText-from_parts, parts_of-IsMcfTe
 use Rattle.scrypt.specs.Accepted.{IsOutputLen, is_output_len}
 use Rattle.scrypt.specs.McfParams.{params_letters, field_params}
 use Rattle.scrypt.specs.McfHash.{mcf_id, read_fields, read_key, read_mcf, read_parts}
-use Rattle.scrypt.specs.Reading.{NamesNoPassword, Stored}
+use Rattle.scrypt.specs.Reading.{◌and_then◌, NamesNoPassword, Stored}
 use Rattle.scrypt.proofs.AcceptedFacts.{ok_if, output_len_decided, refuted}
 use Rattle.scrypt.proofs.McfParamsFacts.{field_fault, field_is}
 use Rattle.scrypt.proofs.ReadingFacts.{IsFault, both_read, faults, no_password}
@@ -45,67 +45,51 @@ pub ruleset reading_parts = (read_other, read_seven)
 
 pub ruleset reading_key = (decoded_is, key_read, key_refused, no_key)
 
--- What a text that is read as a hash consists of.
-pub record IsTextOf (text : List ℕ) (s : Stored) : Type 0 where
-  pub field : List ℕ
-  pub letters : List ℕ
-  pub parts : parts_of text ≡ [] ∷ mcf_id ∷ field ∷ letters ∷ []
-  pub params : field_params field ≡ Ok s.params
-  pub salt : drop 11 field ≡ s.salt
-  pub key : Crypt64 s.key letters
+-- what a text that is read as a hash consists of
 
-key_is : {letters key : List ℕ} → read_key (letters ∷ []) ≡ Ok key → Crypt64 key letters
-key_is {letters} {key} is =
-    let read = both_read (ok_or (decoded letters) EncodingInvalid) _ is in
-    encoded_is key letters
-    (at (decoded letters) read.1 ∙ ap Some cc (ok_if (is_output_len (length read.0)) (Ok read.0) OutputSize read.2).1)
-  where
-    at : (found : Option (List ℕ)) {key : List ℕ} → ok_or found EncodingInvalid ≡ Ok key → found ≡ Some key
-    at None is = absurd cc
-    at (Some key) is = cc
-
-parts_read : (text : List ℕ) (parts : List (List ℕ)) (s : Stored) → parts_of text ≡ parts → read_parts parts ≡ Ok s → IsTextOf text s
-parts_read text ([] ∷ id ∷ field ∷ letters ∷ []) s parts is =
+parts_read : (parts : List (List ℕ)) (s : Stored) → read_parts parts ≡ Ok s
+    → (fields : List (List ℕ)) × (parts ≡ [] ∷ mcf_id ∷ fields) × (read_fields fields ≡ Ok s)
+parts_read ([] ∷ id ∷ fields) s is =
     let seven = ok_if (bytes_eq id mcf_id) _ Algorithm is in
-    let params = both_read (field_params field) _ seven.1 in
+    (fields, ap (λ z. [] ∷ z ∷ fields) ((bytes_eq-Decides id mcf_id).0 seven.0), seven.1)
+parts_read ([] ∷ []) s is = absurd cc
+parts_read ((byte ∷ first) ∷ rest) s is = absurd cc
+parts_read [] s is = absurd cc
+
+key_is : (letters key : List ℕ) → read_key (letters ∷ []) ≡ Ok key → Crypt64 key letters
+key_is letters key is = encoded_is key letters (at (decoded letters) is)
+  where
+    at : (found : Option (List ℕ))
+        → (ok_or found EncodingInvalid and_then λ key. if is_output_len (length key) then Ok key else Err OutputSize) ≡ Ok key → found ≡ Some key
+    at None is = absurd cc
+    at (Some bytes) is = ap Some (cc (ok_if (is_output_len (length bytes)) (Ok bytes) OutputSize is).1)
+
+fields_read : (fields : List (List ℕ)) (s : Stored) → read_fields fields ≡ Ok s
+    → fields ≡ (params_letters s.params.log_n s.params.r s.params.p ++ s.salt) ∷ crypt64_of s.key ∷ []
+fields_read (field ∷ letters ∷ []) s is =
+    let params = both_read (field_params field) _ is in
     let key = both_read (read_key (letters ∷ [])) _ params.2 in
     let made : Stored = record { params = params.0; salt = drop 11 field; key = key.0 } in
     let same : made ≡ s = cc key.2 in
-    rw (← same) (record {
-      field = field;
-      letters = letters;
-      parts = parts ∙ ap (λ z. [] ∷ z ∷ field ∷ letters ∷ []) ((bytes_eq-Decides id mcf_id).0 seven.0);
-      params = params.1;
-      salt = refl;
-      key = key_is key.1;
-    })
-parts_read text ([] ∷ id ∷ field ∷ letters ∷ third ∷ after) s parts is =
-    let none = (both_read (field_params field) _ (ok_if (bytes_eq id mcf_id) _ Algorithm is).1).2 in absurd cc
-parts_read text ([] ∷ id ∷ field ∷ []) s parts is =
-    let none = (both_read (field_params field) _ (ok_if (bytes_eq id mcf_id) _ Algorithm is).1).2 in absurd cc
-parts_read text ([] ∷ id ∷ []) s parts is = let none = (ok_if (bytes_eq id mcf_id) _ Algorithm is).1 in absurd cc
-parts_read text ([] ∷ []) s parts is = absurd cc
-parts_read text ((byte ∷ first) ∷ rest) s parts is = absurd cc
-parts_read text [] s parts is = absurd cc
-
-pub is_text_of : {text : List ℕ} {s : Stored} → read_mcf text ≡ Ok s → IsTextOf text s
-unfolding read_mcf
-is_text_of {text} {s} is = parts_read text (parts_of text) s refl is
+    rw (← same) (ap₂ (λ y z. y ∷ z ∷ []) (field_is field params.0 params.1) (key_is letters key.0 key.1).encoding)
+fields_read (field ∷ letters ∷ third ∷ after) s is = let none = (both_read (field_params field) _ is).2 in absurd cc
+fields_read (field ∷ []) s is = let none = (both_read (field_params field) _ is).2 in absurd cc
+fields_read [] s is = absurd cc
 
 -- such a text is a `$7$` text
-pub is_mcf : {text : List ℕ} {s : Stored} → read_mcf text ≡ Ok s → (fields : List (List ℕ)) × IsMcfText text mcf_id fields
-is_mcf {text} is = let t = is_text_of is in (_, IsMcfText-from_parts text mcf_id _ t.parts (lit< tt, refl))
+pub is_mcf : {text : List ℕ} {s : Stored} → read_mcf text ≡ Ok s
+    → (fields : List (List ℕ)) × IsMcfText text mcf_id fields × (read_fields fields ≡ Ok s)
+unfolding read_mcf
+is_mcf {text} {s} is =
+    let (fields, parts, read) = parts_read (parts_of text) s is in
+    (fields, IsMcfText-from_parts text mcf_id fields parts (lit< tt, refl), read)
 
 -- a hash has one text
 pub text_of : {text : List ℕ} {s : Stored} → read_mcf text ≡ Ok s
     → text ≡ parts_text (mcf_id ∷ (params_letters s.params.log_n s.params.r s.params.p ++ s.salt) ∷ crypt64_of s.key ∷ [])
 text_of {text} {s} is =
-    let t = is_text_of is in
-    let written = (IsMcfText-from_parts text mcf_id (t.field ∷ t.letters ∷ []) t.parts (lit< tt, refl)).written in
-    let field : t.field ≡ params_letters s.params.log_n s.params.r s.params.p ++ s.salt =
-    field_is t.field s.params t.params ∙ ap (λ z. params_letters s.params.log_n s.params.r s.params.p ++ z) t.salt in
-    written ∙ ap (λ z. parts_text (mcf_id ∷ z ∷ t.letters ∷ [])) field
-    ∙ ap (λ z. parts_text (mcf_id ∷ (params_letters s.params.log_n s.params.r s.params.p ++ s.salt) ∷ z ∷ [])) t.key.encoding
+    let (fields, seven, read) = is_mcf is in
+    seven.written ∙ ap (λ z. parts_text (mcf_id ∷ z)) (fields_read fields s read)
 
 key_fault : (fields : List (List ℕ)) → IfErr (read_key fields) IsFault
 key_fault [] = tt

@@ -142,4 +142,4 @@ field_is (first ∷ rest) c says =
     (of_r ∙ ap (λ z. letters_of 5 c.r ++ z) (of_p ∙ ap (λ z. letters_of 5 c.p ++ z) (drop-drop 5 5 rest))
     ∙ sym (append_assoc (letters_of 5 c.r) (letters_of 5 c.p) (drop 10 rest)))
 
-pub ruleset reading_field = (empty_says_none, to_the_end)
+pub ruleset reading_field = (empty_says_none, field_says, to_the_end)

@@ -15,10 +15,9 @@ use Rattle.password_hash.proofs.Crypt64Facts.{IsPlain, crypt64_of-plain, length-
 use Rattle.password_hash.proofs.GroupFacts.{length-crypt64_of}
 use Rattle.password_hash.proofs.McfFacts.{IsField-crypt64_of}
 use Rattle.scrypt.specs.Accepted.{AreAccepted, IsOutputLen, IsStoredLen, Parameters, without_len}
-use Rattle.scrypt.specs.KeyOfParams.{key_by}
 use Rattle.scrypt.proofs.KeyFacts.{key_by-are_bytes, length-key_by}
 use Rattle.scrypt.specs.McfParams.{five_letter_number, params_letters, params_text, field_params}
-use Rattle.scrypt.specs.McfHash.{IsMadeHash, made_text_len, mcf_id}
+use Rattle.scrypt.specs.McfHash.{IsMadeHash, made_key, made_text_len, mcf_id, mcf_text}
 use Rattle.scrypt.specs.Hashing.{key_len_or_default}
 use Rattle.scrypt.proofs.AcceptedFacts.{checked_is, key_len_stored, numbers, small_params, small_log_n}
 use Rattle.scrypt.proofs.McfParamsFacts.{five_letter_number_letters_of, of_numbers}
@@ -84,13 +83,13 @@ text_parts c salt key good no_dollar =
     }
 
 -- the text that hashing makes
-pub stored_text : (c : Parameters) (password salt : List ℕ) → AreAccepted c.log_n c.r c.p → IsStoredLen (key_len_or_default c)
-    → IsMadeHash c password salt (params_text c ++ (crypt64_of salt
-    ++ dollar ∷ crypt64_of (key_by c password (crypt64_of salt) (key_len_or_default c))))
-stored_text c password salt good stored =
+pub made_text : (c : Parameters) (password salt : List ℕ) → AreAccepted c.log_n c.r c.p → IfSome c.output_len IsStoredLen
+    → IsMadeHash c password salt (mcf_text c salt (made_key c password salt))
+made_text c password salt good fits =
+    let stored = key_len_stored c.output_len fits in
     let front = params_letters c.log_n c.r c.p in
     let letters = crypt64_of salt in
-    let key = key_by c password letters (key_len_or_default c) in
+    let key = made_key c password salt in
     let long = length-key_by c password letters (key_len_or_default c) in
     let bytes = All-from_get_or (λ byte. byte < 256) key 0 (λ i below. key_by-are_bytes c password letters (key_len_or_default c) i) in
     let allowed : IsOutputLen (length key) = (omega (arith, long, stored.0), omega (arith, long, stored.1)) in
@@ -98,32 +97,11 @@ stored_text c password salt good stored =
     read_seven (text_parts c letters key good (IsField-crypt64_of salt)) refl
     ∙ rw (field_read c letters good, key_read (record { are_bytes = bytes; encoding = refl }) allowed, rest) refl
 
-pub made_text : (c : Parameters) (password salt : List ℕ) → AreAccepted c.log_n c.r c.p → IfSome c.output_len IsStoredLen
-    → IsMadeHash c password salt (params_text c ++ (crypt64_of salt
-    ++ dollar ∷ crypt64_of (key_by c password (crypt64_of salt) (key_len_or_default c))))
-made_text c password salt good fits = stored_text c password salt good (key_len_stored c.output_len fits)
-
-pub text_ascii : (c : Parameters) (salt key : List ℕ) → AreAccepted c.log_n c.r c.p
-    → IsAscii (params_text c ++ (crypt64_of salt ++ dollar ∷ crypt64_of key))
-text_ascii c salt key good =
-    let ascii : ℕ → Type 0 = λ byte. byte < 128 in
-    let plain = λ (letters : List ℕ) (each : All IsPlain letters). All-weaker IsPlain ascii (λ byte is. is.0) letters each in
-    let small : c.log_n ≤ 56 = small_log_n c.log_n c.r good.0 good.2 in
-    let front : All ascii (codes "$7$") = All-from_recursion ascii (codes "$7$") (lit< tt, (lit< tt, (lit< tt, tt))) in
-    let letters = params_letters c.log_n c.r c.p in
-    let last = dollar ∷ crypt64_of key in
-    let after = crypt64_of salt ++ last in
-    IsAscii-from_all (codes "$7$" ++ (letters ++ after)) (All-append ascii (codes "$7$") (letters ++ after) front
-    (All-append ascii letters after (plain letters (plain_letters c.log_n c.r c.p (omega arith)))
-    (All-append ascii (crypt64_of salt) last (plain (crypt64_of salt) (crypt64_of-plain salt))
-    (All-cons ascii dollar (crypt64_of key) (lit< tt) (plain (crypt64_of key) (crypt64_of-plain key))))))
-
 pub length-made_text : (c : Parameters) (password salt : List ℕ)
-    → length (params_text c ++ (crypt64_of salt ++ dollar ∷ crypt64_of (key_by c password (crypt64_of salt) (key_len_or_default c))))
-    ≡ made_text_len c (length salt)
+    → length (mcf_text c salt (made_key c password salt)) ≡ made_text_len c (length salt)
 length-made_text c password salt =
     let letters = crypt64_of salt in
-    let key = key_by c password letters (key_len_or_default c) in
+    let key = made_key c password salt in
     omega (
       arith,
       count_letters c.log_n c.r c.p,
@@ -134,25 +112,37 @@ length-made_text c password salt =
     )
 
 -- made texts with these parameters, this salt and any password are alike in length
-pub made_length : (c : Parameters) (password salt text : List ℕ) → AreAccepted c.log_n c.r c.p → IsStoredLen (key_len_or_default c)
+pub made_length : (c : Parameters) (password salt text : List ℕ) → AreAccepted c.log_n c.r c.p → IfSome c.output_len IsStoredLen
     → IsMadeHash c password salt text → length text ≡ made_text_len c (length salt)
-made_length c password salt text good stored made =
-    ap length (text_of made ∙ sym (text_of (stored_text c password salt good stored))) ∙ length-made_text c password salt
+made_length c password salt text good fits made =
+    ap length (text_of made ∙ sym (text_of (made_text c password salt good fits))) ∙ length-made_text c password salt
+
+pub ruleset made_lengths = (made_length)
 
 -- a text that was written whole
 
-pub whole_is_made : (c : Parameters) (password salt key text : List ℕ) → text ≡ params_text c ++ (crypt64_of salt ++ dollar ∷ crypt64_of key)
-    → key ≡ key_by c password (crypt64_of salt) (key_len_or_default c) → AreAccepted c.log_n c.r c.p → IsStoredLen (key_len_or_default c)
-    → IsMadeHash c password salt text
-whole_is_made c password salt key text is derived good stored = rw (is, derived) (stored_text c password salt good stored)
+pub whole_is_made : (c : Parameters) (password salt key text : List ℕ) → text ≡ mcf_text c salt key → key ≡ made_key c password salt
+    → AreAccepted c.log_n c.r c.p → IfSome c.output_len IsStoredLen → IsMadeHash c password salt text
+whole_is_made c password salt key text is derived good fits = rw (is, derived) (made_text c password salt good fits)
 
-pub whole_is_ascii : (c : Parameters) (salt key text : List ℕ) → text ≡ params_text c ++ (crypt64_of salt ++ dollar ∷ crypt64_of key)
-    → AreAccepted c.log_n c.r c.p → IsAscii text
-whole_is_ascii c salt key text is good = rw is (text_ascii c salt key good)
+pub whole_is_ascii : (c : Parameters) (salt key text : List ℕ) → text ≡ mcf_text c salt key → AreAccepted c.log_n c.r c.p → IsAscii text
+whole_is_ascii c salt key text is good =
+    let ascii : ℕ → Type 0 = λ byte. byte < 128 in
+    let plain = λ (letters : List ℕ) (each : All IsPlain letters). All-weaker IsPlain ascii (λ byte is. is.0) letters each in
+    let small : c.log_n ≤ 56 = small_log_n c.log_n c.r good.0 good.2 in
+    let front : All ascii (codes "$7$") = All-from_recursion ascii (codes "$7$") (lit< tt, (lit< tt, (lit< tt, tt))) in
+    let letters = params_letters c.log_n c.r c.p in
+    let last = dollar ∷ crypt64_of key in
+    let after = crypt64_of salt ++ last in
+    rw is (IsAscii-from_all (codes "$7$" ++ (letters ++ after)) (All-append ascii (codes "$7$") (letters ++ after) front
+    (All-append ascii letters after (plain letters (plain_letters c.log_n c.r c.p (omega arith)))
+    (All-append ascii (crypt64_of salt) last (plain (crypt64_of salt) (crypt64_of-plain salt))
+    (All-cons ascii dollar (crypt64_of key) (lit< tt) (plain (crypt64_of key) (crypt64_of-plain key)))))))
 
-pub whole_is_mcf : (c : Parameters) (salt key text : List ℕ) → text ≡ params_text c ++ (crypt64_of salt ++ dollar ∷ crypt64_of key)
-    → AreAccepted c.log_n c.r c.p → IsMcf text
+pub whole_is_mcf : (c : Parameters) (salt key text : List ℕ) → text ≡ mcf_text c salt key → AreAccepted c.log_n c.r c.p → IsMcf text
 whole_is_mcf c salt key text is good = rw is (_, _, text_parts c (crypt64_of salt) key good (IsField-crypt64_of salt))
+
+pub ruleset whole_texts = (whole_is_ascii, whole_is_made)
 
 -- letters that fill their room
 pub filled : (letters room new : List ℕ) → new ≡ letters ++ drop (length letters) room → length room ≡ length letters → new ≡ letters

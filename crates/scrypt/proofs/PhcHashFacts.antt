@@ -10,7 +10,7 @@ use Rattle.scrypt.proofs.AcceptedFacts.{key_len_stored, small_params}
 use Rattle.scrypt.proofs.KeyFacts.{key_by-are_bytes, length-key_by}
 use Rattle.scrypt.proofs.PhcParamsFacts.{three_pairs}
 use Rattle.scrypt.proofs.PhcReadingFacts.{pairs_fault, written_read}
-use Rattle.scrypt.proofs.ReadingFacts.{IsFault, faults, made_stored, no_password}
+use Rattle.scrypt.proofs.ReadingFacts.{IsFault, faults, made_right, made_stored, made_strong, no_password}
 
 pub params_fault : (hash : PasswordHash) → IfErr (phc_params hash) IsFault
 unfolding phc_params
@@ -47,3 +47,5 @@ made_is_text c password salt hash fits len salted made =
       });
       key_after_salt = rw (made.key_is, made.salt_is) refl;
     }
+
+pub ruleset made_hashes = (made_is_text, made_read, made_right, made_strong)

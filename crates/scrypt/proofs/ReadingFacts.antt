@@ -102,17 +102,21 @@ verdict_wrong password (Ok s) is =
 abbrev pub made_stored : Parameters → List ℕ → List ℕ → Stored
 made_stored c password salt = record { params = without_len c; salt = salt; key = key_by c password salt (key_len_or_default c) }
 
--- it accepts the password, and is not weaker than its parameters ask for
-pub made_accepts : (c : Parameters) (password salt : List ℕ) {reading : Result Stored Refusal} → reading ≡ Ok (made_stored c password salt)
-    → (verdict password reading ≡ Ok tt) × (weaker c reading ≡ Ok false)
-unfolding is_below
-made_accepts c password salt {reading} is =
+-- it accepts the password
+pub made_right : (c : Parameters) (password salt : List ℕ) (reading : Result Stored Refusal) → reading ≡ Ok (made_stored c password salt)
+    → verdict password reading ≡ Ok tt
+made_right c password salt reading is =
     let long = length-key_by c password salt (key_len_or_default c) in
-    let key = key_by c password salt (key_len_or_default c) in
-    let same = λ (n : ℕ). le-ltb n n (omega arith) in (
-      (verdict_right password reading).1 (_, is, ap (key_by c password salt) (sym long)),
-      rw (is, same c.log_n, same c.r, same c.p, le-ltb (length key) (key_len_or_default c) (omega (arith, long))) refl,
-    )
+    (verdict_right password reading).1 (_, is, ap (key_by c password salt) (sym long))
+
+-- and is not weaker than its parameters ask for
+pub made_strong : (c : Parameters) (password salt : List ℕ) (reading : Result Stored Refusal) → reading ≡ Ok (made_stored c password salt)
+    → weaker c reading ≡ Ok false
+unfolding is_below
+made_strong c password salt reading is =
+    let long = length-key_by c password salt (key_len_or_default c) in
+    let same = λ (n : ℕ). le-ltb n n (omega arith) in
+    rw (is, long, same c.log_n, same c.r, same c.p, same (key_len_or_default c)) refl
 
 pub room_decided : (c : Parameters) (w : Work) → Decides (has_room c w)
     ((chunks_bytes c.r c.p ≤ length w.chunks) × ((table_words c.log_n c.r ≤ length w.table) × (scratch_words c.r ≤ length w.scratch)))

@@ -1,23 +1,22 @@
-use Rattle.std.proofs.Common.{◌≡◌, ◌∙◌, List, ℕ, [], ◌∷◌, Bool, true, false, Ok, Err, refl, sym, ap, arith, lit<}
-use Rattle.std.specs.Prelude.{◌||◌, IfErr, Option, Some, None, Result, codes, is_some, length, ok_or}
+use Rattle.std.proofs.Common.{◌≡◌, List, ℕ, [], ◌∷◌, Bool, true, false, Ok, Err, refl, sym, ap, arith, lit<}
+use Rattle.std.specs.Prelude.{◌||◌, IfErr, IfSome, Option, Some, None, Result, codes, is_some, length, ok_or}
 use Rattle.std.proofs.lemmas.Bool.{false≢true}
 use Rattle.std.proofs.lemmas.Bool.Decides.{nat_tests}
 use Rattle.password_hash.proofs.McfFacts.{IsMcfText-from_parts}
 use Rattle.password_hash.proofs.PhcReadingFacts.{hash_is_read}
 use Rattle.password_hash.specs.Mcf.{IsMcfText, fields_of}
 use Rattle.password_hash.specs.Parts.{parts_of}
-use Rattle.password_hash.specs.Phc.{IsHashText}
-use Rattle.password_hash.specs.PhcReading.{read_hash}
+use Rattle.password_hash.specs.Phc.{IsHashText, IsSalt, hash_text}
 use Rattle.password_hash.specs.Refusal.{Refusal, EncodingInvalid, PasswordInvalid}
 use Rattle.password_hash.specs.declared.phc.hash.PasswordHash.{PasswordHash}
 use Rattle.scrypt.specs.McfHash.{mcf_id, read_fields, read_mcf}
-use Rattle.scrypt.specs.PhcHash.{phc_params, read_phc}
-use Rattle.scrypt.specs.Accepted.{Parameters}
+use Rattle.scrypt.specs.PhcHash.{IsMadeHash, phc_params}
+use Rattle.scrypt.specs.Accepted.{AreAccepted, IsStoredLen, Parameters}
 use Rattle.scrypt.specs.Reading.{◌and_then◌, IsOfText, NamesNoPassword, Stored, mapped}
 use Rattle.scrypt.specs.StoredHash.{Formatted, McfText, PhcHash, formatted, is_mcf_text, is_stored_text, key_len_or_zero, params_and_len, params_reading, reading, whole}
 use Rattle.scrypt.proofs.McfHashFacts.{is_mcf, mcf_fault, mcf_none, read_seven}
-use Rattle.scrypt.proofs.PhcHashFacts.{params_fault, params_none}
-use Rattle.scrypt.proofs.ReadingFacts.{IsFault, mapped_refused, no_password, part_fault, some_fault, then_fault}
+use Rattle.scrypt.proofs.PhcHashFacts.{made_is_text, made_read, params_fault, params_none}
+use Rattle.scrypt.proofs.ReadingFacts.{IsFault, made_stored, mapped_refused, no_password, part_fault, some_fault, then_fault}
 
 or_true : (b : Bool) → (b || true) ≡ true
 or_true true = refl
@@ -43,25 +42,6 @@ seven_is_mcf text seven = IsMcfText-from_parts text mcf_id (fields_of text) (at 
 
 pub seven_read : (text : List ℕ) → is_mcf_text text ≡ true → read_mcf text ≡ read_fields (fields_of text)
 seven_read text seven = read_seven (seven_is_mcf text seven) refl
-
--- a `$7$` text, the text of a PHC hash and any other text
-
-pub mcf_formatted : (text : List ℕ) → is_mcf_text text ≡ true → formatted text ≡ Some (McfText text)
-unfolding formatted
-mcf_formatted text seven = rw seven refl
-
-pub phc_formatted : (text : List ℕ) {hash : PasswordHash} → is_mcf_text text ≡ false → read_hash text ≡ Some hash
-    → formatted text ≡ Some (PhcHash hash)
-unfolding formatted
-phc_formatted text differs is = rw (differs, is) refl
-
-pub not_formatted : (text : List ℕ) → is_mcf_text text ≡ false → read_hash text ≡ None → formatted text ≡ None
-unfolding formatted
-not_formatted text differs none = rw (differs, none) refl
-
-pub reading_of : (text : List ℕ) {it : Formatted} → formatted text ≡ Some it → reading text ≡ whole it
-unfolding reading
-reading_of text is = rw is refl
 
 pub no_reading : (text : List ℕ) → is_stored_text text ≡ false
     → (reading text ≡ Err EncodingInvalid) × (params_reading text ≡ Err EncodingInvalid)
@@ -149,10 +129,17 @@ scrypt_is_phc is named = rw (is.whole, named) refl
 -- a hash that is read in its format is read so by its text
 
 pub made_mcf : (text : List ℕ) {s : Stored} → read_mcf text ≡ Ok s → reading text ≡ Ok s
-made_mcf text is = reading_of text (mcf_formatted text (mcf_is_seven (is_mcf is).1)) ∙ is
+unfolding reading formatted
+made_mcf text is = rw (mcf_is_seven (is_mcf is).1) is
 
-pub made_phc : (text : List ℕ) (hash : PasswordHash) → IsHashText text hash → hash.algorithm ≡ codes "scrypt"
-    → reading text ≡ read_phc hash
-made_phc text hash is named = reading_of text (phc_formatted text (scrypt_is_phc is named) (hash_is_read text hash is))
+pub made_phc : (c : Parameters) (password salt : List ℕ) (hash : PasswordHash) → AreAccepted c.log_n c.r c.p
+    → IfSome c.output_len IsStoredLen → IsSalt salt → IsMadeHash c password salt hash
+    → reading (hash_text hash) ≡ Ok (made_stored c password salt)
+unfolding reading formatted
+made_phc c password salt hash fits len salted made =
+    let is = made_is_text c password salt hash fits len salted made in
+    rw (scrypt_is_phc is made.algorithm, hash_is_read (hash_text hash) hash is) (made_read c password salt hash fits made)
+
+pub ruleset made_texts = (made_mcf, made_phc)
 
 pub ruleset errors_of_reading = (mcf_none, params_none, stored_none, whole_of_text)

@@ -1,12 +1,12 @@
 -- `$7$` hashes of crypt(5): how their texts are read, and which are made.
-use Rattle.std.specs.Prelude.{◌≡◌, ℕ, ◌+◌, List, [], ◌∷◌, length, drop, codes, if◌then◌else◌, Option, ok_or, Result, Ok, Err, ⊤}
+use Rattle.std.specs.Prelude.{◌≡◌, ℕ, ◌+◌, List, [], ◌∷◌, ◌++◌, length, drop, codes, if◌then◌else◌, Option, ok_or, Result, Ok, Err, ⊤}
 use Rattle.std.specs.Str.{bytes_eq}
 use Rattle.password_hash.specs.Crypt64.{crypt64_of, decoded, encoded_len}
-use Rattle.password_hash.specs.Parts.{parts_of}
+use Rattle.password_hash.specs.Parts.{dollar, parts_of}
 use Rattle.password_hash.specs.Refusal.{Refusal, Algorithm, EncodingInvalid, OutputSize}
 use Rattle.scrypt.specs.Accepted.{Parameters, is_output_len, without_len}
 use Rattle.scrypt.specs.KeyOfParams.{key_by}
-use Rattle.scrypt.specs.McfParams.{field_params}
+use Rattle.scrypt.specs.McfParams.{field_params, params_text}
 use Rattle.scrypt.specs.Hashing.{HashingIsRefused, IsNamedOrNone, key_len_or_default}
 use Rattle.scrypt.specs.Reading.{◌and_then◌, Stored}
 
@@ -35,11 +35,18 @@ read_parts _ = Err EncodingInvalid
 unfoldable pub read_mcf : List ℕ → Result Stored Refusal
 read_mcf text = read_parts (parts_of text)
 
--- the text is the hash that these parameters make of a password and a salt: the salt of the
--- derivation is the letters of the salt in the text
+-- the key that these parameters make of a password and a salt: the salt of its derivation is the letters of the salt
+abbrev pub made_key : Parameters → List ℕ → List ℕ → List ℕ
+made_key c password salt = key_by c password (crypt64_of salt) (key_len_or_default c)
+
+-- the text is the hash that these parameters make of a password and a salt
 abbrev pub IsMadeHash : Parameters → List ℕ → List ℕ → List ℕ → Type 0
-IsMadeHash c password salt text = read_mcf text
-    ≡ Ok (record { params = without_len c; salt = crypt64_of salt; key = key_by c password (crypt64_of salt) (key_len_or_default c) })
+IsMadeHash c password salt text =
+    read_mcf text ≡ Ok (record { params = without_len c; salt = crypt64_of salt; key = made_key c password salt })
+
+-- the text with these parameters, this salt and this key
+abbrev pub mcf_text : Parameters → List ℕ → List ℕ → List ℕ
+mcf_text c salt key = params_text c ++ (crypt64_of salt ++ dollar ∷ crypt64_of key)
 
 -- the length of that text, for a salt of n bytes: the parameters, the letters of the salt, `$` and those
 -- of the key

@@ -3,9 +3,8 @@
 ghost use Rattle.std.specs.Prelude.{◌≡◌, ◌≢◌, ◌⊎◌, ◌↔◌, true, false, ℕ, ◌-◌, ◌*◌, ◌%◌, ◌^◌, ◌<◌, ◌≤◌, List, [], ◌∷◌, ◌++◌};
 ghost use Rattle.std.specs.Prelude.{length, take, Option, Result, Ok, Err, IfSome, IsSome, Some, All};
 ghost use Rattle.sha2.specs.Sha256.{sha256};
-ghost use Rattle.password_hash.specs.Crypt64.{Crypt64, crypt64_of, letter_value, letters_of};
+ghost use Rattle.password_hash.specs.Crypt64.{Crypt64, letter_value, letters_of};
 ghost use Rattle.password_hash.specs.Mcf.{IsMcfText, fields_of};
-ghost use Rattle.password_hash.specs.Parts.{dollar};
 ghost use Rattle.password_hash.specs.Phc.{IsHashText, IsSalt, hash_text};
 ghost use Rattle.password_hash.specs.Refusal.{Refusal, EncodingInvalid, PasswordInvalid};
 ghost use Rattle.password_hash.specs.declared.phc.hash.PasswordHash.{PasswordHash};
@@ -19,9 +18,8 @@ ghost use Rattle.scrypt.specs.Key.{derived_key, mixed_chunks};
 ghost use Rattle.scrypt.specs.ThinKey.{thin_key};
 ghost use Rattle.scrypt.specs.Cost.{cost, thin_cost};
 ghost use Rattle.scrypt_kernel.specs.Table.{extra_rows};
-ghost use Rattle.scrypt.specs.McfParams.{params_letters, params_text, five_letter_number};
-ghost use Rattle.scrypt.specs.McfHash.{HashIsRefused as McfHashIsRefused, IsMadeHash as IsMadeMcf, read_fields, read_mcf};
-ghost use Rattle.scrypt.specs.Hashing.{key_len_or_default};
+ghost use Rattle.scrypt.specs.McfParams.{params_letters, five_letter_number};
+ghost use Rattle.scrypt.specs.McfHash.{HashIsRefused as McfHashIsRefused, IsMadeHash as IsMadeMcf, made_key, mcf_text, read_fields, read_mcf};
 ghost use Rattle.scrypt.specs.PhcParams.{params_of_pairs, written_pairs};
 ghost use Rattle.scrypt.specs.PhcHash.{HashIsRefused, IsMadeHash, phc_params, read_phc};
 ghost use Rattle.scrypt.specs.Reading.{IsOfText, NamesNoPassword, Stored, verdict, weaker};
@@ -77,7 +75,7 @@ pub fn texts_have_one_reading()
 /// A hash made from a password with accepted parameters verifies against that password. A PHC hash
 /// does so also after it has been printed and parsed. A `$7$` text consists of the letters of the
 /// parameters, of the salt and of the key.
-#[tactic(auto, using(crate::proofs::PhcHashFacts::made_is_text, crate::proofs::McfTextFacts::made_text))]
+#[tactic(auto, using(crate::proofs::PhcHashFacts::made_hashes, crate::proofs::McfTextFacts::made_text, password_hash::proofs::PhcReadingFacts::one_reading))]
 pub fn made_hashes_are_accepted()
     ensures phc { (c : Parameters) (password salt : List ℕ) (hash : PasswordHash) → AreAccepted c.log_n c.r c.p
         → IsMadeHash c password salt hash → verdict password (read_phc hash) ≡ Ok tt }
@@ -90,8 +88,7 @@ pub fn made_hashes_are_accepted()
     ensures mcf { (c : Parameters) (password salt text : List ℕ) → IsMadeMcf c password salt text
         → verdict password (read_mcf text) ≡ Ok tt }
     ensures mcf_written { (c : Parameters) (password salt : List ℕ) → AreAccepted c.log_n c.r c.p
-        → IfSome c.output_len IsStoredLen → IsMadeMcf c password salt (params_text c ++ (crypt64_of salt
-        ++ dollar ∷ crypt64_of (key_by c password (crypt64_of salt) (key_len_or_default c)))) }
+        → IfSome c.output_len IsStoredLen → IsMadeMcf c password salt (mcf_text c salt (made_key c password salt)) }
 {}
 
 /// A text that is `$7` or begins with `$7$` is read by its fields, the text of a PHC hash as this hash, and the reading of
@@ -116,6 +113,7 @@ pub fn parameters_are_those_of_the_reading()
 
 /// The text of a hash made from a password with accepted parameters verifies against that password,
 /// and is not weaker than these parameters ask for.
+#[tactic(auto, using(crate::proofs::PhcHashFacts::made_hashes, crate::proofs::StoredHashFacts::made_texts))]
 pub fn made_texts_are_accepted()
     ensures phc { (c : Parameters) (password salt : List ℕ) (hash : PasswordHash) → AreAccepted c.log_n c.r c.p
         → IfSome c.output_len IsStoredLen → IsSalt salt → IsMadeHash c password salt hash
@@ -155,6 +153,7 @@ pub fn reading_names_no_password()
 {}
 
 /// A hash that was made with the wanted parameters is not weaker than wanted.
+#[tactic(auto, using(crate::proofs::PhcHashFacts::made_hashes))]
 pub fn rehashing_converges()
     ensures phc { (c : Parameters) (password salt : List ℕ) (hash : PasswordHash) → AreAccepted c.log_n c.r c.p
         → IsMadeHash c password salt hash → weaker c (read_phc hash) ≡ Ok false }
@@ -226,6 +225,4 @@ pub fn hashers_are_accepted(hasher: &crate::Scrypt)
 {
     let params = hasher.params();
     params.known();
-    // Proof hint: a length, if there is one, is 10 to 64.
-    let _ = params.output_len();
 }

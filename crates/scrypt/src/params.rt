@@ -3,12 +3,14 @@
 ghost use Rattle.std.specs.Prelude.{◌≡◌, ◌↔◌, ◌+◌, ◌*◌, ◌^◌, ◌<◌, ◌≤◌, IsOk, IfOk, IfSome, IsTrue, None, Some};
 ghost use Rattle.scrypt.specs.Accepted.{AreAccepted, IsStoredLen, Parameters, parameters_eq, recommended_parameters};
 ghost use Rattle.scrypt.specs.Limits.{work};
+ghost use Rattle.scrypt.specs.Reading.{checked, told};
 ghost use Rattle.scrypt.specs.Cost.{cost};
 ghost use Rattle.std.specs.Cmp.{and_equiv, on_equiv, partial_equiv_from_equiv};
 ghost use Rattle.std.specs.Cmp.Lexicographic.{options_equiv};
 ghost use Rattle.std.proofs.lemmas.Cmp.{nat_eq_equiv};
 
 use crate::InvalidParams;
+use password_hash::Error;
 use password_hash::phc::Output;
 use std::marker::Model;
 
@@ -105,6 +107,17 @@ impl Params {
         Ok(Params::new(log_n, r, p)?.with_output_len(len))
     }
 
+    /// Returns the parameters of a text. Returns `ParamsInvalid` if [`Params::new`] does not accept them.
+    #[tactic(auto, using(crate::proofs::AcceptedFacts::reading_numbers))]
+    pub(crate) fn of_text(log_n: u8, r: u32, p: u32) -> password_hash::Result<Params>
+        ensures { told result ≡ checked log_n r p }
+    {
+        match Params::new(log_n, r, p) {
+            Ok(params) => Ok(params),
+            Err(_) => Err(Error::ParamsInvalid),
+        }
+    }
+
     /// Returns the recommended parameters.
     #[deprecated]
     pub fn recommended() -> Params
@@ -126,9 +139,10 @@ impl Params {
         }
     }
 
-    /// Proof hint: exposes the invariant that the parameters are accepted.
+    /// Proof hint: exposes the invariant that the parameters are accepted, and their length if they have one.
     pub(crate) fn known(&self)
-        ensures { AreAccepted self.now.log_n self.now.r self.now.p }
+        ensures accepted { AreAccepted self.now.log_n self.now.r self.now.p }
+        ensures stored { IfSome self.now.output_len IsStoredLen }
     {
         let _ = &self.log_n;
     }

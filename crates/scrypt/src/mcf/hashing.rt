@@ -5,10 +5,9 @@ ghost use Rattle.std.specs.Str.{IsAscii};
 ghost use Rattle.password_hash.specs.Crypt64.{crypt64_of, encoded_len};
 ghost use Rattle.password_hash.specs.Mcf.{IsMcf};
 ghost use Rattle.password_hash.specs.declared.error.Error.TheVariants.{OutOfMemory};
-ghost use Rattle.scrypt.specs.KeyOfParams.{key_by};
 ghost use Rattle.scrypt.specs.McfParams.{params_text};
 ghost use Rattle.scrypt.specs.Hashing.{key_len_or_default};
-ghost use Rattle.scrypt.specs.McfHash.{HashIsRefused, IsMadeHash, IsMcfOrNone, made_text_len};
+ghost use Rattle.scrypt.specs.McfHash.{HashIsRefused, IsMadeHash, IsMcfOrNone, made_key, made_text_len};
 ghost use Rattle.password_hash.specs.Refusal.{refusal};
 ghost use Rattle.scrypt.specs.InBuffers.{AreEnough, IsCopiedTo};
 ghost use Rattle.scrypt.specs.WorkInBuffers.{IsDone, work_in};
@@ -95,6 +94,7 @@ fn hash_of(alloc: Global, password: &[u8], salt: &[u8], params: &Params) -> Resu
 }
 
 /// Returns the length in bytes of the text that hashing with these parameters and this salt makes.
+#[tactic(auto, using(crate::proofs::McfTextFacts::made_lengths))]
 pub fn hash_len(params: &Params, salt: &[u8]) -> usize
     ensures value { result ≡ made_text_len params.now (length salt.now) }
     ensures made { (password : List ℕ) → (text : List ℕ) × IsMadeHash params.now password salt.now text × (length text ≡ result) }
@@ -118,18 +118,16 @@ fn params_letters(params: &Params) -> [u8; PARAMS_LEN]
 }
 
 // Writes the text of a hash, all of which fills `out`.
+#[tactic(auto, using(crate::proofs::McfTextFacts::whole_texts))]
 fn write_text(out: &mut [u8], params: &Params, salt: &[u8], key: &Output)
     requires len { length out.old ≡ made_text_len params.now (length salt.now) }
     requires key_len { length key.now ≡ key_len_or_default params.now }
     ensures made { (password : List ℕ)
-        → key.now ≡ key_by params.now password (crypt64_of salt.now) (key_len_or_default params.now)
-        → IsMadeHash params.now password salt.now out.new }
+        → key.now ≡ made_key params.now password salt.now → IsMadeHash params.now password salt.now out.new }
     ensures ascii { IsAscii out.new }
     ensures modular { IsMcf out.new }
 {
     params.known();
-    // Proof hint: the key has 10 to 64 bytes.
-    let _ = key_len_or_default(params);
     let (front, rest) = out.split_at_mut(PARAMS_LEN);
     front.copy_from_slice(&params_letters(params));
     let (letters, rest) = rest.split_at_mut(Base64::Crypt.encoded_len(salt.len()));

@@ -37,8 +37,8 @@ pub fn decode_params_and_salt(text: &str) -> Result<(Params, &[u8])>
     let Ok(p) = decode64_uint32(&bytes[6..]) else {
         return Err(Error::EncodingInvalid);
     };
-    match Params::new(log_n, r, p) {
+    match Params::of_text(log_n, r, p) {
         Ok(params) => Ok((params, &bytes[11..])),
-        Err(_) => Err(Error::ParamsInvalid),
+        Err(error) => Err(error),
     }
 }

@@ -25,7 +25,7 @@ impl TryFrom<&ParamsString> for Params {
     /// not a decimal of at most 255 or `r` or `p` is not a decimal, and `ParamsInvalid` for any
     /// other name. Otherwise returns `ParamsInvalid` if [`Params::new`] does not accept the
     /// parameters.
-    #[tactic(auto, using(crate::proofs::AcceptedFacts::reading_numbers), unfolding(crate::specs::PhcParams::read_pairs))]
+    #[tactic(auto, unfolding(crate::specs::PhcParams::read_pairs))]
     fn try_from(text: &ParamsString) -> Result<Params> {
         let mut log_n = Params::RECOMMENDED_LOG_N;
         let mut r = Params::RECOMMENDED_R;
@@ -38,10 +38,7 @@ impl TryFrom<&ParamsString> for Params {
                 _ => return Err(Error::ParamsInvalid),
             }
         }
-        match Params::new(log_n, r, p) {
-            Ok(params) => Ok(params),
-            Err(_) => Err(Error::ParamsInvalid),
-        }
+        Params::of_text(log_n, r, p)
     }
 }
 
