@@ -3,6 +3,7 @@ use Rattle.std.proofs.Common.{Some, Ok, true, ◌∙◌, refl, sym, ap, ap₂, a
 use Rattle.std.specs.Prelude.{All, IfSome, Result, codes, nat_lt}
 use Rattle.std.proofs.lemmas.Bool.{lt-ltb}
 use Rattle.std.specs.Str.{IsAscii}
+use Rattle.std.proofs.lemmas.Str.{IsUtf8-from_ascii}
 use Rattle.std.proofs.lemmas.Str.Ascii.{IsAscii-from_all}
 use Rattle.std.proofs.lemmas.List.{append-nil, drop_all, drop_at}
 use Rattle.std.proofs.lemmas.List.Elements.{All-nil, All-cons, All-append, All-from_get_or, All-from_recursion, All-weaker}
@@ -148,5 +149,7 @@ pub ruleset whole_texts = (whole_is_ascii, whole_is_made)
 pub filled : (letters room new : List ℕ) → new ≡ letters ++ drop (length letters) room → length room ≡ length letters → new ≡ letters
 filled letters room new is full =
     is ∙ ap (λ rest. letters ++ rest) (drop_all (length letters) room (omega arith)) ∙ append-nil letters
+
+pub ruleset ascii_texts = (IsUtf8-from_ascii)
 
 pub ruleset key_fills = (length-key_by)

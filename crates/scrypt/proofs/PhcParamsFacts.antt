@@ -8,6 +8,7 @@ use Rattle.std.proofs.lemmas.List.Kept.{AllPairs-cons}
 use Rattle.std.proofs.lemmas.Slice.Eq.{bytes_eq-Decides}
 use Rattle.password_hash.specs.PhcReading.{is_identifier}
 use Rattle.password_hash.specs.Pairs.{ArePairs, IsPair}
+use Rattle.password_hash.proofs.ParamsFacts.{ArePairs-front}
 use Rattle.password_hash.proofs.DecimalFacts.{IsValue-decimal}
 use Rattle.password_hash.proofs.PhcReadingFacts.{identifier_decided}
 
@@ -41,3 +42,11 @@ three_pairs m n k small_m small_n small_k =
           (AllPairs-cons Differ p [] (All-nil (Differ p)) (λ i j d before inside. absurd (omega arith))));
       short = simp length-append (omega (arith, short m small_m, short n small_n, short k small_k));
     }
+
+pub two_pairs : (m n : ℕ) → m < 2 ^ 32 → n < 2 ^ 32 → ArePairs ((codes "ln", decimal m) ∷ (codes "r", decimal n) ∷ [])
+two_pairs m n small_m small_n = ArePairs-front (_ ∷ _ ∷ []) _ (three_pairs m n 0 small_m small_n (lit< tt))
+
+pub one_pair : (m : ℕ) → m < 2 ^ 32 → ArePairs ((codes "ln", decimal m) ∷ [])
+one_pair m small = ArePairs-front (_ ∷ []) _ (three_pairs m 0 0 small (lit< tt) (lit< tt))
+
+pub ruleset pairs_of_params = (one_pair, three_pairs, two_pairs)

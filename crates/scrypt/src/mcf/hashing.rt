@@ -149,6 +149,7 @@ fn encode(bytes: &[u8], out: &mut [u8])
 }
 
 // Returns the hash with this text.
+#[tactic(auto, using(crate::proofs::McfTextFacts::ascii_texts))]
 fn hash_of_text(text: Vec<u8>) -> PasswordHash
     requires ascii { IsAscii text.items }
     requires modular { IsMcf text.items }

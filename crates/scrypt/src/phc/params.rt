@@ -123,6 +123,7 @@ impl TryFrom<Params> for ParamsString {
 }
 
 // Writes the parameters of a hash.
+#[tactic(auto, using(crate::proofs::PhcParamsFacts::pairs_of_params))]
 pub(super) fn written(params: &Params) -> ParamsString
     ensures { result ≡ written_pairs params.now }
 {
