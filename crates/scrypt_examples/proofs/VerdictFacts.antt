@@ -1,11 +1,12 @@
--- Verdicts in buffers that are long enough, and what is computed from the numbers of a hash.
+-- Verdicts in buffers that are long enough.
 use Rattle.std.proofs.Common.{◌≡◌, ◌≤◌, ℕ, List, Ok, Err, true, refl, arith, length}
 use Rattle.std.proofs.lemmas.Bool.Decides.{nat_tests}
-use Rattle.std.specs.Prelude.{Bool, Result}
+use Rattle.std.proofs.lemmas.List.{length-replicate}
+use Rattle.std.specs.Prelude.{Result}
 use Rattle.password_hash.specs.Refusal.{Refusal}
 use Rattle.scrypt.specs.Accepted.{Parameters}
 use Rattle.scrypt.specs.Cost.{chunks_bytes, scratch_words, table_words}
-use Rattle.scrypt.specs.Reading.{Stored, is_below, mapped, verdict, weaker}
+use Rattle.scrypt.specs.Reading.{Stored, mapped, verdict}
 use Rattle.scrypt.specs.WorkInBuffers.{Work, has_room, verdict_in}
 use Rattle.scrypt.specs.declared.derivation.BufferLens.{BufferLens}
 use Rattle.scrypt_examples.specs.Buffers.{AreEnoughFor}
@@ -38,12 +39,4 @@ lens_are_enough (Ok s) read lens whole is =
     rw same (omega arith, omega arith, omega arith)
 lens_are_enough (Err why) read lens whole is = tt
 
--- a hash is weaker than wanted if one of its numbers is below
-pub weak_by_numbers : (reading : Result Stored Refusal) (read : Result (Parameters × ℕ) Refusal) (wanted params : Parameters) (key_len : ℕ)
-    (weak : Bool) → ((s : Stored) → reading ≡ Ok s → read ≡ Ok (s.params, length s.key)) → Ok params ≡ mapped (λ both. both.0) read
-    → Ok key_len ≡ mapped (λ both. both.1) read → weaker wanted reading ≡ Ok weak → is_below wanted params key_len ≡ weak
-weak_by_numbers (Ok s) read wanted params key_len weak whole params_are key_len_is is =
-    let same : params ≡ s.params = (let e = rw (whole s refl) at params_are in cc) in
-    let len : key_len ≡ length s.key = (let e = rw (whole s refl) at key_len_is in cc) in
-    rw (same, len) cc
-weak_by_numbers (Err why) read wanted params key_len weak whole params_are key_len_is is = absurd cc
+pub ruleset verdicts_in_lens = (length-replicate, verdict_in_lens)

@@ -14,6 +14,7 @@ use scrypt::{CoreCount, LimitedError, Limits, StoredHash};
 /// Returns the error of reading the text, `TooCostly` if its parameters exceed the limit on memory or on work,
 /// `KeyTooShort` if its key is shorter than they allow, and `OutOfMemory` exactly if a text within the limits needs
 /// longer buffers, so never if these are long enough for the limits.
+#[tactic(auto, using(crate::proofs::LoginFacts::bounded))]
 pub fn log_in(
     stored: &str,
     password: &[u8],

@@ -1,15 +1,15 @@
 //! Logins: users are enrolled, let in by their passwords, and their hashes replaced when they have become weak.
 
-ghost use Rattle.std.specs.Prelude.{◌≡◌, ◌⊎◌, ◌↔◌, Bool, None, Some, Ok, Err, IsOk, IsSome, true, IfErr, IfOk, IfSome, string_bytes};
+ghost use Rattle.std.specs.Prelude.{◌≡◌, ◌⊎◌, ◌↔◌, None, Ok, Err, IsOk, IsSome, true, IfErr, IfOk, IfSome, string_bytes};
 ghost use Rattle.password_hash.specs.Refusal.{refusal};
 ghost use Rattle.password_hash.specs.declared.error.Error.TheVariants.{OutOfMemory};
 ghost use Rattle.scrypt.specs.Accepted.{AreAccepted};
-ghost use Rattle.scrypt.specs.Reading.{is_below, verdict, weaker};
+ghost use Rattle.scrypt.specs.Reading.{verdict, weaker};
 ghost use Rattle.scrypt.specs.StoredHash.{reading};
 ghost use Rattle.scrypt_examples.specs.Login.{AreWanted, IsEnrolled, let_in, lets_in, new_text};
 
 use password_hash::{Error, PasswordHasher, Result};
-use scrypt::laws::{made_texts_are_accepted, parameters_are_those_of_the_reading};
+use scrypt::laws::made_texts_are_accepted;
 use scrypt::phc::PasswordHash;
 use scrypt::{InvalidParams, Params, Scrypt, StoredHash};
 use std::alloc::Global;
@@ -92,28 +92,5 @@ impl Logins {
             return Ok(Login::In);
         }
         Ok(Login::InWithNewText(self.enroll(alloc, password, salt)?))
-    }
-
-    /// Returns whether a hash is weaker than wanted, by its parameters and the length of its key: what `needs_rehash`
-    /// returns for it, if that is not an error.
-    pub fn is_weak(&self, hash: &StoredHash<'_>) -> Option<bool>
-        ensures same { (weak : Bool) → weaker self.now.wanted (reading hash.now) ≡ Ok weak → result ≡ Some weak }
-    {
-        parameters_are_those_of_the_reading();
-        let (Ok(params), Ok(key_len)) = (hash.params(), hash.key_len()) else {
-            return None;
-        };
-        Some(self.are_below(&params, key_len))
-    }
-
-    // Returns whether one of these numbers is below the wanted one.
-    #[tactic(auto, unfolding(scrypt::specs::Reading::is_below))]
-    fn are_below(&self, params: &Params, key_len: usize) -> bool
-        ensures { result ≡ is_below self.now.wanted params.now key_len }
-    {
-        params.log_n() < self.wanted.log_n()
-            || params.r() < self.wanted.r()
-            || params.p() < self.wanted.p()
-            || key_len < Params::RECOMMENDED_LEN
     }
 }

@@ -41,6 +41,7 @@ pub fn verdict(
 
 /// Returns the verdicts on two texts within limits, in buffers that are long enough for each of them. If their `N`
 /// and their `r` are the same, both keys are derived at once.
+#[tactic(auto, using(crate::proofs::VerdictFacts::verdicts_in_lens))]
 pub fn two_verdicts_within(
     alloc: Global,
     text: &str,
