@@ -2,6 +2,8 @@
 """Uses the page in a headless Chromium as a person does: by keys, without scripts, on a phone.
 
 usage: browser_test.py [PICTURES]    a folder for pictures of the pages
+
+The status is 77 if Debian's chromium-driver or python3-selenium is not installed.
 """
 
 import os
@@ -104,6 +106,5 @@ class Person(unittest.TestCase):
 
 if __name__ == "__main__":
     if not browser.found():
-        print("Chromium can't be driven here (packages chromium-driver and python3-selenium): the page was not tried")
-    else:
-        unittest.main(argv=sys.argv[:1])
+        sys.exit(77)  # not tried, which test.sh says
+    unittest.main(argv=sys.argv[:1])
