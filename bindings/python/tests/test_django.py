@@ -23,6 +23,7 @@ from django.contrib.auth import hashers  # noqa: E402  after the settings
 
 import scrypt_c  # noqa: E402
 from scrypt_c.django import PHCPasswordHasher, ScryptPasswordHasher  # noqa: E402
+from test_hasher import refuse_a_lone_surrogate  # noqa: E402
 
 
 argon2 = importlib.util.find_spec("argon2")
@@ -66,17 +67,14 @@ class Hashers(unittest.TestCase):
         self.assertEqual(kept, [])
 
     def test_a_lone_surrogate(self):
-        """No error has the password, nor has one that led to it."""
         theirs = ScryptPasswordHasher()
         stored = theirs.encode("pw", "seasalt", 16)
-        for call in (
+        refuse_a_lone_surrogate(
+            self,
             hashers.make_password,
             lambda password: theirs.encode(password, "seasalt", 16),
             lambda password: hashers.check_password(password, stored),
-        ):
-            with self.assertRaises(UnicodeError) as caught:
-                call("hunter\ud800")
-            self.assertNotIn("hunter", f"{caught.exception!r} {caught.exception.__context__!r}")
+        )
 
     def test_damaged_hashes(self):
         """They raise: a broken database is not a wrong password."""

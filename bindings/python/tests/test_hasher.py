@@ -41,15 +41,19 @@ class Hashes(unittest.TestCase):
             self.assertTrue(call(), why)
 
     def test_a_lone_surrogate(self):
-        """The error has nothing of the password, and no other error is its context, which would have it in full."""
         text = SMALL.hash("pw")
-        for password in ("hunter\ud800", "\udc80hunter", "\ude00\ud83dhunter"):
-            for call in (SMALL.hash, lambda it: SMALL.verify(text, it)):
-                with self.assertRaises(UnicodeError) as caught:
-                    call(password)
-                error = caught.exception
-                self.assertNotIn("hunter", f"{error!r} {error} {vars(error)} {getattr(error, 'object', '')}")
-                self.assertEqual((error.__context__, error.__cause__), (None, None))
+        refuse_a_lone_surrogate(self, SMALL.hash, lambda password: SMALL.verify(text, password))
+
+
+def refuse_a_lone_surrogate(test, *calls):
+    """The error has nothing of the password, and no other error is its context, which would have it in full."""
+    for password in ("hunter\ud800", "\udc80hunter", "\ude00\ud83dhunter"):
+        for call in calls:
+            with test.assertRaises(UnicodeError) as caught:
+                call(password)
+            error = caught.exception
+            test.assertNotIn("hunter", f"{error!r} {error} {vars(error)} {getattr(error, 'object', '')}")
+            test.assertEqual((error.__context__, error.__cause__), (None, None))
 
 
 class LyingBytes(bytes):

@@ -9,6 +9,7 @@ from passlib.context import CryptContext
 
 import scrypt_c
 from scrypt_c.passlib import scrypt
+from test_hasher import refuse_a_lone_surrogate
 
 SMALL = {"rounds": 6, "block_size": 8}
 
@@ -61,13 +62,9 @@ class Handler(unittest.TestCase):
         self.assertEqual(scrypt.default_rounds, 17)
 
     def test_a_lone_surrogate(self):
-        """No error has the password, nor has one that led to it."""
         ours = scrypt.using(**SMALL)
         text = ours.hash("pw")
-        for call in (ours.hash, lambda password: ours.verify(password, text)):
-            with self.assertRaises(UnicodeError) as caught:
-                call("hunter\ud800")
-            self.assertNotIn("hunter", f"{caught.exception!r} {caught.exception.__context__!r}")
+        refuse_a_lone_surrogate(self, ours.hash, lambda password: ours.verify(password, text))
 
     def test_hostile_hashes(self):
         for costs, why in [

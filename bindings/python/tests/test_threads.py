@@ -1,9 +1,10 @@
-"""A hasher in threads and processes: exceptions, signals, forks and copies at any time. Its queue has tests in C."""
+"""A hasher in threads and processes: exceptions, signals and copies at any time. Its queue has tests in C."""
 
 import contextlib
 import copy
 import ctypes
 import importlib
+import math
 import pickle
 import random
 import signal
@@ -13,8 +14,10 @@ import threading
 import time
 import unittest
 from concurrent.futures import ThreadPoolExecutor
+from unittest import mock
 
-from scrypt_c import PasswordHasher, errors, library
+from scrypt_c import PasswordHasher, library
+from scrypt_c.errors import CANCELLED, TIMEOUT
 
 WAIT = 60  # seconds, after which something is taken to wait for ever
 TEXT = PasswordHasher(log_n=4).hash("pw")
@@ -37,7 +40,7 @@ def busy(hasher, p):
 
     with ThreadPoolExecutor(1) as threads:
         running = threads.submit(verify, f"$scrypt$ln=17,r=8,p={p}$c2FsdHNhbHQ${43 * 'A'}", -1)
-        while verify(TEXT, 0) != errors.TIMEOUT:
+        while verify(TEXT, 0) != TIMEOUT:
             time.sleep(0.001)
         yield
         assert running.result(WAIT) == 1
@@ -62,28 +65,6 @@ def resident():
     with open("/proc/self/status", encoding="ascii") as file:
         return next(int(line.split()[1]) for line in file if line.startswith("VmRSS"))
 
-
-# A handler of C forks in the middle of calls, which are right in the parent and in the child.
-FORKS = """
-import ctypes, os, random, scrypt_c, signal
-libc, parent, costs = ctypes.CDLL(None), os.getpid(), {"salt": b"", "n": 1 << 12, "r": 8, "p": 4}
-hasher, key = scrypt_c.PasswordHasher(log_n=12), scrypt_c.scrypt(b"pw", **costs)
-text = hasher.hash("pw")
-calls = [lambda: scrypt_c.scrypt(b"pw", maxmem=9 << 20, **costs) == key, lambda: hasher.verify(text, "pw")]
-libc.signal(signal.SIGALRM, libc.fork)
-for call in 30 * calls:
-    signal.setitimer(signal.ITIMER_REAL, random.uniform(5e-4, 8e-3))
-    assert call()
-    signal.setitimer(signal.ITIMER_REAL, 0)
-    if os.getpid() != parent:
-        os._exit(0)
-children = 0
-try:
-    while os.wait()[1] == 0:
-        children += 1
-except ChildProcessError:
-    print("end" if children > 10 else children)
-"""
 
 # A program ends while daemon threads derive and wait.
 DAEMONS = """
@@ -126,13 +107,14 @@ class Signals(unittest.TestCase):
     def test_handlers_while_it_waits(self):
         """They run at once, whichever thread gets the signal. What raises ends the wait, and what returns does not."""
         to_another = lambda: signal.pthread_kill(threading.get_ident(), signal.SIGALRM)
-        for handler, seconds, result in [
-            (signal.default_int_handler, 0.5, KeyboardInterrupt),
-            (lambda *_: hasher.close(), 0.5, ValueError),
-            (lambda *_: hasher.verify(TEXT, "pw"), WAIT, True),
+        for handler, timeout, seconds, result in [
+            (signal.default_int_handler, WAIT, 0.5, KeyboardInterrupt),
+            (lambda *_: hasher.close(), WAIT, 0.5, ValueError),
+            (lambda *_: hasher.verify(TEXT, "pw"), WAIT, WAIT, True),
+            (lambda *_: None, 0.2, 0.5, TimeoutError),
         ]:
             for start in (lambda: alarm(0.05, 0.05), threading.Timer(0.05, to_another).start):
-                hasher = PasswordHasher(log_n=4, at_once=1, timeout=WAIT)
+                hasher = PasswordHasher(log_n=4, at_once=1, timeout=timeout)
                 with busy(hasher, 4), on_alarm(handler):
                     start()
                     began = time.monotonic()
@@ -140,46 +122,41 @@ class Signals(unittest.TestCase):
                     self.assertLess(time.monotonic() - began, seconds, result)
 
     def test_slices(self):
-        """The main thread waits in slices, and comes back to its place; another one waits at once."""
-        waits = []
+        """The main thread waits in slices and comes back to its place, another one waits at once, and neither for longer
+        than it may. In a child of a fork a call is made again."""
+        longest = math.ceil(1000 * threading.TIMEOUT_MAX)
 
         def call(_, most_ms, place):
-            waits.append((most_ms <= 50, None if place is None else place.value))
+            nonlocal now
+            waits.append((most_ms, None if place is None else place.value))
             if place is not None:
                 place.value = 7
-            return errors.TIMEOUT if len(waits) in (1, 2) else 0
+            now += most_ms / 1000 if statuses[0] == TIMEOUT else 0
+            return statuses.pop(0)
 
-        hasher = PasswordHasher(log_n=4, timeout=WAIT)
-        with ThreadPoolExecutor(1) as threads:
-            for run in (lambda call: hasher._run(call), lambda call: threads.submit(hasher._run, call).result(WAIT)):
-                self.assertEqual(run(call), 0)
-        self.assertEqual(waits, [(True, 0), (True, 7), (True, 7), (False, None)])
+        for is_main, timeout, statuses, wanted in [
+            (True, 0, [TIMEOUT], [(0, 0)]),
+            (False, 0, [TIMEOUT], [(0, None)]),
+            (True, 0.1201, 3 * [TIMEOUT], [(50, 0), (50, 7), (21, 7)]),
+            (False, 0.1201, [TIMEOUT], [(121, None)]),
+            (True, None, [TIMEOUT, CANCELLED, 0], [(50, 0), (50, 7), (50, 7)]),
+            (False, None, [CANCELLED, 0], 2 * [(longest, None)]),
+            (False, 1e300, [0], [(longest, None)]),
+        ]:
+            now, waits, last, hasher = 0.0, [], statuses[-1], PasswordHasher(log_n=4, timeout=timeout)
+            with ThreadPoolExecutor(1) as threads, mock.patch("scrypt_c.hasher.time.monotonic", lambda: now):
+                status = hasher._run(call) if is_main else threads.submit(hasher._run, call).result(WAIT)
+            self.assertEqual((status, waits), (last, wanted))
 
 
 class Threads(unittest.TestCase):
-    def test_timeouts(self):
-        """In the main thread and in another."""
-        for timeout, least, most in [(0, 0, 0.3), (0.03, 0.03, 0.3), (0.12, 0.12, 0.4), (1e300, 0.2, WAIT), (None, 0.2, WAIT)]:
-            hasher = PasswordHasher(log_n=4, at_once=1, timeout=timeout)
-            with ThreadPoolExecutor(1) as threads:
-                for run in (lambda call: call(), lambda call: threads.submit(call).result(WAIT)):
-                    with busy(hasher, 2):
-                        began = time.monotonic()
-                        found = run(lambda: outcome(hasher, TEXT, "pw"))
-                        self.assertIs(found, TimeoutError if most < WAIT else True)
-                        self.assertTrue(least - 2e-3 <= time.monotonic() - began < most, timeout)
-
     def test_memory(self):
-        """It is given back when a hasher is closed, and when it is gone."""
-        before = resident()
-        for is_closed in (True, False):
-            hasher = PasswordHasher(log_n=16)
-            with hasher if is_closed else contextlib.nullcontext():
-                hasher.hash("pw")
-                self.assertGreater(resident() - before, 60 << 10)
-            if not is_closed:
-                del hasher
-            self.assertLess(resident() - before, 8 << 10)
+        """It is given back when a hasher is gone."""
+        before, hasher = resident(), PasswordHasher(log_n=16)
+        hasher.hash("pw")
+        self.assertGreater(resident() - before, 60 << 10)
+        del hasher
+        self.assertLess(resident() - before, 8 << 10)
 
     def test_recursion(self):
         """At each depth up to the limit a call raises an error or returns, and afterwards one returns."""
@@ -199,7 +176,7 @@ class Threads(unittest.TestCase):
 
 class Processes(unittest.TestCase):
     def test_copies(self):
-        """Each argument is in the copy, which has a queue of its own."""
+        """Each argument is in the copy, which is open when the other is closed."""
         for options in [
             {"log_n": 4, "r": 3, "p": 2, "key_len": 33, "salt_len": 40, "mcf": True},
             {"log_n": 4, "at_once": 3, "timeout": 0.5, "most_bytes": 1 << 20, "most_work": 1 << 15},
@@ -209,13 +186,15 @@ class Processes(unittest.TestCase):
             for copied in (pickle.loads(pickle.dumps(hasher)), copy.copy(hasher), copy.deepcopy(hasher)):
                 self.assertEqual((type(copied), repr(copied)), (Other, repr(hasher)))
                 self.assertEqual(*((it.params, it._options, it._timeout) for it in (copied, hasher)))
-                hasher.close()
+                with hasher:
+                    pass
+                self.assertRaises(ValueError, hasher.hash, "pw")
                 self.assertEqual(len(copied.hash("pw")), size)
 
-    def test_programs(self):
-        for program in [FORKS] + 10 * [DAEMONS]:
-            run = subprocess.run([sys.executable, "-c", program], capture_output=True, text=True, timeout=WAIT)
-            self.assertEqual((run.stdout, run.stderr, run.returncode), ("end\n", "", 0), program)
+    def test_daemons(self):
+        for _ in range(10):
+            run = subprocess.run([sys.executable, "-c", DAEMONS], capture_output=True, text=True, timeout=WAIT)
+            self.assertEqual((run.stdout, run.stderr, run.returncode), ("end\n", "", 0))
 
     def test_subinterpreters(self):
         """Each has its own package over the same library, on threads at once."""
