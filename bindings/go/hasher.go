@@ -119,9 +119,9 @@ func (h *Hasher) HashWithSalt(ctx context.Context, password, salt []byte) (strin
 // hash draws a salt if the pointer is NULL.
 func (h *Hasher) hash(ctx context.Context, password []byte, salt unsafe.Pointer, saltLen C.size_t) (string, error) {
 	text := make([]byte, C.text_capacity(saltLen))
-	err := h.run(ctx, nil, func(ms C.int64_t, place *C.uint64_t) C.int {
-		return C.scrypt_hasher_hash(h.of.c, pointer(password), size(password), salt, saltLen, chars(text), size(text), ms,
-			place)
+	err := h.run(ctx, nil, func(ms int64, place *uint64) Error {
+		return Error(C.scrypt_hasher_hash(h.of.c, pointer(password), size(password), salt, saltLen, chars(text), size(text),
+			C.int64_t(ms), (*C.uint64_t)(place)))
 	})
 	if err != nil {
 		return "", err
@@ -134,9 +134,9 @@ func (h *Hasher) hash(ctx context.Context, password []byte, salt unsafe.Pointer,
 func (h *Hasher) Key(ctx context.Context, password, salt []byte, keyLen int) ([]byte, error) {
 	key, err := newKey(keyLen)
 	if err == nil {
-		err = h.run(ctx, nil, func(ms C.int64_t, place *C.uint64_t) C.int {
-			return C.scrypt_hasher_key(h.of.c, pointer(password), size(password), pointer(salt), size(salt), bytes(key),
-				size(key), ms, place)
+		err = h.run(ctx, nil, func(ms int64, place *uint64) Error {
+			return Error(C.scrypt_hasher_key(h.of.c, pointer(password), size(password), pointer(salt), size(salt), bytes(key),
+				size(key), C.int64_t(ms), (*C.uint64_t)(place)))
 		})
 	}
 	if err != nil {
@@ -151,8 +151,9 @@ func (h *Hasher) Key(ctx context.Context, password, salt []byte, keyLen int) ([]
 // if that is less, ErrClosed or ErrOutOfMemory. An error of the text alone is returned without waiting.
 func (h *Hasher) Verify(ctx context.Context, text string, password []byte) error {
 	raw := []byte(text)
-	err := h.run(ctx, raw, func(ms C.int64_t, place *C.uint64_t) C.int {
-		return C.scrypt_hasher_verify(h.of.c, pointer(password), size(password), chars(raw), size(raw), ms, place)
+	err := h.run(ctx, raw, func(ms int64, place *uint64) Error {
+		return Error(C.scrypt_hasher_verify(h.of.c, pointer(password), size(password), chars(raw), size(raw), C.int64_t(ms),
+			(*C.uint64_t)(place)))
 	})
 	if err != ErrTooCostly && err != ErrKeyTooShort {
 		return err
@@ -184,7 +185,7 @@ func (h *Hasher) NeedsRehash(text string) (bool, error) {
 
 // run calls C when there is room inside. If the context can end it calls in slices, between which C keeps the place in the
 // line, and nothing that has to be given back: so a context may panic.
-func (h *Hasher) run(ctx context.Context, text []byte, call func(ms C.int64_t, place *C.uint64_t) C.int) error {
+func (h *Hasher) run(ctx context.Context, text []byte, call func(ms int64, place *uint64) Error) error {
 	if h.of == nil {
 		return ErrClosed
 	}
@@ -193,15 +194,15 @@ func (h *Hasher) run(ctx context.Context, text []byte, call func(ms C.int64_t, p
 	}
 	defer func(of *hasher) { <-of.inside }(h.of)
 	if ctx.Done() == nil {
-		return failed(call(-1, nil))
+		return failed(C.int(call(-1, nil)))
 	}
-	var place C.uint64_t
+	var place uint64
 	for {
 		if err := ctx.Err(); err != nil {
 			return err
 		}
 		if status := call(sliceMs, &place); status != C.SCRYPT_TIMEOUT {
-			return failed(status)
+			return failed(C.int(status))
 		}
 	}
 }

@@ -25,29 +25,19 @@ func newHasher(t *testing.T, options Options) *Hasher {
 	return hasher
 }
 
-// hashOf returns the text of a hash of "pw".
-func hashOf(t *testing.T, params Params) string {
-	t.Helper()
-	text, err := newHasher(t, Options{Params: params}).Hash(context.Background(), []byte("pw"))
-	if err != nil {
-		t.Fatal(err)
-	}
-	return text
-}
-
 func TestHashes(t *testing.T) {
 	ctx, password := context.Background(), []byte("pass\x00word")
 	for _, it := range []struct {
-		given     Params
-		mcf       bool
-		beginning string
-		want      Params
+		options     Options
+		beginning   string
+		want        Params
+		field, size int // where a salt is in a text, and how long it is there
 	}{
-		{Params{LogN: 4}, false, "$scrypt$ln=4,r=8,p=1$c2FsdHNhbHQ$", Params{4, 8, 1, 32}},
-		{Params{5, 3, 2, 20}, false, "$scrypt$ln=5,r=3,p=2$c2FsdHNhbHQ$", Params{5, 3, 2, 20}},
-		{Params{LogN: 4}, true, "$7$26..../....", Params{4, 8, 1, 32}},
+		{Options{Params: Params{LogN: 4}}, "$scrypt$ln=4,r=8,p=1$c2FsdHNhbHQ$", Params{4, 8, 1, 32}, 3, 22},
+		{Options{Params: Params{5, 3, 2, 20}, SaltLen: 64}, "$scrypt$ln=5,r=3,p=2$c2FsdHNhbHQ$", Params{5, 3, 2, 20}, 3, 86},
+		{Options{Params: Params{LogN: 4}, SaltLen: 64, MCF: true}, "$7$26..../....", Params{4, 8, 1, 32}, 2, 11 + 86},
 	} {
-		hasher := newHasher(t, Options{Params: it.given, MCF: it.mcf})
+		hasher := newHasher(t, it.options)
 		text, err := hasher.HashWithSalt(ctx, password, []byte("saltsalt"))
 		if of, unread := ParamsOf(text); err != nil || unread != nil || !strings.HasPrefix(text, it.beginning) || of != it.want {
 			t.Errorf("%q of %v: %v, %v", text, of, err, unread)
@@ -61,6 +51,19 @@ func TestHashes(t *testing.T) {
 				t.Errorf("%s: whether it is weak: %v, %v", text, weak, err)
 			}
 		}
+		one, _ := hasher.Hash(ctx, nil)
+		other, err := hasher.Hash(ctx, nil)
+		if one == other || err != nil || len(strings.Split(other, "$")[it.field]) != it.size {
+			t.Errorf("with random salts: %s, %s, %v", one, other, err)
+		}
+		for _, salt := range [][]byte{nil, make([]byte, 65)} {
+			one, err = hasher.HashWithSalt(ctx, nil, salt)
+			other, _ = hasher.HashWithSalt(ctx, nil, salt)
+			want := map[bool]error{false: ErrSaltInvalid}[it.options.MCF]
+			if one != other || err != want || err == nil && hasher.Verify(ctx, one, nil) != nil {
+				t.Errorf("with %d bytes: %s, %s, %v", len(salt), one, other, err)
+			}
+		}
 		key, err := hasher.Key(ctx, password, []byte("salt"), 1000)
 		if want, _ := Key(password, []byte("salt"), 1<<it.want.LogN, it.want.R, it.want.P, 1000); string(key) != string(want) {
 			t.Errorf("%x, %v", key, err)
@@ -72,34 +75,6 @@ func TestHashes(t *testing.T) {
 	usual := Recommended()
 	if MostBytes != 257<<20 || MostWork != 4*usual.Work() || LeastKeyLen != 16 || usual != (Params{17, 8, 1, 32}) {
 		t.Errorf("%d bytes, a work of %d, a key of %d, %v", MostBytes, MostWork, LeastKeyLen, usual)
-	}
-}
-
-// A salt is random without one of the caller, which may be empty in a $7$ hash.
-func TestSalts(t *testing.T) {
-	ctx := context.Background()
-	for _, it := range []struct {
-		mcf         bool
-		field, size int // where the salt is in a text
-		salt        []byte
-		want        error
-	}{
-		{false, 3, 86, nil, ErrSaltInvalid},
-		{false, 3, 86, make([]byte, 65), ErrSaltInvalid},
-		{true, 2, 11 + 86, nil, nil},
-		{true, 2, 11 + 86, make([]byte, 1000), nil},
-	} {
-		hasher := newHasher(t, Options{Params: small(), SaltLen: 64, MCF: it.mcf})
-		one, _ := hasher.Hash(ctx, nil)
-		other, err := hasher.Hash(ctx, nil)
-		if one == other || err != nil || len(strings.Split(other, "$")[it.field]) != it.size || hasher.Verify(ctx, one, nil) != nil {
-			t.Errorf("%s, %s, %v", one, other, err)
-		}
-		one, err = hasher.HashWithSalt(ctx, nil, it.salt)
-		other, _ = hasher.HashWithSalt(ctx, nil, it.salt)
-		if one != other || err != it.want || err == nil && hasher.Verify(ctx, one, nil) != nil {
-			t.Errorf("with %d bytes: %s, %s, %v", len(it.salt), one, other, err)
-		}
 	}
 }
 
@@ -155,20 +130,16 @@ func TestMemoryAndWork(t *testing.T) {
 	}
 }
 
-// The options bound what is verified, and what is refused by its text does not wait, also where all wait.
+// What is refused by its text does not wait, also where all wait.
 func TestRefusedTexts(t *testing.T) {
-	costs := Params{6, 3, 5, 32}
-	text, work := hashOf(t, costs), costs.Work()
-	memory, _ := costs.Memory()
 	for _, it := range []struct {
 		why, text string
 		options   Options
 		want      error
 		words     string
 	}{
-		{"just within both bounds", text, Options{MostBytes: memory, MostWork: work}, nil, ""},
-		{"a byte less", text, Options{MostBytes: memory - 1}, ErrTooCostly, "need 27264 bytes and a work of 5760"},
-		{"one less of work", text, Options{MostWork: work - 1}, ErrTooCostly, "MostBytes is 269484032, MostWork is 5759"},
+		{"too costly", "$scrypt$ln=6,r=3,p=5" + shortKey + "AA", Options{MostWork: 5759}, ErrTooCostly,
+			"need 27264 bytes and a work of 5760, and a key of 16 bytes; MostBytes is 269484032, MostWork is 5759"},
 		{"a key of 15 bytes", noHash[:len(noHash)-2], Options{}, ErrKeyTooShort, "a key of 15 bytes"},
 		{"as long as new keys", noHash[:len(noHash)-2], Options{Params: Params{KeyLen: 15}}, ErrMismatch, ""},
 		{"no text", "", Options{}, ErrEncodingInvalid, ""},
@@ -176,7 +147,7 @@ func TestRefusedTexts(t *testing.T) {
 	} {
 		it.options.LogN, it.options.AtOnce = 4, 1
 		hasher := newHasher(t, it.options)
-		if it.want != nil && it.want != ErrMismatch {
+		if it.want != ErrMismatch {
 			defer fill(hasher)()
 		}
 		ctx, cancel := context.WithTimeout(context.Background(), 20*time.Second)

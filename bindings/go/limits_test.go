@@ -12,19 +12,12 @@ import (
 func limitMemory(t *testing.T, more uint64) {
 	t.Helper()
 	var before syscall.Rlimit
-	if err := syscall.Getrlimit(syscall.RLIMIT_AS, &before); err != nil {
-		t.Fatal(err)
+	err := syscall.Getrlimit(syscall.RLIMIT_AS, &before)
+	limit := syscall.Rlimit{Cur: uint64(statusKiB(t, "VmSize"))<<10 + more, Max: before.Max}
+	if err != nil || syscall.Setrlimit(syscall.RLIMIT_AS, &limit) != nil {
+		t.Fatal("the memory cannot be limited")
 	}
-	limit := before
-	limit.Cur = uint64(statusKiB(t, "VmSize"))<<10 + more
-	if err := syscall.Setrlimit(syscall.RLIMIT_AS, &limit); err != nil {
-		t.Fatal(err)
-	}
-	t.Cleanup(func() {
-		if err := syscall.Setrlimit(syscall.RLIMIT_AS, &before); err != nil {
-			t.Error(err)
-		}
-	})
+	t.Cleanup(func() { _ = syscall.Setrlimit(syscall.RLIMIT_AS, &before) })
 }
 
 // statusKiB returns a number of /proc/self/status.
