@@ -73,6 +73,14 @@ impl DeriveError {
 }
 
 impl Error {
+    // What a call returns by its status.
+    pub(crate) fn check(status: i32) -> Result<(), Error> {
+        match status {
+            OK => Ok(()),
+            other => Err(Error::of(other)),
+        }
+    }
+
     // The status of a call, other than OK.
     pub(crate) fn of(status: i32) -> Error {
         match status {

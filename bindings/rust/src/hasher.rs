@@ -2,7 +2,6 @@
 
 use crate::calls::*;
 use crate::{Bounds, Error, Params};
-use std::os::raw::c_int;
 use std::ptr::{null, null_mut, NonNull};
 use std::sync::Arc;
 
@@ -84,13 +83,6 @@ impl Default for Hasher {
 // Without a bound on the wait.
 const NO_BOUND: i64 = -1;
 
-fn result(status: c_int) -> Result<(), Error> {
-    match status {
-        OK => Ok(()),
-        other => Err(Error::of(other)),
-    }
-}
-
 impl Hasher {
     /// A hasher with these options.
     ///
@@ -162,7 +154,7 @@ impl Hasher {
             scrypt_hasher_hash(self.raw(), password.as_ptr().cast(), password.len(), salt.cast(), salt_len,
                 text.as_mut_ptr().cast(), capacity, NO_BOUND, null_mut())
         };
-        result(status)?;
+        Error::check(status)?;
         text.truncate(text.iter().position(|it| *it == 0).unwrap_or(0));
         text.shrink_to_fit();
         String::from_utf8(text).map_err(|_| Error::EncodingInvalid)
@@ -187,7 +179,7 @@ impl Hasher {
             scrypt_hasher_key(self.raw(), password.as_ptr().cast(), password.len(), salt.as_ptr().cast(), salt.len(),
                 output.as_mut_ptr(), output.len(), NO_BOUND, null_mut())
         };
-        result(status)
+        Error::check(status)
     }
 
     /// Ok if the password is that of the hash, in either format.
@@ -205,7 +197,7 @@ impl Hasher {
             scrypt_hasher_verify(self.raw(), password.as_ptr().cast(), password.len(), text.as_ptr().cast(), text.len(),
                 NO_BOUND, null_mut())
         };
-        result(status)
+        Error::check(status)
     }
 
     /// Whether one of the parameters of the hash, or its key's length, is below that of new hashes. This also works on a
@@ -219,7 +211,7 @@ impl Hasher {
         // SAFETY: the hasher is there until this returns, and the pointer is that of a text of this length.
         match unsafe { scrypt_hasher_needs_rehash(hasher, text, len) } {
             NEEDS_REHASH => Ok(true),
-            other => result(other).map(|()| false),
+            other => Error::check(other).map(|()| false),
         }
     }
 

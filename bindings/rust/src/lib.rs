@@ -101,8 +101,5 @@ pub fn scrypt(
 /// `NoRandomBytes` if the system has none; do not use the salt then.
 pub fn draw_salt(salt: &mut [u8]) -> Result<(), Error> {
     // SAFETY: the pointer is that of a slice of this length.
-    match unsafe { scrypt_draw_salt(salt.as_mut_ptr(), salt.len()) } {
-        OK => Ok(()),
-        other => Err(Error::of(other)),
-    }
+    Error::check(unsafe { scrypt_draw_salt(salt.as_mut_ptr(), salt.len()) })
 }

@@ -129,10 +129,8 @@ pub fn params_of(text: &str) -> Result<(Params, usize), Error> {
         let text_at = text.as_ptr().cast();
         scrypt_hash_params(text_at, text.len(), &mut log_n, &mut r, &mut p, &mut key_len)
     };
-    match status {
-        OK => Ok((Params::new(log_n, r, p)?, key_len)),
-        other => Err(Error::of(other)),
-    }
+    Error::check(status)?;
+    Ok((Params::new(log_n, r, p)?, key_len))
 }
 
 /// Finds parameters by measuring this machine, now: the greatest `log_n` whose table has at most `most_bytes` bytes, and then
@@ -146,8 +144,6 @@ pub fn calibrate(target: Duration, most_bytes: usize) -> Result<Params, Error> {
     // SAFETY: the three places are this function's own.
     let status =
         unsafe { scrypt_calibrate(target.as_secs_f64(), most_bytes, &mut log_n, &mut r, &mut p) };
-    match status {
-        OK => Ok(Params::new(log_n, r, p)?),
-        other => Err(Error::of(other)),
-    }
+    Error::check(status)?;
+    Ok(Params::new(log_n, r, p)?)
 }

@@ -56,19 +56,12 @@ fn clones() {
     assert_eq!((clone.needs_rehash(&text), other.verify(&text, "pw")), (Ok(false), Ok(())));
 }
 
-/// The memory is given back when a hasher is closed, and when its last clone is dropped.
+/// The memory is given back when the last clone is dropped.
 #[test]
 fn memory_is_given_back() {
-    let mut closed = Vec::new();
-    for number in 0..64 {
+    for _ in 0..64 {
         let hasher = with(16, 1, 1);
-        let clone = hasher.clone();
-        hasher.hash("pw").unwrap();
-        drop(hasher);
-        if number % 2 == 0 {
-            clone.close();
-            closed.push(clone);
-        }
+        hasher.clone().hash("pw").unwrap();
     }
     let status = std::fs::read_to_string("/proc/self/status").unwrap();
     let line = status.lines().find(|it| it.starts_with("VmRSS")).unwrap();
