@@ -31,24 +31,24 @@ static int overlap(const uint8_t *a, size_t a_len, const uint8_t *b, size_t b_le
   return a_len > 0 && b_len > 0 && (uintptr_t)a < (uintptr_t)b + b_len && (uintptr_t)b < (uintptr_t)a + a_len;
 }
 
-/* The buffers that this thread keeps for what is needed, in so many tables or fewer; of no length if it keeps none. A
- * derivation in them is made again if they are lost. */
-static struct buffers kept_for(const scrypt_needs *needs, size_t count) {
+/* The buffers that this thread keeps for a key, in as many tables as pay or fewer; of no length if it keeps none. A derivation
+ * in them is made again if they are lost. */
+static struct buffers kept_for(uint8_t log_n, uint32_t r, uint32_t p) {
   struct buffers none = {NULL, NULL, NULL, 0, 0, 0};
+  scrypt_needs needs = {0, 0, 0, 0, 0, 0, 0, 0};
   struct tables *kept = kept_tables();
-  count = kept != NULL && needs->table_len > 0 ? tables_room(kept, needs, count) : 0;
-  return count > 0 ? tables_buffers(kept, needs, count, 1) : none;
+  size_t count = tables_for_key(log_n, r, p, &needs);
+  count = kept != NULL && needs.table_len > 0 ? tables_room(kept, &needs, count) : 0;
+  return count > 0 ? tables_buffers(kept, &needs, count, 1) : none;
 }
 
 static int are_lost(void) { return tables_are_lost(kept_tables()); }
 
 static int derive_in_memory(const uint8_t *password, size_t password_len, const uint8_t *salt, size_t salt_len,
                             uint8_t log_n, uint32_t r, uint32_t p, uint8_t *output, size_t output_len) {
-  scrypt_needs needs = {0, 0, 0, 0, 0, 0, 0, 0};
-  size_t count = tables_for_key(log_n, r, p, &needs);
   int status;
   do {
-    struct buffers of = kept_for(&needs, count);
+    struct buffers of = kept_for(log_n, r, p);
     if (of.table_len == 0)
       return scrypt_key(password, password_len, salt, salt_len, log_n, r, p, output, output_len);
     status = key_in_buffers(password, password_len, salt, salt_len, log_n, r, p, output, output_len, &of);
@@ -156,11 +156,9 @@ static int has_costs(const char *text) {
 
 static int hash_in_memory(const char *password, size_t password_len, const uint8_t salt[SALT_LEN], uint8_t log_n,
                           uint32_t r, uint32_t p, char text[TEXT_LEN + 1]) {
-  scrypt_needs needs = {0, 0, 0, 0, 0, 0, 0, 0};
-  size_t count = tables_for_key(log_n, r, p, &needs);
   int status;
   do {
-    struct buffers of = kept_for(&needs, count);
+    struct buffers of = kept_for(log_n, r, p);
     if (of.table_len == 0)
       return scrypt_hash_mcf(password, password_len, salt, SALT_LEN, log_n, r, p, KEY_LEN, text, TEXT_LEN + 1);
     status = scrypt_hash_mcf_with_buffers(password, password_len, salt, SALT_LEN, log_n, r, p, KEY_LEN, text, TEXT_LEN + 1,
@@ -187,14 +185,12 @@ API int crypto_pwhash_scryptsalsa208sha256_str(char text[TEXT_LEN + 1], const ch
 }
 
 static int verify_in_memory(const char *password, size_t password_len, const char *text) {
-  scrypt_needs needs = {0, 0, 0, 0, 0, 0, 0, 0};
-  uint8_t log_n;
-  size_t count = 1, key_len;
-  int status;
-  if (scrypt_hash_params(text, TEXT_LEN, &log_n, &needs.r, &needs.p, &key_len) == SCRYPT_OK)
-    count = tables_for_key(log_n, needs.r, needs.p, &needs);
+  uint8_t log_n = 0;
+  uint32_t r = 0, p = 0; /* for which nothing is kept, if the text cannot be read */
+  size_t key_len;
+  int status = scrypt_hash_params(text, TEXT_LEN, &log_n, &r, &p, &key_len);
   do {
-    struct buffers of = kept_for(&needs, count);
+    struct buffers of = kept_for(log_n, r, p);
     if (of.table_len == 0) return scrypt_verify(password, password_len, text, TEXT_LEN);
     status = scrypt_verify_with_buffers(password, password_len, text, TEXT_LEN, of.chunks, of.chunks_len, of.table,
                                         of.table_len, of.scratch, of.scratch_len);
