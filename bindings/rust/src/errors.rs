@@ -227,7 +227,10 @@ mod tests {
         assert_eq!(named, here);
         assert_eq!(others.iter().map(|it| it.0).collect::<Vec<_>>(), cannot_come);
         for (name, status) in &named[1..] {
-            assert!(!matches!(Error::of(*status), Error::Status(_)), "{name}");
+            let error = Error::of(*status);
+            assert!(!matches!(error, Error::Status(_)), "{name}");
+            let is_of_text = matches!(*status, ALGORITHM..=HASH_PARAMS_INVALID | VERSION);
+            assert_eq!(error.is_invalid_hash(), is_of_text, "{name}");
         }
     }
 }
