@@ -39,9 +39,8 @@ impl Default for Bounds {
 #[test]
 fn usual_bounds_of_the_library() {
     use crate::calls::*;
-    let raw = RawOptions { size: std::mem::size_of::<RawOptions>(), ..Default::default() };
-    // SAFETY: both are this function's own, and the options have their size.
-    let of = unsafe { &*scrypt_hasher_options(scrypt_hasher_new(&raw, &mut -1)) };
+    // SAFETY: the status is this function's own, and NULL stands for the default options.
+    let of = unsafe { &*scrypt_hasher_options(scrypt_hasher_new(std::ptr::null(), &mut -1)) };
     let bounds = Bounds { most_bytes: of.most_bytes, most_work: of.most_work };
     assert_eq!((bounds, of.least_key_len), (Bounds::USUAL, Bounds::LEAST_KEY_LEN));
     let usual = Params::RECOMMENDED;

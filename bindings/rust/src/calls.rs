@@ -35,7 +35,6 @@ pub struct RawHasher {
 
 /// `scrypt_options`. The library refuses another size.
 #[repr(C)]
-#[derive(Default)]
 pub struct RawOptions {
     pub size: usize,
     pub log_n: u32,
