@@ -89,9 +89,7 @@ static int is_rung(const uint32_t *bell) { return __atomic_load_n(bell, __ATOMIC
 
 /* Sleeps until the bell rings or a signal comes, for at most so many milliseconds. Returns whether a signal came. */
 static int listen_to(uint32_t *bell, int64_t ms) {
-  struct timespec time;
-  time.tv_sec = (time_t)(ms / 1000);
-  time.tv_nsec = (long)(ms % 1000) * 1000000;
+  const struct timespec time = {.tv_sec = (time_t)(ms / 1000), .tv_nsec = (long)(ms % 1000) * 1000000};
   return syscall(SYS_futex, bell, FUTEX_WAIT_PRIVATE, 0, &time, NULL, 0) == -1 && errno == EINTR;
 }
 

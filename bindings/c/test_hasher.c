@@ -84,12 +84,9 @@ static void *run(void *of) {
 }
 
 /* Until each call that was started waits, derives or is over, and so twice. */
-static int are_settled(scrypt_hasher *hasher, int started) {
-  return READ(over) + look_at(hasher).waiting + READ(members) == started;
-}
 static void settle(scrypt_hasher *hasher, int started, const char *why) {
   int settled = 0;
-  until((settled = are_settled(hasher, started) ? settled + 1 : 0) == 2);
+  until((settled = READ(over) + look_at(hasher).waiting + READ(members) == started ? settled + 1 : 0) == 2);
   expect(settled == 2, "%s: %d calls are not settled", why, started);
 }
 
@@ -112,14 +109,14 @@ static void interrupt(char what, struct thread *it) {
   if (what == '#') until(look_at(it->hasher).is_closed);
 }
 
-static void act(char what, scrypt_hasher *hasher, const char *why) {
+static void act(char what, scrypt_hasher *hasher) {
   static const scrypt_needs ONE = {4, 8, 1, 32, 1, 1024, 16 * 256, 512};
   int before = READ(ended);
   if (what == '$') scrypt_hasher_close(hasher);
   if (what == 'm') WRITE(most_mapped, table_bytes(&ONE) + sizeof(uint32_t)); /* a mark */
   if (what == '~') usleep(300000);
   if (what == '^') WRITE(forks_before_sleep, 1);
-  if (what == '|') fork_here(hasher, why);
+  if (what == '|') fork_here(hasher);
   if (what != '.') return;
   WRITE(passed, READ(passed) + 1);
   until(READ(ended) != before);
@@ -141,7 +138,7 @@ static void check_row(const struct row *row, scrypt_hasher *hasher, const struct
 
 static void run_row(const struct row *row) {
   struct thread all[16];
-  size_t before = READ(mapped); /* with the queues of other rows, which are given back by queue.c itself */
+  size_t before = READ(mapped);
   scrypt_hasher *hasher = of_signals = made(row->processors, row->at_once, 4);
   const char *at;
   char how = ' ';
@@ -154,7 +151,7 @@ static void run_row(const struct row *row) {
   for (at = row->script; *at != '\0'; at++) {
     if (strchr("-+*", *at) != NULL) how = *at;
     else if (strchr("!&#", *at) != NULL) interrupt(*at, &all[at[1] - '0']), at++;
-    else if (strchr(".$|m~^", *at) != NULL) act(*at, hasher, row->why);
+    else if (strchr(".$|m~^", *at) != NULL) act(*at, hasher);
     else start(&all[started], started, how, *at, hasher), started++, how = ' ';
     settle(hasher, started, row->why);
   }
@@ -164,8 +161,9 @@ static void run_row(const struct row *row) {
   reap_all(row->why);
   check_row(row, hasher, all, started);
   scrypt_hasher_close(hasher);
-  expect(READ(mapped) == before + size_of_queue(hasher), "%s: %zu bytes are left", row->why, READ(mapped) - before);
+  expect(READ(mapped) == before + size_of_queue(hasher), "%s: closed, with %zu bytes", row->why, READ(mapped) - before);
   scrypt_hasher_free(hasher);
+  expect(READ(mapped) == before, "%s: %zu bytes are left", row->why, READ(mapped) - before);
   expect(READ(refusals) <= 3, "%s: what was refused for 4, 3 and 2 tables is tried again", row->why);
   WRITE(refusals, 0);
 }
@@ -333,20 +331,16 @@ static void processors(void) {
   }
 }
 
-static void fork_in_derivation(void) { fork_in_handler(0); }
-
 /* A key is derived again in a child that is forked meanwhile, where its tables are zeros. */
 static void key_forked(void) {
   uint8_t key[32], right[32];
   IS(scrypt_key("pw", 2, "salt", 4, 10, 8, 4, right, 32), SCRYPT_OK);
   begun = 0;
   is_wiped_by_system = 1;
-  WRITE(hook, fork_in_derivation);
+  WRITE(hook, fork_in_handler);
   IS(key_in_tables("pw", 2, "salt", 4, 10, 8, 4, key, 32), SCRYPT_OK);
   expect(memcmp(key, right, 32) == 0 && begun == (getpid() == parent ? 1 : 2), "a key after %d derivations", begun);
-  if (getpid() != parent) end_child();
   is_wiped_by_system = 0;
-  reap_all("forked while a key is derived");
 }
 
 static void calibrated(void) {
@@ -357,11 +351,9 @@ static void calibrated(void) {
   IS(scrypt_calibrate(-1, (size_t)64 << 20, &log_n, &r, &p), SCRYPT_TOO_COSTLY);
   IS(scrypt_calibrate(1, ((size_t)1 << 20) - 1, &log_n, &r, &p), SCRYPT_TOO_COSTLY);
   expect(log_n == 0 && r == 0 && p == 0, "unchanged");
-  WRITE(hook, fork_in_derivation);
+  WRITE(hook, fork_in_handler);
   IS(scrypt_calibrate(9, (size_t)1 << 20, &log_n, &r, &p), SCRYPT_OK);
   expect(log_n == 10 && r == 8 && p > 1, "the table as large as the bound, and p takes the time: %d %u %u", log_n, r, p);
-  if (getpid() != parent) end_child();
-  reap_all("forked while it measures");
 }
 
 int main(void) {

@@ -82,7 +82,7 @@ enum { MOST_SEEN = 64 };
 static struct seen { char calls[SCRYPT_MOST_LOGINS + 1]; size_t tables; } seen[MOST_SEEN]; /* in the order in which they begin */
 static int is_stopped, passed, begun, ended, members, tables_inside, most_tables, inside, most_inside, early_ok;
 static __thread size_t tables_of_group;
-static void (*hook)(void); /* called once, in the middle of a derivation */
+static void (*hook)(int); /* called once, in the middle of a derivation */
 
 static int count(int *counter, int by) { return __atomic_add_fetch(counter, by, __ATOMIC_ACQ_REL); }
 
@@ -91,17 +91,16 @@ static void keep_most(int *most, int is) {
   while (was < is && !__atomic_compare_exchange_n(most, &was, is, 0, __ATOMIC_ACQ_REL, __ATOMIC_ACQUIRE)) {}
 }
 
-static int begin(const scrypt_login *each, size_t logins) {
+static void begin(const scrypt_login *each, size_t logins) {
   int slot = count(&begun, 1) - 1;
-  void (*now)(void) = READ(hook);
+  void (*now)(int) = READ(hook);
   for (size_t i = 0; i < logins; i++) seen[slot % MOST_SEEN].calls[i] = *(const char *)each[i].password;
   seen[slot % MOST_SEEN].tables = tables_of_group;
   keep_most(&most_inside, count(&inside, 1));
   keep_most(&most_tables, count(&tables_inside, (int)tables_of_group));
   (void)count(&members, (int)logins);
-  if (now != NULL) WRITE(hook, NULL), now();
+  if (now != NULL) WRITE(hook, NULL), now(0);
   while (READ(is_stopped) && READ(passed) <= slot) usleep(100);
-  return 1;
 }
 
 static int finished(size_t logins, int status) {
@@ -113,7 +112,7 @@ static int finished(size_t logins, int status) {
 static void watched_group(const scrypt_login *each, size_t logins, int *statuses, const struct buffers *of) {
   for (size_t i = 0; i < logins; i++)
     if (statuses[i] == SCRYPT_OK) WRITE(early_ok, 1);
-  (void)begin(each, logins);
+  begin(each, logins);
   verify_group(each, logins, statuses, of);
   (void)finished(logins, 0);
 }
@@ -143,6 +142,7 @@ static void before_sleep(int operation, const struct timespec *time) {
   if (operation == FUTEX_WAIT_PRIVATE && READ(forks_before_sleep)) WRITE(forks_before_sleep, 0), fork_in_handler(0);
 }
 
+#define munmap(at, size) ((void)__atomic_sub_fetch(&mapped, size, __ATOMIC_ACQ_REL), munmap(at, size))
 #define syscall(number, bell, operation, value, time, ...) \
   (before_sleep(operation, time), syscall(number, bell, operation, value, time, __VA_ARGS__))
 #define pthread_mutex_lock lock_mutex
@@ -150,7 +150,7 @@ static void before_sleep(int operation, const struct timespec *time) {
 #define most_at_once() READ(widest)
 #define tables_buffers(tables, needs, all, logins) tables_buffers(tables, needs, tables_of_group = (all), logins)
 #define key_in_buffers(password, ...) \
-  (begin(&(scrypt_login){password, 1, NULL, 0}, 1) ? finished(1, key_in_buffers(password, __VA_ARGS__)) : -1)
+  (begin(&(scrypt_login){password, 1, NULL, 0}, 1), finished(1, key_in_buffers(password, __VA_ARGS__)))
 #include "queue.c"
 #include "hasher.c"
 #include "processors.c"
@@ -161,6 +161,7 @@ static void before_sleep(int operation, const struct timespec *time) {
 #define now now_seconds
 #include "calibrate.c"
 #undef now
+#undef munmap
 #undef pthread_mutex_lock
 #undef syscall
 #undef verify_group
@@ -187,33 +188,28 @@ static int verify(scrypt_hasher *hasher, const char *text, const char *password,
   return scrypt_hasher_verify(hasher, password, strlen(password), text, strlen(text), most_ms, NULL);
 }
 
-static struct look { int waiting, is_closed; size_t calls; } look_at(scrypt_hasher *hasher) {
-  struct look at = {0, 0, 0};
-  struct call *it;
+static struct look { int waiting, is_closed, is_idle; size_t calls; } look_at(scrypt_hasher *hasher) {
+  const struct queue *queue = hasher->queue;
+  struct look at = {0, 0, 0, 0};
   lock(hasher);
-  for (it = hasher->queue->first[0]; it != NULL; it = it->next[0]) at.waiting++;
+  for (const struct call *it = queue->first[0]; it != NULL; it = it->next[0]) at.waiting++;
   at.is_closed = hasher->is_closed;
-  at.calls = hasher->queue->calls;
+  at.calls = queue->calls;
+  at.is_idle = at.calls == 0;
+  for (size_t level = 0; level < LEVELS; level++) at.is_idle &= queue->first[level] == NULL;
+  for (size_t turn = 0; turn < hasher->turns; turn++)
+    at.is_idle &= !queue->turn[turn].is_taken && !(at.is_closed && queue->turn[turn].tables.mapping != NULL);
   unlock(hasher);
   return at;
 }
 
 /* Whether no turn is taken, nobody waits, there is no call, and a closed hasher has no memory. */
-static int is_idle(scrypt_hasher *hasher) {
-  size_t turn, level, busy = hasher->queue->calls;
-  for (turn = 0; turn < hasher->turns; turn++)
-    busy += hasher->queue->turn[turn].is_taken != 0 ||
-            (hasher->is_closed && hasher->queue->turn[turn].tables.mapping != NULL);
-  for (level = 0; level < LEVELS; level++) busy += hasher->queue->first[level] != NULL;
-  return busy == 0;
-}
+static int is_idle(scrypt_hasher *hasher) { return look_at(hasher).is_idle; }
 
 /* ---- Signals and children ---- */
 
 static void handle(int number, void (*handler)(int)) {
-  struct sigaction action;
-  memset(&action, 0, sizeof action);
-  action.sa_handler = handler;
+  const struct sigaction action = {.sa_handler = handler};
   sigaction(number, &action, NULL);
 }
 
@@ -253,22 +249,20 @@ static void be_child(scrypt_hasher *hasher, int interrupted) {
   end_child();
 }
 
-static void reap(pid_t child, const char *what) {
-  int tries, status = -1;
-  for (tries = 0; tries < 4000 && waitpid(child, &status, WNOHANG) != child; tries++) usleep(5000);
-  expect(tries < 4000, "a child hangs: %s", what);
-  expect(tries == 4000 || (WIFEXITED(status) && WEXITSTATUS(status) == 0), "a child failed: %s", what);
-  if (tries == 4000) kill(child, SIGKILL), waitpid(child, &status, 0);
+static void fork_here(scrypt_hasher *hasher) {
+  fork_in_handler(0);
+  if (getpid() != parent) be_child(hasher, SCRYPT_CANCELLED);
 }
 
 static void reap_all(const char *what) {
-  for (; READ(forks) > 0; WRITE(forks, READ(forks) - 1)) reap(READ(children[READ(forks) - 1]), what);
-}
-
-static void fork_here(scrypt_hasher *hasher, const char *what) {
-  pid_t child = fork();
-  if (child == 0) failed = 0, be_child(hasher, SCRYPT_CANCELLED);
-  reap(child, what);
+  for (; READ(forks) > 0; WRITE(forks, READ(forks) - 1)) {
+    pid_t child = READ(children[READ(forks) - 1]);
+    int tries, status = -1;
+    for (tries = 0; tries < 4000 && waitpid(child, &status, WNOHANG) != child; tries++) usleep(5000);
+    expect(tries < 4000, "a child hangs: %s", what);
+    expect(tries == 4000 || (WIFEXITED(status) && WEXITSTATUS(status) == 0), "a child failed: %s", what);
+    if (tries == 4000) kill(child, SIGKILL), waitpid(child, &status, 0);
+  }
 }
 
 #define RUN(test) run_test(test, #test)
@@ -276,5 +270,7 @@ static void run_test(void (*test)(void), const char *name) {
   int64_t begun_at = now_ms();
   parent = getpid();
   test();
+  if (getpid() != parent) end_child();
+  reap_all(name);
   printf("%s: %s, %d ms\n", name, failed ? "FAILED" : "ok", (int)(now_ms() - begun_at));
 }
