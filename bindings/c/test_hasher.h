@@ -32,6 +32,9 @@
     ANNOTATE_HAPPENS_BEFORE(it);                                         \
     *(volatile __typeof__(*(it)) *)(it) = (value);                       \
   })
+#else
+#define VALGRIND_DISABLE_ERROR_REPORTING
+#define VALGRIND_ENABLE_ERROR_REPORTING
 #endif
 #define READ(it) __atomic_load_n(&(it), __ATOMIC_ACQUIRE)
 #define WRITE(it, value) __atomic_store_n(&(it), value, __ATOMIC_RELEASE)
@@ -122,13 +125,6 @@ static pid_t parent;
 /* No handler runs with the lock. */
 static int lock_mutex(pthread_mutex_t *mutex) {
   sigset_t blocked;
-#ifdef HELGRIND /* which takes the lock for held in a child, if a thread of the parent had it. A child has one thread. */
-  static pid_t told;
-  if (getpid() != parent && getpid() != told) {
-    told = getpid();
-    VALGRIND_DISABLE_ERROR_REPORTING;
-  }
-#endif
   (void)sigprocmask(SIG_BLOCK, NULL, &blocked);
   expect(sigismember(&blocked, SIGUSR1) == 1 && sigismember(&blocked, SIGALRM) == 1, "signals are not blocked");
   return pthread_mutex_lock(mutex);
@@ -225,15 +221,17 @@ static void fork_in_handler(int number) {
   (void)number;
   if (getpid() != parent) return;
   child = fork();
-  if (child == 0) failed = 0, WRITE(is_stopped, 0);
+  if (child == 0) {
+    VALGRIND_DISABLE_ERROR_REPORTING; /* it takes the lock for held if a thread of the parent had it */
+    failed = 0;
+    WRITE(is_stopped, 0);
+  }
   if (child > 0) WRITE(children[READ(forks)], child), WRITE(forks, READ(forks) + 1);
   errno = before;
 }
 
 static void end_child(void) {
-#ifdef HELGRIND
   VALGRIND_ENABLE_ERROR_REPORTING; /* or each child would print that it is disabled */
-#endif
   _exit(failed);
 }
 
