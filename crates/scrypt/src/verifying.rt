@@ -91,10 +91,10 @@ pub(crate) fn verify_in_buffers(
     scratch: &mut [u32],
     cores: &mut CoreCount,
 ) -> Result<()>
-    ensures verdict { told result
-        ≡ verdict_in (work_in chunks.old table.old scratch.old cores.old) password.now (Ok (stored parts.now)) }
     ensures left { IsLeft (Ok (stored parts.now))
         (work_in chunks.old table.old scratch.old cores.old) (work_in chunks.new table.new scratch.new cores.new) }
+    ensures verdict { told result
+        ≡ verdict_in (work_in chunks.old table.old scratch.old cores.old) password.now (Ok (stored parts.now)) }
 {
     let Some(width) = width_in(&parts.params, parts.params.p(), chunks, table, scratch) else {
         return Err(Error::OutOfMemory);
