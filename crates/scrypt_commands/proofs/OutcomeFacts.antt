@@ -13,7 +13,7 @@ use Rattle.scrypt.specs.PhcHash.{HashIsRefused, IsMadeHash, IsSaltLen}
 use Rattle.std.proofs.lemmas.Bool.{false_from_ne_true}
 use Rattle.std.proofs.lemmas.Bool.Decides.{nat_tests}
 use Rattle.scrypt_commands.specs.CliError.{error_line, error_of, status_of}
-use Rattle.scrypt_commands.specs.Command.{request_by}
+use Rattle.scrypt_commands.specs.Args.{request_by}
 use Rattle.scrypt_commands.specs.Outcome.{Reply, is_salt_len, new_hash, outcome, phc_text, reply_by}
 use Rattle.scrypt_commands.specs.Run.{HasOutcome, OnInput, Streams}
 use Rattle.scrypt_commands.specs.Steps.{AppendsReply, FailsWith}

@@ -1,30 +1,16 @@
--- The arguments of each command, with their decimals read.
-use Rattle.std.specs.Prelude.{ℕ, ◌^◌, bytes_eq, if◌then◌else◌, List, [], ◌∷◌, codes, map, Option, Some, None}
+-- The arguments of each command, and what they ask for.
+use Rattle.std.specs.Prelude.{ℕ, ◌^◌, bytes_eq, if◌then◌else◌, List, [], ◌∷◌, codes, map, Option, Some, None, Result, Ok, Err, IsErr, unwrap_or}
 use Rattle.std.specs.Prelude.{Bool, false, true, ◌&&◌, is_some, option_and_then, option_map, String, string_bytes}
 use Rattle.std.specs.Global.{Global}
+use Rattle.hex.specs.Hex.{decode_of}
 use Rattle.password_hash.specs.Decimal.{decimal_below}
+use Rattle.scrypt_commands.specs.Command.{Making, Request, decoded_salt, making_of, to_make, to_verify}
 use Rattle.scrypt_commands.specs.declared.args.Format.{Format}
 use Rattle.scrypt_commands.specs.declared.args.Format.TheVariants.{Phc, Mcf}
 use Rattle.scrypt_commands.specs.declared.args.UncheckedParams.{UncheckedParams}
-use Rattle.scrypt_commands.specs.declared.args.Target.{Target}
 use Rattle.scrypt_commands.specs.declared.args.Target.TheVariants.{Key, Hash}
-
--- the salt of a command: its hexadecimal digits, which are not read yet, or bytes that were drawn
-pub data SaltArg : Type 0 where
-  Digits : (digits : List ℕ) → SaltArg
-  Drawn : (salt : List ℕ) → SaltArg
-
--- what is to be made of a password: the digits of a salt are not read yet
-pub record MakingArgs : Type 0 where
-  pub target : Target
-  pub unchecked : UncheckedParams
-  pub salt : SaltArg
-
--- The arguments of a command. The text of a hash is not read yet; there may be something to make in its place, if the hash is
--- weaker than that.
-pub data CommandArgs : Type 0 where
-  MakeArgs : (making : MakingArgs) → CommandArgs
-  VerifyArgs : (text : List ℕ) (wanted : Option MakingArgs) → CommandArgs
+use Rattle.scrypt_commands.specs.declared.error.CliError.{CliError}
+use Rattle.scrypt_commands.specs.declared.error.CliError.TheVariants.{Usage}
 
 -- the texts of arguments
 abbrev pub texts_of : List (String Global) → List (List ℕ)
@@ -69,9 +55,9 @@ len_word words = do
   Some (len, words)
 
 -- SALT_HEX, and the words after it; a salt that was drawn has no word
-abbrev pub salt_word : Option (List ℕ) → List (List ℕ) → Option (SaltArg × List (List ℕ))
-salt_word None words = option_map (λ found. (Digits found.0, found.1)) (first_word words)
-salt_word (Some drawn) words = Some (Drawn drawn, words)
+abbrev pub salt_word : Option (List ℕ) → List (List ℕ) → Option (Result (List ℕ) CliError × List (List ℕ))
+salt_word None words = option_map (λ found. (decoded_salt (decode_of found.0), found.1)) (first_word words)
+salt_word (Some drawn) words = Some (Ok drawn, words)
 
 -- phc|mcf, and the words after it
 unfoldable pub format_word : List (List ℕ) → Option (Format × List (List ℕ))
@@ -90,40 +76,48 @@ optional_len words = do
   Some (Some len)
 
 -- after `key`: LOG_N R P LEN SALT_HEX
-unfoldable pub key_args : List (List ℕ) → Option MakingArgs
+unfoldable pub key_args : List (List ℕ) → Option (Result Making CliError)
 key_args words = do
   (params, words) ← params_word false words
   (len, words) ← len_word words
   salt_hex ← last_word words
-  Some (record { target = Key len; unchecked = params; salt = Digits salt_hex })
+  Some (making_of (Key len) params (decoded_salt (decode_of salt_hex)))
 
 -- after `hash`: phc|mcf LOG_N R P SALT_HEX [LEN], or phc|mcf SALT_HEX for the recommended parameters
-unfoldable pub hash_args : Bool → Option (List ℕ) → List (List ℕ) → Option MakingArgs
+unfoldable pub hash_args : Bool → Option (List ℕ) → List (List ℕ) → Option (Result Making CliError)
 hash_args is_recommended drawn words = do
   (format, words) ← format_word words
   (params, words) ← params_word is_recommended words
   (salt, words) ← salt_word drawn words
   len ← optional_len words
   if is_recommended && is_some len then None
-      else Some (record { target = Hash format; unchecked = record params { key_len = len }; salt = salt })
+      else Some (making_of (Hash format) (record params { key_len = len }) salt)
 
 -- after `rehash`: phc|mcf LOG_N R P LEN SALT_HEX HASH
-unfoldable pub rehash_args : Option (List ℕ) → List (List ℕ) → Option CommandArgs
+unfoldable pub rehash_args : Option (List ℕ) → List (List ℕ) → Option (Result Request CliError)
 rehash_args drawn words = do
   (format, words) ← format_word words
   (params, words) ← params_word false words
   (len, words) ← len_word words
   (salt, words) ← salt_word drawn words
   text ← last_word words
-  Some (VerifyArgs text (Some (record { target = Hash format; unchecked = record params { key_len = Some len }; salt = salt })))
+  Some (to_verify (Some (making_of (Hash format) (record params { key_len = Some len }) salt)) text)
 
--- The arguments of a command, after the program's name. A salt may have been drawn, and the parameters of `hash` be the
--- recommended ones: then no words stand for these.
-unfoldable pub args_of : Bool → Option (List ℕ) → List (List ℕ) → Option CommandArgs
+-- What the words after the program's name ask for, if they are those of a command. A salt may have been drawn, and the
+-- parameters of `hash` be the recommended ones: then no words stand for these.
+unfoldable pub args_of : Bool → Option (List ℕ) → List (List ℕ) → Option (Result Request CliError)
 args_of is_recommended drawn words = do
   (name, words) ← first_word words
-  if bytes_eq name (codes "key") then option_map MakeArgs (key_args words)
-      else if bytes_eq name (codes "hash") then option_map MakeArgs (hash_args is_recommended drawn words)
-      else if bytes_eq name (codes "verify") then option_map (λ text. VerifyArgs text None) (last_word words)
+  if bytes_eq name (codes "key") then option_map to_make (key_args words)
+      else if bytes_eq name (codes "hash") then option_map to_make (hash_args is_recommended drawn words)
+      else if bytes_eq name (codes "verify") then option_map (λ text. to_verify None text) (last_word words)
       else if bytes_eq name (codes "rehash") then rehash_args drawn words
       else None
+
+-- the same, or the error of other words
+abbrev pub request_by : Bool → Option (List ℕ) → List (List ℕ) → Result Request CliError
+request_by is_recommended drawn words = unwrap_or (args_of is_recommended drawn words) (Err Usage)
+
+-- the words are refused before the input is read
+abbrev pub AreRefused : List (List ℕ) → Type 0
+AreRefused words = IsErr (request_by false None words)

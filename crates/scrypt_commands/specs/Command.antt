@@ -1,15 +1,13 @@
--- What the arguments ask for, or the error of the first thing that is wrong with them. They are read in this order:
--- the arguments and their decimals, the salt, the parameters, the length of the key, the text of a hash.
-use Rattle.std.specs.Prelude.{ℕ, ◌&&◌, Bool, false, true, nat_le, if◌then◌else◌, List, Option, None, Some, Result, Ok, Err, IsErr}
-use Rattle.hex.specs.Hex.{decode_of}
+-- What is asked for, or the error of the first thing that is wrong with it. After the arguments and their decimals, these
+-- are read in this order: the salt, the parameters, the length of the key, the text of a hash.
+use Rattle.std.specs.Prelude.{ℕ, ◌&&◌, Bool, true, nat_le, if◌then◌else◌, List, Option, None, Some, Result, Ok, Err}
 use Rattle.scrypt.specs.Accepted.{Parameters, are_accepted, is_output_len}
 use Rattle.scrypt.specs.StoredHash.{is_stored_text}
-use Rattle.scrypt_commands.specs.Args.{CommandArgs, Digits, Drawn, MakeArgs, MakingArgs, SaltArg, VerifyArgs, args_of}
 use Rattle.scrypt_commands.specs.declared.args.Target.{Target}
 use Rattle.scrypt_commands.specs.declared.args.Target.TheVariants.{Key, Hash}
 use Rattle.scrypt_commands.specs.declared.args.UncheckedParams.{UncheckedParams}
 use Rattle.scrypt_commands.specs.declared.error.CliError.{CliError}
-use Rattle.scrypt_commands.specs.declared.error.CliError.TheVariants.{EncodingInvalid, InvalidOutputLen, InvalidParams, SaltNotHex, Usage}
+use Rattle.scrypt_commands.specs.declared.error.CliError.TheVariants.{EncodingInvalid, InvalidOutputLen, InvalidParams, SaltNotHex}
 
 -- what is to be made of a password
 pub record Making : Type 0 where
@@ -33,11 +31,6 @@ abbrev pub decoded_salt : {E : Type 0} → Result (List ℕ) E → Result (List 
 decoded_salt (Ok salt) = Ok salt
 decoded_salt (Err why) = Err SaltNotHex
 
--- the salt of a command
-abbrev pub salt_of : SaltArg → Result (List ℕ) CliError
-salt_of (Digits digits) = decoded_salt (decode_of digits)
-salt_of (Drawn salt) = Ok salt
-
 -- whether a stored key can have this length: 10 to 64 bytes
 unfoldable pub is_stored_len : Option ℕ → Bool
 is_stored_len None = true
@@ -55,35 +48,29 @@ abbrev pub has_allowed_len : Target → Bool
 has_allowed_len (Key len) = is_output_len len
 has_allowed_len (Hash format) = true
 
--- what is to be made
-unfoldable pub making_of : MakingArgs → Result Making CliError
-making_of args = do
-  salt ← salt_of args.salt
-  params ← checked_params args.unchecked
-  if has_allowed_len args.target then Ok (record { target = args.target; params = params; salt = salt }) else Err InvalidOutputLen
+-- what is to be made, of a salt that was read
+unfoldable pub making_of : Target → UncheckedParams → Result (List ℕ) CliError → Result Making CliError
+making_of target unchecked salt = do
+  salt ← salt
+  params ← checked_params unchecked
+  if has_allowed_len target then Ok (record { target = target; params = params; salt = salt }) else Err InvalidOutputLen
 
 -- the same, if something is
-abbrev pub wanted_of : Option MakingArgs → Result (Option Making) CliError
+abbrev pub wanted_of : Option (Result Making CliError) → Result (Option Making) CliError
 wanted_of None = Ok None
-wanted_of (Some args) = making_of args >>= λ making. Ok (Some making)
+wanted_of (Some making) = making >>= λ making. Ok (Some making)
 
 -- the text of a hash, if it is one of its format
 abbrev pub hash_of : List ℕ → Result (List ℕ) CliError
 hash_of text = if is_stored_text text then Ok text else Err EncodingInvalid
 
--- what the arguments of a command ask for, if they are those of one
-unfoldable pub request_of_args : Option CommandArgs → Result Request CliError
-request_of_args None = Err Usage
-request_of_args (Some (MakeArgs args)) = making_of args >>= λ making. Ok (ToMake making)
-request_of_args (Some (VerifyArgs text args)) = do
-  wanted ← wanted_of args
+-- to make something
+abbrev pub to_make : Result Making CliError → Result Request CliError
+to_make making = making >>= λ making. Ok (ToMake making)
+
+-- to verify a hash, and to make something in its place
+unfoldable pub to_verify : Option (Result Making CliError) → List ℕ → Result Request CliError
+to_verify wanted text = do
+  wanted ← wanted_of wanted
   text ← hash_of text
   Ok (ToVerify text wanted)
-
--- what words ask for, where options may draw the salt and take the recommended parameters
-abbrev pub request_by : Bool → Option (List ℕ) → List (List ℕ) → Result Request CliError
-request_by is_recommended drawn words = request_of_args (args_of is_recommended drawn words)
-
--- the words are refused before the input is read
-abbrev pub AreRefused : List (List ℕ) → Type 0
-AreRefused words = IsErr (request_by false None words)

@@ -18,8 +18,9 @@ use Rattle.scrypt.specs.declared.limits.Limits.{Limits}
 use Rattle.scrypt.specs.StoredHash.{reading}
 use Rattle.scrypt.specs.WithinLimits.{within}
 use Rattle.scrypt_commands.specs.Bounds.{limits_of}
+use Rattle.scrypt_commands.specs.Args.{request_by}
 use Rattle.scrypt_commands.specs.Options.{password_of}
-use Rattle.scrypt_commands.specs.Command.{◌>>=◌, Making, Request, ToMake, ToVerify, request_by}
+use Rattle.scrypt_commands.specs.Command.{◌>>=◌, Making, Request, ToMake, ToVerify}
 use Rattle.scrypt_commands.specs.CliError.{error_line, limited_error_of, status_of}
 use Rattle.scrypt_commands.specs.declared.bounds.Bounds.{Bounds}
 use Rattle.scrypt_commands.specs.declared.args.Format.{Format}

@@ -4,7 +4,7 @@ use Rattle.std.specs.Bool.{then_some}
 use Rattle.std.specs.Result.{is_err}
 use Rattle.std.specs.Io.KnownBytes.{Appends, IsAtEnd, Keeps}
 use Rattle.scrypt_commands.specs.CliError.{error_line}
-use Rattle.scrypt_commands.specs.Command.{request_by}
+use Rattle.scrypt_commands.specs.Args.{request_by}
 use Rattle.scrypt_commands.specs.Options.{information_text, misfit_line, options_of}
 use Rattle.scrypt_commands.specs.Outcome.{Outcome, outcome, reply_by}
 use Rattle.scrypt_commands.specs.declared.error.CliError.TheVariants.{InputFailed, OutOfMemory, OutputFailed}

@@ -6,41 +6,42 @@ use Rattle.std.specs.Global.{Global}
 use Rattle.std.specs.Io.KnownBytes.{Appends}
 use Rattle.scrypt.specs.declared.errors.DeriveError.{DeriveError}
 use Rattle.scrypt.specs.declared.errors.DeriveError.TheVariants.{InvalidOutputLen as DerivedBadLength, OutOfMemory as DerivedOutOfMemory}
-use Rattle.scrypt_commands.specs.Args.{CommandArgs, Digits, Drawn, MakeArgs, MakingArgs, SaltArg, VerifyArgs, texts_of}
+use Rattle.hex.specs.Hex.{decode_of}
+use Rattle.scrypt_commands.specs.Args.{texts_of}
 use Rattle.scrypt_commands.specs.CliError.{status_of}
-use Rattle.scrypt_commands.specs.Command.{Making, Request, ToMake, ToVerify}
+use Rattle.scrypt_commands.specs.Command.{Making, Request, ToMake, ToVerify, decoded_salt, making_of, to_make, to_verify}
 use Rattle.scrypt_commands.specs.Outcome.{Reply}
 use Rattle.scrypt_commands.specs.Run.{OnInput}
 use Rattle.scrypt_commands.specs.declared.answer.Answer.{Answer}
 use Rattle.scrypt_commands.specs.declared.answer.Answer.TheVariants.{Made, Right, Wrong}
 use Rattle.scrypt_commands.specs.declared.args.Args.{Args}
-use Rattle.scrypt_commands.specs.declared.args.Args.TheVariants.{Make as MakeOf, Verify as VerifyOf}
-use Rattle.scrypt_commands.specs.declared.args.MakingArgs.{MakingArgs as MakingArgsOf}
+use Rattle.scrypt_commands.specs.declared.args.Args.TheVariants.{Make as MakeArgs, Verify as VerifyArgs}
+use Rattle.scrypt_commands.specs.declared.args.MakingArgs.{MakingArgs}
 use Rattle.scrypt_commands.specs.declared.args.Salt.{Salt}
-use Rattle.scrypt_commands.specs.declared.args.Salt.TheVariants.{Digits as DigitsOf, Drawn as DrawnOf}
+use Rattle.scrypt_commands.specs.declared.args.Salt.TheVariants.{Digits, Drawn}
 use Rattle.scrypt_commands.specs.declared.command.Command.{Command}
 use Rattle.scrypt_commands.specs.declared.command.Command.TheVariants.{Make, Verify}
 use Rattle.scrypt_commands.specs.declared.command.Making.{Making as MakingOf}
 use Rattle.scrypt_commands.specs.declared.error.CliError.{CliError}
 use Rattle.scrypt_commands.specs.declared.error.CliError.TheVariants.{InvalidOutputLen, OutOfMemory}
 
--- the salt of borrowed arguments
-abbrev pub salt_view : Salt → SaltArg
-salt_view (DigitsOf digits) = Digits digits.now
-salt_view (DrawnOf salt) = Drawn salt
+-- the salt of a command: its hexadecimal digits, or bytes that were drawn
+abbrev pub salt_of : Salt → Result (List ℕ) CliError
+salt_of (Digits digits) = decoded_salt (decode_of digits.now)
+salt_of (Drawn salt) = Ok salt
 
 -- a salt, and the words after it
-abbrev pub salt_before_words : Salt × Bor (List (String Global)) → SaltArg × List (List ℕ)
-salt_before_words (salt, words) = (salt_view salt, texts_of words.now)
+abbrev pub salt_before_words : Salt × Bor (List (String Global)) → Result (List ℕ) CliError × List (List ℕ)
+salt_before_words (salt, words) = (salt_of salt, texts_of words.now)
 
--- borrowed arguments, with their texts
-abbrev pub making_args_view : MakingArgsOf → MakingArgs
-making_args_view it = record { target = it.target; unchecked = it.unchecked; salt = salt_view it.salt }
+-- what arguments ask to be made
+abbrev pub making_asked : MakingArgs → Result Making CliError
+making_asked it = making_of it.target it.unchecked (salt_of it.salt)
 
--- the same, of a command
-abbrev pub args_view : Args → CommandArgs
-args_view (MakeOf args) = MakeArgs (making_args_view args)
-args_view (VerifyOf text wanted) = VerifyArgs text.now (option_map making_args_view wanted)
+-- what the arguments of a command ask for
+abbrev pub request_asked : Args → Result Request CliError
+request_asked (MakeArgs args) = to_make (making_asked args)
+request_asked (VerifyArgs text wanted) = to_verify (option_map making_asked wanted) text.now
 
 -- what is read of the first words, and the words after them
 abbrev pub before_words : {A : Type 0} → A × Bor (List (String Global)) → A × List (List ℕ)

@@ -4,7 +4,7 @@ ghost use Rattle.std.specs.Prelude.{◌≡◌, ◌^◌, option_map};
 ghost use Rattle.password_hash.specs.Decimal.{decimal_below};
 ghost use Rattle.scrypt_commands.specs.Args.{args_of, first_word, format_word, hash_args, key_args, last_word, len_word};
 ghost use Rattle.scrypt_commands.specs.Args.{optional_len, params_word, rehash_args, salt_word, texts_of};
-ghost use Rattle.scrypt_commands.specs.Steps.{args_view, before_words, making_args_view, salt_before_words};
+ghost use Rattle.scrypt_commands.specs.Steps.{before_words, making_asked, request_asked, salt_before_words};
 
 use password_hash::decimal::read_decimal;
 use password_hash::laws::decimals_are_read;
@@ -86,7 +86,7 @@ impl<'a> Args<'a> {
         drawn: Option<[u8; 16]>,
         args: &'a [String],
     ) -> Option<Args<'a>>
-        ensures value { option_map args_view result ≡ args_of is_recommended drawn (texts_of args.now) }
+        ensures value { option_map request_asked result ≡ args_of is_recommended drawn (texts_of args.now) }
     {
         let (name, args) = first_word(args)?;
         match name {
@@ -105,7 +105,7 @@ impl<'a> Args<'a> {
 // Parses LOG_N R P LEN SALT_HEX.
 #[tactic(auto, unfolding(crate::specs::Args::key_args))]
 fn parse_key<'a>(args: &'a [String]) -> Option<MakingArgs<'a>>
-    ensures { option_map making_args_view result ≡ key_args (texts_of args.now) }
+    ensures { option_map making_asked result ≡ key_args (texts_of args.now) }
 {
     let (unchecked, args) = parse_params(false, args)?;
     let (len, args) = len_word(args)?;
@@ -124,7 +124,7 @@ fn parse_hash<'a>(
     drawn: Option<[u8; 16]>,
     args: &'a [String],
 ) -> Option<MakingArgs<'a>>
-    ensures { option_map making_args_view result ≡ hash_args is_recommended drawn (texts_of args.now) }
+    ensures { option_map making_asked result ≡ hash_args is_recommended drawn (texts_of args.now) }
 {
     let (format, args) = parse_format(args)?;
     let (params, args) = parse_params(is_recommended, args)?;
@@ -143,7 +143,7 @@ fn parse_hash<'a>(
 // Parses phc|mcf LOG_N R P LEN SALT_HEX HASH.
 #[tactic(auto, unfolding(crate::specs::Args::rehash_args))]
 fn parse_rehash<'a>(drawn: Option<[u8; 16]>, args: &'a [String]) -> Option<Args<'a>>
-    ensures { option_map args_view result ≡ rehash_args drawn (texts_of args.now) }
+    ensures { option_map request_asked result ≡ rehash_args drawn (texts_of args.now) }
 {
     let (format, args) = parse_format(args)?;
     let (params, args) = parse_params(false, args)?;

@@ -1,9 +1,9 @@
 // What the arguments ask for.
 
 ghost use Rattle.std.specs.Prelude.{◌≡◌, option_map};
-ghost use Rattle.scrypt_commands.specs.Args.{texts_of};
-ghost use Rattle.scrypt_commands.specs.Command.{checked_params, has_allowed_len, hash_of, making_of, request_by, salt_of, wanted_of};
-ghost use Rattle.scrypt_commands.specs.Steps.{Gives, making_args_view, making_view, request_view, salt_view};
+ghost use Rattle.scrypt_commands.specs.Args.{request_by, texts_of};
+ghost use Rattle.scrypt_commands.specs.Command.{checked_params, has_allowed_len, hash_of, wanted_of};
+ghost use Rattle.scrypt_commands.specs.Steps.{Gives, making_asked, making_view, request_view, salt_of};
 
 use crate::args::{Args, MakingArgs, Salt, Target, UncheckedParams};
 use crate::error::CliError;
@@ -38,7 +38,7 @@ impl<'a> Command<'a> {
     ///
     /// Returns the error of the first of these that is wrong: `Usage`, `SaltNotHex`,
     /// `InvalidParams`, `InvalidOutputLen`, and `EncodingInvalid`. Returns `OutOfMemory` if the allocation of the salt fails.
-    #[tactic(auto, unfolding(crate::specs::Command::request_of_args))]
+    #[tactic(auto, unfolding(crate::specs::Command::to_verify))]
     pub fn from_args(
         alloc: Global,
         is_recommended: bool,
@@ -63,7 +63,7 @@ impl<'a> Command<'a> {
 
 // Returns what is to be made in place of a hash, if something is.
 fn wanted_making(alloc: Global, args: Option<MakingArgs<'_>>) -> Result<Option<Making>, CliError>
-    ensures { Gives (option_map making_view) (wanted_of (option_map making_args_view args.entry)) result }
+    ensures { Gives (option_map making_view) (wanted_of (option_map making_asked args.entry)) result }
 {
     let Some(args) = args else {
         return Ok(None);
@@ -74,7 +74,7 @@ fn wanted_making(alloc: Global, args: Option<MakingArgs<'_>>) -> Result<Option<M
 // Reads the salt, and then checks the parameters and the length of a key.
 #[tactic(auto, unfolding(crate::specs::Command::making_of))]
 fn read_making(alloc: Global, args: MakingArgs<'_>) -> Result<Making, CliError>
-    ensures { Gives making_view (making_of (making_args_view args.entry)) result }
+    ensures { Gives making_view (making_asked args.entry) result }
 {
     let salt = read_salt(alloc, args.salt)?;
     let params = checked_params(args.unchecked)?;
@@ -126,7 +126,7 @@ fn stored_hash(text: &str) -> Result<StoredHash<'_>, CliError>
 
 // Returns the bytes of the salt. SALT_HEX is an even number of hexadecimal digits of either case.
 fn read_salt(alloc: Global, salt: Salt<'_>) -> Result<Vec<u8>, CliError>
-    ensures { Gives (λ salt. salt.items) (salt_of (salt_view salt.entry)) result }
+    ensures { Gives (λ salt. salt.items) (salt_of salt.entry) result }
 {
     match salt {
         Salt::Digits(digits) => match hex::decode(alloc, digits) {

@@ -2,8 +2,7 @@
 
 ghost use Rattle.std.specs.Prelude.{◌≡◌, ◌⊎◌, ◌↔◌, IsTrue, IfOk, IfErr, IfSome, Err, IsErr, None, OnOk, false, true};
 ghost use Rattle.std.specs.Io.KnownBytes.{Appends, IsAtEnd, Keeps};
-ghost use Rattle.scrypt_commands.specs.Args.{texts_of};
-ghost use Rattle.scrypt_commands.specs.Command.{AreRefused, request_by};
+ghost use Rattle.scrypt_commands.specs.Args.{AreRefused, request_by, texts_of};
 ghost use Rattle.scrypt_commands.specs.CliError.{error_line, status_of};
 ghost use Rattle.scrypt_commands.specs.Options.{no_options};
 ghost use Rattle.scrypt_commands.specs.Outcome.{reply_by};
