@@ -4,7 +4,7 @@ use Rattle.std.proofs.Common.{bit_xor, add-one, refl, sym, ap, ◌∙◌, arith}
 use Rattle.std.proofs.lemmas.List.{append-nil, length-append}
 use Rattle.std.proofs.lemmas.Simd.{length-zip2}
 use Rattle.std.specs.List.{flat_map, range_with_len}
-use Rattle.scrypt_kernel.specs.Words.{block, last_block, xor_words}
+use Rattle.scrypt_kernel.specs.Words.{block, xor_words}
 use Rattle.scrypt_kernel.specs.Salsa.{salsa20_8}
 use Rattle.scrypt_kernel.specs.BlockMix.{block_mix, chain, y}
 use Rattle.scrypt_kernel.specs.Diagonal.{AreInverse, IsBlockMixBy, permuted}
@@ -123,41 +123,33 @@ block_mix_by_once f b out other whole one two =
     (λ k h. two.odd k h ∙ sym (same_x one two (2 * k + 1 + 1) (omega arith))) in
     first ∙ sym second
 
--- X before step i of the block mix of b with f in place of the core
-unfoldable pub chain_by : (List ℕ → List ℕ) → List ℕ → ℕ → List ℕ
-chain_by f b zero = last_block b
-chain_by f b (suc i) = f (xor_words (chain_by f b i) (block b i))
+-- after i turns of two steps each, of r: X is x, and output has what was written of the block mix out
+pub record AfterTurns {f : List ℕ → List ℕ} {b out : List ℕ} (mix : IsBlockMixBy f b out) (r i : ℕ) (x output : List ℕ) : Type 0 where
+  pub chained : x ≡ mix.x (2 * i)
+  pub even : (k : ℕ) → k < i → block output k ≡ mix.x (2 * k + 1)
+  pub odd : (k : ℕ) → k < i → block output (r + k) ≡ mix.x (2 * k + 1 + 1)
 
-chain_by_more : (f : List ℕ → List ℕ) (b : List ℕ) (i : ℕ) → chain_by f b (i + 1) ≡ f (xor_words (chain_by f b i) (block b i))
-unfolding chain_by
-chain_by_more f b i = rw add-one refl
-
--- after i turns of two steps each, of r: X is x, and what was written is in output
-pub record AfterTurns (f : List ℕ → List ℕ) (b : List ℕ) (r i : ℕ) (x output : List ℕ) : Type 0 where
-  pub chained : x ≡ chain_by f b (2 * i)
-  pub even : (k : ℕ) → k < i → block output k ≡ chain_by f b (2 * k + 1)
-  pub odd : (k : ℕ) → k < i → block output (r + k) ≡ chain_by f b (2 * k + 1 + 1)
-
-module _ (f : List ℕ → List ℕ) (b : List ℕ) (r : ℕ) where
+module _ {f : List ℕ → List ℕ} {b out : List ℕ} (mix : IsBlockMixBy f b out) (r : ℕ) (is : r ≡ length b / 32) (whole : length b % 32 ≡ 0) where
   -- before the first turn
-  pub no_turn : (x output : List ℕ) → 2 * r ≡ length b / 16 → x ≡ block b (2 * r - 1) → AfterTurns f b r 0 x output
-  unfolding chain_by
-  no_turn x output is first = record {
-    chained = rw is at first;
-    even = λ k h. absurd (omega arith);
-    odd = λ k h. absurd (omega arith);
-  }
+  pub no_turn : (x output : List ℕ) → x ≡ block b (2 * r - 1) → AfterTurns mix r 0 x output
+  no_turn x output first =
+      let last : 2 * r - 1 ≡ length b / 16 - 1 = omega arith in
+      record {
+        chained = first ∙ ap (block b) last ∙ sym mix.first;
+        even = λ k h. absurd (omega arith);
+        odd = λ k h. absurd (omega arith);
+      }
 
   -- one more turn, whose steps give x1 and x2
-  pub one_more_turn : (i : ℕ) (x output x1 output1 x2 output2 : List ℕ) → i < r → AfterTurns f b r i x output
+  pub one_more_turn : (i : ℕ) (x output x1 output1 x2 output2 : List ℕ) → i < r → AfterTurns mix r i x output
       → x1 ≡ f (xor_words x (block b (2 * i)))
       → block output1 i ≡ x1 → ((k : ℕ) → k ≢ i → block output1 k ≡ block output k)
       → x2 ≡ f (xor_words x1 (block b (2 * i + 1)))
       → block output2 (r + i) ≡ x2 → ((k : ℕ) → k ≢ r + i → block output2 k ≡ block output1 k)
-      → AfterTurns f b r (i + 1) x2 output2
+      → AfterTurns mix r (i + 1) x2 output2
   one_more_turn i x output x1 output1 x2 output2 inside before is1 written1 others1 is2 written2 others2 =
-      let first : x1 ≡ chain_by f b (2 * i + 1) = rw (chain_by_more, ← before.chained) is1 in
-      let second : x2 ≡ chain_by f b (2 * i + 1 + 1) = rw (chain_by_more f b (2 * i + 1), ← first) is2 in
+      let first : x1 ≡ mix.x (2 * i + 1) = rw (mix.next (2 * i) (omega arith), ← before.chained) is1 in
+      let second : x2 ≡ mix.x (2 * i + 1 + 1) = rw (mix.next (2 * i + 1) (omega arith), ← first) is2 in
       let even_next : 2 * i + 1 + 1 ≡ 2 * (i + 1) = omega arith in
       record {
         chained = rw even_next at second;
@@ -166,22 +158,20 @@ module _ (f : List ℕ → List ℕ) (b : List ℕ) (r : ℕ) where
       }
 
   -- after the last turn
-  pub all_turns : (i : ℕ) (x output : List ℕ) → r ≡ length b / 32 → i ≡ r → length output ≡ length b → AfterTurns f b r i x output
-      → IsBlockMixBy f b output
-  unfolding chain_by
-  all_turns i x output is done long after = record {
-    x = chain_by f b;
-    first = refl;
-    next = λ i h. chain_by_more f b i;
+  pub all_turns : (i : ℕ) (x output : List ℕ) → i ≡ r → length output ≡ length b → AfterTurns mix r i x output → output ≡ out
+  all_turns i x output done long after = block_mix_by_once f b output out whole (record {
+    x = mix.x;
+    first = mix.first;
+    next = mix.next;
     long = long;
     even = λ k h. after.even k (omega arith);
     odd = λ k h. rw (← is) (after.odd k (omega arith));
-  }
+  }) mix
 
 -- the block mix by the core in another order is that of the words in standard order
-pub mixed_in : (p q : List ℕ) → AreInverse p q → (input output : List ℕ) → 0 < length input → length input % 32 ≡ 0
-    → IsBlockMixBy (core_in p q) input output → output ≡ permuted p (block_mix (permuted q input))
-mixed_in p q inverse input output some whole by_core =
+pub mixed_in : (p q : List ℕ) → AreInverse p q → (input : List ℕ) → 0 < length input → length input % 32 ≡ 0
+    → IsBlockMixBy (core_in p q) input (permuted p (block_mix (permuted q input)))
+mixed_in p q inverse input some whole =
     let long : length (permuted q input) ≡ length input = length-permuted q input in
     let standard = block_mix_by p q inverse (permuted q input) (omega arith) (omega arith) in
-    block_mix_by_once (core_in p q) input output _ whole by_core (rw (out_then_in p q inverse input (omega arith)) at standard)
+    rw (out_then_in p q inverse input (omega arith)) at standard

@@ -73,13 +73,10 @@ quarter_steps a b c d =
     (a', b', c', d')
 
 -- with four lanes each they are the quarter rounds
-abbrev AreQuarterRounds : List ℕ → List ℕ → List ℕ → List ℕ → Type 0
-AreQuarterRounds a b c d = quarter_steps a b c d ≡ quarter_rounds a b c d
-
 pub quarter_rounds_are : (a : List ℕ) → length a ≡ 4 → (b : List ℕ) → length b ≡ 4
-    → (c : List ℕ) → length c ≡ 4 → (d : List ℕ) → length d ≡ 4 → AreQuarterRounds a b c d
+    → (c : List ℕ) → length c ≡ 4 → (d : List ℕ) → length d ≡ 4 → quarter_steps a b c d ≡ quarter_rounds a b c d
 unfolding quarter_round
-quarter_rounds_are = four_vectors AreQuarterRounds (λ a0 a1 a2 a3 b0 b1 b2 b3 c0 c1 c2 c3 d0 d1 d2 d3. refl)
+quarter_rounds_are = four_vectors (λ a b c d. quarter_steps a b c d ≡ quarter_rounds a b c d) (λ a0 a1 a2 a3 b0 b1 b2 b3 c0 c1 c2 c3 d0 d1 d2 d3. refl)
 
 -- the lanes after the quarter rounds of the columns and of the rows
 abbrev DoubleRound : List ℕ → List ℕ → List ℕ → List ℕ → Type 0
@@ -146,17 +143,16 @@ core_of_rounds x long =
     ap₂ (zip2 add32) (sym (out_then_in pivot inverse_pivot diagonal_inverse x (omega arith))) rounds
     ∙ zip_in pivot inverse_pivot diagonal_inverse add32 s s4 (long0 ∙ sym long4) (omega arith)
 
--- what holds of 0 and of 1 holds of each number below 2
-pub below_two : (P : ℕ → Type 0) → P 0 → P 1 → (k : ℕ) → k < 2 → P k
-below_two P none one k h =
+-- what holds of both parts of all vectors of eight lanes
+pub eight_lanes : (P : List ℕ → ℕ → Type 0)
+    → ((a0 a1 a2 a3 b0 b1 b2 b3 : ℕ) → let x : List ℕ = a0 ∷ a1 ∷ a2 ∷ a3 ∷ b0 ∷ b1 ∷ b2 ∷ b3 ∷ [] in P x 0 × P x 1)
+    → (x : List ℕ) → length x ≡ 8 → (k : ℕ) → k < 2 → P x k
+eight_lanes P p x long k h =
+    let both = subst (λ x. P x 0 × P x 1) (sym (fill_by_all (λ k. get_or x k 0) x 8 0 long (λ k h. refl))) (p _ _ _ _ _ _ _ _) in
     elim (cases_lt k 1) [
-      | inl lt ↦ let is : 0 ≡ k = omega arith in subst P is none
-      | inr ge ↦ let is : 1 ≡ k = omega arith in subst P is one
+      | inl lt ↦ let is : 0 ≡ k = omega arith in subst (P x) is both.0
+      | inr ge ↦ let is : 1 ≡ k = omega arith in subst (P x) is both.1
     ]
-
-pub eight_lanes : (P : List ℕ → Type 0) → ((a0 a1 a2 a3 b0 b1 b2 b3 : ℕ) → P (a0 ∷ a1 ∷ a2 ∷ a3 ∷ b0 ∷ b1 ∷ b2 ∷ b3 ∷ []))
-    → (x : List ℕ) → length x ≡ 8 → P x
-eight_lanes P p x long = subst P (sym (fill_by_all (λ k. get_or x k 0) x 8 0 long (λ k h. refl))) (p _ _ _ _ _ _ _ _)
 
 -- the lanes that are picked by `places`, of part k of a vector, are turned to the left by n places
 abbrev pub AreTurned : ℕ → List ℕ → List ℕ → ℕ → Type 0

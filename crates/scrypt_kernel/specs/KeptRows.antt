@@ -1,5 +1,4 @@
--- The rows that a table keeps, and the walk over
--- them.
+-- The rows that a table keeps, and the walk over them.
 use Rattle.std.specs.Prelude.{◌≡◌, ℕ, ◌+◌, ◌-◌, ◌*◌, ◌/◌, ◌%◌, ◌^◌, ◌<◌, ◌≤◌, List, length}
 use Rattle.scrypt_kernel.specs.Words.{part, xor_words}
 use Rattle.scrypt_kernel.specs.BlockMix.{block_mix}

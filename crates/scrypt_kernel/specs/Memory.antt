@@ -1,5 +1,4 @@
--- What contracts see of a caller's buffer that a
--- table is in.
+-- What contracts see of a caller's buffer that a table is in.
 use Rattle.std.specs.Prelude.{ℕ, List, length, take}
 use Rattle.scrypt_kernel.specs.declared.memory.Buffer.{Buffer}
 

@@ -1,5 +1,4 @@
-use Rattle.std.proofs.Common.{◌/◌, length, refl, arith}
-use Rattle.scrypt_kernel.specs.Words.{part}
+use Rattle.std.proofs.Common.{◌≡◌, ◌/◌, ◌%◌, length, refl, arith}
 use Rattle.scrypt_kernel.proofs.CountFacts.{counted_both, counted_none}
 use Rattle.scrypt_kernel.proofs.PartFacts.{length-part, part_inside}
 use Rattle.scrypt_kernel.proofs.BlockMixFacts.{all_turns, mixed_in, no_turn, one_more_turn}
@@ -8,8 +7,8 @@ use Rattle.scrypt_kernel.proofs.block_mix.mix.Goals as goal
 pub steps-init : goal.steps-init
 steps-init g c = record {
   counted = counted_none _ _ _ (omega arith);
-  mixed = λ k h. let long = c.read-x.ensures.long k h in
-      no_turn _ _ (c.args.s / 32) _ _ (omega (arith, long, c.requires.row.whole)) (c.read-x.ensures.value k h);
+  mixed = λ k h out mix. let long = c.read-x.ensures.long k h in
+      no_turn mix (c.args.s / 32) (omega (arith, long)) (omega (arith, long, c.requires.row.whole)) _ _ (c.read-x.ensures.value k h);
 }
 
 pub steps-preserved : goal.steps-preserved
@@ -18,8 +17,9 @@ steps-preserved g c =
     let two = c.step-x-in-steps.ensures in
     record {
       counted = counted_both _ (counted_both _ c.steps.invariant.counted one.counted refl) two.counted (omega arith);
-      mixed = λ k h. one_more_turn _ _ _ _ _ _ _ _ _ _ (omega arith) (c.steps.invariant.mixed k h)
-          (one.value k h) (c.write.ensures.written k h) (λ j other. c.write.ensures.others k j h other)
+      mixed = λ k h out mix. let long = c.read-x.ensures.long k h in
+          one_more_turn mix _ (omega (arith, long)) (omega (arith, long, c.requires.row.whole)) _ _ _ _ _ _ _ (omega arith)
+          (c.steps.invariant.mixed k h out mix) (one.value k h) (c.write.ensures.written k h) (λ j other. c.write.ensures.others k j h other)
           (two.value k h) (c.write-in-steps.ensures.written k h) (λ j other. c.write-in-steps.ensures.others k j h other);
     }
 
@@ -29,6 +29,6 @@ returns-clause-value g c k h =
     let long = c.read-x.ensures.long k h in
     let room = part_inside s k g.O.Order.count (length c.args.output.now) h (omega (arith, c.requires.output)) in
     let full = length-part s k c.steps.output (omega (arith, room)) in
-    mixed_in _ _ g.met.O.Order.inverse (g.I.Input.words c.args.input.now k) (part s c.steps.output k) (omega (arith, long, c.requires.row.some))
-    (omega (arith, long, c.requires.row.whole))
-    (all_turns _ _ _ _ _ _ (omega (arith, long)) (omega arith) (omega (arith, full, long)) (c.steps.invariant.mixed k h))
+    let whole : length (g.I.Input.words c.args.input.now k) % 32 ≡ 0 = omega (arith, long, c.requires.row.whole) in
+    let mix = mixed_in _ _ g.met.O.Order.inverse (g.I.Input.words c.args.input.now k) (omega (arith, long, c.requires.row.some)) whole in
+    all_turns mix _ (omega (arith, long)) whole _ _ _ (omega arith) (omega (arith, full, long)) (c.steps.invariant.mixed k h _ mix)
