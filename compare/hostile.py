@@ -274,7 +274,7 @@ def main():
     failed = [disagree("hostile texts", pairs, verified, STATUSES)]
     params = ALLOWED + list(itertools.islice(random_params(random.Random(seed)), count // 10))
     texts = itertools.chain((text for text, _ in pairs), known.costly(), *(known.texts_of(*it) for it in params))
-    # Where memory is allocated for a call of its own, a buffer is.
+    # In buffers nothing is allocated.
     bounded = {name: status for name, status in (STATUSES | WITHIN).items() if name != "OutOfMemory"}
     failed.append(disagree("within bounds", list(judged(texts, compared_within)), within, bounded))
     sys.exit(1 if any(failed) else 0)
