@@ -4,10 +4,11 @@
 - At once: the documents, the scripts and what must not compile. A fault there ends the gate early.
 - When the crates below are proved, over a copy of their libraries: the wrong bodies, and the static libraries for C, since
   `rt lib` takes nothing from `rt ci` and would prove the crates below again. The first of these libraries checks its crate
-  in an empty folder; the second, and the wrong bodies of that crate, take from it what they leave unchanged.
-- At the end: calls of the programs and of the libraries.
+  in an empty folder; the second, and the wrong bodies of that crate, take from it what they leave unchanged. Then they are
+  linked and called.
+- When the program is proved: its answers. It is linked with what asks at a terminal after that.
 
-The first two run on the processors that `rt ci` leaves idle, at a lower priority, since its crates wait for one another.
+All but the calls run on the processors that `rt ci` leaves idle, at a lower priority, since its crates wait for one another.
 What they print, with the time that each took, follows what `rt ci` prints. The count of what passed is the last line.
 """
 
@@ -32,8 +33,8 @@ sys.path.append(str(Path(__file__).parent.parent / "doc"))
 import kit
 import sources
 
-# How many tasks run beside `rt ci`, and how many after it.
-BESIDE, AFTERWARDS = 3, 4
+# How many tasks run beside `rt ci`, and how many after it; and how many may have begun, with those that wait for another.
+BESIDE, AFTERWARDS, MOST = 3, 4, 16
 
 # What `rt ci` prints of a crate whose library is there.
 PROVED = re.compile(r"rt: (\w+) (?:proved$|is kept: )")
@@ -78,7 +79,7 @@ class Tasks:
 
     def __init__(self, libraries):
         self.libraries, self.proved, self.waiting, self.begun, self.running = libraries, set(), [], {}, set()
-        self.lanes, self.threads = threading.Semaphore(BESIDE), concurrent.futures.ThreadPoolExecutor(2 * AFTERWARDS)
+        self.lanes, self.threads = threading.Semaphore(BESIDE), concurrent.futures.ThreadPoolExecutor(MOST)
         self.prover = self.early = None
         self.spent = threading.local()
 
@@ -150,7 +151,7 @@ class Tasks:
 
 
 def build(tasks, made, kept):
-    """Builds the static libraries for C for both processors, not at a lower priority, since their callers come last.
+    """Builds the static libraries for C for both processors, not at a lower priority, since other tasks wait for them.
 
     The verdict of the newer processor's is printed."""
     os.makedirs(made)
@@ -184,16 +185,42 @@ def place(made):
     shutil.move(f"{made}/scrypt_c.a", "crates/scrypt_c/out/libscrypt_c.a")
 
 
+def link_and_call(tasks, made):
+    """Links the libraries, and calls them. What is packed is this. Not at a lower priority, since one call measures time."""
+    place(made)
+    return tasks.run("sh", "-c", "bindings/lib.sh built && bindings/callers.sh short", nice=0)
+
+
+def link_program(tasks):
+    """Links the program with what asks at a terminal. Where `rt ci` gave only the program, since it proved the same earlier on
+    this machine, its object is made over the libraries that were proved."""
+    if not os.path.isfile(f"{PROGRAM}.o"):
+        command = [*prover_command.of("build", "scrypt_tool"), "--toolchain", f"{kit.located()}/toolchain", "--backend", "llvm"]
+        is_well, text = tasks.run(*command, "-o", "out/scrypt_tool.o", cwd="crates/scrypt_tool")
+        if not is_well:
+            return is_well, text
+    return tasks.run("bindings/terminal/build.sh")
+
+
+def answer(tasks, is_built):
+    """Links the program, where a compiler is here, and compares its answers."""
+    is_well, text = link_program(tasks) if is_built else (True, "")
+    return tasks.run(sys.executable, "ci/program.py", PROGRAM) if is_well else (is_well, text)
+
+
 def add_all(tasks, made, kept, is_built):
     """Adds the tasks, the longest first. The wrong bodies of scrypt_c are tried over what the build of the libraries kept."""
     if is_built:
         tasks.add(LIBRARY, prover_command.below("scrypt_c"), lambda: build(tasks, made, kept))
+        tasks.add("callers of the library", prover_command.below("scrypt_c"), lambda: link_and_call(tasks, made), LIBRARY)
     for name in edits.crates_with("wrong-bodies"):
         over, before = (["over", kept], LIBRARY) if name == "scrypt_c" and is_built else ([], None)
         command = [sys.executable, "ci/wrong_bodies.py", *over, name]
         tasks.add(f"wrong bodies of {name}", prover_command.below(name), lambda command=command: tasks.run(*command), before)
     tasks.add("the documents", [], lambda: tasks.run("make", "--no-print-directory", "documents"))
     tasks.add("what must not compile", [], lambda: tasks.run(sys.executable, "ci/must_not_compile.py"))
+    tasks.add("answers of the program", ["scrypt_tool"], lambda: answer(tasks, is_built))
+    tasks.add("answers to hashes", ["scrypt_tool"], lambda: tasks.run(sys.executable, "ci/hashes.py", PROGRAM))
 
 
 def prove(tasks, log):
@@ -210,44 +237,6 @@ def prove(tasks, log):
     return line
 
 
-def run_all(tasks, *commands):
-    """Whether commands succeed, one after another, and what they print."""
-    texts = []
-    for command in commands:
-        is_well, text = tasks.run(*command)
-        texts.append(text)
-        if not is_well:
-            return False, "".join(texts)
-    return True, "".join(texts)
-
-
-def make_object(tasks):
-    """Makes the program's object, over the libraries that were proved, where `rt ci` gave only the program, since it proved
-    the same earlier on this machine."""
-    if os.path.isfile(f"{PROGRAM}.o"):
-        return True, ""
-    command = [*prover_command.of("build", "scrypt_tool"), "--toolchain", f"{kit.located()}/toolchain", "--backend", "llvm"]
-    return tasks.run(*command, "-o", "out/scrypt_tool.o", cwd="crates/scrypt_tool")
-
-
-def link_and_call(tasks, made):
-    """Links the libraries and the program, and calls them. What is packed is this."""
-    place(made)
-    is_well, text = make_object(tasks)
-    if not is_well:
-        return is_well, text
-    return run_all(tasks, ["bindings/lib.sh", "built"], ["bindings/terminal/build.sh"], ["bindings/callers.sh", "short"])
-
-
-def add_last(tasks, made, is_built):
-    """Adds what calls the programs and the libraries, and gives the tasks all processors."""
-    if is_built:
-        tasks.start("callers of the library", ["scrypt_c"], lambda: link_and_call(tasks, made), LIBRARY)
-    tasks.start("answers of the program", ["scrypt_tool"], lambda: tasks.run(sys.executable, "ci/program.py", PROGRAM))
-    tasks.start("answers to hashes", ["scrypt_tool"], lambda: tasks.run(sys.executable, "ci/hashes.py", PROGRAM))
-    tasks.lanes.release(AFTERWARDS - BESIDE)
-
-
 def main():
     is_built = shutil.which(os.environ.get("CC", "cc")) is not None
     clean()
@@ -256,7 +245,7 @@ def main():
         with Tasks(f"{room}/libraries") as tasks:
             add_all(tasks, f"{room}/made", f"{room}/kept", is_built)
             count = prove(tasks, log)
-            add_last(tasks, f"{room}/made", is_built)
+            tasks.lanes.release(AFTERWARDS - BESIDE)
             failed = tasks.end(log)
         if failed:
             sys.exit(f"failed: {'; '.join(failed)}")
