@@ -52,11 +52,17 @@ $(LIBRARIES) $(OF_TESTS): proved-%: kit
 proved-scrypt: proved-password_hash proved-scrypt_kernel
 proved-scrypt_commands proved-scrypt_examples: proved-scrypt
 
-check: kit documents $(LIBRARIES) $(OF_TESTS)
+check: kit
+	$(MAKE) -j$(if $(HAS_ROOM),4,1) $(LIBRARIES) $(OF_TESTS) $(DOCUMENTS:%=document-%)
 	rt all test $(if $(HAS_ROOM),--jobs 4)
 	cd crates/scrypt_tool && rt run -- key 4 1 1 64 "" < /dev/null
-	python3 ci/program.py crates/scrypt_tool/out/scrypt_tool
-	python3 ci/hashes.py crates/scrypt_tool/out/scrypt_tool
+	$(MAKE) -j2 --output-sync $(ANSWERS)
+
+# What the program answers.
+ANSWERS = answers-program answers-hashes
+.PHONY: $(ANSWERS)
+$(ANSWERS): answers-%:
+	python3 ci/$*.py crates/scrypt_tool/out/scrypt_tool
 
 # The documents and what must not compile are checked there too, beside the proofs.
 test: kit
