@@ -2,9 +2,28 @@
  * bounds and derives is. */
 #include "queue.h"
 
+#include <stdlib.h>
 #include <string.h>
 
 #define MOST_SALT_LEN 64
+
+void derive(const scrypt_hasher *hasher, struct call **group, size_t count, int *statuses, const struct buffers *of) {
+  const scrypt_options *with = &hasher->options;
+  const struct call *it = group[0];
+  scrypt_login logins[SCRYPT_MOST_LOGINS];
+  size_t i;
+  for (i = 0; i < count; i++) logins[i] = group[i]->login;
+  if (it->login.text != NULL)
+    verify_group(logins, count, statuses, of);
+  else if (it->is_key)
+    statuses[0] = key_in_buffers(it->login.password, it->login.password_len, it->salt, it->salt_len,
+                                 (uint8_t)with->log_n, with->r, with->p, (uint8_t *)it->output, it->output_len, of);
+  else
+    statuses[0] = (with->mcf ? scrypt_hash_mcf_with_buffers : scrypt_hash_phc_with_buffers)(
+        it->login.password, it->login.password_len, it->salt, it->salt_len, (uint8_t)with->log_n, with->r, with->p,
+        with->key_len, (char *)it->output, it->output_len, of->chunks, of->chunks_len, of->table, of->table_len,
+        of->scratch, of->scratch_len);
+}
 
 int scrypt_hasher_verify(scrypt_hasher *hasher, const void *password, size_t password_len, const char *text,
                          size_t text_len, int64_t most_ms, uint64_t *place) {
@@ -18,24 +37,10 @@ int scrypt_hasher_verify(scrypt_hasher *hasher, const void *password, size_t pas
 
 /* ---- With the parameters of new hashes ---- */
 
-static int derive_text(struct call *call, const struct buffers *of) {
-  const scrypt_options *with = call->options;
-  return (with->mcf ? scrypt_hash_mcf_with_buffers : scrypt_hash_phc_with_buffers)(
-      call->login.password, call->login.password_len, call->salt, call->salt_len, (uint8_t)with->log_n, with->r, with->p,
-      with->key_len, (char *)call->output, call->output_len, of->chunks, of->chunks_len, of->table, of->table_len,
-      of->scratch, of->scratch_len);
-}
-
-static int derive_key(struct call *call, const struct buffers *of) {
-  const scrypt_options *with = call->options;
-  return key_in_buffers(call->login.password, call->login.password_len, call->salt, call->salt_len, (uint8_t)with->log_n,
-                        with->r, with->p, (uint8_t *)call->output, call->output_len, of);
-}
-
 static int run_new(scrypt_hasher *hasher, struct call *call, int64_t most_ms, uint64_t *place) {
-  int status = needs_of_new(&hasher->options, &call->needs);
-  call->options = &hasher->options;
-  if (status == SCRYPT_OK) status = queue_run(hasher, call, most_ms, place);
+  int status;
+  call->needs = hasher->needs;
+  status = queue_run(hasher, call, most_ms, place);
   /* In a child the derivation may have gone on with zeros, whose result can be computed without scrypt's cost. */
   if (status == SCRYPT_CANCELLED) memset(call->output, 0, call->output_len);
   return status;
@@ -43,17 +48,17 @@ static int run_new(scrypt_hasher *hasher, struct call *call, int64_t most_ms, ui
 
 int scrypt_hasher_hash(scrypt_hasher *hasher, const void *password, size_t password_len, const void *salt,
                        size_t salt_len, char *text, size_t capacity, int64_t most_ms, uint64_t *place) {
-  struct call call = {.derive = derive_text, .login = {password, password_len, NULL, 0}, .salt = salt, .salt_len = salt_len,
-                      .output = text, .output_len = capacity};
+  struct call call = {.login = {password, password_len, NULL, 0}, .salt = salt, .salt_len = salt_len, .output = text,
+                      .output_len = capacity};
   uint8_t drawn[MOST_SALT_LEN];
+  size_t least;
   if (hasher == NULL || is_null(password, password_len) || is_null(salt, salt_len) || is_null(text, capacity))
     return SCRYPT_NULL_POINTER;
   if (salt == NULL) call.salt_len = hasher->options.salt_len;
   if (!hasher->options.mcf && (call.salt_len == 0 || call.salt_len > MOST_SALT_LEN)) return SCRYPT_SALT_INVALID;
   /* A PHC text that doesn't fit would be found after the derivation. */
-  if (!hasher->options.mcf && capacity < SCRYPT_PHC_CAPACITY) return SCRYPT_BUFFER_SIZE;
-  if (hasher->options.mcf && (capacity < SCRYPT_MCF_CAPACITY(0) || (capacity - SCRYPT_MCF_CAPACITY(0)) / 2 < call.salt_len))
-    return SCRYPT_BUFFER_SIZE;
+  least = hasher->options.mcf ? SCRYPT_MCF_CAPACITY(call.salt_len) : SCRYPT_PHC_CAPACITY;
+  if (call.salt_len > capacity || capacity < least) return SCRYPT_BUFFER_SIZE;
   if (salt == NULL) {
     if (scrypt_draw_salt(drawn, call.salt_len) != SCRYPT_OK) return SCRYPT_NO_RANDOM_BYTES;
     call.salt = drawn;
@@ -63,8 +68,8 @@ int scrypt_hasher_hash(scrypt_hasher *hasher, const void *password, size_t passw
 
 int scrypt_hasher_key(scrypt_hasher *hasher, const void *password, size_t password_len, const void *salt,
                       size_t salt_len, uint8_t *key, size_t key_len, int64_t most_ms, uint64_t *place) {
-  struct call call = {.derive = derive_key, .login = {password, password_len, NULL, 0}, .salt = salt, .salt_len = salt_len,
-                      .output = key, .output_len = key_len};
+  struct call call = {.login = {password, password_len, NULL, 0}, .salt = salt, .salt_len = salt_len, .output = key,
+                      .output_len = key_len, .is_key = 1};
   if (hasher == NULL || is_null(password, password_len) || is_null(salt, salt_len) || is_null(key, key_len))
     return SCRYPT_NULL_POINTER;
   if (key_len == 0 || key_len > SCRYPT_MAX_OUTPUT_LEN) return SCRYPT_INVALID_OUTPUT_LEN;
@@ -82,9 +87,9 @@ int scrypt_hasher_needs_rehash(const scrypt_hasher *hasher, const char *text, si
 #define DEFAULT(field, value) \
   if (with->field == 0) with->field = (value)
 
-/* Replaces zeros by defaults. */
-static int complete(scrypt_options *with) {
-  scrypt_needs needs;
+/* Replaces zeros by defaults, and checks the options. */
+static int complete(scrypt_hasher *hasher) {
+  scrypt_options *with = &hasher->options;
   int status;
   if (with->log_n == 0 && with->r == 0 && with->p == 0) {
     with->log_n = SCRYPT_RECOMMENDED_LOG_N;
@@ -97,21 +102,25 @@ static int complete(scrypt_options *with) {
   DEFAULT(at_once, with->processors > SIZE_MAX / 2 ? SIZE_MAX : 2 * with->processors);
   if (with->key_len < 10 || with->key_len > 64) return SCRYPT_INVALID_PARAMS;
   status = set_bounds(with);
-  if (status == SCRYPT_INVALID_PARAMS) return status;
+  if (status != SCRYPT_OK) return status;
   if (with->salt_len > MOST_SALT_LEN) return SCRYPT_SALT_INVALID;
-  return status == SCRYPT_OK ? needs_of_new(with, &needs) : status;
+  return needs_of_new(with, &hasher->needs);
 }
 
 scrypt_hasher *scrypt_hasher_new(const scrypt_options *options, int *status) {
-  scrypt_options with = {.size = sizeof with};
-  scrypt_hasher *hasher = NULL;
-  int result = SCRYPT_OK;
-  if (options != NULL && options->size != sizeof with) result = SCRYPT_INVALID_PARAMS;
-  else if (options != NULL) with = *options;
-  if (result == SCRYPT_OK) result = complete(&with);
-  if (result == SCRYPT_OK) hasher = queue_new(&with, &result);
+  static const scrypt_options DEFAULTS = {.size = sizeof DEFAULTS};
+  scrypt_hasher *hasher = (scrypt_hasher *)calloc(1, sizeof *hasher);
+  int result = hasher != NULL ? SCRYPT_INVALID_PARAMS : SCRYPT_OUT_OF_MEMORY;
+  if (options == NULL) options = &DEFAULTS;
+  if (hasher != NULL && options->size == sizeof *options) {
+    hasher->options = *options;
+    result = complete(hasher);
+    if (result == SCRYPT_OK) result = queue_new(hasher);
+  }
   if (status != NULL) *status = result;
-  return hasher;
+  if (result == SCRYPT_OK) return hasher;
+  free(hasher);
+  return NULL;
 }
 
 const scrypt_options *scrypt_hasher_options(const scrypt_hasher *hasher) { return hasher != NULL ? &hasher->options : NULL; }

@@ -14,27 +14,24 @@
 
 #define PATH 1024 /* a group with a longer one is not looked at */
 
-/* A number in a file, from its first or second word on; 0 if there is none, as in "max 100000" and "-1". */
-static unsigned long number_in(const char *folder, const char *name, int word) {
+/* Reads up to two numbers of a file; none of "max 100000". */
+static void read_numbers(const char *folder, const char *name, long *one, long *other) {
   char path[PATH + 64];
-  long number = 0;
   FILE *file;
-  if (snprintf(path, sizeof path, "%s/%s", folder, name) >= (int)sizeof path) return 0;
+  if (snprintf(path, sizeof path, "%s/%s", folder, name) >= (int)sizeof path) return;
   file = fopen(path, "re");
-  if (file == NULL) return 0;
-  if (fscanf(file, word == 1 ? "%ld" : "%*s %ld", &number) != 1 || number < 0) number = 0;
+  if (file == NULL) return;
+  if (fscanf(file, "%ld %ld", one, other) < 1) *one = 0;
   (void)fclose(file);
-  return (unsigned long)number;
 }
 
-/* The quota of a control group, of version 2 or 1, rounded up to processors; SIZE_MAX if it has none. */
+/* The quota of a control group, of version 2 or 1, rounded up to processors; SIZE_MAX if it has none, or -1. */
 static size_t quota_of(const char *folder) {
-  unsigned long quota = number_in(folder, "cpu.max", 1), period = number_in(folder, "cpu.max", 2);
-  if (quota == 0 || period == 0) {
-    quota = number_in(folder, "cpu.cfs_quota_us", 1);
-    period = number_in(folder, "cpu.cfs_period_us", 1);
-  }
-  return quota == 0 || period == 0 ? SIZE_MAX : (quota - 1) / period + 1;
+  long quota = 0, period = 0, none;
+  read_numbers(folder, "cpu.cfs_quota_us", &quota, &none);
+  read_numbers(folder, "cpu.cfs_period_us", &period, &none);
+  read_numbers(folder, "cpu.max", &quota, &period);
+  return quota <= 0 || period <= 0 ? SIZE_MAX : (size_t)((quota - 1) / period + 1);
 }
 
 /* The least quota of the group of this path and of those around it. In a container the path may be one of the host; then
@@ -54,15 +51,13 @@ static size_t least_quota(const char *mount, char *path) {
 
 /* The least quota that a line of /proc/self/cgroup leads to: "0::PATH" of version 2, or "4:cpu,cpuacct:PATH". */
 static size_t quota_of_line(char *line) {
-  char *names = strchr(line, ':'), *path = names != NULL ? strchr(names + 1, ':') : NULL, *name, *rest = NULL;
-  size_t least = SIZE_MAX;
-  if (path == NULL) return least;
-  *path++ = '\0';
+  char *names = strchr(line, ':'), *path = names != NULL ? strchr(names + 1, ':') : NULL, *cpu;
+  if (path == NULL) return SIZE_MAX;
   path[strcspn(path, "\n")] = '\0';
-  if (*++names == '\0') return least_quota(ROOT "/sys/fs/cgroup", path);
-  for (name = strtok_r(names, ",", &rest); name != NULL; name = strtok_r(NULL, ",", &rest))
-    if (strcmp(name, "cpu") == 0) least = least_quota(ROOT "/sys/fs/cgroup/cpu", path);
-  return least;
+  if (path == names + 1) return least_quota(ROOT "/sys/fs/cgroup", path + 1);
+  *names = *path = ',';
+  cpu = strstr(names, ",cpu,");
+  return cpu != NULL && cpu < path ? least_quota(ROOT "/sys/fs/cgroup/cpu", path + 1) : SIZE_MAX;
 }
 
 size_t processors_of_process(void) {

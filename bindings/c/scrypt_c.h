@@ -288,7 +288,7 @@ typedef struct scrypt_hasher scrypt_hasher;
 #define SCRYPT_LEAST_KEY_LEN 16
 
 /* The options of a hasher. A field that is 0 has its default; log_n, r and p have theirs only if all three are 0, so that
- * N = 1 is possible. */
+ * N = 1 is possible. More than 8192 processors are as many as 8192. */
 typedef struct scrypt_options {
   size_t size;              /* sizeof (scrypt_options), so that later versions can add fields; it has no default */
   uint32_t log_n, r, p;     /* of new hashes and keys: 17, 8 and 1 */

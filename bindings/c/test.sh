@@ -187,32 +187,23 @@ if has gcc gcc; then
 fi
 if has gcc gcc && has valgrind valgrind; then each "$built" emulated; fi
 
-# The hasher, with its sources in the test. Of the checkers that know threads, helgrind needs to be told of each bell.
+# The hasher, with its sources in the test.
 hasher_test() {
   for test in test_hasher test_hasher_load; do
     gcc -std=gnu99 -g -Wall -Wextra -Werror -Wno-unused-function -Ibindings/c -DROOT="\"$room/root\"" "$@" bindings/c/$test.c \
       -o "$room/$test" -L"$lib" -lscrypt_c -Wl,-rpath,"$lib" -lpthread
+    $checker "$room/$test" > /dev/null
   done
+  echo "the hasher: $* $checker"
 }
 if has gcc gcc; then
-  for checked in -O2 "-O1 -fsanitize=thread" "-O1 -fsanitize=address,undefined -fno-sanitize-recover=all"; do
-    hasher_test $checked
-    "$room/test_hasher" > /dev/null
-    "$room/test_hasher_load" > /dev/null
-    echo "the hasher: $checked"
-  done
+  checker=
+  hasher_test -O2
+  hasher_test -O1 -fsanitize=thread
+  hasher_test -O1 -fsanitize=address,undefined -fno-sanitize-recover=all
   if has valgrind valgrind; then
+    checker="valgrind -q --error-exitcode=1"
     hasher_test -O1
-    # A call may be over before the thread that ends it wakes it, at a place that isn't its own any more (queue.c).
-    printf '%s\n' '{' 'bell' 'Memcheck:Param' 'futex(futex)' 'fun:syscall' 'fun:ring' '...' '}' > "$room/bells"
-    for test in test_hasher test_hasher_load; do
-      valgrind -q --error-exitcode=1 --suppressions="$room/bells" "$room/$test" > /dev/null
-    done
-    hasher_test -O1 -DHELGRIND
-    for test in test_hasher test_hasher_load; do
-      valgrind -q --tool=helgrind --error-exitcode=1 "$room/$test" > /dev/null
-    done
-    echo "no report by valgrind memcheck and helgrind: the hasher"
   fi
 fi
 
