@@ -9,7 +9,6 @@ import (
 	"context"
 	"fmt"
 	"runtime"
-	"sync"
 	"unsafe"
 )
 
@@ -49,9 +48,7 @@ type Hasher struct {
 // A hasher is freed when no Hasher refers to it.
 type hasher struct {
 	c      *C.scrypt_hasher
-	inside chan struct{} // one for each goroutine that is in C, where it takes a thread of the system
-	closed chan struct{}
-	close  sync.Once
+	inside chan struct{} // one for each goroutine that waits in C, where it takes a thread of the system
 }
 
 // NewHasher returns a Hasher. Its errors name the options, and match (errors.Is) ErrInvalidParams, ErrSaltInvalid,
@@ -78,7 +75,7 @@ func NewHasher(options Options) (*Hasher, error) {
 		with.mcf = 1
 	}
 	var status C.int
-	of := &hasher{c: C.scrypt_hasher_new(&with, &status), closed: make(chan struct{})}
+	of := &hasher{c: C.scrypt_hasher_new(&with, &status)}
 	if of.c == nil {
 		return nil, fmt.Errorf("%w: %v: %+v", Error(status), options.Params.needs(), options)
 	}
@@ -96,10 +93,8 @@ func NewHasher(options Options) (*Hasher, error) {
 // and later ones, return ErrClosed. Close returns nil.
 func (h *Hasher) Close() error {
 	if h.of != nil {
-		h.of.close.Do(func() {
-			close(h.of.closed)
-			C.scrypt_hasher_close(h.of.c)
-		})
+		C.scrypt_hasher_close(h.of.c)
+		runtime.KeepAlive(h.of)
 	}
 	return nil
 }
@@ -119,7 +114,7 @@ func (h *Hasher) HashWithSalt(ctx context.Context, password, salt []byte) (strin
 // hash draws a salt if the pointer is NULL.
 func (h *Hasher) hash(ctx context.Context, password []byte, salt unsafe.Pointer, saltLen C.size_t) (string, error) {
 	text := make([]byte, C.text_capacity(saltLen))
-	err := h.run(ctx, nil, func(ms int64, place *uint64) Error {
+	err := h.run(ctx, func(ms int64, place *uint64) Error {
 		return Error(C.scrypt_hasher_hash(h.of.c, pointer(password), size(password), salt, saltLen, chars(text), size(text),
 			C.int64_t(ms), (*C.uint64_t)(place)))
 	})
@@ -134,7 +129,7 @@ func (h *Hasher) hash(ctx context.Context, password []byte, salt unsafe.Pointer,
 func (h *Hasher) Key(ctx context.Context, password, salt []byte, keyLen int) ([]byte, error) {
 	key, err := newKey(keyLen)
 	if err == nil {
-		err = h.run(ctx, nil, func(ms int64, place *uint64) Error {
+		err = h.run(ctx, func(ms int64, place *uint64) Error {
 			return Error(C.scrypt_hasher_key(h.of.c, pointer(password), size(password), pointer(salt), size(salt), bytes(key),
 				size(key), C.int64_t(ms), (*C.uint64_t)(place)))
 		})
@@ -151,17 +146,14 @@ func (h *Hasher) Key(ctx context.Context, password, salt []byte, keyLen int) ([]
 // if that is less, ErrClosed or ErrOutOfMemory. An error of the text alone is returned without waiting.
 func (h *Hasher) Verify(ctx context.Context, text string, password []byte) error {
 	raw := []byte(text)
-	err := h.run(ctx, raw, func(ms int64, place *uint64) Error {
+	err := h.run(ctx, func(ms int64, place *uint64) Error {
 		return Error(C.scrypt_hasher_verify(h.of.c, pointer(password), size(password), chars(raw), size(raw), C.int64_t(ms),
 			(*C.uint64_t)(place)))
 	})
 	if err != ErrTooCostly && err != ErrKeyTooShort {
 		return err
 	}
-	params, unread := ParamsOf(text)
-	if unread != nil {
-		return unread
-	}
+	params, _ := ParamsOf(text) // it can be read, or there would be another error
 	with := C.scrypt_hasher_options(h.of.c)
 	defer runtime.KeepAlive(h.of)
 	return fmt.Errorf("%w: %v, and a key of %d bytes; MostBytes is %d, MostWork is %d, and the least key has %d bytes", err,
@@ -183,59 +175,33 @@ func (h *Hasher) NeedsRehash(text string) (bool, error) {
 	return false, failed(status)
 }
 
-// run calls C when there is room inside. If the context can end it calls in slices, between which C keeps the place in the
-// line, and nothing that has to be given back: so a context may panic.
-func (h *Hasher) run(ctx context.Context, text []byte, call func(ms int64, place *uint64) Error) error {
+// run makes a call that doesn't wait, which also returns what is refused. If that gets no turn, it waits for room, and
+// makes calls that wait for a slice of time each. Between calls C has only a place in the line, so a context may panic.
+func (h *Hasher) run(ctx context.Context, call func(ms int64, place *uint64) Error) error {
 	if h.of == nil {
 		return ErrClosed
 	}
-	if err := h.of.enter(ctx, text); err != nil {
-		return err
-	}
-	defer func(of *hasher) { <-of.inside }(h.of)
-	if ctx.Done() == nil {
-		return failed(C.int(call(-1, nil)))
-	}
-	var place uint64
-	for {
-		if err := ctx.Err(); err != nil {
-			return err
-		}
-		if status := call(sliceMs, &place); status != C.SCRYPT_TIMEOUT {
-			return failed(C.int(status))
-		}
-	}
-}
-
-// enter waits until there is room inside, first come, first served. The errors of a text come before the wait.
-func (of *hasher) enter(ctx context.Context, text []byte) error {
+	defer runtime.KeepAlive(h.of)
 	if err := ctx.Err(); err != nil {
 		return err
 	}
-	select {
-	case of.inside <- struct{}{}:
-		return nil
-	default:
-	}
-	if text != nil {
-		var needs C.scrypt_needs
-		with := C.scrypt_hasher_options(of.c)
-		status := C.scrypt_hash_needs(chars(text), size(text), with.most_bytes, with.most_work, with.least_key_len, &needs)
-		if status != C.SCRYPT_OK {
-			return Error(status)
-		}
+	var place uint64
+	status := call(0, &place)
+	if status != C.SCRYPT_TIMEOUT {
+		return failed(C.int(status))
 	}
 	select {
-	case of.inside <- struct{}{}:
-		return nil
-	case <-of.closed:
-		return ErrClosed
+	case h.of.inside <- struct{}{}:
+		defer func(of *hasher) { <-of.inside }(h.of)
 	case <-ctx.Done():
+	}
+	for status == C.SCRYPT_TIMEOUT {
 		if err := ctx.Err(); err != nil {
 			return err
 		}
-		return context.Canceled // of a context that has ended without an error: nil would mean that there is room
+		status = call(sliceMs, &place)
 	}
+	return failed(C.int(status))
 }
 
 func orUsual(n, usual int) int {

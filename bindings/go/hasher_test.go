@@ -6,7 +6,6 @@ import (
 	"math"
 	"strings"
 	"testing"
-	"time"
 )
 
 const (
@@ -26,59 +25,43 @@ func newHasher(t *testing.T, options Options) *Hasher {
 }
 
 func TestHashes(t *testing.T) {
-	ctx, password := context.Background(), []byte("pass\x00word")
+	ctx, password, usual := context.Background(), []byte("pass\x00word"), newHasher(t, Options{})
 	for _, it := range []struct {
-		options     Options
-		beginning   string
-		want        Params
-		field, size int // where a salt is in a text, and how long it is there
+		options    Options
+		salt, want string // the text, whose key is hashlib's
+		drawn      int    // the length of a text with a random salt
 	}{
-		{Options{Params: Params{LogN: 4}}, "$scrypt$ln=4,r=8,p=1$c2FsdHNhbHQ$", Params{4, 8, 1, 32}, 3, 22},
-		{Options{Params: Params{5, 3, 2, 20}, SaltLen: 64}, "$scrypt$ln=5,r=3,p=2$c2FsdHNhbHQ$", Params{5, 3, 2, 20}, 3, 86},
-		{Options{Params: Params{LogN: 4}, SaltLen: 64, MCF: true}, "$7$26..../....", Params{4, 8, 1, 32}, 2, 11 + 86},
+		{Options{Params: Params{LogN: 4}}, "saltsalt",
+			"$scrypt$ln=4,r=8,p=1$c2FsdHNhbHQ$yOVfN10vCbapyacuiMl8thX8XXJctr2I/8vR9ni8ehI", 87},
+		{Options{Params: Params{5, 3, 2, 20}, SaltLen: 64}, "saltsalt",
+			"$scrypt$ln=5,r=3,p=2$c2FsdHNhbHQ$JKedy3/pPEaQ9TR4ftXUBiuxkK8", 135},
+		{Options{Params: Params{LogN: 4}, SaltLen: 64, MCF: true}, "",
+			"$7$26..../....$fQQtT8CamUzif3mWSfaXAN/SUnYR6iHSdkE.XUbEX/7", 144},
 	} {
 		hasher := newHasher(t, it.options)
-		text, err := hasher.HashWithSalt(ctx, password, []byte("saltsalt"))
-		if of, unread := ParamsOf(text); err != nil || unread != nil || !strings.HasPrefix(text, it.beginning) || of != it.want {
-			t.Errorf("%q of %v: %v, %v", text, of, err, unread)
+		text, err := hasher.HashWithSalt(ctx, password, []byte(it.salt))
+		right, wrong := hasher.Verify(ctx, it.want, password), hasher.Verify(ctx, it.want, password[:4])
+		if text != it.want || err != nil || right != nil || wrong != ErrMismatch {
+			t.Errorf("%s, %v: %v for the password, %v for another", text, err, right, wrong)
 		}
-		right, wrong := hasher.Verify(ctx, text, password), hasher.Verify(ctx, text, password[:4])
-		if right != nil || wrong != ErrMismatch {
-			t.Errorf("%s: %v for the password, %v for another", text, right, wrong)
-		}
-		for of, isWeaker := range map[*Hasher]bool{hasher: false, newHasher(t, Options{}): true} {
-			if weak, err := of.NeedsRehash(text); weak != isWeaker || err != nil {
-				t.Errorf("%s: whether it is weak: %v, %v", text, weak, err)
-			}
+		isWeaker, err := usual.NeedsRehash(text)
+		if isWeak, same := hasher.NeedsRehash(text); !isWeaker || isWeak || err != nil || same != nil {
+			t.Errorf("%s: whether it is weak: %v, %v; %v, %v", text, isWeak, same, isWeaker, err)
 		}
 		one, _ := hasher.Hash(ctx, nil)
 		other, err := hasher.Hash(ctx, nil)
-		if one == other || err != nil || len(strings.Split(other, "$")[it.field]) != it.size {
+		if one == other || len(one) != it.drawn || err != nil || hasher.Verify(ctx, one, nil) != nil {
 			t.Errorf("with random salts: %s, %s, %v", one, other, err)
 		}
-		for _, salt := range [][]byte{nil, make([]byte, 65)} {
-			one, err = hasher.HashWithSalt(ctx, nil, salt)
-			other, _ = hasher.HashWithSalt(ctx, nil, salt)
-			want := map[bool]error{false: ErrSaltInvalid}[it.options.MCF]
-			if one != other || err != want || err == nil && hasher.Verify(ctx, one, nil) != nil {
-				t.Errorf("with %d bytes: %s, %s, %v", len(salt), one, other, err)
-			}
-		}
+		params, _ := ParamsOf(text)
 		key, err := hasher.Key(ctx, password, []byte("salt"), 1000)
-		if want, _ := Key(password, []byte("salt"), 1<<it.want.LogN, it.want.R, it.want.P, 1000); string(key) != string(want) {
+		if want, _ := Key(password, []byte("salt"), 1<<params.LogN, params.R, params.P, 1000); string(key) != string(want) {
 			t.Errorf("%x, %v", key, err)
 		}
-		if key, err := hasher.Key(ctx, nil, nil, 0); key != nil || err != ErrInvalidOutputLen {
-			t.Errorf("no key: %x, %v", key, err)
-		}
-	}
-	usual := Recommended()
-	if MostBytes != 257<<20 || MostWork != 4*usual.Work() || LeastKeyLen != 16 || usual != (Params{17, 8, 1, 32}) {
-		t.Errorf("%d bytes, a work of %d, a key of %d, %v", MostBytes, MostWork, LeastKeyLen, usual)
 	}
 }
 
-// Options that are refused, with words of the error. Some are numbers that C's types would cut off to accepted ones.
+// What is refused, with words of the error. Some are numbers that C's types would cut off to accepted ones.
 func TestRefusedOptions(t *testing.T) {
 	for _, it := range []struct {
 		words   string
@@ -104,9 +87,44 @@ func TestRefusedOptions(t *testing.T) {
 			t.Errorf("%s: %v", it.words, err)
 		}
 	}
-	large := newHasher(t, Options{Params: Params{56, 1, 1, 32}})
-	if _, err := large.Hash(context.Background(), nil); err != ErrOutOfMemory {
-		t.Errorf("a table of 2^63 bytes: %v", err)
+}
+
+// The errors of a text alone come without waiting, which takes for ever here.
+func TestRefusedTexts(t *testing.T) {
+	for _, it := range []struct {
+		why, text string
+		options   Options
+		want      error
+		words     string
+	}{
+		{"too costly", "$scrypt$ln=6,r=3,p=5" + shortKey + "AA", Options{MostWork: 5759}, ErrTooCostly,
+			"need 27264 bytes and a work of 5760, and a key of 16 bytes; MostBytes is 269484032, MostWork is 5759"},
+		{"a key of 15 bytes", noHash[:len(noHash)-2], Options{}, ErrKeyTooShort, "a key of 15 bytes"},
+		{"as long as new keys", noHash[:len(noHash)-2], Options{Params: Params{KeyLen: 15}}, ErrMismatch, ""},
+		{"no text", "", Options{}, ErrEncodingInvalid, ""},
+		{"an empty key", "$7$26..../....salt$", Options{}, ErrOutputSize, ""},
+		{"a table of 2^63 bytes", "$scrypt$ln=56,r=1,p=1" + shortKey + "AA", Options{MostBytes: math.MaxUint64,
+			MostWork: math.MaxUint64}, ErrOutOfMemory, ""},
+	} {
+		it.options.LogN = 4
+		hasher := newHasher(t, it.options)
+		hasher.of.inside = nil
+		err := hasher.Verify(context.Background(), it.text, []byte("pw"))
+		if !errors.Is(err, it.want) || !strings.Contains(err.Error(), it.words) {
+			t.Errorf("%s: %v", it.why, err)
+		}
+		if _, unread := ParamsOf(it.text); errors.Is(err, ErrInvalidHash) && unread != err {
+			t.Errorf("%s: ParamsOf: %v", it.why, unread)
+		}
+	}
+	hasher := newHasher(t, Options{Params: small()})
+	for _, salt := range [][]byte{nil, make([]byte, 65)} {
+		if text, err := hasher.HashWithSalt(context.Background(), nil, salt); text != "" || err != ErrSaltInvalid {
+			t.Errorf("a salt of %d bytes: %s, %v", len(salt), text, err)
+		}
+	}
+	if key, err := hasher.Key(context.Background(), nil, nil, 0); key != nil || err != ErrInvalidOutputLen {
+		t.Errorf("no key: %x, %v", key, err)
 	}
 }
 
@@ -123,41 +141,10 @@ func TestMemoryAndWork(t *testing.T) {
 		{Params{1 << 8, 8, 1, 32}, 0, math.MaxUint64, ErrInvalidParams},
 		{Params{17, -8, 1, 32}, 0, math.MaxUint64, ErrInvalidParams},
 		{Params{17, 8, 1 << 32, 32}, 0, math.MaxUint64, ErrInvalidParams},
+		{Recommended(), 134220800, MostWork / 4, nil},
 	} {
 		if memory, err := it.params.Memory(); memory != it.memory || err != it.want || it.params.Work() != it.work {
 			t.Errorf("%v: %d bytes, a work of %d, %v", it.params, memory, it.params.Work(), err)
-		}
-	}
-}
-
-// What is refused by its text does not wait, also where all wait.
-func TestRefusedTexts(t *testing.T) {
-	for _, it := range []struct {
-		why, text string
-		options   Options
-		want      error
-		words     string
-	}{
-		{"too costly", "$scrypt$ln=6,r=3,p=5" + shortKey + "AA", Options{MostWork: 5759}, ErrTooCostly,
-			"need 27264 bytes and a work of 5760, and a key of 16 bytes; MostBytes is 269484032, MostWork is 5759"},
-		{"a key of 15 bytes", noHash[:len(noHash)-2], Options{}, ErrKeyTooShort, "a key of 15 bytes"},
-		{"as long as new keys", noHash[:len(noHash)-2], Options{Params: Params{KeyLen: 15}}, ErrMismatch, ""},
-		{"no text", "", Options{}, ErrEncodingInvalid, ""},
-		{"an empty key", "$7$26..../....salt$", Options{}, ErrOutputSize, ""},
-	} {
-		it.options.LogN, it.options.AtOnce = 4, 1
-		hasher := newHasher(t, it.options)
-		if it.want != ErrMismatch {
-			defer fill(hasher)()
-		}
-		ctx, cancel := context.WithTimeout(context.Background(), 20*time.Second)
-		err := hasher.Verify(ctx, it.text, []byte("pw"))
-		cancel()
-		if !errors.Is(err, it.want) || err != nil && !strings.Contains(err.Error(), it.words) {
-			t.Errorf("%s: %v", it.why, err)
-		}
-		if _, unread := ParamsOf(it.text); errors.Is(err, ErrInvalidHash) && unread != err {
-			t.Errorf("%s: ParamsOf: %v", it.why, unread)
 		}
 	}
 }

@@ -2,12 +2,9 @@ package scrypt
 
 import (
 	"context"
-	"errors"
-	"fmt"
 	"io"
 	"math/rand"
 	"runtime"
-	"strings"
 	"sync"
 	"testing"
 	"time"
@@ -15,42 +12,28 @@ import (
 
 var _ io.Closer = (*Hasher)(nil)
 
-var errEnded = errors.New("the context has ended")
+const onPurpose = "on purpose"
 
-// A watched context lets something happen before its Err or Done returns, which is told "Err 2" for the second Err.
-type watched struct {
+// A context that panics when it is asked for the nth time.
+type panicking struct {
 	context.Context
-	on   func(at string)
-	seen map[string]int
-	err  error
-	done chan struct{}
+	left int
 }
 
-func (w *watched) tell(name string) {
-	w.seen[name]++
-	w.on(fmt.Sprint(name, " ", w.seen[name]))
-}
-
-func (w *watched) Err() error {
-	w.tell("Err")
-	return w.err
-}
-
-func (w *watched) Done() <-chan struct{} {
-	w.tell("Done")
-	return w.done
-}
-
-// fill leaves no room for a goroutine to go on to C, before the result is called.
-func fill(hasher *Hasher) (leave func()) {
-	for i := 0; i < cap(hasher.of.inside); i++ {
-		hasher.of.inside <- struct{}{}
+func (p *panicking) count() {
+	if p.left--; p.left == 0 {
+		panic(onPurpose)
 	}
-	return func() {
-		for i := 0; i < cap(hasher.of.inside); i++ {
-			<-hasher.of.inside
-		}
-	}
+}
+
+func (p *panicking) Err() error {
+	p.count()
+	return p.Context.Err()
+}
+
+func (p *panicking) Done() <-chan struct{} {
+	p.count()
+	return p.Context.Done()
 }
 
 // outcome returns the error of a call, or with what it panics.
@@ -63,111 +46,55 @@ func outcome(call func() error) (result any) {
 	return call()
 }
 
-const cancels, closes, ends, panics = "cancels", "closes", "ends", "panics"
-
 // What happens while a goroutine waits ends its wait, and takes nothing with it. Its fourth call derives, which nothing ends.
-var endsOfWaits = []struct {
-	isFull   bool
-	at, what string
-	want     any
-}{
-	{false, "", "", nil},
-	{false, "Err 1", cancels, errEnded},
-	{false, "Err 1", panics, panics},
-	{false, "Done 1", panics, panics},
-	{false, "Err 2", panics, panics},
-	{false, "call 1", cancels, errEnded},
-	{false, "call 3", cancels, errEnded},
-	{false, "Err 4", panics, panics},
-	{false, "call 4", cancels, nil},
-	{true, "Err 1", cancels, errEnded},
-	{true, "Done 1", cancels, errEnded},
-	{true, "Done 1", closes, ErrClosed},
-	{true, "Done 1", ends, context.Canceled}, // without an error
-	{true, "Done 1", panics, panics},
-}
-
 func TestEndsOfWaits(t *testing.T) {
-	for _, it := range endsOfWaits {
-		hasher, calls := newHasher(t, Options{Params: small(), AtOnce: 1}), 0
+	for _, it := range []struct {
+		isFull            bool
+		cancelled, panics int // before the nth call, and when the context is asked for the nth time
+		calls             int
+		want              any
+	}{
+		{false, 0, 0, 4, nil},
+		{false, 1, 0, 0, context.Canceled},
+		{false, 2, 0, 1, context.Canceled},
+		{false, 4, 0, 3, context.Canceled},
+		{false, 5, 0, 4, nil},
+		{false, 0, 1, 0, onPurpose}, // Err
+		{false, 0, 2, 1, onPurpose}, // Done
+		{false, 0, 3, 1, onPurpose}, // Err
+		{false, 0, 5, 3, onPurpose},
+		{true, 2, 0, 1, context.Canceled},
+		{true, 0, 2, 1, onPurpose},
+	} {
+		hasher, calls := newHasher(t, Options{Params: small()}), 0
 		if it.isFull {
-			defer fill(hasher)()
+			hasher.of.inside = nil
 		}
-		ctx := &watched{Context: context.Background(), seen: map[string]int{}, done: make(chan struct{})}
-		ctx.on = func(at string) {
-			switch {
-			case at != it.at:
-			case it.what == cancels:
-				ctx.err = errEnded
-				close(ctx.done)
-			case it.what == closes:
-				_ = hasher.Close()
-			case it.what == ends:
-				close(ctx.done)
-			case it.what == panics:
-				panic(panics)
-			}
+		parent, cancel := context.WithCancel(context.Background())
+		if it.cancelled == 1 {
+			cancel()
 		}
-		before := len(hasher.of.inside)
 		got := outcome(func() error {
-			return hasher.run(ctx, nil, func(ms int64, place *uint64) Error {
+			return hasher.run(&panicking{parent, it.panics}, func(ms int64, place *uint64) Error {
+				if ms != map[bool]int64{true: 0, false: 50}[calls == 0] || *place != uint64(calls) {
+					t.Errorf("call %d may wait for %d ms, with the place %d", calls+1, ms, *place)
+				}
 				calls++
-				if ms != 50 || *place != uint64(calls-1) {
-					t.Errorf("call %d may wait for %d ms, with the place %d", calls, ms, *place)
-				}
 				*place++
-				ctx.tell("call")
-				if calls < 4 {
-					return 18 // SCRYPT_TIMEOUT
+				if calls+1 == it.cancelled {
+					cancel()
 				}
-				return 0
+				return map[bool]Error{true: 18, false: 0}[calls < 4] // 18 is SCRYPT_TIMEOUT
 			})
 		})
-		if after := len(hasher.of.inside); got != it.want || after != before {
-			t.Errorf("at %s it %s: %v, and %d are inside, not %d", it.at, it.what, got, after, before)
+		cancel()
+		if left := len(hasher.of.inside); got != it.want || calls != it.calls || left != 0 {
+			t.Errorf("%+v: %v after %d calls, and %d are inside", it, got, calls, left)
 		}
 	}
 }
 
-// Without an end of the context a call waits in C at once, and who has waited longest is let in next.
-func TestInOrder(t *testing.T) {
-	hasher, order := newHasher(t, Options{Params: small(), AtOnce: 1}), make(chan int, 8)
-	fill(hasher)
-	for i := 0; i < cap(order); i++ {
-		number := i
-		go func() {
-			_ = hasher.run(context.Background(), nil, func(ms int64, place *uint64) Error {
-				if ms != -1 || place != nil {
-					t.Errorf("%d may wait for %d ms", number, ms)
-				}
-				order <- number
-				return 0
-			})
-		}()
-		untilWaiting(i + 1)
-	}
-	<-hasher.of.inside // this place alone goes from each to the next
-	for i := 0; i < cap(order); i++ {
-		if got := <-order; got != i {
-			t.Errorf("the place is that of %d before that of %d", got, i)
-		}
-	}
-}
-
-// untilWaiting waits until so many goroutines wait to be let in.
-func untilWaiting(count int) {
-	stacks := make([]byte, 1<<20)
-	for found := -1; found != count; time.Sleep(5 * time.Millisecond) {
-		found = 0
-		for _, it := range strings.Split(string(stacks[:runtime.Stack(stacks, true)]), "\n\n") {
-			if strings.Contains(it, " [select") && strings.Contains(it, ".enter(") {
-				found++
-			}
-		}
-	}
-}
-
-// Contexts end at any time, and the hasher is closed meanwhile: each call has its verdict, or says why it has none.
+// Contexts end at any time, until the hasher is closed: each call has its verdict, or says why it has none.
 func TestAtAnyTime(t *testing.T) {
 	hasher := newHasher(t, Options{Params: small(), AtOnce: 3, Processors: 2})
 	var all sync.WaitGroup
@@ -175,9 +102,10 @@ func TestAtAnyTime(t *testing.T) {
 		all.Add(1)
 		go func() {
 			defer all.Done()
-			for round := 0; round < 200; round++ {
-				ctx, cancel := context.WithTimeout(context.Background(), time.Duration(rand.Intn(5))*time.Millisecond)
-				err := hasher.Verify(ctx, noHash, nil)
+			for err := error(nil); err != ErrClosed; {
+				within := []time.Duration{0, time.Millisecond, 5 * time.Millisecond, time.Hour}[rand.Intn(4)]
+				ctx, cancel := context.WithTimeout(context.Background(), within)
+				err = hasher.Verify(ctx, noHash, nil)
 				cancel()
 				if err != ErrMismatch && err != context.DeadlineExceeded && err != ErrClosed {
 					t.Error(err)
@@ -185,46 +113,33 @@ func TestAtAnyTime(t *testing.T) {
 			}
 		}()
 	}
-	time.Sleep(200 * time.Millisecond)
+	time.Sleep(300 * time.Millisecond)
 	_ = hasher.Close()
 	all.Wait()
-	if left := len(hasher.of.inside); left != 0 {
-		t.Errorf("%d are still inside", left)
+	if left, most := len(hasher.of.inside), cap(hasher.of.inside); left != 0 || most != 16 {
+		t.Errorf("%d are still inside, of at most %d", left, most)
 	}
 }
 
 // One that is closed, also twice, and one that NewHasher did not make.
 func TestClosedHashers(t *testing.T) {
-	ctx, closed := context.Background(), newHasher(t, Options{Params: small()})
-	for _, hasher := range []*Hasher{closed, {}} {
-		want := [6]error{nil, nil, ErrClosed, ErrClosed, ErrClosed, ErrClosed}
-		got := [6]error{hasher.Close(), hasher.Close(), hasher.Verify(ctx, noHash, nil)}
-		_, got[3] = hasher.Hash(ctx, nil)
-		_, got[4] = hasher.HashWithSalt(ctx, nil, []byte("saltsalt"))
-		_, got[5] = hasher.Key(ctx, nil, nil, 32)
+	for _, hasher := range []*Hasher{newHasher(t, Options{Params: small()}), {}} {
+		got := [3]error{hasher.Close(), hasher.Close(), hasher.Verify(context.Background(), noHash, nil)}
 		weak, err := hasher.NeedsRehash(noHash)
-		if isMade := hasher == closed; got != want || weak != isMade || (err == nil) != isMade {
+		if isMade := hasher.of != nil; got != [3]error{2: ErrClosed} || weak != isMade || (err == ErrClosed) == isMade {
 			t.Errorf("whether NewHasher made it: %v: %v, and weak: %v, %v", isMade, got, weak, err)
 		}
-	}
-	if err := closed.Verify(ctx, "", nil); err != ErrEncodingInvalid {
-		t.Errorf("by its text alone: %v", err)
 	}
 }
 
 // The memory of a Hasher is given back when nothing refers to it.
 func TestMemoryIsGivenBack(t *testing.T) {
-	const one = 32 << 10 // KiB, with a LogN of 15
-	before := statusKiB(t, "VmRSS")
-	_, _ = newHasher(t, Options{Params: Params{LogN: 15}, AtOnce: 1}).Hash(context.Background(), nil)
-	kept := statusKiB(t, "VmRSS") - before
-	left := kept
-	for i := 0; i < 50 && left > one/2; i++ {
+	for i := 0; i < 16; i++ {
+		_, _ = newHasher(t, Options{Params: Params{LogN: 15}}).Hash(context.Background(), nil)
 		runtime.GC()
-		time.Sleep(20 * time.Millisecond)
-		left = statusKiB(t, "VmRSS") - before
 	}
-	if kept < one/2 || left > one/2 {
-		t.Errorf("%d KiB are kept, and %d are left", kept, left)
+	time.Sleep(100 * time.Millisecond)
+	if left := statusKiB(t, "VmRSS"); left > 256<<10 {
+		t.Errorf("%d KiB after 16 Hashers of 32 MiB", left)
 	}
 }
