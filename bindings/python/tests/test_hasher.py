@@ -10,13 +10,12 @@ SMALL = PasswordHasher(log_n=4)
 
 class Hashes(unittest.TestCase):
     def test_both_formats(self):
-        for costs, mcf, beginning in [
-            ((4, 3, 2), False, "$scrypt$ln=4,r=3,p=2$c2FsdHNhbHQ$"),
-            ((4, 8, 1), True, "$7$26..../...."),
+        for costs, salt, mcf, text, size in [  # the keys are hashlib's
+            ((5, 3, 2, 20), b"saltsalt", False, "$scrypt$ln=5,r=3,p=2$c2FsdHNhbHQ$JKedy3/pPEaQ9TR4ftXUBiuxkK8", 135),
+            ((4, 8, 1), b"", True, "$7$26..../....$fQQtT8CamUzif3mWSfaXAN/SUnYR6iHSdkE.XUbEX/7", 144),
         ]:
-            hasher = PasswordHasher(*costs, 20, salt_len=64, mcf=mcf)
-            text = hasher.hash(b"pass\0word", salt=b"saltsalt")
-            self.assertTrue(text.startswith(beginning), text)
+            hasher = PasswordHasher(*costs, salt_len=64, mcf=mcf)
+            self.assertEqual(hasher.hash(b"pass\0word", salt=salt), text)
             self.assertEqual(scrypt_c.params_of(text), hasher.params)
             for same in (b"pass\0word", "pass\0word", bytearray(b"pass\0word"), memoryview(b"pass\0word")):
                 self.assertIs(hasher.verify(text.encode(), same), True)
@@ -24,8 +23,7 @@ class Hashes(unittest.TestCase):
                 self.assertRaises(scrypt_c.VerifyMismatchError, hasher.verify, text, other)
             self.assertEqual([it.check_needs_rehash(text) for it in (hasher, PasswordHasher())], [False, True])
             drawn = {hasher.hash("grün") for _ in range(20)}
-            self.assertEqual(len(drawn), 20)
-            self.assertEqual({len(it) - len(text) for it in drawn}, {86 - 11})
+            self.assertEqual((len(drawn), {len(it) for it in drawn}), (20, {size}))
             self.assertTrue(all(hasher.verify(it, "grün".encode()) for it in drawn))
 
     def test_types_that_lie(self):
