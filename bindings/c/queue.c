@@ -26,6 +26,7 @@
 #include <errno.h>
 #include <linux/futex.h>
 #include <pthread.h>
+#include <sched.h>
 #include <signal.h>
 #include <stdlib.h>
 #include <sys/mman.h>
@@ -230,11 +231,14 @@ static void await(scrypt_hasher *hasher, struct call *call, int64_t most_ms, int
 static void lead(scrypt_hasher *hasher, struct call *call) {
   struct call *group[SCRYPT_MOST_LOGINS] = {call};
   int statuses[SCRYPT_MOST_LOGINS] = {SCRYPT_OUT_OF_MEMORY, SCRYPT_CANCELLED, SCRYPT_CANCELLED, SCRYPT_CANCELLED};
-  size_t p = call->needs.p, count = 1, width;
+  size_t p = call->needs.p, count = 1, width, most;
   unlock(hasher);
   width = tables_room(&call->tables, &call->needs, width_of(hasher, call->turn));
+  most = call->login.text != NULL ? width / p : 1;
+  /* Threads that are ready to run can be in the group: those that have just been woken, say. It waits for none. */
+  if (most > 1) (void)sched_yield();
   lock(hasher);
-  if (call->login.text != NULL && !is_of_parent(hasher, call)) count = gather(hasher->queue, group, width / p);
+  if (!is_of_parent(hasher, call)) count = gather(hasher->queue, group, most);
   unlock(hasher);
   if (width > 0) {
     struct buffers of = tables_buffers(&call->tables, &call->needs, width < count * p ? width : count * p, count);
