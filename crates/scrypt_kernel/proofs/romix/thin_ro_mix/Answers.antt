@@ -2,6 +2,7 @@ use Rattle.std.proofs.Common.{◌/◌, length}
 use Rattle.scrypt_kernel.proofs.ChunkFacts.{counted_alone, only_chunk}
 use Rattle.scrypt_kernel.proofs.romix.thin_ro_mix.Goals as goal
 
+-- redundant, so that a wrong body is refused here at once
 pub returns-clause-counted : goal.returns-clause-counted
 returns-clause-counted c =
     counted_alone _ c.args.b.now c.args.log_n c.args.s (length c.args.b.now / 128)

@@ -48,6 +48,17 @@ part-kept-requires g c =
     let inside = rw one at room in
     rw (lens.chunks, one) (omega (arith, inside))
 
+pub mix_recomputed-requires-clause-room : goal.mix_recomputed-requires-clause-room
+mix_recomputed-requires-clause-room g c =
+    let lens = c.requires.lens in
+    let some = some_missing _ _ c.if-missing-eq0.false in
+    rw (lens.chunks, lens.alone some) (omega (arith, lens.room some))
+
+pub returns-else-missing-eq0-clause-counted : goal.returns-else-missing-eq0-clause-counted
+returns-else-missing-eq0-clause-counted g c =
+    let j_is = rw c.part.ensures.value at c.integerify-j.ensures.value in
+    rw (missing_rows c.args.s _ _ (omega arith) j_is) at c.mix_recomputed.ensures.counted
+
 pub returns-else-missing-eq0-clause-value : goal.returns-else-missing-eq0-clause-value
 returns-else-missing-eq0-clause-value g c k h =
     let p = g.O.Order.pivot in

@@ -48,5 +48,6 @@ chunks-preserved g c =
       ];
     }
 
+-- redundant, so that a wrong body is refused here at once
 pub returns : goal.returns
 returns g c k h = c.chunks.invariant.begin k (omega (arith, h))
