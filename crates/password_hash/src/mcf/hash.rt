@@ -75,8 +75,8 @@ impl PasswordHash {
             return Err(Error::EncodingInvalid);
         }
         let mut text = String::with_capacity(alloc, id.len().saturating_add(1))?;
-        text.push('$')?;
-        text.push_str(id)?;
+        text.push('$').unwrap();
+        text.push_str(id).unwrap();
         Ok(PasswordHash { text })
     }
 
@@ -96,8 +96,8 @@ impl PasswordHash {
         }
         // Room for both is reserved first, so that nothing is written if the allocation fails.
         self.text.reserve(field.len().saturating_add(1))?;
-        self.text.push('$')?;
-        self.text.push_str(field)?;
+        self.text.push('$').unwrap();
+        self.text.push_str(field).unwrap();
         Ok(())
     }
 
