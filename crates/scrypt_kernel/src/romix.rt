@@ -97,7 +97,6 @@ fn fill_and_walk<O: Order, M: Memory>(
 /// `b` has `128 * r` bytes with `r` at least 1, the table `v` has `32 * r * N` words, the scratch
 /// `t` has `64 * r` words, and `log_n` is at most 56. It does not matter what `v` and `t` hold
 /// before the call, and what they hold after it is unspecified.
-#[tactic(auto, using(crate::proofs::ChunkFacts::mixed_alone))]
 pub fn scrypt_ro_mix(b: &mut [u8], v: &mut [u32], t: &mut [u32], log_n: u8, cores: &mut CoreCount)
     requires lens { AreRoMixLens log_n (length b.old) (length v.old) (length t.old) }
     ensures value { b.new ≡ bytes_of (ro_mix (words_of b.old) log_n) }
@@ -114,7 +113,6 @@ pub fn scrypt_ro_mix(b: &mut [u8], v: &mut [u32], t: &mut [u32], log_n: u8, core
 /// `b` has `128 * r` bytes with `r` at least 1, the table `v` has `32 * r * 2^(log_n - s)` words,
 /// the scratch `t` has `96 * r` words, `log_n` is at most 56, and `s` at most `log_n`. It does not
 /// matter what `v` and `t` hold before the call, and what they hold after it is unspecified.
-#[tactic(auto, using(crate::proofs::ChunkFacts::mixed_alone))]
 pub fn thin_ro_mix(
     b: &mut [u8],
     v: &mut [u32],
@@ -136,7 +134,6 @@ pub fn thin_ro_mix(
 /// counted as a SIMD core.
 ///
 /// The lengths are those of [`scrypt_ro_mix`].
-#[tactic(auto, using(crate::proofs::ChunkFacts::mixed_alone))]
 pub fn plain_ro_mix(b: &mut [u8], v: &mut [u32], t: &mut [u32], log_n: u8, cores: &mut CoreCount)
     requires lens { AreRoMixLens log_n (length b.old) (length v.old) (length t.old) }
     ensures value { b.new ≡ bytes_of (ro_mix (words_of b.old) log_n) }

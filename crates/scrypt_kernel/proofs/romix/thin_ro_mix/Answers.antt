@@ -1,6 +1,9 @@
-use Rattle.std.proofs.Common.{◌/◌, length}
-use Rattle.scrypt_kernel.proofs.ChunkFacts.{counted_alone, only_chunk}
+use Rattle.std.proofs.Common.{◌/◌, length, arith}
+use Rattle.scrypt_kernel.proofs.ChunkFacts.{counted_alone, only_chunk, mixed_alone}
 use Rattle.scrypt_kernel.proofs.romix.thin_ro_mix.Goals as goal
+
+pub returns-clause-value : goal.returns-clause-value
+returns-clause-value c = grind (arith, mixed_alone)
 
 -- redundant, so that a wrong body is refused here at once
 pub returns-clause-counted : goal.returns-clause-counted

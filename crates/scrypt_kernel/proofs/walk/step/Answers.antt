@@ -1,9 +1,10 @@
-use Rattle.std.proofs.Common.{◌≡◌, ℕ, ◌/◌, ◌%◌, ◌^◌, take, drop, sym, ap, ap₂, ◌∙◌, arith}
+use Rattle.std.proofs.Common.{◌≡◌, ℕ, ◌/◌, ◌%◌, ◌^◌, take, drop, refl, sym, ap, ap₂, ◌∙◌, arith}
 use Rattle.std.proofs.lemmas.Nat.{mod_below, pow_pos}
 use Rattle.scrypt_kernel.specs.Words.{part}
 use Rattle.scrypt_kernel.specs.RoMix.{integerify}
 use Rattle.scrypt_kernel.specs.Diagonal.{permuted}
 use Rattle.scrypt_kernel.specs.KeptRows.{mix_of, mixed_in, place}
+use Rattle.scrypt_kernel.proofs.CountFacts.{counted_both, counted_none}
 use Rattle.scrypt_kernel.proofs.PartFacts.{length-part}
 use Rattle.scrypt_kernel.proofs.RoMixFacts.{part_of_row, row_zero_in}
 use Rattle.scrypt_kernel.proofs.WalkFacts.{all_kept, kept_place, missing_rows, some_missing}
@@ -39,6 +40,12 @@ returns-then-missing-eq0-clause-value g c k h =
     let row = row_zero_in p q g.met.O.Order.inverse low (omega (arith, long, lens.row.whole)) in
     c.mix.ensures.value k h ∙ ap₂ (mix_of p q) (c.of.ensures.parts k (omega (arith, h, c.count.ensures.value)))
     (taken ∙ row ∙ ap (λ i. mixed_in p q i low) (sym none))
+
+pub returns-then-missing-eq0-clause-counted : goal.returns-then-missing-eq0-clause-counted
+returns-then-missing-eq0-clause-counted g c =
+    let j_is = rw c.part.ensures.value at c.integerify-j.ensures.value in
+    let none = sym (missing_rows c.args.s _ _ (omega arith) j_is) ∙ c.if-missing-eq0.true in
+    counted_both _ (counted_none _ 0 _ refl) c.mix.ensures.counted (rw none (omega arith))
 
 pub part-kept-requires : goal.part-kept-requires
 part-kept-requires g c =
