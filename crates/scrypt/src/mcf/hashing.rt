@@ -10,6 +10,7 @@ ghost use Rattle.scrypt.specs.Hashing.{key_len_or_default};
 ghost use Rattle.scrypt.specs.McfHash.{HashIsRefused, IsMadeHash, IsMcfOrNone, made_key, made_text_len};
 ghost use Rattle.password_hash.specs.Refusal.{refusal};
 ghost use Rattle.scrypt.specs.InBuffers.{AreEnough, IsCopiedTo};
+ghost use Rattle.scrypt.specs.Mixing.{IsWidth};
 ghost use Rattle.scrypt.specs.WorkInBuffers.{IsDone, work_in};
 
 use crate::buffers::width_in;
@@ -82,15 +83,30 @@ fn hash_of(alloc: Global, password: &[u8], salt: &[u8], params: &Params) -> Resu
 {
     // The whole text is allocated before the buffers of the derivation.
     let mut text = vec![in alloc; 0u8; hash_len(params, salt)]?;
-    let out = text.as_mut_slice();
-    let letters = &mut out[PARAMS_LEN..PARAMS_LEN + Base64::Crypt.encoded_len(salt.len())];
-    encode(salt, letters);
-    let key = match key_allocating(alloc, password, letters, params) {
+    let key = match key_by_letters(alloc, password, salt, params, &mut text) {
         Ok(key) => key,
         Err(error) => return Err(error),
     };
-    write_text(out, params, salt, &key);
+    write_text(&mut text, params, salt, &key);
     Ok(hash_of_text(text))
+}
+
+// Derives the key of a hash. The letters of the salt are the salt of the derivation: they lie in `text` until it is written.
+#[tactic(auto, using(crate::proofs::McfTextFacts::key_fills))]
+fn key_by_letters(
+    alloc: Global,
+    password: &[u8],
+    salt: &[u8],
+    params: &Params,
+    text: &mut [u8],
+) -> Result<Output>
+    requires { encoded_len (length salt.now) ≤ length text.old }
+    ensures value { IfOk result (λ key. key ≡ made_key params.now password.now salt.now) }
+    ensures memory { IfErr result (λ e. e ≡ OutOfMemory) }
+{
+    let letters = &mut text[..Base64::Crypt.encoded_len(salt.len())];
+    encode(salt, letters);
+    key_allocating(alloc, password, letters, params)
 }
 
 /// Returns the length in bytes of the text that hashing with these parameters and this salt makes.
@@ -173,7 +189,7 @@ fn hash_of_text(text: Vec<u8>) -> PasswordHash
 /// [`StoredHash::verify_with_buffers`](crate::StoredHash::verify_with_buffers) does it.
 ///
 /// Returns `OutOfMemory` exactly if `text` or another buffer is too short, and then changes nothing.
-#[tactic(auto, using(crate::proofs::McfTextFacts::key_fills, crate::proofs::HashingFacts::errors))]
+#[tactic(auto, using(crate::proofs::HashingFacts::errors))]
 pub fn hash_with_buffers(
     password: &[u8],
     salt: &[u8],
@@ -204,12 +220,44 @@ pub fn hash_with_buffers(
     let Some(width) = width_in(params, params.p(), chunks, table, scratch) else {
         return Err(Error::OutOfMemory);
     };
-    let text = &mut text[..len];
-    let letters = &mut text[PARAMS_LEN..PARAMS_LEN + Base64::Crypt.encoded_len(salt.len())];
+    fill_with_hash(
+        password,
+        salt,
+        params,
+        width,
+        &mut text[..len],
+        chunks,
+        table,
+        scratch,
+        cores,
+    );
+    Ok(len)
+}
+
+// Hashes a password in buffers that are long enough, with `width` chunks at a time. The text fills `text`.
+#[tactic(auto, using(crate::proofs::McfTextFacts::key_fills))]
+fn fill_with_hash(
+    password: &[u8],
+    salt: &[u8],
+    params: &Params,
+    width: usize,
+    text: &mut [u8],
+    chunks: &mut [u8],
+    table: &mut [u32],
+    scratch: &mut [u32],
+    cores: &mut CoreCount,
+)
+    requires len { length text.old ≡ made_text_len params.now (length salt.now) }
+    requires width { IsWidth params.now.log_n params.now.r params.now.p width chunks.old table.old scratch.old }
+    ensures made { IsMadeHash params.now password.now salt.now text.new }
+    ensures ascii { IsAscii text.new }
+    ensures done { IsDone params.now
+        (work_in chunks.old table.old scratch.old cores.old) (work_in chunks.new table.new scratch.new cores.new) }
+{
+    let letters = &mut text[..Base64::Crypt.encoded_len(salt.len())];
     encode(salt, letters);
     let key = key_in_buffers(
         password, letters, params, width, chunks, table, scratch, cores,
     );
     write_text(text, params, salt, &key);
-    Ok(len)
 }
