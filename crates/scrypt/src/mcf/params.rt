@@ -1,8 +1,9 @@
 // Reading the parameters and the salt of a `$7$` text.
 
-ghost use Rattle.std.specs.Prelude.{◌≡◌, drop, Ok, Err, IfOk, IfErr};
+ghost use Rattle.std.specs.Prelude.{◌≡◌, ◌≤◌, drop, length, Ok, Err, IfOk, IfErr};
 ghost use Rattle.password_hash.specs.Refusal.{refusal};
 ghost use Rattle.scrypt.specs.McfParams.{field_params};
+ghost use Rattle.scrypt.specs.Reading.{told};
 
 use crate::Params;
 use crate::mcf::five_letters::decode64_uint32;
@@ -17,28 +18,36 @@ use password_hash::{Error, Result};
 /// `p` has fewer than five bytes or a byte outside the alphabet. Otherwise returns `ParamsInvalid`
 /// if [`Params::new`] does not accept the parameters. A first byte below 128 that is outside the
 /// alphabet reads as `log_n` 255, so the error is `ParamsInvalid`, not `EncodingInvalid`.
-#[tactic(auto, using(crate::proofs::McfParamsFacts::reading_field), unfolding(crate::specs::McfParams::field_params))]
 pub fn decode_params_and_salt(text: &str) -> Result<(Params, &[u8])>
     ensures params { IfOk result (λ read. field_params text.now ≡ Ok read.0) }
     ensures salt { IfOk result (λ read. read.1.now ≡ drop 11 text.now) }
     ensures err { IfErr result (λ e. field_params text.now ≡ Err (refusal e)) }
 {
     let bytes = text.as_bytes();
-    let Some(first) = bytes.first() else {
+    match decode_params(bytes) {
+        Ok(params) => Ok((params, &bytes[11..])),
+        Err(error) => Err(error),
+    }
+}
+
+// Reads the parameters from the first eleven bytes.
+#[tactic(auto, using(crate::proofs::McfParamsFacts::reading_field), unfolding(crate::specs::McfParams::field_params))]
+fn decode_params(letters: &[u8]) -> Result<Params>
+    ensures value { told result ≡ field_params letters.now }
+    ensures long { IfOk result (λ params. 11 ≤ length letters.now) }
+{
+    let Some(first) = letters.first() else {
         return Err(Error::EncodingInvalid);
     };
     if !first.is_ascii() {
         return Err(Error::EncodingInvalid);
     }
     let log_n = value(*first).unwrap_or(255);
-    let Ok(r) = decode64_uint32(&bytes[1..]) else {
+    let Ok(r) = decode64_uint32(&letters[1..]) else {
         return Err(Error::EncodingInvalid);
     };
-    let Ok(p) = decode64_uint32(&bytes[6..]) else {
+    let Ok(p) = decode64_uint32(&letters[6..]) else {
         return Err(Error::EncodingInvalid);
     };
-    match Params::of_text(log_n, r, p) {
-        Ok(params) => Ok((params, &bytes[11..])),
-        Err(error) => Err(error),
-    }
+    Params::of_text(log_n, r, p)
 }
