@@ -1,3 +1,4 @@
+use Rattle.std.proofs.Common.{rules}
 use Rattle.scrypt.specs.Logins.{Both}
 use Rattle.scrypt.specs.WorkInBuffers.{work_in}
 use Rattle.scrypt.proofs.LoginFacts.{alike, alone, left_at_once}
@@ -25,3 +26,7 @@ returns-in-None-clause-verdicts g c =
       alike (g.B.Keys.logins c.args.self.now.1) (g.B.Keys.told c.verify-in-None.result) between before c.verify.auto.chunks
           c.verify.auto.table c.verify.auto.scratch c.verify-in-None.ensures.verdicts,
     )
+
+-- the search finds this too: it is here so that a body that counts elsewhere is refused by this goal
+pub returns-in-None-clause-left : goal.returns-in-None-clause-left
+returns-in-None-clause-left g c = search rules
