@@ -9,3 +9,7 @@ returns-clause-alone c =
     let half : c.copy_from_slice.new.self ≡ take 32 (key_by params c.args.password.now header.salt 64) = search rules in
     let whole = c.shorter_key_is_prefix.ensures.prefix c.args.password.now header.salt params.log_n params.r params.p 32 64 in
     half ∙ sym (whole (omega arith))
+
+-- the search finds this too: it is here so that a body that copies another half is refused by this goal
+pub returns-clause-authentication : goal.returns-clause-authentication
+returns-clause-authentication c = search rules
