@@ -4,6 +4,7 @@ ghost use Rattle.std.specs.Prelude.{◌≡◌, ◌≢◌, ◌⊎◌, ◌↔◌, 
 ghost use Rattle.scrypt.specs.Accepted.{AreAccepted, IsOutputLen};
 ghost use Rattle.scrypt.specs.InBuffers.{AreEnough};
 ghost use Rattle.scrypt.specs.Key.{derived_key};
+ghost use Rattle.scrypt.specs.WorkInBuffers.{AreUsed};
 ghost use Rattle.scrypt_c.specs.Buffers.{AreBuffers, IsSpacing};
 ghost use Rattle.scrypt_c.specs.InBuffers.{IsRestKept, buffers};
 ghost use Rattle.scrypt_c.specs.Limits.{params_of};
@@ -118,16 +119,36 @@ pub extern "C" fn scrypt_kdf_with_buffers(
     let Some(used) = used_lens(&params, chunks, table, scratch) else {
         return BUFFER_SIZE;
     };
+    derive_at_front(
+        password, salt, &params, &used, output, chunks, table, scratch,
+    );
+    OK
+}
+
+// Derives a key in the front of each buffer, as much as is used.
+fn derive_at_front(
+    password: &[u8],
+    salt: &[u8],
+    params: &Params,
+    used: &BufferLens,
+    output: &mut [u8],
+    chunks: &mut [u8],
+    table: &mut [u32],
+    scratch: &mut [u32],
+)
+    requires length { IsOutputLen (length output.old) }
+    requires used { AreUsed params.now used.now chunks.old table.old scratch.old }
+    ensures value { output.new ≡ derived_key password.now salt.now params.now.log_n params.now.r params.now.p (length output.old) }
+    ensures rest { IsRestKept params.now (buffers chunks.old table.old scratch.old) (buffers chunks.new table.new scratch.new) }
+{
     let chunks = &mut chunks[..used.chunks];
     let table = &mut table[..used.table];
     let scratch = &mut scratch[..used.scratch];
     let mut cores = CoreCount::new();
     let derived = scrypt_with_buffers(
-        password, salt, &params, chunks, table, scratch, output, &mut cores,
+        password, salt, params, chunks, table, scratch, output, &mut cores,
     );
-    // The length of the output was checked above.
     derived.unwrap();
-    OK
 }
 
 /// Does what `scrypt_kdf_with_buffers` does, with a table that keeps one row in `2^s`: it has `2^s` times

@@ -1,17 +1,5 @@
-use Rattle.std.proofs.Common.{rules, drop, ap, ◌∙◌}
-use Rattle.std.proofs.lemmas.List.{drop_at}
+use Rattle.std.proofs.Common.{rules}
 use Rattle.scrypt_c.proofs.keys.scrypt_kdf_with_buffers.Goals as goal
-
-pub returns-clause-value : goal.returns-clause-value
-returns-clause-value c = search rules
-
--- the search finds this too: it is here so that a body that writes after what is used is refused by this goal
-pub returns-clause-rest : goal.returns-clause-rest
-returns-clause-rest c = λ ok. record {
-  chunks = drop_at c.scrypt_with_buffers-derived.new.chunks _ _ (search rules) ∙ ap (λ n. drop n c.args.chunks.now) (search rules);
-  table = drop_at c.scrypt_with_buffers-derived.new.table _ _ (search rules) ∙ ap (λ n. drop n c.args.table.now) (search rules);
-  scratch = drop_at c.scrypt_with_buffers-derived.new.scratch _ _ (search rules) ∙ ap (λ n. drop n c.args.scratch.now) (search rules);
-}
 
 pub returns-in_default-used_lens-clause-status : goal.returns-in_default-used_lens-clause-status
 returns-in_default-used_lens-clause-status c = record {
