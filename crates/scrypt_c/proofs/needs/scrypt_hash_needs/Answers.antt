@@ -23,3 +23,7 @@ returns-in-Ok-params_and_key_len_within-clause-lens c =
     rw c.in-Ok.ensures.reading (of_read (within limits (reading c.in-Ok.hash)) (read.params, read.len)
     (λ c. AreBuffers c.log_n c.r c.p 0 lens.chunks lens.table lens.scratch) read.ensures.value
     (record { chunks_are = search rules; table_is = search rules; scratch_is = search rules }))
+
+-- the search finds this too: it is here so that a body that takes a refused hash is refused by this goal
+pub returns-in-Err-params_and_key_len_within-clause-status : goal.returns-in-Err-params_and_key_len_within-clause-status
+returns-in-Err-params_and_key_len_within-clause-status c = search rules
