@@ -1,5 +1,5 @@
 -- Why a run ends without an answer: each error has a status and a line.
-use Rattle.std.specs.Prelude.{ℕ, ◌++◌, bytes_eq, if◌then◌else◌, List, codes, decimal, Option, Some, None}
+use Rattle.std.specs.Prelude.{ℕ, ◌++◌, bytes_eq, if◌then◌else◌, List, [], codes, decimal, Option, Some, None}
 use Rattle.password_hash.specs.Refusal.{Refusal}
 use Rattle.password_hash.specs.Refusal as refusals
 use Rattle.scrypt.specs.declared.limits.Limits.{Limits}
@@ -16,29 +16,36 @@ status_of InputFailed = 4
 status_of OutputFailed = 4
 status_of refused = 2
 
--- the line of an error, with its newline: that of a refused hash has the name of the library's error, and of its parameter
-abbrev pub error_line : CliError → List ℕ
-error_line Usage =
+-- The line of an error that has no numbers, with its newline: that of a refused hash has the name of the library's error, and of
+-- its parameter.
+abbrev pub fixed_line : CliError → List ℕ
+fixed_line Usage =
     codes "usage: key LOG_N R P LEN SALT_HEX | hash phc|mcf LOG_N R P SALT_HEX [LEN] | verify HASH | rehash phc|mcf LOG_N R P LEN SALT_HEX HASH\n"
-error_line SaltNotHex = codes "salt is not hexadecimal\n"
-error_line InvalidParams = codes "invalid scrypt parameters\n"
-error_line InvalidOutputLen = codes "invalid output buffer length\n"
-error_line Algorithm = codes "hash refused: Algorithm\n"
-error_line EncodingInvalid = codes "hash refused: EncodingInvalid\n"
-error_line OutputSize = codes "hash refused: OutputSize\n"
-error_line LnInvalid = codes "hash refused: ParamInvalid ln\n"
-error_line RInvalid = codes "hash refused: ParamInvalid r\n"
-error_line PInvalid = codes "hash refused: ParamInvalid p\n"
-error_line ParamsInvalid = codes "hash refused: ParamsInvalid\n"
-error_line SaltInvalid = codes "hash refused: SaltInvalid\n"
-error_line Version = codes "hash refused: Version\n"
+fixed_line SaltNotHex = codes "salt is not hexadecimal\n"
+fixed_line InvalidParams = codes "invalid scrypt parameters\n"
+fixed_line InvalidOutputLen = codes "invalid output buffer length\n"
+fixed_line Algorithm = codes "hash refused: Algorithm\n"
+fixed_line EncodingInvalid = codes "hash refused: EncodingInvalid\n"
+fixed_line OutputSize = codes "hash refused: OutputSize\n"
+fixed_line LnInvalid = codes "hash refused: ParamInvalid ln\n"
+fixed_line RInvalid = codes "hash refused: ParamInvalid r\n"
+fixed_line PInvalid = codes "hash refused: ParamInvalid p\n"
+fixed_line ParamsInvalid = codes "hash refused: ParamsInvalid\n"
+fixed_line SaltInvalid = codes "hash refused: SaltInvalid\n"
+fixed_line Version = codes "hash refused: Version\n"
+fixed_line OutOfMemory = codes "out of memory\n"
+fixed_line InputFailed = codes "input failed\n"
+fixed_line OutputFailed = codes "output failed\n"
+fixed_line (TooCostly bytes work limits) = []
+fixed_line (KeyTooShort key_len limits) = []
+
+-- the line of an error, with its newline
+abbrev pub error_line : CliError → List ℕ
 error_line (TooCostly bytes work limits) = codes "hash refused: TooCostly, it needs " ++ decimal bytes ++ codes " bytes and work " ++ decimal work
     ++ codes ", and --most-bytes is " ++ decimal limits.most_bytes ++ codes " and --most-work " ++ decimal limits.most_work ++ codes "\n"
 error_line (KeyTooShort key_len limits) = codes "hash refused: KeyTooShort, its key has " ++ decimal key_len
     ++ codes " bytes, and --least-key-len is " ++ decimal limits.least_key_len ++ codes "\n"
-error_line OutOfMemory = codes "out of memory\n"
-error_line InputFailed = codes "input failed\n"
-error_line OutputFailed = codes "output failed\n"
+error_line error = fixed_line error
 
 -- the error of a refused parameter: those of a hash are `ln`, `r` and `p`
 abbrev pub param_error : List ℕ → CliError

@@ -4,7 +4,7 @@ ghost use Rattle.std.specs.Prelude.{◌≡◌, OnOk};
 ghost use Rattle.std.specs.Io.KnownBytes.{Appends};
 ghost use Rattle.password_hash.specs.Refusal.{refusal};
 ghost use Rattle.scrypt.specs.WithinLimits.{limited_refusal};
-ghost use Rattle.scrypt_commands.specs.CliError.{error_line, error_of, limited_error_of, status_of};
+ghost use Rattle.scrypt_commands.specs.CliError.{error_line, error_of, fixed_line, limited_error_of, status_of};
 ghost use Rattle.scrypt_commands.specs.Steps.{derive_error};
 ghost use Rattle.scrypt_commands.specs.declared.error.CliError.TheVariants.{InvalidParams as BadParams, KeyTooShort, OutOfMemory, TooCostly};
 
@@ -131,22 +131,32 @@ impl CliError {
                 limits,
             } => write_too_costly(faults, bytes, work, limits),
             CliError::KeyTooShort { key_len, limits } => write_too_short(faults, key_len, limits),
-            CliError::Usage => faults.write_all(USAGE),
-            CliError::SaltNotHex => faults.write_all(b"salt is not hexadecimal\n"),
-            CliError::InvalidParams => faults.write_all(b"invalid scrypt parameters\n"),
-            CliError::InvalidOutputLen => faults.write_all(b"invalid output buffer length\n"),
-            CliError::Algorithm => faults.write_all(b"hash refused: Algorithm\n"),
-            CliError::EncodingInvalid => faults.write_all(b"hash refused: EncodingInvalid\n"),
-            CliError::OutputSize => faults.write_all(b"hash refused: OutputSize\n"),
-            CliError::LnInvalid => faults.write_all(b"hash refused: ParamInvalid ln\n"),
-            CliError::RInvalid => faults.write_all(b"hash refused: ParamInvalid r\n"),
-            CliError::PInvalid => faults.write_all(b"hash refused: ParamInvalid p\n"),
-            CliError::ParamsInvalid => faults.write_all(b"hash refused: ParamsInvalid\n"),
-            CliError::SaltInvalid => faults.write_all(b"hash refused: SaltInvalid\n"),
-            CliError::Version => faults.write_all(b"hash refused: Version\n"),
-            CliError::OutOfMemory => faults.write_all(b"out of memory\n"),
-            CliError::InputFailed => faults.write_all(b"input failed\n"),
-            CliError::OutputFailed => faults.write_all(b"output failed\n"),
+            _ => faults.write_all(self.fixed_line()),
+        }
+    }
+
+    // Returns the error line, with its newline, or no bytes if it has numbers.
+    fn fixed_line(self) -> &'static [u8]
+        ensures { result.now ≡ fixed_line self }
+    {
+        match self {
+            CliError::Usage => USAGE,
+            CliError::SaltNotHex => b"salt is not hexadecimal\n",
+            CliError::InvalidParams => b"invalid scrypt parameters\n",
+            CliError::InvalidOutputLen => b"invalid output buffer length\n",
+            CliError::Algorithm => b"hash refused: Algorithm\n",
+            CliError::EncodingInvalid => b"hash refused: EncodingInvalid\n",
+            CliError::OutputSize => b"hash refused: OutputSize\n",
+            CliError::LnInvalid => b"hash refused: ParamInvalid ln\n",
+            CliError::RInvalid => b"hash refused: ParamInvalid r\n",
+            CliError::PInvalid => b"hash refused: ParamInvalid p\n",
+            CliError::ParamsInvalid => b"hash refused: ParamsInvalid\n",
+            CliError::SaltInvalid => b"hash refused: SaltInvalid\n",
+            CliError::Version => b"hash refused: Version\n",
+            CliError::OutOfMemory => b"out of memory\n",
+            CliError::InputFailed => b"input failed\n",
+            CliError::OutputFailed => b"output failed\n",
+            CliError::TooCostly { .. } | CliError::KeyTooShort { .. } => b"",
         }
     }
 }
