@@ -1,5 +1,5 @@
 -- Making hashes, carrying out a command, and the outcome of a run.
-use Rattle.std.proofs.Common.{◌≡◌, ◌⊎◌, ℕ, true, List, [], Option, Some, None, Ok, Err, inl, inr, length}
+use Rattle.std.proofs.Common.{◌≡◌, ◌⊎◌, ℕ, true, List, [], Option, Some, None, Ok, Err, inl, inr, length, false}
 use Rattle.std.proofs.Common.{◌∙◌, refl, sym, append-nil, arith}
 use Rattle.std.specs.Prelude.{IfSome, Result}
 use Rattle.std.specs.Bool.{Decides}
@@ -9,12 +9,14 @@ use Rattle.password_hash.specs.Refusal.{Refusal}
 use Rattle.password_hash.specs.declared.phc.hash.PasswordHash.{PasswordHash}
 use Rattle.scrypt.specs.Accepted.{Parameters}
 use Rattle.scrypt.specs.Hashing.{by_algorithm, by_memory, by_salt, by_version}
+use Rattle.scrypt.specs.Reading.{IsVerdict, Stored, verdict}
+use Rattle.scrypt.specs.declared.limits.Limits.{Limits}
 use Rattle.scrypt.specs.PhcHash.{HashIsRefused, IsMadeHash, IsSaltLen}
 use Rattle.std.proofs.lemmas.Bool.{false_from_ne_true}
 use Rattle.std.proofs.lemmas.Bool.Decides.{nat_tests}
-use Rattle.scrypt_commands.specs.CliError.{error_line, error_of, status_of}
+use Rattle.scrypt_commands.specs.CliError.{error_line, error_of, limited_error_of, status_of}
 use Rattle.scrypt_commands.specs.Args.{request_by}
-use Rattle.scrypt_commands.specs.Outcome.{Reply, is_salt_len, new_hash, outcome, phc_text, reply_by}
+use Rattle.scrypt_commands.specs.Outcome.{Reply, is_salt_len, new_hash, outcome, phc_text, reply_by, right_of}
 use Rattle.scrypt_commands.specs.Run.{HasOutcome, OnInput, Streams}
 use Rattle.scrypt_commands.specs.Steps.{AppendsReply, FailsWith}
 use Rattle.scrypt_commands.specs.declared.args.Format.TheVariants.{Phc}
@@ -43,6 +45,13 @@ phc_refused c password salt error why (by_memory h i j) is = inl cc
 phc_refused c password salt error why (by_salt h i none) is =
     let same : SaltInvalid ≡ error = cc in
     rw (← same) (inr (refl, rw (false_from_ne_true _ (λ fits. none ((salt_len_decided (length salt)).0 fits))) refl))
+
+-- a password is wrong if verifying reports a refusal that has no error
+pub wrong_password : (limits : Option Limits) (password : List ℕ) (stored : Result Stored Refusal) (why : Refusal)
+    → IsVerdict password stored (Err why) → limited_error_of limits why ≡ None → right_of limits (verdict password stored) ≡ Ok false
+wrong_password limits password stored why (inl is) none = rw (← is, none) refl
+wrong_password None password stored why (inr (_, failed)) none = absurd cc
+wrong_password (Some limits) password stored why (inr (_, failed)) none = absurd cc
 
 -- what holds of every input holds of that of a reader
 pub on_any_input : (known : Option (List ℕ)) (P : List ℕ → Type 0) → ((input : List ℕ) → P input) → OnInput known P

@@ -3,12 +3,8 @@ use Rattle.scrypt_commands.specs.Args.{args_of}
 use Rattle.scrypt_commands.proofs.ArgsFacts.{other}
 use Rattle.scrypt_commands.proofs.args.Args.parse.Goals as goal
 
-pub returns-in_ok-parse_hash-in-hash : goal.returns-in_ok-parse_hash-in-hash
-unfolding args_of
-returns-in_ok-parse_hash-in-hash c = record {
-  value = rw (← c.first_word.ensures.first, c.in_ok-name.was, c.in-hash.is, ← c.parse_hash.ensures, c.in_ok-parse_hash-in-hash.was) refl;
-}
-
+-- The search finds these too: they are here so that a body that ignores words, or takes another name for a command, is refused by
+-- these goals.
 pub returns-in-rehash : goal.returns-in-rehash
 unfolding args_of
 returns-in-rehash c = record {
