@@ -29,11 +29,8 @@ fn main(rt: HostRuntime) -> ExitCode {
         let _ = errors.write_all(b"the arguments can't be read\n");
         return ExitCode::from(3);
     };
-    if needs_hash(&args) {
-        if let Err(error) = add_hash(&rt, &mut args) {
-            let _ = eprintln!(rt; "{}: {error}", file_of(&args));
-            return ExitCode::from(status_of(&error));
-        }
+    if let Err(status) = complete(&rt, &mut args) {
+        return ExitCode::from(status);
     }
     let ended = run_with_options(
         rt.alloc(),
@@ -53,6 +50,18 @@ fn main(rt: HostRuntime) -> ExitCode {
 // The arguments after the program's name.
 fn arguments(rt: &HostRuntime) -> io::Result<Vec<String>> {
     Ok(env::args(rt)?.skip(1).collect(rt.alloc())?)
+}
+
+// Adds the hash if the options name its file. If that can't be read, prints why and returns the status.
+fn complete(rt: &HostRuntime, args: &mut Vec<String>) -> Result<(), u8> {
+    if !needs_hash(args) {
+        return Ok(());
+    }
+    let Err(error) = add_hash(rt, args) else {
+        return Ok(());
+    };
+    let _ = eprintln!(rt; "{}: {error}", file_of(args));
+    Err(status_of(&error))
 }
 
 // The file that the options name, the last one if they name several.
