@@ -15,6 +15,9 @@ import (
 // sliceMs is how long a call waits in C before it looks at its context: milliseconds.
 const sliceMs = 50
 
+// mostInside is how many goroutines may wait in C, whatever the options are: Go ends a program that has 10,000 threads.
+const mostInside = 4096
+
 // Options are the options of a Hasher. For an option that is zero, and for each zero field of Params, the default is used
 // that its comment names.
 type Options struct {
@@ -83,6 +86,9 @@ func NewHasher(options Options) (*Hasher, error) {
 	derive := C.scrypt_hasher_options(of.c).processors
 	if atOnce := C.scrypt_hasher_options(of.c).at_once; atOnce < derive {
 		derive = atOnce
+	}
+	if derive > mostInside/8 {
+		derive = mostInside / 8
 	}
 	of.inside = make(chan struct{}, 8*derive)
 	runtime.SetFinalizer(of, func(of *hasher) { C.scrypt_hasher_free(of.c) })

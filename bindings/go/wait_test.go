@@ -3,6 +3,7 @@ package scrypt
 import (
 	"context"
 	"io"
+	"math"
 	"math/rand"
 	"runtime"
 	"sync"
@@ -118,6 +119,16 @@ func TestAtAnyTime(t *testing.T) {
 	all.Wait()
 	if left, most := len(hasher.of.inside), cap(hasher.of.inside); left != 0 || most != 16 {
 		t.Errorf("%d are still inside, of at most %d", left, most)
+	}
+}
+
+// Options that mean no bound: neither do they overflow, nor may a goroutine never wait in C, nor too many.
+func TestManyProcessors(t *testing.T) {
+	for _, n := range []int{511, 512, 513, 1 << 60, 1 << 61, math.MaxInt64} {
+		want := map[bool]int{true: 4088, false: 4096}[n == 511]
+		if got := cap(newHasher(t, Options{Params: small(), Processors: n, AtOnce: n}).of.inside); got != want {
+			t.Errorf("with %d processors %d goroutines may wait in C", n, got)
+		}
 	}
 }
 
