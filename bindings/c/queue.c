@@ -6,11 +6,12 @@
  *   state     its thread                        what ends it                                 next
  *   -------   -------------------------------   ------------------------------------------   -----------------
  *   (begun)   enters                            enter                                        WAITS, LEADS, OVER
- *   WAITS     sleeps; the call is in the line   give, gather, its time or a signal, close    LEADS, FOLLOWS, OVER
+ *   WAITS     sleeps; the call is in the line   give, gather, its time or a signal, dismiss  LEADS, FOLLOWS, OVER
  *   FOLLOWS   sleeps; another call's group      finish, of the call that leads it            OVER
  *   LEADS     derives, without the lock         finish                                       OVER
  *
- * 1. If a call is in the line, every turn is taken: enter and finish give a free turn to the first of the line at once.
+ * 1. If a call is in the line, every turn is taken: enter and finish give a free turn to the first of the line at once. In a
+ *    closed hasher nobody is given one; each call that ends dismisses the first of the line.
  * 2. The line is in the order of places. Only the first is given a turn; only what is like the one that leads passes others.
  * 3. A status is an error until a proved call has returned. Then it is in the stack of the thread that derived, and goes to
  *    the calls of its group with the state OVER.
@@ -191,7 +192,7 @@ static size_t gather(struct queue *queue, struct call **group, size_t most) {
 /* Ends a group, and gives its turn to the first of the line. */
 static void finish(scrypt_hasher *hasher, struct call **group, const int *statuses, size_t count) {
   struct queue *queue = hasher->queue;
-  struct call *next = queue->first[0];
+  struct call *next = hasher->is_closed ? NULL : queue->first[0];
   size_t turn = group[0]->turn, i;
   if (!hasher->is_closed) queue->turn[turn].tables = take(&group[0]->tables);
   queue->turn[turn].is_taken = 0;
@@ -199,6 +200,15 @@ static void finish(scrypt_hasher *hasher, struct call **group, const int *status
   if (next == NULL) return;
   leave(queue, next);
   give(queue, turn, next);
+}
+
+/* In a closed hasher, ends the first of the line. So each one that ends wakes the next, and close doesn't wake all of them
+ * with the lock, for which they would then wait all at once: the system finds a thread to wake in the time of their number. */
+static void dismiss(scrypt_hasher *hasher) {
+  struct call *first = hasher->queue->first[0];
+  if (!hasher->is_closed || first == NULL) return;
+  leave(hasher->queue, first);
+  end(first, SCRYPT_CLOSED);
 }
 
 /* ---- A call, in its thread: with the lock, which is given back meanwhile ---- */
@@ -215,9 +225,10 @@ static void await(scrypt_hasher *hasher, struct call *call, int64_t most_ms, int
   int is_interrupted = 0;
   while (call->state == WAITS || call->state == FOLLOWS) {
     if (most_ms >= 0) left = most_ms - (now_ms() - begun);
-    if (call->state == WAITS && (left <= 0 || (is_interrupted && is_sliced))) {
+    /* One that is closed doesn't depend on those before it, whose threads may be in signal handlers. */
+    if (call->state == WAITS && (hasher->is_closed || left <= 0 || (is_interrupted && is_sliced))) {
       leave(hasher->queue, call);
-      end(call, SCRYPT_TIMEOUT);
+      end(call, hasher->is_closed ? SCRYPT_CLOSED : SCRYPT_TIMEOUT);
       return;
     }
     /* Who follows has no bound any more. */
@@ -238,7 +249,7 @@ static void lead(scrypt_hasher *hasher, struct call *call) {
   /* Threads that are ready to run can be in the group: those that have just been woken, say. It waits for none. */
   if (most > 1) (void)sched_yield();
   lock(hasher);
-  if (!is_of_parent(hasher, call)) count = gather(hasher->queue, group, most);
+  if (!hasher->is_closed && !is_of_parent(hasher, call)) count = gather(hasher->queue, group, most);
   unlock(hasher);
   if (width > 0) {
     struct buffers of = tables_buffers(&call->tables, &call->needs, width < count * p ? width : count * p, count);
@@ -254,6 +265,7 @@ int queue_run(scrypt_hasher *hasher, struct call *call, int64_t most_ms, uint64_
   enter(hasher, call, place != NULL ? *place : 0);
   await(hasher, call, most_ms, place != NULL);
   if (call->state == LEADS) lead(hasher, call);
+  dismiss(hasher);
   if (!is_of_parent(hasher, call) && --hasher->queue->calls == 0) wake(&hasher->queue->calls);
   unlock(hasher);
   tables_free(&call->tables); /* which nobody keeps */
@@ -274,15 +286,11 @@ int queue_new(scrypt_hasher *hasher) {
 }
 
 void scrypt_hasher_close(scrypt_hasher *hasher) {
-  struct call *first;
   size_t turn;
   if (hasher == NULL) return;
   lock(hasher);
   hasher->is_closed = 1;
-  while ((first = hasher->queue->first[0]) != NULL) {
-    leave(hasher->queue, first);
-    end(first, SCRYPT_CLOSED);
-  }
+  dismiss(hasher);
   unlock(hasher);
   for (turn = 0; turn < hasher->turns; turn++) {
     struct tables unused;

@@ -275,8 +275,18 @@ static void many_waits(void) {
     if (i % 2 == 0) enter(hasher, it, it->place | 1); /* which another one has too */
   }
   for (it = hasher->queue->first[0]; it->next[0] != NULL; it = it->next[0]) IS(is_before(it, it->next[0]), 1);
-  for (uint64_t i = 0; i < n; i += 2) leave(hasher->queue, &all[1 + i * 7919 % n]);
-  expect(hasher->queue->first[0] == NULL, "somebody stays in the line");
+  unlock(hasher);
+  WRITE(wakes, 0);
+  scrypt_hasher_close(hasher);
+  IS(READ(wakes), 1); /* not all at once: this one wakes the next */
+  lock(hasher);
+  finish(hasher, (struct call *[]){&all[0]}, (int[]){SCRYPT_OK}, 1);
+  for (uint64_t i = 2; (it = hasher->queue->first[0]) != NULL; i += 2) {
+    IS(it->state, WAITS); /* nobody is given a turn */
+    dismiss(hasher);
+    IS(it->status, SCRYPT_CLOSED);
+    expect(i < n, "one more than there are");
+  }
   unlock(hasher);
   expect(clock() - begun_at < 10 * CLOCKS_PER_SEC, "not linear");
   memset(hasher->queue, 0, sizeof *hasher->queue);

@@ -112,11 +112,12 @@ void watched(const scrypt_hasher *hasher, struct call **group, size_t count, int
 }
 
 /* No handler runs with the lock, in which threads are woken. If it is set, forks just before a call sleeps. */
-static int forks_before_sleep;
+static int forks_before_sleep, wakes;
 static void fork_in_handler(int number);
 static void before_syscall(int operation, const struct timespec *time) {
   sigset_t blocked;
   (void)sigprocmask(SIG_BLOCK, NULL, &blocked);
+  if (operation == FUTEX_WAKE_PRIVATE) (void)ADD(wakes, 1);
   expect((operation == FUTEX_WAKE_PRIVATE) == sigismember(&blocked, SIGTERM), "signals with the lock, or none without");
   expect(time == NULL || time->tv_sec > 0 || time->tv_nsec > 0, "a thread spins in place of sleeping");
   if (time != NULL && READ(forks_before_sleep)) WRITE(forks_before_sleep, 0), fork_in_handler(0);
