@@ -10,8 +10,8 @@
  *   FOLLOWS   sleeps; another call's group      finish, of the call that leads it            OVER
  *   LEADS     derives, without the lock         finish                                       OVER
  *
- * 1. If a call is in the line, every turn is taken: enter and finish give a free turn to the first of the line at once. In a
- *    closed hasher nobody is given one; each call that ends dismisses the first of the line.
+ * 1. If a call is in the line, every turn is taken: enter and finish give a free turn to the first of the line at once.
+ *    In a closed hasher nobody is given one; each call that ends dismisses the first of the line.
  * 2. The line is in the order of places. Only the first is given a turn; only what is like the one that leads passes others.
  * 3. A status is an error until a proved call has returned. Then it is in the stack of the thread that derived, and goes to
  *    the calls of its group with the state OVER.
@@ -38,7 +38,7 @@
 #define MOST_TURNS 8192 /* as many processors as Linux can have */
 #define CHILD_MS 1000   /* how often a thread that sleeps looks whether it is in a child, if no signal woke it there */
 
-enum { WAITS, FOLLOWS, LEADS, OVER };
+enum { BEGUN, WAITS, FOLLOWS, LEADS, OVER };
 
 /* Zeros are the beginning, also for the lock: PTHREAD_MUTEX_INITIALIZER is zeros in the C libraries of Linux. */
 struct queue {
@@ -130,10 +130,16 @@ static void leave(struct queue *queue, struct call *call) {
 
 /* ---- The states of calls: with the lock ---- */
 
+/* The system finds a thread in the time of those that sleep: so nobody wakes itself. */
+static void go_on(struct call *call, uint32_t state) {
+  int is_asleep = call->state == WAITS || call->state == FOLLOWS;
+  call->state = state;
+  if (is_asleep) wake(&call->state);
+}
+
 static void end(struct call *call, int status) {
   call->status = status;
-  call->state = OVER;
-  wake(&call->state);
+  go_on(call, OVER);
 }
 
 /* How many tables a turn has: the last ones have one more if they can't have the same. */
@@ -154,8 +160,7 @@ static void give(struct queue *queue, size_t turn, struct call *call) {
   queue->turn[turn].is_taken = 1;
   call->turn = turn;
   call->tables = take(&queue->turn[turn].tables);
-  call->state = LEADS;
-  wake(&call->state);
+  go_on(call, LEADS);
 }
 
 static void enter(scrypt_hasher *hasher, struct call *call, uint64_t place) {
@@ -164,6 +169,7 @@ static void enter(scrypt_hasher *hasher, struct call *call, uint64_t place) {
   call->epoch = queue->epoch;
   call->place = place == 0 || place > queue->places ? ++queue->places : place;
   call->status = SCRYPT_CANCELLED;
+  call->state = BEGUN;
   queue->calls++;
   /* From the first, which are the narrowest and have been used most. */
   while (turn < hasher->turns && queue->turn[turn].is_taken) turn++;
@@ -228,6 +234,7 @@ static void await(scrypt_hasher *hasher, struct call *call, int64_t most_ms, int
     /* One that is closed doesn't depend on those before it, whose threads may be in signal handlers. */
     if (call->state == WAITS && (hasher->is_closed || left <= 0 || (is_interrupted && is_sliced))) {
       leave(hasher->queue, call);
+      call->state = BEGUN; /* it doesn't sleep */
       end(call, hasher->is_closed ? SCRYPT_CLOSED : SCRYPT_TIMEOUT);
       return;
     }
@@ -266,7 +273,8 @@ int queue_run(scrypt_hasher *hasher, struct call *call, int64_t most_ms, uint64_
   await(hasher, call, most_ms, place != NULL);
   if (call->state == LEADS) lead(hasher, call);
   dismiss(hasher);
-  if (!is_of_parent(hasher, call) && --hasher->queue->calls == 0) wake(&hasher->queue->calls);
+  if (!is_of_parent(hasher, call) && --hasher->queue->calls == 0 && hasher->is_closed)
+    wake(&hasher->queue->calls); /* scrypt_hasher_free */
   unlock(hasher);
   tables_free(&call->tables); /* which nobody keeps */
   if (place != NULL) *place = call->status == SCRYPT_TIMEOUT ? call->place : 0;

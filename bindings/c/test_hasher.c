@@ -242,6 +242,14 @@ static void calls(void) {
   IS(scrypt_hasher_key(hasher, "pw", 2, "salt", 4, key, 0, -1, NULL), SCRYPT_INVALID_OUTPUT_LEN);
   IS(scrypt_hasher_key(of_mcf, "pw", 2, NULL, 0, key, 32, -1, NULL), SCRYPT_OK);
   for (size_t i = 4 * of_mcf->needs.table_len; i < kept->used; i++) expect(kept->front[i] == 0, "byte %zu is kept", i);
+  WRITE(wakes, 0);
+  IS(verify(hasher, good, "right", -1), SCRYPT_OK);
+  lock(hasher);
+  hasher->queue->turn[0].is_taken = 1;
+  unlock(hasher);
+  IS(verify(hasher, good, "right", 2), SCRYPT_TIMEOUT);
+  hasher->queue->turn[0].is_taken = 0;
+  IS(READ(wakes), 0); /* nobody sleeps */
   scrypt_hasher_close(hasher);
   expect(look_at(hasher).is_idle, "closed");
   IS(verify(hasher, "", "", -1), SCRYPT_ENCODING_INVALID); /* the errors of the text come first */
