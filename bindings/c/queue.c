@@ -240,7 +240,10 @@ static void await(scrypt_hasher *hasher, struct call *call, int64_t most_ms, int
     }
     /* Who follows has no bound any more. */
     is_interrupted = sleep_while(hasher, &call->state, call->state, left > 0 && left < CHILD_MS ? left : CHILD_MS);
-    if (is_of_parent(hasher, call)) end(call, SCRYPT_CANCELLED);
+    if (is_of_parent(hasher, call)) {
+      call->tables = (struct tables){0}; /* a thread of the parent may have been giving it some */
+      end(call, SCRYPT_CANCELLED);
+    }
   }
 }
 
