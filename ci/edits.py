@@ -1,7 +1,8 @@
 """Copies of the repository, and edits that are applied to a copy and taken back.
 
 An edit is a file with a line `file: PATH`, from the crate's folder, and then pairs of lines `old: TEXT` and
-`new: TEXT`. Each old text occurs once in that file. Four folders of a crate have edits:
+`new: TEXT`. Each old text occurs once in that file. A wrong body may also answer goals of its function that it makes false,
+by lines `answer: ANSWER`, perhaps after `unfolding: NAME`, and `use: NAMES`. Four folders of a crate have edits:
 
 wrong-bodies/       wrong bodies of different functions that the prover has to refuse; the gate tries them
 more-wrong-bodies/  more of these, which `make wrong-bodies` tries
@@ -45,6 +46,22 @@ def pairs(edit):
             old = rest
         elif word == "new":
             yield path, old, rest
+
+
+def answers(edit):
+    """What an edit answers, by the goal, as in a file of answers, and the names that the answers use."""
+    given, uses, unfolding = {}, [], ""
+    for line in Path(edit).read_text("utf-8").splitlines():
+        word, _, rest = line.partition(": ")
+        if word == "use":
+            uses.append(rest)
+        elif word == "unfolding":
+            unfolding = f"unfolding {rest}\n"
+        elif word == "answer":
+            goal = rest.split()[0]
+            given[goal] = f"pub {goal} : goal.{goal}\n{unfolding}{rest}\n"
+            unfolding = ""
+    return given, uses
 
 
 def texts_after(tried, crate):

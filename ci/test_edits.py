@@ -1,4 +1,4 @@
-"""edits.py applies an edit to a copy, takes it back, and refuses one that doesn't fit."""
+"""edits.py applies an edit to a copy, takes it back, refuses one that doesn't fit, and reads its answers."""
 
 import tempfile
 import unittest
@@ -37,3 +37,10 @@ class Edits(unittest.TestCase):
                         pass
                     self.assertEqual(found, wanted)
                     self.assertEqual(tuple(it.read_text("utf-8") for it in paths), (SOURCE, OTHER))
+
+    def test_answers(self):
+        with tempfile.TemporaryDirectory() as folder:
+            edit = Path(folder, "x.edit")
+            edit.write_text("file: a\nold: 1\nnew: 2\nuse: A.{b}\nunfolding: d\nanswer: x c = b\nanswer: y g c = b\n", "utf-8")
+            wanted = {"x": "pub x : goal.x\nunfolding d\nx c = b\n", "y": "pub y : goal.y\ny g c = b\n"}
+            self.assertEqual(edits.answers(edit), (wanted, ["A.{b}"]))

@@ -7,6 +7,9 @@ of a function, in which the proofs of all other functions are holes. Each functi
 of its own: that it calls a refused one is not enough, nor is a search that gave up, or a name that is gone. The author has
 to see that the goal is false. An edit of a constant, or of a type, has a round of its own, with every proof.
 
+The prover searches long for a proof of a false goal, and once more at the end. So an edit may answer that goal by what
+proves it of the right body: the wrong body is refused by the answer. With `all`, the right bodies are proved by all answers.
+
 usage: wrong_bodies.py [NAME..]         the edits of crates/NAME/wrong-bodies/, one round for each crate
        wrong_bodies.py all [NAME..]     those of more-wrong-bodies/ too, in as many rounds as it takes
        wrong_bodies.py over FOLDER NAME the edits of crates/NAME/wrong-bodies/, over what a check of the crate kept there
@@ -100,13 +103,31 @@ def leave_out(name, changed, folder):
             (proofs / "Proof.antt").write_text(HOLE.format(module, it.name, it.name), "utf-8")
 
 
-def check(name, tried, kept=()):
-    """What a check of a crate prints that has these edits. It takes what they leave as it was from what was kept."""
+def add_answers(name, tried, folder):
+    """Answers goals in a copy of a crate as these edits do. Each changes one function if it has an answer."""
+    for edit, changed in tried.items():
+        given, uses = edits.answers(edit)
+        for path in changed if given else ():
+            file = Path(folder, "proofs", *path.split("::"), "Answers.antt")
+            goals = ".".join(["Rattle", name, "proofs", *path.split("::"), "Goals"])
+            text = file.read_text("utf-8") if file.is_file() else f"use {goals} as goal\n"
+            given = {goal: answer for goal, answer in given.items() if f"pub {goal} :" not in text}
+            uses = [use for use in uses if f"use {use}\n" not in text]
+            file.parent.mkdir(parents=True, exist_ok=True)
+            lines = [f"use {use}" for use in uses] + [text]
+            file.write_text("\n".join([*lines, *given.values()]), "utf-8")
+
+
+def check(name, tried, kept=(), are_right=False):
+    """What a check of a crate prints that has these edits, or only their answers. It takes what they leave as it was from what
+    was kept."""
     with tempfile.TemporaryDirectory() as crate:
         for part in ("src", "specs", "proofs"):
             if os.path.isdir(f"crates/{name}/{part}"):
                 shutil.copytree(f"crates/{name}/{part}", f"{crate}/{part}")
-        edits.write(edits.texts_after(tried, crate))
+        if not are_right:
+            edits.write(edits.texts_after(tried, crate))
+        add_answers(name, tried, crate)
         changed = set().union(*tried.values())
         only = [word for path in changed for word in ("--only", path)]
         if changed and not kept:
@@ -115,6 +136,13 @@ def check(name, tried, kept=()):
         command = [*prover_command.of("check", name), *only, *kept]
         ran = subprocess.run(command, cwd=crate, capture_output=True, text=True, errors="replace")
     return ran.stdout + ran.stderr
+
+
+def false_answers(name, folders):
+    """The edits of a crate whose answers refuse the right bodies too."""
+    found = {edit: its for tried in rounds(name, *folders) for edit, its in tried.items() if edits.answers(edit)[0]}
+    printed = check(name, found, are_right=True) if found else ""
+    return [edit for edit, its in found.items() if prover_output.verdict(printed, its) != "NOT REFUSED"]
 
 
 def judged(name, tried, kept):
@@ -169,9 +197,14 @@ def main():
         sys.exit(1 if wrong else 0)
     if names[:1] == ["over"]:
         sys.exit(1 if try_all(names[2:], [FIRST], ["--incremental", names[1]]) else 0)
-    folders = [FIRST, MORE] if names[:1] == ["all"] else [FIRST]
-    names = names[len(folders) - 1 :] or edits.crates_with(*folders)
-    sys.exit(1 if try_all(names, folders) else 0)
+    if names[:1] != ["all"]:
+        sys.exit(1 if try_all(names or edits.crates_with(FIRST), [FIRST]) else 0)
+    folders = [FIRST, MORE]
+    names = names[1:] or edits.crates_with(*folders)
+    false = [edit for name in names for edit in false_answers(name, folders)]
+    for edit in false:
+        print(f"{edit}: ITS ANSWERS REFUSE THE RIGHT BODY TOO", flush=True)
+    sys.exit(1 if try_all(names, folders) or false else 0)
 
 
 if __name__ == "__main__":

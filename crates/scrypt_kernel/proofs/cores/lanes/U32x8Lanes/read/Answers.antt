@@ -1,6 +1,0 @@
-use Rattle.std.proofs.Common.{rules}
-use Rattle.scrypt_kernel.proofs.cores.lanes.U32x8Lanes.read.Goals as goal
-
--- redundant, so that a wrong body is refused here at once
-pub returns : goal.returns
-returns c = search rules

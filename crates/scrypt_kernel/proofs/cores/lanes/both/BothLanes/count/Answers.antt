@@ -1,6 +1,0 @@
-use Rattle.std.proofs.Common.{rules}
-use Rattle.scrypt_kernel.proofs.cores.lanes.both.BothLanes.count.Goals as goal
-
--- redundant, so that a wrong body is refused here at once
-pub returns-clause-value : goal.returns-clause-value
-returns-clause-value g c = search rules
