@@ -37,26 +37,31 @@ run: kit
 # The program that is installed asks for a password at a terminal, which the proved one reads as any input.
 TERMINAL = bindings/terminal/build.sh
 
-# The libraries below the program, each after those that it uses, and those that only tests and examples use. Where all
-# are built already, rt doesn't read all sources once more before it begins with the crates above them. With four
-# processors and 12 GB of free memory, the two lowest, which need nothing of each other and take about as long, are
-# proved side by side, with three jobs each. The others have as many jobs as rt chooses.
+# The libraries below the program, each after those that it uses. Where all are built already, rt doesn't read all sources
+# once more before it begins with the crates above them. With four processors and 12 GB of free memory, the two lowest,
+# which need nothing of each other and take about as long, are proved side by side, with three jobs each. The others have
+# as many jobs as rt chooses.
 LIBRARIES = proved-password_hash proved-scrypt_kernel proved-scrypt proved-scrypt_commands
-OF_TESTS = proved-scrypt_examples
 HAS_ROOM = $(shell test $$(nproc) -ge 4 && awk '/^MemAvailable/ && $$2 > 12000000 { print "yes" }' /proc/meminfo)
 SIDE_BY_SIDE = $(if $(HAS_ROOM),2,1)
 proved-password_hash proved-scrypt_kernel: private JOBS = $(if $(HAS_ROOM),--jobs 3)
-.PHONY: $(LIBRARIES) $(OF_TESTS)
-$(LIBRARIES) $(OF_TESTS): proved-%: kit
+.PHONY: $(LIBRARIES)
+$(LIBRARIES): proved-%: kit
 	cd crates/$* && rt lib $(JOBS)
 proved-scrypt: proved-password_hash proved-scrypt_kernel
-proved-scrypt_commands proved-scrypt_examples: proved-scrypt
+proved-scrypt_commands: proved-scrypt
 
+# From nothing, the libraries are proved first, with more jobs for each. What is kept of them lets a check prove only what
+# changed.
+KEPT = $(wildcard crates/scrypt_commands/out/incremental)
 check: kit
-	$(MAKE) -j$(if $(HAS_ROOM),4,1) $(LIBRARIES) $(OF_TESTS) $(DOCUMENTS:%=document-%)
-	rt all test $(if $(HAS_ROOM),--jobs 4)
-	cd crates/scrypt_tool && rt run -- key 4 1 1 64 "" < /dev/null
+	$(if $(KEPT),,$(MAKE) -j$(SIDE_BY_SIDE) $(LIBRARIES))
+	$(MAKE) -j$(if $(HAS_ROOM),4,1) what-changed $(DOCUMENTS:%=document-%)
 	$(MAKE) -j2 --output-sync $(ANSWERS)
+
+.PHONY: what-changed
+what-changed:
+	python3 ci/check.py $(if $(HAS_ROOM),4,1)
 
 # What the program answers.
 ANSWERS = answers-program answers-hashes
