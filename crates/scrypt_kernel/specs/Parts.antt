@@ -11,7 +11,7 @@ pub record AreParts (n : ℕ) (parts : Parts) : Type 0 where
   pub few : n ≤ 4
   pub inside : (k : ℕ) → k < n → slice_index parts.starts k + parts.len ≤ length parts.words.now
 
--- there are n parts of s words
-pub record AreRows (n s : ℕ) (parts : Parts) : Type 0 where
-  pub len : parts.len ≡ s
+-- there are n parts of part_len words
+pub record AreRows (n part_len : ℕ) (parts : Parts) : Type 0 where
+  pub len : parts.len ≡ part_len
   pub all : AreParts n parts

@@ -18,21 +18,22 @@ scratch_words r = 64 * r
 abbrev pub thin_scratch_words : ℕ → ℕ
 thin_scratch_words r = 96 * r
 
--- b is the length of B in bytes, 128 * r with r at least 1, and log_n is at most 56
-pub record AreBytesOfB (b log_n : ℕ) : Type 0 where
-  pub some : 0 < b
-  pub whole : b % 128 ≡ 0
+-- len is the length of B in bytes, 128 * r with r at least 1, and log_n is at most 56
+pub record AreBytesOfB (len log_n : ℕ) : Type 0 where
+  pub some : 0 < len
+  pub whole : len % 128 ≡ 0
   pub small : log_n ≤ 56
 
--- the lengths for one scryptROMix: B has b bytes, the table v words, and the scratch t words
-pub record AreRoMixLens (log_n b v t : ℕ) : Type 0 where
-  pub input : AreBytesOfB b log_n
-  pub table : v ≡ table_words log_n (b / 128)
-  pub scratch : t ≡ scratch_words (b / 128)
+-- the lengths for one scryptROMix: B has input_len bytes, and the table and the scratch have
+-- table_len and scratch_len words
+pub record AreRoMixLens (log_n input_len table_len scratch_len : ℕ) : Type 0 where
+  pub input : AreBytesOfB input_len log_n
+  pub table : table_len ≡ table_words log_n (input_len / 128)
+  pub scratch : scratch_len ≡ scratch_words (input_len / 128)
 
 -- the same lengths with a table that keeps one row in 2 ^ s
-pub record AreThinLens (log_n s b v t : ℕ) : Type 0 where
-  pub input : AreBytesOfB b log_n
+pub record AreThinLens (log_n s input_len table_len scratch_len : ℕ) : Type 0 where
+  pub input : AreBytesOfB input_len log_n
   pub spacing : s ≤ log_n
-  pub table : v ≡ table_words (log_n - s) (b / 128)
-  pub scratch : t ≡ thin_scratch_words (b / 128)
+  pub table : table_len ≡ table_words (log_n - s) (input_len / 128)
+  pub scratch : scratch_len ≡ thin_scratch_words (input_len / 128)

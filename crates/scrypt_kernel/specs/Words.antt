@@ -23,9 +23,9 @@ abbrev pub le_number : List ℕ → ℕ
 le_number [] = 0
 le_number (b ∷ bs) = b + 256 * le_number bs
 
--- part k, counted from 0, of a list that is cut into parts of s elements
+-- part k, counted from 0, of a list that is cut into parts of len elements
 abbrev pub part : ℕ → List ℕ → ℕ → List ℕ
-part s x k = take s (drop (k * s) x)
+part len x k = take len (drop (k * len) x)
 
 -- the words that bytes encode, four bytes each in little-endian order
 abbrev pub words_of : List ℕ → List ℕ

@@ -18,29 +18,29 @@ use crate::parts::Parts;
 
 // The words that a block mix reads, block by block: a row of each chunk.
 pub(crate) trait Input {
-    // whether there are n rows of s words
+    // whether there are n rows of len words
     ghost are_rows: { Self → ℕ → ℕ → Type 0 };
 
     // row k
     ghost words: { Self → ℕ → List ℕ };
 
-    // Block `i` of each row. A row has `s` words.
-    fn read<O: Order>(&self, i: usize, s: usize) -> O
-        requires rows { are_rows self.now O.count s }
-        requires inside { 16 * i + 16 ≤ s }
+    // Block `i` of each row. A row has `len` words.
+    fn read<O: Order>(&self, i: usize, len: usize) -> O
+        requires rows { are_rows self.now O.count len }
+        requires inside { 16 * i + 16 ≤ len }
         ensures value { (k : ℕ) → k < O.count → O.held result k ≡ block (words self.now k) i }
-        ensures long { (k : ℕ) → k < O.count → length (words self.now k) ≡ s };
+        ensures long { (k : ℕ) → k < O.count → length (words self.now k) ≡ len };
 }
 
 impl<'a> Input for Parts<'a> {
     ghost use Rattle.scrypt_kernel.specs.Parts.{AreRows, part_of};
 
-    ghost are_rows = { λ x n s. AreRows n s x };
+    ghost are_rows = { λ parts n len. AreRows n len parts };
 
-    ghost words = { λ x k. part_of x k };
+    ghost words = { λ parts k. part_of parts k };
 
     #[inline(always)]
-    fn read<O: Order>(&self, i: usize, _s: usize) -> O {
+    fn read<O: Order>(&self, i: usize, _len: usize) -> O {
         O::read(self, i)
     }
 }
@@ -56,12 +56,12 @@ pub(crate) struct Xor<'a> {
 impl<'a> Input for Xor<'a> {
     ghost use Rattle.scrypt_kernel.specs.Parts.{AreRows, part_of};
 
-    ghost are_rows = { λ a n s. AreRows n s a.x × AreRows n s a.y };
+    ghost are_rows = { λ both n len. AreRows n len both.x × AreRows n len both.y };
 
-    ghost words = { λ a k. xor_words (part_of a.x k) (part_of a.y k) };
+    ghost words = { λ both k. xor_words (part_of both.x k) (part_of both.y k) };
 
     #[inline(always)]
-    fn read<O: Order>(&self, i: usize, _s: usize) -> O {
+    fn read<O: Order>(&self, i: usize, _len: usize) -> O {
         let x: O = O::read(&self.x, i);
         x.xor(O::read(&self.y, i))
     }
@@ -72,37 +72,37 @@ impl<'a> Input for Xor<'a> {
 pub(crate) fn mix<O: Order, I: Input>(
     input: &I,
     output: &mut [u32],
-    s: usize,
+    len: usize,
     cores: &mut CoreCount,
 )
-    requires rows { I.are_rows input.now O.count s }
-    requires output { length output.old ≡ O.count * s }
-    requires row { IsRowLen s }
-    ensures value { (k : ℕ) → k < O.count → part s output.new k
+    requires rows { I.are_rows input.now O.count len }
+    requires output { length output.old ≡ O.count * len }
+    requires row { IsRowLen len }
+    ensures value { (k : ℕ) → k < O.count → part len output.new k
         ≡ permuted O.pivot (block_mix (permuted O.inverse_pivot (I.words input.now k))) }
-    ensures counted { AreCountedAs O.simd (O.count * (2 * (s / 32))) cores.old cores.new }
+    ensures counted { AreCountedAs O.simd (O.count * (2 * (len / 32))) cores.old cores.new }
 {
-    let r = s / 32;
+    let r = len / 32;
     // Step 1: X = B[2 * r - 1].
-    let mut x: O = input.read(2 * r - 1, s);
+    let mut x: O = input.read(2 * r - 1, len);
     // Step 2: for i = 0 to 2 * r - 1 do T = X xor B[i], X = Salsa (T), Y[i] = X.
     // Step 3: B' = (Y[0], Y[2], .., Y[2 * r - 2], Y[1], Y[3], .., Y[2 * r - 1]).
     'steps: for i in 0..r {
-        x = step::<O, I>(x, input, 2 * i, s, cores);
-        x.write(output, s, i);
-        x = step::<O, I>(x, input, 2 * i + 1, s, cores);
-        x.write(output, s, r + i);
+        x = step::<O, I>(x, input, 2 * i, len, cores);
+        x.write(output, len, i);
+        x = step::<O, I>(x, input, 2 * i + 1, len, cores);
+        x.write(output, len, r + i);
     }
 }
 
 // Step 2 for one `i`, except Y[i] = X: T = X xor B[i], X = Salsa (T).
 #[inline(always)]
-fn step<O: Order, I: Input>(x: O, input: &I, i: usize, s: usize, cores: &mut CoreCount) -> O
-    requires rows { I.are_rows input.now O.count s }
-    requires inside { 16 * i + 16 ≤ s }
+fn step<O: Order, I: Input>(x: O, input: &I, i: usize, len: usize, cores: &mut CoreCount) -> O
+    requires rows { I.are_rows input.now O.count len }
+    requires inside { 16 * i + 16 ≤ len }
     ensures value { (k : ℕ) → k < O.count → O.held result k ≡ permuted O.pivot (salsa20_8
         (permuted O.inverse_pivot (xor_words (O.held x k) (block (I.words input.now k) i)))) }
     ensures counted { AreCountedAs O.simd O.count cores.old cores.new }
 {
-    x.xor(input.read(i, s)).core(cores)
+    x.xor(input.read(i, len)).core(cores)
 }

@@ -36,16 +36,22 @@ pub trait Memory {
 
     /// Appends the block mix of row `i`, the last one, as row `i + 1`, and counts its cores.
     ///
-    /// A row has `y.len()` words, which are `s` words for each chunk. What `y` holds after the call is
-    /// unspecified.
-    fn append_mix<O: Order>(&mut self, i: usize, s: usize, y: &mut [u32], cores: &mut CoreCount)
-        requires row { IsRowLen s }
-        requires chunks { length y.old ≡ O.count * s }
-        requires last { length (words self.old) ≡ (i + 1) * (O.count * s) }
-        requires room { (i + 2) * (O.count * s) ≤ room self.old }
-        ensures words { AddsRow (mixed_in O.pivot O.inverse_pivot 1) O.count s i (words self.old) (words self.new) }
+    /// A row has `next.len()` words, which are `len` words for each chunk. What `next` holds after the call
+    /// is unspecified.
+    fn append_mix<O: Order>(
+        &mut self,
+        i: usize,
+        len: usize,
+        next: &mut [u32],
+        cores: &mut CoreCount,
+    )
+        requires row { IsRowLen len }
+        requires chunks { length next.old ≡ O.count * len }
+        requires last { length (words self.old) ≡ (i + 1) * (O.count * len) }
+        requires room { (i + 2) * (O.count * len) ≤ room self.old }
+        ensures words { AddsRow (mixed_in O.pivot O.inverse_pivot 1) O.count len i (words self.old) (words self.new) }
         ensures room { room self.old ≤ room self.new }
-        ensures counted { AreCountedAs O.simd (O.count * (2 * (s / 32))) cores.old cores.new };
+        ensures counted { AreCountedAs O.simd (O.count * (2 * (len / 32))) cores.old cores.new };
 }
 
 /// The caller's buffer. Each row is mixed straight into its place.
@@ -94,12 +100,18 @@ impl<'a> Memory for Buffer<'a> {
     }
 
     #[inline(always)]
-    fn append_mix<O: Order>(&mut self, i: usize, s: usize, y: &mut [u32], cores: &mut CoreCount) {
-        let row_len = y.len();
+    fn append_mix<O: Order>(
+        &mut self,
+        i: usize,
+        len: usize,
+        next: &mut [u32],
+        cores: &mut CoreCount,
+    ) {
+        let row_len = next.len();
         let memory = &mut *self.memory;
         let (rows, rest) = memory.split_at_mut(self.len);
-        let last = Parts::of(part(row_len, rows, i), s, O::count());
-        mix::<O, Parts<'_>>(&last, &mut rest[..row_len], s, cores);
+        let last = Parts::of(part(row_len, rows, i), len, O::count());
+        mix::<O, Parts<'_>>(&last, &mut rest[..row_len], len, cores);
         self.len += row_len;
     }
 }
@@ -126,9 +138,15 @@ impl Memory for Vec<u32> {
     }
 
     #[inline(always)]
-    fn append_mix<O: Order>(&mut self, i: usize, s: usize, y: &mut [u32], cores: &mut CoreCount) {
-        let last = Parts::of(part(y.len(), self.as_slice(), i), s, O::count());
-        mix::<O, Parts<'_>>(&last, y, s, cores);
-        self.extend_from_slice(y).unwrap();
+    fn append_mix<O: Order>(
+        &mut self,
+        i: usize,
+        len: usize,
+        next: &mut [u32],
+        cores: &mut CoreCount,
+    ) {
+        let last = Parts::of(part(next.len(), self.as_slice(), i), len, O::count());
+        mix::<O, Parts<'_>>(&last, next, len, cores);
+        self.extend_from_slice(next).unwrap();
     }
 }

@@ -62,12 +62,12 @@ pub trait Order: Copy {
         requires inside { 16 * i + 16 ≤ parts.now.len }
         ensures value { (k : ℕ) → k < count → held result k ≡ block (part_of parts.now k) i };
 
-    /// Writes the blocks as block `i` of the parts of `x`, which is cut into parts of `s` words.
-    fn write(self, x: &mut [u32], s: usize, i: usize)
-        requires all { count * s ≤ length x.old }
-        requires inside { 16 * i + 16 ≤ s }
-        ensures written { (k : ℕ) → k < count → block (part s x.new k) i ≡ held self k }
-        ensures others { (k j : ℕ) → k < count → j ≢ i → block (part s x.new k) j ≡ block (part s x.old k) j };
+    /// Writes the blocks as block `i` of the parts of `x`, which is cut into parts of `len` words.
+    fn write(self, x: &mut [u32], len: usize, i: usize)
+        requires all { count * len ≤ length x.old }
+        requires inside { 16 * i + 16 ≤ len }
+        ensures written { (k : ℕ) → k < count → block (part len x.new k) i ≡ held self k }
+        ensures others { (k j : ℕ) → k < count → j ≢ i → block (part len x.new k) j ≡ block (part len x.old k) j };
 
     /// Returns the Salsa20/8 core of each block (RFC 7914, section 3), and counts these cores.
     fn core(self, cores: &mut CoreCount) -> Self

@@ -27,14 +27,14 @@ use std::simd::u32x4;
 /// of `2^s`. Counts the cores: `4 * N * r` for each chunk, and `2 * r` more for each row that is recomputed.
 ///
 /// A chunk has `128 * r` bytes with `r` at least 1. For each chunk, `rows` has room for
-/// `32 * r * 2^(log_n - s)` words, and the scratch `t` for `64 * r` words. `log_n` is at most 56. Unless `s`
-/// is 0, there is one chunk, `s` is at most `log_n`, and `t` has `96 * r` words. It does not matter what
-/// `rows` and `t` hold before the call, and what they hold after it is unspecified.
+/// `32 * r * 2^(log_n - s)` words, and `scratch` has `64 * r` words. `log_n` is at most 56. Unless `s` is 0,
+/// there is one chunk, `s` is at most `log_n`, and `scratch` has `96 * r` words. It does not matter what `rows`
+/// and `scratch` hold before the call, and what they hold after it is unspecified.
 pub fn mix_chunks<O: Order, M: Memory>(
     b: &mut [u8],
     r: usize,
     rows: &mut M,
-    t: &mut [u32],
+    scratch: &mut [u32],
     log_n: u8,
     s: u8,
     cores: &mut CoreCount,
@@ -45,8 +45,8 @@ pub fn mix_chunks<O: Order, M: Memory>(
     requires spacing { s ≤ log_n }
     requires alone { 0 < s → O.count ≡ 1 }
     requires room { O.count * table_words (log_n - s) r ≤ M.room rows.old }
-    requires scratch { O.count * scratch_words r ≤ length t.old }
-    requires spare { 0 < s → thin_scratch_words r ≤ length t.old }
+    requires scratch { O.count * scratch_words r ≤ length scratch.old }
+    requires spare { 0 < s → thin_scratch_words r ≤ length scratch.old }
     ensures value { (k : ℕ) → k < O.count
         → part (128 * r) b.new k ≡ bytes_of (ro_mix (words_of (part (128 * r) b.old k)) log_n) }
     ensures room { M.room rows.old ≤ M.room rows.new }
@@ -55,29 +55,29 @@ pub fn mix_chunks<O: Order, M: Memory>(
 {
     let n = O::count();
     let len = 32 * r;
-    let (x, rest) = t.split_at_mut(n * len);
-    let (y, spare) = rest.split_at_mut(n * len);
+    let (x, rest) = scratch.split_at_mut(n * len);
+    let (next, spare) = rest.split_at_mut(n * len);
     // Step 1: X = B.
     read_words(b, x);
     O::shuffle_in(x);
-    fill_and_walk::<O, M>(rows, x, y, spare, len, log_n, s, cores);
+    fill_and_walk::<O, M>(rows, x, next, spare, len, log_n, s, cores);
     // Step 4: B' = X.
     O::shuffle_out(x);
     write_words(x, b);
 }
 
-// Steps 2 and 3, for X in `x` before and after. What `y` and `spare` hold after the call is unspecified.
+// Steps 2 and 3, for X in `x` before and after. What `next` and `spare` hold after the call is unspecified.
 fn fill_and_walk<O: Order, M: Memory>(
     rows: &mut M,
     x: &mut [u32],
-    y: &mut [u32],
+    next: &mut [u32],
     spare: &mut [u32],
     len: usize,
     log_n: u8,
     s: u8,
     cores: &mut CoreCount,
 )
-    requires lens { AreWalkLens O.count len log_n s (length x.old) (length y.old) (length spare.old) (2 ^ (log_n - s) * (O.count * len)) }
+    requires lens { AreWalkLens O.count len log_n s (length x.old) (length next.old) (length spare.old) (2 ^ (log_n - s) * (O.count * len)) }
     requires room { 2 ^ (log_n - s) * (O.count * len) ≤ M.room rows.old }
     ensures value { (k : ℕ) → k < O.count
         → part len x.new k ≡ permuted O.pivot (ro_mix (permuted O.inverse_pivot (part len x.old k)) log_n) }
@@ -86,9 +86,9 @@ fn fill_and_walk<O: Order, M: Memory>(
         (O.count * thin_ro_mix_cost (permuted O.inverse_pivot (part len x.old 0)) log_n s (len / 32)) cores.old cores.new }
 {
     // Step 2: for i = 0 to N - 1 do V[i] = X, X = scryptBlockMix (X).
-    fill::<O, M>(rows, x, y, len, log_n, s, cores);
+    fill::<O, M>(rows, x, next, len, log_n, s, cores);
     // Step 3: for i = 0 to N - 1 do j = Integerify (X) mod N, T = X xor V[j], X = scryptBlockMix (T).
-    take_steps::<O>(x, rows.words(), y, spare, len, log_n, s, cores);
+    take_steps::<O>(x, rows.words(), next, spare, len, log_n, s, cores);
 }
 
 /// Replaces the bytes of `b` by their scryptROMix, and counts its `4 * N * r` cores, all of them as

@@ -17,11 +17,11 @@ use crate::words::part;
 
 /// Step 2: for i = 0 to N - 1 do V[i] = X, X = scryptBlockMix (X).
 ///
-/// X is `x` in the order `O`. What `y` holds after the call is unspecified.
+/// X is `x` in the order `O`. What `next` holds after the call is unspecified.
 pub(crate) fn fill<O: Order, M: Memory>(
     rows: &mut M,
     x: &mut [u32],
-    y: &mut [u32],
+    next: &mut [u32],
     len: usize,
     log_n: u8,
     s: u8,
@@ -29,7 +29,7 @@ pub(crate) fn fill<O: Order, M: Memory>(
 )
     requires row { IsRowLen len }
     requires chunks { length x.old ≡ O.count * len }
-    requires scratch { length y.old ≡ length x.old }
+    requires scratch { length next.old ≡ length x.old }
     requires small { log_n ≤ 56 }
     requires spacing { s ≤ log_n }
     requires room { 2 ^ (log_n - s) * (O.count * len) ≤ M.room rows.old }
@@ -41,19 +41,19 @@ pub(crate) fn fill<O: Order, M: Memory>(
     rows.append(x);
     let last = (1usize << (log_n - s)) - 1;
     'rows: for m in 0..last {
-        append_next::<O, M>(rows, m, len, s, x, y, cores);
+        append_next::<O, M>(rows, m, len, s, x, next, cores);
     }
     recompute::<O>(
         part(x.len(), rows.words(), last),
         len,
         1usize << s,
         x,
-        y,
+        next,
         cores,
     );
 }
 
-// Appends the row that is `2^s` rows after the last one, which is the kept row `m`. What `x` and `y`
+// Appends the row that is `2^s` rows after the last one, which is the kept row `m`. What `x` and `next`
 // hold after the call is unspecified.
 #[inline(always)]
 fn append_next<O: Order, M: Memory>(
@@ -62,12 +62,12 @@ fn append_next<O: Order, M: Memory>(
     len: usize,
     s: u8,
     x: &mut [u32],
-    y: &mut [u32],
+    next: &mut [u32],
     cores: &mut CoreCount,
 )
     requires row { IsRowLen len }
     requires chunks { length x.old ≡ O.count * len }
-    requires scratch { length y.old ≡ length x.old }
+    requires scratch { length next.old ≡ length x.old }
     requires small { s ≤ 56 }
     requires last { length (M.words rows.old) ≡ (m + 1) * (O.count * len) }
     requires room { (m + 2) * (O.count * len) ≤ M.room rows.old }
@@ -83,7 +83,7 @@ fn append_next<O: Order, M: Memory>(
             len,
             1usize << s,
             x,
-            y,
+            next,
             cores,
         );
         rows.append(x);
@@ -92,45 +92,45 @@ fn append_next<O: Order, M: Memory>(
 
 /// Computes the row that is `n` rows after the row `kept`: `x` becomes `kept` after `n` block mixes.
 ///
-/// `n` is at least 1. What `y` holds after the call is unspecified.
+/// `n` is at least 1. What `next` holds after the call is unspecified.
 pub(crate) fn recompute<O: Order>(
     kept: &[u32],
     len: usize,
     n: usize,
     x: &mut [u32],
-    y: &mut [u32],
+    next: &mut [u32],
     cores: &mut CoreCount,
 )
     requires count { 0 < n }
     requires row { IsRowLen len }
     requires chunks { length kept.now ≡ O.count * len }
     requires same { length x.old ≡ length kept.now }
-    requires scratch { length y.old ≡ length kept.now }
+    requires scratch { length next.old ≡ length kept.now }
     ensures value { (k : ℕ) → k < O.count → part len x.new k ≡ mixed_in O.pivot O.inverse_pivot n (part len kept.now k) }
     ensures counted { AreCountedAs O.simd (n * (O.count * (2 * (len / 32)))) cores.old cores.new }
 {
     if n % 2 == 0 {
-        mix_row::<O>(kept, y, len, cores);
-        mix_row::<O>(y, x, len, cores);
+        mix_row::<O>(kept, next, len, cores);
+        mix_row::<O>(next, x, len, cores);
     } else {
         mix_row::<O>(kept, x, len, cores);
     }
     // An even number of block mixes is left, which end in `x`.
     'pairs: for _k in 0..(n - 1) / 2 {
-        mix_row::<O>(x, y, len, cores);
-        mix_row::<O>(y, x, len, cores);
+        mix_row::<O>(x, next, len, cores);
+        mix_row::<O>(next, x, len, cores);
     }
 }
 
 // The row after the row `x`.
 #[inline(always)]
 #[tactic(auto, using(crate::proofs::RoMixFacts::one_mix))]
-fn mix_row<O: Order>(x: &[u32], y: &mut [u32], len: usize, cores: &mut CoreCount)
+fn mix_row<O: Order>(x: &[u32], next: &mut [u32], len: usize, cores: &mut CoreCount)
     requires row { IsRowLen len }
     requires chunks { length x.now ≡ O.count * len }
-    requires same { length y.old ≡ length x.now }
-    ensures value { (k : ℕ) → k < O.count → part len y.new k ≡ mixed_in O.pivot O.inverse_pivot 1 (part len x.now k) }
+    requires same { length next.old ≡ length x.now }
+    ensures value { (k : ℕ) → k < O.count → part len next.new k ≡ mixed_in O.pivot O.inverse_pivot 1 (part len x.now k) }
     ensures counted { AreCountedAs O.simd (O.count * (2 * (len / 32))) cores.old cores.new }
 {
-    mix::<O, Parts<'_>>(&Parts::of(x, len, O::count()), y, len, cores);
+    mix::<O, Parts<'_>>(&Parts::of(x, len, O::count()), next, len, cores);
 }

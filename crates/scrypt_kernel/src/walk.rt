@@ -18,33 +18,33 @@ use crate::words::part;
 
 /// Step 3: for i = 0 to N - 1 do j = Integerify (X) mod N, T = X xor V[j], X = scryptBlockMix (T).
 ///
-/// X is in `x` before the call and after it. The steps write it to `y` and to `x` in turn, so that
+/// X is in `x` before the call and after it. The steps write it to `next` and to `x` in turn, so that
 /// none copies it. `v` keeps each row whose number is a multiple of `2^s`; unless `s` is 0, there is
 /// one chunk, and `spare` is for a row that is recomputed.
 pub(crate) fn take_steps<O: Order>(
     x: &mut [u32],
     v: &[u32],
-    y: &mut [u32],
+    next: &mut [u32],
     spare: &mut [u32],
     len: usize,
     log_n: u8,
     s: u8,
     cores: &mut CoreCount,
 )
-    requires lens { AreWalkLens O.count len log_n s (length x.old) (length y.old) (length spare.old) (length v.now) }
+    requires lens { AreWalkLens O.count len log_n s (length x.old) (length next.old) (length spare.old) (length v.now) }
     ensures walked { (k : ℕ) → k < O.count → (b : List ℕ) → StartsWalk O.pivot b O.count k len log_n s v.now x.old
         → part len x.new k ≡ permuted O.pivot (walk b log_n (2 ^ log_n)) }
     ensures counted { (b : List ℕ) → StartsWalk O.pivot b O.count 0 len log_n s v.now x.old
         → AreCountedAs O.simd (steps_cost b O.count len log_n s (2 ^ log_n)) cores.old cores.new }
 {
     if log_n == 0 {
-        step::<O>(x, v, y, spare, len, log_n, s, cores);
-        x.copy_from_slice(y);
+        step::<O>(x, v, next, spare, len, log_n, s, cores);
+        x.copy_from_slice(next);
         return;
     }
     'pairs: for _k in 0..1usize << (log_n - 1) {
-        step::<O>(x, v, y, spare, len, log_n, s, cores);
-        step::<O>(y, v, x, spare, len, log_n, s, cores);
+        step::<O>(x, v, next, spare, len, log_n, s, cores);
+        step::<O>(next, v, x, spare, len, log_n, s, cores);
     }
 }
 
@@ -55,20 +55,20 @@ pub(crate) fn take_steps<O: Order>(
 fn step<O: Order>(
     x: &[u32],
     v: &[u32],
-    y: &mut [u32],
+    next: &mut [u32],
     spare: &mut [u32],
     len: usize,
     log_n: u8,
     s: u8,
     cores: &mut CoreCount,
 )
-    requires lens { AreWalkLens O.count len log_n s (length x.now) (length y.old) (length spare.old) (length v.now) }
-    ensures value { (k : ℕ) → k < O.count → part len y.new k
+    requires lens { AreWalkLens O.count len log_n s (length x.now) (length next.old) (length spare.old) (length v.now) }
+    ensures value { (k : ℕ) → k < O.count → part len next.new k
         ≡ x_after O.pivot O.inverse_pivot O.count k len log_n s v.now (part len x.now k) }
     ensures counted { let j = integerify (permuted O.inverse_pivot (part len x.now 0)) % 2 ^ log_n in
         AreCountedAs O.simd ((recomputed_rows s j + 1) * (O.count * (2 * (len / 32)))) cores.old cores.new }
 {
-    let starts = take_rows::<O>(x, v, y, len, log_n, s);
+    let starts = take_rows::<O>(x, v, next, len, log_n, s);
     let j = O::integerify(part(len, x, 0), log_n);
     let missing = j % (1usize << s);
     if missing == 0 {
@@ -76,10 +76,10 @@ fn step<O: Order>(
             x: Parts::of(x, len, O::count()),
             y: Parts::new(v, len, starts),
         };
-        mix::<O, Xor<'_>>(&taken, y, len, cores);
+        mix::<O, Xor<'_>>(&taken, next, len, cores);
     } else {
         let kept = part(x.len(), v, j >> s);
-        mix_recomputed::<O>(x, kept, missing, y, spare, len, cores);
+        mix_recomputed::<O>(x, kept, missing, next, spare, len, cores);
     }
 }
 
@@ -88,7 +88,7 @@ fn mix_recomputed<O: Order>(
     x: &[u32],
     kept: &[u32],
     missing: usize,
-    y: &mut [u32],
+    next: &mut [u32],
     spare: &mut [u32],
     len: usize,
     cores: &mut CoreCount,
@@ -97,28 +97,28 @@ fn mix_recomputed<O: Order>(
     requires row { IsRowLen len }
     requires chunks { length x.now ≡ O.count * len }
     requires kept { length kept.now ≡ length x.now }
-    requires output { length y.old ≡ length x.now }
+    requires output { length next.old ≡ length x.now }
     requires room { length x.now ≤ length spare.old }
-    ensures value { (k : ℕ) → k < O.count → part len y.new k
+    ensures value { (k : ℕ) → k < O.count → part len next.new k
         ≡ mix_of O.pivot O.inverse_pivot (part len x.now k) (mixed_in O.pivot O.inverse_pivot missing (part len kept.now k)) }
     ensures counted { AreCountedAs O.simd ((missing + 1) * (O.count * (2 * (len / 32)))) cores.old cores.new }
 {
     let row = &mut spare[..x.len()];
-    recompute::<O>(kept, len, missing, row, y, cores);
+    recompute::<O>(kept, len, missing, row, next, cores);
     let joined = Xor {
         x: Parts::of(x, len, O::count()),
         y: Parts::of(row, len, O::count()),
     };
-    mix::<O, Xor<'_>>(&joined, y, len, cores);
+    mix::<O, Xor<'_>>(&joined, next, len, cores);
 }
 
-// Returns for each chunk where V[j] begins, or the kept row below it, and prefetches it. What `y` holds
+// Returns for each chunk where V[j] begins, or the kept row below it, and prefetches it. What `next` holds
 // after the call is unspecified.
 #[inline(always)]
 fn take_rows<O: Order>(
     x: &[u32],
     v: &[u32],
-    y: &mut [u32],
+    next: &mut [u32],
     len: usize,
     log_n: u8,
     s: u8,
@@ -127,7 +127,7 @@ fn take_rows<O: Order>(
     requires small { log_n ≤ 56 }
     requires spacing { s ≤ log_n }
     requires chunks { length x.now ≡ O.count * len }
-    requires scratch { length y.old ≡ length x.now }
+    requires scratch { length next.old ≡ length x.now }
     requires rows { length v.now ≡ 2 ^ (log_n - s) * (O.count * len) }
     ensures { (k : ℕ) → k < O.count → slice_index result k
         ≡ place O.count (integerify (permuted O.inverse_pivot (part len x.now k)) % 2 ^ log_n / 2 ^ s) k * len }
@@ -138,7 +138,7 @@ fn take_rows<O: Order>(
         let j = O::integerify(part(len, x, k), log_n);
         let at = (j >> s) * n + k;
         starts[k] = at * len;
-        prefetch_row(part(len, v, at), &mut y[k * len..k * len + len]);
+        prefetch_row(part(len, v, at), &mut next[k * len..k * len + len]);
     }
     starts
 }

@@ -38,14 +38,14 @@ pub(crate) fn add_words(x: &mut [u32], y: &[u32])
     }
 }
 
-/// Returns part `k` of `x`, which is cut into parts of `s` words.
+/// Returns part `k` of `x`, which is cut into parts of `len` words.
 #[inline(always)]
-pub(crate) fn part(s: usize, x: &[u32], k: usize) -> &[u32]
-    requires { k * s + s ≤ length x.now }
-    ensures value { result.now ≡ part s x.now k }
-    ensures len { length result.now ≡ s }
+pub(crate) fn part(len: usize, x: &[u32], k: usize) -> &[u32]
+    requires { k * len + len ≤ length x.now }
+    ensures value { result.now ≡ part len x.now k }
+    ensures len { length result.now ≡ len }
 {
-    &x[k * s..k * s + s]
+    &x[k * len..k * len + len]
 }
 
 /// Returns part `k` of `x`, which is cut into parts of four words, as the lanes of a vector.
@@ -67,15 +67,15 @@ pub(crate) fn put_lanes(x: &mut [u32], k: usize, from: u32x4)
     from.copy_to_slice(&mut x[4 * k..4 * k + 4]);
 }
 
-/// Writes four lanes as vector `j` of part `k` of `x`, which is cut into parts of `s` words.
+/// Writes four lanes as vector `j` of part `k` of `x`, which is cut into parts of `len` words.
 #[inline(always)]
 #[tactic(auto, using(crate::proofs::PartFacts::part_put_other))]
-pub(crate) fn put_in_part(x: &mut [u32], s: usize, k: usize, j: usize, from: u32x4)
-    requires inside { 4 * j + 4 ≤ s }
-    requires room { k * s + s ≤ length x.old }
-    ensures written { part 4 (part s x.new k) j ≡ from }
-    ensures others { (i : ℕ) → i ≢ j → part 4 (part s x.new k) i ≡ part 4 (part s x.old k) i }
-    ensures parts { (i : ℕ) → i ≢ k → part s x.new i ≡ part s x.old i }
+pub(crate) fn put_in_part(x: &mut [u32], len: usize, k: usize, j: usize, from: u32x4)
+    requires inside { 4 * j + 4 ≤ len }
+    requires room { k * len + len ≤ length x.old }
+    ensures written { part 4 (part len x.new k) j ≡ from }
+    ensures others { (i : ℕ) → i ≢ j → part 4 (part len x.new k) i ≡ part 4 (part len x.old k) i }
+    ensures parts { (i : ℕ) → i ≢ k → part len x.new i ≡ part len x.old i }
 {
-    put_lanes(&mut x[k * s..k * s + s], j, from);
+    put_lanes(&mut x[k * len..k * len + len], j, from);
 }

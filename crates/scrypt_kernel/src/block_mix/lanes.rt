@@ -25,6 +25,6 @@ pub fn scrypt_block_mix(input: &[u32], output: &mut [u32], cores: &mut CoreCount
     ensures value { output.new ≡ diagonal_order (block_mix (standard_order input.now)) }
     ensures counted { AreCounted (2 * (length input.now / 32)) cores.old cores.new }
 {
-    let s = input.len();
-    mix::<Diagonal<u32x4>, Parts<'_>>(&Parts::of(input, s, 1), output, s, cores);
+    let len = input.len();
+    mix::<Diagonal<u32x4>, Parts<'_>>(&Parts::of(input, len, 1), output, len, cores);
 }

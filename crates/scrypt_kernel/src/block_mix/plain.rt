@@ -20,6 +20,6 @@ pub fn scrypt_block_mix(input: &[u32], output: &mut [u32], cores: &mut CoreCount
     ensures value { output.new ≡ block_mix input.now }
     ensures counted { AreCountedAs false (2 * (length input.now / 32)) cores.old cores.new }
 {
-    let s = input.len();
-    mix::<Standard, Parts<'_>>(&Parts::of(input, s, 1), output, s, cores);
+    let len = input.len();
+    mix::<Standard, Parts<'_>>(&Parts::of(input, len, 1), output, len, cores);
 }

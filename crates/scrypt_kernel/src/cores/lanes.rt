@@ -138,16 +138,16 @@ pub trait Lanes: Copy {
         requires inside { 4 * j + 4 ≤ parts.now.len }
         ensures { (k : ℕ) → k < count → lanes result k ≡ part 4 (part_of parts.now (first + k)) j };
 
-    /// Writes them to these places of the parts of `x`, which is cut into parts of `s` words.
+    /// Writes them to these places of the parts of `x`, which is cut into parts of `len` words.
     #[inline]
-    fn write(self, x: &mut [u32], s: usize, j: usize)
-        requires all { count * s ≤ length x.old }
-        requires inside { 4 * j + 4 ≤ s }
-        ensures written { (k : ℕ) → k < count → part 4 (part s x.new k) j ≡ lanes self k }
-        ensures others { (k i : ℕ) → i ≢ j → part 4 (part s x.new k) i ≡ part 4 (part s x.old k) i }
+    fn write(self, x: &mut [u32], len: usize, j: usize)
+        requires all { count * len ≤ length x.old }
+        requires inside { 4 * j + 4 ≤ len }
+        ensures written { (k : ℕ) → k < count → part 4 (part len x.new k) j ≡ lanes self k }
+        ensures others { (k i : ℕ) → i ≢ j → part 4 (part len x.new k) i ≡ part 4 (part len x.old k) i }
     {
         'parts: for k in 0..Self::count() {
-            put_in_part(x, s, k, j, self.four(k));
+            put_in_part(x, len, k, j, self.four(k));
         }
     }
 

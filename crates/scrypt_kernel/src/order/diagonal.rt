@@ -83,11 +83,11 @@ impl<V: Lanes> Order for Diagonal<V> {
     }
 
     #[inline(always)]
-    fn write(self, x: &mut [u32], s: usize, i: usize) {
-        self.a.write(x, s, 4 * i);
-        self.b.write(x, s, 4 * i + 1);
-        self.c.write(x, s, 4 * i + 2);
-        self.d.write(x, s, 4 * i + 3);
+    fn write(self, x: &mut [u32], len: usize, i: usize) {
+        self.a.write(x, len, 4 * i);
+        self.b.write(x, len, 4 * i + 1);
+        self.c.write(x, len, 4 * i + 2);
+        self.d.write(x, len, 4 * i + 3);
     }
 
     #[inline(always)]

@@ -57,8 +57,8 @@ impl Order for Standard {
     }
 
     #[inline(always)]
-    fn write(self, x: &mut [u32], s: usize, i: usize) {
-        self.rows.write(x, s, i);
+    fn write(self, x: &mut [u32], len: usize, i: usize) {
+        self.rows.write(x, len, i);
     }
 
     #[inline(always)]

@@ -8,7 +8,7 @@ pub steps-init : goal.steps-init
 steps-init g c = record {
   counted = counted_none _ _ _ (omega arith);
   mixed = λ k h out mix. let long = c.read-x.ensures.long k h in
-      no_turn mix (c.args.s / 32) (omega (arith, long)) (omega (arith, long, c.requires.row.whole)) _ _ (c.read-x.ensures.value k h);
+      no_turn mix (c.args.len / 32) (omega (arith, long)) (omega (arith, long, c.requires.row.whole)) _ _ (c.read-x.ensures.value k h);
 }
 
 pub steps-preserved : goal.steps-preserved
@@ -25,10 +25,10 @@ steps-preserved g c =
 
 pub returns-clause-value : goal.returns-clause-value
 returns-clause-value g c k h =
-    let s = c.args.s in
+    let len = c.args.len in
     let long = c.read-x.ensures.long k h in
-    let room = part_inside s k g.O.Order.count (length c.args.output.now) h (omega (arith, c.requires.output)) in
-    let full = length-part s k c.steps.output (omega (arith, room)) in
+    let room = part_inside len k g.O.Order.count (length c.args.output.now) h (omega (arith, c.requires.output)) in
+    let full = length-part len k c.steps.output (omega (arith, room)) in
     let whole : length (g.I.Input.words c.args.input.now k) % 32 ≡ 0 = omega (arith, long, c.requires.row.whole) in
     let mix = mixed_in _ _ g.met.O.Order.inverse (g.I.Input.words c.args.input.now k) (omega (arith, long, c.requires.row.some)) whole in
     all_turns mix _ (omega (arith, long)) whole _ _ _ (omega arith) (omega (arith, full, long)) (c.steps.invariant.mixed k h _ mix)

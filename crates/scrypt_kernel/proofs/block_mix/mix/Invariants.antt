@@ -11,5 +11,5 @@ invariant-steps g l =
     record {
       counted : AreCountedAs o.simd (o.count * (2 * l.i)) l.initial.cores l.cores;
       mixed : (k : ℕ) → k < o.count → (out : List ℕ) (mix : IsBlockMixBy (core_in o.pivot o.inverse_pivot) (g.I.Input.words l.input k) out)
-          → AfterTurns mix l.r l.i (o.held l.x k) (part l.s l.output k);
+          → AfterTurns mix l.r l.i (o.held l.x k) (part l.len l.output k);
     }

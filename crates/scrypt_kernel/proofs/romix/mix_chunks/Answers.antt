@@ -5,8 +5,8 @@ use Rattle.scrypt_kernel.proofs.romix.mix_chunks.Goals as goal
 pub split_at_mut-x-requires : goal.split_at_mut-x-requires
 split_at_mut-x-requires g c = rw c.count-n.ensures.value (omega arith)
 
-pub split_at_mut-y-requires : goal.split_at_mut-y-requires
-split_at_mut-y-requires g c =
+pub split_at_mut-next-requires : goal.split_at_mut-next-requires
+split_at_mut-next-requires g c =
     let front = rw c.count-n.ensures.value at c.split_at_mut-x.ensures.front_len in
     rw c.count-n.ensures.value (omega arith)
 

@@ -13,7 +13,7 @@ pairs-init g c =
     let more = one_more_mix o.pivot o.inverse_pivot g.met.O.Order.inverse o.count c.args.len whole kept long in
     elim c.if-n-eq0.branch [
       | then-n-eq0 w ↦
-          let one = more _ _ _ w.mix_row.new.y 0 1 first long w.mix_row.ensures.value w.mix_row.ensures.counted (omega arith) in
+          let one = more _ _ _ w.mix_row.new.next 0 1 first long w.mix_row.ensures.value w.mix_row.ensures.counted (omega arith) in
           let two = w.mix_row-then-n-eq0.ensures in
           rw (w.x-is, w.cores-is) (more _ _ _ _ 1 _ one (omega arith) two.value two.counted (omega (arith, w.if-n-eq0.true)))
       | else-n-eq0 w ↦

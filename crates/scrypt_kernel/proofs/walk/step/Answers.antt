@@ -18,7 +18,7 @@ mix-requires-clause-rows g c =
       record {
         len = c.new.ensures.len;
         all = c.new.ensures.all g.O.Order.count few (λ k h. rw (c.take_rows-starts.ensures k h)
-            (kept_place _ _ _ _ _ k _ lens.spacing (mod_below _ (2 ^ c.args.log_n) (pow_pos c.args.log_n)) h lens.rows));
+            (kept_place _ _ _ _ _ k _ lens.most (mod_below _ (2 ^ c.args.log_n) (pow_pos c.args.log_n)) h lens.rows));
       },
     )
 
@@ -35,7 +35,7 @@ returns-then-missing-eq0-clause-value g c k h =
     let none = all_kept _ k s number lens.alone h (sym (missing_rows s _ _ (omega arith) j_is) ∙ c.if-missing-eq0.true) in
     let at = place g.O.Order.count (number k / 2 ^ s) k in
     let low = part len c.args.v.now at in
-    let long = length-part len at c.args.v.now (kept_place _ _ _ _ (number k) k _ lens.spacing inside h lens.rows) in
+    let long = length-part len at c.args.v.now (kept_place _ _ _ _ (number k) k _ lens.most inside h lens.rows) in
     let taken = c.new.ensures.parts k ∙ ap (λ a. take len (drop a c.args.v.now)) (c.take_rows-starts.ensures k h) in
     let row = row_zero_in p q g.met.O.Order.inverse low (omega (arith, long, lens.row.whole)) in
     c.mix.ensures.value k h ∙ ap₂ (mix_of p q) (c.of.ensures.parts k (omega (arith, h, c.count.ensures.value)))
@@ -51,7 +51,7 @@ pub part-kept-requires : goal.part-kept-requires
 part-kept-requires g c =
     let lens = c.requires.lens in
     let one = lens.alone (some_missing _ _ c.if-missing-eq0.false) in
-    let room = kept_place _ _ _ _ _ 0 _ lens.spacing c.integerify-j.ensures.inside (omega (arith, one)) lens.rows in
+    let room = kept_place _ _ _ _ _ 0 _ lens.most c.integerify-j.ensures.inside (omega (arith, one)) lens.rows in
     let inside = rw one at room in
     rw (lens.chunks, one) (omega (arith, inside))
 

@@ -21,18 +21,18 @@ pairs-preserved g c =
     let before = c.pairs.invariant in
     let lens = c.requires.lens in
     let inverse = g.met.O.Order.inverse in
-    let next : i + 1 + 1 ≡ 2 * (c.pairs._k + 1) = omega arith in
+    let both : i + 1 + 1 ≡ 2 * (c.pairs._k + 1) = omega arith in
     let long_x : length c.pairs.x ≡ n * c.args.len = omega (arith, c.pairs.auto.x, lens.chunks) in
-    let long_y : length c.step-in-pairs.new.y ≡ n * c.args.len = omega (arith, c.step-in-pairs.auto.y, c.pairs.auto.y, lens.scratch, lens.chunks) in
-    let first = next_step g.O.Order.pivot g.O.Order.inverse_pivot inverse lens c.pairs.x c.step-in-pairs.new.y in
-    let second = next_step g.O.Order.pivot g.O.Order.inverse_pivot inverse lens c.step-in-pairs.new.y c.step-in-pairs-2.new.y in
+    let long_next : length c.step-in-pairs.new.next ≡ n * c.args.len = omega (arith, c.step-in-pairs.auto.next, c.pairs.auto.next, lens.scratch, lens.chunks) in
+    let first = next_step g.O.Order.pivot g.O.Order.inverse_pivot inverse lens c.pairs.x c.step-in-pairs.new.next in
+    let second = next_step g.O.Order.pivot g.O.Order.inverse_pivot inverse lens c.step-in-pairs.new.next c.step-in-pairs-2.new.next in
     record {
-      walked = λ k h b starts. rw (← next) (second k h long_y (two.value k h) b (i + 1) starts.rows
+      walked = λ k h b starts. rw (← both) (second k h long_next (two.value k h) b (i + 1) starts.rows
           (first k h long_x (one.value k h) b i starts.rows (before.walked k h b starts)));
       counted = λ b starts.
           let x = before.walked 0 lens.some b starts in
           let y = first 0 lens.some long_x (one.value 0 lens.some) b i starts.rows x in
-          rw (← next) (one_more_counted _ _ inverse b c.step-in-pairs.new.y n c.args.len c.args.log_n c.args.s (i + 1) lens.some long_y lens.row.whole
+          rw (← both) (one_more_counted _ _ inverse b c.step-in-pairs.new.next n c.args.len c.args.log_n c.args.s (i + 1) lens.some long_next lens.row.whole
           (one_more_counted _ _ inverse b c.pairs.x n c.args.len c.args.log_n c.args.s i lens.some long_x lens.row.whole (before.counted b starts) x one.counted)
           y two.counted);
     }
@@ -49,7 +49,7 @@ returns-then-log_n-eq0 g c =
     record {
       walked = λ k h b starts. rw (← single)
           (ap (λ z. part len z k) c.copy_from_slice.ensures.after
-          ∙ next_step _ _ g.met.O.Order.inverse lens c.args.x.now c.step.new.y k h lens.chunks (one.value k h) b 0 starts.rows starts.start);
+          ∙ next_step _ _ g.met.O.Order.inverse lens c.args.x.now c.step.new.next k h lens.chunks (one.value k h) b 0 starts.rows starts.start);
       counted = λ b starts. rw (← single) (one_more_counted _ _ g.met.O.Order.inverse b c.args.x.now n len c.args.log_n c.args.s 0
           lens.some lens.chunks lens.row.whole (counted_none _ _ _ (no_cost b n len c.args.log_n c.args.s)) starts.start one.counted);
     }

@@ -10,14 +10,14 @@ pub returns-clause-words : goal.returns-clause-words
 returns-clause-words g c =
     let p = g.O.Order.pivot in
     let q = g.O.Order.inverse_pivot in
-    let s = c.args.s in
+    let len = c.args.len in
     let front = c.split_at_mut-rows in
-    let row_len = length c.args.y.now in
+    let row_len = length c.args.next.now in
     let full : length c.mix.new.output ≡ row_len = c.mix.auto.output ∙ length-take-le row_len _ (omega arith) in
     let row_is = rw c.requires.chunks at (c.part.ensures.value ∙ ap (λ z. part row_len z c.args.i) front.ensures.front) in
-    adds_row (mixed_in p q 1) g.O.Order.count s c.args.i _ _ c.mix.new.output c.requires.last
+    adds_row (mixed_in p q 1) g.O.Order.count len c.args.i _ _ c.mix.new.output c.requires.last
     (take_both front.result.0.now c.mix.new.output _ _ (omega (arith, full, front.ensures.front_len))
     ∙ ap (λ z. z ++ c.mix.new.output) front.ensures.front)
     (full ∙ c.requires.chunks)
     (λ k h. c.mix.ensures.value k h ∙ one_mix p q _
-    ∙ ap (mixed_in p q 1) (c.of-last.ensures.parts k (omega (arith, h, c.count.ensures.value)) ∙ ap (λ z. part s z k) row_is))
+    ∙ ap (mixed_in p q 1) (c.of-last.ensures.parts k (omega (arith, h, c.count.ensures.value)) ∙ ap (λ z. part len z k) row_is))

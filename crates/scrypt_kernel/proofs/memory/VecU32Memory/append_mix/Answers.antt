@@ -8,9 +8,9 @@ pub returns-clause-words : goal.returns-clause-words
 returns-clause-words g c =
     let p = g.O.Order.pivot in
     let q = g.O.Order.inverse_pivot in
-    let s = c.args.s in
+    let len = c.args.len in
     let row_is = rw (c.requires.chunks, c.as_slice.ensures.value) at c.part.ensures.value in
-    adds_row (mixed_in p q 1) g.O.Order.count s c.args.i _ _ c.mix.new.output c.requires.last
+    adds_row (mixed_in p q 1) g.O.Order.count len c.args.i _ _ c.mix.new.output c.requires.last
     (rw c.unwrap.ensures at c.extend_from_slice.ensures.items) (c.mix.auto.output ∙ c.requires.chunks)
     (λ k h. c.mix.ensures.value k h ∙ one_mix p q _
-    ∙ ap (mixed_in p q 1) (c.of-last.ensures.parts k (omega (arith, h, c.count.ensures.value)) ∙ ap (λ z. part s z k) row_is))
+    ∙ ap (mixed_in p q 1) (c.of-last.ensures.parts k (omega (arith, h, c.count.ensures.value)) ∙ ap (λ z. part len z k) row_is))

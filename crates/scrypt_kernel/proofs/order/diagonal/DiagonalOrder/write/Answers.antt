@@ -6,11 +6,11 @@ use Rattle.scrypt_kernel.proofs.order.diagonal.DiagonalOrder.write.Goals as goal
 
 pub returns-clause-written : goal.returns-clause-written
 returns-clause-written g c k h =
-    let s = c.args.s in
+    let len = c.args.len in
     let i = c.args.i in
-    let z = part s c.write-4.new.x k in
-    let room = part_inside s k g.V.Lanes.count (length c.args.x.now) h c.requires.all in
-    let long = length-part s k c.write-4.new.x (omega (arith, room)) in
+    let z = part len c.write-4.new.x k in
+    let room = part_inside len k g.V.Lanes.count (length c.args.x.now) h c.requires.all in
+    let long = length-part len k c.write-4.new.x (omega (arith, room)) in
     let two = c.write-2.ensures in
     let three = c.write-3.ensures in
     let four = c.write-4.ensures in
@@ -23,7 +23,7 @@ returns-clause-written g c k h =
 
 pub returns-clause-others : goal.returns-clause-others
 returns-clause-others g c k j h other =
-    let s = c.args.s in
-    block_same (part s c.write-4.new.x k) (part s c.args.x.now k) j j (λ m inside.
+    let len = c.args.len in
+    block_same (part len c.write-4.new.x k) (part len c.args.x.now k) j j (λ m inside.
     c.write-4.ensures.others k (4 * j + m) (omega arith) ∙ c.write-3.ensures.others k (4 * j + m) (omega arith)
     ∙ c.write-2.ensures.others k (4 * j + m) (omega arith) ∙ c.write.ensures.others k (4 * j + m) (omega arith))
