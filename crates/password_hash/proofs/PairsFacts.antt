@@ -37,7 +37,7 @@ cut_at_first c xs ys none =
     let regrouped : xs ++ (c ∷ ys) ≡ (xs ++ (c ∷ [])) ++ ys = sym (append_assoc xs (c ∷ []) ys) in
     (rw at (take_at xs (c ∷ ys) (length xs) refl), rw (at, regrouped) (drop_at (xs ++ (c ∷ [])) ys (length xs + 1) (length_push xs c)))
 
--- a pair is told by its text
+-- a pair is determined by its text
 pub pair_of-pair_text : (pair : List ℕ × List ℕ) → IsPair pair → pair_of (pair_text pair) ≡ pair
 pair_of-pair_text pair h =
     let none : Lacks 61 pair.0 = letters_lack is_identifier_letter 61 refl pair.0 h.name.letters in
@@ -51,7 +51,7 @@ pair_text_lacks c name value equals pair h =
     All-append (λ b. (b == c) ≡ false) pair.0 (61 ∷ pair.1) (letters_lack is_identifier_letter c name pair.0 h.name.letters)
     (All-cons (λ b. (b == c) ≡ false) 61 pair.1 equals (letters_lack is_value_letter c value pair.1 h.value.letters))
 
--- pieces that lack c are told by their row
+-- pieces that lack c are determined by their row
 pub slice_split-join : (c : ℕ) (piece : List ℕ) (pieces : List (List ℕ)) → All (Lacks c) (piece ∷ pieces)
     → slice_split (λ b. b == c) (join_with_byte c (piece ∷ pieces)) ≡ piece ∷ pieces
 slice_split-join c piece [] none = slice_split_none (λ b. b == c) piece (All-head (Lacks c) piece [] none)
@@ -65,7 +65,7 @@ pub texts_lack : (c : ℕ) → is_identifier_letter c ≡ false → is_value_let
 texts_lack c name value equals pairs h =
     All-map (Lacks c) pair_text pairs (All-weaker IsPair (λ pair. Lacks c (pair_text pair)) (pair_text_lacks c name value equals) pairs h)
 
--- the pairs are told by their texts
+-- the pairs are determined by their texts
 pub map-pair_of : (pairs : List (List ℕ × List ℕ)) → All IsPair pairs → map pair_of (map pair_text pairs) ≡ pairs
 map-pair_of [] h = refl
 map-pair_of (pair ∷ pairs) h =
@@ -94,7 +94,7 @@ length_pairs_text pair pairs =
     let equals = equals_of_pairs pair pairs in
     omega (arith, ap length equals.1, length-append pair.0 (61 ∷ equals.0))
 
--- pairs are told by their text
+-- pairs are determined by their text
 pub pairs_of-pairs_text : (pairs : List (List ℕ × List ℕ)) → All IsPair pairs → pairs_of (pairs_text pairs) ≡ pairs
 pairs_of-pairs_text [] h = refl
 pairs_of-pairs_text (pair ∷ pairs) h =

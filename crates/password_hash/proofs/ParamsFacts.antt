@@ -133,8 +133,8 @@ pub tested : (xs ys : List (List ℕ × List ℕ)) (r : Bool) → ArePairs xs �
     → r ≡ pointwise nat_eq (pairs_text xs) (pairs_text ys) → r ≡ pointwise pair_eq xs ys
 tested xs ys r hx hy e =
     let texts = bytes_eq-Decides (pairs_text xs) (pairs_text ys) in
-    let told : Decides r (xs ≡ ys) = (
+    let decided : Decides r (xs ≡ ys) = (
       λ yes. sym (pairs_of-pairs_text xs hx.each) ∙ ap pairs_of (texts.0 (sym e ∙ yes)) ∙ pairs_of-pairs_text ys hy.each,
       λ same. e ∙ texts.1 (ap pairs_text same),
     ) in
-    same_from_decides r (pointwise pair_eq xs ys) told (pairs_eq-Decides xs ys)
+    same_from_decides r (pointwise pair_eq xs ys) decided (pairs_eq-Decides xs ys)

@@ -31,6 +31,6 @@ refusal error.Version = Version
 refusal error.OutOfMemory = OutOfMemory
 
 -- a result, with the value of its error
-abbrev pub told : {T : Type 0} → Result T Error → Result T Refusal
-told (Ok x) = Ok x
-told (Err e) = Err (refusal e)
+abbrev pub with_refusal : {T : Type 0} → Result T Error → Result T Refusal
+with_refusal (Ok x) = Ok x
+with_refusal (Err e) = Err (refusal e)

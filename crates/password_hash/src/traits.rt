@@ -1,7 +1,7 @@
 //! The traits of making and verifying password hashes.
 ghost use Rattle.std.specs.Prelude.{◌≡◌, ◌⊎◌, List, ℕ, Bool, Option, None, Result, Err, IfOk, IfErr, ⊤};
 ghost use Rattle.std.specs.Option.{option_map};
-ghost use Rattle.password_hash.specs.Refusal.{Refusal, refusal, told, OutOfMemory};
+ghost use Rattle.password_hash.specs.Refusal.{Refusal, refusal, with_refusal, OutOfMemory};
 
 use crate::{Result, Version};
 use std::alloc::Global;
@@ -81,8 +81,8 @@ pub trait PasswordVerifier<H> {
 
     /// Verifies `password` against `hash`. Returns the verdict, or `OutOfMemory`.
     fn verify_password(&self, alloc: Global, password: &[u8], hash: &H) -> Result<()>
-        ensures verdict { (told result ≡ verdict password.now hash.now)
-            ⊎ (needs_memory hash.now × (told result ≡ Err OutOfMemory)) };
+        ensures verdict { (with_refusal result ≡ verdict password.now hash.now)
+            ⊎ (needs_memory hash.now × (with_refusal result ≡ Err OutOfMemory)) };
 }
 
 /// Checks whether hashes of type `H` are weaker than the parameters of this value. A login service
@@ -93,5 +93,5 @@ pub trait RehashCheck<H> {
 
     /// Returns whether `hash` is weaker than wanted. Does not allocate.
     fn needs_rehash(&self, hash: &H) -> Result<bool>
-        ensures weaker { told result ≡ weaker self.now hash.now };
+        ensures weaker { with_refusal result ≡ weaker self.now hash.now };
 }

@@ -75,26 +75,26 @@ fewer_fit c e w log_n r fewer room =
 
 pub alone : (g : Readings) (out : Group (Result ⊤ Refusal)) (e : Parameters) (w : Work) → shared g ≡ Some e → has_room e w ≡ true
     → AreVerdicts verdict g out → AreVerdicts (verdict_in w) g out
-alone (One (password, Ok s)) (One out) e w is room told =
+alone (One (password, Ok s)) (One out) e w is room verdicts =
     let same : s.params ≡ e = cc in
-    told ∙ rw (same, room) refl
-alone (One (password, Err why)) (One out) e w is room told = absurd cc
-alone (Both first second) (Both out outs) e w is room told =
+    verdicts ∙ rw (same, room) refl
+alone (One (password, Err why)) (One out) e w is room verdicts = absurd cc
+alone (Both first second) (Both out outs) e w is room verdicts =
     let both = are_joined (shared first) (shared second) e is in (
-      alone first out both.c w both.first (fewer_fit both.c e w both.log_n.0 both.r.0 (omega (arith, both.p)) room) told.0,
-      alone second outs both.d w both.second (fewer_fit both.d e w both.log_n.1 both.r.1 (omega (arith, both.p)) room) told.1,
+      alone first out both.c w both.first (fewer_fit both.c e w both.log_n.0 both.r.0 (omega (arith, both.p)) room) verdicts.0,
+      alone second outs both.d w both.second (fewer_fit both.d e w both.log_n.1 both.r.1 (omega (arith, both.p)) room) verdicts.1,
     )
-alone (One login) (Both out outs) e w is room told = told
-alone (Both first second) (One out) e w is room told = told
+alone (One login) (Both out outs) e w is room verdicts = verdicts
+alone (Both first second) (One out) e w is room verdicts = verdicts
 
 pub alike : (g : Readings) (out : Group (Result ⊤ Refusal)) (w v : Work) → length w.chunks ≡ length v.chunks
     → length w.table ≡ length v.table → length w.scratch ≡ length v.scratch
     → AreVerdicts (verdict_in w) g out → AreVerdicts (verdict_in v) g out
-alike (One login) (One out) w v chunks table scratch told = told ∙ same_verdict w v chunks table scratch login.0 login.1
-alike (Both first second) (Both out outs) w v chunks table scratch told =
-    (alike first out w v chunks table scratch told.0, alike second outs w v chunks table scratch told.1)
-alike (One login) (Both out outs) w v chunks table scratch told = told
-alike (Both first second) (One out) w v chunks table scratch told = told
+alike (One login) (One out) w v chunks table scratch verdicts = verdicts ∙ same_verdict w v chunks table scratch login.0 login.1
+alike (Both first second) (Both out outs) w v chunks table scratch verdicts =
+    (alike first out w v chunks table scratch verdicts.0, alike second outs w v chunks table scratch verdicts.1)
+alike (One login) (Both out outs) w v chunks table scratch verdicts = verdicts
+alike (Both first second) (One out) w v chunks table scratch verdicts = verdicts
 
 pub no_room_for : (s : Option Parameters) (c e : Parameters) (w : Work) → s ≡ Some c → s ≡ Some e → ¬ AreEnough c w.chunks w.table w.scratch
     → has_room e w ≡ false

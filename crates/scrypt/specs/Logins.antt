@@ -2,7 +2,7 @@
 use Rattle.std.specs.Prelude.{◌≡◌, ℕ, ◌+◌, ◌^◌, ◌&&◌, nat_eq, nat_lt, if◌then◌else◌, List, [], ◌++◌, Option, None, Some, MatchBool, Result, Ok, Err, ⊤}
 use Rattle.password_hash.specs.Refusal.{Refusal}
 use Rattle.scrypt.specs.Accepted.{Parameters}
-use Rattle.scrypt.specs.Reading.{◌and_then◌, Stored, chunks_of, mixed_of, told}
+use Rattle.scrypt.specs.Reading.{◌and_then◌, Stored, chunks_of, mixed_of, with_refusal}
 use Rattle.scrypt.specs.StoredHash.{reading}
 use Rattle.scrypt.specs.WithinLimits.{within}
 use Rattle.scrypt.specs.WorkInBuffers.{Work, IsDone, IsLeft, has_room}
@@ -16,7 +16,7 @@ within_any (Some limits) reading = within limits reading
 
 -- the reading of the hash of a login
 abbrev pub reading_of : Login → Result Stored Refusal
-reading_of login = within_any login.limits (told login.hash and_then reading)
+reading_of login = within_any login.limits (with_refusal login.hash and_then reading)
 
 -- one of a kind, or two groups of them
 pub data Group (A : Type 0) : Type 0 where

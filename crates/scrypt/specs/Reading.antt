@@ -3,7 +3,7 @@ use Rattle.std.specs.Prelude.{◌≡◌, ◌≢◌, ◌⊎◌, ℕ, Bool, nat_lt
 use Rattle.std.specs.Result.{result_map_both}
 use Rattle.std.specs.Str.{bytes_eq}
 use Rattle.password_hash.specs.Refusal.{Refusal, KeyTooShort, OutOfMemory, ParamsInvalid, PasswordInvalid, TooCostly}
-pub use Rattle.password_hash.specs.Refusal.{told}
+pub use Rattle.password_hash.specs.Refusal.{with_refusal}
 use Rattle.scrypt.specs.Accepted.{Parameters, are_accepted}
 use Rattle.scrypt.specs.Cost.{chunks_bytes}
 use Rattle.scrypt.specs.Hashing.{key_len_or_default}

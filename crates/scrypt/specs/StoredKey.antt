@@ -3,7 +3,7 @@ use Rattle.std.specs.Prelude.{◌≡◌, ℕ, List, [], Option, Some, unwrap_or}
 use Rattle.password_hash.specs.Crypt64.{decoded}
 use Rattle.password_hash.specs.McfViews.{borrowed_text, field_text}
 use Rattle.scrypt.specs.PhcHash.{phc_params}
-use Rattle.scrypt.specs.Reading.{told}
+use Rattle.scrypt.specs.Reading.{with_refusal}
 use Rattle.scrypt.specs.StoredHash.{McfText, PhcHash, formatted}
 use Rattle.scrypt.specs.declared.stored_hash.Format.{Format}
 use Rattle.scrypt.specs.declared.stored_hash.Format.TheVariants as format
@@ -13,7 +13,7 @@ use Rattle.scrypt.specs.declared.stored_hash.parts.Key.TheVariants.{Mcf, Phc}
 -- the text is that of this hash
 abbrev pub IsHashOf : List ℕ → Format → Type 0
 IsHashOf text (format.Mcf hash) = formatted text ≡ Some (McfText (borrowed_text hash))
-IsHashOf text (format.Phc hash params) = (formatted text ≡ Some (PhcHash hash)) × (told params ≡ phc_params hash)
+IsHashOf text (format.Phc hash params) = (formatted text ≡ Some (PhcHash hash)) × (with_refusal params ≡ phc_params hash)
 
 -- the bytes of a key, if it is an encoding
 abbrev pub decoded_key : Key → Option (List ℕ)

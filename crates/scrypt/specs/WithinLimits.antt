@@ -22,6 +22,6 @@ limited_refusal (error.TooCostly bytes work) = TooCostly bytes work
 limited_refusal (error.KeyTooShort key_len) = KeyTooShort key_len
 
 -- a result of a call with limits, with the value of its error
-abbrev pub told_limited : {T : Type 0} → Result T LimitedError → Result T Refusal
-told_limited (Ok x) = Ok x
-told_limited (Err e) = Err (limited_refusal e)
+abbrev pub with_limited_refusal : {T : Type 0} → Result T LimitedError → Result T Refusal
+with_limited_refusal (Ok x) = Ok x
+with_limited_refusal (Err e) = Err (limited_refusal e)

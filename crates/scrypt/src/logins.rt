@@ -9,7 +9,7 @@ ghost use Rattle.scrypt.specs.Logins.{AreVerdicts, Both, Group, One, all_chunks,
 ghost use Rattle.scrypt.specs.Mixing.{IsWidth};
 ghost use Rattle.scrypt.specs.Reading.{Stored, mapped, verdict};
 ghost use Rattle.scrypt.specs.StoredParts.{stored};
-ghost use Rattle.scrypt.specs.WithinLimits.{told_limited};
+ghost use Rattle.scrypt.specs.WithinLimits.{with_limited_refusal};
 ghost use Rattle.scrypt.specs.WorkInBuffers.{IsDone, has_room, verdict_in, work_in};
 
 use crate::buffers::width_in;
@@ -43,7 +43,7 @@ pub trait Keys {
     ghost logins: { Self → Group (List ℕ × Result Stored Refusal) };
 
     // each verdict, with the value of its error
-    ghost told: { Self.Verdicts → Group (Result ⊤ Refusal) };
+    ghost with_refusals: { Self.Verdicts → Group (Result ⊤ Refusal) };
 
     /// Returns the parameters with which all keys are derived at once, and the number of all chunks, or `None`
     /// if a hash cannot be read or is not within its limits, or an `N` or an `r` differs.
@@ -66,7 +66,7 @@ pub trait Keys {
     fn compare(&self, mixed: &[u8]) -> Self::Verdicts
         requires len { length mixed.now ≡ length (all_chunks (Self.logins self.now)) }
         requires mixed { mixed.now ≡ all_mixed (Self.logins self.now) }
-        ensures verdicts { AreVerdicts verdict (Self.logins self.now) (told result) };
+        ensures verdicts { AreVerdicts verdict (Self.logins self.now) (with_refusals result) };
 }
 
 /// One login, or two groups of logins, as four are in `((a, b), (c, d))`.
@@ -88,7 +88,7 @@ pub trait Logins: Keys {
         cores: &mut CoreCount,
     ) -> Self::Verdicts
         ensures verdicts { AreVerdicts (verdict_in (work_in chunks.old table.old scratch.old cores.old)) (Self.logins self.now)
-            (Self.told result) }
+            (Self.with_refusals result) }
         ensures left { are_left (Self.logins self.now)
             (work_in chunks.old table.old scratch.old cores.old) (work_in chunks.new table.new scratch.new cores.new) };
 }
@@ -96,7 +96,7 @@ pub trait Logins: Keys {
 impl<'a> Login<'a> {
     // Returns the parts of the hash, if it can be read and is within its limits, or the first error.
     fn parts(&self) -> std::result::Result<Parts<'_>, LimitedError>
-        ensures { mapped stored (told_limited result) ≡ reading_of self.now }
+        ensures { mapped stored (with_limited_refusal result) ≡ reading_of self.now }
     {
         let hash = match &self.hash {
             Ok(hash) => hash,
@@ -117,7 +117,7 @@ impl<'a> Keys for Login<'a> {
 
     ghost logins = { λ login. One (login.password.now, reading_of login) };
 
-    ghost told = { λ out. One (told_limited out) };
+    ghost with_refusals = { λ out. One (with_limited_refusal out) };
 
     fn shared(&self) -> Option<(Params, u32)> {
         match self.parts() {
@@ -176,7 +176,7 @@ impl<A: Keys, B: Keys> Keys for (A, B) {
 
     ghost logins = { λ both. Both (A.logins both.0) (B.logins both.1) };
 
-    ghost told = { λ out. Both (A.told out.0) (B.told out.1) };
+    ghost with_refusals = { λ out. Both (A.with_refusals out.0) (B.with_refusals out.1) };
 
     fn shared(&self) -> Option<(Params, u32)> {
         joined(self.0.shared(), self.1.shared())
@@ -267,7 +267,7 @@ fn verify_at_once<L: Keys>(
 ) -> L::Verdicts
     requires shared { shared (L.logins logins.now) ≡ Some (record params.now { p = count }) }
     requires width { IsWidth params.now.log_n params.now.r count width chunks.old table.old scratch.old }
-    ensures verdicts { AreVerdicts verdict (L.logins logins.now) (L.told result) }
+    ensures verdicts { AreVerdicts verdict (L.logins logins.now) (L.with_refusals result) }
     ensures done { IsDone (record params.now { p = count })
         (work_in chunks.old table.old scratch.old cores.old) (work_in chunks.new table.new scratch.new cores.new) }
 {

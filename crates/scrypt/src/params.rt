@@ -3,7 +3,7 @@
 ghost use Rattle.std.specs.Prelude.{◌≡◌, ◌↔◌, ◌+◌, ◌*◌, ◌^◌, ◌<◌, ◌≤◌, IsOk, IfOk, IfSome, IsTrue, None, Some};
 ghost use Rattle.scrypt.specs.Accepted.{AreAccepted, IsStoredLen, Parameters, parameters_eq, recommended_parameters};
 ghost use Rattle.scrypt.specs.Limits.{work};
-ghost use Rattle.scrypt.specs.Reading.{checked, told};
+ghost use Rattle.scrypt.specs.Reading.{checked, with_refusal};
 ghost use Rattle.scrypt.specs.Cost.{cost};
 ghost use Rattle.std.specs.Cmp.{and_equiv, on_equiv, partial_equiv_from_equiv};
 ghost use Rattle.std.specs.Cmp.Lexicographic.{options_equiv};
@@ -110,7 +110,7 @@ impl Params {
     /// Returns the parameters of a text. Returns `ParamsInvalid` if [`Params::new`] does not accept them.
     #[tactic(auto, using(crate::proofs::AcceptedFacts::reading_numbers))]
     pub(crate) fn of_text(log_n: u8, r: u32, p: u32) -> password_hash::Result<Params>
-        ensures { told result ≡ checked log_n r p }
+        ensures { with_refusal result ≡ checked log_n r p }
     {
         match Params::new(log_n, r, p) {
             Ok(params) => Ok(params),

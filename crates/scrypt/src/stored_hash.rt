@@ -4,7 +4,7 @@ ghost use Rattle.std.specs.Prelude.{◌≡◌, ◌≢◌, ◌↔◌, Err, IfErr,
 ghost use Rattle.password_hash.specs.Refusal.{PasswordInvalid};
 ghost use Rattle.password_hash.specs.declared.error.Error.TheVariants.{EncodingInvalid};
 ghost use Rattle.scrypt.specs.Cost.{chunks_bytes, scratch_words, table_words};
-ghost use Rattle.scrypt.specs.Reading.{◌and_then◌, IsVerdict, mapped, told, weaker};
+ghost use Rattle.scrypt.specs.Reading.{◌and_then◌, IsVerdict, mapped, weaker, with_refusal};
 ghost use Rattle.scrypt.specs.StoredHash.{formatted, is_mcf_text, is_stored_text, key_len_or_zero, params_reading, reading};
 ghost use Rattle.scrypt.specs.StoredKey.{IsHashOf};
 ghost use Rattle.scrypt.specs.WorkInBuffers.{IsLeft, verdict_in, work_in};
@@ -59,8 +59,8 @@ impl<'a> StoredHash<'a> {
         ensures exact { IsOk result ↔ IsTrue (is_stored_text text.now) }
         ensures ok { IfOk result (λ hash. hash ≡ text.now) }
         ensures err { IfErr result (λ e. e ≡ EncodingInvalid) }
-        ensures reading { reading text.now ≡ told result and_then reading }
-        ensures params { params_reading text.now ≡ told result and_then params_reading }
+        ensures reading { reading text.now ≡ with_refusal result and_then reading }
+        ensures params { params_reading text.now ≡ with_refusal result and_then params_reading }
     {
         match read_format(text) {
             Ok(format) => Ok(StoredHash { text, format }),
@@ -83,7 +83,7 @@ impl<'a> StoredHash<'a> {
     /// Returns the first error of [`StoredHash::verify`] before it allocates, except
     /// `PasswordInvalid`.
     pub fn params(&self) -> Result<Params>
-        ensures value { told result ≡ mapped (λ read. read.0) (params_reading self.now) }
+        ensures value { with_refusal result ≡ mapped (λ read. read.0) (params_reading self.now) }
     {
         match self.params_and_key_len() {
             Ok((params, _)) => Ok(params),
@@ -95,7 +95,7 @@ impl<'a> StoredHash<'a> {
     ///
     /// Returns the same errors as [`StoredHash::params`].
     pub fn key_len(&self) -> Result<usize>
-        ensures value { told result ≡ mapped (λ read. read.1) (params_reading self.now) }
+        ensures value { with_refusal result ≡ mapped (λ read. read.1) (params_reading self.now) }
     {
         match self.params_and_key_len() {
             Ok((_, len)) => Ok(len),
@@ -109,7 +109,7 @@ impl<'a> StoredHash<'a> {
     ///
     /// Returns the errors of `Scrypt::verify_password` for the format, in the same order.
     pub fn verify(&self, alloc: Global, password: &[u8]) -> Result<()>
-        ensures verdict { IsVerdict password.now (reading self.now) (told result) }
+        ensures verdict { IsVerdict password.now (reading self.now) (with_refusal result) }
     {
         match self.parts() {
             Ok(parts) => verify_allocating(alloc, password, &parts),
@@ -123,7 +123,7 @@ impl<'a> StoredHash<'a> {
     /// Returns the same errors as [`StoredHash::verify`] does before it allocates, in the same
     /// order.
     pub fn needs_rehash(&self, wanted: &Params) -> Result<bool>
-        ensures weaker { told result ≡ weaker wanted.now (reading self.now) }
+        ensures weaker { with_refusal result ≡ weaker wanted.now (reading self.now) }
     {
         match self.parts() {
             Ok(parts) => Ok(is_below(wanted, &parts.params, parts.key_len)),
@@ -136,12 +136,12 @@ impl<'a> StoredHash<'a> {
     ///
     /// Returns the same errors as [`StoredHash::params`].
     pub fn buffer_lens(&self) -> Result<BufferLens>
-        ensures value { told result ≡ mapped (λ read. record {
+        ensures value { with_refusal result ≡ mapped (λ read. record {
           chunks = chunks_bytes read.0.r read.0.p;
           table = table_words read.0.log_n read.0.r;
           scratch = scratch_words read.0.r;
         }) (params_reading self.now) }
-        ensures missing { told result ≢ Err PasswordInvalid }
+        ensures missing { with_refusal result ≢ Err PasswordInvalid }
     {
         // Proof hint: the text is one of its format.
         let _ = self.as_str();
@@ -171,7 +171,7 @@ impl<'a> StoredHash<'a> {
         scratch: &mut [u32],
         cores: &mut CoreCount,
     ) -> Result<()>
-        ensures verdict { told result
+        ensures verdict { with_refusal result
             ≡ verdict_in (work_in chunks.old table.old scratch.old cores.old) password.now (reading self.now) }
         ensures left { IsLeft (reading self.now)
             (work_in chunks.old table.old scratch.old cores.old) (work_in chunks.new table.new scratch.new cores.new) }
@@ -185,7 +185,7 @@ impl<'a> StoredHash<'a> {
     /// Returns what [`StoredHash::params`] and [`StoredHash::key_len`] return, read once.
     #[tactic(auto, unfolding(crate::specs::StoredHash::params_reading))]
     pub fn params_and_key_len(&self) -> Result<(Params, usize)>
-        ensures value { told result ≡ params_reading self.now }
+        ensures value { with_refusal result ≡ params_reading self.now }
     {
         match &self.format {
             Format::Mcf(hash) => match parts_of_mcf(hash) {

@@ -5,7 +5,7 @@ ghost use Rattle.password_hash.specs.Refusal.{PasswordInvalid};
 ghost use Rattle.scrypt_kernel.specs.Count.{AreCounted};
 ghost use Rattle.scrypt.specs.Cost.{chunks_bytes, cost};
 ghost use Rattle.scrypt.specs.Mixing.{HasTables};
-ghost use Rattle.scrypt.specs.Reading.{IsVerdict, is_right, told};
+ghost use Rattle.scrypt.specs.Reading.{IsVerdict, is_right, with_refusal};
 ghost use Rattle.scrypt.specs.StoredParts.{stored};
 ghost use Rattle.scrypt.specs.WorkInBuffers.{IsLeft, verdict_in, work_in};
 
@@ -21,7 +21,7 @@ use std::alloc::Global;
 
 /// Returns the verdict, given whether the derived key is the stored one.
 pub(crate) fn verdict(same: bool) -> Result<()>
-    ensures { told result ≡ (if same then Ok tt else Err PasswordInvalid) }
+    ensures { with_refusal result ≡ (if same then Ok tt else Err PasswordInvalid) }
 {
     if same {
         Ok(())
@@ -62,7 +62,7 @@ fn is_key_of<M: Memory>(
 ///
 /// Returns `OutOfMemory` if an allocation fails, and otherwise `PasswordInvalid` if the keys differ.
 pub(crate) fn verify_allocating(alloc: Global, password: &[u8], parts: &Parts<'_>) -> Result<()>
-    ensures verdict { IsVerdict password.now (Ok (stored parts.now)) (told result) }
+    ensures verdict { IsVerdict password.now (Ok (stored parts.now)) (with_refusal result) }
 {
     let mut own = Buffers::allocate(alloc, &BufferLens::of(&parts.params))?;
     let mut cores = CoreCount::new();
@@ -93,7 +93,7 @@ pub(crate) fn verify_in_buffers(
 ) -> Result<()>
     ensures left { IsLeft (Ok (stored parts.now))
         (work_in chunks.old table.old scratch.old cores.old) (work_in chunks.new table.new scratch.new cores.new) }
-    ensures verdict { told result
+    ensures verdict { with_refusal result
         ≡ verdict_in (work_in chunks.old table.old scratch.old cores.old) password.now (Ok (stored parts.now)) }
 {
     let Some(width) = width_in(&parts.params, parts.params.p(), chunks, table, scratch) else {

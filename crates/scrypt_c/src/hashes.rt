@@ -1,7 +1,7 @@
 //! Hashes: writing their texts, and verifying passwords by them.
 
 ghost use Rattle.std.specs.Prelude.{◌≡◌, ◌≢◌, ◌⊎◌, ◌↔◌, length};
-ghost use Rattle.password_hash.specs.Refusal.{told};
+ghost use Rattle.password_hash.specs.Refusal.{with_refusal};
 ghost use Rattle.scrypt.specs.McfHash.{IsMadeHash as IsMadeMcf};
 ghost use Rattle.scrypt.specs.PhcHash.{IsMadeText, IsSaltLen};
 ghost use Rattle.scrypt.specs.Reading.{weaker};
@@ -182,7 +182,7 @@ pub extern "C" fn scrypt_needs_rehash(text: &[u8], log_n: u8, r: u32, p: u32, ke
 
 // Returns the status of the result of verifying.
 fn verify_status(verified: Result<()>) -> i32
-    ensures { result ≡ result_status (told verified) }
+    ensures { result ≡ result_status (with_refusal verified) }
 {
     match verified {
         Ok(()) => OK,
@@ -192,7 +192,7 @@ fn verify_status(verified: Result<()>) -> i32
 
 // Returns the status of the result of comparing a hash with wanted parameters.
 fn rehash_status(weaker: Result<bool>) -> i32
-    ensures { result ≡ rehash_status (told weaker) }
+    ensures { result ≡ rehash_status (with_refusal weaker) }
 {
     match weaker {
         Ok(true) => NEEDS_REHASH,

@@ -2,7 +2,7 @@
 
 ghost use Rattle.std.specs.Prelude.{◌≡◌, ◌≢◌, ◌↔◌, ◌⊎◌, ◌≤◌, ◌++◌, drop, length, IfErr};
 ghost use Rattle.password_hash.specs.declared.error.Error.TheVariants.{EncodingInvalid};
-ghost use Rattle.scrypt.specs.Reading.{◌and_then◌, told};
+ghost use Rattle.scrypt.specs.Reading.{◌and_then◌, with_refusal};
 ghost use Rattle.scrypt.specs.StoredHash.{params_reading, reading};
 ghost use Rattle.scrypt_c.specs.Texts.{bytes_params, bytes_reading};
 
@@ -14,8 +14,8 @@ use scrypt::StoredHash;
 ///
 /// Returns `EncodingInvalid` if the bytes are not UTF-8 or the text is not one of its format.
 pub fn stored_hash(bytes: &[u8]) -> Result<StoredHash<'_>>
-    ensures reading { bytes_reading bytes.now ≡ told result and_then reading }
-    ensures params { bytes_params bytes.now ≡ told result and_then params_reading }
+    ensures reading { bytes_reading bytes.now ≡ with_refusal result and_then reading }
+    ensures params { bytes_params bytes.now ≡ with_refusal result and_then params_reading }
     ensures err { IfErr result (λ e. e ≡ EncodingInvalid) }
 {
     match std::str::from_utf8(bytes) {

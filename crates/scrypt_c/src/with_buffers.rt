@@ -6,7 +6,7 @@ ghost use Rattle.scrypt.specs.InBuffers.{AreEnough};
 ghost use Rattle.scrypt.specs.McfHash.{IsMadeHash as IsMadeMcf, made_text_len};
 ghost use Rattle.scrypt.specs.PhcHash.{IsMadeText, IsSaltLen};
 ghost use Rattle.scrypt.specs.Logins.{reading_of};
-ghost use Rattle.scrypt.specs.WithinLimits.{told_limited};
+ghost use Rattle.scrypt.specs.WithinLimits.{with_limited_refusal};
 ghost use Rattle.scrypt.specs.WorkInBuffers.{IsDone, IsLeft, verdict_in};
 ghost use Rattle.scrypt_c.specs.InBuffers.{AreLeftBy, LeftIn, buffers, statuses_in};
 ghost use Rattle.scrypt_c.specs.Made.{AreHashParams, IsTooLong, IsTooShort, IsWrittenTo, wanted};
@@ -210,7 +210,7 @@ fn login<'a>(password: &'a [u8], text: &'a [u8]) -> Login<'a>
 
 // Returns the status of a verdict in the caller's buffers.
 fn status(verdict: std::result::Result<(), LimitedError>) -> i32
-    ensures { result ≡ buffers_status (told_limited verdict) }
+    ensures { result ≡ buffers_status (with_limited_refusal verdict) }
 {
     match verdict {
         Ok(()) => OK,

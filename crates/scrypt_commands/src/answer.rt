@@ -4,7 +4,7 @@ ghost use Rattle.std.specs.Prelude.{◌≡◌, false, option_map, string_bytes};
 ghost use Rattle.std.specs.Result.{result_unwrap_or};
 ghost use Rattle.scrypt.specs.Reading.{IsVerdict, verdict, weaker};
 ghost use Rattle.scrypt.specs.StoredHash.{reading};
-ghost use Rattle.scrypt.specs.WithinLimits.{told_limited};
+ghost use Rattle.scrypt.specs.WithinLimits.{with_limited_refusal};
 ghost use Rattle.scrypt_commands.specs.Outcome.{bounded, limits_by, made_reply, new_hash, new_text, reply_to, right_of, right_reply};
 ghost use Rattle.scrypt_commands.specs.Steps.{Gives, making_view, reply_view, request_view};
 ghost use Rattle.scrypt_commands.specs.declared.args.Target.TheVariants.{Key};
@@ -116,7 +116,7 @@ fn verify_within(
     password: &[u8],
     limits: Option<Limits>,
 ) -> Result<(), LimitedError>
-    ensures { IsVerdict password.now (bounded limits (reading hash.now)) (told_limited result) }
+    ensures { IsVerdict password.now (bounded limits (reading hash.now)) (with_limited_refusal result) }
 {
     if let Some(limits) = limits {
         if let Err(refused) = hash.buffer_lens_within(&limits) {

@@ -4,7 +4,7 @@ ghost use Rattle.std.specs.Prelude.{◌≡◌, IfErr, IfOk, string_bytes};
 ghost use Rattle.password_hash.specs.declared.error.Error.TheVariants.{OutOfMemory};
 ghost use Rattle.scrypt.specs.Accepted.{recommended_parameters};
 ghost use Rattle.scrypt.specs.PhcHash.{IsMadeText};
-ghost use Rattle.scrypt.specs.Reading.{IsVerdict, told};
+ghost use Rattle.scrypt.specs.Reading.{IsVerdict, with_refusal};
 ghost use Rattle.scrypt.specs.StoredHash.{reading};
 
 use password_hash::{PasswordHasher, Result};
@@ -26,7 +26,7 @@ pub fn stored_text(alloc: Global, password: &[u8], salt: [u8; 16]) -> Result<Str
 ///
 /// Returns the error of reading the text if it has one, and otherwise `OutOfMemory` if an allocation fails.
 pub fn verify(alloc: Global, stored: &str, password: &[u8]) -> Result<()>
-    ensures verdict { IsVerdict password.now (reading stored.now) (told result) }
+    ensures verdict { IsVerdict password.now (reading stored.now) (with_refusal result) }
 {
     match StoredHash::read(stored) {
         Ok(hash) => hash.verify(alloc, password),

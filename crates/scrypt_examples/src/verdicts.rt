@@ -1,9 +1,9 @@
 //! Verdicts in buffers of the lengths that the hashes need: always exactly those of the passwords.
 
 ghost use Rattle.std.specs.Prelude.{◌≡◌, IfOk};
-ghost use Rattle.scrypt.specs.Reading.{◌and_then◌, told, verdict};
+ghost use Rattle.scrypt.specs.Reading.{◌and_then◌, verdict, with_refusal};
 ghost use Rattle.scrypt.specs.StoredHash.{reading};
-ghost use Rattle.scrypt.specs.WithinLimits.{told_limited, within};
+ghost use Rattle.scrypt.specs.WithinLimits.{with_limited_refusal, within};
 ghost use Rattle.scrypt_examples.specs.Buffers.{AreEnoughFor};
 
 use crate::buffers::Buffers;
@@ -17,7 +17,7 @@ pub fn verdict(
     text: &str,
     password: &[u8],
 ) -> Result<password_hash::Result<()>, AllocError>
-    ensures verdict { IfOk result (λ out. told out ≡ verdict password.now (reading text.now)) }
+    ensures verdict { IfOk result (λ out. with_refusal out ≡ verdict password.now (reading text.now)) }
 {
     parameters_are_those_of_the_reading();
     let hash = match StoredHash::read(text) {
@@ -50,9 +50,9 @@ pub fn two_verdicts_within(
     other_password: &[u8],
     limits: Limits,
 ) -> Result<(Result<(), LimitedError>, Result<(), LimitedError>), AllocError>
-    ensures verdict { IfOk result (λ both. told_limited both.0 ≡ verdict password.now (within limits (reading text.now))) }
+    ensures verdict { IfOk result (λ both. with_limited_refusal both.0 ≡ verdict password.now (within limits (reading text.now))) }
     ensures other_verdict { IfOk result (λ both.
-        told_limited both.1 ≡ verdict other_password.now (within limits (reading other_text.now))) }
+        with_limited_refusal both.1 ≡ verdict other_password.now (within limits (reading other_text.now))) }
 {
     let (one, other) = (StoredHash::read(text), StoredHash::read(other_text));
     let (first, second) = (lens_within(&one, &limits), lens_within(&other, &limits));
@@ -85,7 +85,7 @@ pub fn two_verdicts_within(
 
 // Returns the lengths of the buffers for verifying within limits, which are 0 if the hash is refused.
 fn lens_within(hash: &password_hash::Result<StoredHash<'_>>, limits: &Limits) -> BufferLens
-    ensures { AreEnoughFor result (within limits.now (told hash.now and_then reading)) }
+    ensures { AreEnoughFor result (within limits.now (with_refusal hash.now and_then reading)) }
 {
     if let Ok(hash) = hash
         && let Ok(lens) = hash.buffer_lens_within(limits)

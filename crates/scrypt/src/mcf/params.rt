@@ -3,7 +3,7 @@
 ghost use Rattle.std.specs.Prelude.{◌≡◌, ◌≤◌, drop, length, Ok, Err, IfOk, IfErr};
 ghost use Rattle.password_hash.specs.Refusal.{refusal};
 ghost use Rattle.scrypt.specs.McfParams.{field_params};
-ghost use Rattle.scrypt.specs.Reading.{told};
+ghost use Rattle.scrypt.specs.Reading.{with_refusal};
 
 use crate::Params;
 use crate::mcf::five_letters::decode64_uint32;
@@ -33,7 +33,7 @@ pub fn decode_params_and_salt(text: &str) -> Result<(Params, &[u8])>
 // Reads the parameters from the first eleven bytes.
 #[tactic(auto, using(crate::proofs::McfParamsFacts::reading_field), unfolding(crate::specs::McfParams::field_params))]
 fn decode_params(letters: &[u8]) -> Result<Params>
-    ensures value { told result ≡ field_params letters.now }
+    ensures value { with_refusal result ≡ field_params letters.now }
     ensures long { IfOk result (λ params. 11 ≤ length letters.now) }
 {
     let Some(first) = letters.first() else {

@@ -3,7 +3,7 @@
 ghost use Rattle.std.specs.Prelude.{◌≡◌, ◌↔◌, IsTrue};
 ghost use Rattle.password_hash.specs.McfViews.{borrowed_text, fields_left};
 ghost use Rattle.scrypt.specs.McfHash.{mcf_id, read_fields, read_mcf};
-ghost use Rattle.scrypt.specs.Reading.{mapped, told};
+ghost use Rattle.scrypt.specs.Reading.{mapped, with_refusal};
 ghost use Rattle.scrypt.specs.StoredParts.{stored};
 
 use crate::mcf::params::decode_params_and_salt;
@@ -21,7 +21,7 @@ use password_hash::{Error, Result};
 /// key of this length cannot be derived.
 #[tactic(auto, using(crate::proofs::McfHashFacts::reading_parts))]
 pub(crate) fn parts_of_mcf<'a>(hash: &PasswordHashRef<'a>) -> Result<Parts<'a>>
-    ensures { mapped stored (told result) ≡ read_mcf (borrowed_text hash.now) }
+    ensures { mapped stored (with_refusal result) ≡ read_mcf (borrowed_text hash.now) }
 {
     if !is_mcf(hash.id()) {
         return Err(Error::Algorithm);
@@ -32,7 +32,7 @@ pub(crate) fn parts_of_mcf<'a>(hash: &PasswordHashRef<'a>) -> Result<Parts<'a>>
 // Returns the parts that the fields after the id hold.
 #[tactic(auto, using(crate::proofs::McfHashFacts::reading_key))]
 fn parts_of_fields<'a>(mut fields: Fields<'a>) -> Result<Parts<'a>>
-    ensures { mapped stored (told result) ≡ read_fields (fields_left fields.entry) }
+    ensures { mapped stored (with_refusal result) ≡ read_fields (fields_left fields.entry) }
 {
     let Some(first) = fields.next() else {
         return Err(Error::EncodingInvalid);

@@ -7,7 +7,7 @@ ghost use Rattle.password_hash.specs.Value.{value_text};
 ghost use Rattle.scrypt.specs.Accepted.{IsStoredLen};
 ghost use Rattle.scrypt.specs.PhcConversions.{output_len_of, params_with_len};
 ghost use Rattle.scrypt.specs.PhcParams.{params_of_pairs, written_pairs};
-ghost use Rattle.scrypt.specs.Reading.{told};
+ghost use Rattle.scrypt.specs.Reading.{with_refusal};
 
 use crate::Params;
 use password_hash::phc::{ParamsString, PasswordHash, Value};
@@ -16,7 +16,7 @@ use password_hash::{Error, Result};
 impl TryFrom<&ParamsString> for Params {
     type Error = Error;
 
-    ghost try_from_gives = { λ text answer. told answer ≡ params_of_pairs text.now };
+    ghost try_from_gives = { λ text answer. with_refusal answer ≡ params_of_pairs text.now };
 
     /// Reads the parameters `ln`, `r` and `p`. A missing one has its recommended value, and the result
     /// has no length of a stored key.
@@ -45,7 +45,7 @@ impl TryFrom<&ParamsString> for Params {
 // Returns the value of `ln`, a decimal of at most 255.
 #[tactic(auto, using(crate::proofs::PhcReadingFacts::numbers))]
 fn log_n_of(value: Value<'_>) -> Result<u8>
-    ensures { told result ≡ ok_or (decimal_below 256 (value_text value.entry)) (ParamInvalid (codes "ln")) }
+    ensures { with_refusal result ≡ ok_or (decimal_below 256 (value_text value.entry)) (ParamInvalid (codes "ln")) }
 {
     let refused = Err(Error::ParamInvalid { name: "ln" });
     let Ok(number) = value.decimal() else {
@@ -60,7 +60,7 @@ fn log_n_of(value: Value<'_>) -> Result<u8>
 // Returns the value of a parameter, a decimal.
 #[tactic(auto, using(crate::proofs::PhcReadingFacts::numbers))]
 fn number_of(value: Value<'_>, name: &'static str) -> Result<u32>
-    ensures { told result ≡ ok_or (decimal_below (2 ^ 32) (value_text value.entry)) (ParamInvalid name.now) }
+    ensures { with_refusal result ≡ ok_or (decimal_below (2 ^ 32) (value_text value.entry)) (ParamInvalid name.now) }
 {
     match value.decimal() {
         Ok(number) => Ok(number),
@@ -71,7 +71,7 @@ fn number_of(value: Value<'_>, name: &'static str) -> Result<u32>
 impl TryFrom<&PasswordHash> for Params {
     type Error = Error;
 
-    ghost try_from_gives = { λ hash answer. told answer ≡ params_with_len hash.now };
+    ghost try_from_gives = { λ hash answer. with_refusal answer ≡ params_with_len hash.now };
 
     /// Reads the parameters of a hash, with the length of its key, or 32 if it has no key. The algorithm
     /// is ignored.
@@ -103,7 +103,7 @@ fn output_len_of(hash: &PasswordHash) -> usize
 impl TryFrom<&Params> for ParamsString {
     type Error = Error;
 
-    ghost try_from_gives = { λ params answer. told answer ≡ Ok (written_pairs params.now) };
+    ghost try_from_gives = { λ params answer. with_refusal answer ≡ Ok (written_pairs params.now) };
 
     /// Writes the parameters as `ln=..,r=..,p=..` in decimal digits. Never returns an error.
     fn try_from(params: &Params) -> Result<ParamsString> {
@@ -114,7 +114,7 @@ impl TryFrom<&Params> for ParamsString {
 impl TryFrom<Params> for ParamsString {
     type Error = Error;
 
-    ghost try_from_gives = { λ params answer. told answer ≡ Ok (written_pairs params) };
+    ghost try_from_gives = { λ params answer. with_refusal answer ≡ Ok (written_pairs params) };
 
     /// Writes the parameters as `ln=..,r=..,p=..` in decimal digits. Never returns an error.
     fn try_from(params: Params) -> Result<ParamsString> {

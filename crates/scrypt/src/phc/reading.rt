@@ -2,7 +2,7 @@
 
 ghost use Rattle.std.specs.Prelude.{◌≡◌, ◌↔◌, codes, IsTrue};
 ghost use Rattle.scrypt.specs.PhcHash.{phc_params, read_phc};
-ghost use Rattle.scrypt.specs.Reading.{mapped, told};
+ghost use Rattle.scrypt.specs.Reading.{mapped, with_refusal};
 ghost use Rattle.scrypt.specs.StoredParts.{stored};
 
 use crate::Params;
@@ -16,8 +16,8 @@ use password_hash::{Error, Result};
 /// Returns the error of reading the parameters, or `PasswordInvalid` if the salt or the key is
 /// missing.
 pub(crate) fn parts_of_phc<'a>(hash: &'a PasswordHash, params: &Result<Params>) -> Result<Parts<'a>>
-    requires { told params.now ≡ phc_params hash.now }
-    ensures { mapped stored (told result) ≡ read_phc hash.now }
+    requires { with_refusal params.now ≡ phc_params hash.now }
+    ensures { mapped stored (with_refusal result) ≡ read_phc hash.now }
 {
     let params = match params {
         Ok(params) => *params,
@@ -44,7 +44,7 @@ pub(crate) fn parts_of_phc<'a>(hash: &'a PasswordHash, params: &Result<Params>) 
 /// there is a version, and the errors of reading the parameters.
 #[tactic(auto, unfolding(crate::specs::PhcHash::phc_params))]
 pub(crate) fn read_params(hash: &PasswordHash) -> Result<Params>
-    ensures { told result ≡ phc_params hash.now }
+    ensures { with_refusal result ≡ phc_params hash.now }
 {
     if !is_scrypt(&hash.algorithm) {
         return Err(Error::Algorithm);

@@ -50,14 +50,14 @@ pub(crate) struct Parts<'a> {
 }
 
 impl<'a> StoredHash<'a> {
-    ghost use Rattle.scrypt.specs.Reading.{mapped, told};
+    ghost use Rattle.scrypt.specs.Reading.{mapped, with_refusal};
     ghost use Rattle.scrypt.specs.StoredHash.{reading};
     ghost use Rattle.scrypt.specs.StoredParts.{stored};
 
     /// Returns the parts of the hash, or the error of reading it.
     #[tactic(auto, unfolding(crate::specs::StoredHash::reading))]
     pub(crate) fn parts(&self) -> Result<Parts<'_>>
-        ensures { mapped stored (told result) ≡ reading self.now }
+        ensures { mapped stored (with_refusal result) ≡ reading self.now }
     {
         match &self.format {
             Format::Mcf(hash) => parts_of_mcf(hash),

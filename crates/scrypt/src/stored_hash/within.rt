@@ -4,10 +4,10 @@ ghost use Rattle.std.specs.Prelude.{◌≡◌, length};
 ghost use Rattle.password_hash.specs.Refusal.{TooCostly};
 ghost use Rattle.scrypt.specs.Limits.{buffers_bytes, work};
 ghost use Rattle.scrypt.specs.Cost.{chunks_bytes, scratch_words, table_words};
-ghost use Rattle.scrypt.specs.Reading.{mapped, told};
+ghost use Rattle.scrypt.specs.Reading.{mapped, with_refusal};
 ghost use Rattle.scrypt.specs.StoredHash.{reading};
 ghost use Rattle.scrypt.specs.StoredParts.{stored};
-ghost use Rattle.scrypt.specs.WithinLimits.{limited_refusal, told_limited, within};
+ghost use Rattle.scrypt.specs.WithinLimits.{limited_refusal, with_limited_refusal, within};
 ghost use Rattle.scrypt.specs.WorkInBuffers.{IsLeft, verdict_in, work_in};
 
 use super::StoredHash;
@@ -25,7 +25,7 @@ impl<'a> StoredHash<'a> {
     /// parameters exceed the limit on memory or the limit on work; and `KeyTooShort` if its key is shorter than
     /// the limits allow.
     pub fn buffer_lens_within(&self, limits: &Limits) -> Result<BufferLens, LimitedError>
-        ensures value { told_limited result ≡ mapped (λ s. record {
+        ensures value { with_limited_refusal result ≡ mapped (λ s. record {
           chunks = chunks_bytes s.params.r s.params.p;
           table = table_words s.params.log_n s.params.r;
           scratch = scratch_words s.params.r;
@@ -52,7 +52,7 @@ impl<'a> StoredHash<'a> {
         scratch: &mut [u32],
         cores: &mut CoreCount,
     ) -> Result<(), LimitedError>
-        ensures verdict { told_limited result ≡ verdict_in (work_in chunks.old table.old scratch.old cores.old)
+        ensures verdict { with_limited_refusal result ≡ verdict_in (work_in chunks.old table.old scratch.old cores.old)
             password.now (within limits.now (reading self.now)) }
         ensures left { IsLeft (within limits.now (reading self.now))
             (work_in chunks.old table.old scratch.old cores.old) (work_in chunks.new table.new scratch.new cores.new) }
@@ -73,7 +73,7 @@ impl<'a> StoredHash<'a> {
         &self,
         limits: &Limits,
     ) -> Result<(Params, usize), LimitedError>
-        ensures value { told_limited result
+        ensures value { with_limited_refusal result
             ≡ mapped (λ s. (s.params, length s.key)) (within limits.now (reading self.now)) }
     {
         match self.parts_within(limits) {
@@ -84,7 +84,7 @@ impl<'a> StoredHash<'a> {
 
     /// Returns the parts of a hash that is within the limits, or the first error.
     pub(crate) fn parts_within(&self, limits: &Limits) -> Result<Parts<'_>, LimitedError>
-        ensures { mapped stored (told_limited result) ≡ within limits.now (reading self.now) }
+        ensures { mapped stored (with_limited_refusal result) ≡ within limits.now (reading self.now) }
     {
         let parts = match self.parts() {
             Ok(parts) => parts,
@@ -114,7 +114,7 @@ fn too_costly(params: &Params) -> LimitedError
 
 // Returns a verdict as one of a call with limits.
 pub(crate) fn limited(verdict: password_hash::Result<()>) -> Result<(), LimitedError>
-    ensures { told_limited result ≡ told verdict }
+    ensures { with_limited_refusal result ≡ with_refusal verdict }
 {
     match verdict {
         Ok(()) => Ok(()),

@@ -21,12 +21,12 @@ none least letters other = sym (none_exact (λ bytes. AreBytesFromTo least 64 by
 made : (least : ℕ) (letters read : List ℕ) (kept : Option (List ℕ)) → IsBytes letters
     → decode_of standard_no_pad letters ≡ Ok read → (IsSome kept ↔ (least ≤ length read) × (length read ≤ 64))
     → IfSome kept (λ bytes. bytes ≡ read) → IfSome kept (AreBytesFromTo least 64) → kept ≡ decoded_bytes least letters
-made least letters read None are told exact value bounds = none least letters (λ bytes within same.
-    let both = sym told ∙ decode_of-base64 letters bytes within.are_bytes same in
+made least letters read None are decoded exact value bounds = none least letters (λ bytes within same.
+    let both = sym decoded ∙ decode_of-base64 letters bytes within.are_bytes same in
     let all : read ≡ bytes = cc in
     false≢true (exact.1 (rw all (within.enough, within.fits))))
-made least letters read (Some bytes) are told exact value bounds =
-    sym ((bytes_exact least letters bytes).1 (bounds, decode_of_strict standard_no_pad letters bytes (refl, refl) are (rw value told)))
+made least letters read (Some bytes) are decoded exact value bounds =
+    sym ((bytes_exact least letters bytes).1 (bounds, decode_of_strict standard_no_pad letters bytes (refl, refl) are (rw value decoded)))
 
 pub returns-then-letters-gt86 : goal.returns-then-letters-gt86
 returns-then-letters-gt86 g c = record {
