@@ -11,7 +11,7 @@ use Rattle.scrypt.specs.InBuffers.{AreEnough}
 use Rattle.scrypt.specs.Key.{mixed_chunks}
 use Rattle.scrypt.specs.Logins.{AreLeft, AreVerdicts, Both, Group, One, Readings, all_chunks, all_mixed, joined, shared}
 use Rattle.scrypt.specs.Reading.{verdict}
-use Rattle.scrypt.specs.WorkInBuffers.{IsDone, Work, has_room, verdict_in}
+use Rattle.scrypt.specs.Workspace.{IsDone, Workspace, has_room, verdict_in}
 use Rattle.scrypt.proofs.KeyFacts.{both_mixed, length-mixed_chunks}
 use Rattle.scrypt.proofs.ReadingFacts.{room_decided, room_enough, room_too_short, same_verdict}
 
@@ -63,7 +63,7 @@ mixed_is (Both first second) e is some =
     ∙ both_mixed (all_chunks first) (all_chunks second) e.log_n e.r both.c.p both.d.p some long ∙ ap₂ (λ x y. x ++ y) front back
 
 -- room for all is room for each
-fewer_fit : (c e : Parameters) (w : Work) → c.log_n ≡ e.log_n → c.r ≡ e.r → c.p ≤ e.p → has_room e w ≡ true → has_room c w ≡ true
+fewer_fit : (c e : Parameters) (w : Workspace) → c.log_n ≡ e.log_n → c.r ≡ e.r → c.p ≤ e.p → has_room e w ≡ true → has_room c w ≡ true
 fewer_fit c e w log_n r fewer room =
     let fits = (room_decided e w).0 room in
     let bytes = mul-le-mul_right (128 * e.r) fewer in
@@ -73,7 +73,7 @@ fewer_fit c e w log_n r fewer room =
       scratch_fits = fits.1.1;
     }))
 
-pub alone : (g : Readings) (out : Group (Result ⊤ Refusal)) (e : Parameters) (w : Work) → shared g ≡ Some e → has_room e w ≡ true
+pub alone : (g : Readings) (out : Group (Result ⊤ Refusal)) (e : Parameters) (w : Workspace) → shared g ≡ Some e → has_room e w ≡ true
     → AreVerdicts verdict g out → AreVerdicts (verdict_in w) g out
 alone (One (password, Ok s)) (One out) e w is room verdicts =
     let same : s.params ≡ e = cc in
@@ -87,7 +87,7 @@ alone (Both first second) (Both out outs) e w is room verdicts =
 alone (One login) (Both out outs) e w is room verdicts = verdicts
 alone (Both first second) (One out) e w is room verdicts = verdicts
 
-pub alike : (g : Readings) (out : Group (Result ⊤ Refusal)) (w v : Work) → length w.chunks ≡ length v.chunks
+pub alike : (g : Readings) (out : Group (Result ⊤ Refusal)) (w v : Workspace) → length w.chunks ≡ length v.chunks
     → length w.table ≡ length v.table → length w.scratch ≡ length v.scratch
     → AreVerdicts (verdict_in w) g out → AreVerdicts (verdict_in v) g out
 alike (One login) (One out) w v chunks table scratch verdicts = verdicts ∙ same_verdict w v chunks table scratch login.0 login.1
@@ -96,11 +96,11 @@ alike (Both first second) (Both out outs) w v chunks table scratch verdicts =
 alike (One login) (Both out outs) w v chunks table scratch verdicts = verdicts
 alike (Both first second) (One out) w v chunks table scratch verdicts = verdicts
 
-pub no_room_for : (s : Option Parameters) (c e : Parameters) (w : Work) → s ≡ Some c → s ≡ Some e → ¬ AreEnough c w.chunks w.table w.scratch
+pub no_room_for : (s : Option Parameters) (c e : Parameters) (w : Workspace) → s ≡ Some c → s ≡ Some e → ¬ AreEnough c w.chunks w.table w.scratch
     → has_room e w ≡ false
 no_room_for s c e w one other short = let same : e ≡ c = cc in rw same (room_too_short c w short)
 
-pub left_at_once : (s : Option Parameters) (e : Parameters) (First Second : Work → Work → Type 0) (before after : Work) → s ≡ Some e
+pub left_at_once : (s : Option Parameters) (e : Parameters) (First Second : Workspace → Workspace → Type 0) (before after : Workspace) → s ≡ Some e
     → has_room e before ≡ true → IsDone e before after → AreLeft s First Second before after
 left_at_once s e First Second before after is room done = rw (is, room) done
 

@@ -13,7 +13,7 @@ use Rattle.scrypt.proofs.KeyFacts.{length-key_by}
 use Rattle.std.proofs.lemmas.Bool.{le-ltb}
 use Rattle.scrypt.specs.Reading.{◌and_then◌, NamesNoPassword, Stored, checked, is_below, is_right, mapped, verdict, weaker}
 use Rattle.scrypt.specs.InBuffers.{AreEnough}
-use Rattle.scrypt.specs.WorkInBuffers.{Work, has_room, verdict_in}
+use Rattle.scrypt.specs.Workspace.{Workspace, has_room, verdict_in}
 
 -- what is read in two steps
 
@@ -118,22 +118,22 @@ made_strong c password salt reading is =
     let same = λ (n : ℕ). le-ltb n n (omega arith) in
     rw (is, long, same c.log_n, same c.r, same c.p, same (key_len_or_default c)) refl
 
-pub room_decided : (c : Parameters) (w : Work) → Decides (has_room c w)
+pub room_decided : (c : Parameters) (w : Workspace) → Decides (has_room c w)
     ((chunks_bytes c.r c.p ≤ length w.chunks) × ((table_words c.log_n c.r ≤ length w.table) × (scratch_words c.r ≤ length w.scratch)))
 unfolding has_room
 room_decided c w =
     Decides-and _ _ (leb_decided _ _) (Decides-and _ _ (leb_decided _ _) (leb_decided _ _))
 
-pub room_enough : (c : Parameters) (w : Work) → AreEnough c w.chunks w.table w.scratch → has_room c w ≡ true
+pub room_enough : (c : Parameters) (w : Workspace) → AreEnough c w.chunks w.table w.scratch → has_room c w ≡ true
 room_enough c w enough = (room_decided c w).1 (enough.chunks_fit, (enough.table_fits, enough.scratch_fits))
 
-pub room_too_short : (c : Parameters) (w : Work) → ¬ AreEnough c w.chunks w.table w.scratch → has_room c w ≡ false
+pub room_too_short : (c : Parameters) (w : Workspace) → ¬ AreEnough c w.chunks w.table w.scratch → has_room c w ≡ false
 room_too_short c w short = refuted _ (room_decided c w) (λ fits.
     short (record { chunks_fit = fits.0; table_fits = fits.1.0; scratch_fits = fits.1.1 }))
 
 pub ruleset known_room = (room_enough, room_too_short)
 
-pub same_verdict : (w w' : Work) → length w.chunks ≡ length w'.chunks → length w.table ≡ length w'.table
+pub same_verdict : (w w' : Workspace) → length w.chunks ≡ length w'.chunks → length w.table ≡ length w'.table
     → length w.scratch ≡ length w'.scratch
     → (password : List ℕ) (reading : Result Stored Refusal) → verdict_in w password reading ≡ verdict_in w' password reading
 unfolding has_room

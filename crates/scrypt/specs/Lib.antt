@@ -33,8 +33,8 @@ pub mod Hashing
 pub mod Reading
 -- the caller's buffers: long enough, wiped, and written to
 pub mod InBuffers
--- the memory of one derivation: the verdict in it, and what is left in it
-pub mod WorkInBuffers
+-- the workspace of one derivation: the verdict in it, and what is left in it
+pub mod Workspace
 -- parameters read from a PHC text
 pub mod PhcParams
 -- PHC hashes that are made, and those that are whole

@@ -5,7 +5,7 @@ use Rattle.scrypt.specs.Accepted.{Parameters}
 use Rattle.scrypt.specs.Reading.{◌and_then◌, Stored, chunks_of, mixed_of, with_refusal}
 use Rattle.scrypt.specs.StoredHash.{reading}
 use Rattle.scrypt.specs.WithinLimits.{within}
-use Rattle.scrypt.specs.WorkInBuffers.{Work, IsDone, IsLeft, has_room}
+use Rattle.scrypt.specs.Workspace.{Workspace, IsDone, IsLeft, has_room}
 use Rattle.scrypt.specs.declared.limits.Limits.{Limits}
 use Rattle.scrypt.specs.declared.logins.Login.{Login}
 
@@ -66,12 +66,12 @@ all_mixed (Both first second) = all_mixed first ++ all_mixed second
 
 -- What verifying two groups leaves, if that is what verifying each leaves: if all are derived at once, and there is room, what
 -- one derivation with these parameters leaves, and otherwise what the groups leave, one after the other.
-abbrev pub AreLeft : Option Parameters → (Work → Work → Type 0) → (Work → Work → Type 0) → Work → Work → Type 0
+abbrev pub AreLeft : Option Parameters → (Workspace → Workspace → Type 0) → (Workspace → Workspace → Type 0) → Workspace → Workspace → Type 0
 AreLeft (Some c) First Second before after =
-    MatchBool (has_room c before) (IsDone c before after) ((between : Work) × First before between × Second between after)
-AreLeft None First Second before after = (between : Work) × First before between × Second between after
+    MatchBool (has_room c before) (IsDone c before after) ((between : Workspace) × First before between × Second between after)
+AreLeft None First Second before after = (between : Workspace) × First before between × Second between after
 
 -- what verifying all leaves
-abbrev pub are_left : Readings → Work → Work → Type 0
+abbrev pub are_left : Readings → Workspace → Workspace → Type 0
 are_left (One login) = IsLeft login.1
 are_left (Both first second) = AreLeft (joined (shared first) (shared second)) (are_left first) (are_left second)

@@ -5,14 +5,14 @@ ghost use Rattle.std.specs.Vec.{vec_capacity};
 ghost use Rattle.scrypt.specs.Cost.{chunks_bytes, scratch_words, table_words};
 ghost use Rattle.scrypt.specs.InBuffers.{AreEnough};
 ghost use Rattle.scrypt.specs.Mixing.{HasTables, IsWidth};
-ghost use Rattle.scrypt.specs.WorkInBuffers.{AreUsed, at_once};
+ghost use Rattle.scrypt.specs.Workspace.{AreUsed, at_once};
 
 use crate::{BufferLens, Params};
 use std::alloc::{AllocError, Global};
 
 /// Returns how many of `count` chunks are mixed at a time in a table and a scratch of so many words: at
 /// most four, and as many as have a table and a scratch there.
-#[tactic(auto, using(crate::proofs::CostFacts::rooms), unfolding(crate::specs::WorkInBuffers::at_once))]
+#[tactic(auto, using(crate::proofs::CostFacts::rooms), unfolding(crate::specs::Workspace::at_once))]
 pub(crate) fn at_once(params: &Params, count: usize, table: usize, scratch: usize) -> usize
     ensures exact { result ≡ at_once params.now.log_n params.now.r count table scratch }
     ensures some { (0 < result) ↔ ((0 < count)

@@ -8,7 +8,7 @@ ghost use Rattle.scrypt.specs.Cost.{chunks_bytes, cost};
 ghost use Rattle.scrypt.specs.Hashing.{IsCallRefused, IsNamedOrNone, key_len_or_default};
 ghost use Rattle.scrypt.specs.KeyOfParams.{key_by};
 ghost use Rattle.scrypt.specs.Mixing.{HasTables, IsWidth};
-ghost use Rattle.scrypt.specs.WorkInBuffers.{IsDone, work_in};
+ghost use Rattle.scrypt.specs.Workspace.{IsDone, workspace_of};
 ghost use Rattle.password_hash.specs.declared.error.Error.TheVariants.{OutOfMemory};
 
 use crate::buffers::Buffers;
@@ -100,7 +100,7 @@ pub(crate) fn key_in_buffers(
     requires width { IsWidth params.now.log_n params.now.r params.now.p width chunks.old table.old scratch.old }
     ensures value { result ≡ key_by params.now password.now salt.now (key_len_or_default params.now) }
     ensures done { IsDone params.now
-        (work_in chunks.old table.old scratch.old cores.old) (work_in chunks.new table.new scratch.new cores.new) }
+        (workspace_of chunks.old table.old scratch.old cores.old) (workspace_of chunks.new table.new scratch.new cores.new) }
 {
     let lens = BufferLens::times(params, width);
     let mut rows = Buffer::new(&mut table[..lens.table]);

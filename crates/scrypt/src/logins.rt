@@ -10,7 +10,7 @@ ghost use Rattle.scrypt.specs.Mixing.{IsWidth};
 ghost use Rattle.scrypt.specs.Reading.{Stored, mapped, verdict};
 ghost use Rattle.scrypt.specs.StoredParts.{stored};
 ghost use Rattle.scrypt.specs.WithinLimits.{with_limited_refusal};
-ghost use Rattle.scrypt.specs.WorkInBuffers.{IsDone, has_room, verdict_in, work_in};
+ghost use Rattle.scrypt.specs.Workspace.{IsDone, has_room, verdict_in, workspace_of};
 
 use crate::buffers::width_in;
 use crate::comparing::is_derived_key;
@@ -87,10 +87,10 @@ pub trait Logins: Keys {
         scratch: &mut [u32],
         cores: &mut CoreCount,
     ) -> Self::Verdicts
-        ensures verdicts { AreVerdicts (verdict_in (work_in chunks.old table.old scratch.old cores.old)) (Self.logins self.now)
+        ensures verdicts { AreVerdicts (verdict_in (workspace_of chunks.old table.old scratch.old cores.old)) (Self.logins self.now)
             (Self.with_refusals result) }
         ensures left { are_left (Self.logins self.now)
-            (work_in chunks.old table.old scratch.old cores.old) (work_in chunks.new table.new scratch.new cores.new) };
+            (workspace_of chunks.old table.old scratch.old cores.old) (workspace_of chunks.new table.new scratch.new cores.new) };
 }
 
 impl<'a> Login<'a> {
@@ -247,7 +247,7 @@ fn room_for<L: Keys>(
     ensures width { IfSome result (λ got. IsWidth got.0.log_n got.0.r got.1 got.2 chunks.now table.now scratch.now) }
     ensures room { IfSome result (λ got. AreEnough (record got.0 { p = got.1 }) chunks.now table.now scratch.now) }
     ensures none { result ≡ None → (c : Parameters) (cores : CoreCount) → shared (L.logins logins.now) ≡ Some c
-        → has_room c (work_in chunks.now table.now scratch.now cores) ≡ false }
+        → has_room c (workspace_of chunks.now table.now scratch.now cores) ≡ false }
 {
     let (params, count) = logins.shared()?;
     let width = width_in(&params, count, chunks, table, scratch)?;
@@ -269,7 +269,7 @@ fn verify_at_once<L: Keys>(
     requires width { IsWidth params.now.log_n params.now.r count width chunks.old table.old scratch.old }
     ensures verdicts { AreVerdicts verdict (L.logins logins.now) (L.with_refusals result) }
     ensures done { IsDone (record params.now { p = count })
-        (work_in chunks.old table.old scratch.old cores.old) (work_in chunks.new table.new scratch.new cores.new) }
+        (workspace_of chunks.old table.old scratch.old cores.old) (workspace_of chunks.new table.new scratch.new cores.new) }
 {
     params.known();
     let count = count as usize;

@@ -7,7 +7,7 @@ ghost use Rattle.scrypt.specs.Cost.{chunks_bytes, scratch_words, table_words};
 ghost use Rattle.scrypt.specs.Reading.{◌and_then◌, IsVerdict, mapped, weaker, with_refusal};
 ghost use Rattle.scrypt.specs.StoredHash.{formatted, is_mcf_text, is_stored_text, key_len_or_zero, params_reading, reading};
 ghost use Rattle.scrypt.specs.StoredKey.{IsHashOf};
-ghost use Rattle.scrypt.specs.WorkInBuffers.{IsLeft, verdict_in, work_in};
+ghost use Rattle.scrypt.specs.Workspace.{IsLeft, verdict_in, workspace_of};
 
 pub(crate) mod parts;
 pub(crate) mod within;
@@ -172,9 +172,9 @@ impl<'a> StoredHash<'a> {
         cores: &mut CoreCount,
     ) -> Result<()>
         ensures verdict { with_refusal result
-            ≡ verdict_in (work_in chunks.old table.old scratch.old cores.old) password.now (reading self.now) }
+            ≡ verdict_in (workspace_of chunks.old table.old scratch.old cores.old) password.now (reading self.now) }
         ensures left { IsLeft (reading self.now)
-            (work_in chunks.old table.old scratch.old cores.old) (work_in chunks.new table.new scratch.new cores.new) }
+            (workspace_of chunks.old table.old scratch.old cores.old) (workspace_of chunks.new table.new scratch.new cores.new) }
     {
         match self.parts() {
             Ok(parts) => verify_in_buffers(password, &parts, chunks, table, scratch, cores),

@@ -7,7 +7,7 @@ ghost use Rattle.scrypt.specs.Cost.{chunks_bytes, cost};
 ghost use Rattle.scrypt.specs.Mixing.{HasTables};
 ghost use Rattle.scrypt.specs.Reading.{IsVerdict, is_right, with_refusal};
 ghost use Rattle.scrypt.specs.StoredParts.{stored};
-ghost use Rattle.scrypt.specs.WorkInBuffers.{IsLeft, verdict_in, work_in};
+ghost use Rattle.scrypt.specs.Workspace.{IsLeft, verdict_in, workspace_of};
 
 use crate::buffers::{Buffers, width_in};
 use crate::comparing::is_derived_key;
@@ -92,9 +92,9 @@ pub(crate) fn verify_in_buffers(
     cores: &mut CoreCount,
 ) -> Result<()>
     ensures left { IsLeft (Ok (stored parts.now))
-        (work_in chunks.old table.old scratch.old cores.old) (work_in chunks.new table.new scratch.new cores.new) }
+        (workspace_of chunks.old table.old scratch.old cores.old) (workspace_of chunks.new table.new scratch.new cores.new) }
     ensures verdict { with_refusal result
-        ≡ verdict_in (work_in chunks.old table.old scratch.old cores.old) password.now (Ok (stored parts.now)) }
+        ≡ verdict_in (workspace_of chunks.old table.old scratch.old cores.old) password.now (Ok (stored parts.now)) }
 {
     let Some(width) = width_in(&parts.params, parts.params.p(), chunks, table, scratch) else {
         return Err(Error::OutOfMemory);

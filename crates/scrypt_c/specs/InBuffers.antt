@@ -6,21 +6,21 @@ use Rattle.scrypt.specs.Cost.{chunks_bytes, scratch_words, table_words}
 use Rattle.scrypt.specs.Reading.{Stored}
 use Rattle.scrypt.specs.Logins as logins
 use Rattle.scrypt.specs.Logins.{joined, params_of}
-use Rattle.scrypt.specs.WorkInBuffers.{IsLeft, Work, tables_used, verdict_in, work_in}
+use Rattle.scrypt.specs.Workspace.{IsLeft, Workspace, tables_used, verdict_in, workspace_of}
 use Rattle.scrypt_c.specs.Statuses.{buffers_status}
 use Rattle.scrypt_c.specs.Texts.{bytes_reading}
 
 -- the buffers of a call, which counts from 0
-abbrev pub buffers : List ℕ → List ℕ → List ℕ → Work
+abbrev pub buffers : List ℕ → List ℕ → List ℕ → Workspace
 buffers chunks table scratch =
     record { chunks = chunks; table = table; scratch = scratch; cores = record { seal = tt; all = 0; lanes = 0 } }
 
 -- this holds of these buffers, with some count
-abbrev pub LeftIn : (Work → Type 0) → List ℕ → List ℕ → List ℕ → Type 0
-LeftIn IsLeft chunks table scratch = (w : Work) × IsLeft (work_in chunks table scratch w.cores)
+abbrev pub LeftIn : (Workspace → Type 0) → List ℕ → List ℕ → List ℕ → Type 0
+LeftIn IsLeft chunks table scratch = (w : Workspace) × IsLeft (workspace_of chunks table scratch w.cores)
 
 -- what is after the part of each buffer that a derivation with these parameters used is unchanged
-pub record IsRestKept (c : Parameters) (before after : Work) : Type 0 where
+pub record IsRestKept (c : Parameters) (before after : Workspace) : Type 0 where
   pub chunks : drop (chunks_bytes c.r c.p) after.chunks ≡ drop (chunks_bytes c.r c.p) before.chunks
   pub table : let used = tables_used c before.table before.scratch * table_words c.log_n c.r in
       drop used after.table ≡ drop used before.table
@@ -28,7 +28,7 @@ pub record IsRestKept (c : Parameters) (before after : Work) : Type 0 where
       drop used after.scratch ≡ drop used before.scratch
 
 -- the statuses of verifying each of these passwords with the hash that its bytes are read as
-abbrev pub statuses_in : Work → List (List ℕ × List ℕ) → List ℤ
+abbrev pub statuses_in : Workspace → List (List ℕ × List ℕ) → List ℤ
 statuses_in before = map (λ (login : List ℕ × List ℕ). buffers_status (verdict_in before login.0 (bytes_reading login.1)))
 
 -- the parameters of two derivations at once
@@ -36,10 +36,10 @@ abbrev pub both_params : Result Stored Refusal → Result Stored Refusal → Opt
 both_params a b = joined (params_of a) (params_of b)
 
 -- what verifying two leaves
-abbrev pub BothAreLeft : Result Stored Refusal → Result Stored Refusal → Work → Work → Type 0
+abbrev pub BothAreLeft : Result Stored Refusal → Result Stored Refusal → Workspace → Workspace → Type 0
 BothAreLeft a b = logins.AreLeft (both_params a b) (IsLeft a) (IsLeft b)
 
 -- what verifying four leaves: two pairs, or a pair and the third if the fourth is refused
-abbrev pub AreLeftBy : Result Stored Refusal → Result Stored Refusal → Result Stored Refusal → Result Stored Refusal → Work → Work → Type 0
+abbrev pub AreLeftBy : Result Stored Refusal → Result Stored Refusal → Result Stored Refusal → Result Stored Refusal → Workspace → Workspace → Type 0
 AreLeftBy a b c (Ok s) = logins.AreLeft (joined (both_params a b) (both_params c (Ok s))) (BothAreLeft a b) (BothAreLeft c (Ok s))
 AreLeftBy a b c (Err why) = logins.AreLeft (joined (both_params a b) (params_of c)) (BothAreLeft a b) (IsLeft c)

@@ -7,7 +7,7 @@ ghost use Rattle.scrypt.specs.McfHash.{IsMadeHash as IsMadeMcf, made_text_len};
 ghost use Rattle.scrypt.specs.PhcHash.{IsMadeText, IsSaltLen};
 ghost use Rattle.scrypt.specs.Logins.{reading_of};
 ghost use Rattle.scrypt.specs.WithinLimits.{with_limited_refusal};
-ghost use Rattle.scrypt.specs.WorkInBuffers.{IsDone, IsLeft, verdict_in};
+ghost use Rattle.scrypt.specs.Workspace.{IsDone, IsLeft, verdict_in};
 ghost use Rattle.scrypt_c.specs.InBuffers.{AreLeftBy, LeftIn, buffers, statuses_in};
 ghost use Rattle.scrypt_c.specs.Made.{AreHashParams, IsTooLong, IsTooShort, IsWrittenTo, wanted};
 ghost use Rattle.scrypt_c.specs.Statuses.{buffers_status, short_status};

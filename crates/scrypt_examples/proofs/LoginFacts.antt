@@ -8,7 +8,7 @@ use Rattle.scrypt.specs.Cost.{cost}
 use Rattle.scrypt.specs.Limits.{are_within, buffers_bytes, work}
 use Rattle.scrypt.specs.Reading.{Stored}
 use Rattle.scrypt.specs.WithinLimits.{within}
-use Rattle.scrypt.specs.WorkInBuffers.{IsDone, IsLeft, Work, has_room}
+use Rattle.scrypt.specs.Workspace.{IsDone, IsLeft, Workspace, has_room}
 use Rattle.scrypt.specs.declared.limits.Limits.{Limits}
 
 -- parameters within limits run no more cores than these allow
@@ -33,7 +33,7 @@ within_fits limits (Ok read) s is =
     at false long fits is = absurd cc
 
 -- verifying within limits runs no more cores than these allow
-pub bounded : (limits : Limits) (reading : Result Stored Refusal) (before after : Work)
+pub bounded : (limits : Limits) (reading : Result Stored Refusal) (before after : Workspace)
     → IsLeft (within limits reading) before after → after.cores.all ≤ before.cores.all + limits.most_work
 bounded limits reading before after left = at (within limits reading) refl left
   where

@@ -7,17 +7,17 @@ use Rattle.password_hash.specs.Refusal.{Refusal}
 use Rattle.scrypt.specs.Accepted.{Parameters}
 use Rattle.scrypt.specs.Cost.{chunks_bytes, scratch_words, table_words}
 use Rattle.scrypt.specs.Reading.{Stored, mapped, verdict}
-use Rattle.scrypt.specs.WorkInBuffers.{Work, has_room, verdict_in}
+use Rattle.scrypt.specs.Workspace.{Workspace, has_room, verdict_in}
 use Rattle.scrypt.specs.declared.derivation.BufferLens.{BufferLens}
 use Rattle.scrypt_examples.specs.Buffers.{AreEnoughFor}
 
-has_room_for : (c : Parameters) (w : Work) → chunks_bytes c.r c.p ≤ length w.chunks → table_words c.log_n c.r ≤ length w.table
+has_room_for : (c : Parameters) (w : Workspace) → chunks_bytes c.r c.p ≤ length w.chunks → table_words c.log_n c.r ≤ length w.table
     → scratch_words c.r ≤ length w.scratch → has_room c w ≡ true
 unfolding has_room
 has_room_for c w chunks table scratch = grind (arith, nat_tests)
 
 -- the verdict in buffers that are as long as these, which are long enough, is that of the password
-pub verdict_in_lens : (password : List ℕ) (reading : Result Stored Refusal) (w : Work) (lens : BufferLens) → AreEnoughFor lens reading
+pub verdict_in_lens : (password : List ℕ) (reading : Result Stored Refusal) (w : Workspace) (lens : BufferLens) → AreEnoughFor lens reading
     → lens.chunks ≤ length w.chunks → lens.table ≤ length w.table → lens.scratch ≤ length w.scratch
     → verdict_in w password reading ≡ verdict password reading
 verdict_in_lens password (Ok s) w lens enough chunks table scratch =

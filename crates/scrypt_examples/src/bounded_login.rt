@@ -3,7 +3,7 @@
 ghost use Rattle.std.specs.Prelude.{◌≡◌, ◌+◌, ◌≤◌};
 ghost use Rattle.scrypt.specs.StoredHash.{reading};
 ghost use Rattle.scrypt.specs.WithinLimits.{with_limited_refusal, within};
-ghost use Rattle.scrypt.specs.WorkInBuffers.{IsLeft, verdict_in, work_in};
+ghost use Rattle.scrypt.specs.Workspace.{IsLeft, verdict_in, workspace_of};
 ghost use Rattle.scrypt_examples.specs.Login.{let_in};
 
 use password_hash::Error;
@@ -24,10 +24,10 @@ pub fn log_in(
     scratch: &mut [u32],
     cores: &mut CoreCount,
 ) -> Result<bool, LimitedError>
-    ensures verdict { with_limited_refusal result ≡ let_in (verdict_in (work_in chunks.old table.old scratch.old cores.old)
+    ensures verdict { with_limited_refusal result ≡ let_in (verdict_in (workspace_of chunks.old table.old scratch.old cores.old)
         password.now (within limits.now (reading stored.now))) }
     ensures left { IsLeft (within limits.now (reading stored.now))
-        (work_in chunks.old table.old scratch.old cores.old) (work_in chunks.new table.new scratch.new cores.new) }
+        (workspace_of chunks.old table.old scratch.old cores.old) (workspace_of chunks.new table.new scratch.new cores.new) }
     ensures bounded { cores.new.all ≤ cores.old.all + limits.now.most_work }
 {
     let hash = match StoredHash::read(stored) {

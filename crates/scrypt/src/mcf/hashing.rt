@@ -11,7 +11,7 @@ ghost use Rattle.scrypt.specs.McfHash.{HashIsRefused, IsMadeHash, IsMcfOrNone, m
 ghost use Rattle.password_hash.specs.Refusal.{refusal};
 ghost use Rattle.scrypt.specs.InBuffers.{AreEnough, IsCopiedTo};
 ghost use Rattle.scrypt.specs.Mixing.{IsWidth};
-ghost use Rattle.scrypt.specs.WorkInBuffers.{IsDone, work_in};
+ghost use Rattle.scrypt.specs.Workspace.{IsDone, workspace_of};
 
 use crate::buffers::width_in;
 use crate::hashing::{check_call, key_allocating, key_in_buffers, key_len_or_default};
@@ -209,9 +209,9 @@ pub fn hash_with_buffers(
         × (made_text_len params.now (length salt.now) ≤ length text.old)) }
     ensures unwritten { OnErr result (text.new ≡ text.old) }
     ensures done { OnOk result (IsDone params.now
-        (work_in chunks.old table.old scratch.old cores.old) (work_in chunks.new table.new scratch.new cores.new)) }
-    ensures unchanged { OnErr result (work_in chunks.new table.new scratch.new cores.new
-        ≡ work_in chunks.old table.old scratch.old cores.old) }
+        (workspace_of chunks.old table.old scratch.old cores.old) (workspace_of chunks.new table.new scratch.new cores.new)) }
+    ensures unchanged { OnErr result (workspace_of chunks.new table.new scratch.new cores.new
+        ≡ workspace_of chunks.old table.old scratch.old cores.old) }
 {
     let len = hash_len(params, salt);
     if text.len() < len {
@@ -252,7 +252,7 @@ fn fill_with_hash(
     ensures made { IsMadeHash params.now password.now salt.now text.new }
     ensures ascii { IsAscii text.new }
     ensures done { IsDone params.now
-        (work_in chunks.old table.old scratch.old cores.old) (work_in chunks.new table.new scratch.new cores.new) }
+        (workspace_of chunks.old table.old scratch.old cores.old) (workspace_of chunks.new table.new scratch.new cores.new) }
 {
     let letters = &mut text[..Base64::Crypt.encoded_len(salt.len())];
     encode(salt, letters);

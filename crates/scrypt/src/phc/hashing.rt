@@ -7,7 +7,7 @@ ghost use Rattle.scrypt.specs.PhcHash.{HashIsRefused, IsMadeHash, IsScryptOrNone
 ghost use Rattle.password_hash.specs.Refusal.{refusal};
 ghost use Rattle.password_hash.specs.declared.error.Error.TheVariants.{OutOfMemory, SaltInvalid};
 ghost use Rattle.scrypt.specs.InBuffers.{AreEnough};
-ghost use Rattle.scrypt.specs.WorkInBuffers.{IsDone, work_in};
+ghost use Rattle.scrypt.specs.Workspace.{IsDone, workspace_of};
 
 use crate::buffers::width_in;
 use crate::hashing::{check_call, key_allocating, key_in_buffers};
@@ -110,9 +110,9 @@ pub fn hash_with_buffers(
     ensures exact { IsOk result
         ↔ (IsSaltLen (length salt.now) × AreEnough params.now chunks.old table.old scratch.old) }
     ensures done { OnOk result (IsDone params.now
-        (work_in chunks.old table.old scratch.old cores.old) (work_in chunks.new table.new scratch.new cores.new)) }
-    ensures unchanged { OnErr result (work_in chunks.new table.new scratch.new cores.new
-        ≡ work_in chunks.old table.old scratch.old cores.old) }
+        (workspace_of chunks.old table.old scratch.old cores.old) (workspace_of chunks.new table.new scratch.new cores.new)) }
+    ensures unchanged { OnErr result (workspace_of chunks.new table.new scratch.new cores.new
+        ≡ workspace_of chunks.old table.old scratch.old cores.old) }
 {
     let Ok(salt) = Salt::new(salt) else {
         return Err(Error::SaltInvalid);

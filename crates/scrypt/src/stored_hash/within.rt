@@ -8,7 +8,7 @@ ghost use Rattle.scrypt.specs.Reading.{mapped, with_refusal};
 ghost use Rattle.scrypt.specs.StoredHash.{reading};
 ghost use Rattle.scrypt.specs.StoredParts.{stored};
 ghost use Rattle.scrypt.specs.WithinLimits.{limited_refusal, with_limited_refusal, within};
-ghost use Rattle.scrypt.specs.WorkInBuffers.{IsLeft, verdict_in, work_in};
+ghost use Rattle.scrypt.specs.Workspace.{IsLeft, verdict_in, workspace_of};
 
 use super::StoredHash;
 use super::parts::Parts;
@@ -52,10 +52,10 @@ impl<'a> StoredHash<'a> {
         scratch: &mut [u32],
         cores: &mut CoreCount,
     ) -> Result<(), LimitedError>
-        ensures verdict { with_limited_refusal result ≡ verdict_in (work_in chunks.old table.old scratch.old cores.old)
+        ensures verdict { with_limited_refusal result ≡ verdict_in (workspace_of chunks.old table.old scratch.old cores.old)
             password.now (within limits.now (reading self.now)) }
         ensures left { IsLeft (within limits.now (reading self.now))
-            (work_in chunks.old table.old scratch.old cores.old) (work_in chunks.new table.new scratch.new cores.new) }
+            (workspace_of chunks.old table.old scratch.old cores.old) (workspace_of chunks.new table.new scratch.new cores.new) }
     {
         match self.parts_within(limits) {
             Ok(parts) => limited(verify_in_buffers(

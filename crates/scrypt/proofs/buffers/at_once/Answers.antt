@@ -1,5 +1,5 @@
 use Rattle.std.proofs.Common.{rules}
-use Rattle.scrypt.specs.WorkInBuffers.{at_once}
+use Rattle.scrypt.specs.Workspace.{at_once}
 use Rattle.scrypt.proofs.buffers.at_once.Goals as goal
 
 -- the search finds this too: it is here so that a body that takes fewer tables is refused by this goal

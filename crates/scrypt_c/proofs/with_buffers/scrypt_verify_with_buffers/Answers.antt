@@ -1,16 +1,16 @@
 use Rattle.std.proofs.Common.{rules}
-use Rattle.scrypt.specs.WorkInBuffers.{work_in}
+use Rattle.scrypt.specs.Workspace.{workspace_of}
 use Rattle.scrypt_c.proofs.InBuffersFacts.{from_zero, kept_status}
 use Rattle.scrypt_c.proofs.with_buffers.scrypt_verify_with_buffers.Goals as goal
 
 pub returns-clause-status : goal.returns-clause-status
 returns-clause-status c =
-    let before = work_in c.args.chunks.now c.args.table.now c.args.scratch.now c.new-cores.result in
+    let before = workspace_of c.args.chunks.now c.args.table.now c.args.scratch.now c.new-cores.result in
     kept_status c.status.result before _ _ _ _ _ (from_zero before c.new-cores.ensures.none) c.login.ensures.password c.login.ensures.reading
     (search rules) c.status.ensures c.verify-verdict.ensures.verdicts
 
 pub returns-clause-left : goal.returns-clause-left
 returns-clause-left c =
-    let before = work_in c.args.chunks.now c.args.table.now c.args.scratch.now c.new-cores.result in
+    let before = workspace_of c.args.chunks.now c.args.table.now c.args.scratch.now c.new-cores.result in
     rw (← from_zero before c.new-cores.ensures.none, ← c.login.ensures.reading)
     (record before { cores = c.verify-verdict.new.cores }, c.verify-verdict.ensures.left)

@@ -1,4 +1,4 @@
--- The memory that a caller hands in for one derivation: the verdict in it, and what is left in it.
+-- The workspace of one derivation, which is the caller's: the verdict in it, and what is left in it.
 use Rattle.std.specs.Prelude.{◌≡◌, ℕ, ◌≤◌, ◌*◌, ◌/◌, min, ◌&&◌, Bool, nat_le, if◌then◌else◌, List, length, drop, MatchBool, Result, Ok, Err, ⊤}
 use Rattle.password_hash.specs.Refusal.{Refusal, OutOfMemory}
 use Rattle.scrypt_kernel.specs.Count.{AreCounted}
@@ -9,20 +9,20 @@ use Rattle.scrypt.specs.InBuffers.{IsWiped}
 use Rattle.scrypt.specs.Reading.{◌and_then◌, Stored, verdict}
 use Rattle.scrypt.specs.declared.derivation.BufferLens.{BufferLens}
 
--- the buffers and the count
-pub record Work : Type 0 where
+-- the caller's buffers, and the count of cores
+pub record Workspace : Type 0 where
   pub chunks : List ℕ
   pub table : List ℕ
   pub scratch : List ℕ
   pub cores : CoreCount
 
--- these buffers and this count
-abbrev pub work_in : List ℕ → List ℕ → List ℕ → CoreCount → Work
-work_in chunks table scratch cores =
+-- these buffers, with this count
+abbrev pub workspace_of : List ℕ → List ℕ → List ℕ → CoreCount → Workspace
+workspace_of chunks table scratch cores =
     record { chunks = chunks; table = table; scratch = scratch; cores = cores }
 
 -- whether the buffers are at least as long as a derivation with these parameters needs
-unfoldable pub has_room : Parameters → Work → Bool
+unfoldable pub has_room : Parameters → Workspace → Bool
 has_room c w = nat_le (chunks_bytes c.r c.p) (length w.chunks)
     && (nat_le (table_words c.log_n c.r) (length w.table) && nat_le (scratch_words c.r) (length w.scratch))
 
@@ -48,7 +48,7 @@ pub record AreUsed (c : Parameters) (lens : BufferLens) (chunks table scratch : 
 
 -- A derivation with these parameters was counted. What it used of the chunks and the scratch is zeros, and what is
 -- after the tables that it used is unchanged.
-pub record IsDone (c : Parameters) (before after : Work) : Type 0 where
+pub record IsDone (c : Parameters) (before after : Workspace) : Type 0 where
   pub counted : AreCounted (cost c.log_n c.r c.p) before.cores after.cores
   pub chunks : IsWiped (chunks_bytes c.r c.p) before.chunks after.chunks
   pub scratch : IsWiped (tables_used c before.table before.scratch * scratch_words c.r) before.scratch after.scratch
@@ -56,10 +56,10 @@ pub record IsDone (c : Parameters) (before after : Work) : Type 0 where
       drop used after.table ≡ drop used before.table
 
 -- the verdict of verifying in this memory: `OutOfMemory` if keys would be compared, and a buffer is too short
-abbrev pub verdict_in : Work → List ℕ → Result Stored Refusal → Result ⊤ Refusal
+abbrev pub verdict_in : Workspace → List ℕ → Result Stored Refusal → Result ⊤ Refusal
 verdict_in w password reading = reading and_then λ s. if has_room s.params w then verdict password reading else Err OutOfMemory
 
 -- what verifying leaves: a derivation was done if keys were compared, and nothing changed if not
-abbrev pub IsLeft : Result Stored Refusal → Work → Work → Type 0
+abbrev pub IsLeft : Result Stored Refusal → Workspace → Workspace → Type 0
 IsLeft (Ok s) before after = MatchBool (has_room s.params before) (IsDone s.params before after) (after ≡ before)
 IsLeft (Err why) before after = after ≡ before
