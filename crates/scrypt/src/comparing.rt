@@ -4,7 +4,7 @@ ghost use Rattle.std.specs.Prelude.{◌≡◌};
 ghost use Rattle.scrypt.specs.Reading.{is_right, mixed_of};
 ghost use Rattle.scrypt.specs.StoredParts.{stored};
 
-use crate::stored_hash::parts::Parts;
+use crate::stored_hash::parts::StoredParts;
 use scrypt_kernel::pbkdf2::Blocks;
 
 /// The length of a piece in bytes. It is whole blocks of PBKDF2, and whole groups of crypt Base64.
@@ -12,7 +12,7 @@ const PIECE_LEN: usize = 96;
 
 /// Returns whether the stored key is the one that PBKDF2 derives from `password` with the mixed chunks
 /// as salt. Every piece is compared, also after a difference. Does not allocate.
-pub(crate) fn is_derived_key(password: &[u8], mixed: &[u8], parts: &Parts<'_>) -> bool
+pub(crate) fn is_derived_key(password: &[u8], mixed: &[u8], parts: &StoredParts<'_>) -> bool
     ensures exact { mixed.now ≡ mixed_of password.now (stored parts.now) → result ≡ is_right password.now (stored parts.now) }
 {
     let len = parts.key_len;

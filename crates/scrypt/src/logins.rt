@@ -17,7 +17,7 @@ use crate::comparing::is_derived_key;
 use crate::derivation::derive_chunks;
 use crate::derivation::mixing::mix_all;
 use crate::errors::LimitedError;
-use crate::stored_hash::parts::Parts;
+use crate::stored_hash::parts::StoredParts;
 use crate::stored_hash::within::limited;
 use crate::verifying::{verdict, verify_in_buffers};
 use crate::{BufferLens, CoreCount, Limits, Params, StoredHash};
@@ -95,7 +95,7 @@ pub trait Logins: Keys {
 
 impl<'a> Login<'a> {
     // Returns the parts of the hash, if it can be read and is within its limits, or the first error.
-    fn parts(&self) -> std::result::Result<Parts<'_>, LimitedError>
+    fn parts(&self) -> std::result::Result<StoredParts<'_>, LimitedError>
         ensures { mapped stored (with_limited_refusal result) ≡ reading_of self.now }
     {
         let hash = match &self.hash {

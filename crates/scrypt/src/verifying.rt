@@ -13,7 +13,7 @@ use crate::buffers::{Buffers, width_in};
 use crate::comparing::is_derived_key;
 use crate::derivation::derive_chunks;
 use crate::derivation::mixing::mix_all;
-use crate::stored_hash::parts::Parts;
+use crate::stored_hash::parts::StoredParts;
 use crate::{BufferLens, CoreCount};
 use password_hash::{Error, Result};
 use scrypt_kernel::memory::{Buffer, Memory};
@@ -34,7 +34,7 @@ pub(crate) fn verdict(same: bool) -> Result<()>
 // key. Afterwards the chunks and the scratch are zeros.
 fn is_key_of<M: Memory>(
     password: &[u8],
-    parts: &Parts<'_>,
+    parts: &StoredParts<'_>,
     width: usize,
     chunks: &mut [u8],
     rows: &mut M,
@@ -61,7 +61,11 @@ fn is_key_of<M: Memory>(
 /// scratch, allocated in this order.
 ///
 /// Returns `OutOfMemory` if an allocation fails, and otherwise `PasswordInvalid` if the keys differ.
-pub(crate) fn verify_allocating(alloc: Global, password: &[u8], parts: &Parts<'_>) -> Result<()>
+pub(crate) fn verify_allocating(
+    alloc: Global,
+    password: &[u8],
+    parts: &StoredParts<'_>,
+) -> Result<()>
     ensures verdict { IsVerdict password.now (Ok (stored parts.now)) (with_refusal result) }
 {
     let mut own = Buffers::allocate(alloc, &BufferLens::of(&parts.params))?;
@@ -85,7 +89,7 @@ pub(crate) fn verify_allocating(alloc: Global, password: &[u8], parts: &Parts<'_
 #[tactic(auto, using(crate::proofs::ReadingFacts::known_room))]
 pub(crate) fn verify_in_buffers(
     password: &[u8],
-    parts: &Parts<'_>,
+    parts: &StoredParts<'_>,
     chunks: &mut [u8],
     table: &mut [u32],
     scratch: &mut [u32],

@@ -8,7 +8,7 @@ ghost use Rattle.scrypt.specs.StoredParts.{stored};
 
 use crate::mcf::params::decode_params_and_salt;
 use crate::output_len_ok;
-use crate::stored_hash::parts::{Key, Parts};
+use crate::stored_hash::parts::{Key, StoredParts};
 use password_hash::mcf::{Fields, PasswordHashRef};
 use password_hash::{Error, Result};
 
@@ -20,7 +20,7 @@ use password_hash::{Error, Result};
 /// field is missing, if it is not crypt Base64 or if a third field follows, and `OutputSize` if a
 /// key of this length cannot be derived.
 #[tactic(auto, using(crate::proofs::McfHashFacts::reading_parts))]
-pub(crate) fn parts_of_mcf<'a>(hash: &PasswordHashRef<'a>) -> Result<Parts<'a>>
+pub(crate) fn parts_of_mcf<'a>(hash: &PasswordHashRef<'a>) -> Result<StoredParts<'a>>
     ensures { mapped stored (with_refusal result) ≡ read_mcf (borrowed_text hash.now) }
 {
     if !is_mcf(hash.id()) {
@@ -31,7 +31,7 @@ pub(crate) fn parts_of_mcf<'a>(hash: &PasswordHashRef<'a>) -> Result<Parts<'a>>
 
 // Returns the parts that the fields after the id hold.
 #[tactic(auto, using(crate::proofs::McfHashFacts::reading_key))]
-fn parts_of_fields<'a>(mut fields: Fields<'a>) -> Result<Parts<'a>>
+fn parts_of_fields<'a>(mut fields: Fields<'a>) -> Result<StoredParts<'a>>
     ensures { mapped stored (with_refusal result) ≡ read_fields (fields_left fields.entry) }
 {
     let Some(first) = fields.next() else {
@@ -53,7 +53,7 @@ fn parts_of_fields<'a>(mut fields: Fields<'a>) -> Result<Parts<'a>>
     if !output_len_ok(key_len) {
         return Err(Error::OutputSize);
     }
-    Ok(Parts {
+    Ok(StoredParts {
         params,
         salt,
         key: Key::Mcf(key),

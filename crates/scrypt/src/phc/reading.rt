@@ -7,7 +7,7 @@ ghost use Rattle.scrypt.specs.StoredParts.{stored};
 
 use crate::Params;
 use crate::phc::ALG_ID;
-use crate::stored_hash::parts::{Key, Parts};
+use crate::stored_hash::parts::{Key, StoredParts};
 use password_hash::phc::{Ident, PasswordHash};
 use password_hash::{Error, Result};
 
@@ -15,7 +15,10 @@ use password_hash::{Error, Result};
 ///
 /// Returns the error of reading the parameters, or `PasswordInvalid` if the salt or the key is
 /// missing.
-pub(crate) fn parts_of_phc<'a>(hash: &'a PasswordHash, params: &Result<Params>) -> Result<Parts<'a>>
+pub(crate) fn parts_of_phc<'a>(
+    hash: &'a PasswordHash,
+    params: &Result<Params>,
+) -> Result<StoredParts<'a>>
     requires { with_refusal params.now ≡ phc_params hash.now }
     ensures { mapped stored (with_refusal result) ≡ read_phc hash.now }
 {
@@ -29,7 +32,7 @@ pub(crate) fn parts_of_phc<'a>(hash: &'a PasswordHash, params: &Result<Params>) 
     let Some(key) = &hash.hash else {
         return Err(Error::PasswordInvalid);
     };
-    Ok(Parts {
+    Ok(StoredParts {
         params,
         salt: salt.as_bytes(),
         key: Key::Phc(key),

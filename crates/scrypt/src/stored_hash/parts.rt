@@ -38,7 +38,7 @@ impl<'a> Key<'a> {
 
 /// The parameters, the salt and the key of a hash, borrowed from it.
 #[derive(Clone, Copy)]
-pub(crate) struct Parts<'a> {
+pub(crate) struct StoredParts<'a> {
     pub(crate) params: Params,
     pub(crate) salt: &'a [u8],
     pub(crate) key: Key<'a>,
@@ -56,7 +56,7 @@ impl<'a> StoredHash<'a> {
 
     /// Returns the parts of the hash, or the error of reading it.
     #[tactic(auto, unfolding(crate::specs::StoredHash::reading))]
-    pub(crate) fn parts(&self) -> Result<Parts<'_>>
+    pub(crate) fn parts(&self) -> Result<StoredParts<'_>>
         ensures { mapped stored (with_refusal result) ≡ reading self.now }
     {
         match &self.format {

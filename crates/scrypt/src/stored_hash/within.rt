@@ -11,7 +11,7 @@ ghost use Rattle.scrypt.specs.WithinLimits.{limited_refusal, with_limited_refusa
 ghost use Rattle.scrypt.specs.Workspace.{IsLeft, verdict_in, workspace_of};
 
 use super::StoredHash;
-use super::parts::Parts;
+use super::parts::StoredParts;
 use crate::errors::LimitedError;
 use crate::verifying::verify_in_buffers;
 use crate::{BufferLens, CoreCount, Limits, Params};
@@ -83,7 +83,7 @@ impl<'a> StoredHash<'a> {
     }
 
     /// Returns the parts of a hash that is within the limits, or the first error.
-    pub(crate) fn parts_within(&self, limits: &Limits) -> Result<Parts<'_>, LimitedError>
+    pub(crate) fn parts_within(&self, limits: &Limits) -> Result<StoredParts<'_>, LimitedError>
         ensures { mapped stored (with_limited_refusal result) ≡ within limits.now (reading self.now) }
     {
         let parts = match self.parts() {
