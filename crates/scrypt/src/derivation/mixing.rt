@@ -1,6 +1,6 @@
 // Step 2 of a derivation (RFC 7914, section 6): each chunk becomes its scryptROMix.
 
-ghost use Rattle.std.specs.Prelude.{◌≡◌, ℕ, List, ◌+◌, ◌*◌, ◌<◌, ◌≤◌, length};
+ghost use Rattle.std.specs.Prelude.{◌≡◌, ◌≢◌, ℕ, List, ◌+◌, ◌*◌, ◌<◌, ◌≤◌, length};
 ghost use Rattle.scrypt_kernel.specs.Count.{AreCounted, AreCountedAs};
 ghost use Rattle.scrypt_kernel.specs.Table.{thin_ro_mix_cost};
 ghost use Rattle.scrypt_kernel.specs.Words.{part, words_of};
@@ -42,13 +42,16 @@ pub(crate) fn mix_all<M: Memory>(
     }
 }
 
-// Returns how many of the chunks that are left are mixed next: four and one would take longer than three and two.
+// Returns how many of the chunks that are left are mixed next. None of several is mixed alone if three or more can be
+// mixed at a time: four and one would take longer than three and two.
 fn next_group(width: usize, left: usize) -> usize
     requires some { 0 < width }
     requires left { 0 < left }
     ensures some { 0 < result }
     ensures within { result ≤ width }
     ensures left { result ≤ left }
+    ensures together { 2 < width → 1 < left → 1 < result }
+    ensures none_left_alone { 2 < width → left ≢ result + 1 }
 {
     if width > 2 && left - 1 == width {
         width - 1
