@@ -34,8 +34,15 @@ pub struct Login<'a> {
     pub limits: Option<Limits>,
 }
 
+/// The types that implement [`Keys`]. No other crate can name this trait, so none can add a type.
+pub trait Sealed {}
+
+impl<'a> Sealed for Login<'a> {}
+
+impl<A: Sealed, B: Sealed> Sealed for (A, B) {}
+
 /// One login, or two groups of logins: what is computed if all keys are derived at once.
-pub trait Keys {
+pub trait Keys: Sealed {
     /// One verdict, or those of two groups.
     type Verdicts: Drop;
 
