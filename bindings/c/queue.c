@@ -1,14 +1,16 @@
 /* The queue of a hasher. Not proved; the calls that read texts and derive are.
  *
  * A turn is the right to derive on one processor. A call waits in line for one, in its thread; the call that leads a turn
- * takes along others of the line that are like it, and derives for all. Under the lock a call goes from state to state:
+ * takes along others of the line that are like it, and derives for all. If it has room for more, and no turn is free for
+ * those that come, it waits for them once, for a small part of the time of its derivation. Under the lock a call goes from
+ * state to state:
  *
  *   state     its thread                        what ends it                                 next
  *   -------   -------------------------------   ------------------------------------------   -----------------
  *   (begun)   enters                            enter                                        WAITS, LEADS, OVER
  *   WAITS     sleeps; the call is in the line   give, gather, its time or a signal, dismiss  LEADS, FOLLOWS, OVER
  *   FOLLOWS   sleeps; another call's group      finish, of the call that leads it            OVER
- *   LEADS     derives, without the lock         finish                                       OVER
+ *   LEADS     makes room, gathers, derives      finish                                       OVER
  *
  * 1. If a call is in the line, every turn is taken: enter and finish give a free turn to the first of the line at once.
  *    In a closed hasher nobody is given one; each call that ends dismisses the first of the line.
@@ -37,6 +39,13 @@
 
 #define MOST_TURNS 8192 /* as many processors as Linux can have */
 #define CHILD_MS 1000   /* how often a thread that sleeps looks whether it is in a child, if no signal woke it there */
+#define NS_OF_MS INT64_C(1000000)
+
+/* For how long a call that leads may wait for others. The system may end a sleep later by the least. */
+#define MOST_MOMENT_NS 1000000
+#ifndef LEAST_MOMENT_NS /* tests have another */
+#define LEAST_MOMENT_NS 50000
+#endif
 
 enum { BEGUN, WAITS, FOLLOWS, LEADS, OVER };
 
@@ -77,10 +86,11 @@ static int is_of_parent(const scrypt_hasher *hasher, const struct call *call) {
   return call->epoch != hasher->queue->epoch;
 }
 
-/* Gives the lock back and sleeps while the word is this one, until a signal comes, for at most so many milliseconds.
- * Returns whether a signal came. A futex has no lock that a thread of the parent could have had at a fork. */
-static int sleep_while(scrypt_hasher *hasher, uint32_t *word, uint32_t is, int64_t ms) {
-  const struct timespec time = {.tv_sec = (time_t)(ms / 1000), .tv_nsec = (long)(ms % 1000) * 1000000};
+/* Gives the lock back and sleeps while the word is this one, until a signal comes, for at most so many nanoseconds.
+ * Returns whether a signal came. A futex has no lock that a thread of the parent could have had at a fork, and is no
+ * cancellation point. */
+static int sleep_while(scrypt_hasher *hasher, uint32_t *word, uint32_t is, int64_t ns) {
+  const struct timespec time = {.tv_sec = (time_t)(ns / (1000 * NS_OF_MS)), .tv_nsec = (long)(ns % (1000 * NS_OF_MS))};
   int is_interrupted;
   unlock(hasher);
   is_interrupted = syscall(SYS_futex, word, FUTEX_WAIT_PRIVATE, is, &time, NULL, 0) == -1 && errno == EINTR;
@@ -155,6 +165,13 @@ static struct tables take(struct tables *from) {
   return taken;
 }
 
+/* The first turn that is free, or as many as there are: the first ones are the narrowest and have been used most. */
+static size_t free_turn(const scrypt_hasher *hasher) {
+  size_t turn = 0;
+  while (turn < hasher->turns && hasher->queue->turn[turn].is_taken) turn++;
+  return turn;
+}
+
 /* Gives a turn that is free to a call that isn't in the line. */
 static void give(struct queue *queue, size_t turn, struct call *call) {
   queue->turn[turn].is_taken = 1;
@@ -165,14 +182,12 @@ static void give(struct queue *queue, size_t turn, struct call *call) {
 
 static void enter(scrypt_hasher *hasher, struct call *call, uint64_t place) {
   struct queue *queue = hasher->queue;
-  size_t turn = 0;
+  size_t turn = free_turn(hasher);
   call->epoch = queue->epoch;
   call->place = place == 0 || place > queue->places ? ++queue->places : place;
   call->status = SCRYPT_CANCELLED;
   call->state = BEGUN;
   queue->calls++;
-  /* From the first, which are the narrowest and have been used most. */
-  while (turn < hasher->turns && queue->turn[turn].is_taken) turn++;
   if (hasher->is_closed) end(call, SCRYPT_CLOSED);
   else if (turn < hasher->turns) give(queue, turn, call);
   else join(queue, call);
@@ -182,13 +197,13 @@ static int are_alike(const scrypt_needs *one, const scrypt_needs *other) {
   return one->log_n == other->log_n && one->r == other->r && one->p == other->p;
 }
 
-/* Takes those that are like the first of the group, in the order of the line, up to `most` in all. Returns how many. */
-static size_t gather(struct queue *queue, struct call **group, size_t most) {
-  size_t count = 1;
-  struct call *it;
-  for (it = queue->first[0]; it != NULL && count < most; it = it->next[0]) {
+/* Adds those that are like the first of the group, in the order of the line, up to `most` in all: none if the hasher is
+ * closed, or in a child. Returns how many there are. */
+static size_t gather(scrypt_hasher *hasher, struct call **group, size_t count, size_t most) {
+  struct call *it = hasher->is_closed || is_of_parent(hasher, group[0]) ? NULL : hasher->queue->first[0];
+  for (; it != NULL && count < most; it = it->next[0]) {
     if (it->login.text == NULL || !are_alike(&it->needs, &group[0]->needs)) continue;
-    leave(queue, it);
+    leave(hasher->queue, it);
     it->state = FOLLOWS;
     group[count++] = it;
   }
@@ -239,7 +254,8 @@ static void await(scrypt_hasher *hasher, struct call *call, int64_t most_ms, int
       return;
     }
     /* Who follows has no bound any more. */
-    is_interrupted = sleep_while(hasher, &call->state, call->state, left > 0 && left < CHILD_MS ? left : CHILD_MS);
+    is_interrupted = sleep_while(hasher, &call->state, call->state,
+                                 NS_OF_MS * (left > 0 && left < CHILD_MS ? left : CHILD_MS));
     if (is_of_parent(hasher, call)) {
       call->tables = (struct tables){0}; /* a thread of the parent may have been giving it some */
       end(call, SCRYPT_CANCELLED);
@@ -247,19 +263,32 @@ static void await(scrypt_hasher *hasher, struct call *call, int64_t most_ms, int
   }
 }
 
+/* For how many nanoseconds a call that leads waits for others: 1/256 of its derivation, if a core takes 50. */
+static int64_t moment_of(const scrypt_needs *needs) {
+  size_t cores = needs->table_len / 8 * needs->p; /* 4 * N * r * p */
+  int64_t ns = (int64_t)(cores / 5);
+  return ns < LEAST_MOMENT_NS ? 0 : ns < MOST_MOMENT_NS ? ns : MOST_MOMENT_NS;
+}
+
 /* Room comes first, so that nobody follows a call without any. A group has no more chunks than there are tables, so that
- * nobody waits for the chunks of others. */
+ * nobody waits for the chunks of others. Those whose group has just ended often come again at once, and would be too late by
+ * less than a moment. */
 static void lead(scrypt_hasher *hasher, struct call *call) {
   struct call *group[SCRYPT_MOST_LOGINS] = {call};
   int statuses[SCRYPT_MOST_LOGINS] = {SCRYPT_OUT_OF_MEMORY, SCRYPT_CANCELLED, SCRYPT_CANCELLED, SCRYPT_CANCELLED};
-  size_t p = call->needs.p, count = 1, width, most;
+  int64_t moment = moment_of(&call->needs);
+  size_t p = call->needs.p, count, width, most;
   unlock(hasher);
   width = tables_room(&call->tables, &call->needs, width_of(hasher, call->turn));
   most = call->login.text != NULL ? width / p : 1;
-  /* Threads that are ready to run can be in the group: those that have just been woken, say. It waits for none. */
-  if (most > 1) (void)sched_yield();
+  if (most > 1) (void)sched_yield(); /* for threads that are ready to run: it serves short derivations too */
   lock(hasher);
-  if (!hasher->is_closed && !is_of_parent(hasher, call)) count = gather(hasher->queue, group, most);
+  count = gather(hasher, group, 1, most);
+  if (count < most && moment > 0 && free_turn(hasher) == hasher->turns) { /* or others take the free one */
+    (void)sleep_while(hasher, &call->state, LEADS, moment);
+    count = gather(hasher, group, count, most);
+  }
+  if (is_of_parent(hasher, call)) return;
   unlock(hasher);
   if (width > 0) {
     struct buffers of = tables_buffers(&call->tables, &call->needs, width < count * p ? width : count * p, count);
@@ -316,7 +345,7 @@ void scrypt_hasher_free(scrypt_hasher *hasher) {
   if (hasher == NULL) return;
   scrypt_hasher_close(hasher);
   lock(hasher);
-  while (hasher->queue->calls > 0) (void)sleep_while(hasher, &hasher->queue->calls, hasher->queue->calls, CHILD_MS);
+  while (hasher->queue->calls > 0) (void)sleep_while(hasher, &hasher->queue->calls, hasher->queue->calls, NS_OF_MS * CHILD_MS);
   unlock(hasher);
   (void)munmap(hasher->queue, sizeof *hasher->queue);
   free(hasher);

@@ -7,10 +7,10 @@
  * A to F start a call that verifies the right password, a to f one with a wrong password, K one for a key; the hasher is
  * settled after each. Before a letter: - the call waits for 200 ms; + it has a place; * it comes back to its place every
  * 100 ms. Then: . the group that began first ends; $ close; | fork; m no more than one table of A can be mapped;
- * ^ the next call forks just before it sleeps; ~ 300 ms pass. By a signal to the thread of call N: !N nothing, &N fork,
- * #N close, in its handler. */
+ * ^ the next call forks just before it sleeps; ~ 300 ms pass; % moments in which others may join last until the comma. By a
+ * signal to the thread of call N: !N nothing, &N fork, #N close, in its handler. */
 static const struct class { uint8_t log_n; uint32_t r, p; } CLASSES[] = {
-    {4, 8, 1}, {5, 8, 1}, {4, 8, 2}, {4, 8, 16}, {4, 16, 1}, {4, 8, 4}};
+    {4, 8, 1}, {5, 8, 1}, {4, 8, 2}, {4, 8, 16}, {4, 16, 1}, {4, 8, 4}, {13, 8, 1}};
 static const struct row {
   const char *why;
   size_t processors, at_once, widest;
@@ -30,6 +30,11 @@ static const struct row {
     {"two turns, of which the second has two tables", 2, 3, 4, "AaAaA..", "0 1 2 34", "=x=x="},
     {"more tables than turns can use", 1, 1000, 4, "AaAaAa", "0 1234 5", "=x=x=x"},
     {"more processors than tables", 64, 2, 4, "AaA", "0 1 2", "=x="},
+    {"in the moment of one that leads, those that are like it join", 1, 4, 4, "%GgKAG,", "014~ 2 3", "=x==="},
+    {"with those that waited before, and as many as have room", 1, 4, 4, "GgG%.gGAg,", "0~ 1234~ 5 6~", "=x=x==x"},
+    {"a full group has no moment", 1, 2, 4, "GgG", "0~ 12", "=x="},
+    {"nor one with a table for one", 1, 1, 4, "Gg", "0 1", "=x"},
+    {"nor one while a turn is free", 2, 4, 4, "GgG..", "0 1~ 2~", "=x="},
     {"a wait ends in time, and is nobody's partner", 1, 4, 4, "A-aA~.", "0 2", "=t="},
     {"a wait that ends behind one that goes on", 1, 1, 4, "AB-a-b~-A~.", "0 1", "==ttt"},
     {"time is no bound for who has a turn, or is a partner", 1, 2, 4, "-Aa-A.~", "0 12", "=x="},
@@ -43,6 +48,7 @@ static const struct row {
     {"by one to a partner", 1, 4, 4, "AaA.B#2A", "0 12", "=x=cc"},
     {"by one to the leader", 1, 4, 4, "AaA.B#1A", "0 12", "=x=cc"},
     {"closed between two times that a call comes back", 1, 4, 4, "A*a~$", "0", "=c"},
+    {"closed in a moment", 1, 4, 4, "%Gg$,", "0~", "=c"},
     {"memory is refused for a group: each alone", 1, 4, 4, "mAaAaA", "0 1 2 3 4", "=x=x="},
     {"memory is refused for one: only for that one", 1, 1, 4, "AmBaA", "0 2 3", "=mx="},
     {"fork by another thread while one waits", 1, 2, 4, "Aa|", "0 1", "=x"},
@@ -52,6 +58,7 @@ static const struct row {
     {"by one who waits and comes back", 1, 2, 4, "A*aA&1", "0 12", "=x="},
     {"by a partner, who must not get the status that the leader begins with", 1, 2, 4, "AAa.&2&2&2", "0 12", "==x"},
     {"by the leader", 1, 2, 4, "AaA.&1&1", "0 12", "=x="},
+    {"by the leader in a moment", 1, 4, 4, "%Gg&0,", "01~", "=x"},
     {"by one alone, then by a key", 1, 2, 4, "aK&0.&1", "0 1", "x="},
     {"by a waiting key, in a closed hasher", 1, 2, 4, "AK&1$&0", "0", "=c"},
 };
@@ -85,10 +92,16 @@ static void *run(void *of) {
   return NULL;
 }
 
-/* Until each call that was started waits, derives or is over, and so twice. */
+/* Whether each call that was started is in the hasher or over, and each one that leads derives or is in its moment. */
+static int is_settled(scrypt_hasher *hasher, int started) {
+  struct look at = look_at(hasher);
+  return READ(over) + at.calls == started && READ(inside) + READ(in_moments) == at.leading;
+}
+
+/* Until it is so twice. */
 static void settle(scrypt_hasher *hasher, int started, const char *why) {
   int settled = 0;
-  until((settled = READ(over) + look_at(hasher).waiting + READ(members) == started ? settled + 1 : 0) == 2);
+  until((settled = is_settled(hasher, started) ? settled + 1 : 0) == 2);
   expect(settled == 2, "%s: %d calls are not settled", why, started);
 }
 
@@ -119,6 +132,7 @@ static void act(char what, scrypt_hasher *hasher) {
   if (what == '~') usleep(300000);
   if (what == '^') WRITE(forks_before_sleep, 1);
   if (what == '|') fork_here(hasher);
+  if (what == '%' || what == ',') WRITE(moments_last, what == '%');
   if (what != '.') return;
   WRITE(passed, READ(passed) + 1);
   until(READ(ended) != before);
@@ -148,7 +162,7 @@ static void run_row(const struct row *row) {
   for (at = row->script; *at != '\0'; at++) {
     if (strchr("-+*", *at) != NULL) how = *at;
     else if (strchr("!&#", *at) != NULL) interrupt(*at, &all[at[1] - '0']), at++;
-    else if (strchr(".$|m~^", *at) != NULL) act(*at, hasher);
+    else if (strchr(".$|m~^%,", *at) != NULL) act(*at, hasher);
     else start(&all[started], started, how, *at, hasher), started++, how = ' ';
     settle(hasher, started, row->why);
   }
@@ -268,6 +282,17 @@ static void tables_of_keys(void) {
     expect(tables_for_key(KEYS[i].log_n, 8, KEYS[i].p, &needs) == KEYS[i].count, "tables for (%d, 8, %u)", KEYS[i].log_n, KEYS[i].p);
 }
 
+/* 1/256 of the derivation, at most a millisecond, and none below 50 microseconds. */
+static void moments(void) {
+  static const struct { uint8_t log_n; uint32_t p; int64_t ns; } MOMENTS[] = {
+      {4, 1, 0}, {12, 1, 0}, {12, 2, 52428}, {13, 1, 52428}, {14, 1, 104857}, {17, 1, 838860}, {18, 1, 1000000}};
+  scrypt_needs needs;
+  for (size_t i = 0; i < sizeof MOMENTS / sizeof MOMENTS[0]; i++) {
+    IS(scrypt_params_need(MOMENTS[i].log_n, 8, MOMENTS[i].p, SIZE_MAX, UINT64_MAX, &needs), SCRYPT_OK);
+    expect(moment_of(&needs) == MOMENTS[i].ns, "a moment for (%d, 8, %u)", MOMENTS[i].log_n, MOMENTS[i].p);
+  }
+}
+
 /* Waits that end in a mixed order, and waits that come back to their places, take n * log n. */
 static void many_waits(void) {
   const uint64_t n = 80000;
@@ -275,7 +300,7 @@ static void many_waits(void) {
   struct call *all = (struct call *)calloc(n + 1, sizeof *all), *it;
   clock_t begun_at = clock();
   lock(hasher);
-  for (uint64_t i = 0; i <= n; i++) enter(hasher, &all[i], i % 3 == 0 ? UINT64_MAX : 0);
+  for (uint64_t i = 0; i <= n; i++) all[i].login.text = "", enter(hasher, &all[i], i % 3 == 0 ? UINT64_MAX : 0);
   expect(all[n].place == n + 1, "a place that was not given is a new one");
   for (uint64_t i = 0; i < n; i++) {
     it = &all[1 + i * 7919 % n];
@@ -288,6 +313,7 @@ static void many_waits(void) {
   scrypt_hasher_close(hasher);
   IS(READ(wakes), 1); /* not all at once: this one wakes the next */
   lock(hasher);
+  IS(gather(hasher, (struct call *[4]){&all[0]}, 1, 4), 1); /* nobody joins a group */
   finish(hasher, (struct call *[]){&all[0]}, (int[]){SCRYPT_OK}, 1);
   for (uint64_t i = 2; (it = hasher->queue->first[0]) != NULL; i += 2) {
     IS(it->state, WAITS); /* nobody is given a turn */
@@ -356,6 +382,7 @@ int main(void) {
   RUN(options);
   RUN(calls);
   RUN(tables_of_keys);
+  RUN(moments);
   RUN(many_waits);
   RUN(processors);
   RUN(key_forked);

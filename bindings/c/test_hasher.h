@@ -42,7 +42,7 @@ static void *test_mmap(void *at, size_t size, int protection, int flags, int fil
 }
 
 static int test_munmap(void *at, size_t size);
-static void before_syscall(int operation, const struct timespec *time);
+static void before_syscall(int operation, uint32_t value, const struct timespec *time);
 static size_t widest = 4;
 static void (*hook)(int); /* called once, in the middle of a derivation */
 static void call_hook(void) {
@@ -54,7 +54,7 @@ static void call_hook(void) {
 #define mmap test_mmap
 #define munmap test_munmap
 #define syscall(number, word, operation, value, time, ...) \
-  (before_syscall(operation, time), syscall(number, word, operation, value, time, __VA_ARGS__))
+  (before_syscall(operation, value, time), syscall(number, word, operation, value, time, __VA_ARGS__))
 #define most_at_once() READ(widest)
 #define derive watched
 #include "queue.c"
@@ -87,11 +87,13 @@ static int test_munmap(void *at, size_t size) {
 
 /* ---- Derivations that are watched, and stopped ---- */
 
-/* The groups in the order in which they begin: the first letters of their passwords, and after : the tables if they are
- * more or fewer. */
+/* The groups in the order in which they begin: the first letters of their passwords, after : the tables if they are
+ * more or fewer, and ~ if others had a moment to join. */
 enum { MOST_SEEN = 64 };
 static char groups[MOST_SEEN][16];
-static int is_stopped, passed, begun, ended, inside, members, tables_inside;
+static int is_stopped, passed, begun, ended, inside, tables_inside;
+static int moments_last, in_moments; /* whether moments are made to last, and how many leaders are in one */
+static __thread int had_moment;
 
 void watched(const scrypt_hasher *hasher, struct call **group, size_t count, int *statuses, const struct buffers *of) {
   int slot = ADD(begun, 1) - 1, tables = (int)(of->table_len / group[0]->needs.table_len);
@@ -101,26 +103,33 @@ void watched(const scrypt_hasher *hasher, struct call **group, size_t count, int
     expect(statuses[i] != SCRYPT_OK, "a status is SCRYPT_OK before the derivation");
   }
   if (tables != (int)count) sprintf(letters + count, ":%d", tables);
+  if (had_moment) strcat(letters, "~");
+  had_moment = 0;
   if (slot < MOST_SEEN) strcpy(groups[slot], letters);
   expect(ADD(inside, 1) <= (int)hasher->turns, "too many derive at a time");
   expect(ADD(tables_inside, tables) <= (int)hasher->options.at_once, "too many tables at a time");
-  (void)ADD(members, (int)count);
   call_hook();
   while (READ(is_stopped) && READ(passed) <= slot) usleep(100);
   derive(hasher, group, count, statuses, of);
-  (void)ADD(inside, -1), (void)ADD(tables_inside, -tables), (void)ADD(members, -(int)count), (void)ADD(ended, 1);
+  (void)ADD(inside, -1), (void)ADD(tables_inside, -tables), (void)ADD(ended, 1);
 }
 
 /* No handler runs with the lock, in which threads are woken. If it is set, forks just before a call sleeps. */
 static int forks_before_sleep, wakes;
 static void fork_in_handler(int number);
-static void before_syscall(int operation, const struct timespec *time) {
+static void before_syscall(int operation, uint32_t value, const struct timespec *time) {
   sigset_t blocked;
   (void)sigprocmask(SIG_BLOCK, NULL, &blocked);
   if (operation == FUTEX_WAKE_PRIVATE) (void)ADD(wakes, 1);
   expect((operation == FUTEX_WAKE_PRIVATE) == sigismember(&blocked, SIGTERM), "signals with the lock, or none without");
-  expect(time == NULL || time->tv_sec > 0 || time->tv_nsec > 0, "a thread spins in place of sleeping");
-  if (time != NULL && READ(forks_before_sleep)) WRITE(forks_before_sleep, 0), fork_in_handler(0);
+  if (time == NULL) return;
+  expect(time->tv_sec > 0 || time->tv_nsec > 0, "a thread spins in place of sleeping");
+  if (READ(forks_before_sleep)) WRITE(forks_before_sleep, 0), fork_in_handler(0);
+  if (value != LEADS || time->tv_sec > 0) return;
+  had_moment = 1;
+  (void)ADD(in_moments, 1);
+  while (READ(moments_last)) usleep(100);
+  (void)ADD(in_moments, -1);
 }
 
 /* ---- Hashers, and texts ---- */
@@ -130,7 +139,7 @@ static scrypt_hasher *made(size_t processors, size_t at_once, uint32_t log_n) {
   int status = -1;
   scrypt_hasher *hasher = scrypt_hasher_new(&with, &status);
   expect(hasher != NULL && status == SCRYPT_OK, "new: %d", status);
-  begun = ended = inside = members = tables_inside = passed = is_stopped = 0;
+  begun = ended = inside = tables_inside = passed = is_stopped = 0;
   return hasher;
 }
 
@@ -143,16 +152,17 @@ static int verify(scrypt_hasher *hasher, const char *text, const char *password,
 }
 
 /* Whether no turn is taken, nobody waits, there is no call, and a closed hasher has no memory. */
-static struct look { int waiting, is_closed, is_idle; uint32_t calls; } look_at(scrypt_hasher *hasher) {
+static struct look { int calls, leading, is_closed, is_idle; } look_at(scrypt_hasher *hasher) {
   const struct queue *queue = hasher->queue;
-  struct look at = {0, 0, 0, 0};
+  struct look at = {0, 0, 0, 1};
   lock(hasher);
-  for (const struct call *it = queue->first[0]; it != NULL; it = it->next[0]) at.waiting++;
+  at.calls = (int)queue->calls;
   at.is_closed = hasher->is_closed;
-  at.calls = queue->calls;
-  at.is_idle = at.calls == 0 && at.waiting == 0;
-  for (size_t turn = 0; turn < hasher->turns; turn++)
-    at.is_idle &= !queue->turn[turn].is_taken && !(hasher->is_closed && queue->turn[turn].tables.mapping != NULL);
+  for (size_t turn = 0; turn < hasher->turns; turn++) {
+    at.leading += queue->turn[turn].is_taken;
+    at.is_idle &= !(hasher->is_closed && queue->turn[turn].tables.mapping != NULL);
+  }
+  at.is_idle &= at.calls == 0 && at.leading == 0 && queue->first[0] == NULL;
   unlock(hasher);
   return at;
 }
@@ -176,7 +186,7 @@ static void fork_in_handler(int number) {
   (void)number;
   if (getpid() != parent) return;
   child = fork();
-  if (child == 0) failed = inside = tables_inside = 0, WRITE(is_stopped, 0);
+  if (child == 0) failed = inside = tables_inside = 0, WRITE(is_stopped, 0), WRITE(moments_last, 0);
   if (child > 0) WRITE(children[READ(forks)], child), WRITE(forks, READ(forks) + 1);
   errno = before;
 }

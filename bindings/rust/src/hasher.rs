@@ -44,8 +44,9 @@ impl Default for Options {
 ///
 /// Any number of threads may use it, and its clones are the same hasher. At most one thread for each processor derives at
 /// a time, and the others wait, first come, first served. Of those that wait, verifications with the same N, r and p are
-/// derived together if there are tables for them, which takes less time than one after another. Nobody waits for others to
-/// come, and no error of one affects another.
+/// derived together if there are tables for them, which takes less time than one after another. While all processors are
+/// taken, a derivation waits for others to join it for about 1/256 of its time, and at most 1 ms. No error of one affects
+/// another.
 ///
 /// A hasher holds at most [`Options::at_once`] tables, whatever p is, and keeps their memory for later calls until it is
 /// closed or dropped. A hash that needs more than the bounds is refused without waiting, and so is one whose key has fewer
