@@ -22,17 +22,8 @@ size_t most_at_once(void);
 /* How many processors this process may use: those of its affinity, and at most its CPU quota, rounded up. At least 1. */
 size_t processors_of_process(void);
 
-/* What a new hash with these options needs. The statuses of scrypt_params_need, with their bounds. */
-int needs_of_new(const scrypt_options *with, scrypt_needs *needs);
-
 /* The key in these buffers, of which the chunks and the scratch are zeros afterwards. */
 int key_in_buffers(const void *password, size_t password_len, const void *salt, size_t salt_len, uint8_t log_n, uint32_t r,
                    uint32_t p, uint8_t *output, size_t output_len, const struct buffers *of);
-
-/* Verifies several in these buffers, which are long enough for one. Each status is an error before. */
-void verify_group(const scrypt_login *each, size_t count, int *statuses, const struct buffers *of);
-
-/* Replaces each bound that is 0 by its default for such hashes. The statuses of scrypt_limits_for_new. */
-int set_bounds(scrypt_options *with);
 
 #endif

@@ -11,10 +11,12 @@ void derive(const scrypt_hasher *hasher, struct call **group, size_t count, int 
   const scrypt_options *with = &hasher->options;
   const struct call *it = group[0];
   scrypt_login logins[SCRYPT_MOST_LOGINS];
+  int status = SCRYPT_OK;
   size_t i;
   for (i = 0; i < count; i++) logins[i] = group[i]->login;
   if (it->login.text != NULL)
-    verify_group(logins, count, statuses, of);
+    status = scrypt_verify_group_with_buffers(logins, count, statuses, of->chunks, of->chunks_len, of->table, of->table_len,
+                                              of->scratch, of->scratch_len);
   else if (it->is_key)
     statuses[0] = key_in_buffers(it->login.password, it->login.password_len, it->salt, it->salt_len,
                                  (uint8_t)with->log_n, with->r, with->p, (uint8_t *)it->output, it->output_len, of);
@@ -23,6 +25,7 @@ void derive(const scrypt_hasher *hasher, struct call **group, size_t count, int 
         it->login.password, it->login.password_len, it->salt, it->salt_len, (uint8_t)with->log_n, with->r, with->p,
         with->key_len, (char *)it->output, it->output_len, of->chunks, of->chunks_len, of->table, of->table_len,
         of->scratch, of->scratch_len);
+  (void)status; /* nothing is NULL, and a group has no more than four */
 }
 
 int scrypt_hasher_verify(scrypt_hasher *hasher, const void *password, size_t password_len, const char *text,
@@ -90,6 +93,8 @@ int scrypt_hasher_needs_rehash(const scrypt_hasher *hasher, const char *text, si
 /* Replaces zeros by defaults, and checks the options. */
 static int complete(scrypt_hasher *hasher) {
   scrypt_options *with = &hasher->options;
+  size_t most_bytes, least_key_len;
+  uint64_t most_work;
   int status;
   if (with->log_n == 0 && with->r == 0 && with->p == 0) {
     with->log_n = SCRYPT_RECOMMENDED_LOG_N;
@@ -100,11 +105,15 @@ static int complete(scrypt_hasher *hasher) {
   DEFAULT(salt_len, SCRYPT_SALT_LEN);
   DEFAULT(processors, processors_of_process());
   DEFAULT(at_once, with->processors > SIZE_MAX / 2 ? SIZE_MAX : 2 * with->processors);
-  if (with->key_len < 10 || with->key_len > 64) return SCRYPT_INVALID_PARAMS;
-  status = set_bounds(with);
+  if (with->log_n > UINT8_MAX || with->key_len < 10 || with->key_len > 64) return SCRYPT_INVALID_PARAMS;
+  status = scrypt_limits_for_new((uint8_t)with->log_n, with->r, with->p, with->key_len, &most_bytes, &most_work,
+                                 &least_key_len);
   if (status != SCRYPT_OK) return status;
+  DEFAULT(most_bytes, most_bytes);
+  DEFAULT(most_work, most_work);
+  DEFAULT(least_key_len, least_key_len);
   if (with->salt_len > MOST_SALT_LEN) return SCRYPT_SALT_INVALID;
-  return needs_of_new(with, &hasher->needs);
+  return scrypt_params_need((uint8_t)with->log_n, with->r, with->p, with->most_bytes, with->most_work, &hasher->needs);
 }
 
 scrypt_hasher *scrypt_hasher_new(const scrypt_options *options, int *status) {
