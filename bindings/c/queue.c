@@ -40,6 +40,7 @@
 #define MOST_TURNS 8192 /* as many processors as Linux can have */
 #define CHILD_MS 1000   /* how often a thread that sleeps looks whether it is in a child, if no signal woke it there */
 #define NS_OF_MS INT64_C(1000000)
+#define MOST_LOOKED_AT 1000
 
 /* For how long a call that leads may wait for others. The system may end a sleep later by the least. */
 #define MOST_MOMENT_NS 1000000
@@ -198,10 +199,11 @@ static int are_alike(const scrypt_needs *one, const scrypt_needs *other) {
 }
 
 /* Adds those that are like the first of the group, in the order of the line, up to `most` in all: none if the hasher is
- * closed, or in a child. Returns how many there are. */
+ * closed, or in a child. Returns how many there are. It doesn't look at a whole long line, since it has the lock. */
 static size_t gather(scrypt_hasher *hasher, struct call **group, size_t count, size_t most) {
   struct call *it = hasher->is_closed || is_of_parent(hasher, group[0]) ? NULL : hasher->queue->first[0];
-  for (; it != NULL && count < most; it = it->next[0]) {
+  size_t looked_at = 0;
+  for (; it != NULL && count < most && looked_at < MOST_LOOKED_AT; it = it->next[0], looked_at++) {
     if (it->login.text == NULL || !are_alike(&it->needs, &group[0]->needs)) continue;
     leave(hasher->queue, it);
     it->state = FOLLOWS;

@@ -308,11 +308,15 @@ static void many_waits(void) {
     if (i % 2 == 0) enter(hasher, it, it->place | 1); /* which another one has too */
   }
   for (it = hasher->queue->first[0]; it->next[0] != NULL; it = it->next[0]) IS(is_before(it, it->next[0]), 1);
+  it = hasher->queue->first[0];
+  for (int i = 0; i < 1000; i++, it = it->next[0]) it->needs.r = 1;
+  IS(gather(hasher, (struct call *[4]){&all[0]}, 1, 4), 1); /* it looks no further */
   unlock(hasher);
   WRITE(wakes, 0);
   scrypt_hasher_close(hasher);
   IS(READ(wakes), 1); /* not all at once: this one wakes the next */
   lock(hasher);
+  all[0].needs.r = 1;
   IS(gather(hasher, (struct call *[4]){&all[0]}, 1, 4), 1); /* nobody joins a group */
   finish(hasher, (struct call *[]){&all[0]}, (int[]){SCRYPT_OK}, 1);
   for (uint64_t i = 2; (it = hasher->queue->first[0]) != NULL; i += 2) {
