@@ -143,14 +143,19 @@ func TestClosedHashers(t *testing.T) {
 	}
 }
 
-// The memory of a Hasher is given back when nothing refers to it.
-func TestMemoryIsGivenBack(t *testing.T) {
-	for i := 0; i < 16; i++ {
-		_, _ = newHasher(t, Options{Params: Params{LogN: 15}}).Hash(context.Background(), nil)
-		runtime.GC()
+// A Hasher has as many tables as AtOnce, whatever P and Processors are, and they are given back when nothing refers to it.
+func TestMemory(t *testing.T) {
+	hashers := make([]*Hasher, 4)
+	for i := range hashers {
+		hashers[i] = newHasher(t, Options{Params: Params{LogN: 16, P: 4}, AtOnce: 1, Processors: 4})
+		_, _ = hashers[i].Hash(context.Background(), nil)
 	}
+	held := statusKiB(t, "VmRSS")
+	runtime.KeepAlive(hashers)
+	hashers = nil
+	runtime.GC()
 	time.Sleep(100 * time.Millisecond)
-	if left := statusKiB(t, "VmRSS"); left > 256<<10 {
-		t.Errorf("%d KiB after 16 Hashers of 32 MiB", left)
+	if left := statusKiB(t, "VmRSS"); held > 640<<10 || left > held-192<<10 {
+		t.Errorf("4 Hashers with a table of 64 MiB: %d KiB, and %d KiB without them", held, left)
 	}
 }

@@ -50,17 +50,29 @@ fn clones() {
     assert_eq!((clone.needs_rehash(&text), other.verify(&text, "pw")), (Ok(false), Ok(())));
 }
 
-/// The memory is given back when the last clone is dropped.
-#[test]
-fn memory_is_given_back() {
-    for _ in 0..16 {
-        let hasher = with(16, 1, 1);
-        hasher.clone().hash("pw").unwrap();
-    }
+/// How many KiB of this process are in memory.
+fn resident() -> usize {
     let status = std::fs::read_to_string("/proc/self/status").unwrap();
     let line = status.lines().find(|it| it.starts_with("VmRSS")).unwrap();
-    let kib: usize = line.split_whitespace().nth(1).unwrap().parse().unwrap();
-    assert!(kib < 1 << 19, "{kib} KiB after 16 hashers of 64 MiB");
+    line.split_whitespace().nth(1).unwrap().parse().unwrap()
+}
+
+/// A hasher has `at_once` tables, whatever p and the processors are, and gives them back when its last clone is dropped.
+#[test]
+fn memory() {
+    let params = Params::new(16, 8, 4).unwrap();
+    let options = Options { params, at_once: 1, processors: 4, ..Options::default() };
+    let hashers: Vec<_> = (0..4).map(|_| Hasher::new(options).unwrap()).collect();
+    for hasher in &hashers {
+        hasher.clone().hash("pw").unwrap();
+    }
+    let held = resident();
+    drop(hashers);
+    let left = resident();
+    assert!(
+        held < 640 << 10 && left < held - (192 << 10),
+        "of 4 hashers of 64 MiB: {held} KiB, then {left}"
+    );
 }
 
 extern "C" {
