@@ -33,6 +33,7 @@
 #include <signal.h>
 #include <stdlib.h>
 #include <sys/mman.h>
+#include <sys/prctl.h>
 #include <sys/syscall.h>
 #include <time.h>
 #include <unistd.h>
@@ -42,10 +43,11 @@
 #define NS_OF_MS INT64_C(1000000)
 #define MOST_LOOKED_AT 1000
 
-/* For how long a call that leads may wait for others. The system may end a sleep later by the least. */
+/* For how long a call that leads may wait for others: not for less than a sleep may end late. */
 #define MOST_MOMENT_NS 1000000
+#define SLACK_NS 50000 /* of a thread's timers, by default */
 #ifndef LEAST_MOMENT_NS /* tests have another */
-#define LEAST_MOMENT_NS 50000
+#define LEAST_MOMENT_NS SLACK_NS
 #endif
 
 enum { BEGUN, WAITS, FOLLOWS, LEADS, OVER };
@@ -265,11 +267,13 @@ static void await(scrypt_hasher *hasher, struct call *call, int64_t most_ms, int
   }
 }
 
-/* For how many nanoseconds a call that leads waits for others: 1/256 of its derivation, if a core takes 50. */
+/* For how many nanoseconds a call that leads waits for others: 1/256 of its derivation, if a core takes 50. Not at all in a
+ * thread with slower timers. */
 static int64_t moment_of(const scrypt_needs *needs) {
   size_t cores = needs->table_len / 8 * needs->p; /* 4 * N * r * p */
   int64_t ns = (int64_t)(cores / 5);
-  return ns < LEAST_MOMENT_NS ? 0 : ns < MOST_MOMENT_NS ? ns : MOST_MOMENT_NS;
+  if (ns < LEAST_MOMENT_NS || (unsigned)prctl(PR_GET_TIMERSLACK) > SLACK_NS) return 0;
+  return ns < MOST_MOMENT_NS ? ns : MOST_MOMENT_NS;
 }
 
 /* Room comes first, so that nobody follows a call without any. A group has no more chunks than there are tables, so that
