@@ -200,11 +200,13 @@ static int are_alike(const scrypt_needs *one, const scrypt_needs *other) {
   return one->log_n == other->log_n && one->r == other->r && one->p == other->p;
 }
 
-/* Adds those that are like the first of the group, in the order of the line, up to `most` in all: none if the hasher is
- * closed, or in a child. Returns how many there are. It doesn't look at a whole long line, since it has the lock. */
+/* Adds those that are like the first of the group, in the order of the line, up to `most` in all, and to a turn's share of
+ * all calls, so that no processor is idle for a larger group: none if the hasher is closed, or in a child. Returns how many
+ * there are. It doesn't look at a whole long line, since it has the lock. */
 static size_t gather(scrypt_hasher *hasher, struct call **group, size_t count, size_t most) {
   struct call *it = hasher->is_closed || is_of_parent(hasher, group[0]) ? NULL : hasher->queue->first[0];
-  size_t looked_at = 0;
+  size_t looked_at = 0, share = (hasher->queue->calls + hasher->turns - 1) / hasher->turns;
+  if (most > share) most = share;
   for (; it != NULL && count < most && looked_at < MOST_LOOKED_AT; it = it->next[0], looked_at++) {
     if (it->login.text == NULL || !are_alike(&it->needs, &group[0]->needs)) continue;
     leave(hasher->queue, it);

@@ -35,6 +35,7 @@ static const struct row {
     {"a full group has no moment", 1, 2, 4, "GgG", "0~ 12", "=x="},
     {"nor one with a table for one", 1, 1, 4, "Gg", "0 1", "=x"},
     {"nor one while a turn is free", 2, 4, 4, "GgG..", "0 1~ 2~", "=x="},
+    {"a turn's share of all calls, so that no processor is idle", 2, 8, 4, "AaAaA..", "0 1 23 4", "=x=x="},
     {"a wait ends in time, and is nobody's partner", 1, 4, 4, "A-aA~.", "0 2", "=t="},
     {"a wait that ends behind one that goes on", 1, 1, 4, "AB-a-b~-A~.", "0 1", "==ttt"},
     {"time is no bound for who has a turn, or is a partner", 1, 2, 4, "-Aa-A.~", "0 12", "=x="},
@@ -294,7 +295,6 @@ static void moments(void) {
   (void)prctl(PR_SET_TIMERSLACK, 50001);
   expect(moment_of(&needs) == 0, "a moment where sleeps end later");
   (void)prctl(PR_SET_TIMERSLACK, 0);
-  expect(moment_of(&needs) > 0, "none with the default again");
 }
 
 /* Waits that end in a mixed order, and waits that come back to their places, take n * log n. */
