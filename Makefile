@@ -61,17 +61,17 @@ check: kit
 
 .PHONY: what-changed
 what-changed:
-	python3 ci/check.py $(if $(HAS_ROOM),4,1)
+	python3 -m ci.check $(if $(HAS_ROOM),4,1)
 
 # What the program answers.
 ANSWERS = answers-program answers-hashes
 .PHONY: $(ANSWERS)
 $(ANSWERS): answers-%:
-	python3 ci/$*.py crates/scrypt_tool/out/scrypt_tool
+	python3 -m ci.$* crates/scrypt_tool/out/scrypt_tool
 
 # The documents and what must not compile are checked there too, beside the proofs.
 test: kit
-	python3 ci/gate.py
+	python3 -m ci.gate
 
 # Each check runs whatever the others find, so that one run reports every fault.
 DOCUMENTS = lint names fit promises tests-of-ci tests-of-doc tests-of-compare tests-of-release pages
@@ -81,30 +81,33 @@ documents:
 document-lint:
 	@ci/lint.sh
 document-names:
-	@python3 ci/docs.py
+	@python3 -m ci.docs
 document-fit:
-	@python3 ci/wrong_bodies.py fit
+	@python3 -m ci.wrong_bodies fit
 document-promises:
-	@python3 doc/promises.py check
+	@python3 -m doc.promises check
 document-tests-of-ci document-tests-of-doc document-tests-of-compare: document-tests-of-%:
-	@python3 -B -m unittest discover -q -s $* -p 'test_*.py'
+	@python3 -B -m unittest -q $(subst /,.,$(basename $(wildcard $*/test_*.py)))
 document-tests-of-release:
 	@python3 -B release/test_proved.py
 document-pages:
-	@if python3 -c "import sys; sys.path.append('/usr/lib/python3/dist-packages'); import jinja2, pygments" 2> /dev/null; \
-	then python3 doc/make.py; else echo "doc: SKIPPED: Debian's python3-jinja2 and python3-pygments aren't installed"; fi
+	@if python3 -c "from tools import debian; debian.add_packages(); import jinja2, pygments" 2> /dev/null; \
+	then python3 -m doc.make; else echo "doc: SKIPPED: Debian's python3-jinja2 and python3-pygments aren't installed"; fi
 
 wrong-bodies: $(LIBRARIES)
-	python3 ci/wrong_bodies.py all $(CRATES)
+	python3 -m ci.wrong_bodies all $(CRATES)
+
+# The examples are copied, so they import their own modules by name.
+EXAMPLES = PYTHONPATH=.:bindings/python:examples/migration
 
 oracle: lib
 	cd crates/scrypt_tool && rt run -- key 0 1 1 1 "" > /dev/null < /dev/null
-	python3 compare/oracle.py crates/scrypt_tool/out/scrypt_tool
-	python3 compare/allocations.py crates/scrypt_tool/out/scrypt_tool
-	python3 examples/migration/test_migration.py crates/scrypt_tool/out/scrypt_tool $(if $(WORKER),--worker $(WORKER))
-	python3 examples/key_files/test_key_files.py crates/scrypt_tool/out/scrypt_tool build/lib/libscrypt_c.so
-	python3 compare/hostile.py build/lib/libscrypt_c.so
-	python3 compare/groups.py build/lib/libscrypt_c.so
+	python3 -m compare.oracle crates/scrypt_tool/out/scrypt_tool
+	python3 -m compare.allocations crates/scrypt_tool/out/scrypt_tool
+	$(EXAMPLES) python3 examples/migration/test_migration.py crates/scrypt_tool/out/scrypt_tool $(if $(WORKER),--worker $(WORKER))
+	$(EXAMPLES) python3 examples/key_files/test_key_files.py crates/scrypt_tool/out/scrypt_tool build/lib/libscrypt_c.so
+	python3 -m compare.hostile build/lib/libscrypt_c.so
+	python3 -m compare.groups build/lib/libscrypt_c.so
 
 lib: kit
 	$(MAKE) -j$(SIDE_BY_SIDE) proved-scrypt
@@ -142,15 +145,15 @@ callers: lib
 # What is measured is the library that the dynamic linker takes on this machine.
 MEASURED = $(or $(wildcard build/lib/glibc-hwcaps/x86-64-v3/libscrypt_c.so.0),build/lib/libscrypt_c.so)
 bench: lib
-	python3 bench/bench.py $(MEASURED) $(WORKERS)
-	GLIBC_TUNABLES=glibc.malloc.hugetlb=1 python3 bench/bench.py $(MEASURED) $(WORKERS)
-	python3 bench/verifications.py $(MEASURED) $(subst --worker,,$(WORKERS))
-	python3 bench/verifications.py $(MEASURED) $(subst --worker,,$(WORKERS)) --processes $$(nproc) --runs 5 \
+	python3 -m bench.bench $(MEASURED) $(WORKERS)
+	GLIBC_TUNABLES=glibc.malloc.hugetlb=1 python3 -m bench.bench $(MEASURED) $(WORKERS)
+	python3 -m bench.verifications $(MEASURED) $(subst --worker,,$(WORKERS))
+	python3 -m bench.verifications $(MEASURED) $(subst --worker,,$(WORKERS)) --processes $$(nproc) --runs 5 \
 	  --params 14,8,1:15,8,1:16,8,1:17,8,1:18,8,1 --picture docs/speed.svg
-	python3 bench/logins.py $(MEASURED)
+	python3 -m bench.logins $(MEASURED)
 
 doc:
-	python3 doc/make.py
+	python3 -m doc.make
 
 clean:
 	rm -rf build crates/*/out
@@ -162,7 +165,7 @@ kit:
 # What is done seldom: each calls a script of the folder that it is about.
 .PHONY: refused-by-tests dist-test thin parameters bounds compare-worker promises doc-test axioms
 refused-by-tests: kit
-	python3 ci/refused_by_tests.py
+	python3 -m ci.refused_by_tests
 
 dist-test:
 	python3 -B release/test_proved.py
@@ -170,24 +173,24 @@ dist-test:
 	release/test.sh
 
 thin: lib
-	python3 bench/thin.py $(MEASURED) 2 docs/thin.svg
+	python3 -m bench.thin $(MEASURED) 2 docs/thin.svg
 
 parameters: lib
-	python3 bench/parameters.py $(MEASURED) 15 docs/parameters.svg
+	python3 -m bench.parameters $(MEASURED) 15 docs/parameters.svg
 
 bounds: lib
-	python3 bench/bounds.py $(MEASURED)
+	python3 -m bench.bounds $(MEASURED)
 
 compare-worker: kit
 	@test -n "$(WORKER)" || { echo "Say with what: make compare-worker WORKER=PATH" >&2; exit 1; }
 	cd crates/scrypt_tool && rt run -- key 0 1 1 1 "" > /dev/null < /dev/null
-	python3 compare/oracle.py crates/scrypt_tool/out/scrypt_tool --seed 934532111 --worker $(WORKER)
+	python3 -m compare.oracle crates/scrypt_tool/out/scrypt_tool --seed 934532111 --worker $(WORKER)
 
 promises:
-	python3 doc/promises.py
+	python3 -m doc.promises
 
 doc-test: doc
-	python3 doc/browser_test.py build/doc
+	python3 -m doc.browser_test build/doc
 
 axioms: proved-scrypt_commands
 	mkdir -p build

@@ -1,7 +1,6 @@
-#!/usr/bin/env python3
 """Compares this library with other implementations of scrypt on this machine.
 
-usage: bench.py LIBRARY [--worker NAME=PATH].. [--runs 15] [--cpu N] [--params 14,8,1:17,8,1]
+usage: python3 -m bench.bench LIBRARY [--worker NAME=PATH].. [--runs 15] [--cpu N] [--params 14,8,1:17,8,1]
 
 All libraries are called in one process: this one (LIBRARY is libscrypt_c.so) by scrypt_key_with_buffers, in buffers that
 are kept from call to call, with as many tables as there are chunks, at most four, and by scrypt_key; libxcrypt, libsodium,
@@ -27,9 +26,9 @@ import os
 import random
 import statistics
 
-import tables
-from libraries import OPENSSL, libraries, of_this_repository
-from worker import Refused, Worker
+from bench import tables
+from tools.libraries import OPENSSL, libraries, of_this_repository
+from tools.worker import Refused, Worker
 
 PARAMS = "10,8,16:13,8,10:14,8,1:14,8,5:15,8,3:16,8,4:17,8,1:20,8,1:14,32,1"
 PASSWORD, SALT, LENGTH = b"pleaseletmein", b"SodiumChloride", 64

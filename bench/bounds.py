@@ -1,7 +1,6 @@
-#!/usr/bin/env python3
 """Measures the slowest hash within the default bounds, for each log_n and some r.
 
-usage: bounds.py LIBRARY
+usage: python3 -m bench.bounds LIBRARY
 
 LIBRARY is the shared C library of this repository. For each log_n and r, p is the greatest that scrypt_params_need
 allows. The last column is the time relative to the slowest hash with log_n of 10 or more and r = 8.
@@ -9,7 +8,7 @@ allows. The last column is the time relative to the slowest hash with log_n of 1
 
 import sys
 
-import ours
+from tools import ours
 
 MOST_BYTES, MOST_WORK = 257 << 20, 16781312
 LOG_NS, RS = range(0, 22), (1, 2, 8, 64)

@@ -1,7 +1,6 @@
-#!/usr/bin/env python3
 """Measures how many logins a second a hasher verifies, and how long they wait, and prints a table in Markdown.
 
-usage: logins.py LIBRARY [--clients 16:8] [--seconds 10] [--params 17,8,1] [--tables 1:2:4]
+usage: python3 -m bench.logins LIBRARY [--clients 16:8] [--seconds 10] [--params 17,8,1] [--tables 1:2:4]
 
 LIBRARY is libscrypt_c.so. Each client is a thread that verifies one PHC hash again and again, on all processors, with a
 hasher that has so many tables for each processor. What the hashers do in the first tenth of the seconds isn't counted.
@@ -15,8 +14,8 @@ import sys
 import threading
 import time
 
-import ours
-import tables
+from bench import tables
+from tools import ours
 
 PASSWORD = b"pleaseletmein"
 KEPT = 0.9  # of the time

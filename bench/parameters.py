@@ -1,7 +1,6 @@
-#!/usr/bin/env python3
 """Measures one login for docs/PARAMETERS.md: its seconds and the memory of the process.
 
-usage: parameters.py LIBRARY [RUNS [PICTURE]]
+usage: python3 -m bench.parameters LIBRARY [RUNS [PICTURE]]
 
 LIBRARY is the shared C library of this repository. A login is one call of scrypt_verify on a PHC text. For each log_n,
 at r = 8 and p = 1, a process of its own prints the seconds of its first login, the minimum of RUNS others (by default 7),
@@ -14,8 +13,8 @@ import os
 import resource
 import sys
 
-import ours
-import picture
+from bench import picture
+from tools import ours
 
 LOG_NS = range(10, 21)
 

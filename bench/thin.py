@@ -1,7 +1,6 @@
-#!/usr/bin/env python3
 """Measures key derivation with smaller tables: memory, cores and time, for s from 0 to 6.
 
-usage: thin.py LIBRARY [RUNS [PICTURE]]
+usage: python3 -m bench.thin LIBRARY [RUNS [PICTURE]]
 
 LIBRARY is the shared C library of this repository. The table keeps one row in 2^s. The time is the minimum of RUNS runs (by
 default 3). A step recomputes (2^s - 1) / 2 rows on average, so 2 * N * r * p * (2 + (2^s - 1) / 2) cores are expected. Each
@@ -13,8 +12,8 @@ import hashlib
 import sys
 import time
 
-import ours
-import picture
+from bench import picture
+from tools import ours
 
 PARAMS = [(17, 8, 1), (20, 8, 1)]
 SPACINGS = range(7)

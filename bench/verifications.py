@@ -1,7 +1,6 @@
-#!/usr/bin/env python3
 """Measures consecutive verifications, by each implementation as its users call it, and prints a table in Markdown.
 
-usage: verifications.py LIBRARY [NAME=WORKER..] [--runs 20] [--params 14,8,1:17,8,1:20,8,1] [--processes 1] [--picture FILE]
+usage: python3 -m bench.verifications LIBRARY [NAME=WORKER..] [--runs 20] [--params 14,8,1:17,8,1:20,8,1] [--processes 1] [--picture FILE]
 
 This library (LIBRARY is libscrypt_c.so) verifies by scrypt_hasher_verify, in memory that is kept from call to call,
 by scrypt_verify, and two or four at once by scrypt_verify_group_with_buffers, of which each one's part of the time counts. libsodium verifies by
@@ -27,11 +26,10 @@ import statistics
 import sys
 import time
 
-import ours
-import picture
-import tables
-from libraries import crypt64, libraries
-from worker import Worker
+from bench import picture, tables
+from tools import ours
+from tools.libraries import crypt64, libraries
+from tools.worker import Worker
 
 IN_MEMORY, ALLOCATING, TWO, FOUR = "`scrypt_hasher_verify`", "`scrypt_verify`", "each of two at once", "each of four at once"
 DRAWN = {FOUR: "this library, four at once", TWO: "two at once", IN_MEMORY: "one at a time", ALLOCATING: None}  # None is left out

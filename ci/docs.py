@@ -1,4 +1,3 @@
-#!/usr/bin/env python3
 """Compares the documents with the sources, and refuses what does not fit.
 
 Refused are: a name in a document that no source has; a link that leads nowhere, or whose words name a definition that
@@ -15,11 +14,8 @@ import glob
 import os
 import re
 import sys
-from pathlib import Path
-
-sys.path.append(str(Path(__file__).parent.parent / "doc"))
-import specs
-from sources import read, read_crate
+from tools import specs
+from tools.sources import read, read_crate
 
 DOCS = ["*.md", "docs/*.md", "bindings/**/*.md", "release/*.md", "examples/**/*.md"]
 SOURCES = ["crates/**/*.rt", "crates/**/*.antt", "examples/**/*.py"]

@@ -1,4 +1,3 @@
-#!/usr/bin/env python3
 """Runs `rt ci`, which proves every crate, and all else that the gate checks.
 
 - At once: the documents, the scripts and what must not compile. A fault there ends the gate early.
@@ -24,14 +23,8 @@ import sys
 import tempfile
 import threading
 import time
-from pathlib import Path
 
-import edits
-import prover_command
-
-sys.path.append(str(Path(__file__).parent.parent / "doc"))
-import kit
-import sources
+from tools import edits, kit, prover_command, sources
 
 # How many tasks run beside `rt ci`, and how many after it; and how many may have begun, with those that wait for another.
 BESIDE, AFTERWARDS, MOST = 3, 4, 16
@@ -205,7 +198,7 @@ def link_program(tasks):
 def answer(tasks, is_built):
     """Links the program, where a compiler is here, and compares its answers."""
     is_well, text = link_program(tasks) if is_built else (True, "")
-    return tasks.run(sys.executable, "ci/program.py", PROGRAM) if is_well else (is_well, text)
+    return tasks.run(sys.executable, "-m", "ci.program", PROGRAM) if is_well else (is_well, text)
 
 
 def add_all(tasks, made, kept, is_built):
@@ -215,12 +208,12 @@ def add_all(tasks, made, kept, is_built):
         tasks.add("callers of the library", prover_command.below("scrypt_c"), lambda: link_and_call(tasks, made), LIBRARY)
     for name in edits.crates_with("wrong-bodies"):
         over, before = (["over", kept], LIBRARY) if name == "scrypt_c" and is_built else ([], None)
-        command = [sys.executable, "ci/wrong_bodies.py", *over, name]
+        command = [sys.executable, "-m", "ci.wrong_bodies", *over, name]
         tasks.add(f"wrong bodies of {name}", prover_command.below(name), lambda command=command: tasks.run(*command), before)
     tasks.add("the documents", [], lambda: tasks.run("make", "--no-print-directory", "documents"))
-    tasks.add("what must not compile", [], lambda: tasks.run(sys.executable, "ci/must_not_compile.py"))
+    tasks.add("what must not compile", [], lambda: tasks.run(sys.executable, "-m", "ci.must_not_compile"))
     tasks.add("answers of the program", ["scrypt_tool"], lambda: answer(tasks, is_built))
-    tasks.add("answers to hashes", ["scrypt_tool"], lambda: tasks.run(sys.executable, "ci/hashes.py", PROGRAM))
+    tasks.add("answers to hashes", ["scrypt_tool"], lambda: tasks.run(sys.executable, "-m", "ci.hashes", PROGRAM))
 
 
 def prove(tasks, log):

@@ -1,23 +1,18 @@
-#!/usr/bin/env python3
 """Verifies and makes hashes by the built program: those of other programs, and what is changed, cut or long.
 
-The hashes are those of compare/known.py, and all other keys are those of Python's hashlib. `compare/hostile.py` verifies
+The hashes are those of tools/known.py, and all other keys are those of Python's hashlib. `compare/hostile.py` verifies
 more than a million texts by the library for C.
 
-usage: hashes.py SCRYPT_TOOL
+usage: python3 -m ci.hashes SCRYPT_TOOL
 """
 
 import hashlib
 import itertools
-import os
 import sys
 
-sys.path.append(os.path.join(os.path.dirname(os.path.abspath(__file__)), "../compare"))
-import crypt64
-import reference
-import runs
-from known import CRYPT as MCF, EMPTY, PASSLIB as PHC
-from runs import unlimited
+from tools import crypt64, reference, runs
+from tools.known import CRYPT as MCF, EMPTY, PASSLIB as PHC
+from tools.runs import unlimited
 
 PHC_KEY, MCF_KEY = (it[it.rindex("$") :] for it in (PHC, MCF))
 KEY_AT = EMPTY.rindex("$") + 1

@@ -11,7 +11,7 @@ lint() {
     echo "$1: SKIPPED: $package isn't installed"
     return
   fi
-  wrong=$(find ci compare doc bench bindings examples release -name "$kind" -not -path '*/out/*' \
+  wrong=$(find bench bindings ci compare doc examples release tools -name "$kind" -not -path '*/out/*' \
     -not -path '*/target/*' -exec "$@" {} + 2>&1) || test -n "$wrong" || wrong="$1 failed"
   test -z "$wrong" || { echo "$wrong"; failed=1; }
 }
@@ -20,7 +20,7 @@ lint '*.py' pyflakes3 pyflakes3
 lint '*.sh' shellcheck shellcheck --severity=error
 lint '*.go' golang-go gofmt -l
 # A user's CDPATH would make cd go elsewhere.
-for script in .ci/run $(find ci compare doc bench bindings examples release -name '*.sh'); do
+for script in .ci/run $(find bench bindings ci compare doc examples release tools -name '*.sh'); do
   if grep -qE '^[^#]*\bcd ' "$script" && ! grep -qx 'unset CDPATH' "$script"; then
     echo "$script: no unset CDPATH"
     failed=1

@@ -1,4 +1,3 @@
-#!/usr/bin/env python3
 """Checks what the compiler has to refuse before any proof, and what no clause can refuse.
 
 The compiler has to refuse each crates/NAME/must-not-compile/*.edit, because it uses something private or makes the
@@ -16,12 +15,8 @@ import glob
 import re
 import subprocess
 import sys
-from pathlib import Path
 
-import edits
-
-sys.path.append(str(Path(__file__).parent.parent / "doc"))
-import sources
+from tools import edits, sources
 
 HANDWRITTEN = ["crates/scrypt_kernel/proofs/cores/count/CoreCount/of/Proof.antt"]
 NEW_COUNTS = {

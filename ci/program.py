@@ -1,11 +1,10 @@
-#!/usr/bin/env python3
 """Runs the built program on command lines whose answers come from elsewhere, and on each fault once.
 
 The answer of a run is a line on the standard output for the statuses 0 and 1, and otherwise on the standard error; the
 other one stays empty. The keys are those of RFC 7914, section 12, and of Python's hashlib; the hashes are those of
-compare/known.py.
+tools/known.py.
 
-usage: program.py PROGRAM
+usage: python3 -m ci.program PROGRAM
 """
 
 import hashlib
@@ -14,15 +13,12 @@ import os
 import sys
 import tempfile
 
-sys.path.append(os.path.join(os.path.dirname(os.path.abspath(__file__)), "../compare"))
-import allocations
-import crypt64
-import prompt
-import reference
-import runs
-from known import CRYPT, EMPTY, EMPTY_PHC, HASHLIB, LONG, PASSLIB, PLAIN, RFC, SHORT
-from runs import run
-from streams import cuts, memory, streams
+from ci import prompt
+from ci.streams import cuts, memory, streams
+from compare import allocations
+from tools import crypt64, reference, runs
+from tools.known import CRYPT, EMPTY, EMPTY_PHC, HASHLIB, LONG, PASSLIB, PLAIN, RFC, SHORT
+from tools.runs import run
 
 FIRST_KEY = (
     "77d6576238657b203b19ca42c18a0497f16b4844e3074ae8dfdffa3fede21442"

@@ -7,9 +7,9 @@ import sys
 import tempfile
 import time
 
-from known import HASHLIB
-from runs import OK
-from terminal import session
+from tools.known import HASHLIB
+from tools.runs import OK
+from tools.terminal import session
 
 TOP = os.path.join(os.path.dirname(os.path.abspath(__file__)), "..")
 with open(f"{TOP}/VERSION", encoding="ascii") as file:

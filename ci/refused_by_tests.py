@@ -1,4 +1,3 @@
-#!/usr/bin/env python3
 """Tries the bodies that meet every contract and are wrong still, which the tests have to refuse.
 
 No clause can say that an allocation succeeds, or how much a call allocates: a body that allocates once more, or that
@@ -15,7 +14,7 @@ import re
 import subprocess
 import sys
 
-import edits
+from tools import edits
 
 
 def failed_tests(crate):
@@ -36,7 +35,7 @@ def failed_cases(crate):
     if not os.path.isfile(program):
         print((built.stdout + built.stderr)[-2000:])
         return None
-    ran = subprocess.run([sys.executable, "ci/program.py", program], capture_output=True, text=True)
+    ran = subprocess.run([sys.executable, "-m", "ci.program", program], capture_output=True, text=True)
     return re.findall(r"^(.*): .*, and not ", ran.stdout, re.M)[:3]
 
 

@@ -6,8 +6,8 @@ import subprocess
 import tempfile
 import tty
 
-import runs
-from known import EMPTY, EMPTY_PHC
+from tools import runs
+from tools.known import EMPTY, EMPTY_PHC
 
 # One command of each kind, which all answer an empty password with status 0.
 STREAM_COMMANDS = ["key 4 1 1 64 ", "hash phc 4 1 1 00", "hash mcf 4 1 1 ", f"verify {EMPTY_PHC}", f"verify {EMPTY}"]

@@ -3,7 +3,7 @@
 import re
 import unittest
 
-import docs
+from ci import docs
 
 NAMES = {"Params", "log_n", "n", "scrypt_counted", "quarter_round", "ro_mix"}
 RUST = "[Rust](../bindings/rust/README.md):\n```rust\nlet hasher = Hasher::default();\nhasher.close();\n```\n"

@@ -4,7 +4,7 @@ import tempfile
 import unittest
 from pathlib import Path
 
-import edits
+from tools import edits
 
 SOURCE, OTHER = "one\ntwo\ntwo three\n", "four\n"
 

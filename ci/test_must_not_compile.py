@@ -3,7 +3,7 @@ and what a check refuses for. That it refuses nothing else is seen by running it
 
 import unittest
 
-import must_not_compile
+from ci import must_not_compile
 
 COUNTER = "#[derive(Drop)]\npub struct CoreCount {\n}\n"
 RIGHT = {path: "let mut cores = CoreCount::new();\n" * times for path, times in must_not_compile.NEW_COUNTS.items()}

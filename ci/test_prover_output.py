@@ -2,7 +2,7 @@
 
 import unittest
 
-import prover_output
+from ci import prover_output
 
 GOAL = "./proofs/walk/step/Answers.antt:3:9: error: `returns`: the two sides differ\n  on the right: 3\n"
 FOUND = "note: src/walk.rt:40:5: it is not proved that `accepted` holds: log_n ≤ 56\n"

@@ -1,4 +1,3 @@
-#!/usr/bin/env python3
 """Tries wrong bodies, which the prover has to refuse, many of them in one check.
 
 A function is proved by its own body and the contracts of those that it calls, so a wrong body does not affect the
@@ -26,12 +25,8 @@ import sys
 import tempfile
 from pathlib import Path
 
-import edits
-import prover_command
-import prover_output
-
-sys.path.append(str(Path(__file__).parent.parent / "doc"))
-import sources
+from ci import prover_output
+from tools import edits, prover_command, sources
 
 FIRST, MORE = "wrong-bodies", "more-wrong-bodies"
 

@@ -1,18 +1,17 @@
-#!/usr/bin/env python3
 """Refuses each allocation of a run of the program in turn, and compares their number.
 
 The program runs with failing_calls.c preloaded, which fails the allocation of one number, from the first to the last.
 Each refusal has to end with status 3, nothing in the output and its fault line. How many a run makes is compared too,
 so that a hidden one is seen.
 
-usage: allocations.py PROGRAM        needs a C compiler
+usage: python3 -m compare.allocations PROGRAM        needs a C compiler
 """
 
 import functools
 import sys
 
-import runs
-from known import HASHLIB as PHC
+from tools import runs
+from tools.known import HASHLIB as PHC
 
 # how a run ends if an allocation is refused: while the arguments are read, and after that
 ARGUMENTS = (3, "", "the arguments can't be read\n")

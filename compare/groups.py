@@ -1,7 +1,6 @@
-#!/usr/bin/env python3
 """Verifies random groups of one to four hashes at once, and each alone: the statuses have to be the same.
 
-usage: groups.py LIBRARY [GROUPS [SEED]]
+usage: python3 -m compare.groups LIBRARY [GROUPS [SEED]]
 
 LIBRARY is libscrypt_c.so. A group has hashes of either format, whose log_n, r and p are the same or not, with right and
 wrong passwords; some are cut, lack a key, or need more than the buffers have, which are enough for one to four. It fails if a
@@ -13,8 +12,8 @@ import ctypes
 import random
 import sys
 
-from reference import hash_of
-from runs import report
+from tools.reference import hash_of
+from tools.runs import report
 
 # Of the chunks in bytes, of the table and of the scratch in words: for any one that is not costly.
 LENS = 1 << 11, 1 << 12, 1 << 9

@@ -1,7 +1,6 @@
-#!/usr/bin/env python3
 """Compares the verdicts on hostile hashes with a reader in plain Python.
 
-usage: hostile.py LIBRARY [TEXTS [SEED]]
+usage: python3 -m compare.hostile LIBRARY [TEXTS [SEED]]
 
 LIBRARY is libscrypt_c.so. First come two long texts, the texts that are one character away from one of both formats, and
 `$7$` texts with a key of up to three letters, all of them. Then come random texts of both formats (a million if not
@@ -20,11 +19,7 @@ import re
 import resource
 import sys
 
-import crypt64
-import known
-import phc
-import reference
-import runs
+from tools import crypt64, known, phc, reference, runs
 
 TEXTS = 1_000_000
 

@@ -1,7 +1,6 @@
-#!/usr/bin/env python3
 """Compares the program with independent implementations on random input.
 
-usage: oracle.py PROGRAM [--seed N] [--worker PATH]
+usage: python3 -m compare.oracle PROGRAM [--seed N] [--worker PATH]
 
 Each part prints how many cases are as they should be. Parts whose library isn't installed, also where Debian puts it,
 are skipped and named. WORKER speaks the protocol that bench/bench.py describes: with it, only 10,000 keys are compared,
@@ -11,19 +10,15 @@ some of parameters and lengths that both have to refuse.
 import argparse
 import ctypes
 import functools
-import os
 import random
 import sys
 
-import crypt64
-import known
-import reference
-from reference import hash_of
-from runs import NO, OK, report, unlimited
+from tools import crypt64, debian, known, reference
+from tools.reference import hash_of
+from tools.runs import NO, OK, report, unlimited
+from tools.worker import Refused, Worker
 
-# Debian's packages, for an interpreter that is not the system's
-sys.path += ["/usr/lib/python3/dist-packages", os.path.join(os.path.dirname(os.path.abspath(__file__)), "../bench")]
-from worker import Refused, Worker
+debian.add_packages()
 
 CASES, WORKER_CASES = 200, 10_000
 

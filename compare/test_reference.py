@@ -3,7 +3,7 @@
 import re
 import unittest
 
-import reference
+from tools import reference
 
 PROVED = "crates/scrypt/proofs/StandardFacts.antt"
 FIRST_KEY = "77d6576238657b203b19ca42c18a0497f16b4844e3074ae8dfdffa3fede21442"

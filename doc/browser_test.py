@@ -1,15 +1,14 @@
-#!/usr/bin/env python3
 """Reads the pages in a headless Chromium, as a reader does: by links, by keys, wide and narrow, light and dark.
 
-usage: browser_test.py [FOLDER]    the folder of the pages
+usage: python3 -m doc.browser_test [FOLDER]    the folder of the pages
 """
 
 import os
 import sys
 import unittest
 
-import browser
-from sources import read
+from tools import browser
+from tools.sources import read
 
 HERE = os.path.dirname(os.path.abspath(__file__))
 PAGES = os.path.abspath(sys.argv[1] if len(sys.argv) > 1 else "build/doc")

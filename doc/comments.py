@@ -3,7 +3,7 @@
 import re
 from html import escape
 
-import lexers
+from doc import lexers
 
 FIRST_SENTENCE = re.compile(r"\n\s*\n|(?<=\.)\s")
 CODE = re.compile(r"\[?`([^`]+)`\]?(?:\(([^)]*)\))?")

@@ -2,8 +2,7 @@
 
 import re
 
-import comments
-import lexers
+from doc import comments, lexers
 
 
 def close(library):

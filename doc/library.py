@@ -5,8 +5,7 @@ import os
 import re
 from dataclasses import dataclass
 
-import sources
-import specs
+from tools import sources, specs
 
 STANDARD_FACTS = "StandardFacts"
 TESTS = "library_tests"

@@ -3,8 +3,8 @@
 import re
 from dataclasses import dataclass, field
 
-import lexers
-from library import Target, page_of
+from doc import lexers
+from doc.library import Target, page_of
 
 BINDERS = (
     re.compile(r"[({]([\w' ]+?) : "),

@@ -1,4 +1,3 @@
-#!/usr/bin/env python3
 """Makes the reader for the proof: build/doc/index.html and the pages that it leads to.
 
 It reads the sources, the specs, crates.txt and headline.json, and needs Debian's python3-jinja2 and python3-pygments.
@@ -6,7 +5,7 @@ It fails if a name in a clause or in a definition leads nowhere, if a public fun
 has no words, if a link has no target, if two targets of a page have the same name, or if the headline isn't README's or
 names a clause that is gone.
 
-usage: make.py [FOLDER]    the folder of the pages, which is replaced: build/doc
+usage: python3 -m doc.make [FOLDER]    the folder of the pages, which is replaced: build/doc
 """
 
 import json
@@ -16,20 +15,19 @@ import shutil
 import sys
 import time
 
-sys.path.append("/usr/lib/python3/dist-packages")  # where Debian puts packages, also if python3 is another one
+from tools import debian
+
+debian.add_packages()
 try:
     import jinja2
 except ImportError as missing:
     sys.exit(f"make doc needs Debian's python3-jinja2 and python3-pygments: {missing}")
 
-import checks
-import comments
-import kit
-import kit_pages
-import lexers
-from library import Library, module_page, page_of, text_page
-from sources import read
-from views import Views
+from doc import checks, comments, kit_pages, lexers
+from doc.library import Library, module_page, page_of, text_page
+from doc.views import Views
+from tools import kit
+from tools.sources import read
 
 TAG = re.compile(r"<[^>]+>")
 HERE = os.path.dirname(os.path.abspath(__file__))

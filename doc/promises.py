@@ -1,13 +1,12 @@
-#!/usr/bin/env python3
 """Writes docs/PROMISES.md from the sources: the public functions of each file with a checksum of their clauses, and the
 definitions to review for the two promises of README, with a checksum of all definitions of each crate.
 
 Everything but doc/not_promised.md is generated, without the kit and without packages.
 
-usage: promises.py          writes the page
-       promises.py check    refuses a page that differs from the sources, another number of lines to read in README,
+usage: python3 -m doc.promises          writes the page
+       python3 -m doc.promises check    refuses a page that differs from the sources, another number of lines to read in README,
                             a name that leads nowhere, and a public function, a clause or a definition without words
-       promises.py clauses  prints every public function with the text of its clauses, as the packages have it
+       python3 -m doc.promises clauses  prints every public function with the text of its clauses, as the packages have it
 """
 
 import hashlib
@@ -16,11 +15,11 @@ import re
 import sys
 from collections import Counter
 
-import comments
-import kit
-from library import Library
-from sources import read
-from views import Views
+from doc import comments
+from doc.library import Library
+from doc.views import Views
+from tools import kit
+from tools.sources import read
 
 PAGE = "docs/PROMISES.md"
 

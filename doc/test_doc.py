@@ -5,12 +5,8 @@ import tempfile
 import unittest
 from pathlib import Path
 
-import checks
-import kit
-import library
-import links
-import sources
-import views
+from doc import checks, library, links, views
+from tools import kit, sources
 
 SPEC = """-- Keys.
 use Rattle.std.specs.Prelude.{ℕ, ◌+◌, ◌≡◌, suc, zero}

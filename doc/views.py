@@ -4,10 +4,9 @@ import itertools
 import re
 from dataclasses import dataclass, field
 
-import comments
-import links
-import specs
-from library import STANDARD_FACTS, definition_target, page_of, text_page
+from doc import comments, links
+from doc.library import STANDARD_FACTS, definition_target, page_of, text_page
+from tools import specs
 
 # types are shown also if they are private, since clauses and definitions may cite them
 TYPES = ("struct", "enum", "trait")

@@ -28,7 +28,7 @@ trap 'debian/rules clean > /dev/null 2>&1; rm -rf "$parts"' EXIT
 
 # The files below any prefix, the documents, and what PROVED.txt says of the files.
 make -s install prefix="$parts/files" pythondir="$parts/python" docdir="$parts/doc" DESTDIR=
-python3 -B doc/promises.py clauses > "$parts/doc/docs/CLAUSES.md"
+python3 -B -m doc.promises clauses > "$parts/doc/docs/CLAUSES.md"
 release/strip.sh "$parts/files"
 python3 -B release/proved.py text "$parts/files" > "$parts/PROVED.txt"
 # The newest glibc whose names a binary may take: the wheel's tag manylinux2014 promises 2.17 for its libraries.

@@ -234,7 +234,7 @@ fi
 
 # What calls leave in memory. If what the kit built is here, each call without clearing.c has to leave something.
 if has gcc gcc; then
-  python3 -B bindings/c/traces.py "$lib/libscrypt_c.so" > "$room/secrets"
+  python3 -B -m bindings.c.traces "$lib/libscrypt_c.so" > "$room/secrets"
   "$room/test_traces-$newest" "$room/secrets" "$lib/libscrypt_drop_in.so" > /dev/null
   head -n 1 "$room/secrets" > "$room/first"
   no_trace() {

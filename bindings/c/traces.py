@@ -1,7 +1,7 @@
 #!/usr/bin/env python3
 """Prints what calls must not leave in memory, for test_traces.c and for the test of the Python package.
 
-usage: traces.py LIBRARY        LIBRARY is libscrypt_c.so
+usage: python3 -m bindings.c.traces LIBRARY        LIBRARY is libscrypt_c.so
 
 A line is a case: log_n, r and p, and then the password, the salt and the secrets, each by its name and the complements of
 its bytes in hexadecimal. A process that reads them doesn't have the secrets in its memory by that.
@@ -12,11 +12,9 @@ the mixed blocks: hashlib makes the key of them. The rest is by hashlib and by t
 
 import ctypes
 import hashlib
-import os
 import sys
 
-sys.path.insert(0, os.path.join(os.path.dirname(os.path.abspath(__file__)), "..", "..", "compare"))
-import crypt64
+from tools import crypt64
 
 # Why, the length of the password, and the parameters.
 CASES = [

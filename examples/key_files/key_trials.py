@@ -11,7 +11,7 @@ import key_vectors
 from foreign import Missing, installed
 from key_codecs import keccak_256
 from key_trial import changed, read, run
-from terminal import on_terminal
+from tools.terminal import on_terminal
 
 # Contents of files: none, some, and more than one chunk of age.
 LENGTHS = (0, 1000, 70000)

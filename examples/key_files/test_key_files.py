@@ -18,7 +18,6 @@ import sys
 import tempfile
 
 TOP = os.path.join(os.path.dirname(os.path.abspath(__file__)), "..", "..")
-sys.path += [os.path.join(TOP, *folder.split("/")) for folder in ("compare", "examples/migration", "bindings/python")]
 from foreign import Missing
 
 

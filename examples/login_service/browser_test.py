@@ -17,8 +17,8 @@ import unittest
 import urllib.request
 
 HERE = os.path.dirname(os.path.abspath(__file__))
-sys.path.insert(0, os.path.join(HERE, "..", "..", "doc"))
-import browser
+
+from tools import browser
 
 PICTURES = sys.argv[1] if len(sys.argv) > 1 else None
 ADDRESS = "127.0.0.1:8089"

@@ -16,7 +16,7 @@ else
   command -v fail2ban-regex > /dev/null || skipped="; what fail2ban finds (package fail2ban)"
   [ "$(id -u)" = 0 ] || skipped="$skipped; what only root can try"
   status=0
-  python3 browser_test.py || status=$?
+  PYTHONPATH=../.. python3 browser_test.py || status=$?
   case $status in
     0) ;;
     77) skipped="$skipped; the page in Chromium (packages chromium-driver and python3-selenium)" ;;

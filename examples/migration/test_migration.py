@@ -26,13 +26,12 @@ from foreign import NODE, Missing, answers, asked, go_keys, installed, openssl_k
 
 HERE = os.path.dirname(os.path.abspath(__file__))
 TOP = os.path.join(HERE, "..", "..")
-sys.path += [os.path.join(TOP, folder) for folder in ("compare", "bench", "bindings/python")]
 os.environ.setdefault("SCRYPT_C_LIBRARY", os.path.join(TOP, "build", "lib"))
-import crypt64
-from oracle import some_bytes, verified
-from runs import unlimited
+from compare.oracle import some_bytes, verified
+from tools import crypt64
+from tools.runs import unlimited
+from tools.worker import Worker
 from scrypt_c import migration
-from worker import Worker
 
 CASES = 20
 

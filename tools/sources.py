@@ -11,7 +11,7 @@ import textwrap
 from dataclasses import dataclass, field
 from pathlib import Path
 
-import specs
+from tools import specs
 
 QUALIFIERS = r'(?:const (?=fn|unsafe)|unsafe |extern "C" )*'
 ITEM = re.compile(

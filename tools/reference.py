@@ -7,8 +7,7 @@ docs/DECISIONS.md says it.
 import hashlib
 import struct
 
-import crypt64
-import phc
+from tools import crypt64, phc
 
 
 def rotate(x, k):

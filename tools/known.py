@@ -1,7 +1,6 @@
 """Hashes that other programs made, and costly ones."""
 
-import crypt64
-import phc
+from tools import crypt64, phc
 
 # passlib's of `password`
 PASSLIB = "$scrypt$ln=16,r=8,p=1$aM15713r3Xsvxbi31lqr1Q$nFNh2CVHVjNldFVKDHDlm4CbdRSCdEBsjjJxD+iCs5E"

@@ -5,16 +5,13 @@ import ctypes.util
 import functools
 import hashlib
 import hmac
-import os
 import sys
 import time
 
-import ours
-from ours import DATA, SIZE, WORD
-from worker import Refused
+from tools import crypt64, ours
+from tools.ours import DATA, SIZE, WORD
+from tools.worker import Refused
 
-sys.path.insert(0, os.path.join(os.path.dirname(os.path.abspath(__file__)), "..", "compare"))
-import crypt64
 
 OURS, OPENSSL = "this library", "OpenSSL"
 

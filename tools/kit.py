@@ -10,8 +10,7 @@ import re
 import shutil
 from dataclasses import dataclass
 
-import sources
-import specs
+from tools import sources, specs
 
 # Where the modules of the logic are, below the kit's folder of guides and libraries.
 LOGIC = {

@@ -2,9 +2,10 @@
 pictured."""
 
 import shutil
-import sys
 
-sys.path.append("/usr/lib/python3/dist-packages")
+from tools import debian
+
+debian.add_packages()
 try:
     from selenium import webdriver
     from selenium.webdriver.common.action_chains import ActionChains

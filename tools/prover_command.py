@@ -2,12 +2,8 @@
 the folder that PROVED_LIBRARIES names in the environment, which has them in the same places."""
 
 import os
-import sys
-from pathlib import Path
-
-sys.path.append(str(Path(__file__).parent.parent / "doc"))
-from kit import located as kit
-from sources import crates
+from tools.kit import located as kit
+from tools.sources import crates
 
 
 def below(name):
