@@ -206,7 +206,7 @@ def add_all(tasks, made, kept, is_built):
     if is_built:
         tasks.add(LIBRARY, prover_command.below("scrypt_c"), lambda: build(tasks, made, kept))
         tasks.add("callers of the library", prover_command.below("scrypt_c"), lambda: link_and_call(tasks, made), LIBRARY)
-    for name in edits.crates_with("wrong-bodies"):
+    for name in edits.crates_with(edits.GATE):
         over, before = (["over", kept], LIBRARY) if name == "scrypt_c" and is_built else ([], None)
         command = [sys.executable, "-m", "ci.wrong_bodies", *over, name]
         tasks.add(f"wrong bodies of {name}", prover_command.below(name), lambda command=command: tasks.run(*command), before)

@@ -1,7 +1,7 @@
 """Checks what the compiler has to refuse before any proof, and what no clause can refuse.
 
-The compiler has to refuse each crates/NAME/must-not-compile/*.edit, because it uses something private or makes the
-`prove!` of a constant false: clauses name constants, so they hold for any value.
+The compiler has to refuse each edit for it in crates/NAME/wrong-bodies.txt, because it uses something private or makes
+the `prove!` of a constant false: clauses name constants, so they hold for any value.
 
 A count of cores could be wrong in three more ways, which are refused: a handwritten proof other than the one of the
 counter; a new count anywhere but where a derivation begins, or in a test; and an impl for the counter that makes
@@ -110,7 +110,7 @@ def main():
     wrong = complaints(own_sources())
     if sorted(glob.glob("crates/*/proofs/**/Proof.antt", recursive=True)) != HANDWRITTEN:
         wrong.append(f"handwritten proofs other than {', '.join(HANDWRITTEN)}")
-    for edit, crate in edits.tried("must-not-compile", left_out=["out"]):
+    for edit, crate in edits.tried(edits.NOT_COMPILED, left_out=["out"]):
         kind = refused_as(crate)
         print(f"must-not-compile {edit}: {f'refused, as {kind}' if kind else 'NOT REFUSED'}", flush=True)
         wrong += [] if kind else [f"{edit} was not refused"]

@@ -1,11 +1,11 @@
 """Tries the bodies that meet every contract and are wrong still, which the tests have to refuse.
 
 No clause can say that an allocation succeeds, or how much a call allocates: a body that allocates once more, or that
-always returns `OutOfMemory`, is proved. Each edit of crates/NAME/refused-by-tests/ is such a body. It is applied to a
-copy of the repository, where everything still has to be proved, and a test of the crate NAME has to fail. The tests of
-the program are the cases of ci/program.py.
+always returns `OutOfMemory`, is proved. Each edit for the tests in crates/NAME/wrong-bodies.txt is such a body. It is
+applied to a copy of the repository, where everything still has to be proved, and a test of the crate NAME has to fail.
+The tests of the program are the cases of ci/program.py.
 
-usage: refused_by_tests.py [NAME..]    the crates, or all that have such a folder; minutes for each edit
+usage: python3 -m ci.refused_by_tests [NAME..]    the crates, or all that have such edits; minutes for each edit
 """
 
 import contextlib
@@ -41,7 +41,7 @@ def failed_cases(crate):
 
 def main():
     wrong = 0
-    for edit, crate in edits.tried("refused-by-tests", sys.argv[1:]):
+    for edit, crate in edits.tried(edits.BY_TESTS, sys.argv[1:]):
         failed = failed_cases(crate) if os.path.isfile(f"{crate}/src/main.rt") else failed_tests(crate)
         verdict = "NOT PROVED" if failed is None else "NOT REFUSED"
         print(f"{edit}: {f'proved, and refused by {failed}' if failed else verdict}", flush=True)

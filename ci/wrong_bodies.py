@@ -9,11 +9,11 @@ to see that the goal is false. An edit of a constant, or of a type, has a round 
 The prover searches long for a proof of a false goal, and once more at the end. So an edit may answer that goal by what
 proves it of the right body: the wrong body is refused by the answer. With `all`, the right bodies are proved by all answers.
 
-usage: wrong_bodies.py [NAME..]         the edits of crates/NAME/wrong-bodies/, one round for each crate
-       wrong_bodies.py all [NAME..]     those of more-wrong-bodies/ too, in as many rounds as it takes
-       wrong_bodies.py over FOLDER NAME the edits of crates/NAME/wrong-bodies/, over what a check of the crate kept there
-       wrong_bodies.py fit              tries nothing: prints the edits of all folders that can't be applied, and those
-                                        that need more than one round
+usage: python3 -m ci.wrong_bodies [NAME..]         the edits of crates/NAME/wrong-bodies.txt for the gate, one round for each crate
+       python3 -m ci.wrong_bodies all [NAME..]     the others that the prover has to refuse too, in as many rounds as it takes
+       python3 -m ci.wrong_bodies over FOLDER NAME those of a crate for the gate, over what a check of the crate kept there
+       python3 -m ci.wrong_bodies fit              tries nothing: prints the edits that can't be applied, and those of the gate that
+                                        need more than one round
 The libraries below a crate have to be built.
 """
 
@@ -28,7 +28,7 @@ from pathlib import Path
 from ci import prover_output
 from tools import edits, prover_command, sources
 
-FIRST, MORE = "wrong-bodies", "more-wrong-bodies"
+FIRST, MORE = edits.GATE, edits.MORE
 
 # The proof of a function, by its path in antt and its name, that a check takes by its contract alone.
 HOLE = """use Rattle.{}.Statement as stated
@@ -45,9 +45,9 @@ def changed(edit, name, crate):
     """The paths of the functions that an edit changes, or none if it changes what is outside of them."""
     edits.texts_after([edit], f"crates/{name}")
     found, files = set(), {source.path: source for source in crate.values()}
-    for path, old, _ in edits.pairs(edit):
+    for path, after, old, _ in edit.pairs():
         source = files[f"crates/{name}/{path}"]
-        at = source.text.index(old) + len(old) - len(old.lstrip())
+        at = edit.place(source.text, after, old) + len(old) - len(old.lstrip())
         function = source.function_at(source.text.count("\n", 0, at) + 1)
         if function is None:
             return set()
@@ -66,11 +66,11 @@ def takes(tried, edit, its, folder):
     return True
 
 
-def rounds(name, *folders):
+def rounds(name, *parts):
     """The edits of a crate with what they change, so that those of a round change different functions."""
     made, alone, folder = [], [], f"crates/{name}"
     crate = sources.read_crate(name, folder)
-    for edit in edits.edits_of(name, *folders):
+    for edit in edits.edits_of(name, *parts):
         its = changed(edit, name, crate)
         tried = next((others for others in made if takes(others, edit, its, folder)), None)
         if its and tried is not None:
@@ -101,7 +101,7 @@ def leave_out(name, changed, folder):
 def add_answers(name, tried, folder):
     """Answers goals in a copy of a crate as these edits do. Each changes one function if it has an answer."""
     for edit, changed in tried.items():
-        given, uses = edits.answers(edit)
+        given, uses = edit.answers()
         for path in changed if given else ():
             file = Path(folder, "proofs", *path.split("::"), "Answers.antt")
             goals = ".".join(["Rattle", name, "proofs", *path.split("::"), "Goals"])
@@ -133,9 +133,9 @@ def check(name, tried, kept=(), are_right=False):
     return ran.stdout + ran.stderr
 
 
-def false_answers(name, folders):
+def false_answers(name, parts):
     """The edits of a crate whose answers refuse the right bodies too."""
-    found = {edit: its for tried in rounds(name, *folders) for edit, its in tried.items() if edits.answers(edit)[0]}
+    found = {edit: its for tried in rounds(name, *parts) for edit, its in tried.items() if edit.answers()[0]}
     printed = check(name, found, are_right=True) if found else ""
     return [edit for edit, its in found.items() if prover_output.verdict(printed, its) != "NOT REFUSED"]
 
@@ -148,11 +148,11 @@ def judged(name, tried, kept):
     return {edit: prover_output.verdict(printed, its) for edit, its in tried.items()}
 
 
-def try_all(names, folders, kept=()):
+def try_all(names, parts, kept=()):
     """Tries the edits of crates, prints each that isn't refused with a goal, and returns how many these are."""
     tried = wrong = 0
     # The longest begin first.
-    all_rounds = [(name, tried) for name in names for tried in rounds(name, *folders)]
+    all_rounds = [(name, tried) for name in names for tried in rounds(name, *parts)]
     all_rounds.sort(key=lambda job: -len(job[1]))
     with concurrent.futures.ThreadPoolExecutor(AT_ONCE) as lanes:
         running = [lanes.submit(judged, *job, kept) for job in all_rounds]
@@ -168,11 +168,11 @@ def try_all(names, folders, kept=()):
 
 def unfit():
     """What is wrong with the edits, without trying them."""
-    for name in edits.crates_with(*edits.FOLDERS):
-        wrong = list(filter(None, (unfit_edit(edit, name) for edit in edits.edits_of(name, *edits.FOLDERS))))
+    for name in edits.crates_with(*edits.PARTS):
+        wrong = list(filter(None, (unfit_edit(edit, name) for edit in edits.edits_of(name, *edits.PARTS))))
         yield from wrong
         if not wrong and len(rounds(name, FIRST)) > 1:
-            yield f"crates/{name}/{FIRST}: two edits change one function, or one changes none: move it to {MORE}"
+            yield f"{name}: two edits of the gate change one function, or one changes none: it belongs to [{MORE}]"
 
 
 def unfit_edit(edit, name):
@@ -194,12 +194,12 @@ def main():
         sys.exit(1 if try_all(names[2:], [FIRST], ["--incremental", names[1]]) else 0)
     if names[:1] != ["all"]:
         sys.exit(1 if try_all(names or edits.crates_with(FIRST), [FIRST]) else 0)
-    folders = [FIRST, MORE]
-    names = names[1:] or edits.crates_with(*folders)
-    false = [edit for name in names for edit in false_answers(name, folders)]
+    parts = [FIRST, MORE]
+    names = names[1:] or edits.crates_with(*parts)
+    false = [edit for name in names for edit in false_answers(name, parts)]
     for edit in false:
         print(f"{edit}: ITS ANSWERS REFUSE THE RIGHT BODY TOO", flush=True)
-    sys.exit(1 if try_all(names, folders) or false else 0)
+    sys.exit(1 if try_all(names, parts) or false else 0)
 
 
 if __name__ == "__main__":

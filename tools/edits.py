@@ -1,14 +1,10 @@
 """Copies of the repository, and edits that are applied to a copy and taken back.
 
-An edit is a file with a line `file: PATH`, from the crate's folder, and then pairs of lines `old: TEXT` and
-`new: TEXT`. Each old text occurs once in that file. A wrong body may also answer goals of its function that it makes false,
-by lines `answer: ANSWER`, perhaps after `unfolding: NAME`, and `use: NAMES`. Four folders of a crate have edits:
-
-wrong-bodies/       wrong bodies of different functions that the prover has to refuse; the gate tries them
-more-wrong-bodies/  more of these, which `make wrong-bodies` tries
-refused-by-tests/   wrong bodies that meet every contract, and that a test has to refuse (`make refused-by-tests`)
-must-not-compile/   uses of something private and constants whose `prove!` is false, which the compiler has to refuse
-                    before any proof; the gate tries them
+A crate's edits are in its file `wrong-bodies.txt`, in the parts that `PARTS` names, each under a heading in brackets. An edit
+is a paragraph: a line with its name, which says what is wrong; a line `file: PATH`, from the crate's folder; and then pairs
+of lines `old: TEXT` and `new: TEXT`. Each old text occurs once in that file, or, after a line `after: TEXT`, whose text occurs
+once, is the first one after that. A wrong body may also answer goals of its function that it makes false, by lines
+`answer: ANSWER`, perhaps after `unfolding: NAME`, and `use: NAMES`.
 """
 
 import contextlib
@@ -16,64 +12,118 @@ import glob
 import os
 import shutil
 import tempfile
+from dataclasses import dataclass
 from pathlib import Path
 
-FOLDERS = ["wrong-bodies", "more-wrong-bodies", "refused-by-tests", "must-not-compile"]
+GATE, MORE, BY_TESTS, NOT_COMPILED = PARTS = ["the gate", "more", "refused by tests", "must not compile"]
+FILE = "wrong-bodies.txt"
+WORDS = {"file", "after", "old", "new", "answer", "unfolding", "use"}
 
 
 class BadEdit(Exception):
-    """An edit that can't be applied."""
+    """An edit that can't be read or applied."""
 
 
-def crates_with(*folders):
-    """The crates that have edits in one of these folders."""
-    return sorted({edit.split("/")[1] for edit in edits_of("*", *folders)})
+@dataclass(frozen=True)
+class Edit:
+    """An edit of a crate, with the words of its lines and what follows them."""
+
+    crate: str
+    part: str
+    name: str
+    lines: tuple
+
+    def __str__(self):
+        return f"{self.crate}: {self.name}"
+
+    def pairs(self):
+        """What it replaces in which file, after what, and by what."""
+        path, after, old = None, "", None
+        for word, rest in self.lines:
+            if word == "file":
+                path = rest
+            elif word == "after":
+                after = rest
+            elif word == "old":
+                old = rest
+            elif word == "new":
+                yield path, after, old, rest
+                after = ""
+
+    def place(self, text, after, old):
+        """Where a text is that it replaces."""
+        if text.count(after or old) != 1:
+            raise BadEdit(f"{self}: the text doesn't occur there once: {after or old}")
+        at = text.find(old, text.index(after))
+        if at < 0:
+            raise BadEdit(f"{self}: the text doesn't occur there: {old}")
+        return at
+
+    def answers(self):
+        """What it answers, by the goal, as in a file of answers, and the names that the answers use."""
+        given, uses, unfolding = {}, [], ""
+        for word, rest in self.lines:
+            if word == "use":
+                uses.append(rest)
+            elif word == "unfolding":
+                unfolding = f"unfolding {rest}\n"
+            elif word == "answer":
+                goal = rest.split()[0]
+                given[goal] = f"pub {goal} : goal.{goal}\n{unfolding}{rest}\n"
+                unfolding = ""
+        return given, uses
 
 
-def edits_of(name, *folders):
-    """The edits of a crate in these folders."""
-    return sorted(edit for folder in folders for edit in glob.glob(f"crates/{name}/{folder}/*.edit"))
+def read(crate, text):
+    """The edits of a crate's file."""
+    part, found = None, []
+    for paragraph in text.split("\n\n"):
+        name, *lines = paragraph.strip("\n").split("\n")
+        if name.startswith("["):
+            part = name[1:-1]
+            if lines or part not in PARTS:
+                raise BadEdit(f"{crate}: {name} is no heading of a part")
+            continue
+        found.append(Edit(crate, part, name, tuple(line_of(line) for line in lines)))
+    names = [it.name for it in found]
+    wrong = [it.name for it in found if it.part is None or names.count(it.name) > 1 or not {word for word, _ in it.lines} <= WORDS]
+    if wrong:
+        raise BadEdit(f"{crate}: can't be read, or occurs twice: {', '.join(wrong)}")
+    return found
 
 
-def pairs(edit):
-    """What an edit replaces in which file by what."""
-    path, old = None, None
-    for line in Path(edit).read_text("utf-8").splitlines():
-        word, _, rest = line.partition(": ")
-        if word == "file":
-            path = rest
-        elif word == "old":
-            old = rest
-        elif word == "new":
-            yield path, old, rest
+def of_file(path):
+    """The edit that a file has by itself, after a comment: of a copy for another processor (copies.py)."""
+    _, *lines = Path(path).read_text("utf-8").splitlines()
+    return Edit("", "", path, tuple(line_of(line) for line in lines))
 
 
-def answers(edit):
-    """What an edit answers, by the goal, as in a file of answers, and the names that the answers use."""
-    given, uses, unfolding = {}, [], ""
-    for line in Path(edit).read_text("utf-8").splitlines():
-        word, _, rest = line.partition(": ")
-        if word == "use":
-            uses.append(rest)
-        elif word == "unfolding":
-            unfolding = f"unfolding {rest}\n"
-        elif word == "answer":
-            goal = rest.split()[0]
-            given[goal] = f"pub {goal} : goal.{goal}\n{unfolding}{rest}\n"
-            unfolding = ""
-    return given, uses
+def line_of(line):
+    """The word that a line begins with, and what follows it."""
+    word, _, rest = line.partition(":")
+    return word, rest.removeprefix(" ")
+
+
+def crates_with(*parts):
+    """The crates that have edits in one of these parts."""
+    return sorted({edit.crate for edit in edits_of("*", *parts)})
+
+
+def edits_of(name, *parts):
+    """The edits of a crate in these parts, the parts in this order."""
+    found = [edit for path in sorted(glob.glob(f"crates/{name}/{FILE}")) for edit in read(path.split("/")[1], Path(path).read_text("utf-8"))]
+    return [edit for part in parts for edit in found if edit.part == part]
 
 
 def texts_after(tried, crate):
     """The texts that edits give to files of a crate, one after another, by their paths."""
     after = {}
     for edit in tried:
-        for name, old, new in pairs(edit):
+        for name, before, old, new in edit.pairs():
             path = os.path.join(crate, name)
             text = after.get(path) or Path(path).read_text("utf-8")
-            if text.count(old) != 1:
-                raise BadEdit(f"{edit}: the old text doesn't occur there once: {old}")
-            after[path] = text.replace(old, new)
+            at = edit.place(text, before, old)
+            after[path] = text[:at] + new + text[at + len(old) :]
     return after
 
 
@@ -95,14 +145,14 @@ def applied(edit, crate):
         write(before)
 
 
-def tried(folder, names=(), left_out=()):
-    """The edits of a folder of these crates, or of all, while each is applied to a copy of the repository, in which a
+def tried(part, names=(), left_out=()):
+    """The edits of a part of these crates, or of all, while each is applied to a copy of the repository, in which a
     crate's path is returned with it. The copy lacks files of the names that are left out."""
     with tempfile.TemporaryDirectory() as room:
         copy = os.path.join(room, "copy")
         shutil.copytree(".", copy, ignore=shutil.ignore_patterns(".git", *left_out))
-        for name in names or crates_with(folder):
-            for edit in edits_of(name, folder):
+        for name in names or crates_with(part):
+            for edit in edits_of(name, part):
                 crate = os.path.join(copy, "crates", name)
                 with applied(edit, crate):
                     yield edit, crate
