@@ -51,21 +51,23 @@ $(LIBRARIES): proved-%: kit
 proved-scrypt: proved-password_hash proved-scrypt_kernel
 proved-scrypt_commands: proved-scrypt
 
+# What is cheap is reported first, and each part runs whatever the others find.
+check: kit
+	@$(MAKE) -j1 --no-print-directory --keep-going documents what-changed answers
+
 # From nothing, the libraries are proved first, with more jobs for each. What is kept of them lets a check prove only what
 # changed.
 KEPT = $(wildcard crates/scrypt_commands/out/incremental)
-check: kit
-	$(if $(KEPT),,$(MAKE) -j$(SIDE_BY_SIDE) $(LIBRARIES))
-	$(MAKE) -j$(if $(HAS_ROOM),4,1) what-changed $(DOCUMENTS:%=document-%)
-	$(MAKE) -j2 --output-sync $(ANSWERS)
-
 .PHONY: what-changed
 what-changed:
+	$(if $(KEPT),,$(MAKE) -j$(SIDE_BY_SIDE) $(LIBRARIES))
 	python3 -m ci.check $(if $(HAS_ROOM),4,1)
 
 # What the program answers.
 ANSWERS = answers-program answers-hashes
-.PHONY: $(ANSWERS)
+.PHONY: answers $(ANSWERS)
+answers:
+	@$(MAKE) -j2 --no-print-directory --keep-going --output-sync $(ANSWERS)
 $(ANSWERS): answers-%:
 	python3 -m ci.$* crates/scrypt_tool/out/scrypt_tool
 
@@ -74,12 +76,16 @@ test: kit
 	python3 -m ci.gate
 
 # Each check runs whatever the others find, so that one run reports every fault.
-DOCUMENTS = lint names fit promises tests-of-ci tests-of-doc tests-of-compare tests-of-release pages
+DOCUMENTS = lint formats names fit promises tests-of-ci tests-of-doc tests-of-compare tests-of-release pages
 documents:
 	@$(MAKE) --no-print-directory --keep-going --output-sync -j$$(nproc) $(DOCUMENTS:%=document-%)
 .PHONY: $(DOCUMENTS:%=document-%)
 document-lint:
 	@ci/lint.sh
+document-formats:
+	@if command -v rt > /dev/null; then find crates \( -name '*.rt' -o -name '*.antt' \) -not -path '*/out/*' \
+	  -exec "$$(dirname "$$(readlink -f "$$(command -v rt)")")/rattle" fmt --check {} +; \
+	else echo "rattle fmt: SKIPPED: the Rattle kit isn't here"; fi
 document-names:
 	@python3 -m ci.docs
 document-fit:
