@@ -7,7 +7,7 @@ caller that names a proof of a library, since callers are proved from public cla
 compared by doc/promises.py.
 
 A name is what is between backquotes and is a path (`mcf::Base64`, `Params::{log_n, n}`), a word with an underscore
-(`scrypt_ro_mix`), a call (`new()`), or a file of the repository. What belongs to others is listed below.
+(`scrypt_ro_mix`), a call (`new()`, `.verify(&hash)`), or a file of the repository. What belongs to others is listed below.
 """
 
 import glob
@@ -22,7 +22,7 @@ SOURCES = ["crates/**/*.rt", "crates/**/*.antt", "examples/**/*.py"]
 SOURCES += [f"bindings/**/*.{suffix}" for suffix in ("c", "h", "py", "go", "rs")]
 
 # Names of other programs and libraries.
-OTHERS = {"check_password", "maxmem_bytes", "must_use", "needs_update"}
+OTHERS = {"check_password", "find_package", "generate", "maxmem_bytes", "mlockall", "must_use", "needs_update", "run_in_executor"}
 
 # The crates that are proved from public clauses, and the libraries that they call.
 CALLERS = ["scrypt_c", "scrypt_commands", "scrypt_examples"]
@@ -41,9 +41,12 @@ def known_names():
 
 def words_of(name):
     """The words of a name, or none if it isn't one."""
-    bare = re.sub(r"\(\)$|<[^<>]*>", "", name)
+    called = re.fullmatch(r"\.?([A-Za-z_]\w*(?:(?:::|\.)[A-Za-z_]\w*)*)\(.*\)", name)
+    if called:
+        return re.findall(r"\w+", called[1])
+    bare = re.sub(r"<[^<>]*>", "", name)
     is_path = re.fullmatch(r"[A-Za-z_][\w']*(::(\{[\w, :]*\}|[\w']+))+", bare)
-    if is_path or re.fullmatch(r"[a-z0-9]+(_[a-z0-9]+)+", bare) or re.fullmatch(r"[a-z_]+\(\)", name):
+    if is_path or re.fullmatch(r"[a-z0-9]+(_[a-z0-9]+)+", bare):
         return re.findall(r"[\w']+", bare)
     return []
 

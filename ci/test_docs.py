@@ -12,6 +12,7 @@ RUST = "[Rust](../bindings/rust/README.md):\n```rust\nlet hasher = Hasher::defau
 DOCUMENTS = [
     ("`Params::{log_n, n}` of `scrypt_numbered`", "scrypt_numbered", "a function that is gone"),
     ("`Params::{log_n, rounds}` of `scrypt_counted`", "rounds", "a part of a group that is gone"),
+    ("`Params` and `.scrypt_numbered(&salt)`", "scrypt_numbered", "a call of a method that is gone"),
     ("`Params` of `docs/NOTHING.md`", "docs/NOTHING.md", "a file that is gone"),
     ("[a](API.md) [b](NOTHING.md)", "NOTHING.md leads nowhere", "a link to a file that is gone"),
     ("[a](docs/API.md)", "docs/API.md leads nowhere", "a path from the top"),
