@@ -146,8 +146,13 @@ class Library:
         return min(found, key=lambda it: it.count("::"), default=None)
 
     def same(self, user, path, source, name):
+        """Whether a path that a module uses leads to an item of a source, perhaps by what other modules use."""
         inner, _, last = path.removeprefix("crate::").removeprefix("self::").rpartition("::")
-        return last == name and source.module in (inner, "::".join(filter(None, (user.module, inner))))
+        modules = {inner, "::".join(filter(None, (user.module, inner)))}
+        if source.module in modules:
+            return last == name
+        passing = [it for it in map(self.sources[source.crate].get, modules) if it not in (None, user)]
+        return any(last in it.uses and self.same(it, it.uses[last][0], source, name) for it in passing)
 
     def module_is_public(self, source):
         above, _, name = source.module.rpartition("::")

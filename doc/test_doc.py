@@ -104,9 +104,22 @@ pub fn alone()
 }
 """
 
+# A function that two modules above it pass on, the second of them to the outside.
+BELOW_SOURCE = """//! Below.
+ghost use Rattle.one.specs.Key.{IsKey};
+
+/// Passed on.
+pub fn passed_on()
+    ensures value { IsKey result }
+{
+}
+"""
+
 FILES = {
     "crates.txt": "one:\n",
-    "crates/one/src/lib.rt": "//! One.\npub mod key;\npub mod low;\nmod more;\n",
+    "crates/one/src/lib.rt": "//! One.\npub mod key;\npub mod low;\nmod below;\nmod between;\nmod more;\npub use between::passed_on;\n",
+    "crates/one/src/between.rt": "//! Between.\npub use crate::below::passed_on;\n",
+    "crates/one/src/below.rt": BELOW_SOURCE,
     "crates/one/src/more.rt": MORE_SOURCE,
     "crates/one/src/key.rt": SOURCE,
     "crates/one/src/low.rt": LOW_SOURCE,
@@ -179,7 +192,7 @@ class Pages(unittest.TestCase):
     def test_what_is_public_and_cited(self):
         found = small_repository(FILES)
         names = {it["of"] for it in found.by_name.values()}
-        self.assertIn("one::key::Key::half", names)
+        self.assertLessEqual({"one::key::Key::half", "one::passed_on"}, names)
         self.assertFalse({"alone", "one::more::alone", "hidden"} & names)
         key = ("definition", "Rattle.one.specs.Key", "IsKey")
         self.assertIn(("one::key::make", "ok"), [it[:2] for it in found.citers(key)["clauses"]])

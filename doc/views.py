@@ -66,9 +66,10 @@ class Views:
                 self.cites.setdefault(citer, []).append(target)
 
     def paths(self):
-        """The files of all that has a place on a page."""
+        """The files of all that has a place on a page, and of what definitions cite of the sources."""
         every = (*self.definitions.values(), *self.sources.values(), filter(None, self.vectors.values()))
-        return sorted({it.path for those in every for _, shown in those for it in shown})
+        cited = {self.library.sources[key[1]][key[2]].path for key in self.links.cited if key[0] == "rust"}
+        return sorted({it.path for those in every for _, shown in those for it in shown} | cited)
 
     def of_module(self, module):
         return [self.of_definition(module, it) for it in module.definitions.values()]
