@@ -68,8 +68,8 @@ fn step<O: Order>(
     ensures counted { let j = integerify (permuted O.inverse_pivot (part len x.now 0)) % 2 ^ log_n in
         AreCountedAs O.simd ((recomputed_rows s j + 1) * (O.count * (2 * (len / 32)))) cores.old cores.new }
 {
-    let starts = take_rows::<O>(x, v, next, len, log_n, s);
-    let j = O::integerify(part(len, x, 0), log_n);
+    let (rows, starts) = take_rows::<O>(x, v, next, len, log_n, s);
+    let j = rows[0];
     let missing = j % (1usize << s);
     if missing == 0 {
         let taken = Xor {
@@ -112,8 +112,8 @@ fn mix_recomputed<O: Order>(
     mix::<O, Xor<'_>>(&joined, next, len, cores);
 }
 
-// Returns for each chunk where V[j] begins, or the kept row below it, and prefetches it. What `next` holds
-// after the call is unspecified.
+// Returns for each chunk j = Integerify (X) mod N, and where V[j] begins, or the kept row below it, and prefetches
+// that row. What `next` holds after the call is unspecified.
 #[inline(always)]
 fn take_rows<O: Order>(
     x: &[u32],
@@ -122,23 +122,27 @@ fn take_rows<O: Order>(
     len: usize,
     log_n: u8,
     s: u8,
-) -> [usize; 4]
+) -> ([usize; 4], [usize; 4])
     requires row { IsRowLen len }
     requires small { log_n ≤ 56 }
     requires spacing { s ≤ log_n }
     requires chunks { length x.now ≡ O.count * len }
     requires scratch { length next.old ≡ length x.now }
     requires rows { length v.now ≡ 2 ^ (log_n - s) * (O.count * len) }
-    ensures { (k : ℕ) → k < O.count → slice_index result k
+    ensures numbers { (k : ℕ) → k < O.count → slice_index result.0 k
+        ≡ integerify (permuted O.inverse_pivot (part len x.now k)) % 2 ^ log_n }
+    ensures starts { (k : ℕ) → k < O.count → slice_index result.1 k
         ≡ place O.count (integerify (permuted O.inverse_pivot (part len x.now k)) % 2 ^ log_n / 2 ^ s) k * len }
 {
     let n = O::count();
+    let mut rows = [0usize; 4];
     let mut starts = [0usize; 4];
     'chunks: for k in 0..n {
         let j = O::integerify(part(len, x, k), log_n);
         let at = (j >> s) * n + k;
+        rows[k] = j;
         starts[k] = at * len;
         prefetch_row(part(len, v, at), &mut next[k * len..k * len + len]);
     }
-    starts
+    (rows, starts)
 }

@@ -38,9 +38,15 @@ chunks-preserved g c =
     let k = c.chunks.k in
     let len = c.args.len in
     let starts = c.chunks.starts in
+    let rows = c.chunks.rows in
     let j_is = c.integerify-j.ensures.value ∙ ap (λ z. integerify (permuted q z) % 2 ^ c.args.log_n) c.part.ensures.value in
     let value = ap₂ (λ j n. (j / 2 ^ c.args.s * n + k) * len) j_is c.count-n.ensures.value in
     record {
+      numbers_long = grind (arith, common_steps);
+      numbers = λ i h. elim (cases_lt i k) [
+        | inl lt ↦ get_or-set_other rows k i _ 0 (λ e. absurd (omega arith)) ∙ c.chunks.invariant.numbers i lt
+        | inr ge ↦ let is : i ≡ k = omega arith in rw is (get_or-set_same rows k _ 0 (omega arith) ∙ j_is)
+      ];
       long = grind (arith, common_steps);
       begin = λ i h. elim (cases_lt i k) [
         | inl lt ↦ get_or-set_other starts k i _ 0 (λ e. absurd (omega arith)) ∙ c.chunks.invariant.begin i lt
@@ -50,4 +56,7 @@ chunks-preserved g c =
 
 -- redundant, so that a wrong body is refused here at once
 pub returns : goal.returns
-returns g c k h = c.chunks.invariant.begin k (omega (arith, h))
+returns g c = record {
+  numbers = λ k h. c.chunks.invariant.numbers k (omega (arith, h));
+  starts = λ k h. c.chunks.invariant.begin k (omega (arith, h));
+}
