@@ -88,16 +88,16 @@ pub(crate) fn mix<O: Order, I: Input>(
     // Step 2: for i = 0 to 2 * r - 1 do T = X xor B[i], X = Salsa (T), Y[i] = X.
     // Step 3: B' = (Y[0], Y[2], .., Y[2 * r - 2], Y[1], Y[3], .., Y[2 * r - 1]).
     'steps: for i in 0..r {
-        x = step::<O, I>(x, input, 2 * i, len, cores);
+        x = mix_block::<O, I>(x, input, 2 * i, len, cores);
         x.write(output, len, i);
-        x = step::<O, I>(x, input, 2 * i + 1, len, cores);
+        x = mix_block::<O, I>(x, input, 2 * i + 1, len, cores);
         x.write(output, len, r + i);
     }
 }
 
 // Step 2 for one `i`, except Y[i] = X: T = X xor B[i], X = Salsa (T).
 #[inline(always)]
-fn step<O: Order, I: Input>(x: O, input: &I, i: usize, len: usize, cores: &mut CoreCount) -> O
+fn mix_block<O: Order, I: Input>(x: O, input: &I, i: usize, len: usize, cores: &mut CoreCount) -> O
     requires rows { I.are_rows input.now O.count len }
     requires inside { 16 * i + 16 ≤ len }
     ensures value { (k : ℕ) → k < O.count → O.held result k ≡ permuted O.pivot (salsa20_8

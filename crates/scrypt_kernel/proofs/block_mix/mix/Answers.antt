@@ -13,8 +13,8 @@ steps-init g c = record {
 
 pub steps-preserved : goal.steps-preserved
 steps-preserved g c =
-    let one = c.step-x.ensures in
-    let two = c.step-x-in-steps.ensures in
+    let one = c.mix_block-x.ensures in
+    let two = c.mix_block-x-in-steps.ensures in
     record {
       counted = counted_both _ (counted_both _ c.steps.invariant.counted one.counted refl) two.counted (omega arith);
       mixed = λ k h out mix. let long = c.read-x.ensures.long k h in
