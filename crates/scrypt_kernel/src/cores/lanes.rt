@@ -10,6 +10,7 @@ ghost use Rattle.scrypt_kernel.specs.Lanes.{AreFourEach, at, block_of, quarter_r
 ghost use Rattle.scrypt_kernel.specs.Parts.{AreParts, part_of};
 
 pub mod both;
+pub mod scalars;
 
 use crate::cores::CoreCount;
 use crate::parts::Parts;

@@ -13,6 +13,7 @@ ghost use Rattle.scrypt_kernel.specs.Diagonal.{AreInverse, diagonal_order, inver
 use crate::CoreCount;
 pub use crate::cores::lanes::Diagonal;
 pub use crate::cores::lanes::both::Both;
+pub use crate::cores::lanes::scalars::Scalars;
 use crate::cores::lanes::{Lanes, in_lanes};
 use crate::order::{Order, low_bits};
 use crate::parts::Parts;
