@@ -1,11 +1,12 @@
 use Rattle.std.proofs.Common.{◌≡◌, ℕ, zero, suc, ◌<◌, ◌≤◌, ◌+◌, ◌*◌, ◌/◌, ◌^◌, List, refl, ap, ◌∙◌, arith, lit≤, add-one}
-use Rattle.std.proofs.Math.Nat.{div-mul-le_self, mul-le-mul_right, one-le-pow}
+use Rattle.std.proofs.Math.Nat.{div-eq_of_eq-mul_left, div-mul-le_self, mul-div_left, mul-le-mul_right, one-le-pow}
 use Rattle.std.proofs.lemmas.Nat.{le-div, mul-le}
 use Rattle.std.specs.Prelude.{◌↔◌}
 use Rattle.scrypt_kernel.specs.Words.{part, words_of}
 use Rattle.scrypt_kernel.specs.Table.{thin_ro_mix_cost}
 use Rattle.scrypt_kernel.proofs.WalkFacts.{extra_rows-whole, whole_cost}
-use Rattle.scrypt.specs.Cost.{cost, extra_rows_of_chunks, table_words, thin_chunks_cost}
+use Rattle.scrypt.specs.Cost.{cost, extra_rows_of_chunks, scratch_words, table_words, thin_chunks_cost}
+use Rattle.scrypt.specs.Workspace.{at_once}
 
 none_of_chunks : (b : List ℕ) (log_n r i : ℕ) → extra_rows_of_chunks b log_n 0 r i ≡ 0
 unfolding extra_rows_of_chunks
@@ -39,3 +40,28 @@ pub some_table : (log_n r : ℕ) → 0 < r → 0 < table_words log_n r
 some_table log_n r some = mul-le 1 1 (2 ^ log_n) (32 * r) (one-le-pow log_n 2 (lit≤ tt)) (omega arith)
 
 pub ruleset rooms = (room_for_one, some_table)
+
+-- w chunks are mixed at a time where w tables and exactly w scratches are
+pub width_is : (log_n r n w table scratch : ℕ) → 0 < r → w ≤ 4 → w ≤ n → w * table_words log_n r ≤ table → scratch ≡ w * scratch_words r
+    → w ≡ at_once log_n r n table scratch
+unfolding at_once
+width_is log_n r n w table scratch some few within fits is =
+    let tables : w ≤ table / table_words log_n r = le-div w table (table_words log_n r) (some_table log_n r some) fits in
+    let scratches : scratch / scratch_words r ≡ w = rw is (mul-div_left w (omega arith)) in
+    omega (arith, tables, scratches, few, within)
+
+-- one is, where there is one table, and room for a scratch
+pub one_table : (log_n r n table scratch : ℕ) → 0 < r → 0 < n → table ≡ table_words log_n r → scratch_words r ≤ scratch
+    → 1 ≡ at_once log_n r n table scratch
+unfolding at_once
+one_table log_n r n table scratch some chunk is fits =
+    let tables : table / table_words log_n r ≡ 1 = div-eq_of_eq-mul_left (some_table log_n r some) (omega (arith, is)) in
+    let scratches : 1 ≤ scratch / scratch_words r = le-div 1 scratch (scratch_words r) (omega arith) (omega (arith, fits)) in
+    omega (arith, tables, scratches, chunk)
+
+-- also if exactly so much of both is used
+pub width_of_part : (log_n r n table scratch : ℕ) → 0 < r
+    → let w = at_once log_n r n table scratch in w ≡ at_once log_n r n (w * table_words log_n r) (w * scratch_words r)
+unfolding at_once
+width_of_part log_n r n table scratch some =
+    width_is log_n r n (at_once log_n r n table scratch) _ _ some (omega arith) (omega arith) (omega arith) refl

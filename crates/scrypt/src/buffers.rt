@@ -1,9 +1,10 @@
 // The three buffers of a derivation: the caller's, and allocated ones.
 
-ghost use Rattle.std.specs.Prelude.{◌≡◌, ◌↔◌, ◌*◌, ◌<◌, ◌≤◌, length, IfOk, IfSome, IsSome};
+ghost use Rattle.std.specs.Prelude.{◌≡◌, ◌⊎◌, ◌↔◌, ◌*◌, ◌<◌, ◌≤◌, length, IfOk, IfSome, IsSome};
 ghost use Rattle.std.specs.Vec.{vec_capacity};
 ghost use Rattle.scrypt.specs.Cost.{chunks_bytes, scratch_words, table_words};
 ghost use Rattle.scrypt.specs.InBuffers.{AreEnough};
+ghost use Rattle.scrypt.specs.Limits.{tables_within};
 ghost use Rattle.scrypt.specs.Mixing.{HasTables, IsWidth};
 ghost use Rattle.scrypt.specs.Workspace.{AreUsed, at_once};
 
@@ -96,6 +97,7 @@ impl Buffers {
 
     /// Allocates as many tables as [`BufferLens::tables_within`] returns, with as many scratches, and one
     /// of each if that fails. Returns how many, too.
+    #[tactic(auto, using(crate::proofs::CostFacts::width_is), unfolding(crate::specs::Limits::tables_within))]
     pub(crate) fn allocate_within(
         alloc: Global,
         params: &Params,
@@ -104,7 +106,12 @@ impl Buffers {
         ensures chunks { IfOk result (λ got. length got.1.chunks.items ≡ chunks_bytes params.now.r params.now.p) }
         ensures memory { IfOk result (λ got. HasTables params.now.log_n 0 params.now.r got.0
             (vec_capacity got.1.table) (length got.1.scratch.items)) }
+        ensures width { IfOk result (λ got. (got.0 ≡ tables_within most_bytes params.now) ⊎ (got.0 ≡ 1)) }
+        ensures scratch { IfOk result (λ got. length got.1.scratch.items ≡ got.0 * scratch_words params.now.r) }
+        ensures used { IfOk result (λ got. got.0 ≡ at_once params.now.log_n params.now.r params.now.p
+            (vec_capacity got.1.table) (length got.1.scratch.items)) }
     {
+        params.known();
         let width = BufferLens::tables_within(params, most_bytes);
         if width > 1
             && let Ok(own) = Buffers::allocate(alloc, &BufferLens::times(params, width))

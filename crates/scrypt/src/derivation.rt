@@ -54,7 +54,7 @@ impl BufferLens {
 
     /// Returns the lengths for so many chunks at a time, at most four: the table and the scratch are so
     /// many times as long as those of [`BufferLens::of`]. With a `p` of 2 or more, more tables take less
-    /// time: docs/DECISIONS.md has the figures.
+    /// time: on x86-64-v3 two take 0.56 of it, and four 0.41.
     pub fn times(params: &Params, tables: usize) -> BufferLens
         requires few { tables ≤ 4 }
         ensures chunks { result.chunks ≡ chunks_bytes params.now.r params.now.p }
