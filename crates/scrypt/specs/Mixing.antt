@@ -1,8 +1,11 @@
 -- Private: the chunks of B, mixed one after another, and the memory for it.
-use Rattle.std.specs.Prelude.{◌≡◌, ℕ, ◌-◌, ◌*◌, ◌<◌, ◌≤◌, List, length, take, drop}
-use Rattle.scrypt.specs.Cost.{chunks_bytes, scratch_words, table_words, thin_scratch_words}
+use Rattle.std.specs.Prelude.{◌≡◌, ℕ, ◌-◌, ◌*◌, ◌<◌, ◌≤◌, List, length, replicate, take, drop}
+use Rattle.scrypt_kernel.specs.Count.{AreCounted}
+use Rattle.scrypt.specs.Accepted.{Parameters}
+use Rattle.scrypt.specs.Cost.{chunks_bytes, cost, scratch_words, table_words, thin_scratch_words}
 use Rattle.scrypt.specs.Key.{mixed_chunks}
 use Rattle.scrypt.specs.Workspace.{at_once}
+use Rattle.scrypt.specs.declared.buffers.InUse.{InUse}
 
 -- the first i chunks of x are those of b after scryptROMix, and the others are those of b
 pub record AreMixed (b : List ℕ) (log_n r i : ℕ) (x : List ℕ) : Type 0 where
@@ -20,8 +23,34 @@ pub record HasTables (log_n s r w room scratch : ℕ) : Type 0 where
   pub scratches : w * scratch_words r ≤ scratch
   pub spare : 0 < s → thin_scratch_words r ≤ scratch
 
--- of n chunks in these buffers, which are long enough for them, w are mixed at a time
+-- of n chunks in these buffers, which are long enough for them, w are mixed at a time, also in the part of them that is used
 pub record IsWidth (log_n r n w : ℕ) (chunks table scratch : List ℕ) : Type 0 where
   pub is : w ≡ at_once log_n r n (length table) (length scratch)
+  pub is_in_part : w ≡ at_once log_n r n (w * table_words log_n r) (w * scratch_words r)
   pub chunks_fit : chunks_bytes r n ≤ length chunks
   pub memory : HasTables log_n 0 r w (length table) (length scratch)
+
+-- what a derivation of n chunks of this N and r uses, with a table that keeps one row in 2 ^ s: as many of them are mixed at
+-- a time as have a table and a scratch
+pub record IsReady {M : Type 0} (room_of : M → ℕ) (log_n s r n : ℕ) (used : InUse M) : Type 0 where
+  pub chunks_len : length used.chunks.now ≡ chunks_bytes r n
+  pub memory : HasTables log_n s r used.width (room_of used.rows.now) (length used.scratch.now)
+  pub width : used.width ≡ at_once (log_n - s) r n (room_of used.rows.now) (length used.scratch.now)
+
+-- the same memory, whatever is in it
+pub record IsKept {M : Type 0} (room_of : M → ℕ) (before after : InUse M) : Type 0 where
+  pub width : after.width ≡ before.width
+  pub chunks : after.chunks.ghost_name ≡ before.chunks.ghost_name
+  pub rows : after.rows.ghost_name ≡ before.rows.ghost_name
+  pub scratch : after.scratch.ghost_name ≡ before.scratch.ghost_name
+  pub cores : after.cores.ghost_name ≡ before.cores.ghost_name
+  pub chunks_len : length after.chunks.now ≡ length before.chunks.now
+  pub room : room_of before.rows.now ≤ room_of after.rows.now
+  pub scratch_len : length after.scratch.now ≡ length before.scratch.now
+
+-- a derivation with these parameters was counted, and the chunks and the scratch are zeros
+pub record IsSpent {M : Type 0} (room_of : M → ℕ) (c : Parameters) (before after : InUse M) : Type 0 where
+  pub kept : IsKept room_of before after
+  pub counted : AreCounted (cost c.log_n c.r c.p) before.cores.now after.cores.now
+  pub chunks : after.chunks.now ≡ replicate (length before.chunks.now) 0
+  pub scratch : after.scratch.now ≡ replicate (length before.scratch.now) 0

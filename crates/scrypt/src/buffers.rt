@@ -1,4 +1,4 @@
-// The three buffers of a derivation: the caller's, and allocated ones.
+// The workspace of a derivation: the caller's buffers, allocated ones, and what is used of either.
 
 ghost use Rattle.std.specs.Prelude.{◌≡◌, ◌⊎◌, ◌↔◌, ◌*◌, ◌<◌, ◌≤◌, length, IfOk, IfSome, IsSome};
 ghost use Rattle.std.specs.Vec.{vec_capacity};
@@ -8,7 +8,7 @@ ghost use Rattle.scrypt.specs.Limits.{tables_within};
 ghost use Rattle.scrypt.specs.Mixing.{HasTables, IsWidth};
 ghost use Rattle.scrypt.specs.Workspace.{AreUsed, at_once};
 
-use crate::{BufferLens, Params};
+use crate::{BufferLens, CoreCount, Params};
 use std::alloc::{AllocError, Global};
 
 /// Returns how many of `count` chunks are mixed at a time in a table and a scratch of so many words: at
@@ -30,6 +30,7 @@ pub(crate) fn at_once(params: &Params, count: usize, table: usize, scratch: usiz
 
 /// Returns how many of `count` chunks are mixed at a time in these buffers, or `None` if a buffer is too
 /// short for them.
+#[tactic(auto, using(crate::proofs::CostFacts::width_of_part))]
 pub(crate) fn width_in(
     params: &Params,
     count: u32,
@@ -63,6 +64,17 @@ pub fn used_lens(
 {
     let width = width_in(params, params.p(), chunks, table, scratch)?;
     Some(BufferLens::times(params, width))
+}
+
+/// What derivations use: the chunks of all, memory for the rows of `width` tables and as many scratches, so that as
+/// many chunks are mixed at a time, and the count of cores.
+#[derive(Drop)]
+pub(crate) struct InUse<'a, M> {
+    pub(crate) width: usize,
+    pub(crate) chunks: &'a mut [u8],
+    pub(crate) rows: &'a mut M,
+    pub(crate) scratch: &'a mut [u32],
+    pub(crate) cores: &'a mut CoreCount,
 }
 
 /// Buffers for one derivation.

@@ -7,12 +7,12 @@ ghost use Rattle.scrypt.specs.Accepted.{IsOutputLen};
 ghost use Rattle.scrypt.specs.Cost.{chunks_bytes, cost, scratch_words, table_words, thin_cost, thin_scratch_words};
 ghost use Rattle.scrypt.specs.Key.{derived_key};
 ghost use Rattle.scrypt.specs.Limits.{tables_within};
-ghost use Rattle.scrypt.specs.Mixing.{HasTables};
+ghost use Rattle.scrypt.specs.Mixing.{HasTables, IsKept, IsReady};
 ghost use Rattle.scrypt.specs.declared.errors.DeriveError.TheVariants.{InvalidOutputLen as BadLength, OutOfMemory};
 
 pub(crate) mod mixing;
 
-use crate::buffers::{Buffers, at_once};
+use crate::buffers::{Buffers, InUse, at_once};
 use crate::derivation::mixing::mix_all;
 use crate::{CoreCount, DeriveError, InvalidOutputLen, Params};
 use scrypt_kernel::memory::{Buffer, Memory};
@@ -199,18 +199,14 @@ pub fn scrypt_in_groups(
         return Err(DeriveError::InvalidOutputLen);
     }
     let (width, mut own) = Buffers::allocate_within(alloc, params, most_bytes)?;
-    derive_in::<Vec<u32>>(
-        password,
-        salt,
-        params,
-        0,
+    let mut used = InUse {
         width,
-        &mut own.chunks,
-        &mut own.table,
-        &mut own.scratch,
-        output,
+        chunks: &mut own.chunks,
+        rows: &mut own.table,
+        scratch: &mut own.scratch,
         cores,
-    );
+    };
+    derive_in::<Vec<u32>>(password, salt, params, 0, &mut used, output);
     Ok(())
 }
 
@@ -251,9 +247,14 @@ pub fn scrypt_with_buffers(
     }
     let width = at_once(params, params.p() as usize, table.len(), scratch.len());
     let mut rows = Buffer::new(table);
-    derive_in::<Buffer<'_>>(
-        password, salt, params, 0, width, chunks, &mut rows, scratch, output, cores,
-    );
+    let mut used = InUse {
+        width,
+        chunks,
+        rows: &mut rows,
+        scratch,
+        cores,
+    };
+    derive_in::<Buffer<'_>>(password, salt, params, 0, &mut used, output);
     Ok(())
 }
 
@@ -297,41 +298,43 @@ pub fn scrypt_thin(
     if !output_len_ok(output.len()) {
         return Err(InvalidOutputLen);
     }
+    params.known();
     let mut rows = Buffer::new(table);
-    derive_in::<Buffer<'_>>(
-        password, salt, params, s, 1, chunks, &mut rows, scratch, output, cores,
-    );
+    let mut used = InUse {
+        width: 1,
+        chunks,
+        rows: &mut rows,
+        scratch,
+        cores,
+    };
+    derive_in::<Buffer<'_>>(password, salt, params, s, &mut used, output);
     Ok(())
 }
 
-/// Steps 1 to 3, in any memory, with `width` chunks at a time and a table that keeps one row in `2^s`.
+/// Steps 1 to 3, in any memory, and a table that keeps one row in `2^s`.
 #[tactic(auto, unfolding(crate::specs::Key::derived_key))]
 pub(crate) fn derive_in<M: Memory>(
     password: &[u8],
     salt: &[u8],
     params: &Params,
     s: u8,
-    width: usize,
-    chunks: &mut [u8],
-    rows: &mut M,
-    scratch: &mut [u32],
+    used: &mut InUse<'_, M>,
     output: &mut [u8],
-    cores: &mut CoreCount,
 )
-    requires chunks { length chunks.old ≡ chunks_bytes params.now.r params.now.p }
-    requires memory { HasTables params.now.log_n s params.now.r width (M.room rows.old) (length scratch.old) }
+    requires ready { IsReady M.room params.now.log_n s params.now.r params.now.p used.old }
     requires length { length output.old ≤ max_output_len }
+    ensures kept { IsKept M.room used.old used.new }
     ensures value { output.new ≡ derived_key password.now salt.now
         params.now.log_n params.now.r params.now.p (length output.old) }
     ensures counted { AreCounted (thin_cost password.now salt.now params.now.log_n params.now.r params.now.p s)
-        cores.old cores.new }
-    ensures whole { s ≡ 0 → AreCounted (cost params.now.log_n params.now.r params.now.p) cores.old cores.new }
+        used.old.cores.now used.new.cores.now }
+    ensures whole { s ≡ 0 → AreCounted (cost params.now.log_n params.now.r params.now.p) used.old.cores.now used.new.cores.now }
 {
-    derive_chunks(password, salt, params, chunks);
+    derive_chunks(password, salt, params, used.chunks);
     let count = params.p() as usize;
-    mix_all::<M>(params, s, count, width, chunks, rows, scratch, cores);
+    mix_all::<M>(params, s, count, used);
     // Step 3: DK, with B as salt.
-    pbkdf2_one(password, chunks, output);
+    pbkdf2_one(password, used.chunks, output);
 }
 
 /// Step 1: `chunks` becomes B, which has `p` chunks.

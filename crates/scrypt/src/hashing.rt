@@ -7,16 +7,15 @@ ghost use Rattle.scrypt.specs.Accepted.{IsStoredLen};
 ghost use Rattle.scrypt.specs.Cost.{chunks_bytes, cost};
 ghost use Rattle.scrypt.specs.Hashing.{IsCallRefused, IsNamedOrNone, key_len_or_default};
 ghost use Rattle.scrypt.specs.KeyOfParams.{key_by};
-ghost use Rattle.scrypt.specs.Mixing.{HasTables, IsWidth};
-ghost use Rattle.scrypt.specs.Workspace.{IsDone, workspace_of};
+ghost use Rattle.scrypt.specs.Mixing.{IsReady, IsSpent};
 ghost use Rattle.password_hash.specs.declared.error.Error.TheVariants.{OutOfMemory};
 
-use crate::buffers::Buffers;
+use crate::buffers::{Buffers, InUse};
 use crate::derivation::derive_in;
-use crate::{BufferLens, CoreCount, Params};
+use crate::{CoreCount, Params};
 use password_hash::phc::Output;
 use password_hash::{Error, Result, Version};
-use scrypt_kernel::memory::{Buffer, Memory};
+use scrypt_kernel::memory::Memory;
 use std::alloc::Global;
 
 /// Checks the algorithm and version arguments.
@@ -72,75 +71,35 @@ pub(crate) fn key_allocating(
     ensures value { IfOk result (λ key. key ≡ key_by params.now password.now salt.now (key_len_or_default params.now)) }
     ensures memory { IfErr result (λ e. e ≡ OutOfMemory) }
 {
-    let mut own = Buffers::allocate(alloc, &BufferLens::of(params))?;
+    // In no bytes a derivation takes one table.
+    let (width, mut own) = Buffers::allocate_within(alloc, params, 0)?;
     let mut cores = CoreCount::new();
-    Ok(stored_key::<Vec<u32>>(
-        password,
-        salt,
-        params,
-        1,
-        &mut own.chunks,
-        &mut own.table,
-        &mut own.scratch,
-        &mut cores,
-    ))
-}
-
-/// Derives the same key in the caller's buffers, with `width` chunks at a time. Does not allocate.
-pub(crate) fn key_in_buffers(
-    password: &[u8],
-    salt: &[u8],
-    params: &Params,
-    width: usize,
-    chunks: &mut [u8],
-    table: &mut [u32],
-    scratch: &mut [u32],
-    cores: &mut CoreCount,
-) -> Output
-    requires width { IsWidth params.now.log_n params.now.r params.now.p width chunks.old table.old scratch.old }
-    ensures value { result ≡ key_by params.now password.now salt.now (key_len_or_default params.now) }
-    ensures done { IsDone params.now
-        (workspace_of chunks.old table.old scratch.old cores.old) (workspace_of chunks.new table.new scratch.new cores.new) }
-{
-    let lens = BufferLens::times(params, width);
-    let mut rows = Buffer::new(&mut table[..lens.table]);
-    stored_key::<Buffer<'_>>(
-        password,
-        salt,
-        params,
+    let mut used = InUse {
         width,
-        &mut chunks[..lens.chunks],
-        &mut rows,
-        &mut scratch[..lens.scratch],
-        cores,
-    )
+        chunks: &mut own.chunks,
+        rows: &mut own.table,
+        scratch: &mut own.scratch,
+        cores: &mut cores,
+    };
+    Ok(stored_key::<Vec<u32>>(password, salt, params, &mut used))
 }
 
-// Derives it in any memory. Afterwards the chunks and the scratch are zeros.
-fn stored_key<M: Memory>(
+/// Derives the same key in any memory. Afterwards the chunks and the scratch are zeros.
+pub(crate) fn stored_key<M: Memory>(
     password: &[u8],
     salt: &[u8],
     params: &Params,
-    width: usize,
-    chunks: &mut [u8],
-    rows: &mut M,
-    scratch: &mut [u32],
-    cores: &mut CoreCount,
+    used: &mut InUse<'_, M>,
 ) -> Output
-    requires chunks { length chunks.old ≡ chunks_bytes params.now.r params.now.p }
-    requires memory { HasTables params.now.log_n 0 params.now.r width (M.room rows.old) (length scratch.old) }
+    requires ready { IsReady M.room params.now.log_n 0 params.now.r params.now.p used.old }
     ensures value { result ≡ key_by params.now password.now salt.now (key_len_or_default params.now) }
-    ensures counted { AreCounted (cost params.now.log_n params.now.r params.now.p) cores.old cores.new }
-    ensures chunks { chunks.new ≡ replicate (chunks_bytes params.now.r params.now.p) 0 }
-    ensures scratch { scratch.new ≡ replicate (length scratch.old) 0 }
+    ensures spent { IsSpent M.room params.now used.old used.new }
 {
     let mut places = [0u8; Output::MAX_LENGTH];
     let key = &mut places[..key_len_or_default(params)];
-    derive_in::<M>(
-        password, salt, params, 0, width, chunks, rows, scratch, key, cores,
-    );
-    chunks.fill(0);
-    scratch.fill(0);
+    derive_in::<M>(password, salt, params, 0, used, key);
+    used.chunks.fill(0);
+    used.scratch.fill(0);
     let Ok(key) = Output::new(key) else {
         unreachable!();
     };

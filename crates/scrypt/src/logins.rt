@@ -12,7 +12,7 @@ ghost use Rattle.scrypt.specs.StoredParts.{stored};
 ghost use Rattle.scrypt.specs.WithinLimits.{with_limited_refusal};
 ghost use Rattle.scrypt.specs.Workspace.{IsDone, has_room, verdict_in, workspace_of};
 
-use crate::buffers::width_in;
+use crate::buffers::{InUse, width_in};
 use crate::comparing::is_derived_key;
 use crate::derivation::derive_chunks;
 use crate::derivation::mixing::mix_all;
@@ -285,7 +285,14 @@ fn verify_at_once<L: Keys>(
     let chunks = &mut chunks[..count * (128 * params.r() as usize)];
     let scratch = &mut scratch[..lens.scratch];
     logins.derive(chunks);
-    mix_all::<Buffer<'_>>(params, 0, count, width, chunks, &mut rows, scratch, cores);
+    let mut used = InUse {
+        width,
+        chunks: &mut *chunks,
+        rows: &mut rows,
+        scratch: &mut *scratch,
+        cores,
+    };
+    mix_all::<Buffer<'_>>(params, 0, count, &mut used);
     let verdicts = logins.compare(chunks);
     chunks.fill(0);
     scratch.fill(0);

@@ -4,12 +4,12 @@ ghost use Rattle.std.specs.Prelude.{◌≡◌, length, replicate, if◌then◌el
 ghost use Rattle.password_hash.specs.Refusal.{PasswordInvalid};
 ghost use Rattle.scrypt_kernel.specs.Count.{AreCounted};
 ghost use Rattle.scrypt.specs.Cost.{chunks_bytes, cost};
-ghost use Rattle.scrypt.specs.Mixing.{HasTables};
+ghost use Rattle.scrypt.specs.Mixing.{IsReady, IsSpent};
 ghost use Rattle.scrypt.specs.Reading.{IsVerdict, is_right, with_refusal};
 ghost use Rattle.scrypt.specs.StoredParts.{stored};
 ghost use Rattle.scrypt.specs.Workspace.{IsLeft, verdict_in, workspace_of};
 
-use crate::buffers::{Buffers, width_in};
+use crate::buffers::{Buffers, InUse, width_in};
 use crate::comparing::is_derived_key;
 use crate::derivation::derive_chunks;
 use crate::derivation::mixing::mix_all;
@@ -32,28 +32,17 @@ pub(crate) fn verdict(same: bool) -> Result<()>
 
 // Derives the key of the stored one's length, in any memory, and returns whether it is the stored
 // key. Afterwards the chunks and the scratch are zeros.
-fn is_key_of<M: Memory>(
-    password: &[u8],
-    parts: &StoredParts<'_>,
-    width: usize,
-    chunks: &mut [u8],
-    rows: &mut M,
-    scratch: &mut [u32],
-    cores: &mut CoreCount,
-) -> bool
-    requires chunks { length chunks.old ≡ chunks_bytes parts.now.params.r parts.now.params.p }
-    requires memory { HasTables parts.now.params.log_n 0 parts.now.params.r width (M.room rows.old) (length scratch.old) }
+fn is_key_of<M: Memory>(password: &[u8], parts: &StoredParts<'_>, used: &mut InUse<'_, M>) -> bool
+    requires ready { IsReady M.room parts.now.params.log_n 0 parts.now.params.r parts.now.params.p used.old }
     ensures exact { result ≡ is_right password.now (stored parts.now) }
-    ensures counted { AreCounted (cost parts.now.params.log_n parts.now.params.r parts.now.params.p) cores.old cores.new }
-    ensures chunks { chunks.new ≡ replicate (length chunks.old) 0 }
-    ensures scratch { scratch.new ≡ replicate (length scratch.old) 0 }
+    ensures spent { IsSpent M.room parts.now.params used.old used.new }
 {
-    derive_chunks(password, parts.salt, &parts.params, chunks);
+    derive_chunks(password, parts.salt, &parts.params, used.chunks);
     let count = parts.params.p() as usize;
-    mix_all::<M>(&parts.params, 0, count, width, chunks, rows, scratch, cores);
-    let same = is_derived_key(password, chunks, parts);
-    chunks.fill(0);
-    scratch.fill(0);
+    mix_all::<M>(&parts.params, 0, count, used);
+    let same = is_derived_key(password, used.chunks, parts);
+    used.chunks.fill(0);
+    used.scratch.fill(0);
     same
 }
 
@@ -68,18 +57,17 @@ pub(crate) fn verify_allocating(
 ) -> Result<()>
     ensures verdict { IsVerdict password.now (Ok (stored parts.now)) (with_refusal result) }
 {
-    let mut own = Buffers::allocate(alloc, &BufferLens::of(&parts.params))?;
+    // In no bytes a derivation takes one table.
+    let (width, mut own) = Buffers::allocate_within(alloc, &parts.params, 0)?;
     let mut cores = CoreCount::new();
-    let same = is_key_of::<Vec<u32>>(
-        password,
-        parts,
-        1,
-        &mut own.chunks,
-        &mut own.table,
-        &mut own.scratch,
-        &mut cores,
-    );
-    verdict(same)
+    let mut used = InUse {
+        width,
+        chunks: &mut own.chunks,
+        rows: &mut own.table,
+        scratch: &mut own.scratch,
+        cores: &mut cores,
+    };
+    verdict(is_key_of::<Vec<u32>>(password, parts, &mut used))
 }
 
 /// Verifies with the parts of a hash, in the caller's buffers. Does not allocate.
@@ -104,9 +92,16 @@ pub(crate) fn verify_in_buffers(
         return Err(Error::OutOfMemory);
     };
     let lens = BufferLens::times(&parts.params, width);
-    let mut rows = Buffer::new(&mut table[..lens.table]);
-    let chunks = &mut chunks[..lens.chunks];
-    let scratch = &mut scratch[..lens.scratch];
-    let same = is_key_of::<Buffer<'_>>(password, parts, width, chunks, &mut rows, scratch, cores);
-    verdict(same)
+    let (chunks, _) = chunks.split_at_mut(lens.chunks);
+    let (table, _) = table.split_at_mut(lens.table);
+    let (scratch, _) = scratch.split_at_mut(lens.scratch);
+    let mut rows = Buffer::new(table);
+    let mut used = InUse {
+        width,
+        chunks,
+        rows: &mut rows,
+        scratch,
+        cores,
+    };
+    verdict(is_key_of::<Buffer<'_>>(password, parts, &mut used))
 }

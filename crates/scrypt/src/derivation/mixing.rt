@@ -6,38 +6,30 @@ ghost use Rattle.scrypt_kernel.specs.Table.{thin_ro_mix_cost};
 ghost use Rattle.scrypt_kernel.specs.Words.{part, words_of};
 ghost use Rattle.scrypt.specs.Cost.{chunks_bytes, cost, thin_chunks_cost};
 ghost use Rattle.scrypt.specs.Key.{mixed_chunks};
-ghost use Rattle.scrypt.specs.Mixing.{AreMixed, HasTables};
+ghost use Rattle.scrypt.specs.Mixing.{AreMixed, HasTables, IsKept, IsReady};
 
-use crate::{CoreCount, Params};
+use crate::Params;
+use crate::buffers::InUse;
 use scrypt_kernel::memory::Memory;
 use scrypt_kernel::order::Order;
 use scrypt_kernel::order::diagonal::{Both, Diagonal};
 use scrypt_kernel::romix;
 use std::simd::{u32x4, u32x8};
 
-/// Each of `count` chunks becomes its scryptROMix, at most `width` of them at a time. They are those of one
+/// Each of `count` chunks becomes its scryptROMix, at most `used.width` of them at a time. They are those of one
 /// derivation or of several, all with the `N` and the `r` of `params`. The table keeps one row in `2^s`.
 #[tactic(auto, unfolding(crate::specs::Cost::extra_rows_of_chunks))]
-pub(crate) fn mix_all<M: Memory>(
-    params: &Params,
-    s: u8,
-    count: usize,
-    width: usize,
-    chunks: &mut [u8],
-    rows: &mut M,
-    scratch: &mut [u32],
-    cores: &mut CoreCount,
-)
-    requires chunks { length chunks.old ≡ chunks_bytes params.now.r count }
-    requires memory { HasTables params.now.log_n s params.now.r width (M.room rows.old) (length scratch.old) }
-    ensures value { chunks.new ≡ mixed_chunks chunks.old params.now.log_n params.now.r count }
-    ensures counted { AreCounted (thin_chunks_cost chunks.old params.now.log_n params.now.r count s) cores.old cores.new }
-    ensures whole { s ≡ 0 → AreCounted (cost params.now.log_n params.now.r count) cores.old cores.new }
+pub(crate) fn mix_all<M: Memory>(params: &Params, s: u8, count: usize, used: &mut InUse<'_, M>)
+    requires ready { IsReady M.room params.now.log_n s params.now.r count used.old }
+    ensures kept { IsKept M.room used.old used.new }
+    ensures value { used.new.chunks.now ≡ mixed_chunks used.old.chunks.now params.now.log_n params.now.r count }
+    ensures counted { AreCounted (thin_chunks_cost used.old.chunks.now params.now.log_n params.now.r count s) used.old.cores.now used.new.cores.now }
+    ensures whole { s ≡ 0 → AreCounted (cost params.now.log_n params.now.r count) used.old.cores.now used.new.cores.now }
 {
     let mut i = 0;
     'groups: while i < count {
-        let n = next_group(width, count - i);
-        mix_at_once::<M>(params, s, n, i, chunks, rows, scratch, cores);
+        let n = next_group(used.width, count - i);
+        mix_at_once::<M>(params, s, n, i, used);
         i += n;
     }
 }
@@ -61,33 +53,20 @@ fn next_group(width: usize, left: usize) -> usize
 }
 
 // Mixes the `n` chunks from `i` on at once.
-fn mix_at_once<M: Memory>(
-    params: &Params,
-    s: u8,
-    n: usize,
-    i: usize,
-    chunks: &mut [u8],
-    rows: &mut M,
-    scratch: &mut [u32],
-    cores: &mut CoreCount,
-)
-    requires inside { i * (128 * params.now.r) + n * (128 * params.now.r) ≤ length chunks.old }
-    requires memory { HasTables params.now.log_n s params.now.r n (M.room rows.old) (length scratch.old) }
-    ensures mixed { (b : List ℕ) → AreMixed b params.now.log_n params.now.r i chunks.old
-        → AreMixed b params.now.log_n params.now.r (i + n) chunks.new }
-    ensures room { M.room rows.old ≤ M.room rows.new }
+fn mix_at_once<M: Memory>(params: &Params, s: u8, n: usize, i: usize, used: &mut InUse<'_, M>)
+    requires inside { i * (128 * params.now.r) + n * (128 * params.now.r) ≤ length used.old.chunks.now }
+    requires memory { HasTables params.now.log_n s params.now.r n (M.room used.old.rows.now) (length used.old.scratch.now) }
+    ensures mixed { (b : List ℕ) → AreMixed b params.now.log_n params.now.r i used.old.chunks.now
+        → AreMixed b params.now.log_n params.now.r (i + n) used.new.chunks.now }
+    ensures kept { IsKept M.room used.old used.new }
     ensures counted { AreCounted (n
-        * thin_ro_mix_cost (words_of (part (128 * params.now.r) chunks.old i)) params.now.log_n s params.now.r) cores.old cores.new }
+        * thin_ro_mix_cost (words_of (part (128 * params.now.r) used.old.chunks.now i)) params.now.log_n s params.now.r) used.old.cores.now used.new.cores.now }
 {
     match n {
-        1 => mix_group::<Diagonal<u32x4>, M>(params, s, n, i, chunks, rows, scratch, cores),
-        2 => mix_group::<Diagonal<u32x8>, M>(params, s, n, i, chunks, rows, scratch, cores),
-        3 => mix_group::<Diagonal<Both<u32x8, u32x4>>, M>(
-            params, s, n, i, chunks, rows, scratch, cores,
-        ),
-        _ => mix_group::<Diagonal<Both<u32x8, u32x8>>, M>(
-            params, s, n, i, chunks, rows, scratch, cores,
-        ),
+        1 => mix_group::<Diagonal<u32x4>, M>(params, s, n, i, used),
+        2 => mix_group::<Diagonal<u32x8>, M>(params, s, n, i, used),
+        3 => mix_group::<Diagonal<Both<u32x8, u32x4>>, M>(params, s, n, i, used),
+        _ => mix_group::<Diagonal<Both<u32x8, u32x8>>, M>(params, s, n, i, used),
     }
 }
 
@@ -97,32 +76,29 @@ fn mix_group<O: Order, M: Memory>(
     s: u8,
     n: usize,
     i: usize,
-    chunks: &mut [u8],
-    rows: &mut M,
-    scratch: &mut [u32],
-    cores: &mut CoreCount,
+    used: &mut InUse<'_, M>,
 )
     requires group { n ≡ O.count }
-    requires inside { i * (128 * params.now.r) + n * (128 * params.now.r) ≤ length chunks.old }
-    requires memory { HasTables params.now.log_n s params.now.r n (M.room rows.old) (length scratch.old) }
-    ensures mixed { (b : List ℕ) → AreMixed b params.now.log_n params.now.r i chunks.old
-        → AreMixed b params.now.log_n params.now.r (i + n) chunks.new }
-    ensures room { M.room rows.old ≤ M.room rows.new }
+    requires inside { i * (128 * params.now.r) + n * (128 * params.now.r) ≤ length used.old.chunks.now }
+    requires memory { HasTables params.now.log_n s params.now.r n (M.room used.old.rows.now) (length used.old.scratch.now) }
+    ensures mixed { (b : List ℕ) → AreMixed b params.now.log_n params.now.r i used.old.chunks.now
+        → AreMixed b params.now.log_n params.now.r (i + n) used.new.chunks.now }
+    ensures kept { IsKept M.room used.old used.new }
     ensures counted { AreCountedAs O.simd (n
-        * thin_ro_mix_cost (words_of (part (128 * params.now.r) chunks.old i)) params.now.log_n s params.now.r) cores.old cores.new }
+        * thin_ro_mix_cost (words_of (part (128 * params.now.r) used.old.chunks.now i)) params.now.log_n s params.now.r) used.old.cores.now used.new.cores.now }
 {
     params.known();
     let r = params.r() as usize;
     let at = i * (128 * r);
     let len = n * (128 * r);
     romix::mix_chunks::<O, M>(
-        &mut chunks[at..at + len],
+        &mut used.chunks[at..at + len],
         r,
-        rows,
-        scratch,
+        used.rows,
+        used.scratch,
         params.log_n(),
         spacing::<O>(s),
-        cores,
+        used.cores,
     );
 }
 

@@ -10,18 +10,20 @@ ghost use Rattle.scrypt.specs.Hashing.{key_len_or_default};
 ghost use Rattle.scrypt.specs.McfHash.{HashIsRefused, IsMadeHash, IsMcfOrNone, made_key, made_text_len};
 ghost use Rattle.password_hash.specs.Refusal.{refusal};
 ghost use Rattle.scrypt.specs.InBuffers.{AreEnough, IsCopiedTo};
-ghost use Rattle.scrypt.specs.Mixing.{IsWidth};
+ghost use Rattle.scrypt.specs.Mixing.{IsReady, IsSpent};
 ghost use Rattle.scrypt.specs.Workspace.{IsDone, workspace_of};
+ghost use Rattle.scrypt_kernel.specs.Memory.{buffer_room};
 
-use crate::buffers::width_in;
-use crate::hashing::{check_call, key_allocating, key_in_buffers, key_len_or_default};
+use crate::buffers::{InUse, width_in};
+use crate::hashing::{check_call, key_allocating, key_len_or_default, stored_key};
 use crate::mcf::five_letters::five_letters;
 use crate::mcf::reading::is_mcf;
-use crate::{CoreCount, Params, Scrypt};
+use crate::{BufferLens, CoreCount, Params, Scrypt};
 use password_hash::mcf::alphabet::letter;
 use password_hash::mcf::{Base64, PasswordHash};
 use password_hash::phc::Output;
 use password_hash::{CustomizedPasswordHasher, Error, PasswordHasher, Result, Version};
+use scrypt_kernel::memory::Buffer;
 use std::alloc::Global;
 
 // The number of bytes before the salt: `$7$` and the eleven letters of the parameters.
@@ -220,44 +222,39 @@ pub fn hash_with_buffers(
     let Some(width) = width_in(params, params.p(), chunks, table, scratch) else {
         return Err(Error::OutOfMemory);
     };
-    fill_with_hash(
-        password,
-        salt,
-        params,
+    let lens = BufferLens::times(params, width);
+    let (chunks, _) = chunks.split_at_mut(lens.chunks);
+    let (table, _) = table.split_at_mut(lens.table);
+    let (scratch, _) = scratch.split_at_mut(lens.scratch);
+    let mut rows = Buffer::new(table);
+    let mut used = InUse {
         width,
-        &mut text[..len],
         chunks,
-        table,
+        rows: &mut rows,
         scratch,
         cores,
-    );
+    };
+    fill_with_hash(password, salt, params, &mut text[..len], &mut used);
     Ok(len)
 }
 
-// Hashes a password in buffers that are long enough, with `width` chunks at a time. The text fills `text`.
+// Hashes a password. The text fills `text`.
 #[tactic(auto, using(crate::proofs::McfTextFacts::key_fills))]
 fn fill_with_hash(
     password: &[u8],
     salt: &[u8],
     params: &Params,
-    width: usize,
     text: &mut [u8],
-    chunks: &mut [u8],
-    table: &mut [u32],
-    scratch: &mut [u32],
-    cores: &mut CoreCount,
+    used: &mut InUse<'_, Buffer<'_>>,
 )
     requires len { length text.old ≡ made_text_len params.now (length salt.now) }
-    requires width { IsWidth params.now.log_n params.now.r params.now.p width chunks.old table.old scratch.old }
+    requires ready { IsReady buffer_room params.now.log_n 0 params.now.r params.now.p used.old }
     ensures made { IsMadeHash params.now password.now salt.now text.new }
     ensures ascii { IsAscii text.new }
-    ensures done { IsDone params.now
-        (workspace_of chunks.old table.old scratch.old cores.old) (workspace_of chunks.new table.new scratch.new cores.new) }
+    ensures spent { IsSpent buffer_room params.now used.old used.new }
 {
     let letters = &mut text[..Base64::Crypt.encoded_len(salt.len())];
     encode(salt, letters);
-    let key = key_in_buffers(
-        password, letters, params, width, chunks, table, scratch, cores,
-    );
+    let key = stored_key::<Buffer<'_>>(password, letters, params, used);
     write_text(text, params, salt, &key);
 }

@@ -9,13 +9,14 @@ ghost use Rattle.password_hash.specs.declared.error.Error.TheVariants.{OutOfMemo
 ghost use Rattle.scrypt.specs.InBuffers.{AreEnough};
 ghost use Rattle.scrypt.specs.Workspace.{IsDone, workspace_of};
 
-use crate::buffers::width_in;
-use crate::hashing::{check_call, key_allocating, key_in_buffers};
+use crate::buffers::{InUse, width_in};
+use crate::hashing::{check_call, key_allocating, stored_key};
 use crate::phc::ALG_ID;
 use crate::phc::params::written;
-use crate::{CoreCount, Params, Scrypt};
+use crate::{BufferLens, CoreCount, Params, Scrypt};
 use password_hash::phc::{Output, PasswordHash, Salt};
 use password_hash::{CustomizedPasswordHasher, Error, PasswordHasher, Result, Version};
+use scrypt_kernel::memory::Buffer;
 use std::alloc::Global;
 
 impl PasswordHasher<PasswordHash> for Scrypt {
@@ -120,9 +121,18 @@ pub fn hash_with_buffers(
     let Some(width) = width_in(params, params.p(), chunks, table, scratch) else {
         return Err(Error::OutOfMemory);
     };
-    let letters = salt.as_bytes();
-    let key = key_in_buffers(
-        password, letters, params, width, chunks, table, scratch, cores,
-    );
+    let lens = BufferLens::times(params, width);
+    let (chunks, _) = chunks.split_at_mut(lens.chunks);
+    let (table, _) = table.split_at_mut(lens.table);
+    let (scratch, _) = scratch.split_at_mut(lens.scratch);
+    let mut rows = Buffer::new(table);
+    let mut used = InUse {
+        width,
+        chunks,
+        rows: &mut rows,
+        scratch,
+        cores,
+    };
+    let key = stored_key::<Buffer<'_>>(password, salt.as_bytes(), params, &mut used);
     Ok(hash_of(params, salt, key))
 }

@@ -1,4 +1,4 @@
-use Rattle.std.proofs.Common.{◌≡◌, ◌<◌, ◌≤◌, ◌+◌, ◌-◌, ◌*◌, arith}
+use Rattle.std.proofs.Common.{◌≡◌, ◌<◌, ◌≤◌, ◌+◌, ◌-◌, ◌*◌, arith, rules}
 use Rattle.std.proofs.lemmas.Grind.{common_steps}
 use Rattle.std.proofs.Math.Nat.{mul-le-mul_right}
 use Rattle.scrypt_kernel.proofs.CountFacts.{counted_both}
@@ -9,32 +9,32 @@ use Rattle.scrypt.proofs.derivation.mixing.mix_all.Goals as goal
 pub mix_at_once-requires-clause-inside : goal.mix_at_once-requires-clause-inside
 mix_at_once-requires-clause-inside g c =
     let below : c.groups.i + c.next_group-n.result ≤ c.args.count = omega arith in
-    omega (arith, c.requires.chunks, mul-le-mul_right (128 * c.args.params.now.r) below)
+    omega (arith, c.requires.ready.chunks_len, mul-le-mul_right (128 * c.args.params.now.r) below)
 
 pub mix_at_once-requires-clause-memory : goal.mix_at_once-requires-clause-memory
 mix_at_once-requires-clause-memory g c =
-    let has = c.requires.memory in
+    let has = c.requires.ready.memory in
     let r = c.args.params.now.r in
     let table = table_words (c.args.params.now.log_n - c.args.s) r in
-    let fewer : c.next_group-n.result ≤ c.args.width = c.next_group-n.ensures.within in
+    let fewer : c.next_group-n.result ≤ c.args.used.now.width = rw c.groups.invariant.kept.width at c.next_group-n.ensures.within in
     record {
       some = c.next_group-n.ensures.some;
-      few = omega arith;
+      few = omega (arith, has.few);
       spacing = has.spacing;
       alone = λ above. omega (arith, has.alone above);
-      tables = omega (arith, has.tables, c.groups.invariant.room, mul-le-mul_right table fewer);
-      scratches = omega (arith, has.scratches, mul-le-mul_right (scratch_words r) fewer);
-      spare = λ above. omega (arith, has.spare above);
+      tables = omega (arith, has.tables, c.groups.invariant.kept.room, mul-le-mul_right table fewer);
+      scratches = omega (arith, has.scratches, c.groups.invariant.kept.scratch_len, mul-le-mul_right (scratch_words r) fewer);
+      spare = λ above. omega (arith, has.spare above, c.groups.invariant.kept.scratch_len);
     }
 
 pub groups-preserved : goal.groups-preserved
 groups-preserved g c =
     let before = c.groups.invariant in
-    let alone : 0 < c.args.s → c.next_group-n.result ≡ 1 = λ above. omega (arith, c.requires.memory.alone above) in
+    let alone : 0 < c.args.s → c.next_group-n.result ≡ 1 = λ above. omega (arith, c.requires.ready.memory.alone above) in
     record {
-      mixed = c.mix_at_once.ensures.mixed c.args.chunks.now before.mixed;
+      mixed = c.mix_at_once.ensures.mixed c.args.used.now.chunks.now before.mixed;
       some = omega arith;
-      room = omega arith;
+      kept = search rules;
       counted = counted_both _ before.counted (rw before.mixed.rest at c.mix_at_once.ensures.counted) (more_chunks _ _ _ _ _ _ alone);
     }
 

@@ -8,7 +8,7 @@ pub returns-clause-mixed : goal.returns-clause-mixed
 returns-clause-mixed g c b before =
     let r = c.args.params.now.r in
     let i = c.args.i in
-    let x = c.args.chunks.now in
+    let x = c.args.used.now.chunks.now in
     let n = c.args.n in
     let a : ℕ = i * (128 * c.r-r.result) in
     let m : ℕ = a + n * (128 * c.r-r.result) - a in
@@ -28,6 +28,6 @@ returns-clause-counted g c =
     let n = c.args.n in
     let i = c.args.i in
     let same : i * s + n * s - i * s ≡ n * s = omega arith in
-    let alone = part-take s 0 (n * s) (drop (i * s) c.args.chunks.now) (parts_apart s 0 n c.requires.memory.some) in
-    rw (c.r-r.ensures.value, c.log_n.ensures.value, c.spacing.ensures, ← c.requires.group, same, alone, part_at s i c.args.chunks.now)
+    let alone = part-take s 0 (n * s) (drop (i * s) c.args.used.now.chunks.now) (parts_apart s 0 n c.requires.memory.some) in
+    rw (c.r-r.ensures.value, c.log_n.ensures.value, c.spacing.ensures, ← c.requires.group, same, alone, part_at s i c.args.used.now.chunks.now)
     at c.mix_chunks.ensures.counted

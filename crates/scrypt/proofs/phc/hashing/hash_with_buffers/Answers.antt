@@ -1,5 +1,11 @@
+use Rattle.std.proofs.Common.{rules}
+use Rattle.std.proofs.lemmas.Slice.{drop-append-drop}
 use Rattle.scrypt.proofs.phc.hashing.hash_with_buffers.Goals as goal
 
--- the search finds this too: it is here so that a body that counts elsewhere is refused by this goal
 pub returns-clause-done : goal.returns-clause-done
-returns-clause-done c = c.key_in_buffers-key.ensures.done
+returns-clause-done c = record {
+  counted = search (rules, c.stored_key-key.ensures.spent.counted);
+  chunks = search rules;
+  scratch = search rules;
+  rest = search (rules, drop-append-drop);
+}
