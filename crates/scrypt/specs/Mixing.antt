@@ -1,5 +1,5 @@
 -- Private: the chunks of B, mixed one after another, and the memory for it.
-use Rattle.std.specs.Prelude.{◌≡◌, ℕ, ◌-◌, ◌*◌, ◌<◌, ◌≤◌, List, length, replicate, take, drop}
+use Rattle.std.specs.Prelude.{◌≡◌, ℕ, ◌+◌, ◌-◌, ◌*◌, ◌<◌, ◌≤◌, ◌&&◌, nat_eq, nat_lt, min, if◌then◌else◌, List, length, replicate, take, drop}
 use Rattle.scrypt_kernel.specs.Count.{AreCounted}
 use Rattle.scrypt.specs.Accepted.{Parameters}
 use Rattle.scrypt.specs.Cost.{chunks_bytes, cost, scratch_words, table_words, thin_scratch_words}
@@ -22,6 +22,11 @@ pub record HasTables (log_n s r w room scratch : ℕ) : Type 0 where
   pub tables : w * table_words (log_n - s) r ≤ room
   pub scratches : w * scratch_words r ≤ scratch
   pub spare : 0 < s → thin_scratch_words r ≤ scratch
+
+-- How many of the chunks that are left are mixed next, w at a time: as many as can be, or one fewer if that leaves one
+-- alone and three or more can be mixed at a time.
+unfoldable pub next_group : ℕ → ℕ → ℕ
+next_group w left = if nat_lt 2 w && nat_eq left (w + 1) then w - 1 else min w left
 
 -- of n chunks in these buffers, which are long enough for them, w are mixed at a time, also in the part of them that is used
 pub record IsWidth (log_n r n w : ℕ) (chunks table scratch : List ℕ) : Type 0 where

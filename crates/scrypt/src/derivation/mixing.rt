@@ -6,7 +6,7 @@ ghost use Rattle.scrypt_kernel.specs.Table.{thin_ro_mix_cost};
 ghost use Rattle.scrypt_kernel.specs.Words.{part, words_of};
 ghost use Rattle.scrypt.specs.Cost.{chunks_bytes, cost, thin_chunks_cost};
 ghost use Rattle.scrypt.specs.Key.{mixed_chunks};
-ghost use Rattle.scrypt.specs.Mixing.{AreMixed, HasTables, IsKept, IsReady};
+ghost use Rattle.scrypt.specs.Mixing.{AreMixed, HasTables, IsKept, IsReady, next_group};
 
 use crate::Params;
 use crate::buffers::InUse;
@@ -36,6 +36,7 @@ pub(crate) fn mix_all<M: Memory>(params: &Params, s: u8, count: usize, used: &mu
 
 // Returns how many of the chunks that are left are mixed next. None of several is mixed alone if three or more can be
 // mixed at a time: four and one would take longer than three and two.
+#[tactic(auto, unfolding(crate::specs::Mixing::next_group))]
 fn next_group(width: usize, left: usize) -> usize
     requires some { 0 < width }
     requires left { 0 < left }
@@ -44,6 +45,7 @@ fn next_group(width: usize, left: usize) -> usize
     ensures left { result ≤ left }
     ensures together { 2 < width → 1 < left → 1 < result }
     ensures none_left_alone { 2 < width → left ≢ result + 1 }
+    ensures exact { result ≡ next_group width left }
 {
     if width > 2 && left - 1 == width {
         width - 1
