@@ -22,7 +22,9 @@ HANDWRITTEN = ["crates/scrypt_kernel/proofs/cores/count/CoreCount/of/Proof.antt"
 NEW_COUNTS = {
     "crates/scrypt/src/derivation.rt": 1,
     "crates/scrypt/src/hashing.rt": 1,
-    "crates/scrypt/src/verifying.rt": 1,
+    "crates/scrypt/src/mcf/verifying.rt": 1,
+    "crates/scrypt/src/phc/verifying.rt": 1,
+    "crates/scrypt/src/stored_hash.rt": 1,
     "crates/scrypt_c/src/with_buffers.rt": 4,
     "crates/scrypt_c/src/keys.rt": 2,
     "crates/scrypt_examples/src/verdicts.rt": 2,

@@ -1,9 +1,10 @@
 // Stored hashes of either format.
 
-ghost use Rattle.std.specs.Prelude.{◌≡◌, ◌≢◌, ◌↔◌, Err, IfErr, IfOk, IsOk, IsTrue, None};
+ghost use Rattle.std.specs.Prelude.{◌≡◌, ◌≢◌, ◌↔◌, Err, IfErr, IfOk, IsErrOf, IsOk, IsTrue, None, OnErr};
 ghost use Rattle.password_hash.specs.Refusal.{PasswordInvalid};
-ghost use Rattle.password_hash.specs.declared.error.Error.TheVariants.{EncodingInvalid};
-ghost use Rattle.scrypt.specs.Cost.{chunks_bytes, scratch_words, table_words};
+ghost use Rattle.password_hash.specs.declared.error.Error.TheVariants.{EncodingInvalid, OutOfMemory};
+ghost use Rattle.scrypt_kernel.specs.Count.{AreCounted};
+ghost use Rattle.scrypt.specs.Cost.{chunks_bytes, cost, scratch_words, table_words};
 ghost use Rattle.scrypt.specs.Reading.{◌and_then◌, IsVerdict, mapped, weaker, with_refusal};
 ghost use Rattle.scrypt.specs.StoredHash.{formatted, is_mcf_text, is_stored_text, key_len_or_zero, params_reading, reading};
 ghost use Rattle.scrypt.specs.StoredKey.{IsHashOf};
@@ -111,9 +112,27 @@ impl<'a> StoredHash<'a> {
     pub fn verify(&self, alloc: Global, password: &[u8]) -> Result<()>
         ensures verdict { IsVerdict password.now (reading self.now) (with_refusal result) }
     {
+        self.verify_counted(alloc, password, &mut CoreCount::new())
+    }
+
+    /// Does what [`StoredHash::verify`] does, and counts the `4 * N * r * p` cores of the hash's parameters.
+    ///
+    /// Unless the keys are compared, the count is unchanged.
+    pub fn verify_counted(
+        &self,
+        alloc: Global,
+        password: &[u8],
+        cores: &mut CoreCount,
+    ) -> Result<()>
+        ensures verdict { IsVerdict password.now (reading self.now) (with_refusal result) }
+        ensures unread { OnErr (reading self.now) (cores.new ≡ cores.old) }
+        ensures memory { IsErrOf result OutOfMemory → cores.new ≡ cores.old }
+        ensures counted { IfOk (reading self.now) (λ s. (¬ IsErrOf result OutOfMemory)
+            → AreCounted (cost s.params.log_n s.params.r s.params.p) cores.old cores.new) }
+    {
         match self.parts() {
-            Ok(parts) => verify_allocating(alloc, password, &parts),
-            Err(error) => Err(error),
+            Ok(parts) => verify_allocating(alloc, password, &parts, cores),
+            Err(refused) => Err(refused),
         }
     }
 

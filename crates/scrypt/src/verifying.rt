@@ -1,7 +1,8 @@
 // Verifying, in every format, with any source of memory.
 
-ghost use Rattle.std.specs.Prelude.{◌≡◌, length, replicate, if◌then◌else◌, Err, Ok};
+ghost use Rattle.std.specs.Prelude.{◌≡◌, length, replicate, if◌then◌else◌, Err, IsErrOf, Ok};
 ghost use Rattle.password_hash.specs.Refusal.{PasswordInvalid};
+ghost use Rattle.password_hash.specs.declared.error.Error.TheVariants.{OutOfMemory};
 ghost use Rattle.scrypt_kernel.specs.Count.{AreCounted};
 ghost use Rattle.scrypt.specs.Cost.{chunks_bytes, cost};
 ghost use Rattle.scrypt.specs.Mixing.{IsReady, IsSpent};
@@ -21,7 +22,8 @@ use std::alloc::Global;
 
 /// Returns the verdict, given whether the derived key is the stored one.
 pub(crate) fn verdict(same: bool) -> Result<()>
-    ensures { with_refusal result ≡ (if same then Ok tt else Err PasswordInvalid) }
+    ensures value { with_refusal result ≡ (if same then Ok tt else Err PasswordInvalid) }
+    ensures of_keys { ¬ IsErrOf result OutOfMemory }
 {
     if same {
         Ok(())
@@ -49,23 +51,26 @@ fn is_key_of<M: Memory>(password: &[u8], parts: &StoredParts<'_>, used: &mut InU
 /// Verifies with the parts of a hash, in three buffers of its own: the chunks, the table and the
 /// scratch, allocated in this order.
 ///
-/// Returns `OutOfMemory` if an allocation fails, and otherwise `PasswordInvalid` if the keys differ.
+/// Returns `OutOfMemory` if an allocation fails, before the first core, and otherwise `PasswordInvalid` if the keys differ.
 pub(crate) fn verify_allocating(
     alloc: Global,
     password: &[u8],
     parts: &StoredParts<'_>,
+    cores: &mut CoreCount,
 ) -> Result<()>
     ensures verdict { IsVerdict password.now (Ok (stored parts.now)) (with_refusal result) }
+    ensures memory { IsErrOf result OutOfMemory → cores.new ≡ cores.old }
+    ensures counted { (¬ IsErrOf result OutOfMemory)
+        → AreCounted (cost parts.now.params.log_n parts.now.params.r parts.now.params.p) cores.old cores.new }
 {
     // In no bytes a derivation takes one table.
     let (width, mut own) = Buffers::allocate_within(alloc, &parts.params, 0)?;
-    let mut cores = CoreCount::new();
     let mut used = InUse {
         width,
         chunks: &mut own.chunks,
         rows: &mut own.table,
         scratch: &mut own.scratch,
-        cores: &mut cores,
+        cores,
     };
     verdict(is_key_of::<Vec<u32>>(password, parts, &mut used))
 }

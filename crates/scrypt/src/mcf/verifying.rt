@@ -5,9 +5,9 @@ ghost use Rattle.password_hash.specs.McfViews.{borrowed_text};
 ghost use Rattle.scrypt.specs.McfHash.{read_mcf};
 ghost use Rattle.scrypt.specs.Reading.{verdict as verdict_of};
 
-use crate::Scrypt;
 use crate::mcf::reading::parts_of_mcf;
 use crate::verifying::verify_allocating;
+use crate::{CoreCount, Scrypt};
 use password_hash::mcf::{PasswordHash, PasswordHashRef};
 use password_hash::{PasswordVerifier, Result};
 use std::alloc::Global;
@@ -33,7 +33,7 @@ impl<'a> PasswordVerifier<PasswordHashRef<'a>> for Scrypt {
         hash: &PasswordHashRef<'a>,
     ) -> Result<()> {
         match parts_of_mcf(hash) {
-            Ok(parts) => verify_allocating(alloc, password, &parts),
+            Ok(parts) => verify_allocating(alloc, password, &parts, &mut CoreCount::new()),
             Err(error) => Err(error),
         }
     }

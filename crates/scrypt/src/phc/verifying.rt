@@ -4,9 +4,9 @@ ghost use Rattle.std.specs.Prelude.{IsOk};
 ghost use Rattle.scrypt.specs.PhcHash.{read_phc};
 ghost use Rattle.scrypt.specs.Reading.{verdict as verdict_of};
 
-use crate::Scrypt;
 use crate::phc::reading::{parts_of_phc, read_params};
 use crate::verifying::verify_allocating;
+use crate::{CoreCount, Scrypt};
 use password_hash::phc::PasswordHash;
 use password_hash::{PasswordVerifier, Result};
 use std::alloc::Global;
@@ -26,7 +26,7 @@ impl PasswordVerifier<PasswordHash> for Scrypt {
     /// keys differ.
     fn verify_password(&self, alloc: Global, password: &[u8], hash: &PasswordHash) -> Result<()> {
         match parts_of_phc(hash, &read_params(hash)) {
-            Ok(parts) => verify_allocating(alloc, password, &parts),
+            Ok(parts) => verify_allocating(alloc, password, &parts, &mut CoreCount::new()),
             Err(error) => Err(error),
         }
     }
