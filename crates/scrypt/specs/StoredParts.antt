@@ -1,8 +1,18 @@
 -- Private: what a stored hash of either format holds.
-use Rattle.scrypt.specs.Reading.{Stored}
-use Rattle.scrypt.specs.StoredKey.{key_bytes}
+use Rattle.std.specs.Prelude.{◌≡◌, ℕ, List, IsTrue, Result}
+use Rattle.password_hash.specs.declared.error.Error.{Error}
+use Rattle.scrypt.specs.Accepted.{Parameters}
+use Rattle.scrypt.specs.Reading.{Stored, mapped, with_refusal}
+use Rattle.scrypt.specs.StoredHash.{is_stored_text, params_reading, reading}
+use Rattle.scrypt.specs.StoredKey.{key_bytes, salt_bytes}
 use Rattle.scrypt.specs.declared.stored_hash.parts.StoredParts.{StoredParts}
 
--- the parts of a hash, with the bytes of its key
+-- the parts of a hash, with the bytes of its salt and of its key
 abbrev pub stored : StoredParts → Stored
-stored parts = record { params = parts.params; salt = parts.salt.now; key = key_bytes parts.key }
+stored parts = record { params = parts.params; salt = salt_bytes parts.salt; key = key_bytes parts.key }
+
+-- the text is one of its format, and these are the parameters and the length of the key, and the parts, that are read of it
+pub record IsReadAs (text : List ℕ) (read : Result (Parameters × ℕ) Error) (whole : Result StoredParts Error) : Type 0 where
+  pub format : IsTrue (is_stored_text text)
+  pub params : with_refusal read ≡ params_reading text
+  pub parts : mapped stored (with_refusal whole) ≡ reading text

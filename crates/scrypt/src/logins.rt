@@ -102,8 +102,8 @@ pub trait Logins: Keys {
 
 impl<'a> Login<'a> {
     // Returns the parts of the hash, if it can be read and is within its limits, or the first error.
-    fn parts(&self) -> std::result::Result<StoredParts<'_>, LimitedError>
-        ensures { mapped stored (with_limited_refusal result) ≡ reading_of self.now }
+    fn parts(&self) -> std::result::Result<&StoredParts<'a>, LimitedError>
+        ensures { mapped (λ parts. stored parts.now) (with_limited_refusal result) ≡ reading_of self.now }
     {
         let hash = match &self.hash {
             Ok(hash) => hash,
@@ -144,13 +144,13 @@ impl<'a> Keys for Login<'a> {
     #[tactic(auto, using(crate::proofs::LoginFacts::lens_of_chunks))]
     fn derive(&self, chunks: &mut [u8]) {
         if let Ok(parts) = self.parts() {
-            derive_chunks(self.password, parts.salt, &parts.params, chunks);
+            derive_chunks(self.password, parts.salt.as_bytes(), &parts.params, chunks);
         }
     }
 
     fn compare(&self, mixed: &[u8]) -> std::result::Result<(), LimitedError> {
         match self.parts() {
-            Ok(parts) => limited(verdict(is_derived_key(self.password, mixed, &parts))),
+            Ok(parts) => limited(verdict(is_derived_key(self.password, mixed, parts))),
             Err(error) => Err(error),
         }
     }
@@ -167,7 +167,7 @@ impl<'a> Logins for Login<'a> {
         match self.parts() {
             Ok(parts) => limited(verify_in_buffers(
                 self.password,
-                &parts,
+                parts,
                 chunks,
                 table,
                 scratch,

@@ -7,15 +7,16 @@ ghost use Rattle.scrypt_kernel.specs.Count.{AreCounted};
 ghost use Rattle.scrypt.specs.Cost.{chunks_bytes, cost, scratch_words, table_words};
 ghost use Rattle.scrypt.specs.Reading.{◌and_then◌, IsVerdict, mapped, weaker, with_refusal};
 ghost use Rattle.scrypt.specs.StoredHash.{formatted, is_mcf_text, is_stored_text, key_len_or_zero, params_reading, reading};
-ghost use Rattle.scrypt.specs.StoredKey.{IsHashOf};
+ghost use Rattle.scrypt.specs.StoredParts.{IsReadAs, stored};
 ghost use Rattle.scrypt.specs.Workspace.{IsLeft, verdict_in, workspace_of};
 
 pub(crate) mod parts;
 pub(crate) mod within;
 
 use crate::mcf::reading::parts_of_mcf;
-use crate::phc::reading::read_params;
+use crate::phc::reading::{parts_of_phc, read_params};
 use crate::rehashing::is_below;
+use crate::stored_hash::parts::StoredParts;
 use crate::verifying::{verify_allocating, verify_in_buffers};
 use crate::{BufferLens, CoreCount, Params};
 use password_hash::{Error, Result, mcf, phc};
@@ -28,25 +29,20 @@ use std::marker::Model;
 #[derive(Drop)]
 pub struct StoredHash<'a> {
     text: &'a str,
-    format: Format<'a>,
-}
-
-// The hash of a text. The parameters of a PHC hash are read once, with the text.
-#[derive(Drop)]
-enum Format<'a> {
-    Mcf(mcf::PasswordHashRef<'a>),
-    Phc(phc::PasswordHash, Result<Params>),
+    // The parameters and the length of the key. A PHC hash without a salt or a key has these too.
+    params: Result<(Params, usize)>,
+    parts: Result<StoredParts<'a>>,
 }
 
 impl<'a> Model for StoredHash<'a> {
     ghost use Rattle.std.specs.Prelude.{ℕ, List};
-    ghost use Rattle.scrypt.specs.StoredKey.{IsHashOf};
+    ghost use Rattle.scrypt.specs.StoredParts.{IsReadAs};
 
     ghost Value = { List ℕ };
 
     ghost view = { λ a. a.text.now };
 
-    ghost invariant = { λ a. IsHashOf a.text.now a.format };
+    ghost invariant = { λ a. IsReadAs a.text.now a.params a.parts };
 }
 
 impl<'a> StoredHash<'a> {
@@ -55,7 +51,7 @@ impl<'a> StoredHash<'a> {
     ///
     /// Returns `EncodingInvalid` if `text` is not one of its format. Errors of its parameters, its
     /// salt and its key are returned later, by the calls below.
-    #[tactic(auto, unfolding(crate::specs::StoredHash::is_stored_text, crate::specs::StoredHash::reading, crate::specs::StoredHash::params_reading))]
+    #[tactic(auto, unfolding(crate::specs::StoredHash::formatted, crate::specs::StoredHash::is_stored_text, crate::specs::StoredHash::reading, crate::specs::StoredHash::params_reading))]
     pub fn read(text: &'a str) -> Result<StoredHash<'a>>
         ensures exact { IsOk result ↔ IsTrue (is_stored_text text.now) }
         ensures ok { IfOk result (λ hash. hash ≡ text.now) }
@@ -63,14 +59,40 @@ impl<'a> StoredHash<'a> {
         ensures reading { reading text.now ≡ with_refusal result and_then reading }
         ensures params { params_reading text.now ≡ with_refusal result and_then params_reading }
     {
-        match read_format(text) {
-            Ok(format) => Ok(StoredHash { text, format }),
+        if is_mcf_text(text.as_bytes()) {
+            let Ok(hash) = mcf::PasswordHashRef::new(text) else {
+                return Err(Error::EncodingInvalid);
+            };
+            let parts = parts_of_mcf(&hash);
+            let params = match &parts {
+                Ok(parts) => Ok((parts.params, parts.key_len)),
+                Err(error) => Err(*error),
+            };
+            return Ok(StoredHash {
+                text,
+                params,
+                parts,
+            });
+        }
+        match phc::PasswordHash::new(text) {
+            Ok(hash) => {
+                let params = read_params(&hash);
+                let parts = parts_of_phc(&hash, &params);
+                let params = match params {
+                    Ok(params) => Ok((params, key_len(&hash))),
+                    Err(error) => Err(error),
+                };
+                Ok(StoredHash {
+                    text,
+                    params,
+                    parts,
+                })
+            }
             Err(error) => Err(error),
         }
     }
 
     /// Returns the text that was read.
-    #[tactic(auto, unfolding(crate::specs::StoredHash::is_stored_text))]
     pub fn as_str(&self) -> &'a str
         ensures value { result.now ≡ self.now }
         ensures stored { IsTrue (is_stored_text self.now) }
@@ -131,7 +153,7 @@ impl<'a> StoredHash<'a> {
             → AreCounted (cost s.params.log_n s.params.r s.params.p) cores.old cores.new) }
     {
         match self.parts() {
-            Ok(parts) => verify_allocating(alloc, password, &parts, cores),
+            Ok(parts) => verify_allocating(alloc, password, parts, cores),
             Err(refused) => Err(refused),
         }
     }
@@ -196,48 +218,29 @@ impl<'a> StoredHash<'a> {
             (workspace_of chunks.old table.old scratch.old cores.old) (workspace_of chunks.new table.new scratch.new cores.new) }
     {
         match self.parts() {
-            Ok(parts) => verify_in_buffers(password, &parts, chunks, table, scratch, cores),
+            Ok(parts) => verify_in_buffers(password, parts, chunks, table, scratch, cores),
             Err(unread) => Err(unread),
         }
     }
 
     /// Returns what [`StoredHash::params`] and [`StoredHash::key_len`] return, read once.
-    #[tactic(auto, unfolding(crate::specs::StoredHash::params_reading))]
     pub fn params_and_key_len(&self) -> Result<(Params, usize)>
         ensures value { with_refusal result ≡ params_reading self.now }
     {
-        match &self.format {
-            Format::Mcf(hash) => match parts_of_mcf(hash) {
-                Ok(parts) => Ok((parts.params, parts.key_len)),
-                Err(error) => Err(error),
-            },
-            Format::Phc(hash, params) => match params {
-                Ok(params) => Ok((*params, key_len(hash))),
-                Err(error) => Err(*error),
-            },
+        match &self.params {
+            Ok(read) => Ok(*read),
+            Err(error) => Err(*error),
         }
     }
-}
 
-// Reads a text in its format.
-#[tactic(auto, unfolding(crate::specs::StoredHash::formatted))]
-fn read_format(text: &str) -> Result<Format<'_>>
-    ensures ok { IfOk result (IsHashOf text.now) }
-    ensures none { IfErr result (λ e. formatted text.now ≡ None) }
-    ensures err { IfErr result (λ e. e ≡ EncodingInvalid) }
-{
-    if is_mcf_text(text.as_bytes()) {
-        return match mcf::PasswordHashRef::new(text) {
-            Ok(hash) => Ok(Format::Mcf(hash)),
-            Err(_) => Err(Error::EncodingInvalid),
-        };
-    }
-    match phc::PasswordHash::new(text) {
-        Ok(hash) => {
-            let params = read_params(&hash);
-            Ok(Format::Phc(hash, params))
+    /// Returns the parts of the hash, or the error of reading it.
+    pub(crate) fn parts(&self) -> Result<&StoredParts<'a>>
+        ensures { mapped (λ parts. stored parts.now) (with_refusal result) ≡ reading self.now }
+    {
+        match &self.parts {
+            Ok(parts) => Ok(parts),
+            Err(error) => Err(*error),
         }
-        Err(error) => Err(error),
     }
 }
 

@@ -39,7 +39,7 @@ fn is_key_of<M: Memory>(password: &[u8], parts: &StoredParts<'_>, used: &mut InU
     ensures exact { result ≡ is_right password.now (stored parts.now) }
     ensures spent { IsSpent M.room parts.now.params used.old used.new }
 {
-    derive_chunks(password, parts.salt, &parts.params, used.chunks);
+    derive_chunks(password, parts.salt.as_bytes(), &parts.params, used.chunks);
     let count = parts.params.p() as usize;
     mix_all::<M>(&parts.params, 0, count, used);
     let same = is_derived_key(password, used.chunks, parts);

@@ -8,7 +8,7 @@ ghost use Rattle.scrypt.specs.StoredParts.{stored};
 
 use crate::mcf::params::decode_params_and_salt;
 use crate::output_len_ok;
-use crate::stored_hash::parts::{Key, StoredParts};
+use crate::stored_hash::parts::{Key, Salt, StoredParts};
 use password_hash::mcf::{Fields, PasswordHashRef};
 use password_hash::{Error, Result};
 
@@ -55,7 +55,7 @@ fn parts_of_fields<'a>(mut fields: Fields<'a>) -> Result<StoredParts<'a>>
     }
     Ok(StoredParts {
         params,
-        salt,
+        salt: Salt::Mcf(salt),
         key: Key::Mcf(key),
         key_len,
     })

@@ -7,7 +7,7 @@ ghost use Rattle.scrypt.specs.StoredParts.{stored};
 
 use crate::Params;
 use crate::phc::ALG_ID;
-use crate::stored_hash::parts::{Key, StoredParts};
+use crate::stored_hash::parts::{Key, Salt, StoredParts};
 use password_hash::phc::{Ident, PasswordHash};
 use password_hash::{Error, Result};
 
@@ -16,7 +16,7 @@ use password_hash::{Error, Result};
 /// Returns the error of reading the parameters, or `PasswordInvalid` if the salt or the key is
 /// missing.
 pub(crate) fn parts_of_phc<'a>(
-    hash: &'a PasswordHash,
+    hash: &PasswordHash,
     params: &Result<Params>,
 ) -> Result<StoredParts<'a>>
     requires { with_refusal params.now ≡ phc_params hash.now }
@@ -34,8 +34,8 @@ pub(crate) fn parts_of_phc<'a>(
     };
     Ok(StoredParts {
         params,
-        salt: salt.as_bytes(),
-        key: Key::Phc(key),
+        salt: Salt::Phc(*salt),
+        key: Key::Phc(*key),
         key_len: key.len(),
     })
 }

@@ -3,21 +3,36 @@
 ghost use Rattle.std.specs.Prelude.{◌≡◌, ◌↔◌, length, take, drop, IsTrue, Some};
 ghost use Rattle.password_hash.specs.Crypt64.{IsPiece};
 ghost use Rattle.scrypt.specs.Accepted.{IsOutputLen};
-ghost use Rattle.scrypt.specs.StoredKey.{decoded_key, key_bytes};
+ghost use Rattle.scrypt.specs.StoredKey.{decoded_key, key_bytes, salt_bytes};
 
-use super::{Format, StoredHash};
 use crate::Params;
-use crate::mcf::reading::parts_of_mcf;
-use crate::phc::reading::parts_of_phc;
-use password_hash::Result;
 use password_hash::mcf::Field;
-use password_hash::phc::Output;
+use password_hash::phc;
 
-/// The key of a hash of either format.
+/// The salt of a hash of either format. That of a `$7$` text is part of the text, and is not decoded.
+#[derive(Clone, Copy)]
+pub(crate) enum Salt<'a> {
+    Mcf(&'a [u8]),
+    Phc(phc::Salt),
+}
+
+impl<'a> Salt<'a> {
+    /// Returns its bytes.
+    pub(crate) fn as_bytes(&self) -> &[u8]
+        ensures { result.now ≡ salt_bytes self.now }
+    {
+        match self {
+            Salt::Mcf(letters) => letters,
+            Salt::Phc(salt) => salt.as_bytes(),
+        }
+    }
+}
+
+/// The key of a hash of either format. That of a `$7$` text is a field of the text, and is not decoded.
 #[derive(Clone, Copy)]
 pub(crate) enum Key<'a> {
     Mcf(Field<'a>),
-    Phc(&'a Output),
+    Phc(phc::Output),
 }
 
 impl<'a> Key<'a> {
@@ -36,32 +51,15 @@ impl<'a> Key<'a> {
     }
 }
 
-/// The parameters, the salt and the key of a hash, borrowed from it.
+/// The parameters, the salt and the key of a hash. They borrow from its text alone.
 #[derive(Clone, Copy)]
 pub(crate) struct StoredParts<'a> {
     pub(crate) params: Params,
-    pub(crate) salt: &'a [u8],
+    pub(crate) salt: Salt<'a>,
     pub(crate) key: Key<'a>,
     /// The length of the key in bytes.
     pub(crate) key_len: usize,
     ghost encoding: { decoded_key key ≡ Some (key_bytes key) },
     ghost len: { length (key_bytes key) ≡ key_len },
     ghost allowed: { IsOutputLen key_len },
-}
-
-impl<'a> StoredHash<'a> {
-    ghost use Rattle.scrypt.specs.Reading.{mapped, with_refusal};
-    ghost use Rattle.scrypt.specs.StoredHash.{reading};
-    ghost use Rattle.scrypt.specs.StoredParts.{stored};
-
-    /// Returns the parts of the hash, or the error of reading it.
-    #[tactic(auto, unfolding(crate::specs::StoredHash::reading))]
-    pub(crate) fn parts(&self) -> Result<StoredParts<'_>>
-        ensures { mapped stored (with_refusal result) ≡ reading self.now }
-    {
-        match &self.format {
-            Format::Mcf(hash) => parts_of_mcf(hash),
-            Format::Phc(hash, params) => parts_of_phc(hash, params),
-        }
-    }
 }

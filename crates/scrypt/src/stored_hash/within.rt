@@ -58,9 +58,7 @@ impl<'a> StoredHash<'a> {
             (workspace_of chunks.old table.old scratch.old cores.old) (workspace_of chunks.new table.new scratch.new cores.new) }
     {
         match self.parts_within(limits) {
-            Ok(parts) => limited(verify_in_buffers(
-                password, &parts, chunks, table, scratch, cores,
-            )),
+            Ok(parts) => limited(verify_in_buffers(password, parts, chunks, table, scratch, cores)),
             Err(error) => Err(error),
         }
     }
@@ -83,8 +81,8 @@ impl<'a> StoredHash<'a> {
     }
 
     /// Returns the parts of a hash that is within the limits, or the first error.
-    pub(crate) fn parts_within(&self, limits: &Limits) -> Result<StoredParts<'_>, LimitedError>
-        ensures { mapped stored (with_limited_refusal result) ≡ within limits.now (reading self.now) }
+    pub(crate) fn parts_within(&self, limits: &Limits) -> Result<&StoredParts<'a>, LimitedError>
+        ensures { mapped (λ parts. stored parts.now) (with_limited_refusal result) ≡ within limits.now (reading self.now) }
     {
         let parts = match self.parts() {
             Ok(parts) => parts,
