@@ -225,11 +225,11 @@ typedef struct scrypt_login {
 #define SCRYPT_MOST_LOGINS 4
 
 /* Verifies up to SCRYPT_MOST_LOGINS passwords, each against its own hash, and writes to each status what
- * scrypt_verify_with_buffers returns for that one alone in these buffers, whatever the others are. Keys with the same log_n
- * and r are derived at once, which takes 0.56 of the time for each of two and 0.41 for each of four, if all their hashes can
- * be read, chunks is as long as their chunks together, and table and scratch are as many times as long as those of one by
- * scrypt_buffer_lens with s = 0. The first two are a pair, and so are the last two; if the pairs can't be derived at once, each
- * one may. Afterwards the used parts of chunks and scratch are zeros.
+ * scrypt_verify_with_buffers returns for that one alone in these buffers, whatever the others are. All keys are derived at
+ * once if log_n and r of all hashes that are not refused are those of the first, and each buffer is long enough for one
+ * derivation with as many chunks as all have: as many at a time as table and scratch are times as long as those of one by
+ * scrypt_buffer_lens with s = 0, at most four. Two at a time take 0.56 of the time for each, and four 0.41. If not, the
+ * first is verified alone, and then the others, likewise. Afterwards the used parts of chunks and scratch are zeros.
  * SCRYPT_BUFFER_SIZE for a greater count; then no status is written. */
 SCRYPT_CHECKED
 int scrypt_verify_group_with_buffers(const scrypt_login *logins, size_t count, int *statuses, uint8_t *chunks,

@@ -1,7 +1,8 @@
-// Derivations with several chunks at a time.
+// Derivations with several chunks at a time, and several logins at once.
 
 use crate::holds;
-use scrypt::{CoreCount, Params, scrypt_in_groups};
+use scrypt::{CoreCount, LimitedError, Login, Params, StoredHash, scrypt_in_groups, verify_logins};
+use std::alloc::{AllocError, Global};
 use std::test::Fail;
 
 // p, the key of 16 bytes by (4, 2, p) of the password `pw` and the salt `NaCl`, by Python's hashlib, and how many chunks are
@@ -36,6 +37,78 @@ fn keys_in_groups(rt: HostRuntime) -> Result<(), Fail> {
             &mut cores,
         )?;
         holds(u128::from_be_bytes(key) == wanted, reason)?;
+    }
+    Ok(())
+}
+
+// The hash of `pw` by (4, 1, 1), by Python's hashlib.
+const HASH: &str =
+    "$scrypt$ln=4,r=1,p=1$TmFDbE5hQ2xOYUNsTmFDbA$byFamdVzF4dSYG0oEkkoOuYyJ2d96S6WZWa49NYGK8w";
+
+// A call on the stack for each of so many logins would overflow it.
+const MANY: usize = 100_000;
+
+// The texts of the first and of the other logins, and whether the first and the last are verified. A text that cannot be
+// read takes no time.
+const LOGINS: [(&str, &str, bool, bool, &str); 3] = [
+    ("", "", false, false, "each is refused alone"),
+    (
+        HASH,
+        "",
+        true,
+        false,
+        "all at once, of which one is derived",
+    ),
+    (
+        "",
+        HASH,
+        false,
+        true,
+        "the first alone, and the others at once",
+    ),
+];
+
+// Logins with the same password.
+fn logins_of(
+    alloc: Global,
+    first: &'static str,
+    others: &'static str,
+) -> Result<Vec<Login<'static, 'static>>, AllocError> {
+    let mut logins = Vec::with_capacity(alloc, MANY)?;
+    for i in 0..MANY {
+        logins.push(Login {
+            password: b"pw",
+            hash: StoredHash::read(if i == 0 { first } else { others }),
+            limits: None,
+        })?;
+    }
+    Ok(logins)
+}
+
+fn is_verified(verdict: Option<&Result<(), LimitedError>>) -> bool {
+    matches!(verdict, Some(Ok(())))
+}
+
+#[test]
+fn many_logins(rt: HostRuntime) -> Result<(), Fail> {
+    let mut chunks = vec![in rt.alloc(); 0u8; 128 * MANY]?;
+    let (mut table, mut scratch) = ([0u32; 2048], [0u32; 256]);
+    for &(first, others, is_first, is_last, reason) in &LOGINS {
+        let logins = logins_of(rt.alloc(), first, others)?;
+        let mut verdicts = vec![in rt.alloc(); Ok(()); logins.len()]?;
+        verify_logins(
+            &logins,
+            &mut verdicts,
+            &mut chunks,
+            &mut table,
+            &mut scratch,
+            &mut CoreCount::new(),
+        );
+        let wanted = (is_first, is_last);
+        holds(
+            (is_verified(verdicts.first()), is_verified(verdicts.last())) == wanted,
+            reason,
+        )?;
     }
     Ok(())
 }

@@ -1,7 +1,12 @@
-use Rattle.std.proofs.Common.{◌≡◌, ◌∙◌, ◌<◌, ◌≤◌, ◌+◌, ◌*◌, ◌^◌, ◌++◌, length, true, false, refl, sym, ap, ap₂, arith, length-append}
-use Rattle.std.specs.Prelude.{Option, None, Some, Result, Ok, Err, ⊤}
-use Rattle.password_hash.specs.Refusal.{Refusal}
+use Rattle.std.proofs.Common.{◌≡◌, ◌∙◌, ◌<◌, ◌≤◌, ◌+◌, ◌*◌, ◌^◌, ◌++◌, ℕ, List, length, take, drop, get_or, zero, suc, true, false, refl, sym, ap, ap₂, add-one, arith, append-nil, length-append}
+use Rattle.std.specs.Prelude.{Option, None, Some, Ok, Err, [], ◌∷◌, map, MatchBool, MatchOption, option_and_then, slice_set}
 use Rattle.std.proofs.Math.Nat.{mul-le-mul_right}
+use Rattle.std.proofs.Math.ListN.{get_or-map}
+use Rattle.std.proofs.Math.Seq.{drop-append_seam, take-append_seam, take-suc-set}
+use Rattle.std.proofs.lemmas.Grind.{flat_map-append}
+use Rattle.std.proofs.lemmas.List.{drop_more, length-map, map-append, take-append-drop, take_all, take_more}
+use Rattle.std.proofs.lemmas.Slice.{take-put_mid}
+use borrow.Rule.Slice.PartMut.{mid_of, put_mid, same_len_mid}
 use Rattle.std.proofs.lemmas.Option.{cond_some}
 use Rattle.std.proofs.lemmas.Bool.Decides.{Decides-and, Decides-eqb, Decides-ltb}
 use Rattle.scrypt_kernel.proofs.Pbkdf2Facts.{length-pbkdf2}
@@ -9,99 +14,170 @@ use Rattle.scrypt.specs.Accepted.{Parameters}
 use Rattle.scrypt.specs.Cost.{chunks_bytes}
 use Rattle.scrypt.specs.InBuffers.{AreEnough}
 use Rattle.scrypt.specs.Key.{mixed_chunks}
-use Rattle.scrypt.specs.Logins.{AreLeft, AreVerdicts, Both, Group, One, Readings, all_chunks, all_mixed, joined, shared}
-use Rattle.scrypt.specs.Reading.{verdict}
-use Rattle.scrypt.specs.Workspace.{IsDone, Workspace, has_room, verdict_in}
+use Rattle.scrypt.specs.Logins.{Attempt, AreLeft, IsAlone, all_of, attempt_of, attempts, count_of, own, shared, verdict_on, with_more}
+use Rattle.scrypt.specs.Reading.{Stored, chunks_of, mixed_of, verdict}
+use Rattle.scrypt.specs.Workspace.{IsDone, IsLeft, Workspace, has_room}
+use Rattle.scrypt.specs.declared.logins.Login.{Login}
 use Rattle.scrypt.proofs.KeyFacts.{both_mixed, length-mixed_chunks}
 use Rattle.scrypt.proofs.ReadingFacts.{room_decided, room_enough, room_too_short, same_verdict}
 
--- the parameters of two groups
+-- n chunks, which are those of d and others
+pub record AreMore (c d : Parameters) (others : Option ℕ) (n : ℕ) : Type 0 where
+  pub count : ℕ
+  pub counted : others ≡ Some count
+  pub log_n : d.log_n ≡ c.log_n
+  pub r : d.r ≡ c.r
+  pub sum : d.p + count ≡ n
 
-pub record AreJoined (s t : Option Parameters) (e : Parameters) : Type 0 where
-  pub c : Parameters
-  pub d : Parameters
-  pub first : s ≡ Some c
-  pub second : t ≡ Some d
-  pub log_n : (c.log_n ≡ e.log_n) × (d.log_n ≡ e.log_n)
-  pub r : (c.r ≡ e.r) × (d.r ≡ e.r)
-  pub p : c.p + d.p ≡ e.p
+are_more : (c d : Parameters) (others : Option ℕ) (n : ℕ) → option_and_then (with_more c d) others ≡ Some n → AreMore c d others n
+unfolding with_more
+are_more c d (Some count) n is =
+    let alike = Decides-and _ _ (Decides-and _ _ (Decides-eqb d.log_n c.log_n) (Decides-eqb d.r c.r)) (Decides-ltb (d.p + count) (2 ^ 32)) in
+    let (test, same) = cond_some _ (d.p + count) n is in
+    record { count = count; counted = refl; log_n = (alike.0 test).0.0; r = (alike.0 test).0.1; sum = same }
+are_more c d None n is = absurd cc
 
-pub are_joined : (s t : Option Parameters) (e : Parameters) → joined s t ≡ Some e → AreJoined s t e
-unfolding joined
-are_joined (Some c) (Some d) e is =
-    let alike = Decides-and _ _ (Decides-and _ _ (Decides-eqb c.log_n d.log_n) (Decides-eqb c.r d.r)) (Decides-ltb (c.p + d.p) (2 ^ 32)) in
-    let (test, same) = cond_some _ (record c { p = c.p + d.p }) e is in
-    let equal = (alike.0 test).0 in
-    rw (← same) (record { c = c; d = d; first = refl; second = refl; log_n = (refl, sym equal.0); r = (refl, sym equal.1); p = refl })
-are_joined (Some c) None e is = absurd cc
-are_joined None t e is = absurd cc
-
--- the chunks of all are one list
-
-pub long_all : (g : Readings) (e : Parameters) → shared g ≡ Some e → length (all_chunks g) ≡ chunks_bytes e.r e.p
-long_all (One (password, Ok s)) e is =
-    let same : s.params ≡ e = cc in
-    length-pbkdf2 password s.salt _ ∙ ap (λ (c : Parameters). chunks_bytes c.r c.p) same
-long_all (One (password, Err why)) e is = absurd cc
-long_all (Both first second) e is =
-    let both = are_joined (shared first) (shared second) e is in
-    let front = rw both.r.0 at (long_all first both.c both.first) in
-    let back = rw both.r.1 at (long_all second both.d both.second) in
-    length-append (all_chunks first) (all_chunks second) ∙ rw (← both.p) (omega (arith, front, back))
-
-pub mixed_is : (g : Readings) (e : Parameters) → shared g ≡ Some e → 0 < e.r → mixed_chunks (all_chunks g) e.log_n e.r e.p ≡ all_mixed g
-mixed_is (One (password, Ok s)) e is some =
-    let same : s.params ≡ e = cc in
-    rw (← same) refl
-mixed_is (One (password, Err why)) e is some = absurd cc
-mixed_is (Both first second) e is some =
-    let both = are_joined (shared first) (shared second) e is in
-    let front = rw (both.log_n.0, both.r.0) at (mixed_is first both.c both.first (rw both.r.0 some)) in
-    let back = rw (both.log_n.1, both.r.1) at (mixed_is second both.d both.second (rw both.r.1 some)) in
-    let long = rw both.r.0 at (long_all first both.c both.first) in
-    ap (mixed_chunks (all_chunks first ++ all_chunks second) e.log_n e.r) (sym both.p)
-    ∙ both_mixed (all_chunks first) (all_chunks second) e.log_n e.r both.c.p both.d.p some long ∙ ap₂ (λ x y. x ++ y) front back
-
--- room for all is room for each
-fewer_fit : (c e : Parameters) (w : Workspace) → c.log_n ≡ e.log_n → c.r ≡ e.r → c.p ≤ e.p → has_room e w ≡ true → has_room c w ≡ true
-fewer_fit c e w log_n r fewer room =
-    let fits = (room_decided e w).0 room in
-    let bytes = mul-le-mul_right (128 * e.r) fewer in
-    room_enough c w (rw (log_n, r) (record {
-      chunks_fit = omega (arith, fits.0, bytes);
-      table_fits = fits.1.0;
-      scratch_fits = fits.1.1;
-    }))
-
-pub alone : (g : Readings) (out : Group (Result ⊤ Refusal)) (e : Parameters) (w : Workspace) → shared g ≡ Some e → has_room e w ≡ true
-    → AreVerdicts verdict g out → AreVerdicts (verdict_in w) g out
-alone (One (password, Ok s)) (One out) e w is room verdicts =
-    let same : s.params ≡ e = cc in
-    verdicts ∙ rw (same, room) refl
-alone (One (password, Err why)) (One out) e w is room verdicts = absurd cc
-alone (Both first second) (Both out outs) e w is room verdicts =
-    let both = are_joined (shared first) (shared second) e is in (
-      alone first out both.c w both.first (fewer_fit both.c e w both.log_n.0 both.r.0 (omega (arith, both.p)) room) verdicts.0,
-      alone second outs both.d w both.second (fewer_fit both.d e w both.log_n.1 both.r.1 (omega (arith, both.p)) room) verdicts.1,
-    )
-alone (One login) (Both out outs) e w is room verdicts = verdicts
-alone (Both first second) (One out) e w is room verdicts = verdicts
-
-pub alike : (g : Readings) (out : Group (Result ⊤ Refusal)) (w v : Workspace) → length w.chunks ≡ length v.chunks
-    → length w.table ≡ length v.table → length w.scratch ≡ length v.scratch
-    → AreVerdicts (verdict_in w) g out → AreVerdicts (verdict_in v) g out
-alike (One login) (One out) w v chunks table scratch verdicts = verdicts ∙ same_verdict w v chunks table scratch login.0 login.1
-alike (Both first second) (Both out outs) w v chunks table scratch verdicts =
-    (alike first out w v chunks table scratch verdicts.0, alike second outs w v chunks table scratch verdicts.1)
-alike (One login) (Both out outs) w v chunks table scratch verdicts = verdicts
-alike (Both first second) (One out) w v chunks table scratch verdicts = verdicts
+-- those that cannot be counted together
+pub none_of_more : (c : Parameters) (i : ℕ) (these : List Attempt) → count_of c (drop i these) ≡ None → count_of c these ≡ None
+none_of_more c zero these none = none
+none_of_more c (suc i) [] none = absurd cc
+none_of_more c (suc i) ((password, Ok s) ∷ rest) none = rw (none_of_more c i rest none) refl
+none_of_more c (suc i) ((password, Err why) ∷ rest) none = none_of_more c i rest none
 
 pub no_room_for : (s : Option Parameters) (c e : Parameters) (w : Workspace) → s ≡ Some c → s ≡ Some e → ¬ AreEnough c w.chunks w.table w.scratch
     → has_room e w ≡ false
 no_room_for s c e w one other short = let same : e ≡ c = cc in rw same (room_too_short c w short)
 
-pub left_at_once : (s : Option Parameters) (e : Parameters) (First Second : Workspace → Workspace → Type 0) (before after : Workspace) → s ≡ Some e
-    → has_room e before ≡ true → IsDone e before after → AreLeft s First Second before after
-left_at_once s e First Second before after is room done = rw (is, room) done
+pub left_at_once : (these : List Attempt) (c : Parameters) (before after : Workspace) → shared these ≡ Some c → has_room c before ≡ true
+    → IsDone c before after → AreLeft these before after
+left_at_once [] c before after is room done = absurd cc
+left_at_once (a ∷ rest) c before after is room done = rw (is, room) done
+
+-- the chunks of all are one list
+
+long_one : (c : Parameters) (password : List ℕ) (s : Stored) → s.params.r ≡ c.r → length (chunks_of password s) ≡ chunks_bytes c.r s.params.p
+long_one c password s r = length-pbkdf2 password s.salt _ ∙ ap (λ r. chunks_bytes r s.params.p) r
+
+pub long_all : (c : Parameters) (these : List Attempt) (n : ℕ) → count_of c these ≡ Some n → length (all_of chunks_of these) ≡ chunks_bytes c.r n
+long_all c [] n counted = let none : 0 ≡ n = cc in rw (← none) (omega arith)
+long_all c ((password, Ok s) ∷ rest) n counted =
+    let more = are_more c s.params (count_of c rest) n counted in
+    length-append (chunks_of password s) (all_of chunks_of rest)
+    ∙ rw (← more.sum) (omega (arith, long_one c password s more.r, long_all c rest more.count more.counted))
+long_all c ((password, Err why) ∷ rest) n counted = long_all c rest n counted
+
+pub mixed_is : (c : Parameters) (these : List Attempt) (n : ℕ) → count_of c these ≡ Some n → 0 < c.r
+    → mixed_chunks (all_of chunks_of these) c.log_n c.r n ≡ all_of mixed_of these
+mixed_is c [] n counted some = let none : 0 ≡ n = cc in rw (← none) refl
+mixed_is c ((password, Ok s) ∷ rest) n counted some =
+    let more = are_more c s.params (count_of c rest) n counted in
+    let own = ap₂ (λ log_n r. mixed_chunks (chunks_of password s) log_n r s.params.p) (sym more.log_n) (sym more.r) in
+    ap (mixed_chunks (chunks_of password s ++ all_of chunks_of rest) c.log_n c.r) (sym more.sum)
+    ∙ both_mixed (chunks_of password s) (all_of chunks_of rest) c.log_n c.r s.params.p more.count some (long_one c password s more.r)
+    ∙ ap₂ (λ x y. x ++ y) own (mixed_is c rest more.count more.counted some)
+mixed_is c ((password, Err why) ∷ rest) n counted some = mixed_is c rest n counted some
+
+-- room for all is room for each
+fewer_fit : (c d : Parameters) (n : ℕ) (w : Workspace) → d.log_n ≡ c.log_n → d.r ≡ c.r → d.p ≤ n → has_room (record c { p = n }) w ≡ true
+    → has_room d w ≡ true
+fewer_fit c d n w log_n r fewer room =
+    let fits = (room_decided (record c { p = n }) w).0 room in
+    let bytes = mul-le-mul_right (128 * c.r) fewer in
+    room_enough d w (rw (log_n, r) (record {
+      chunks_fit = omega (arith, fits.0, bytes);
+      table_fits = fits.1.0;
+      scratch_fits = fits.1.1;
+    }))
+
+-- where there is room for all, each verdict is that of its password alone
+pub alone : (c : Parameters) (these : List Attempt) (n : ℕ) (w : Workspace) → count_of c these ≡ Some n → has_room (record c { p = n }) w ≡ true
+    → map (λ (a : Attempt). verdict a.0 a.1) these ≡ map (verdict_on w) these
+alone c [] n w counted room = refl
+alone c ((password, Ok s) ∷ rest) n w counted room =
+    let more = are_more c s.params (count_of c rest) n counted in
+    let own = fewer_fit c s.params n w more.log_n more.r (omega (arith, more.sum)) room in
+    let others = fewer_fit c (record c { p = more.count }) n w refl refl (omega (arith, more.sum)) room in
+    ap₂ (λ out outs. out ∷ outs) (rw own refl) (alone c rest more.count w more.counted others)
+alone c ((password, Err why) ∷ rest) n w counted room = ap (λ outs. Err why ∷ outs) (alone c rest n w counted room)
+
+pub same_verdicts : (w v : Workspace) → length w.chunks ≡ length v.chunks → length w.table ≡ length v.table → length w.scratch ≡ length v.scratch
+    → (these : List Attempt) → map (verdict_on w) these ≡ map (verdict_on v) these
+same_verdicts w v chunks table scratch [] = refl
+same_verdicts w v chunks table scratch (a ∷ rest) =
+    ap₂ (λ out outs. out ∷ outs) (same_verdict w v chunks table scratch a.0 a.1) (same_verdicts w v chunks table scratch rest)
+
+-- one after another
+
+-- those from the i-th on
+pub from : (logins : List Login) (i : ℕ) (login : Login) → i < length logins → login ≡ get_or logins i login
+    → drop i (attempts logins) ≡ attempt_of login ∷ drop (i + 1) (attempts logins)
+from logins i login below is =
+    drop_more (attempts logins) i (attempt_of login) (rw (length-map logins attempt_of) below)
+    ∙ ap (λ a. a ∷ drop (i + 1) (attempts logins)) (get_or-map attempt_of logins i login ∙ ap attempt_of (sym is))
+
+-- one more of a list that is written, which says the same as another
+pub one_more : {X Y Z : Type 0} (f : X → Z) (g : Y → Z) (xs : List X) (ys : List Y) (i : ℕ) (x : X) (y : Y) → i < length xs → i < length ys
+    → get_or ys i y ≡ y → f x ≡ g y → map f (take i xs) ≡ map g (take i ys) → map f (take (i + 1) (slice_set xs i x)) ≡ map g (take (i + 1) ys)
+one_more f g xs ys i x y short below is same before =
+    let next : i + 1 ≡ suc i = add-one i in
+    ap (λ n. map f (take n (slice_set xs i x))) next ∙ ap (map f) (take-suc-set xs i x short) ∙ map-append f (take i xs) (x ∷ [])
+    ∙ ap₂ (λ zs z. zs ++ z ∷ []) before same
+    ∙ sym (ap (map g) (take_more ys i y below ∙ ap (λ z. take i ys ++ z ∷ []) is) ∙ map-append g (take i ys) (y ∷ []))
+
+-- those that are written first, and then all others
+pub all_put : {X : Type 0} (xs ys : List X) (i k : ℕ) → i ≤ length xs → length ys ≡ length (mid_of i k xs) → i + length ys ≡ length xs
+    → put_mid i k xs ys ≡ take i xs ++ ys
+all_put xs ys i k inside sized long =
+    let whole = same_len_mid i k xs ys sized in
+    sym (take_all (i + length ys) (put_mid i k xs ys) (omega (arith, whole, long))) ∙ take-put_mid i k xs ys (i + length ys) refl inside
+
+-- what all have of f: the first i, the next and the others
+own_then : (f : List ℕ → Stored → List ℕ) (logins : List Login) (i : ℕ) (login : Login) → i < length logins → login ≡ get_or logins i login
+    → all_of f (attempts logins)
+    ≡ all_of f (take i (attempts logins)) ++ (own f (attempt_of login) ++ all_of f (drop (i + 1) (attempts logins)))
+own_then f logins i login below is =
+    ap (all_of f) (sym (take-append-drop i (attempts logins)))
+    ∙ flat_map-append (own f) (take i (attempts logins)) (drop i (attempts logins))
+    ∙ ap (λ xs. all_of f (take i (attempts logins)) ++ all_of f xs) (from logins i login below is)
+
+pub own_more : (f : List ℕ → Stored → List ℕ) (logins : List Login) (i : ℕ) (login : Login) → i < length logins → login ≡ get_or logins i login
+    → all_of f (take (i + 1) (attempts logins)) ≡ all_of f (take i (attempts logins)) ++ own f (attempt_of login)
+own_more f logins i login below is =
+    let these = attempts logins in
+    let a = attempt_of login in
+    let here = get_or-map attempt_of logins i login ∙ ap attempt_of (sym is) in
+    ap (all_of f) (take_more these i a (rw (length-map logins attempt_of) below) ∙ ap (λ x. take i these ++ x ∷ []) here)
+    ∙ flat_map-append (own f) (take i these) (a ∷ []) ∙ ap (λ x. all_of f (take i these) ++ x) (append-nil (own f a))
+
+pub own_fits : (f : List ℕ → Stored → List ℕ) (logins : List Login) (i : ℕ) (login : Login) → i < length logins → login ≡ get_or logins i login
+    → length (all_of f (take i (attempts logins))) + length (own f (attempt_of login)) ≤ length (all_of f (attempts logins))
+own_fits f logins i login below is =
+    let whole = ap length (own_then f logins i login below is) ∙ length-append (all_of f (take i (attempts logins))) _ in
+    let rest = length-append (own f (attempt_of login)) (all_of f (drop (i + 1) (attempts logins))) in
+    omega (arith, whole, rest)
+
+pub own_at : (f : List ℕ → Stored → List ℕ) (logins : List Login) (i : ℕ) (login : Login) → i < length logins → login ≡ get_or logins i login
+    → take (length (own f (attempt_of login))) (drop (length (all_of f (take i (attempts logins)))) (all_of f (attempts logins)))
+    ≡ own f (attempt_of login)
+own_at f logins i login below is =
+    let own = own f (attempt_of login) in
+    let before = all_of f (take i (attempts logins)) in
+    ap (λ xs. take (length own) (drop (length before) xs)) (own_then f logins i login below is)
+    ∙ ap (take (length own)) (drop-append_seam before _) ∙ take-append_seam own _
+
+-- the first alone, and then the others
+pub left_alone : (a : Attempt) (rest : List Attempt) (before between after : Workspace) → IsAlone (a ∷ rest) before → IsLeft a.1 before between
+    → AreLeft rest between after → AreLeft (a ∷ rest) before after
+left_alone a rest before between after alone one others = chosen (shared (a ∷ rest)) alone
+  where
+    Alone : Type 0
+    Alone = (between : Workspace) × IsLeft a.1 before between × AreLeft rest between after
+
+    chosen : (s : Option Parameters) → ((c : Parameters) → s ≡ Some c → has_room c before ≡ false)
+        → MatchOption s Alone (λ c. MatchBool (has_room c before) (IsDone c before after) Alone)
+    chosen None none = (between, one, others)
+    chosen (Some c) none = rw (none c refl) (between, one, others)
+
+pub ruleset chunks_at_once = (long_all, mixed_is)
 
 pub ruleset lens_of_chunks = (length-pbkdf2, length-mixed_chunks)

@@ -1,13 +1,18 @@
 -- Verifying several passwords in one memory.
-use Rattle.std.specs.Prelude.{◌≡◌, ℕ, ◌+◌, ◌^◌, ◌&&◌, nat_eq, nat_lt, if◌then◌else◌, List, [], ◌++◌, Option, None, Some, MatchBool, Result, Ok, Err, ⊤}
+use Rattle.std.specs.Prelude.{◌≡◌, ℕ, ◌+◌, ◌^◌, ◌&&◌, nat_eq, nat_lt, if◌then◌else◌, List, [], ◌∷◌, map, Option, None, Some, option_and_then, option_map, MatchBool, MatchOption, Result, Ok, Err, false, ⊤}
+use Rattle.std.specs.List.{flat_map}
 use Rattle.password_hash.specs.Refusal.{Refusal}
 use Rattle.scrypt.specs.Accepted.{Parameters}
-use Rattle.scrypt.specs.Reading.{◌and_then◌, Stored, chunks_of, mixed_of, with_refusal}
+use Rattle.scrypt.specs.Reading.{◌and_then◌, Stored, with_refusal}
 use Rattle.scrypt.specs.StoredHash.{reading}
 use Rattle.scrypt.specs.WithinLimits.{within}
-use Rattle.scrypt.specs.Workspace.{Workspace, IsDone, IsLeft, has_room}
+use Rattle.scrypt.specs.Workspace.{Workspace, IsDone, IsLeft, has_room, verdict_in}
 use Rattle.scrypt.specs.declared.limits.Limits.{Limits}
 use Rattle.scrypt.specs.declared.logins.Login.{Login}
+
+-- a password, and the reading of the hash that it is verified with
+abbrev pub Attempt : Type 0
+Attempt = List ℕ × Result Stored Refusal
 
 -- the reading of a hash, within limits if there are any
 abbrev pub within_any : Option Limits → Result Stored Refusal → Result Stored Refusal
@@ -18,60 +23,56 @@ within_any (Some limits) reading = within limits reading
 abbrev pub reading_of : Login → Result Stored Refusal
 reading_of login = within_any login.limits (with_refusal login.hash and_then reading)
 
--- one of a kind, or two groups of them
-pub data Group (A : Type 0) : Type 0 where
-  One : A → Group A
-  Both : Group A → Group A → Group A
+-- the password of a login, and the reading of its hash
+abbrev pub attempt_of : Login → Attempt
+attempt_of login = (login.password.now, reading_of login)
 
--- passwords, each with the reading of its hash
-abbrev pub Readings : Type 0
-Readings = Group (List ℕ × Result Stored Refusal)
+-- those of each
+abbrev pub attempts : List Login → List Attempt
+attempts = map attempt_of
 
--- each of these verdicts is that by f
-abbrev pub AreVerdicts : (List ℕ → Result Stored Refusal → Result ⊤ Refusal) → Readings → Group (Result ⊤ Refusal) → Type 0
-AreVerdicts f (One login) (One out) = out ≡ f login.0 login.1
-AreVerdicts f (Both first second) (Both out outs) = AreVerdicts f first out × AreVerdicts f second outs
-AreVerdicts f (One login) (Both out outs) = ⊥
-AreVerdicts f (Both first second) (One out) = ⊥
+-- the verdict of verifying it alone in this memory
+abbrev pub verdict_on : Workspace → Attempt → Result ⊤ Refusal
+verdict_on w a = verdict_in w a.0 a.1
 
 -- the parameters of a derivation whose key is compared with that of the hash
 abbrev pub params_of : Result Stored Refusal → Option Parameters
 params_of (Ok s) = Some s.params
 params_of (Err why) = None
 
--- The parameters of two groups of derivations at once: those of both, if they have the same N and the same r and fewer than
--- 2 ^ 32 chunks together, which are one list.
-unfoldable pub joined : Option Parameters → Option Parameters → Option Parameters
-joined (Some c) (Some d) =
-    if (nat_eq c.log_n d.log_n && nat_eq c.r d.r) && nat_lt (c.p + d.p) (2 ^ 32) then Some (record c { p = c.p + d.p }) else None
-joined (Some c) None = None
-joined None other = None
+-- n chunks and those of d, if d has the N and the r of c and they are fewer than 2 ^ 32 together
+unfoldable pub with_more : Parameters → Parameters → ℕ → Option ℕ
+with_more c d n = if (nat_eq d.log_n c.log_n && nat_eq d.r c.r) && nat_lt (d.p + n) (2 ^ 32) then Some (d.p + n) else None
 
--- the parameters of all at once
-abbrev pub shared : Readings → Option Parameters
-shared (One login) = params_of login.1
-shared (Both first second) = joined (shared first) (shared second)
+-- the number of the chunks of all, if each hash that is not refused has the N and the r of c
+abbrev pub count_of : Parameters → List Attempt → Option ℕ
+count_of c [] = Some 0
+count_of c ((password, Ok s) ∷ rest) = option_and_then (with_more c s.params) (count_of c rest)
+count_of c ((password, Err why) ∷ rest) = count_of c rest
 
--- the chunks of all, one after another (step 1); a hash that cannot be read has none
-abbrev pub all_chunks : Readings → List ℕ
-all_chunks (One (password, Ok s)) = chunks_of password s
-all_chunks (One (password, Err why)) = []
-all_chunks (Both first second) = all_chunks first ++ all_chunks second
+-- the parameters of one derivation with the chunks of all: those of the first
+abbrev pub shared : List Attempt → Option Parameters
+shared [] = None
+shared (a ∷ rest) = option_and_then (λ c. option_map (λ n. record c { p = n }) (count_of c (a ∷ rest))) (params_of a.1)
 
--- those chunks after scryptROMix (step 2)
-abbrev pub all_mixed : Readings → List ℕ
-all_mixed (One (password, Ok s)) = mixed_of password s
-all_mixed (One (password, Err why)) = []
-all_mixed (Both first second) = all_mixed first ++ all_mixed second
+-- f of a password and its hash, or nothing if the hash is refused: the chunks of its derivation (step 1), or these after
+-- scryptROMix (step 2)
+abbrev pub own : (List ℕ → Stored → List ℕ) → Attempt → List ℕ
+own f (password, Ok s) = f password s
+own f (password, Err why) = []
 
--- What verifying two groups leaves, if that is what verifying each leaves: if all are derived at once, and there is room, what
--- one derivation with these parameters leaves, and otherwise what the groups leave, one after the other.
-abbrev pub AreLeft : Option Parameters → (Workspace → Workspace → Type 0) → (Workspace → Workspace → Type 0) → Workspace → Workspace → Type 0
-AreLeft (Some c) First Second before after =
-    MatchBool (has_room c before) (IsDone c before after) ((between : Workspace) × First before between × Second between after)
-AreLeft None First Second before after = (between : Workspace) × First before between × Second between after
+-- those of all, one after another
+abbrev pub all_of : (List ℕ → Stored → List ℕ) → List Attempt → List ℕ
+all_of f = flat_map (own f)
 
--- what verifying all leaves
-abbrev pub are_left : Readings → Workspace → Workspace → Type 0
-are_left (One login) = IsLeft login.1
-are_left (Both first second) = AreLeft (joined (shared first) (shared second)) (are_left first) (are_left second)
+-- the keys of these are not all derived at once in this memory
+abbrev pub IsAlone : List Attempt → Workspace → Type 0
+IsAlone these w = (c : Parameters) → shared these ≡ Some c → has_room c w ≡ false
+
+-- What verifying these leaves: what one derivation with the chunks of all leaves, if there is room for it, and otherwise what
+-- the first leaves alone, and then the others.
+abbrev pub AreLeft : List Attempt → Workspace → Workspace → Type 0
+AreLeft [] before after = after ≡ before
+AreLeft (a ∷ rest) before after =
+    let Alone : Type 0 = (between : Workspace) × IsLeft a.1 before between × AreLeft rest between after in
+    MatchOption (shared (a ∷ rest)) Alone (λ c. MatchBool (has_room c before) (IsDone c before after) Alone)

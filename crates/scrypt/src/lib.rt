@@ -40,7 +40,7 @@ pub use derivation::{
 };
 pub use errors::{DeriveError, InvalidOutputLen, InvalidParams, LimitedError};
 pub use limits::Limits;
-pub use logins::{Keys, Login, Logins};
+pub use logins::{Login, verify_logins};
 pub use params::Params;
 pub use password_hash;
 pub use password_hash::kdf;

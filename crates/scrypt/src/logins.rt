@@ -1,16 +1,15 @@
 // Verifying several passwords in one memory, at once if possible.
 
-ghost use Rattle.std.specs.Prelude.{◌≡◌, ℕ, List, ◌+◌, ◌*◌, ◌^◌, ◌<◌, length, false, IfSome, None, Result, Some, ⊤};
-ghost use Rattle.std.specs.Option.{option_map};
-ghost use Rattle.password_hash.specs.Refusal.{Refusal};
+ghost use Rattle.std.specs.Prelude.{◌≡◌, ℕ, ◌∷◌, List, ◌+◌, ◌*◌, ◌<◌, length, map, IfSome, IsTrue, None, Some, true, false};
 ghost use Rattle.scrypt.specs.Accepted.{Parameters};
 ghost use Rattle.scrypt.specs.InBuffers.{AreEnough};
-ghost use Rattle.scrypt.specs.Logins.{AreVerdicts, Both, Group, One, all_chunks, all_mixed, are_left, joined, reading_of, shared};
-ghost use Rattle.scrypt.specs.Mixing.{IsWidth};
-ghost use Rattle.scrypt.specs.Reading.{Stored, mapped, verdict};
+ghost use Rattle.scrypt.specs.Logins.{AreLeft, Attempt, IsAlone, all_of, attempt_of, attempts, count_of, own, params_of, reading_of, shared, verdict_on};
+ghost use Rattle.scrypt.specs.Mixing.{IsReady, IsSpent, IsWidth};
+ghost use Rattle.scrypt.specs.Reading.{chunks_of, mapped, mixed_of, verdict};
 ghost use Rattle.scrypt.specs.StoredParts.{stored};
 ghost use Rattle.scrypt.specs.WithinLimits.{with_limited_refusal};
-ghost use Rattle.scrypt.specs.Workspace.{IsDone, has_room, verdict_in, workspace_of};
+ghost use Rattle.scrypt.specs.Workspace.{IsLeft, has_room, verdict_in, workspace_of};
+ghost use Rattle.scrypt_kernel.specs.Memory.{buffer_room};
 
 use crate::buffers::{InUse, width_in};
 use crate::comparing::is_derived_key;
@@ -25,84 +24,18 @@ use scrypt_kernel::memory::Buffer;
 
 /// A password and the stored hash that it is verified with.
 #[derive(Drop)]
-pub struct Login<'a> {
+pub struct Login<'p, 't> {
     /// The password.
-    pub password: &'a [u8],
+    pub password: &'p [u8],
     /// The hash, or the error of reading its text.
-    pub hash: password_hash::Result<StoredHash<'a>>,
+    pub hash: password_hash::Result<StoredHash<'t>>,
     /// Limits on the hash, if there are any.
     pub limits: Option<Limits>,
 }
 
-/// The types that implement [`Keys`]. No other crate can name this trait, so none can add a type.
-pub trait Sealed {}
-
-impl<'a> Sealed for Login<'a> {}
-
-impl<A: Sealed, B: Sealed> Sealed for (A, B) {}
-
-/// One login, or two groups of logins: what is computed if all keys are derived at once.
-pub trait Keys: Sealed {
-    /// One verdict, or those of two groups.
-    type Verdicts: Drop;
-
-    // the password of each login, and the reading of its hash
-    ghost logins: { Self → Group (List ℕ × Result Stored Refusal) };
-
-    // each verdict, with the value of its error
-    ghost with_refusals: { Self.Verdicts → Group (Result ⊤ Refusal) };
-
-    /// Returns the parameters with which all keys are derived at once, and the number of all chunks, or `None`
-    /// if a hash cannot be read or is not within its limits, or an `N` or an `r` differs.
-    fn shared(&self) -> Option<(Params, u32)>
-        ensures some { IfSome result (λ got. 0 < got.1) }
-        ensures value { option_map (λ got. record got.0 { p = got.1 }) result ≡ shared (Self.logins self.now) };
-
-    /// Returns how many bytes the chunks of all have.
-    fn chunks_len(&self) -> usize
-        requires small { length (all_chunks (Self.logins self.now)) < 2 ^ 64 }
-        ensures value { result ≡ length (all_chunks (Self.logins self.now)) }
-        ensures mixed { result ≡ length (all_mixed (Self.logins self.now)) };
-
-    /// Step 1: `chunks` becomes the chunks of all.
-    fn derive(&self, chunks: &mut [u8])
-        requires len { length chunks.old ≡ length (all_chunks (Self.logins self.now)) }
-        ensures value { chunks.new ≡ all_chunks (Self.logins self.now) };
-
-    /// Step 3: compares each key with the one that its mixed chunks give.
-    fn compare(&self, mixed: &[u8]) -> Self::Verdicts
-        requires len { length mixed.now ≡ length (all_chunks (Self.logins self.now)) }
-        requires mixed { mixed.now ≡ all_mixed (Self.logins self.now) }
-        ensures verdicts { AreVerdicts verdict (Self.logins self.now) (with_refusals result) };
-}
-
-/// One login, or two groups of logins, as four are in `((a, b), (c, d))`.
-pub trait Logins: Keys {
-    /// Verifies each password, as [`StoredHash::verify_with_buffers`] does it alone in these buffers, or
-    /// [`StoredHash::verify_within`] if it has limits, whatever the others are. Does not allocate.
-    ///
-    /// If all hashes of a group can be read, are within their limits and have the same `N` and the same
-    /// `r`, and each buffer is long enough for one derivation with as many chunks as all have, their
-    /// keys are derived at once: as many chunks are mixed at a time as have a table and a scratch
-    /// there, at most four. Otherwise the two groups that it has are verified one after the other.
-    /// Afterwards all that was used of `chunks` and `scratch` is zeros. `cores` counts the
-    /// `4 * N * r * p` cores of each hash whose keys are compared.
-    fn verify(
-        &self,
-        chunks: &mut [u8],
-        table: &mut [u32],
-        scratch: &mut [u32],
-        cores: &mut CoreCount,
-    ) -> Self::Verdicts
-        ensures verdicts { AreVerdicts (verdict_in (workspace_of chunks.old table.old scratch.old cores.old)) (Self.logins self.now)
-            (Self.with_refusals result) }
-        ensures left { are_left (Self.logins self.now)
-            (workspace_of chunks.old table.old scratch.old cores.old) (workspace_of chunks.new table.new scratch.new cores.new) };
-}
-
-impl<'a> Login<'a> {
+impl<'p, 't> Login<'p, 't> {
     // Returns the parts of the hash, if it can be read and is within its limits, or the first error.
-    fn parts(&self) -> std::result::Result<&StoredParts<'a>, LimitedError>
+    fn parts(&self) -> Result<&StoredParts<'t>, LimitedError>
         ensures { mapped (λ parts. stored parts.now) (with_limited_refusal result) ≡ reading_of self.now }
     {
         let hash = match &self.hash {
@@ -117,53 +50,78 @@ impl<'a> Login<'a> {
             Err(error) => Err(LimitedError::Hash(error)),
         }
     }
-}
 
-impl<'a> Keys for Login<'a> {
-    type Verdicts = std::result::Result<(), LimitedError>;
-
-    ghost logins = { λ login. One (login.password.now, reading_of login) };
-
-    ghost with_refusals = { λ out. One (with_limited_refusal out) };
-
-    fn shared(&self) -> Option<(Params, u32)> {
+    // Returns the parameters of its derivation, or `None` if the hash is refused.
+    fn params(&self) -> Option<Params>
+        ensures { result ≡ params_of (reading_of self.now) }
+    {
         match self.parts() {
-            Ok(parts) => Some((parts.params, parts.params.p())),
+            Ok(parts) => Some(parts.params),
             Err(_) => None,
         }
     }
 
+    // Returns the number of its chunks and of `count` others, if it has this `N` and this `r`, or `count` if it is refused.
+    #[tactic(auto, unfolding(crate::specs::Logins::with_more))]
+    fn count_with(&self, params: &Params, count: u32) -> Option<u32>
+        ensures { (others : List Attempt) → count_of params.now others ≡ Some count
+            → result ≡ count_of params.now (attempt_of self.now ∷ others) }
+    {
+        let Some(own) = self.params() else {
+            return Some(count);
+        };
+        if own.log_n() != params.log_n() || own.r() != params.r() {
+            return None;
+        }
+        own.p().checked_add(count)
+    }
+
+    // Returns how many bytes its chunks have.
     #[tactic(auto, using(crate::proofs::LoginFacts::lens_of_chunks))]
-    fn chunks_len(&self) -> usize {
-        match self.parts() {
-            Ok(parts) => BufferLens::of(&parts.params).chunks,
-            Err(_) => 0,
+    fn chunks_len(&self) -> usize
+        ensures value { result ≡ length (own chunks_of (attempt_of self.now)) }
+        ensures mixed { result ≡ length (own mixed_of (attempt_of self.now)) }
+    {
+        match self.params() {
+            Some(params) => BufferLens::of(&params).chunks,
+            None => 0,
         }
     }
 
+    // Step 1: `chunks` becomes its chunks.
     #[tactic(auto, using(crate::proofs::LoginFacts::lens_of_chunks))]
-    fn derive(&self, chunks: &mut [u8]) {
+    fn derive(&self, chunks: &mut [u8])
+        requires len { length chunks.old ≡ length (own chunks_of (attempt_of self.now)) }
+        ensures value { chunks.new ≡ own chunks_of (attempt_of self.now) }
+    {
         if let Ok(parts) = self.parts() {
             derive_chunks(self.password, parts.salt.as_bytes(), &parts.params, chunks);
         }
     }
 
-    fn compare(&self, mixed: &[u8]) -> std::result::Result<(), LimitedError> {
+    // Step 3: returns the verdict, given its mixed chunks.
+    fn compare(&self, mixed: &[u8]) -> Result<(), LimitedError>
+        requires mixed { mixed.now ≡ own mixed_of (attempt_of self.now) }
+        ensures { with_limited_refusal result ≡ verdict self.now.password.now (reading_of self.now) }
+    {
         match self.parts() {
             Ok(parts) => limited(verdict(is_derived_key(self.password, mixed, parts))),
             Err(error) => Err(error),
         }
     }
-}
 
-impl<'a> Logins for Login<'a> {
+    // Verifies the password alone.
     fn verify(
         &self,
         chunks: &mut [u8],
         table: &mut [u32],
         scratch: &mut [u32],
         cores: &mut CoreCount,
-    ) -> std::result::Result<(), LimitedError> {
+    ) -> Result<(), LimitedError>
+        ensures verdict { with_limited_refusal result ≡ verdict_on (workspace_of chunks.old table.old scratch.old cores.old) (attempt_of self.now) }
+        ensures left { IsLeft (reading_of self.now)
+            (workspace_of chunks.old table.old scratch.old cores.old) (workspace_of chunks.new table.new scratch.new cores.new) }
+    {
         match self.parts() {
             Ok(parts) => limited(verify_in_buffers(
                 self.password,
@@ -178,123 +136,159 @@ impl<'a> Logins for Login<'a> {
     }
 }
 
-impl<A: Keys, B: Keys> Keys for (A, B) {
-    type Verdicts = (A::Verdicts, B::Verdicts);
-
-    ghost logins = { λ both. Both (A.logins both.0) (B.logins both.1) };
-
-    ghost with_refusals = { λ out. Both (A.with_refusals out.0) (B.with_refusals out.1) };
-
-    fn shared(&self) -> Option<(Params, u32)> {
-        joined(self.0.shared(), self.1.shared())
-    }
-
-    fn chunks_len(&self) -> usize {
-        self.0.chunks_len() + self.1.chunks_len()
-    }
-
-    fn derive(&self, chunks: &mut [u8]) {
-        let (front, back) = chunks.split_at_mut(self.0.chunks_len());
-        self.0.derive(front);
-        self.1.derive(back);
-    }
-
-    fn compare(&self, mixed: &[u8]) -> (A::Verdicts, B::Verdicts) {
-        let (front, back) = mixed.split_at(self.0.chunks_len());
-        (self.0.compare(front), self.1.compare(back))
-    }
-}
-
-impl<A: Logins, B: Logins> Logins for (A, B) {
-    fn verify(
-        &self,
-        chunks: &mut [u8],
-        table: &mut [u32],
-        scratch: &mut [u32],
-        cores: &mut CoreCount,
-    ) -> (A::Verdicts, B::Verdicts) {
-        match room_for::<(A, B)>(self, chunks, table, scratch) {
-            Some((params, count, width)) => verify_at_once::<(A, B)>(
-                self, &params, count, width, chunks, table, scratch, cores,
-            ),
-            None => (
-                self.0.verify(chunks, table, scratch, cores),
-                self.1.verify(chunks, table, scratch, cores),
-            ),
-        }
-    }
-}
-
-// Returns the parameters of two groups at once and the number of their chunks, if they have any, the same `N` and
-// the same `r`.
-#[tactic(auto, unfolding(crate::specs::Logins::joined))]
-fn joined(first: Option<(Params, u32)>, second: Option<(Params, u32)>) -> Option<(Params, u32)>
-    requires first { IfSome first (λ got. 0 < got.1) }
-    ensures some { IfSome result (λ got. 0 < got.1) }
-    ensures value { option_map (λ got. record got.0 { p = got.1 }) result
-        ≡ joined (option_map (λ got. record got.0 { p = got.1 }) first) (option_map (λ got. record got.0 { p = got.1 }) second) }
-{
-    let (params, count) = first?;
-    let (other, others) = second?;
-    if params.log_n() != other.log_n() || params.r() != other.r() {
-        return None;
-    }
-    Some((params, count.checked_add(others)?))
-}
-
-// Returns the parameters of all, the number of all chunks, and how many are mixed at a time in these buffers,
-// if all keys are derived at once in them.
-fn room_for<L: Keys>(
-    logins: &L,
-    chunks: &[u8],
-    table: &[u32],
-    scratch: &[u32],
-) -> Option<(Params, u32, usize)>
-    ensures shared { IfSome result (λ got. shared (L.logins logins.now) ≡ Some (record got.0 { p = got.1 })) }
-    ensures width { IfSome result (λ got. IsWidth got.0.log_n got.0.r got.1 got.2 chunks.now table.now scratch.now) }
-    ensures room { IfSome result (λ got. AreEnough (record got.0 { p = got.1 }) chunks.now table.now scratch.now) }
-    ensures none { result ≡ None → (c : Parameters) (cores : CoreCount) → shared (L.logins logins.now) ≡ Some c
-        → has_room c (workspace_of chunks.now table.now scratch.now cores) ≡ false }
-{
-    let (params, count) = logins.shared()?;
-    let width = width_in(&params, count, chunks, table, scratch)?;
-    Some((params, count, width))
-}
-
-// Derives all keys at once and compares them, in the caller's buffers.
-fn verify_at_once<L: Keys>(
-    logins: &L,
-    params: &Params,
-    count: u32,
-    width: usize,
+/// Verifies each password, as [`StoredHash::verify_with_buffers`] does it alone in these buffers, or
+/// [`StoredHash::verify_within`] if it has limits, whatever the others are. `verdicts` is as long as `logins`,
+/// and gets the verdict of each at its place. Does not allocate.
+///
+/// If all hashes that are not refused have the `N` and the `r` of the first, and each buffer is long enough for one
+/// derivation with as many chunks as all have, their keys are derived at once: as many chunks are mixed at a time as
+/// have a table and a scratch there, at most four. Otherwise the first is verified alone, and then the others, likewise.
+/// Afterwards all that was used of `chunks` and `scratch` is zeros. `cores` counts the `4 * N * r * p` cores of each
+/// hash whose keys are compared.
+pub fn verify_logins(
+    logins: &[Login<'_, '_>],
+    verdicts: &mut [Result<(), LimitedError>],
     chunks: &mut [u8],
     table: &mut [u32],
     scratch: &mut [u32],
     cores: &mut CoreCount,
-) -> L::Verdicts
-    requires shared { shared (L.logins logins.now) ≡ Some (record params.now { p = count }) }
-    requires width { IsWidth params.now.log_n params.now.r count width chunks.old table.old scratch.old }
-    ensures verdicts { AreVerdicts verdict (L.logins logins.now) (L.with_refusals result) }
-    ensures done { IsDone (record params.now { p = count })
+)
+    requires len { length verdicts.old ≡ length logins.now }
+    ensures verdicts { map with_limited_refusal verdicts.new
+        ≡ map (verdict_on (workspace_of chunks.old table.old scratch.old cores.old)) (attempts logins.now) }
+    ensures left { AreLeft (attempts logins.now)
         (workspace_of chunks.old table.old scratch.old cores.old) (workspace_of chunks.new table.new scratch.new cores.new) }
 {
+    for i in 0..logins.len() {
+        let (_, rest) = logins.split_at(i);
+        if verified_at_once(rest, &mut verdicts[i..], chunks, table, scratch, cores) {
+            return;
+        }
+        verdicts[i] = logins[i].verify(chunks, table, scratch, cores);
+    }
+}
+
+// Verifies all at once and returns true, or returns false if there is no room for that, or no login.
+fn verified_at_once(
+    logins: &[Login<'_, '_>],
+    verdicts: &mut [Result<(), LimitedError>],
+    chunks: &mut [u8],
+    table: &mut [u32],
+    scratch: &mut [u32],
+    cores: &mut CoreCount,
+) -> bool
+    requires len { length verdicts.old ≡ length logins.now }
+    ensures verdicts { IsTrue result → map with_limited_refusal verdicts.new
+        ≡ map (verdict_on (workspace_of chunks.old table.old scratch.old cores.old)) (attempts logins.now) }
+    ensures left { IsTrue result → AreLeft (attempts logins.now)
+        (workspace_of chunks.old table.old scratch.old cores.old) (workspace_of chunks.new table.new scratch.new cores.new) }
+    ensures alone { result ≡ false → IsAlone (attempts logins.now) (workspace_of chunks.old table.old scratch.old cores.old) }
+    ensures kept { result ≡ false → verdicts.new ≡ verdicts.old }
+    ensures unchanged { result ≡ false → (chunks.new ≡ chunks.old) × (table.new ≡ table.old) × (scratch.new ≡ scratch.old)
+        × (cores.new ≡ cores.old) }
+{
+    let Some((params, count, width)) = room_for(logins, chunks, table, scratch) else {
+        return false;
+    };
     params.known();
-    let count = count as usize;
-    let lens = BufferLens::times(params, width);
-    let mut rows = Buffer::new(&mut table[..lens.table]);
-    let chunks = &mut chunks[..count * (128 * params.r() as usize)];
-    let scratch = &mut scratch[..lens.scratch];
-    logins.derive(chunks);
+    let lens = BufferLens::times(&params, width);
+    let (chunks, _) = chunks.split_at_mut(count as usize * (128 * params.r() as usize));
+    let (table, _) = table.split_at_mut(lens.table);
+    let (scratch, _) = scratch.split_at_mut(lens.scratch);
+    let mut rows = Buffer::new(table);
     let mut used = InUse {
         width,
-        chunks: &mut *chunks,
+        chunks,
         rows: &mut rows,
-        scratch: &mut *scratch,
+        scratch,
         cores,
     };
-    mix_all::<Buffer<'_>>(params, 0, count, &mut used);
-    let verdicts = logins.compare(chunks);
-    chunks.fill(0);
-    scratch.fill(0);
-    verdicts
+    verify_at_once(logins, verdicts, &params, count, &mut used);
+    true
+}
+
+// Returns the parameters of the first, the number of all chunks, and how many are mixed at a time in these buffers,
+// if all keys are derived at once in them.
+#[tactic(auto, unfolding(crate::specs::Logins::with_more))]
+fn room_for(
+    logins: &[Login<'_, '_>],
+    chunks: &[u8],
+    table: &[u32],
+    scratch: &[u32],
+) -> Option<(Params, u32, usize)>
+    ensures count { IfSome result (λ got. count_of got.0 (attempts logins.now) ≡ Some got.1) }
+    ensures shared { IfSome result (λ got. shared (attempts logins.now) ≡ Some (record got.0 { p = got.1 })) }
+    ensures width { IfSome result (λ got. IsWidth got.0.log_n got.0.r got.1 got.2 chunks.now table.now scratch.now) }
+    ensures room { IfSome result (λ got. AreEnough (record got.0 { p = got.1 }) chunks.now table.now scratch.now) }
+    ensures none { result ≡ None → (c : Parameters) (cores : CoreCount) → shared (attempts logins.now) ≡ Some c
+        → has_room c (workspace_of chunks.now table.now scratch.now cores) ≡ false }
+{
+    let (first, rest) = logins.split_first()?;
+    let params = first.params()?;
+    let count = params.p().checked_add(count_of(&params, rest)?)?;
+    let width = width_in(&params, count, chunks, table, scratch)?;
+    Some((params, count, width))
+}
+
+// Returns the number of the chunks of all, if each hash that is not refused has this `N` and this `r`.
+fn count_of(params: &Params, logins: &[Login<'_, '_>]) -> Option<u32>
+    ensures { result ≡ count_of params.now (attempts logins.now) }
+{
+    let mut count = 0;
+    for i in (0..logins.len()).rev() {
+        count = logins[i].count_with(params, count)?;
+    }
+    Some(count)
+}
+
+// Derives all keys at once and compares them. Afterwards the chunks and the scratch are zeros.
+#[tactic(auto, using(crate::proofs::LoginFacts::chunks_at_once))]
+fn verify_at_once(
+    logins: &[Login<'_, '_>],
+    verdicts: &mut [Result<(), LimitedError>],
+    params: &Params,
+    count: u32,
+    used: &mut InUse<'_, Buffer<'_>>,
+)
+    requires len { length verdicts.old ≡ length logins.now }
+    requires count { count_of params.now (attempts logins.now) ≡ Some count }
+    requires ready { IsReady buffer_room params.now.log_n 0 params.now.r count used.old }
+    ensures verdicts { map with_limited_refusal verdicts.new ≡ map (λ a. verdict a.0 a.1) (attempts logins.now) }
+    ensures spent { IsSpent buffer_room (record params.now { p = count }) used.old used.new }
+{
+    params.known();
+    derive(logins, used.chunks);
+    mix_all::<Buffer<'_>>(params, 0, count as usize, used);
+    compare(logins, used.chunks, verdicts);
+    used.chunks.fill(0);
+    used.scratch.fill(0);
+}
+
+// Step 1: `chunks` becomes the chunks of all.
+fn derive(logins: &[Login<'_, '_>], chunks: &mut [u8])
+    requires len { length chunks.old ≡ length (all_of chunks_of (attempts logins.now)) }
+    ensures value { chunks.new ≡ all_of chunks_of (attempts logins.now) }
+{
+    let mut at = 0;
+    for i in 0..logins.len() {
+        let login = &logins[i];
+        let end = at + login.chunks_len();
+        login.derive(&mut chunks[at..end]);
+        at = end;
+    }
+}
+
+// Step 3: compares each key with the one that its mixed chunks give.
+fn compare(logins: &[Login<'_, '_>], mixed: &[u8], verdicts: &mut [Result<(), LimitedError>])
+    requires len { length verdicts.old ≡ length logins.now }
+    requires mixed { mixed.now ≡ all_of mixed_of (attempts logins.now) }
+    ensures verdicts { map with_limited_refusal verdicts.new ≡ map (λ a. verdict a.0 a.1) (attempts logins.now) }
+{
+    let mut at = 0;
+    for i in 0..logins.len() {
+        let login = &logins[i];
+        let end = at + login.chunks_len();
+        verdicts[i] = login.compare(&mixed[at..end]);
+        at = end;
+    }
 }

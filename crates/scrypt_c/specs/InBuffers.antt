@@ -1,11 +1,7 @@
 -- The caller's buffers: what a call leaves in them.
-use Rattle.std.specs.Prelude.{◌≡◌, ℕ, ℤ, ◌*◌, List, drop, map, Option, Result, Ok, Err}
-use Rattle.password_hash.specs.Refusal.{Refusal}
+use Rattle.std.specs.Prelude.{◌≡◌, ℕ, ℤ, ◌*◌, List, drop, map}
 use Rattle.scrypt.specs.Accepted.{Parameters}
 use Rattle.scrypt.specs.Cost.{chunks_bytes, scratch_words, table_words}
-use Rattle.scrypt.specs.Reading.{Stored}
-use Rattle.scrypt.specs.Logins as logins
-use Rattle.scrypt.specs.Logins.{joined, params_of}
 use Rattle.scrypt.specs.Workspace.{IsLeft, Workspace, tables_used, verdict_in, workspace_of}
 use Rattle.scrypt_c.specs.Statuses.{buffers_status}
 use Rattle.scrypt_c.specs.Texts.{bytes_reading}
@@ -30,16 +26,3 @@ pub record IsRestKept (c : Parameters) (before after : Workspace) : Type 0 where
 -- the statuses of verifying each of these passwords with the hash that its bytes are read as
 abbrev pub statuses_in : Workspace → List (List ℕ × List ℕ) → List ℤ
 statuses_in before = map (λ (login : List ℕ × List ℕ). buffers_status (verdict_in before login.0 (bytes_reading login.1)))
-
--- the parameters of two derivations at once
-abbrev pub both_params : Result Stored Refusal → Result Stored Refusal → Option Parameters
-both_params a b = joined (params_of a) (params_of b)
-
--- what verifying two leaves
-abbrev pub BothAreLeft : Result Stored Refusal → Result Stored Refusal → Workspace → Workspace → Type 0
-BothAreLeft a b = logins.AreLeft (both_params a b) (IsLeft a) (IsLeft b)
-
--- what verifying four leaves: two pairs, or a pair and the third if the fourth is refused
-abbrev pub AreLeftBy : Result Stored Refusal → Result Stored Refusal → Result Stored Refusal → Result Stored Refusal → Workspace → Workspace → Type 0
-AreLeftBy a b c (Ok s) = logins.AreLeft (joined (both_params a b) (both_params c (Ok s))) (BothAreLeft a b) (BothAreLeft c (Ok s))
-AreLeftBy a b c (Err why) = logins.AreLeft (joined (both_params a b) (params_of c)) (BothAreLeft a b) (IsLeft c)

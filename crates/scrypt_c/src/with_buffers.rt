@@ -5,10 +5,10 @@ ghost use Rattle.password_hash.specs.Refusal.{refusal};
 ghost use Rattle.scrypt.specs.InBuffers.{AreEnough};
 ghost use Rattle.scrypt.specs.McfHash.{IsMadeHash as IsMadeMcf, made_text_len};
 ghost use Rattle.scrypt.specs.PhcHash.{IsMadeText, IsSaltLen};
-ghost use Rattle.scrypt.specs.Logins.{reading_of};
+ghost use Rattle.scrypt.specs.Logins.{AreLeft, reading_of};
 ghost use Rattle.scrypt.specs.WithinLimits.{with_limited_refusal};
-ghost use Rattle.scrypt.specs.Workspace.{IsDone, IsLeft, verdict_in};
-ghost use Rattle.scrypt_c.specs.InBuffers.{AreLeftBy, LeftIn, buffers, statuses_in};
+ghost use Rattle.scrypt.specs.Workspace.{IsDone, IsLeft, verdict_in, workspace_of};
+ghost use Rattle.scrypt_c.specs.InBuffers.{LeftIn, buffers, statuses_in};
 ghost use Rattle.scrypt_c.specs.Made.{AreHashParams, IsTooLong, IsTooShort, IsWrittenTo, wanted};
 ghost use Rattle.scrypt_c.specs.Statuses.{buffers_status, short_status};
 ghost use Rattle.scrypt_c.specs.Texts.{bytes_reading};
@@ -18,7 +18,7 @@ use crate::statuses::{
 };
 use crate::texts::{copy_to, stored_hash};
 use password_hash::Error;
-use scrypt::{CoreCount, Keys, LimitedError, Login, Logins, Params, mcf, phc, wipe};
+use scrypt::{CoreCount, LimitedError, Login, Params, mcf, phc, verify_logins, wipe};
 
 /// Does what `scrypt_hash_phc` does, in the caller's buffers, and allocates nothing.
 ///
@@ -146,29 +146,53 @@ pub extern "C" fn scrypt_verify_with_buffers(
         chunks.new table.new scratch.new }
 {
     let mut cores = CoreCount::new();
-    let verdict = login(password, text).verify(chunks, table, scratch, &mut cores);
+    let verdict = verify(password, text, chunks, table, scratch, &mut cores);
     status(verdict)
+}
+
+// Verifies a password with the hash that bytes are read as.
+fn verify(
+    password: &[u8],
+    text: &[u8],
+    chunks: &mut [u8],
+    table: &mut [u32],
+    scratch: &mut [u32],
+    cores: &mut CoreCount,
+) -> Result<(), LimitedError>
+    ensures verdict { with_limited_refusal result
+        ≡ verdict_in (workspace_of chunks.old table.old scratch.old cores.old) password.now (bytes_reading text.now) }
+    ensures left { IsLeft (bytes_reading text.now)
+        (workspace_of chunks.old table.old scratch.old cores.old) (workspace_of chunks.new table.new scratch.new cores.new) }
+{
+    let hash = match stored_hash(text) {
+        Ok(hash) => hash,
+        Err(error) => return Err(LimitedError::Hash(error)),
+    };
+    match hash.verify_with_buffers(password, chunks, table, scratch, cores) {
+        Ok(()) => Ok(()),
+        Err(error) => Err(LimitedError::Hash(error)),
+    }
 }
 
 /// Verifies four passwords, each with its own hash, in the caller's buffers. Does not allocate. If there are fewer, the
 /// last texts have no bytes: such a hash is refused, and takes no time.
 ///
 /// Writes to each status what `scrypt_verify_with_buffers` returns for that one alone in these buffers, whatever the
-/// others are. The first two are a pair, and so are the last two: if keys of both are compared, `log_n` and `r` of both
-/// hashes are the same, and each buffer is long enough for one derivation with as many chunks as both have, both keys are
-/// derived at once, and so are those of two such pairs, or of the first pair and the third if the fourth is refused. As
-/// many chunks are mixed at a time as have a table and a scratch, at most four. Afterwards what was used of the chunks and
-/// of the scratch is zeros, what was used of the table is unspecified, and nothing after them has changed.
+/// others are. If `log_n` and `r` of all hashes that are not refused are those of the first, and each buffer is long enough
+/// for one derivation with as many chunks as all have, their keys are derived at once: as many chunks are mixed at a time as
+/// have a table and a scratch, at most four. Otherwise the first is verified alone, and then the others, likewise.
+/// Afterwards what was used of the chunks and of the scratch is zeros, what was used of the table is unspecified, and
+/// nothing after them has changed.
 #[unsafe(no_mangle)]
-pub extern "C" fn scrypt_verify_group_with_buffers(
-    password: &[u8],
-    text: &[u8],
-    password_2: &[u8],
-    text_2: &[u8],
-    password_3: &[u8],
-    text_3: &[u8],
-    password_4: &[u8],
-    text_4: &[u8],
+pub extern "C" fn scrypt_verify_group_with_buffers<'a>(
+    password: &'a [u8],
+    text: &'a [u8],
+    password_2: &'a [u8],
+    text_2: &'a [u8],
+    password_3: &'a [u8],
+    text_3: &'a [u8],
+    password_4: &'a [u8],
+    text_4: &'a [u8],
     statuses: &mut [i32; 4],
     chunks: &mut [u8],
     table: &mut [u32],
@@ -176,28 +200,25 @@ pub extern "C" fn scrypt_verify_group_with_buffers(
 )
     ensures statuses { statuses.new ≡ statuses_in (buffers chunks.old table.old scratch.old)
         ((password.now, text.now) ∷ (password_2.now, text_2.now) ∷ (password_3.now, text_3.now) ∷ (password_4.now, text_4.now) ∷ []) }
-    ensures left { LeftIn (AreLeftBy (bytes_reading text.now) (bytes_reading text_2.now) (bytes_reading text_3.now)
-        (bytes_reading text_4.now) (buffers chunks.old table.old scratch.old)) chunks.new table.new scratch.new }
+    ensures left { LeftIn (AreLeft ((password.now, bytes_reading text.now) ∷ (password_2.now, bytes_reading text_2.now)
+        ∷ (password_3.now, bytes_reading text_3.now) ∷ (password_4.now, bytes_reading text_4.now) ∷ [])
+        (buffers chunks.old table.old scratch.old)) chunks.new table.new scratch.new }
 {
-    let first = (login(password, text), login(password_2, text_2));
-    let (three, four) = (login(password_3, text_3), login(password_4, text_4));
+    let logins = [
+        login(password, text),
+        login(password_2, text_2),
+        login(password_3, text_3),
+        login(password_4, text_4),
+    ];
+    let mut verdicts = [Ok(()); 4];
     let mut cores = CoreCount::new();
-    *statuses = match four.shared() {
-        Some(_) => {
-            let group = (first, (three, four));
-            let ((a, b), (c, d)) = group.verify(chunks, table, scratch, &mut cores);
-            [status(a), status(b), status(c), status(d)]
-        }
-        None => {
-            let ((a, b), c) = (first, three).verify(chunks, table, scratch, &mut cores);
-            let d = four.verify(chunks, table, scratch, &mut cores);
-            [status(a), status(b), status(c), status(d)]
-        }
-    };
+    verify_logins(&logins, &mut verdicts, chunks, table, scratch, &mut cores);
+    let [a, b, c, d] = verdicts;
+    *statuses = [status(a), status(b), status(c), status(d)];
 }
 
 // Reads the hash that a password is verified with.
-fn login<'a>(password: &'a [u8], text: &'a [u8]) -> Login<'a>
+fn login<'p, 't>(password: &'p [u8], text: &'t [u8]) -> Login<'p, 't>
     ensures password { result.password.now ≡ password.now }
     ensures reading { reading_of result ≡ bytes_reading text.now }
 {

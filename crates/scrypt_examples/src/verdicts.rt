@@ -8,7 +8,7 @@ ghost use Rattle.scrypt_examples.specs.Buffers.{AreEnoughFor};
 
 use crate::buffers::Buffers;
 use scrypt::laws::parameters_are_those_of_the_reading;
-use scrypt::{BufferLens, CoreCount, LimitedError, Limits, Login, Logins, StoredHash};
+use scrypt::{BufferLens, CoreCount, LimitedError, Limits, Login, StoredHash, verify_logins};
 use std::alloc::{AllocError, Global};
 
 /// Returns the verdict on a text, in buffers of the lengths that its hash needs.
@@ -42,12 +42,12 @@ pub fn verdict(
 /// Returns the verdicts on two texts within limits, in buffers that are long enough for each of them. If their `N`
 /// and their `r` are the same, both keys are derived at once.
 #[tactic(auto, using(crate::proofs::VerdictFacts::verdicts_in_lens))]
-pub fn two_verdicts_within(
+pub fn two_verdicts_within<'a>(
     alloc: Global,
-    text: &str,
-    password: &[u8],
-    other_text: &str,
-    other_password: &[u8],
+    text: &'a str,
+    password: &'a [u8],
+    other_text: &'a str,
+    other_password: &'a [u8],
     limits: Limits,
 ) -> Result<(Result<(), LimitedError>, Result<(), LimitedError>), AllocError>
     ensures verdict { IfOk result (λ both. with_limited_refusal both.0 ≡ verdict password.now (within limits (reading text.now))) }
@@ -63,7 +63,7 @@ pub fn two_verdicts_within(
     };
     let mut own = Buffers::allocate(alloc, &lens)?;
     let mut cores = CoreCount::new();
-    let logins = (
+    let logins = [
         Login {
             password,
             hash: one,
@@ -74,13 +74,18 @@ pub fn two_verdicts_within(
             hash: other,
             limits: Some(limits),
         },
-    );
-    Ok(logins.verify(
+    ];
+    let mut verdicts = [Ok(()); 2];
+    verify_logins(
+        &logins,
+        &mut verdicts,
         &mut own.chunks,
         &mut own.table,
         &mut own.scratch,
         &mut cores,
-    ))
+    );
+    let [first, second] = verdicts;
+    Ok((first, second))
 }
 
 // Returns the lengths of the buffers for verifying within limits, which are 0 if the hash is refused.

@@ -1,0 +1,12 @@
+use Rattle.std.proofs.Common.{◌≡◌, length, take}
+use Rattle.scrypt.specs.Logins.{all_of, attempts}
+use Rattle.scrypt.specs.Reading.{chunks_of}
+use Rattle.scrypt.proofs.logins.derive.Given as goal
+
+-- the chunks of the first i are written
+abbrev pub invariant-loop-i : goal.invariant-loop-i
+invariant-loop-i l = record {
+  at : l.at ≡ length (all_of chunks_of (take l.i (attempts l.logins)));
+  long : length l.chunks ≡ length (all_of chunks_of (attempts l.logins));
+  written : take l.at l.chunks ≡ all_of chunks_of (take l.i (attempts l.logins));
+}
