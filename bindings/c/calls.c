@@ -118,7 +118,7 @@ int scrypt_hash_needs(const char *text, size_t text_len, size_t most_bytes, uint
   status = cleared_scrypt_hash_needs(text, text_len, most_bytes, most_work, least_key_len, &log_n, &made.r, &made.p,
                                      &made.key_len, THESE(made));
   made.log_n = log_n;
-  if (status == SCRYPT_OK) *needs = made;
+  if (status == SCRYPT_OK || status == SCRYPT_TOO_COSTLY || status == SCRYPT_KEY_TOO_SHORT) *needs = made;
   return status;
 }
 

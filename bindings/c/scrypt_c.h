@@ -248,8 +248,8 @@ SCRYPT_CHECKED
 int scrypt_hash_params(const char *text, size_t text_len, uint8_t *log_n, uint32_t *r, uint32_t *p, size_t *key_len);
 
 /* What a derivation needs: its parameters, the length of the key of a hash, how many tables it can use within the bound on
- * bytes (1 to 4, and at most p), and the lengths of the buffers with one: of chunks in bytes, of table and scratch in words.
- * With w tables, table and scratch are w times as long. */
+ * bytes (1 to 4, and at most p; 1 also if even one is too much), and the lengths of the buffers with one: of chunks in
+ * bytes, of table and scratch in words. With w tables, table and scratch are w times as long. */
 typedef struct scrypt_needs {
   uint32_t log_n, r, p;
   size_t key_len, tables, chunks_len, table_len, scratch_len;
@@ -258,12 +258,14 @@ typedef struct scrypt_needs {
 /* Checks a hash against bounds, and writes what verifying it needs. Nothing is allocated. The errors of scrypt_verify for a
  * text that cannot be read (SCRYPT_MISMATCH without a salt or a key); then SCRYPT_TOO_COSTLY if the buffers together have
  * more than most_bytes bytes, or if the work, 4 * (2^log_n + 32) * r * p, is above most_work; then SCRYPT_KEY_TOO_SHORT if
- * the key has fewer than least_key_len bytes. On an error nothing is written. */
+ * the key has fewer than least_key_len bytes. These two write what verifying needs too; on any other error nothing is
+ * written. */
 SCRYPT_CHECKED
 int scrypt_hash_needs(const char *text, size_t text_len, size_t most_bytes, uint64_t most_work, size_t least_key_len,
                       scrypt_needs *needs);
 
-/* The same for a derivation with these parameters: SCRYPT_INVALID_PARAMS, then SCRYPT_TOO_COSTLY. */
+/* The same for a derivation with these parameters: SCRYPT_INVALID_PARAMS, then SCRYPT_TOO_COSTLY. On an error nothing is
+ * written. */
 SCRYPT_CHECKED
 int scrypt_params_need(uint8_t log_n, uint32_t r, uint32_t p, size_t most_bytes, uint64_t most_work, scrypt_needs *needs);
 

@@ -159,11 +159,19 @@ static void hash_params(const char *text) {
   uint32_t r = 99, p = 99;
   size_t key_len = 99, most_bytes, least_key_len;
   uint64_t most_work;
-  scrypt_needs needs = {9, 9, 9, 9, 9, 9, 9, 9};
+  const scrypt_needs nines = {9, 9, 9, 9, 9, 9, 9, 9};
+  scrypt_needs needs = nines;
   check(scrypt_hash_needs("$7$", 3, SIZE_MAX, UINT64_MAX, 0, &needs) == SCRYPT_ENCODING_INVALID && needs.table_len == 9,
         "an error leaves what is needed");
   check(scrypt_hash_needs(text, strlen(text), SIZE_MAX, UINT64_MAX, 0, &needs) == SCRYPT_OK, "needs");
   check(needs.log_n == 4 && needs.r == 8 && needs.p == 1 && needs.key_len == 32 && needs.tables == 1, "what it reads");
+  needs = nines;
+  check(scrypt_hash_needs(text, strlen(text), 0, UINT64_MAX, 0, &needs) == SCRYPT_TOO_COSTLY, "more than no bytes");
+  check(needs.log_n == 4 && needs.r == 8 && needs.p == 1 && needs.key_len == 32 && needs.tables == 1 &&
+            needs.chunks_len == 1024 && needs.table_len == 4096 && needs.scratch_len == 512, "what a costly hash needs");
+  needs.log_n = 9;
+  check(scrypt_hash_needs(text, strlen(text), SIZE_MAX, UINT64_MAX, 33, &needs) == SCRYPT_KEY_TOO_SHORT && needs.log_n == 4,
+        "what a hash with a short key needs");
   check(scrypt_params_need(4, 8, 7, SIZE_MAX, UINT64_MAX, &needs) == SCRYPT_OK && needs.tables == 4, "at most four tables");
   check(scrypt_params_need(4, 8, 7, 7168 + 3 * 4 * (4096 + 512), UINT64_MAX, &needs) == SCRYPT_OK && needs.tables == 3,
         "as many as there is room for");

@@ -1,6 +1,6 @@
 //! What a call needs, within limits, before it allocates.
 
-ghost use Rattle.std.specs.Prelude.{◌≡◌, ◌≢◌, ◌↔◌, ◌⊎◌, IfOk};
+ghost use Rattle.std.specs.Prelude.{◌≡◌, ◌≢◌, ◌↔◌, ◌⊎◌, IfOk, OnErr};
 ghost use Rattle.scrypt.specs.Accepted.{AreAccepted};
 ghost use Rattle.scrypt.specs.Limits.{limits_for_new, tables_within};
 ghost use Rattle.scrypt.specs.WithinLimits.{within};
@@ -11,17 +11,19 @@ ghost use Rattle.scrypt_c.specs.Texts.{bytes_reading};
 
 use crate::statuses::{INVALID_PARAMS, OK, TOO_COSTLY, limited_status_of, status_of};
 use crate::texts::stored_hash;
-use scrypt::{BufferLens, Limits, Params};
+use scrypt::laws::{parameters_are_those_of_the_reading, reading_names_no_password};
+use scrypt::{BufferLens, LimitedError, Limits, Params};
 
 /// Returns in `log_n`, `r`, `p` and `key_len` what the text of a hash encodes; in `chunks_len` (bytes), `table_len` and
 /// `scratch_len` (words) the lengths of the buffers that verifying with it needs; and in `tables`, which is 1 to 4 and at
 /// most `p`, how many tables and how many scratches of these lengths it can use if the buffers have at most `most_bytes`
 /// bytes together. Does not allocate.
 ///
-/// Returns `OK`, or the first of these, and then nothing is written: the errors of `scrypt_verify` for a hash that
-/// cannot be read, `MISMATCH` for one without a salt or a key among them; `TOO_COSTLY` if the buffers have more than
+/// Returns `OK`, or the first of these: the errors of `scrypt_verify` for a hash that cannot be read, `MISMATCH` for one
+/// without a salt or a key among them, and then nothing is written; `TOO_COSTLY` if the buffers have more than
 /// `most_bytes` bytes together, or if the work, `4 * (2^log_n + 32) * r * p`, is above `most_work`; and
-/// `KEY_TOO_SHORT` if the key has fewer than `least_key_len` bytes.
+/// `KEY_TOO_SHORT` if the key has fewer than `least_key_len` bytes. On these two the same is written as on `OK`, with
+/// `tables` 1 if even one table is too much.
 #[unsafe(no_mangle)]
 pub extern "C" fn scrypt_hash_needs(
     text: &[u8],
@@ -38,17 +40,17 @@ pub extern "C" fn scrypt_hash_needs(
     scratch_len: &mut usize,
 ) -> i32
     ensures status { result ≡ result_status (within (limits_of most_bytes most_work least_key_len) (bytes_reading text.now)) }
-    ensures read { IfOk (within (limits_of most_bytes most_work least_key_len) (bytes_reading text.now))
-        (λ s. AreRead s log_n.new r.new p.new key_len.new) }
-    ensures tables { IfOk (within (limits_of most_bytes most_work least_key_len) (bytes_reading text.now))
-        (λ s. tables.new ≡ tables_within most_bytes s.params) }
-    ensures lens { IfOk (within (limits_of most_bytes most_work least_key_len) (bytes_reading text.now))
+    ensures read { IfOk (bytes_reading text.now) (λ s. AreRead s log_n.new r.new p.new key_len.new) }
+    ensures tables { IfOk (bytes_reading text.now) (λ s. tables.new ≡ tables_within most_bytes s.params) }
+    ensures lens { IfOk (bytes_reading text.now)
         (λ s. AreBuffers s.params.log_n s.params.r s.params.p 0 chunks_len.new table_len.new scratch_len.new) }
-    ensures unread { result ≢ OK → (log_n.new ≡ log_n.old) × (r.new ≡ r.old) × (p.new ≡ p.old)
-        × (key_len.new ≡ key_len.old) × (tables.new ≡ tables.old) }
-    ensures refused { result ≢ OK
-        → (chunks_len.new ≡ chunks_len.old) × (table_len.new ≡ table_len.old) × (scratch_len.new ≡ scratch_len.old) }
+    ensures unread { OnErr (bytes_reading text.now) ((log_n.new ≡ log_n.old) × (r.new ≡ r.old) × (p.new ≡ p.old)
+        × (key_len.new ≡ key_len.old) × (tables.new ≡ tables.old)) }
+    ensures refused { OnErr (bytes_reading text.now)
+        ((chunks_len.new ≡ chunks_len.old) × (table_len.new ≡ table_len.old) × (scratch_len.new ≡ scratch_len.old)) }
 {
+    parameters_are_those_of_the_reading();
+    reading_names_no_password();
     let hash = match stored_hash(text) {
         Ok(hash) => hash,
         Err(error) => return status_of(error),
@@ -58,21 +60,27 @@ pub extern "C" fn scrypt_hash_needs(
         most_work,
         least_key_len,
     };
-    match hash.params_and_key_len_within(&limits) {
-        Ok((params, len)) => {
-            *log_n = params.log_n();
-            *r = params.r();
-            *p = params.p();
-            *key_len = len;
-            *tables = BufferLens::tables_within(&params, most_bytes);
-            let lens = BufferLens::of(&params);
-            *chunks_len = lens.chunks;
-            *table_len = lens.table;
-            *scratch_len = lens.scratch;
-            OK
-        }
+    let status = match hash.params_and_key_len_within(&limits) {
+        Ok(_) => OK,
+        Err(LimitedError::Hash(error)) => return status_of(error),
         Err(error) => limited_status_of(error),
-    }
+    };
+    let Ok((params, len)) = hash.params_and_key_len() else {
+        unreachable!();
+    };
+    *log_n = params.log_n();
+    *r = params.r();
+    *p = params.p();
+    *key_len = len;
+    write_needs(
+        &params,
+        most_bytes,
+        tables,
+        chunks_len,
+        table_len,
+        scratch_len,
+    );
+    status
 }
 
 /// Returns in `chunks_len` (bytes), `table_len` and `scratch_len` (words) the lengths of the buffers that a derivation
@@ -110,12 +118,34 @@ pub extern "C" fn scrypt_params_need(
     if !limits.allow(&params) {
         return TOO_COSTLY;
     }
-    *tables = BufferLens::tables_within(&params, most_bytes);
-    let lens = BufferLens::of(&params);
+    write_needs(
+        &params,
+        most_bytes,
+        tables,
+        chunks_len,
+        table_len,
+        scratch_len,
+    );
+    OK
+}
+
+// Writes what a derivation with these parameters needs.
+fn write_needs(
+    params: &Params,
+    most_bytes: usize,
+    tables: &mut usize,
+    chunks_len: &mut usize,
+    table_len: &mut usize,
+    scratch_len: &mut usize,
+)
+    ensures tables { tables.new ≡ tables_within most_bytes params.now }
+    ensures lens { AreBuffers params.now.log_n params.now.r params.now.p 0 chunks_len.new table_len.new scratch_len.new }
+{
+    *tables = BufferLens::tables_within(params, most_bytes);
+    let lens = BufferLens::of(params);
     *chunks_len = lens.chunks;
     *table_len = lens.table;
     *scratch_len = lens.scratch;
-    OK
 }
 
 /// Returns the default limits of a hasher that makes hashes with these parameters and keys of `key_len` bytes: the usual
