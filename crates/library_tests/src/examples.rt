@@ -53,7 +53,8 @@ fn stored_texts(rt: HostRuntime) -> Result<(), Fail> {
 
 #[test]
 fn verdicts_in_own_buffers(rt: HostRuntime) -> Result<(), Fail> {
-    holds(verdict(rt.alloc(), MCF, PASSWORD)?.is_ok(), "one")?;
+    let verdict = verdict(rt.alloc(), MCF, PASSWORD, &mut CoreCount::new())?;
+    holds(verdict.is_ok(), "one")?;
     let limits = Limits::USUAL;
     let (one, other) = two_verdicts_within(rt.alloc(), PHC, PASSWORD, MCF, PASSWORD, limits)?;
     holds(one.is_ok() && other.is_ok(), "two")

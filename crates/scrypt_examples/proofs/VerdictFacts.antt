@@ -1,13 +1,14 @@
 -- Verdicts in buffers that are long enough.
-use Rattle.std.proofs.Common.{◌≡◌, ◌≤◌, ℕ, List, Ok, Err, true, refl, arith, length}
+use Rattle.std.proofs.Common.{◌≡◌, ◌≤◌, ℕ, List, Ok, Err, true, refl, ap, arith, length}
 use Rattle.std.proofs.lemmas.Bool.Decides.{nat_tests}
 use Rattle.std.proofs.lemmas.List.{length-replicate}
-use Rattle.std.specs.Prelude.{Result}
+use Rattle.std.specs.Prelude.{IfOk, OnErr, Result}
 use Rattle.password_hash.specs.Refusal.{Refusal}
+use Rattle.scrypt_kernel.specs.Count.{AreCounted}
 use Rattle.scrypt.specs.Accepted.{Parameters}
-use Rattle.scrypt.specs.Cost.{chunks_bytes, scratch_words, table_words}
+use Rattle.scrypt.specs.Cost.{chunks_bytes, cost, scratch_words, table_words}
 use Rattle.scrypt.specs.Reading.{Stored, mapped, verdict}
-use Rattle.scrypt.specs.Workspace.{Workspace, has_room, verdict_in}
+use Rattle.scrypt.specs.Workspace.{IsLeft, Workspace, has_room, verdict_in}
 use Rattle.scrypt.specs.declared.derivation.BufferLens.{BufferLens}
 use Rattle.scrypt_examples.specs.Buffers.{AreEnoughFor}
 
@@ -23,6 +24,18 @@ pub verdict_in_lens : (password : List ℕ) (reading : Result Stored Refusal) (w
 verdict_in_lens password (Ok s) w lens enough chunks table scratch =
     rw (has_room_for s.params w (omega (arith, enough.0)) (omega (arith, enough.1)) (omega (arith, enough.2))) refl
 verdict_in_lens password (Err why) w lens enough chunks table scratch = refl
+
+-- and the cores are those of its parameters
+pub cores_in_lens : (reading : Result Stored Refusal) (w after : Workspace) (lens : BufferLens) → AreEnoughFor lens reading
+    → lens.chunks ≤ length w.chunks → lens.table ≤ length w.table → lens.scratch ≤ length w.scratch → IsLeft reading w after
+    → IfOk reading (λ s. AreCounted (cost s.params.log_n s.params.r s.params.p) w.cores after.cores)
+cores_in_lens (Ok s) w after lens enough chunks table scratch left =
+    (rw (has_room_for s.params w (omega (arith, enough.0)) (omega (arith, enough.1)) (omega (arith, enough.2))) at left).counted
+cores_in_lens (Err why) w after lens enough chunks table scratch left = tt
+
+pub unread_in : (reading : Result Stored Refusal) (w after : Workspace) → IsLeft reading w after → OnErr reading (after.cores ≡ w.cores)
+unread_in (Ok s) w after left = tt
+unread_in (Err why) w after left = ap (λ w. w.cores) left
 
 abbrev lens_of : Parameters × ℕ → BufferLens
 lens_of read = record {

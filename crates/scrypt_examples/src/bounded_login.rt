@@ -1,7 +1,8 @@
 //! Logins by untrusted texts: one that is too costly is refused before any work.
 
-ghost use Rattle.std.specs.Prelude.{◌≡◌, ◌+◌, ◌≤◌};
-ghost use Rattle.scrypt.specs.StoredHash.{reading};
+ghost use Rattle.std.specs.Prelude.{◌≡◌, ◌+◌, ◌≤◌, nat_le};
+ghost use Rattle.scrypt.specs.Reading.{mapped, with_refusal};
+ghost use Rattle.scrypt.specs.StoredHash.{params_reading, reading};
 ghost use Rattle.scrypt.specs.WithinLimits.{with_limited_refusal, within};
 ghost use Rattle.scrypt.specs.Workspace.{IsLeft, verdict_in, workspace_of};
 ghost use Rattle.scrypt_examples.specs.Login.{let_in};
@@ -37,6 +38,21 @@ pub fn log_in(
     match hash.verify_within(password, limits, chunks, table, scratch, cores) {
         Ok(()) => Ok(true),
         Err(LimitedError::Hash(Error::PasswordInvalid)) => Ok(false),
+        Err(error) => Err(error),
+    }
+}
+
+/// Returns whether the key of a stored text has at least so many bytes. A key of `n` bytes accepts one wrong password in
+/// `256^n`.
+pub fn has_long_key(stored: &str, least: usize) -> password_hash::Result<bool>
+    ensures value { with_refusal result ≡ mapped (λ read. nat_le least read.1) (params_reading stored.now) }
+{
+    let hash = match StoredHash::read(stored) {
+        Ok(hash) => hash,
+        Err(error) => return Err(error),
+    };
+    match hash.key_len() {
+        Ok(len) => Ok(least <= len),
         Err(error) => Err(error),
     }
 }

@@ -1,8 +1,8 @@
 //! Derived keys: by numbers, in buffers that are kept, and in less memory.
 
-ghost use Rattle.std.specs.Prelude.{◌≡◌, ◌↔◌, ◌*◌, ◌^◌, ◌≤◌, length, IfErr, IfOk, IsOk, OnErr, OnOk};
+ghost use Rattle.std.specs.Prelude.{◌≡◌, ◌↔◌, ◌-◌, ◌*◌, ◌^◌, ◌≤◌, length, IfErr, IfOk, IsOk, OnErr, OnOk};
 ghost use Rattle.scrypt.specs.Accepted.{AreAccepted, IsOutputLen};
-ghost use Rattle.scrypt.specs.Cost.{cost, thin_cost};
+ghost use Rattle.scrypt.specs.Cost.{chunks_bytes, cost, table_words, thin_cost, thin_scratch_words};
 ghost use Rattle.scrypt_kernel.specs.Count.{AreCounted};
 ghost use Rattle.scrypt.specs.Key.{derived_key};
 ghost use Rattle.scrypt.specs.KeyOfParams.{key_by};
@@ -103,6 +103,32 @@ impl Deriver {
         wipe(&mut own.chunks, &mut own.table, &mut own.scratch);
         Ok(())
     }
+}
+
+/// The key by a table that keeps one row in `2^s`, in buffers that the caller keeps. If the length of the output is not
+/// allowed, nothing changes.
+pub fn thin_key_or_nothing(
+    password: &[u8],
+    salt: &[u8],
+    params: &Params,
+    s: u8,
+    chunks: &mut [u8],
+    table: &mut [u32],
+    scratch: &mut [u32],
+    output: &mut [u8],
+    cores: &mut CoreCount,
+)
+    requires spacing { s ≤ params.now.log_n }
+    requires chunks { length chunks.old ≡ chunks_bytes params.now.r params.now.p }
+    requires table { length table.old ≡ table_words (params.now.log_n - s) params.now.r }
+    requires scratch { length scratch.old ≡ thin_scratch_words params.now.r }
+    ensures key { IsOutputLen (length output.old) → output.new ≡ key_by params.now password.now salt.now (length output.old) }
+    ensures nothing { (¬ IsOutputLen (length output.old)) → (output.new ≡ output.old) × (cores.new ≡ cores.old)
+        × (chunks.new ≡ chunks.old) × (table.new ≡ table.old) × (scratch.new ≡ scratch.old) }
+{
+    let _ = scrypt_thin(
+        password, salt, params, s, chunks, table, scratch, output, cores,
+    );
 }
 
 /// The same key by a table that keeps one row in `2^s`, and its cores.

@@ -12,4 +12,5 @@ pub mod hash;
 pub mod key_file;
 pub mod login;
 pub mod migration;
+pub mod one_chunk;
 pub mod verdicts;

@@ -1,6 +1,8 @@
 //! Verdicts in buffers of the lengths that the hashes need: always exactly those of the passwords.
 
-ghost use Rattle.std.specs.Prelude.{◌≡◌, IfOk};
+ghost use Rattle.std.specs.Prelude.{◌≡◌, IfOk, OnErr, OnOk};
+ghost use Rattle.scrypt_kernel.specs.Count.{AreCounted};
+ghost use Rattle.scrypt.specs.Cost.{cost};
 ghost use Rattle.scrypt.specs.Reading.{◌and_then◌, verdict, with_refusal};
 ghost use Rattle.scrypt.specs.StoredHash.{reading};
 ghost use Rattle.scrypt.specs.WithinLimits.{with_limited_refusal, within};
@@ -11,13 +13,18 @@ use scrypt::laws::parameters_are_those_of_the_reading;
 use scrypt::{BufferLens, CoreCount, LimitedError, Limits, Login, StoredHash, verify_logins};
 use std::alloc::{AllocError, Global};
 
-/// Returns the verdict on a text, in buffers of the lengths that its hash needs.
+/// Returns the verdict on a text, in buffers of the lengths that its hash needs. No core is run for a hash that cannot be
+/// read, and exactly those of its parameters for any other.
 pub fn verdict(
     alloc: Global,
     text: &str,
     password: &[u8],
+    cores: &mut CoreCount,
 ) -> Result<password_hash::Result<()>, AllocError>
     ensures verdict { IfOk result (λ out. with_refusal out ≡ verdict password.now (reading text.now)) }
+    ensures unread { OnErr (reading text.now) (cores.new ≡ cores.old) }
+    ensures counted { OnOk result (IfOk (reading text.now)
+        (λ s. AreCounted (cost s.params.log_n s.params.r s.params.p) cores.old cores.new)) }
 {
     parameters_are_those_of_the_reading();
     let hash = match StoredHash::read(text) {
@@ -29,13 +36,12 @@ pub fn verdict(
         Err(error) => return Ok(Err(error)),
     };
     let mut own = Buffers::allocate(alloc, &lens)?;
-    let mut cores = CoreCount::new();
     Ok(hash.verify_with_buffers(
         password,
         &mut own.chunks,
         &mut own.table,
         &mut own.scratch,
-        &mut cores,
+        cores,
     ))
 }
 
