@@ -14,7 +14,7 @@ import subprocess
 import sys
 import tempfile
 
-SOURCES = os.path.join(os.path.dirname(os.path.abspath(__file__)), "../crates/scrypt_commands/src")
+USAGE = os.path.join(os.path.dirname(os.path.abspath(__file__)), "../crates/scrypt_commands/src/usage.rt")
 
 FILE = "--hash-file="  # the option whose value is a file
 
@@ -61,17 +61,21 @@ complete -c scrypt_tool -n "test ($words) -eq 1; and string match -q -- '{file}*
 """
 
 
+def usage():
+    """What the program prints about itself."""
+    with open(USAGE, encoding="utf-8") as source:
+        return source.read()
+
+
 def commands():
     """Of each command its words: each is a name of a value, or the choices that it has."""
-    with open(os.path.join(SOURCES, "error.rt"), encoding="utf-8") as source:
-        line = re.search(r"usage: ([^\\\"]+)", source.read()).group(1)
+    line = re.search(r"usage: ([^\\\"]+)", usage()).group(1)
     return {name: words for name, *words in (it.split() for it in line.split(" | "))}
 
 
 def options():
     """The options of the help."""
-    with open(os.path.join(SOURCES, "options.rt"), encoding="utf-8") as source:
-        return re.findall(r"(?<=[ ])--[a-z-]+=?", source.read().split("HELP")[1].split('";')[0])
+    return re.findall(r"(?<=[ ])--[a-z-]+=?", usage().split("const HELP")[1].split('";')[0])
 
 
 def choices():

@@ -11,9 +11,10 @@ import hashlib
 import itertools
 import os
 import sys
-import tempfile
 
 from ci import prompt
+from ci.hash_files import hash_files
+from ci.lines import MISFIT, USAGE
 from ci.streams import cuts, memory, streams
 from compare import allocations
 from tools import crypt64, reference, runs
@@ -32,27 +33,12 @@ THIRD_KEY = (
     "7023bdcb3afd7348461c06cd81fd38ebfda8fbba904f8e3ea9b543f6545da1f2"
     "d5432955613f0fcf62d49705242a9af9e61e85dc0d651e40dfcf017b45575887"
 )
-USAGE = (
-    "usage: key LOG_N R P LEN SALT_HEX | hash phc|mcf LOG_N R P SALT_HEX [LEN] | verify HASH"
-    " | rehash phc|mcf LOG_N R P LEN SALT_HEX HASH"
-)
-# The line for options that do not fit a command.
-MISFIT = {
-    "key": "key takes no option except --strip-newline: see --help",
-    "hash": "hash takes no option except --draw-salt, --recommended and --strip-newline: see --help",
-    "verify": "verify does not take --draw-salt and --recommended: see --help",
-    "rehash": "rehash does not take --recommended: see --help",
-}
 # By default 257 MiB, four times the work of (17, 8, 1), and keys of 16 bytes.
 USUAL_BYTES, USUAL_WORK = 269484032, 16781312
 
 
 def too_costly(needed, work, most_bytes=USUAL_BYTES, most_work=USUAL_WORK):
     return f"hash refused: TooCostly, it needs {needed} bytes and work {work}, and --most-bytes is {most_bytes} and --most-work {most_work}"
-
-
-def no_option(word):
-    return f"{word}: not an option, or its value is not allowed: see --help"
 
 
 def key_too_short(key_len, least):
@@ -150,14 +136,14 @@ FAULTS = [
     *((f"rehash mcf 4 1 1 {it}  {EMPTY}", "", 2, "invalid scrypt parameters", "the same") for it in (0, 9, 65)),
     *((f"key 4 1 1 {it} ", "", 2, "invalid output buffer length", "a key has 1 to 137438953440 bytes")
       for it in (0, 137438953441, 137438953471, 18446744073709551615)),
-    (f"--most-work=01 verify {EMPTY}", "", 2, no_option("--most-work=01"), "a number with a leading zero in an option"),
-    (f"--most-work= verify {EMPTY}", "", 2, no_option("--most-work="), "no number"),
-    (f"--most-bytes=18446744073709551616 verify {EMPTY}", "", 2, no_option("--most-bytes=18446744073709551616"), "a number of 2^64"),
-    (f"--most-work 192 verify {EMPTY}", "", 2, no_option("--most-work"), "a number in an argument of its own"),
-    (f"--no-limits verify {EMPTY}", "", 2, no_option("--no-limits"), "an unknown option"),
-    ("--", "", 2, no_option("--"), "the same"),
-    (f"--usual-limits --most verify {EMPTY}", "", 2, no_option("--most"), "the same after another one"),
-    (f"-- verify {EMPTY}", "", 2, no_option("--"), "options have no end of their own"),
+    (f"--most-work=01 verify {EMPTY}", "", 2, USAGE, "a number with a leading zero in an option"),
+    (f"--most-work= verify {EMPTY}", "", 2, USAGE, "no number"),
+    (f"--most-bytes=18446744073709551616 verify {EMPTY}", "", 2, USAGE, "a number of 2^64"),
+    (f"--most-work 192 verify {EMPTY}", "", 2, USAGE, "a number in an argument of its own"),
+    (f"--no-limits verify {EMPTY}", "", 2, USAGE, "an unknown option"),
+    ("--", "", 2, USAGE, "the same"),
+    (f"--usual-limits --most verify {EMPTY}", "", 2, USAGE, "the same after another one"),
+    (f"-- verify {EMPTY}", "", 2, USAGE, "options have no end of their own"),
     ("key 4 1 1 64 0", "", 2, "salt is not hexadecimal", "half a byte of salt"),
     ("key 4 1 1 64 0g", "", 2, "salt is not hexadecimal", "no digit"),
     ("key 04 1 1 64 0", "", 2, USAGE, "numbers come before the salt"),
@@ -307,44 +293,6 @@ def salts(program):
             verified = run([program, "verify", EMPTY], env={"LD_PRELOAD": library})
         yield "no salt can be drawn", hashed, (3, "", "no salt can be drawn\n")
         yield "none is needed", verified, runs.OK
-
-
-# A `$7$` hash of 4096 bytes whose salt has all but its other letters.
-LONGEST = f"$7$2/..../....{'x' * 4079}$r/"
-
-# The bytes of a file if there is one, the words with {} for its name, the status, the line, and the reason for the row. The
-# password is empty.
-HASH_FILES = [
-    (EMPTY, "--hash-file={} verify", 0, "ok", "the text of a file"),
-    (f"{EMPTY}\n", "--hash-file={} verify", 0, "ok", "the newline at its end is not of the hash"),
-    (f"{EMPTY}\n\n", "--hash-file={} verify", 2, "hash refused: EncodingInvalid", "only one is cut off"),
-    (EMPTY, "--hash-file=/ --hash-file={} --usual-limits verify", 0, "ok", "the last of two files, and another option"),
-    (EMPTY, "--hash-file={} rehash mcf 4 1 1 64 ", 0, LONG, "a new hash"),
-    (EMPTY, f"--hash-file={{}} verify {EMPTY}", 2, USAGE, "HASH is left out"),
-    (EMPTY, "verify --hash-file={}", 2, "hash refused: EncodingInvalid", "an option after the command is HASH"),
-    (None, "--hash-file={} key 4 1 1 16 ", 2, MISFIT["key"], "no file is read for a command without HASH"),
-    (None, "--hash-file={} hash phc 4 1 1 00", 2, MISFIT["hash"], "the same"),
-    (None, "--hash-file={}", 2, USAGE, "nor without a command"),
-    (None, "--hash-file={} verify", 4, "{}: No such file or directory (os error 2)", "no file"),
-    ("", "--hash-file={} verify", 2, "hash refused: EncodingInvalid", "no text"),
-    (LONGEST, "--hash-file={} verify", 1, "no", "the longest text"),
-    (f"{LONGEST}\n", "--hash-file={} verify", 2, "{}: more than 4096 bytes", "a longer one"),
-    ("\udcff", "--hash-file={} verify", 2, "{}: stream did not contain valid UTF-8", "not a text"),
-]
-
-
-def hash_files(program):
-    """Hashes in files."""
-    with tempfile.TemporaryDirectory() as room:
-        for number, (text, line, status, printed, reason) in enumerate(HASH_FILES):
-            file = os.path.join(room, str(number))
-            if text is not None:
-                with open(file, "wb") as it:
-                    it.write(os.fsencode(text))
-            lines = f"{printed.format(file)}\n", ""
-            words = [word.format(file) for word in line.split(" ")]
-            yield f"{line!r} ({reason})", run([program, *words]), (status, *(lines if status < 2 else lines[::-1]))
-        yield "--help reads no file", run([program, "--help", f"--hash-file={room}"])[0], 0
 
 
 def information(program):

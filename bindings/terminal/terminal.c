@@ -20,16 +20,12 @@ static volatile sig_atomic_t caught;
 static sigset_t callers; /* the signals that are blocked, except during a question, when all are */
 static sigjmp_buf without_line;
 
-/* glibc hands a constructor the arguments of main. The first word that names a command is the command. */
+/* glibc hands a constructor the arguments of main, after which is NULL. Options come before the command; where one of them or
+   the command is none, the proved program reads nothing. */
 __attribute__((constructor)) static void find_command(int argc, char **argv) {
-  for (int i = 1; i < argc; i++) {
-    const char *const names[] = {"key", "verify", "rehash", "hash"};
-    for (int j = 0; j < 4; j++)
-      if (strcmp(argv[i], names[j]) == 0) {
-        is_hash = j == 3;
-        return;
-      }
-  }
+  char **word = argv + (argc > 0);
+  while (*word && strncmp(*word, "--", 2) == 0) word++;
+  is_hash = *word && strcmp(*word, "hash") == 0;
 }
 
 /* Ends a read that has begun, or is about to begin. SIGTTOU comes from a change of the terminal too. */

@@ -1,8 +1,6 @@
 -- The options before a command.
 pub mod OptionsFacts
--- The words of the arguments.
-pub mod ArgsFacts
--- The tests of parameters and lengths.
+-- The words of a command, and the tests of parameters and lengths.
 pub mod CommandFacts
 -- Making hashes, carrying out a command, and the outcome of a run.
 pub mod OutcomeFacts

@@ -1,10 +1,8 @@
 -- The options before a command.
-use Rattle.std.proofs.Common.{◌≡◌, ◌∷◌, Bool, List, None, Option, Some, String, false, length, map, refl, string_bytes, true}
-use Rattle.std.specs.Prelude.{is_none, is_some, not, option_map}
+use Rattle.std.proofs.Common.{◌≡◌, ◌∷◌, List, None, Some, String, length, map, refl, string_bytes}
 use Rattle.std.specs.Global.{Global}
 use Rattle.std.proofs.lemmas.List.{nil_from_length}
-use Rattle.scrypt_commands.specs.Options.{options_after, with_option}
-use Rattle.scrypt_commands.specs.declared.options.Options.{Options}
+use Rattle.scrypt_commands.specs.Options.{Options, options_after, with_option}
 
 -- the options that are left
 
@@ -27,14 +25,3 @@ command_left options args rest word are is = rw (are, is) refl
 
 -- the options that are left, by the first word
 pub ruleset options = (none_left, one_left, command_left)
-
--- there is none, if `is_none` says so
-pub none_by : {A : Type 0} (o : Option A) (none : Bool) → is_some o ≡ not none → none ≡ is_none o
-none_by None true is = refl
-none_by None false is = absurd cc
-none_by (Some x) true is = absurd cc
-none_by (Some x) false is = refl
-
-pub none_mapped : {A B : Type 0} (f : A → B) (o : Option A) → is_none (option_map f o) ≡ is_none o
-none_mapped f None = refl
-none_mapped f (Some x) = refl

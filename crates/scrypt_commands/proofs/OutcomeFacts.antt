@@ -15,14 +15,14 @@ use Rattle.scrypt.specs.PhcHash.{HashIsRefused, IsMadeHash, IsSaltLen}
 use Rattle.std.proofs.lemmas.Bool.{false_from_ne_true}
 use Rattle.std.proofs.lemmas.Bool.Decides.{nat_tests}
 use Rattle.scrypt_commands.specs.CliError.{error_line, error_of, limited_error_of, status_of}
-use Rattle.scrypt_commands.specs.Args.{request_by}
+use Rattle.scrypt_commands.specs.Command.{request_of}
+use Rattle.scrypt_commands.specs.Invocation.{CommandLine}
 use Rattle.scrypt_commands.specs.Outcome.{Reply, is_salt_len, new_hash, outcome, phc_text, reply_by, right_of}
 use Rattle.scrypt_commands.specs.Run.{HasOutcome, OnInput, Streams}
 use Rattle.scrypt_commands.specs.Steps.{AppendsReply, FailsWith}
-use Rattle.scrypt_commands.specs.declared.args.Format.TheVariants.{Phc}
+use Rattle.scrypt_commands.specs.declared.command.Format.TheVariants.{Phc}
 use Rattle.scrypt_commands.specs.declared.error.CliError.{CliError}
 use Rattle.scrypt_commands.specs.declared.error.CliError.TheVariants.{InputFailed, OutOfMemory, OutputFailed, SaltInvalid}
-use Rattle.scrypt_commands.specs.declared.options.Options.{Options}
 use Rattle.scrypt_commands.specs.declared.run.Ended.{Ended}
 
 salt_len_decided : (n : ℕ) → Decides (is_salt_len n) (IsSaltLen n)
@@ -69,11 +69,11 @@ appends_nothing (Some xs) None h = h
 appends_nothing (Some xs) (Some ys) h = rw h (sym (append-nil xs))
 
 -- words that are refused are refused on each input
-pub refused_args : (options : Options) (drawn : Option (List ℕ)) (words : List (List ℕ)) (known : Option (List ℕ)) (error : CliError)
-    → FailsWith (λ error. request_by options.is_recommended drawn words ≡ Err error) error → status_of error ≡ 2
-    → OnInput known (λ input. reply_by options drawn words input ≡ Err error)
-refused_args options drawn words known error (inl h) two = let wrong : ◌≡◌ {A = ℕ} 3 2 = rw h at two in absurd cc
-refused_args options drawn words known error (inr (two, is)) _ = on_any_input known _ (λ input. rw is refl)
+pub refused_args : (line : CommandLine) (known : Option (List ℕ)) (error : CliError)
+    → FailsWith (λ error. request_of line ≡ Err error) error → status_of error ≡ 2
+    → OnInput known (λ input. reply_by line input ≡ Err error)
+refused_args line known error (inl h) two = let wrong : ◌≡◌ {A = ℕ} 3 2 = rw h at two in absurd cc
+refused_args line known error (inr (two, is)) _ = on_any_input known _ (λ input. rw is refl)
 
 -- a command that is refused is refused on the input that was read
 pub refused_input : (reply_on : List ℕ → Result Reply CliError) (known : Option (List ℕ)) (input : List ℕ) (error : CliError)

@@ -1,13 +1,21 @@
--- What is asked for, or the error of the first thing that is wrong with it. After the arguments and their decimals, these
--- are read in this order: the salt, the parameters, the length of the key, the text of a hash.
-use Rattle.std.specs.Prelude.{ℕ, ◌&&◌, Bool, true, nat_le, if◌then◌else◌, List, Option, None, Some, Result, Ok, Err}
+-- What a command asks for, or the error of the first thing that is wrong with it. After the words and their decimals, these are read in
+-- this order: the salt, the parameters, the length of the key, the text of a hash.
+use Rattle.std.specs.Prelude.{ℕ, ◌^◌, ◌&&◌, Bool, false, true, bytes_eq, nat_le, if◌then◌else◌, codes, ⊤}
+use Rattle.std.specs.Prelude.{List, [], ◌∷◌, Option, None, Some, is_some, ok_or, Result, Ok, Err}
+use Rattle.hex.specs.Hex.{decode_of}
+use Rattle.password_hash.specs.Decimal.{decimal_below}
 use Rattle.scrypt.specs.Accepted.{Parameters, are_accepted, is_output_len}
 use Rattle.scrypt.specs.StoredHash.{is_stored_text}
-use Rattle.scrypt_commands.specs.declared.args.Target.{Target}
-use Rattle.scrypt_commands.specs.declared.args.Target.TheVariants.{Key, Hash}
-use Rattle.scrypt_commands.specs.declared.args.UncheckedParams.{UncheckedParams}
+use Rattle.scrypt_commands.specs.Invocation.{CommandLine}
+use Rattle.scrypt_commands.specs.declared.command.Format.{Format}
+use Rattle.scrypt_commands.specs.declared.command.Format.TheVariants.{Phc, Mcf}
+use Rattle.scrypt_commands.specs.declared.command_line.Name.{Name}
+use Rattle.scrypt_commands.specs.declared.command_line.Name.TheVariants as names
+use Rattle.scrypt_commands.specs.declared.command.Target.{Target}
+use Rattle.scrypt_commands.specs.declared.command.Target.TheVariants.{Key, Hash}
+use Rattle.scrypt_commands.specs.declared.command.UncheckedParams.{UncheckedParams}
 use Rattle.scrypt_commands.specs.declared.error.CliError.{CliError}
-use Rattle.scrypt_commands.specs.declared.error.CliError.TheVariants.{EncodingInvalid, InvalidOutputLen, InvalidParams, SaltNotHex}
+use Rattle.scrypt_commands.specs.declared.error.CliError.TheVariants.{EncodingInvalid, InvalidOutputLen, InvalidParams, SaltNotHex, Usage}
 
 -- what is to be made of a password
 pub record Making : Type 0 where
@@ -15,7 +23,7 @@ pub record Making : Type 0 where
   pub params : Parameters
   pub salt : List ℕ
 
--- what arguments ask for: to make something, or to verify a hash, and to make something in its place if it is weaker
+-- what words ask for: to make something, or to verify a hash, and to make something in its place if it is weaker
 pub data Request : Type 0 where
   ToMake : (making : Making) → Request
   ToVerify : (text : List ℕ) (wanted : Option Making) → Request
@@ -36,11 +44,11 @@ unfoldable pub is_stored_len : Option ℕ → Bool
 is_stored_len None = true
 is_stored_len (Some len) = nat_le 10 len && nat_le len 64
 
--- the parameters, if they are accepted
-unfoldable pub checked_params : UncheckedParams → Result Parameters CliError
-checked_params it =
-    if are_accepted it.log_n it.r it.p && is_stored_len it.key_len
-    then Ok (record { log_n = it.log_n; r = it.r; p = it.p; output_len = it.key_len })
+-- the parameters, with the length that is named for the key of a hash, if they are accepted
+unfoldable pub checked_params : UncheckedParams → Option ℕ → Result Parameters CliError
+checked_params it key_len =
+    if are_accepted it.log_n it.r it.p && is_stored_len key_len
+    then Ok (record { log_n = it.log_n; r = it.r; p = it.p; output_len = key_len })
     else Err InvalidParams
 
 -- whether a key of that length can be derived; a hash has an allowed length of its own
@@ -49,28 +57,133 @@ has_allowed_len (Key len) = is_output_len len
 has_allowed_len (Hash format) = true
 
 -- what is to be made, of a salt that was read
-unfoldable pub making_of : Target → UncheckedParams → Result (List ℕ) CliError → Result Making CliError
-making_of target unchecked salt = do
+unfoldable pub making_of : Target → UncheckedParams → Option ℕ → Result (List ℕ) CliError → Result Making CliError
+making_of target unchecked key_len salt = do
   salt ← salt
-  params ← checked_params unchecked
+  params ← checked_params unchecked key_len
   if has_allowed_len target then Ok (record { target = target; params = params; salt = salt }) else Err InvalidOutputLen
-
--- the same, if something is
-abbrev pub wanted_of : Option (Result Making CliError) → Result (Option Making) CliError
-wanted_of None = Ok None
-wanted_of (Some making) = making >>= λ making. Ok (Some making)
 
 -- the text of a hash, if it is one of its format
 abbrev pub hash_of : List ℕ → Result (List ℕ) CliError
 hash_of text = if is_stored_text text then Ok text else Err EncodingInvalid
 
--- to make something
+-- the first word, and the words after it
+abbrev pub first_word : List (List ℕ) → Result (List ℕ × List (List ℕ)) CliError
+first_word [] = Err Usage
+first_word (word ∷ words) = Ok (word, words)
+
+-- there are no words after the last one
+abbrev pub end_of : List (List ℕ) → Result ⊤ CliError
+end_of [] = Ok tt
+end_of words = Err Usage
+
+-- a decimal below its bound
+abbrev pub number_of : ℕ → List ℕ → Result ℕ CliError
+number_of bound word = ok_or (decimal_below bound word) Usage
+
+-- the recommended parameters
+abbrev pub recommended : UncheckedParams
+recommended = record { log_n = 17; r = 8; p = 1 }
+
+-- LOG_N R P, and the words after them; the recommended parameters have no words
+unfoldable pub params_words : Bool → List (List ℕ) → Result (UncheckedParams × List (List ℕ)) CliError
+params_words true words = Ok (recommended, words)
+params_words false words = do
+  (log_n, words) ← first_word words
+  (r, words) ← first_word words
+  (p, words) ← first_word words
+  log_n ← number_of (2 ^ 8) log_n
+  r ← number_of (2 ^ 32) r
+  p ← number_of (2 ^ 32) p
+  Ok (record { log_n = log_n; r = r; p = p }, words)
+
+-- LEN, and the words after it
+unfoldable pub len_word : List (List ℕ) → Result (ℕ × List (List ℕ)) CliError
+len_word words = do
+  (len, words) ← first_word words
+  len ← number_of (2 ^ 64) len
+  Ok (len, words)
+
+-- [LEN], and no words after it
+unfoldable pub optional_len : List (List ℕ) → Result (Option ℕ) CliError
+optional_len [] = Ok None
+optional_len words = do
+  (len, words) ← len_word words
+  _ ← end_of words
+  Ok (Some len)
+
+-- SALT_HEX, and the words after it; a salt that was drawn has no word
+unfoldable pub salt_word : Option (List ℕ) → List (List ℕ) → Result (Result (List ℕ) CliError × List (List ℕ)) CliError
+salt_word (Some drawn) words = Ok (Ok drawn, words)
+salt_word None words = do
+  (digits, words) ← first_word words
+  Ok (decoded_salt (decode_of digits), words)
+
+-- HASH, and the words after it; the text of a file has no word
+abbrev pub hash_word : Option (List ℕ) → List (List ℕ) → Result (List ℕ × List (List ℕ)) CliError
+hash_word (Some text) words = Ok (text, words)
+hash_word None words = first_word words
+
+-- phc|mcf, and the words after it
+unfoldable pub format_word : List (List ℕ) → Result (Format × List (List ℕ)) CliError
+format_word words = do
+  (name, words) ← first_word words
+  if bytes_eq name (codes "phc") then Ok (Phc, words)
+      else if bytes_eq name (codes "mcf") then Ok (Mcf, words)
+      else Err Usage
+
+-- after `key`: LOG_N R P LEN SALT_HEX
+unfoldable pub key_words : List (List ℕ) → Result Making CliError
+key_words words = do
+  (params, words) ← params_words false words
+  (len, words) ← len_word words
+  (salt, words) ← salt_word None words
+  _ ← end_of words
+  making_of (Key len) params None salt
+
+-- after `hash`: phc|mcf LOG_N R P SALT_HEX [LEN], or phc|mcf SALT_HEX for the recommended parameters
+unfoldable pub hash_words : Bool → Option (List ℕ) → List (List ℕ) → Result Making CliError
+hash_words is_recommended drawn words = do
+  (format, words) ← format_word words
+  (params, words) ← params_words is_recommended words
+  (salt, words) ← salt_word drawn words
+  len ← optional_len words
+  if is_recommended && is_some len then Err Usage
+      else making_of (Hash format) params len salt
+
+-- after `verify`: HASH
+unfoldable pub verify_words : Option (List ℕ) → List (List ℕ) → Result Request CliError
+verify_words file words = do
+  (text, words) ← hash_word file words
+  _ ← end_of words
+  text ← hash_of text
+  Ok (ToVerify text None)
+
+-- after `rehash`: phc|mcf LOG_N R P LEN SALT_HEX HASH
+unfoldable pub rehash_words : Option (List ℕ) → Option (List ℕ) → List (List ℕ) → Result Request CliError
+rehash_words drawn file words = do
+  (format, words) ← format_word words
+  (params, words) ← params_words false words
+  (len, words) ← len_word words
+  (salt, words) ← salt_word drawn words
+  (text, words) ← hash_word file words
+  _ ← end_of words
+  wanted ← making_of (Hash format) params (Some len) salt
+  text ← hash_of text
+  Ok (ToVerify text (Some wanted))
+
+-- to make this
 abbrev pub to_make : Result Making CliError → Result Request CliError
 to_make making = making >>= λ making. Ok (ToMake making)
 
--- to verify a hash, and to make something in its place
-unfoldable pub to_verify : Option (Result Making CliError) → List ℕ → Result Request CliError
-to_verify wanted text = do
-  wanted ← wanted_of wanted
-  text ← hash_of text
-  Ok (ToVerify text wanted)
+-- What the words of a command ask for. No words stand for the recommended parameters of `hash`, for a salt that was drawn, and for a
+-- hash that is the text of a file.
+abbrev pub requested_by : CommandLine → Name → Result Request CliError
+requested_by line names.Key = to_make (key_words line.words)
+requested_by line names.Hash = to_make (hash_words line.options.is_recommended line.salt line.words)
+requested_by line names.Verify = verify_words line.file_text line.words
+requested_by line names.Rehash = rehash_words line.salt line.file_text line.words
+
+-- what a command asks for
+abbrev pub request_of : CommandLine → Result Request CliError
+request_of line = requested_by line line.name

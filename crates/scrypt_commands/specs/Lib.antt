@@ -3,14 +3,16 @@
 
 -- what a stored hash may need
 pub mod Bounds
+-- what the program prints about itself
+pub mod Information
 -- the options before a command
 pub mod Options
 -- why a run ends without an answer: statuses and lines
 pub mod CliError
--- what is asked for, and what it is refused for
+-- what a command line asks for, and whether its options fit its command
+pub mod Invocation
+-- what the words of a command ask for, and what they are refused for
 pub mod Command
--- the arguments of each command, and what they ask for
-pub mod Args
 -- what the program prints for its arguments and its input
 pub mod Outcome
 -- how a run goes: what it prints, and what it reads and writes

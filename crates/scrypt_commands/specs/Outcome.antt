@@ -18,18 +18,17 @@ use Rattle.scrypt.specs.declared.limits.Limits.{Limits}
 use Rattle.scrypt.specs.StoredHash.{reading}
 use Rattle.scrypt.specs.WithinLimits.{within}
 use Rattle.scrypt_commands.specs.Bounds.{limits_of}
-use Rattle.scrypt_commands.specs.Args.{request_by}
+use Rattle.scrypt_commands.specs.Invocation.{CommandLine}
 use Rattle.scrypt_commands.specs.Options.{password_of}
-use Rattle.scrypt_commands.specs.Command.{◌>>=◌, Making, Request, ToMake, ToVerify}
+use Rattle.scrypt_commands.specs.Command.{◌>>=◌, Making, Request, ToMake, ToVerify, request_of}
 use Rattle.scrypt_commands.specs.CliError.{error_line, limited_error_of, status_of}
 use Rattle.scrypt_commands.specs.declared.bounds.Bounds.{Bounds}
-use Rattle.scrypt_commands.specs.declared.args.Format.{Format}
-use Rattle.scrypt_commands.specs.declared.args.Format.TheVariants.{Phc, Mcf}
-use Rattle.scrypt_commands.specs.declared.args.Target.{Target}
-use Rattle.scrypt_commands.specs.declared.args.Target.TheVariants.{Key, Hash}
+use Rattle.scrypt_commands.specs.declared.command.Format.{Format}
+use Rattle.scrypt_commands.specs.declared.command.Format.TheVariants.{Phc, Mcf}
+use Rattle.scrypt_commands.specs.declared.command.Target.{Target}
+use Rattle.scrypt_commands.specs.declared.command.Target.TheVariants.{Key, Hash}
 use Rattle.scrypt_commands.specs.declared.error.CliError.{CliError}
 use Rattle.scrypt_commands.specs.declared.error.CliError.TheVariants.{InvalidOutputLen, SaltInvalid}
-use Rattle.scrypt_commands.specs.declared.options.Options.{Options}
 
 -- an answer: the exit status, and the line for the output
 pub record Reply : Type 0 where
@@ -110,8 +109,8 @@ reply_to bounds (ToVerify text wanted) password = do
   right ← right_of (limits_by bounds wanted) (verdict password (bounded (limits_by bounds wanted) (reading text)))
   if right then right_reply wanted (reading text) password else Ok (record { status = 1; line = codes "no\n" })
 
--- the answer to words by options, with the salt that these have drawn, if they draw one
-abbrev pub reply_by : Options → Option (List ℕ) → List (List ℕ) → List ℕ → Result Reply CliError
-reply_by options drawn words input = do
-  request ← request_by options.is_recommended drawn words
-  reply_to options.bounds request (password_of options.strips_newline input)
+-- the answer to a command by its options
+abbrev pub reply_by : CommandLine → List ℕ → Result Reply CliError
+reply_by line input = do
+  request ← request_of line
+  reply_to line.options.bounds request (password_of line.options.strips_newline input)

@@ -1,15 +1,15 @@
 -- How a run goes: what it prints, and what it reads and writes.
-use Rattle.std.specs.Prelude.{◌≡◌, ◌⊎◌, ℕ, Bool, false, true, if◌then◌else◌, List, [], Option, None, Some, IfSome, IsTrue}
+use Rattle.std.specs.Prelude.{◌≡◌, ◌⊎◌, ℕ, Bool, false, true, if◌then◌else◌, List, Option, Result, Ok, Err, IfSome, IsTrue, ⊤}
 use Rattle.std.specs.Bool.{then_some}
 use Rattle.std.specs.Result.{is_err}
 use Rattle.std.specs.Io.KnownBytes.{Appends, IsAtEnd, Keeps}
-use Rattle.scrypt_commands.specs.CliError.{error_line}
-use Rattle.scrypt_commands.specs.Args.{request_by}
-use Rattle.scrypt_commands.specs.Options.{information_text, misfit_line, options_of}
-use Rattle.scrypt_commands.specs.Outcome.{Outcome, outcome, reply_by}
+use Rattle.scrypt_commands.specs.CliError.{error_line, status_of}
+use Rattle.scrypt_commands.specs.Command.{request_of}
+use Rattle.scrypt_commands.specs.Invocation.{Command, CommandLine, Invocation, Refuse, Tell, command_by}
+use Rattle.scrypt_commands.specs.Options.{no_options}
+use Rattle.scrypt_commands.specs.Outcome.{Outcome, Reply, outcome, reply_by}
+use Rattle.scrypt_commands.specs.declared.error.CliError.{CliError}
 use Rattle.scrypt_commands.specs.declared.error.CliError.TheVariants.{InputFailed, OutOfMemory, OutputFailed}
-use Rattle.scrypt_commands.specs.declared.options.Information.{Information}
-use Rattle.scrypt_commands.specs.declared.options.Options.{Options}
 use Rattle.scrypt_commands.specs.declared.run.Ended.{Ended}
 
 -- what a run prints for each input, and whether it prints that without reading the input
@@ -17,32 +17,28 @@ pub record Plan : Type 0 where
   pub outcome_on : List ℕ → Outcome
   pub is_unread : Bool
 
--- The plan of words by options, with the salt that these have drawn, if they draw one. Words that are refused are refused
--- before the input is read.
-abbrev pub plan_by : Options → Option (List ℕ) → List (List ℕ) → Plan
-plan_by options drawn words = record {
-  outcome_on = λ input. outcome (reply_by options drawn words input);
-  is_unread = is_err (request_by options.is_recommended drawn words);
-}
-
 -- the plan to print this whatever the input is
-abbrev pub at_once : Outcome → Plan
-at_once outcome = record { outcome_on = λ _. outcome; is_unread = true }
+abbrev pub at_once : Result Reply CliError → Plan
+at_once reply = record { outcome_on = λ _. outcome reply; is_unread = true }
 
--- the plan of words after options that may ask for information, or not fit
-abbrev pub plan_if : Option Information → Option (List ℕ) → Plan → Plan
-plan_if (Some asked) misfit plan = at_once (record { status = 0; line = information_text asked; error = [] })
-plan_if None (Some line) plan = at_once (record { status = 2; line = []; error = line })
-plan_if None None plan = plan
+-- the plan of a command by its options: words that are refused are refused before the input is read
+abbrev pub plan_by : CommandLine → Plan
+plan_by line = record { outcome_on = λ input. outcome (reply_by line input); is_unread = is_err (request_of line) }
 
--- the plan of these options and the words after them, with this salt if they draw one
-abbrev pub plan_after : List ℕ → Options × List (List ℕ) → Plan
-plan_after salt (options, words) =
-    plan_if options.information (misfit_line options words) (plan_by options (then_some options.draws_salt salt) words)
+-- the plan of what may be a command
+abbrev pub plan_of_command : Result CommandLine CliError → Plan
+plan_of_command (Ok line) = plan_by line
+plan_of_command (Err error) = at_once (Err error)
 
--- the plan of these words, of which the first may be options
-abbrev pub plan_of : List ℕ → List (List ℕ) → Plan
-plan_of salt words = plan_after salt (options_of words)
+-- the plan of words without options
+abbrev pub plan_of_words : List (List ℕ) → Plan
+plan_of_words words = plan_of_command (command_by no_options words)
+
+-- the plan of what is asked for, with this salt if the options draw one
+abbrev pub plan_of : List ℕ → Option (List ℕ) → Invocation → Plan
+plan_of salt file (Tell text) = at_once (Ok (record { status = 0; line = text }))
+plan_of salt file (Refuse error) = at_once (Err error)
+plan_of salt file (Command line) = plan_by (record line { salt = then_some line.options.draws_salt salt; file_text = file })
 
 -- what is left of the input, and what was written to the output and to that of errors, where these bytes are known
 pub record Streams : Type 0 where
@@ -61,6 +57,12 @@ IsAnswer status = (status ≡ 0) ⊎ (status ≡ 1)
 -- this error line was written, if the run ended so that it was
 abbrev pub Tells : Ended → Streams → Streams → List ℕ → Type 0
 Tells ended before after line = IsTrue ended.fault_told → Appends before.faults after.faults line
+
+-- what is printed at once is never out of memory: a text is written or `output failed`, and an error has its status
+abbrev pub IsAtOnce : Invocation → Ended → Type 0
+IsAtOnce (Tell text) ended = ((ended.status ≡ 0) ⊎ (ended.status ≡ 4)) × ¬ IsTrue ended.input_failed
+IsAtOnce (Refuse error) ended = ended.status ≡ status_of error
+IsAtOnce (Command line) ended = ⊤
 
 -- a run has this outcome
 abbrev pub HasOutcome : Ended → Streams → Streams → Outcome → Type 0

@@ -1,5 +1,5 @@
 -- Private: the steps of a run. Only the clauses of private functions cite these.
-use Rattle.std.specs.Prelude.{◌≡◌, ◌⊎◌, ℕ, Bool, List, codes, Option, Result, Ok, Err, String, length, option_map, string_bytes}
+use Rattle.std.specs.Prelude.{◌≡◌, ◌⊎◌, ℕ, Bool, true, List, codes, Option, Result, Ok, Err, String, length, option_map, string_bytes}
 use Rattle.std.specs.Bool.{then_some}
 use Rattle.std.specs.Borrow.{Bor}
 use Rattle.std.specs.Global.{Global}
@@ -7,18 +7,15 @@ use Rattle.std.specs.Io.KnownBytes.{Appends}
 use Rattle.scrypt.specs.declared.errors.DeriveError.{DeriveError}
 use Rattle.scrypt.specs.declared.errors.DeriveError.TheVariants.{InvalidOutputLen as DerivedBadLength, OutOfMemory as DerivedOutOfMemory}
 use Rattle.hex.specs.Hex.{decode_of}
-use Rattle.scrypt_commands.specs.Args.{texts_of}
+use Rattle.scrypt_commands.specs.Options.{texts_of}
 use Rattle.scrypt_commands.specs.CliError.{status_of}
-use Rattle.scrypt_commands.specs.Command.{Making, Request, ToMake, ToVerify, decoded_salt, making_of, to_make, to_verify}
+use Rattle.scrypt_commands.specs.Command.{Making, Request, ToMake, ToVerify, decoded_salt}
 use Rattle.scrypt_commands.specs.Outcome.{Reply}
 use Rattle.scrypt_commands.specs.Run.{OnInput}
 use Rattle.scrypt_commands.specs.declared.answer.Answer.{Answer}
 use Rattle.scrypt_commands.specs.declared.answer.Answer.TheVariants.{Made, Right, Wrong}
-use Rattle.scrypt_commands.specs.declared.args.Args.{Args}
-use Rattle.scrypt_commands.specs.declared.args.Args.TheVariants.{Make as MakeArgs, Verify as VerifyArgs}
-use Rattle.scrypt_commands.specs.declared.args.MakingArgs.{MakingArgs}
-use Rattle.scrypt_commands.specs.declared.args.Salt.{Salt}
-use Rattle.scrypt_commands.specs.declared.args.Salt.TheVariants.{Digits, Drawn}
+use Rattle.scrypt_commands.specs.declared.command.Salt.{Salt}
+use Rattle.scrypt_commands.specs.declared.command.Salt.TheVariants.{Digits, Drawn}
 use Rattle.scrypt_commands.specs.declared.command.Command.{Command}
 use Rattle.scrypt_commands.specs.declared.command.Command.TheVariants.{Make, Verify}
 use Rattle.scrypt_commands.specs.declared.command.Making.{Making as MakingOf}
@@ -30,22 +27,9 @@ abbrev pub salt_of : Salt → Result (List ℕ) CliError
 salt_of (Digits digits) = decoded_salt (decode_of digits.now)
 salt_of (Drawn salt) = Ok salt
 
--- a salt, and the words after it
-abbrev pub salt_before_words : Salt × Bor (List (String Global)) → Result (List ℕ) CliError × List (List ℕ)
-salt_before_words (salt, words) = (salt_of salt, texts_of words.now)
-
--- what arguments ask to be made
-abbrev pub making_asked : MakingArgs → Result Making CliError
-making_asked it = making_of it.target it.unchecked (salt_of it.salt)
-
--- what the arguments of a command ask for
-abbrev pub request_asked : Args → Result Request CliError
-request_asked (MakeArgs args) = to_make (making_asked args)
-request_asked (VerifyArgs text wanted) = to_verify (option_map making_asked wanted) text.now
-
 -- what is read of the first words, and the words after them
-abbrev pub before_words : {A : Type 0} → A × Bor (List (String Global)) → A × List (List ℕ)
-before_words (read, words) = (read, texts_of words.now)
+abbrev pub before_words : {A B : Type 0} → (A → B) → A × Bor (List (String Global)) → B × List (List ℕ)
+before_words view (read, words) = (view read, texts_of words.now)
 
 -- the error of a derivation that fails
 abbrev pub derive_error : DeriveError → CliError
@@ -76,9 +60,9 @@ reply_view Right = record { status = 0; line = codes "ok\n" }
 reply_view Wrong = record { status = 1; line = codes "no\n" }
 reply_view (Made line) = record { status = 0; line = string_bytes line }
 
--- a salt of 16 bytes was drawn, if one is to be
-abbrev pub IsDrawn : Bool → Option (List ℕ) → Type 0
-IsDrawn is_drawn drawn = (salt : List ℕ) × (length salt ≡ 16) × (drawn ≡ then_some is_drawn salt)
+-- a salt of 16 bytes was drawn, if one is to be, and this holds of it
+abbrev pub IsDrawn : Bool → (List ℕ → Type 0) → Option (List ℕ) → Type 0
+IsDrawn is_drawn Is drawn = (salt : List ℕ) × (length salt ≡ 16) × (is_drawn ≡ true → Is salt) × (drawn ≡ then_some is_drawn salt)
 
 -- the line that answers with this status was appended
 abbrev pub AppendsReply : (List ℕ → Result Reply CliError) → Option (List ℕ) → Option (List ℕ) → Option (List ℕ) → ℕ → Type 0

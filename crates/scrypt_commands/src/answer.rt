@@ -7,11 +7,10 @@ ghost use Rattle.scrypt.specs.StoredHash.{reading};
 ghost use Rattle.scrypt.specs.WithinLimits.{with_limited_refusal};
 ghost use Rattle.scrypt_commands.specs.Outcome.{bounded, limits_by, made_reply, new_hash, new_text, reply_to, right_of, right_reply};
 ghost use Rattle.scrypt_commands.specs.Steps.{Gives, making_view, reply_view, request_view};
-ghost use Rattle.scrypt_commands.specs.declared.args.Target.TheVariants.{Key};
+ghost use Rattle.scrypt_commands.specs.declared.command.Target.TheVariants.{Key};
 
-use crate::args::{Format, Target};
 use crate::bounds::Bounds;
-use crate::command::{Command, Making};
+use crate::command::{Command, Format, Making, Target};
 use crate::error::CliError;
 use password_hash::{PasswordHasher, mcf, phc};
 use scrypt::laws::{hashers_are_accepted, made_hashes_are_accepted, texts_have_one_reading};

@@ -3,8 +3,7 @@
 ghost use Rattle.std.specs.Prelude.{◌≡◌, option_map};
 ghost use Rattle.scrypt_commands.specs.Bounds.{limits_of, usual, with_number};
 
-use crate::args::parse_len;
-use crate::command::Making;
+use crate::command::{Making, parse_len};
 use scrypt::{BufferLens, Limits};
 
 /// What a stored hash may need.
@@ -32,7 +31,7 @@ impl Bounds {
 
     /// Returns the bounds with the one of this name, or `None` if there is none of it, or the value is not
     /// a number.
-    #[tactic(auto, using(crate::proofs::ArgsFacts::other), unfolding(crate::specs::Bounds::with_number))]
+    #[tactic(auto, using(crate::proofs::CommandFacts::other), unfolding(crate::specs::Bounds::with_number))]
     pub fn with_number(self, name: &str, value: &str) -> Option<Bounds>
         ensures value { result ≡ with_number self name.now value.now }
     {

@@ -1,23 +1,30 @@
-// What the arguments ask for.
+// What a command asks for.
 
-ghost use Rattle.std.specs.Prelude.{◌≡◌, option_map};
-ghost use Rattle.scrypt_commands.specs.Args.{request_by, texts_of};
-ghost use Rattle.scrypt_commands.specs.Command.{checked_params, has_allowed_len, hash_of, wanted_of};
-ghost use Rattle.scrypt_commands.specs.Steps.{Gives, making_asked, making_view, request_view, salt_of};
+ghost use Rattle.std.specs.Prelude.{◌≡◌, ◌^◌};
+ghost use Rattle.std.specs.Option.{option_copied};
+ghost use Rattle.password_hash.specs.Decimal.{decimal_below};
+ghost use Rattle.scrypt_commands.specs.Command.{checked_params, end_of, first_word, format_word, has_allowed_len, hash_of, hash_word, hash_words};
+ghost use Rattle.scrypt_commands.specs.Command.{key_words, len_word, making_of, optional_len, params_words, rehash_words, request_of, salt_word};
+ghost use Rattle.scrypt_commands.specs.Command.{verify_words};
+ghost use Rattle.scrypt_commands.specs.Invocation.{line_view};
+ghost use Rattle.scrypt_commands.specs.Options.{texts_of};
+ghost use Rattle.scrypt_commands.specs.Steps.{Gives, before_words, making_view, request_view, salt_of};
 
-use crate::args::{Args, MakingArgs, Salt, Target, UncheckedParams};
+use crate::command_line::{CommandLine, Name};
 use crate::error::CliError;
 use hex::FromHexError;
+use password_hash::decimal::read_decimal;
+use password_hash::laws::decimals_are_read;
 use scrypt::{Params, StoredHash, output_len_ok};
 use std::alloc::Global;
 
-/// What the arguments ask for.
+/// What a command asks for.
 #[derive(Drop)]
 pub enum Command<'a> {
-    /// The key or the text of the hash that is made of the password.
+    /// `key` or `hash`: the key or the text of the hash that is made of the password.
     Make(Making),
-    /// Whether the password is that of the hash. If it is, and the hash is weaker than what is wanted, that is
-    /// made in its place.
+    /// `verify` or `rehash`: whether the password is that of the hash. If it is, and the hash is weaker than what is
+    /// wanted, that is made in its place.
     Verify {
         hash: StoredHash<'a>,
         wanted: Option<Making>,
@@ -32,75 +39,309 @@ pub struct Making {
     pub salt: Vec<u8>,
 }
 
+/// What is made of a password.
+#[derive(Clone, Copy)]
+pub enum Target {
+    /// a key of `len` bytes
+    Key { len: usize },
+    /// a hash of this format
+    Hash { format: Format },
+}
+
+/// A format of hash texts.
+#[derive(Clone, Copy)]
+pub enum Format {
+    /// the PHC string format
+    Phc,
+    /// the `$7$` form of crypt(5)
+    Mcf,
+}
+
+/// LOG_N, R and P, which may not be accepted.
+#[derive(Clone, Copy)]
+pub struct UncheckedParams {
+    pub log_n: u8,
+    pub r: u32,
+    pub p: u32,
+}
+
+/// The salt of a command.
+#[derive(Clone, Copy)]
+pub enum Salt<'a> {
+    /// SALT_HEX
+    Digits(&'a str),
+    /// bytes that were drawn
+    Drawn([u8; 16]),
+}
+
+/// The recommended parameters.
+const RECOMMENDED: UncheckedParams = UncheckedParams {
+    log_n: Params::RECOMMENDED_LOG_N,
+    r: Params::RECOMMENDED_R,
+    p: Params::RECOMMENDED_P,
+};
+
 impl<'a> Command<'a> {
-    /// Constructs the command of these words. A salt may have been drawn, and the parameters of `hash` be
-    /// the recommended ones: then no words stand for these.
+    /// Reads the words of a command. No words stand for the recommended parameters of `hash`, for a salt that
+    /// was drawn, and for a hash that is the text of a file.
     ///
     /// Returns the error of the first of these that is wrong: `Usage`, `SaltNotHex`,
     /// `InvalidParams`, `InvalidOutputLen`, and `EncodingInvalid`. Returns `OutOfMemory` if the allocation of the salt fails.
-    #[tactic(auto, unfolding(crate::specs::Command::to_verify))]
-    pub fn from_args(
-        alloc: Global,
-        is_recommended: bool,
-        drawn: Option<[u8; 16]>,
-        args: &'a [String],
-    ) -> Result<Command<'a>, CliError>
-        ensures command { Gives request_view (request_by is_recommended drawn (texts_of args.now)) result }
+    pub fn read(alloc: Global, line: CommandLine<'a>) -> Result<Command<'a>, CliError>
+        ensures command { Gives request_view (request_of (line_view line.entry)) result }
     {
-        let Some(args) = Args::parse(is_recommended, drawn, args) else {
-            return Err(CliError::Usage);
-        };
-        match args {
-            Args::Make(args) => Ok(Command::Make(read_making(alloc, args)?)),
-            Args::Verify { text, wanted } => {
-                let wanted = wanted_making(alloc, wanted)?;
-                let hash = stored_hash(text)?;
-                Ok(Command::Verify { hash, wanted })
-            }
+        let CommandLine {
+            name,
+            options,
+            words,
+            drawn,
+            file_text,
+        } = line;
+        match name {
+            Name::Key => Ok(Command::Make(key_words(alloc, words)?)),
+            Name::Hash => Ok(Command::Make(hash_words(
+                alloc,
+                options.is_recommended,
+                drawn,
+                words,
+            )?)),
+            Name::Verify => verify_words(file_text, words),
+            Name::Rehash => rehash_words(alloc, drawn, file_text, words),
         }
     }
 }
 
-// Returns what is to be made in place of a hash, if something is.
-fn wanted_making(alloc: Global, args: Option<MakingArgs<'_>>) -> Result<Option<Making>, CliError>
-    ensures { Gives (option_map making_view) (wanted_of (option_map making_asked args.entry)) result }
+// Reads the words after `key`.
+#[tactic(auto, unfolding(crate::specs::Command::key_words))]
+fn key_words(alloc: Global, words: &[String]) -> Result<Making, CliError>
+    ensures { Gives making_view (key_words (texts_of words.now)) result }
 {
-    let Some(args) = args else {
-        return Ok(None);
+    let (params, words) = params_words(false, words)?;
+    let (len, words) = len_word(words)?;
+    let (salt, words) = salt_word(None, words)?;
+    end_of(words)?;
+    making_of(alloc, Target::Key { len }, params, None, salt)
+}
+
+// Reads the words after `hash`. No words stand for the recommended parameters.
+#[tactic(auto, unfolding(crate::specs::Command::hash_words))]
+fn hash_words(
+    alloc: Global,
+    is_recommended: bool,
+    drawn: Option<[u8; 16]>,
+    words: &[String],
+) -> Result<Making, CliError>
+    ensures { Gives making_view (hash_words is_recommended drawn (texts_of words.now)) result }
+{
+    let (format, words) = format_word(words)?;
+    let (params, words) = params_words(is_recommended, words)?;
+    let (salt, words) = salt_word(drawn, words)?;
+    let len = optional_len(words)?;
+    if is_recommended && len.is_some() {
+        return Err(CliError::Usage);
+    }
+    making_of(alloc, Target::Hash { format }, params, len, salt)
+}
+
+// Reads the words after `verify`.
+#[tactic(auto, unfolding(crate::specs::Command::verify_words))]
+fn verify_words<'a>(
+    file_text: Option<&'a str>,
+    words: &'a [String],
+) -> Result<Command<'a>, CliError>
+    ensures { Gives request_view (verify_words (option_copied file_text.entry) (texts_of words.now)) result }
+{
+    let (text, words) = hash_word(file_text, words)?;
+    end_of(words)?;
+    let hash = hash_of(text)?;
+    Ok(Command::Verify { hash, wanted: None })
+}
+
+// Reads the words after `rehash`.
+#[tactic(auto, unfolding(crate::specs::Command::rehash_words))]
+fn rehash_words<'a>(
+    alloc: Global,
+    drawn: Option<[u8; 16]>,
+    file_text: Option<&'a str>,
+    words: &'a [String],
+) -> Result<Command<'a>, CliError>
+    ensures { Gives request_view (rehash_words drawn (option_copied file_text.entry) (texts_of words.now)) result }
+{
+    let (format, words) = format_word(words)?;
+    let (params, words) = params_words(false, words)?;
+    let (len, words) = len_word(words)?;
+    let (salt, words) = salt_word(drawn, words)?;
+    let (text, words) = hash_word(file_text, words)?;
+    end_of(words)?;
+    let wanted = making_of(alloc, Target::Hash { format }, params, Some(len), salt)?;
+    let hash = hash_of(text)?;
+    Ok(Command::Verify {
+        hash,
+        wanted: Some(wanted),
+    })
+}
+
+// Reads LOG_N R P, and returns the words after them too. No words stand for the recommended parameters.
+#[tactic(auto, unfolding(crate::specs::Command::params_words))]
+fn params_words<'a>(
+    is_recommended: bool,
+    words: &'a [String],
+) -> Result<(UncheckedParams, &'a [String]), CliError>
+    ensures { Gives (before_words (λ params. params)) (params_words is_recommended (texts_of words.now)) result }
+{
+    if is_recommended {
+        return Ok((RECOMMENDED, words));
+    }
+    let (log_n, words) = first_word(words)?;
+    let (r, words) = first_word(words)?;
+    let (p, words) = first_word(words)?;
+    let params = UncheckedParams {
+        log_n: parse_byte(log_n).ok_or(CliError::Usage)?,
+        r: parse_word(r).ok_or(CliError::Usage)?,
+        p: parse_word(p).ok_or(CliError::Usage)?,
     };
-    Ok(Some(read_making(alloc, args)?))
+    Ok((params, words))
+}
+
+// Reads phc|mcf, and returns the words after it too.
+#[tactic(auto, using(crate::proofs::CommandFacts::other), unfolding(crate::specs::Command::format_word))]
+fn format_word<'a>(words: &'a [String]) -> Result<(Format, &'a [String]), CliError>
+    ensures { Gives (before_words (λ format. format)) (format_word (texts_of words.now)) result }
+{
+    let (name, words) = first_word(words)?;
+    match name {
+        "phc" => Ok((Format::Phc, words)),
+        "mcf" => Ok((Format::Mcf, words)),
+        _ => Err(CliError::Usage),
+    }
+}
+
+// Reads SALT_HEX, and returns the words after it too. A salt that was drawn has no word.
+#[tactic(auto, unfolding(crate::specs::Command::salt_word))]
+fn salt_word<'a>(
+    drawn: Option<[u8; 16]>,
+    words: &'a [String],
+) -> Result<(Salt<'a>, &'a [String]), CliError>
+    ensures { Gives (before_words salt_of) (salt_word drawn (texts_of words.now)) result }
+{
+    if let Some(salt) = drawn {
+        return Ok((Salt::Drawn(salt), words));
+    }
+    let (digits, words) = first_word(words)?;
+    Ok((Salt::Digits(digits), words))
+}
+
+// Reads HASH, and returns the words after it too. The text of a file has no word.
+fn hash_word<'a>(
+    file_text: Option<&'a str>,
+    words: &'a [String],
+) -> Result<(&'a str, &'a [String]), CliError>
+    ensures { Gives (before_words (λ text. text.now)) (hash_word (option_copied file_text.entry) (texts_of words.now)) result }
+{
+    match file_text {
+        Some(text) => Ok((text, words)),
+        None => first_word(words),
+    }
+}
+
+// Reads LEN, and returns the words after it too.
+#[tactic(auto, unfolding(crate::specs::Command::len_word))]
+fn len_word<'a>(words: &'a [String]) -> Result<(usize, &'a [String]), CliError>
+    ensures { Gives (before_words (λ len. len)) (len_word (texts_of words.now)) result }
+{
+    let (len, words) = first_word(words)?;
+    Ok((parse_len(len).ok_or(CliError::Usage)?, words))
+}
+
+// Reads LEN, if it is there, and is the last word.
+#[tactic(auto, unfolding(crate::specs::Command::optional_len))]
+fn optional_len(words: &[String]) -> Result<Option<usize>, CliError>
+    ensures { Gives (λ len. len) (optional_len (texts_of words.now)) result }
+{
+    if words.is_empty() {
+        return Ok(None);
+    }
+    let (len, words) = len_word(words)?;
+    end_of(words)?;
+    Ok(Some(len))
+}
+
+// Returns the first word, and the words after it.
+fn first_word<'a>(words: &'a [String]) -> Result<(&'a str, &'a [String]), CliError>
+    ensures first { Gives (before_words (λ text. text.now)) (first_word (texts_of words.now)) result }
+{
+    match words.split_first() {
+        Some((word, words)) => Ok((word.as_str(), words)),
+        None => Err(CliError::Usage),
+    }
+}
+
+// Refuses words after the last one.
+fn end_of(words: &[String]) -> Result<(), CliError>
+    ensures { Gives (λ done. done) (end_of (texts_of words.now)) result }
+{
+    if words.is_empty() {
+        return Ok(());
+    }
+    Err(CliError::Usage)
+}
+
+/// Parses LEN.
+pub fn parse_len(word: &str) -> Option<usize>
+    ensures value { result ≡ decimal_below (2 ^ 64) word.now }
+{
+    decimals_are_read();
+    read_decimal(word)
+}
+
+// Parses R or P.
+fn parse_word(word: &str) -> Option<u32>
+    ensures { result ≡ decimal_below (2 ^ 32) word.now }
+{
+    decimals_are_read();
+    read_decimal(word)
+}
+
+// Parses LOG_N.
+fn parse_byte(word: &str) -> Option<u8>
+    ensures { result ≡ decimal_below (2 ^ 8) word.now }
+{
+    decimals_are_read();
+    read_decimal(word)
 }
 
 // Reads the salt, and then checks the parameters and the length of a key.
 #[tactic(auto, unfolding(crate::specs::Command::making_of))]
-fn read_making(alloc: Global, args: MakingArgs<'_>) -> Result<Making, CliError>
-    ensures { Gives making_view (making_asked args.entry) result }
+fn making_of(
+    alloc: Global,
+    target: Target,
+    unchecked: UncheckedParams,
+    key_len: Option<usize>,
+    salt: Salt<'_>,
+) -> Result<Making, CliError>
+    ensures { Gives making_view (making_of target unchecked key_len (salt_of salt.entry)) result }
 {
-    let salt = read_salt(alloc, args.salt)?;
-    let params = checked_params(args.unchecked)?;
-    if !has_allowed_len(args.target) {
+    let salt = read_salt(alloc, salt)?;
+    let params = checked_params(unchecked, key_len)?;
+    if !has_allowed_len(target) {
         return Err(CliError::InvalidOutputLen);
     }
     Ok(Making {
-        target: args.target,
+        target,
         params,
         salt,
     })
 }
 
-// Returns the parameters, with the length that is named for a hash.
+// Returns the parameters, with the length that is named for the key of a hash.
 #[tactic(auto, using(crate::proofs::CommandFacts::accepted_decided, crate::proofs::CommandFacts::stored_len_decided), unfolding(crate::specs::Command::checked_params))]
-fn checked_params(unchecked: UncheckedParams) -> Result<Params, CliError>
-    ensures { Gives (λ params. params) (checked_params unchecked) result }
+fn checked_params(unchecked: UncheckedParams, key_len: Option<usize>) -> Result<Params, CliError>
+    ensures { Gives (λ params. params) (checked_params unchecked key_len) result }
 {
-    match unchecked.key_len {
-        Some(len) => Ok(Params::new_with_output_len(
-            unchecked.log_n,
-            unchecked.r,
-            unchecked.p,
-            len,
-        )?),
-        None => Ok(Params::new(unchecked.log_n, unchecked.r, unchecked.p)?),
+    let UncheckedParams { log_n, r, p } = unchecked;
+    match key_len {
+        Some(len) => Ok(Params::new_with_output_len(log_n, r, p, len)?),
+        None => Ok(Params::new(log_n, r, p)?),
     }
 }
 
@@ -115,7 +356,7 @@ fn has_allowed_len(target: Target) -> bool
 }
 
 // Returns the hash of a text.
-fn stored_hash(text: &str) -> Result<StoredHash<'_>, CliError>
+fn hash_of(text: &str) -> Result<StoredHash<'_>, CliError>
     ensures { Gives (λ hash. hash) (hash_of text.now) result }
 {
     match StoredHash::read(text) {

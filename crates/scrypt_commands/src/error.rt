@@ -8,6 +8,7 @@ ghost use Rattle.scrypt_commands.specs.CliError.{error_line, error_of, fixed_lin
 ghost use Rattle.scrypt_commands.specs.Steps.{derive_error};
 ghost use Rattle.scrypt_commands.specs.declared.error.CliError.TheVariants.{InvalidParams as BadParams, KeyTooShort, OutOfMemory, TooCostly};
 
+use crate::usage::USAGE;
 use password_hash::Error;
 use scrypt::{DeriveError, InvalidParams, LimitedError, Limits};
 use std::alloc::AllocError;
@@ -17,8 +18,16 @@ use std::io::Write;
 /// Why a run ends without an answer.
 #[derive(Clone, Copy)]
 pub enum CliError {
-    /// The arguments are not those of a command, or one is not a decimal below its bound.
+    /// The words are not those of a command, or one is not a decimal below its bound.
     Usage,
+    /// The options do not fit `key`.
+    KeyMisfit,
+    /// The options do not fit `hash`.
+    HashMisfit,
+    /// The options do not fit `verify`.
+    VerifyMisfit,
+    /// The options do not fit `rehash`.
+    RehashMisfit,
     /// The salt is not an even number of hexadecimal digits.
     SaltNotHex,
     /// The parameters are not accepted.
@@ -66,9 +75,6 @@ pub enum CliError {
     /// The line could not be written, or not be flushed.
     OutputFailed,
 }
-
-const USAGE: &[u8] =
-    b"usage: key LOG_N R P LEN SALT_HEX | hash phc|mcf LOG_N R P SALT_HEX [LEN] | verify HASH | rehash phc|mcf LOG_N R P LEN SALT_HEX HASH\n";
 
 impl CliError {
     /// Returns the error that reports one of hashing or verifying, or `None` for a wrong password.
@@ -141,6 +147,14 @@ impl CliError {
     {
         match self {
             CliError::Usage => USAGE,
+            CliError::KeyMisfit => b"key takes no option except --strip-newline: see --help\n",
+            CliError::HashMisfit => {
+                b"hash takes no option except --draw-salt, --recommended and --strip-newline: see --help\n"
+            }
+            CliError::VerifyMisfit => {
+                b"verify does not take --draw-salt and --recommended: see --help\n"
+            }
+            CliError::RehashMisfit => b"rehash does not take --recommended: see --help\n",
             CliError::SaltNotHex => b"salt is not hexadecimal\n",
             CliError::InvalidParams => b"invalid scrypt parameters\n",
             CliError::InvalidOutputLen => b"invalid output buffer length\n",

@@ -3,10 +3,11 @@
 #![tactic(auto)]
 
 mod answer;
-mod args;
 mod bounds;
 mod command;
+mod command_line;
 mod error;
+pub mod invocation;
 mod options;
 pub mod run;
-pub mod with_options;
+mod usage;

@@ -1,18 +1,20 @@
 // The program over any reader and any two writers.
 
-ghost use Rattle.std.specs.Prelude.{◌≡◌, ◌⊎◌, ◌↔◌, IsTrue, IfOk, IfErr, IfSome, Err, IsErr, None, OnOk, false, true};
+ghost use Rattle.std.specs.Prelude.{◌≡◌, ◌⊎◌, ◌↔◌, IsTrue, IfOk, IfErr, IfSome, Err, IsErr, OnOk, false, true};
 ghost use Rattle.std.specs.Io.KnownBytes.{Appends, IsAtEnd, Keeps};
-ghost use Rattle.scrypt_commands.specs.Args.{AreRefused, request_by, texts_of};
 ghost use Rattle.scrypt_commands.specs.CliError.{error_line, status_of};
-ghost use Rattle.scrypt_commands.specs.Options.{no_options};
+ghost use Rattle.scrypt_commands.specs.Command.{request_of};
+ghost use Rattle.scrypt_commands.specs.Invocation.{line_view};
+ghost use Rattle.scrypt_commands.specs.Options.{texts_of};
 ghost use Rattle.scrypt_commands.specs.Outcome.{reply_by};
-ghost use Rattle.scrypt_commands.specs.Run.{IsAnswer, IsRun, OnInput, plan_by};
+ghost use Rattle.scrypt_commands.specs.Run.{IsAnswer, IsRun, OnInput, plan_by, plan_of_words};
 ghost use Rattle.scrypt_commands.specs.Steps.{AppendsReply};
 ghost use Rattle.scrypt_commands.specs.declared.error.CliError.TheVariants.{InputFailed, OutOfMemory, OutputFailed};
 
 use crate::command::Command;
+use crate::command_line::CommandLine;
 use crate::error::CliError;
-use crate::options::{NONE, Options};
+use crate::options::NONE;
 use std::alloc::Global;
 use std::io::{Read, Write};
 
@@ -43,32 +45,32 @@ pub fn run<R: Read, W: Write, F: Write>(
     writer: &mut W,
     faults: &mut F,
 ) -> Ended
-    ensures run { IsRun (plan_by no_options None (texts_of words.now))
+    ensures run { IsRun (plan_of_words (texts_of words.now))
         (record { input = R.remaining reader.old; output = W.contents writer.old; faults = F.contents faults.old })
         (record { input = R.remaining reader.new; output = W.contents writer.new; faults = F.contents faults.new }) result }
-    ensures refused { AreRefused (texts_of words.now) → (result.status ≡ 2) ⊎ (result.status ≡ 3) }
+    ensures refused { (plan_of_words (texts_of words.now)).is_unread ≡ true → (result.status ≡ 2) ⊎ (result.status ≡ 3) }
 {
-    run_by(alloc, NONE, None, words, reader, writer, faults)
+    match CommandLine::new(NONE, words) {
+        Ok(line) => run_line(alloc, line, reader, writer, faults),
+        Err(usage) => end(usage, faults),
+    }
 }
 
-/// The same by options: within their limits, with the salt that they have drawn, and of the password that
-/// they take.
+/// The same of a command by its options.
 #[tactic(auto, using(crate::proofs::OutcomeFacts::ends))]
-pub(crate) fn run_by<R: Read, W: Write, F: Write>(
+pub(crate) fn run_line<R: Read, W: Write, F: Write>(
     alloc: Global,
-    options: Options,
-    drawn: Option<[u8; 16]>,
-    words: &[String],
+    line: CommandLine<'_>,
     reader: &mut R,
     writer: &mut W,
     faults: &mut F,
 ) -> Ended
-    ensures run { IsRun (plan_by options drawn (texts_of words.now))
+    ensures run { IsRun (plan_by (line_view line.entry))
         (record { input = R.remaining reader.old; output = W.contents writer.old; faults = F.contents faults.old })
         (record { input = R.remaining reader.new; output = W.contents writer.new; faults = F.contents faults.new }) result }
-    ensures refused { IsErr (request_by options.is_recommended drawn (texts_of words.now)) → (result.status ≡ 2) ⊎ (result.status ≡ 3) }
+    ensures refused { IsErr (request_of (line_view line.entry)) → (result.status ≡ 2) ⊎ (result.status ≡ 3) }
 {
-    match execute(alloc, options, drawn, words, reader, writer) {
+    match execute(alloc, line, reader, writer) {
         Ok(status) => answered(status),
         Err(error) => end(error, faults),
     }
@@ -78,29 +80,27 @@ pub(crate) fn run_by<R: Read, W: Write, F: Write>(
 #[tactic(auto, using(crate::proofs::OutcomeFacts::endings))]
 fn execute<R: Read, W: Write>(
     alloc: Global,
-    options: Options,
-    drawn: Option<[u8; 16]>,
-    words: &[String],
+    line: CommandLine<'_>,
     reader: &mut R,
     writer: &mut W,
 ) -> Result<u8, CliError>
-    ensures line { IfOk result (AppendsReply (reply_by options drawn (texts_of words.now)) (R.remaining reader.old)
+    ensures line { IfOk result (AppendsReply (reply_by (line_view line.entry)) (R.remaining reader.old)
         (W.contents writer.old) (W.contents writer.new)) }
     ensures ok { IfOk result IsAnswer }
     ensures read { OnOk result (IsAtEnd (R.remaining reader.new)) }
     ensures err { IfErr result (λ error. status_of error ≡ 2
-        → OnInput (R.remaining reader.old) (λ input. reply_by options drawn (texts_of words.now) input ≡ Err error)) }
+        → OnInput (R.remaining reader.old) (λ input. reply_by (line_view line.entry) input ≡ Err error)) }
     ensures read_before_error { IfErr result (λ error. (error ≡ OutOfMemory) ⊎ (error ≡ InputFailed)
-        ⊎ IsErr (request_by options.is_recommended drawn (texts_of words.now)) ⊎ IsAtEnd (R.remaining reader.new)) }
+        ⊎ IsErr (request_of (line_view line.entry)) ⊎ IsAtEnd (R.remaining reader.new)) }
     ensures nothing { IfErr result (λ error. (error ≡ OutputFailed)
         ⊎ Keeps (W.contents writer.old) (W.contents writer.new)) }
-    ensures refused { IsErr (request_by options.is_recommended drawn (texts_of words.now))
+    ensures refused { IsErr (request_of (line_view line.entry))
         → IfErr result (λ error. (error ≡ OutOfMemory) ⊎ (status_of error ≡ 2))
         × IsErr result × Keeps (R.remaining reader.old) (R.remaining reader.new) }
 {
-    let command = Command::from_args(alloc, options.is_recommended, drawn, words)?;
+    let command = Command::read(alloc, line)?;
     let input = read_all(alloc, reader)?;
-    let answer = command.answer(alloc, options.password(&input), options.bounds)?;
+    let answer = command.answer(alloc, line.options.password(&input), line.options.bounds)?;
     let (status, line) = answer.reply();
     write_line(writer, line)?;
     Ok(status)

@@ -1,23 +1,18 @@
 //! The program: derives scrypt keys, makes password hashes, verifies them and replaces weak ones, from the
-//! command line.
+//! command line. `scrypt_tool --help` prints its commands and options.
 //!
-//! ```text
-//! scrypt_tool key LOG_N R P LEN SALT_HEX < password
-//! scrypt_tool hash phc|mcf LOG_N R P SALT_HEX [LEN] < password
-//! scrypt_tool verify HASH < password
-//! scrypt_tool rehash phc|mcf LOG_N R P LEN SALT_HEX HASH < password
-//! ```
-//!
-//! The password is every byte of the standard input; no newline is cut off. The key is written in
-//! lower-case hexadecimal, the hash as its text, and the verdict as `ok` or `no` with status 0 or 1. In place
-//! of `ok`, `rehash` writes a new hash if the old one is weaker than wanted. Options come before the command:
-//! `--help` prints them.
+//! The password is every byte of the standard input. Without an option no newline is cut off, and the key is
+//! written in lower-case hexadecimal. The hash is written as its text, and the verdict as `ok` or `no` with
+//! status 0 or 1. In place of `ok`, `rehash` writes a new hash if the old one is weaker than wanted.
 #![tactic(auto)]
 
-use scrypt_commands::with_options::{needs_hash, run_with_options};
+ghost use Rattle.std.specs.Prelude.{⊤};
+
+use scrypt_commands::invocation::{Invocation, SaltSource};
 use std::fs::{Files, OpenOptions};
 use std::io::{ErrorKind, Read};
 use std::process::ExitCode;
+use std::random::RandomSource;
 use std::{env, io};
 
 // A hash is shorter, except a `$7$` text with a salt that no program makes.
@@ -25,17 +20,19 @@ const MOST_BYTES: usize = 4096;
 
 fn main(rt: HostRuntime) -> ExitCode {
     let (mut output, mut errors) = (rt.stdout(), rt.stderr());
-    let Ok(mut args) = arguments(&rt) else {
+    let Ok(words) = words(&rt) else {
         let _ = errors.write_all(b"the arguments can't be read\n");
         return ExitCode::from(3);
     };
-    if let Err(status) = complete(&rt, &mut args) {
-        return ExitCode::from(status);
-    }
-    let ended = run_with_options(
+    let invocation = Invocation::parse(&words);
+    let file_text = match file_text(&rt, invocation.hash_file()) {
+        Ok(text) => text,
+        Err(status) => return ExitCode::from(status),
+    };
+    let ended = invocation.run(
         rt.alloc(),
-        &rt,
-        &args,
+        &System(&rt),
+        file_text.as_deref(),
         &mut rt.stdin(),
         &mut output,
         &mut errors,
@@ -47,35 +44,44 @@ fn main(rt: HostRuntime) -> ExitCode {
     ExitCode::from(ended.status)
 }
 
+// The random bytes of the system.
+#[derive(Drop)]
+struct System<'a>(&'a HostRuntime);
+
+impl SaltSource for System<'_> {
+    ghost draws = { λ _ _. ⊤ };
+
+    fn draw_salt(&self) -> io::Result<[u8; 16]> {
+        let mut salt = [0u8; 16];
+        self.0.fill_bytes(&mut salt)?;
+        Ok(salt)
+    }
+}
+
 // The arguments after the program's name.
-fn arguments(rt: &HostRuntime) -> io::Result<Vec<String>> {
+fn words(rt: &HostRuntime) -> io::Result<Vec<String>> {
     Ok(env::args(rt)?.skip(1).collect(rt.alloc())?)
 }
 
-// Adds the hash if the options name its file. If that can't be read, prints why and returns the status.
-fn complete(rt: &HostRuntime, args: &mut Vec<String>) -> Result<(), u8> {
-    if !needs_hash(args) {
-        return Ok(());
-    }
-    let Err(error) = add_hash(rt, args) else {
-        return Ok(());
+// The text of the file of this name, if there is one. If that can't be read, prints why and returns the status.
+fn file_text(rt: &HostRuntime, name: Option<&str>) -> Result<Option<String>, u8> {
+    let Some(name) = name else {
+        return Ok(None);
     };
-    let _ = eprintln!(rt; "{}: {error}", file_of(args));
-    Err(status_of(&error))
+    match read_hash(rt, name) {
+        Ok(text) => Ok(Some(text)),
+        Err(error) => {
+            let _ = eprintln!(rt; "{name}: {error}");
+            Err(status_of(&error))
+        }
+    }
 }
 
-// The file that the options name, the last one if they name several.
-fn file_of(args: &[String]) -> &str {
-    let options = args.iter().take_while(|arg| arg.starts_with("--"));
-    let files = options.filter_map(|arg| arg.strip_prefix("--hash-file="));
-    files.last().unwrap_or("")
-}
-
-// Adds the hash in that file, which is its text without the newline at its end.
-fn add_hash(rt: &HostRuntime, args: &mut Vec<String>) -> io::Result<()> {
+// The hash in that file, which is its text without the newline at its end.
+fn read_hash(rt: &HostRuntime, name: &str) -> io::Result<String> {
     let mut text = String::new(rt.alloc());
     // `fs::open` would bring every function of the file system into what is trusted.
-    let file = rt.open_file(OpenOptions::new().read(true), file_of(args))?;
+    let file = rt.open_file(OpenOptions::new().read(true), name)?;
     let mut file = file.take(MOST_BYTES as u64 + 1);
     if file.read_to_string(&mut text)? > MOST_BYTES {
         return Err(io::Error::new(ErrorKind::FileTooLarge, "more than 4096 bytes"));
@@ -83,8 +89,7 @@ fn add_hash(rt: &HostRuntime, args: &mut Vec<String>) -> io::Result<()> {
     if text.ends_with('\n') {
         text.pop();
     }
-    args.push(text)?;
-    Ok(())
+    Ok(text)
 }
 
 // The status of an error of reading the file: what is not a hash is refused.

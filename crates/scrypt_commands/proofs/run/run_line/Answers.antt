@@ -1,7 +1,7 @@
 use Rattle.std.proofs.Common.{rules, arith}
 use Rattle.std.proofs.lemmas.Grind.{common_steps}
 use Rattle.scrypt_commands.proofs.OutcomeFacts.{end_outcome}
-use Rattle.scrypt_commands.proofs.run.run_by.Goals as goal
+use Rattle.scrypt_commands.proofs.run.run_line.Goals as goal
 
 pub returns-in-Err-clause-run : goal.returns-in-Err-clause-run
 returns-in-Err-clause-run g c = record {

@@ -1,0 +1,13 @@
+"""Error lines of the program that several tables have."""
+
+USAGE = (
+    "usage: key LOG_N R P LEN SALT_HEX | hash phc|mcf LOG_N R P SALT_HEX [LEN] | verify HASH"
+    " | rehash phc|mcf LOG_N R P LEN SALT_HEX HASH"
+)
+# The line for options that do not fit a command.
+MISFIT = {
+    "key": "key takes no option except --strip-newline: see --help",
+    "hash": "hash takes no option except --draw-salt, --recommended and --strip-newline: see --help",
+    "verify": "verify does not take --draw-salt and --recommended: see --help",
+    "rehash": "rehash does not take --recommended: see --help",
+}

@@ -1,4 +1,0 @@
-use Rattle.scrypt_commands.proofs.args.parse_byte.Goals as goal
-
-pub returns : goal.returns
-returns c = c.decimals_are_read.ensures.gives 8 c.args.arg.now _ c.read_decimal.ensures.gives

@@ -1,4 +1,0 @@
-use Rattle.scrypt_commands.proofs.args.parse_word.Goals as goal
-
-pub returns : goal.returns
-returns c = c.decimals_are_read.ensures.gives 32 c.args.arg.now _ c.read_decimal.ensures.gives

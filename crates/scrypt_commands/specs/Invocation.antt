@@ -1,0 +1,111 @@
+-- What a command line asks for.
+use Rattle.std.specs.Prelude.{ℕ, ◌||◌, Bool, false, bytes_eq, codes, if◌then◌else◌, is_some}
+use Rattle.std.specs.Prelude.{List, [], ◌∷◌, Option, None, Result, Ok, Err}
+use Rattle.std.specs.Bool.{then_some}
+use Rattle.std.specs.Option.{option_copied, option_map_or}
+use Rattle.scrypt.specs.Reading.{◌and_then◌}
+use Rattle.scrypt_commands.specs.Options.{Options, options_of, texts_of}
+use Rattle.scrypt_commands.specs.declared.command_line.CommandLine.{CommandLine as CommandLineOf}
+use Rattle.scrypt_commands.specs.declared.command_line.Name.{Name}
+use Rattle.scrypt_commands.specs.declared.command_line.Name.TheVariants.{Key, Hash, Verify, Rehash}
+use Rattle.scrypt_commands.specs.declared.error.CliError.{CliError}
+use Rattle.scrypt_commands.specs.declared.error.CliError.TheVariants.{HashMisfit, KeyMisfit, RehashMisfit, Usage, VerifyMisfit}
+use Rattle.scrypt_commands.specs.declared.invocation.Invocation.{Invocation as InvocationOf}
+use Rattle.scrypt_commands.specs.declared.invocation.Invocation.TheVariants as typed
+use Rattle.scrypt_commands.specs.declared.options.Options.{Options as OptionsOf}
+
+-- a command by its options, with the words after its name, the salt that was drawn and the text of the file of the hash, if there
+-- are these
+pub record CommandLine : Type 0 where
+  pub name : Name
+  pub options : Options
+  pub words : List (List ℕ)
+  pub salt : Option (List ℕ)
+  pub file_text : Option (List ℕ)
+
+-- what a command line asks for: a text about the program, nothing that can be done, or a command by its options
+pub data Invocation : Type 0 where
+  Tell : (text : List ℕ) → Invocation
+  Refuse : (error : CliError) → Invocation
+  Command : (line : CommandLine) → Invocation
+
+-- the command of this name
+unfoldable pub name_of : List ℕ → Result Name CliError
+name_of word =
+    if bytes_eq word (codes "key") then Ok Key
+    else if bytes_eq word (codes "hash") then Ok Hash
+    else if bytes_eq word (codes "verify") then Ok Verify
+    else if bytes_eq word (codes "rehash") then Ok Rehash
+    else Err Usage
+
+-- whether an option is about a stored hash: its limits, or its file
+abbrev pub is_about_hash : Options → Bool
+is_about_hash o = is_some o.bounds || is_some o.hash_file
+
+-- Why the options do not fit a command, if they don't. Options about a stored hash are for `verify` and `rehash`, a salt is drawn for
+-- `hash` and `rehash`, and the recommended parameters are those of `hash`.
+abbrev pub misfit : Options → Name → Option CliError
+misfit o Key = then_some (is_about_hash o || o.draws_salt) KeyMisfit
+misfit o Hash = then_some (is_about_hash o) HashMisfit
+misfit o Verify = then_some o.draws_salt VerifyMisfit
+misfit o Rehash = then_some o.is_recommended RehashMisfit
+
+-- this command by these options, if they fit it
+abbrev pub line_of : Options → List (List ℕ) → Name → Result CommandLine CliError
+line_of o words name = option_map_or Err (misfit o name)
+    (Ok (record { name = name; options = o; words = words; salt = None; file_text = None }))
+
+-- the command of these words by these options
+abbrev pub command_by : Options → List (List ℕ) → Result CommandLine CliError
+command_by o [] = Err Usage
+command_by o (word ∷ words) = name_of word and_then line_of o words
+
+-- what a command asks for, or that it is refused
+abbrev pub asked_by : Result CommandLine CliError → Invocation
+asked_by (Ok line) = Command line
+asked_by (Err error) = Refuse error
+
+-- what these options and the words after them ask for
+abbrev pub invocation_by : Options × List (List ℕ) → Invocation
+invocation_by (o, words) = option_map_or Tell o.information (asked_by (command_by o words))
+
+-- what these words ask for, of which the first may be options
+abbrev pub invocation_of : List (List ℕ) → Invocation
+invocation_of words = invocation_by (options_of words)
+
+-- whether a salt is drawn
+abbrev pub draws_salt : Invocation → Bool
+draws_salt (Command line) = line.options.draws_salt
+draws_salt others = false
+
+-- the file whose text is the hash, if it is not a word
+abbrev pub hash_file_of : Invocation → Option (List ℕ)
+hash_file_of (Command line) = line.options.hash_file
+hash_file_of others = None
+
+-- the options, with the texts that they have
+abbrev pub options_view : OptionsOf → Options
+options_view it = record {
+  bounds = it.bounds;
+  draws_salt = it.draws_salt;
+  is_recommended = it.is_recommended;
+  strips_newline = it.strips_newline;
+  hash_file = option_copied it.hash_file;
+  information = option_copied it.information;
+}
+
+-- a command by its options
+abbrev pub line_view : CommandLineOf → CommandLine
+line_view it = record {
+  name = it.name;
+  options = options_view it.options;
+  words = texts_of it.words.now;
+  salt = it.drawn;
+  file_text = option_copied it.file_text;
+}
+
+-- what a command line asks for
+abbrev pub invocation_view : InvocationOf → Invocation
+invocation_view (typed.Tell text) = Tell text.now
+invocation_view (typed.Refuse error) = Refuse error
+invocation_view (typed.Command line) = Command (line_view line)

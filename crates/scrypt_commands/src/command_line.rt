@@ -1,0 +1,74 @@
+// A command by its options.
+
+ghost use Rattle.std.specs.Prelude.{◌≡◌, IfErr};
+ghost use Rattle.scrypt.specs.Reading.{mapped};
+ghost use Rattle.scrypt_commands.specs.CliError.{status_of};
+ghost use Rattle.scrypt_commands.specs.Invocation.{command_by, line_view, name_of, options_view};
+ghost use Rattle.scrypt_commands.specs.Options.{texts_of};
+
+use crate::error::CliError;
+use crate::options::Options;
+
+/// The name of a command.
+#[derive(Clone, Copy)]
+pub enum Name {
+    Key,
+    Hash,
+    Verify,
+    Rehash,
+}
+
+/// A command by its options, whose words are not read yet.
+#[derive(Clone, Copy)]
+pub struct CommandLine<'a> {
+    pub name: Name,
+    pub options: Options<'a>,
+    /// the words after the name
+    pub words: &'a [String],
+    /// the salt that was drawn, if the options draw one
+    pub drawn: Option<[u8; 16]>,
+    /// the text of the file that the options name, if they name one
+    pub file_text: Option<&'a str>,
+}
+
+impl Name {
+    /// Returns the command of this name, or `Usage` if there is none.
+    #[tactic(auto, using(crate::proofs::CommandFacts::other), unfolding(crate::specs::Invocation::name_of))]
+    pub fn of(word: &str) -> Result<Name, CliError>
+        ensures value { result ≡ name_of word.now }
+        ensures refused { IfErr result (λ error. status_of error ≡ 2) }
+    {
+        match word {
+            "key" => Ok(Name::Key),
+            "hash" => Ok(Name::Hash),
+            "verify" => Ok(Name::Verify),
+            "rehash" => Ok(Name::Rehash),
+            _ => Err(CliError::Usage),
+        }
+    }
+}
+
+impl<'a> CommandLine<'a> {
+    /// Returns the command of these words by these options, without a salt and the text of a file.
+    ///
+    /// Returns `Usage` if there is no command, and the error of options that do not fit it.
+    pub fn new(options: Options<'a>, words: &'a [String]) -> Result<CommandLine<'a>, CliError>
+        ensures value { mapped line_view result ≡ command_by (options_view options.entry) (texts_of words.now) }
+        ensures refused { IfErr result (λ error. status_of error ≡ 2) }
+    {
+        let Some((word, words)) = words.split_first() else {
+            return Err(CliError::Usage);
+        };
+        let name = Name::of(word.as_str())?;
+        match options.misfit(name) {
+            Some(error) => Err(error),
+            None => Ok(CommandLine {
+                name,
+                options,
+                words,
+                drawn: None,
+                file_text: None,
+            }),
+        }
+    }
+}

@@ -1,0 +1,131 @@
+//! What a command line asks for, of which the first words may be options.
+
+ghost use Rattle.std.specs.Prelude.{◌≡◌, ◌⊎◌, ℕ, IfOk, IsTrue, List, OnErr, Option, Ok, Err, length, true};
+ghost use Rattle.std.specs.Io.KnownBytes.{Keeps};
+ghost use Rattle.std.specs.Option.{option_copied};
+ghost use Rattle.scrypt_commands.specs.Invocation.{draws_salt, hash_file_of, invocation_of, invocation_view};
+ghost use Rattle.scrypt_commands.specs.Options.{texts_of};
+ghost use Rattle.scrypt_commands.specs.Run.{IsAtOnce, IsRun, at_once, plan_of};
+ghost use Rattle.scrypt_commands.specs.Steps.{IsDrawn};
+
+use crate::command_line::CommandLine;
+use crate::error::CliError;
+use crate::options::parse_options;
+use crate::run::{Ended, answered, end, run_line, write_line};
+use std::alloc::Global;
+use std::io;
+use std::io::{Read, Write};
+
+/// A source of salts.
+pub trait SaltSource {
+    /// what it has drawn
+    ghost draws: { Self → List ℕ → Type 0 };
+
+    /// Draws a salt at random.
+    fn draw_salt(&self) -> io::Result<[u8; 16]>
+        ensures drawn { IfOk result (λ salt. draws self.now salt) };
+}
+
+/// What a command line asks for.
+#[derive(Clone, Copy)]
+pub enum Invocation<'a> {
+    /// a text about the program
+    Tell(&'static str),
+    /// nothing that can be done
+    Refuse(CliError),
+    /// a command by options that fit it
+    Command(CommandLine<'a>),
+}
+
+impl<'a> Invocation<'a> {
+    /// Parses the options, which come first. The words of the command are read by `run`.
+    pub fn parse(words: &'a [String]) -> Invocation<'a>
+        ensures value { invocation_view result ≡ invocation_of (texts_of words.now) }
+    {
+        let (options, words) = parse_options(words);
+        if let Some(text) = options.information {
+            return Invocation::Tell(text);
+        }
+        match CommandLine::new(options, words) {
+            Ok(line) => Invocation::Command(line),
+            Err(error) => Invocation::Refuse(error),
+        }
+    }
+
+    /// Returns the file whose text is the hash, if `--hash-file` names one: then give that text to `run`, which reads no
+    /// files.
+    pub fn hash_file(&self) -> Option<&'a str>
+        ensures value { option_copied result ≡ hash_file_of (invocation_view self.now) }
+    {
+        match self {
+            Invocation::Command(line) => line.options.hash_file,
+            _ => None,
+        }
+    }
+
+    /// Runs the program on what is asked for, and on the text of the file of the hash if it names one. Without an option
+    /// it is `run`.
+    ///
+    /// Prints what `--help` or `--version` ask for. Draws a salt of 16 bytes from `source` if the options say so.
+    ///
+    /// Returns an error only if the options draw a salt and the source fails. Then the input is not read, and nothing is
+    /// written. No salt is used but one that the source has drawn.
+    pub fn run<S: SaltSource, R: Read, W: Write, F: Write>(
+        self,
+        alloc: Global,
+        source: &S,
+        file_text: Option<&str>,
+        reader: &mut R,
+        writer: &mut W,
+        faults: &mut F,
+    ) -> io::Result<Ended>
+        ensures run { IfOk result (λ ended. (salt : List ℕ) × (length salt ≡ 16)
+            × (draws_salt (invocation_view self.entry) ≡ true → S.draws source.now salt)
+            × IsRun (plan_of salt (option_copied file_text.entry) (invocation_view self.entry))
+            (record { input = R.remaining reader.old; output = W.contents writer.old; faults = F.contents faults.old })
+            (record { input = R.remaining reader.new; output = W.contents writer.new; faults = F.contents faults.new }) ended) }
+        ensures at_once { IfOk result (IsAtOnce (invocation_view self.entry)) }
+        ensures drawn { OnErr result (IsTrue (draws_salt (invocation_view self.entry))) }
+        ensures unread { OnErr result (Keeps (R.remaining reader.old) (R.remaining reader.new)
+            × Keeps (W.contents writer.old) (W.contents writer.new) × Keeps (F.contents faults.old) (F.contents faults.new)) }
+    {
+        match self {
+            Invocation::Tell(text) => Ok(print(text, writer, faults)),
+            Invocation::Refuse(error) => Ok(end(error, faults)),
+            Invocation::Command(line) => {
+                let line = CommandLine {
+                    drawn: draw(source, line.options.draws_salt)?,
+                    file_text,
+                    ..line
+                };
+                Ok(run_line(alloc, line, reader, writer, faults))
+            }
+        }
+    }
+}
+
+// Draws a salt, if one is to be. Returns the error of the source.
+fn draw<S: SaltSource>(source: &S, is_drawn: bool) -> io::Result<Option<[u8; 16]>>
+    ensures salt { IfOk result (IsDrawn is_drawn (S.draws source.now)) }
+    ensures drawn { OnErr result (IsTrue is_drawn) }
+{
+    if !is_drawn {
+        return Ok(None);
+    }
+    Ok(Some(source.draw_salt()?))
+}
+
+// Writes a text to the output.
+#[tactic(auto, using(crate::proofs::OutcomeFacts::at_once))]
+fn print<W: Write, F: Write>(text: &str, writer: &mut W, faults: &mut F) -> Ended
+    ensures run { (input : Option (List ℕ)) → IsRun (at_once (Ok (record { status = 0; line = text.now })))
+        (record { input = input; output = W.contents writer.old; faults = F.contents faults.old })
+        (record { input = input; output = W.contents writer.new; faults = F.contents faults.new }) result }
+    ensures status { (result.status ≡ 0) ⊎ (result.status ≡ 4) }
+    ensures output { ¬ IsTrue result.input_failed }
+{
+    match write_line(writer, text) {
+        Ok(()) => answered(0),
+        Err(error) => end(error, faults),
+    }
+}

@@ -1,0 +1,58 @@
+// What the program prints about itself.
+
+ghost use Rattle.std.specs.Prelude.{◌≡◌};
+ghost use Rattle.scrypt_commands.specs.Information.{help_text, version_text};
+
+/// The line for words that are no command.
+pub const USAGE: &[u8] =
+    b"usage: key LOG_N R P LEN SALT_HEX | hash phc|mcf LOG_N R P SALT_HEX [LEN] | verify HASH | rehash phc|mcf LOG_N R P LEN SALT_HEX HASH\n";
+
+/// What `--version` prints.
+#[tactic(auto, unfolding(crate::specs::Information::version_text))]
+pub fn version() -> &'static str
+    ensures value { result.now ≡ version_text }
+{
+    VERSION
+}
+
+/// What `--help` prints.
+#[tactic(auto, unfolding(crate::specs::Information::help_text))]
+pub fn help() -> &'static str
+    ensures value { result.now ≡ help_text }
+{
+    HELP
+}
+
+const VERSION: &str = "scrypt_tool 0.12.0+proved.1\n";
+
+const HELP: &str = "\
+scrypt_tool: scrypt keys (RFC 7914) and password hashes\n\
+\n\
+usage: scrypt_tool [OPTION..] COMMAND ..\n\
+\x20 key LOG_N R P LEN SALT_HEX\n\
+\x20     prints the key of LEN bytes in hexadecimal\n\
+\x20 hash phc|mcf LOG_N R P SALT_HEX [LEN]\n\
+\x20     prints a hash\n\
+\x20 verify HASH\n\
+\x20     prints ok, or no for another password\n\
+\x20 rehash phc|mcf LOG_N R P LEN SALT_HEX HASH\n\
+\x20     verifies, and prints a new hash in place of ok if HASH is weaker\n\
+The password is the whole standard input. With --strip-newline the newline at\n\
+its end, LF or CR LF, is cut off.\n\
+\n\
+options for hash and rehash:\n\
+\x20 --draw-salt        draw a salt of 16 bytes: then leave SALT_HEX out\n\
+\x20 --recommended      LOG_N R P are 17 8 1 and a salt is drawn: hash phc|mcf\n\
+options for verify and rehash, as an untrusted HASH chooses its own cost:\n\
+\x20 --usual-limits     all three limits below; without an option there are none\n\
+\x20 --most-bytes=N     the most memory (269484032 bytes), and\n\
+\x20 --most-work=N      the most work, 4 * (2^LOG_N + 32) * R * P (16781312),\n\
+\x20                    or for rehash what the new hash needs if that is more\n\
+\x20 --least-key-len=N  the shortest key in bytes (16 for verify, 0 for rehash)\n\
+and as others can see a HASH that is an argument:\n\
+\x20 --hash-file=FILE   read it from FILE: then leave HASH out\n\
+and alone:\n\
+\x20 --help, --version\n\
+\n\
+Statuses: 0 done or ok, 1 no, 2 refused, 3 out of memory, 4 input or output failed.\n\
+";
