@@ -1,17 +1,18 @@
 -- Making hashes, carrying out a command, and the outcome of a run.
 use Rattle.std.proofs.Common.{◌≡◌, ◌⊎◌, ℕ, true, List, [], Option, Some, None, Ok, Err, inl, inr, length, false}
 use Rattle.std.proofs.Common.{◌∙◌, refl, sym, append-nil, arith}
-use Rattle.std.specs.Prelude.{IfSome, Result}
+use Rattle.std.specs.Prelude.{IfSome, IsErrOf, Result, ⊤}
 use Rattle.std.specs.Bool.{Decides}
 use Rattle.std.specs.Io.KnownBytes.{Appends, Keeps}
 use Rattle.password_hash.specs.Phc.{hash_text}
-use Rattle.password_hash.specs.Refusal.{Refusal}
+use Rattle.password_hash.specs.Refusal.{Refusal, OutOfMemory as Refused}
 use Rattle.password_hash.specs.declared.phc.hash.PasswordHash.{PasswordHash}
 use Rattle.scrypt.specs.Accepted.{Parameters}
 use Rattle.scrypt.specs.Hashing.{by_algorithm, by_memory, by_salt, by_version}
 use Rattle.scrypt.specs.Reading.{IsVerdict, Stored, verdict}
 use Rattle.scrypt.specs.declared.limits.Limits.{Limits}
 use Rattle.scrypt.specs.PhcHash.{HashIsRefused, IsMadeHash, IsSaltLen}
+use Rattle.scrypt_kernel.specs.declared.cores.count.CoreCount.{CoreCount}
 use Rattle.std.proofs.lemmas.Bool.{false_from_ne_true}
 use Rattle.std.proofs.lemmas.Bool.Decides.{nat_tests}
 use Rattle.scrypt_commands.specs.CliError.{error_line, error_of, limited_error_of, status_of}
@@ -19,7 +20,7 @@ use Rattle.scrypt_commands.specs.Command.{request_of}
 use Rattle.scrypt_commands.specs.Invocation.{CommandLine}
 use Rattle.scrypt_commands.specs.Outcome.{Reply, is_salt_len, new_hash, outcome, phc_text, reply_by, right_of}
 use Rattle.scrypt_commands.specs.Run.{HasOutcome, OnInput, Streams}
-use Rattle.scrypt_commands.specs.Steps.{AppendsReply, FailsWith}
+use Rattle.scrypt_commands.specs.Steps.{AppendsReply, AreOfHash, FailsWith}
 use Rattle.scrypt_commands.specs.declared.command.Format.TheVariants.{Phc}
 use Rattle.scrypt_commands.specs.declared.error.CliError.{CliError}
 use Rattle.scrypt_commands.specs.declared.error.CliError.TheVariants.{InputFailed, OutOfMemory, OutputFailed, SaltInvalid}
@@ -52,6 +53,18 @@ pub wrong_password : (limits : Option Limits) (password : List ℕ) (stored : Re
 wrong_password limits password stored why (inl is) none = rw (← is, none) refl
 wrong_password None password stored why (inr (_, failed)) none = absurd cc
 wrong_password (Some limits) password stored why (inr (_, failed)) none = absurd cc
+
+-- the cores of verifying, by the error that is reported for its refusal, if there is one
+pub reported_cores : (limits : Option Limits) (why : Refusal) (stored : Result Stored Refusal) (failed : Type 0) (before after : CoreCount)
+    → (limited_error_of limits why ≡ Some OutOfMemory → failed) → AreOfHash stored (IsErrOf {T = ⊤} (Err why) Refused) before after
+    → AreOfHash stored failed before after
+reported_cores limits why (Err unread) failed before after reported cores = cores
+reported_cores limits why (Ok s) failed before after reported cores = λ no. cores (λ is.
+    let same : why ≡ Refused = cc in no (reported (rw same (reports limits))))
+  where
+    reports : (limits : Option Limits) → limited_error_of limits Refused ≡ Some OutOfMemory
+    reports None = refl
+    reports (Some limits) = refl
 
 -- what holds of every input holds of that of a reader
 pub on_any_input : (known : Option (List ℕ)) (P : List ℕ → Type 0) → ((input : List ℕ) → P input) → OnInput known P

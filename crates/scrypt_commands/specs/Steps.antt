@@ -7,12 +7,19 @@ use Rattle.std.specs.Io.KnownBytes.{Appends}
 use Rattle.scrypt.specs.declared.errors.DeriveError.{DeriveError}
 use Rattle.scrypt.specs.declared.errors.DeriveError.TheVariants.{InvalidOutputLen as DerivedBadLength, OutOfMemory as DerivedOutOfMemory}
 use Rattle.hex.specs.Hex.{decode_of}
+use Rattle.password_hash.specs.Refusal.{Refusal}
+use Rattle.scrypt_kernel.specs.Count.{AreCounted}
+use Rattle.scrypt_kernel.specs.declared.cores.count.CoreCount.{CoreCount}
+use Rattle.scrypt.specs.Cost.{cost}
+use Rattle.scrypt.specs.Reading.{Stored}
+use Rattle.scrypt.specs.StoredHash.{reading}
 use Rattle.scrypt_commands.specs.Options.{texts_of}
 use Rattle.scrypt_commands.specs.CliError.{status_of}
 use Rattle.scrypt_commands.specs.Command.{Making, Request, ToMake, ToVerify, decoded_salt}
-use Rattle.scrypt_commands.specs.Outcome.{Reply}
+use Rattle.scrypt_commands.specs.Outcome.{Reply, bounded, limits_by}
 use Rattle.scrypt_commands.specs.Run.{OnInput}
 use Rattle.scrypt_commands.specs.declared.answer.Answer.{Answer}
+use Rattle.scrypt_commands.specs.declared.bounds.Bounds.{Bounds}
 use Rattle.scrypt_commands.specs.declared.answer.Answer.TheVariants.{Made, Right, Wrong}
 use Rattle.scrypt_commands.specs.declared.command.Salt.{Salt}
 use Rattle.scrypt_commands.specs.declared.command.Salt.TheVariants.{Digits, Drawn}
@@ -68,3 +75,15 @@ IsDrawn is_drawn Is drawn = (salt : List ℕ) × (length salt ≡ 16) × (is_dra
 abbrev pub AppendsReply : (List ℕ → Result Reply CliError) → Option (List ℕ) → Option (List ℕ) → Option (List ℕ) → ℕ → Type 0
 AppendsReply reply_on known old new status =
     OnInput known (λ input. (line : List ℕ) × (reply_on input ≡ Ok (record { status = status; line = line })) × Appends old new line)
+
+-- the cores of verifying with a hash of this reading: none if it is refused, and otherwise those of its parameters, unless an
+-- allocation failed
+abbrev pub AreOfHash : Result Stored Refusal → (failed : Type 0) → CoreCount → CoreCount → Type 0
+AreOfHash (Err why) failed before after = after ≡ before
+AreOfHash (Ok s) failed before after = ¬ failed → AreCounted (cost s.params.log_n s.params.r s.params.p) before after
+
+-- the cores of verifying for a request within bounds, if there are any: none if it asks only to make something
+abbrev pub AreOfRequest : Option Bounds → Request → (failed : Type 0) → CoreCount → CoreCount → Type 0
+AreOfRequest bounds (ToMake making) failed before after = after ≡ before
+AreOfRequest bounds (ToVerify text wanted) failed before after =
+    AreOfHash (bounded (limits_by bounds wanted) (reading text)) failed before after

@@ -1,20 +1,22 @@
 // The answer to a command.
 
-ghost use Rattle.std.specs.Prelude.{◌≡◌, false, option_map, string_bytes};
+ghost use Rattle.std.specs.Prelude.{◌≡◌, IsErrOf, false, option_map, string_bytes};
 ghost use Rattle.std.specs.Result.{result_unwrap_or};
+ghost use Rattle.password_hash.specs.Refusal.{OutOfMemory as Refused};
 ghost use Rattle.scrypt.specs.Reading.{IsVerdict, verdict, weaker};
 ghost use Rattle.scrypt.specs.StoredHash.{reading};
 ghost use Rattle.scrypt.specs.WithinLimits.{with_limited_refusal};
 ghost use Rattle.scrypt_commands.specs.Outcome.{bounded, limits_by, made_reply, new_hash, new_text, reply_to, right_of, right_reply};
-ghost use Rattle.scrypt_commands.specs.Steps.{Gives, making_view, reply_view, request_view};
+ghost use Rattle.scrypt_commands.specs.Steps.{AreOfHash, AreOfRequest, Gives, making_view, reply_view, request_view};
 ghost use Rattle.scrypt_commands.specs.declared.command.Target.TheVariants.{Key};
+ghost use Rattle.scrypt_commands.specs.declared.error.CliError.TheVariants.{OutOfMemory};
 
 use crate::bounds::Bounds;
 use crate::command::{Command, Format, Making, Target};
 use crate::error::CliError;
 use password_hash::{PasswordHasher, mcf, phc};
 use scrypt::laws::{hashers_are_accepted, made_hashes_are_accepted, texts_have_one_reading};
-use scrypt::{LimitedError, Limits, Params, Scrypt, StoredHash, scrypt};
+use scrypt::{CoreCount, LimitedError, Limits, Params, Scrypt, StoredHash, scrypt};
 use std::alloc::Global;
 
 /// The answer to a command.
@@ -46,19 +48,22 @@ impl<'a> Command<'a> {
     /// Carries out the command on this password. A hash is verified only within the bounds, if there are any.
     ///
     /// Returns the error of hashing or verifying, also `TooCostly` or `KeyTooShort` if a hash exceeds
-    /// the bounds, and `OutOfMemory` if an allocation fails.
+    /// the bounds, and `OutOfMemory` if an allocation fails. `cores` counts the cores of verifying: none if
+    /// the hash cannot be read or exceeds the bounds.
     pub fn answer(
         &self,
         alloc: Global,
         password: &[u8],
         bounds: Option<Bounds>,
+        cores: &mut CoreCount,
     ) -> Result<Answer, CliError>
         ensures reply { Gives reply_view (reply_to bounds (request_view self.now) password.now) result }
+        ensures cores { AreOfRequest bounds (request_view self.now) (IsErrOf result OutOfMemory) cores.old cores.new }
     {
         match self {
             Command::Make(making) => make(alloc, password, making),
             Command::Verify { hash, wanted } => {
-                if !verify(alloc, hash, password, limits_by(bounds, wanted))? {
+                if !verify(alloc, hash, password, limits_by(bounds, wanted), cores)? {
                     return Ok(Answer::Wrong);
                 }
                 replace(alloc, hash, password, wanted)
@@ -95,11 +100,13 @@ fn verify(
     hash: &StoredHash<'_>,
     password: &[u8],
     limits: Option<Limits>,
+    cores: &mut CoreCount,
 ) -> Result<bool, CliError>
-    ensures { Gives (λ right. right)
+    ensures right { Gives (λ right. right)
         (right_of limits (verdict password.now (bounded limits (reading hash.now)))) result }
+    ensures cores { AreOfHash (bounded limits (reading hash.now)) (IsErrOf result OutOfMemory) cores.old cores.new }
 {
-    match verify_within(alloc, hash, password, limits) {
+    match verify_within(alloc, hash, password, limits, cores) {
         Ok(()) => Ok(true),
         Err(refused) => match CliError::of_limited(refused, limits) {
             Some(error) => Err(error),
@@ -114,15 +121,18 @@ fn verify_within(
     hash: &StoredHash<'_>,
     password: &[u8],
     limits: Option<Limits>,
+    cores: &mut CoreCount,
 ) -> Result<(), LimitedError>
-    ensures { IsVerdict password.now (bounded limits (reading hash.now)) (with_limited_refusal result) }
+    ensures verdict { IsVerdict password.now (bounded limits (reading hash.now)) (with_limited_refusal result) }
+    ensures cores { AreOfHash (bounded limits (reading hash.now)) (IsErrOf (with_limited_refusal result) Refused)
+        cores.old cores.new }
 {
     if let Some(limits) = limits {
         if let Err(refused) = hash.buffer_lens_within(&limits) {
             return Err(refused);
         }
     }
-    match hash.verify(alloc, password) {
+    match hash.verify_counted(alloc, password, cores) {
         Ok(()) => Ok(()),
         Err(refused) => Err(LimitedError::Hash(refused)),
     }

@@ -15,6 +15,7 @@ use crate::command::Command;
 use crate::command_line::CommandLine;
 use crate::error::CliError;
 use crate::options::NONE;
+use scrypt::CoreCount;
 use std::alloc::Global;
 use std::io::{Read, Write};
 
@@ -100,7 +101,12 @@ fn execute<R: Read, W: Write>(
 {
     let command = Command::read(alloc, line)?;
     let input = read_all(alloc, reader)?;
-    let answer = command.answer(alloc, line.options.password(&input), line.options.bounds)?;
+    let answer = command.answer(
+        alloc,
+        line.options.password(&input),
+        line.options.bounds,
+        &mut CoreCount::new(),
+    )?;
     let (status, line) = answer.reply();
     write_line(writer, line)?;
     Ok(status)
