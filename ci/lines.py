@@ -6,8 +6,8 @@ USAGE = (
 )
 # The line for options that do not fit a command.
 MISFIT = {
-    "key": "key takes no option except --strip-newline: see --help",
+    "key": "key takes no option except --raw and --strip-newline: see --help",
     "hash": "hash takes no option except --draw-salt, --recommended and --strip-newline: see --help",
-    "verify": "verify does not take --draw-salt and --recommended: see --help",
-    "rehash": "rehash does not take --recommended: see --help",
+    "verify": "verify does not take --draw-salt, --raw and --recommended: see --help",
+    "rehash": "rehash does not take --raw and --recommended: see --help",
 }

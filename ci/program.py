@@ -10,6 +10,7 @@ usage: python3 -m ci.program PROGRAM
 import hashlib
 import itertools
 import os
+import subprocess
 import sys
 
 from ci import prompt
@@ -232,6 +233,10 @@ OPTIONS = [
     (f"--recommended verify {EMPTY}", "", 2, MISFIT["verify"], "the same"),
     (f"--recommended rehash phc 32 {EMPTY}", "", 2, MISFIT["rehash"], "the same"),
     ("--recommended hash phc 17 8 1", "", 2, USAGE, "they are not named"),
+    *((f"--raw {command}", "", 2, MISFIT[command.split()[0]], "only a key is written raw")
+      for command in ("hash phc 4 1 1 00", f"verify {EMPTY}", f"rehash phc 4 1 1 32 00 {EMPTY}")),
+    ("--raw key 4 1 1 0 ", "", 2, "invalid output buffer length", "a raw key that is refused"),
+    ("--raw --draw-salt key 4 1 1 16", "", 2, MISFIT["key"], "the salt of a raw key is named too"),
     (f"--draw-salt rehash phc 4 1 1 32 {EMPTY}", "", 0, "ok", "a salt that is not needed"),
     (f"--usual-limits --draw-salt --strip-newline rehash phc 4 1 1 32 {EMPTY}", "\n", 0, "ok", "three options"),
     (f"--usual-limits verify {EMPTY}", "", 0, "ok", "a hash within the usual limits"),
@@ -304,6 +309,14 @@ def information(program):
     yield "--help", (status, missing, error), (0, set(), "")
 
 
+def raw_keys(program):
+    """Keys as bytes, of each length, with no newline."""
+    for length in (1, 64, 100):
+        ran = subprocess.run([program, "--raw", *f"key 4 1 1 {length} 00".split()], input=b"password", capture_output=True)
+        wanted = 0, key_of(b"password", b"\0", length), b""
+        yield f"a raw key of {length} bytes", (ran.returncode, ran.stdout, ran.stderr), wanted
+
+
 def refused_memory(program):
     """Each allocation fails in turn, if what fails it can be built here."""
     if runs.COMPILER:
@@ -324,7 +337,7 @@ def terminal(program):
 
 def main():
     # What a program touches counts what this one has before, so that this is first.
-    parts = [memory, rows, long_passwords, streams, cuts, refused_memory, salts, hash_files, information, terminal]
+    parts = [memory, rows, long_passwords, streams, cuts, refused_memory, salts, hash_files, information, raw_keys, terminal]
     _, wrong = runs.report("program", itertools.chain(*(part(sys.argv[1]) for part in parts)))
     sys.exit(1 if wrong else 0)
 

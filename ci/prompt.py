@@ -44,6 +44,7 @@ ROWS = [
     (VERIFY, [signal.SIGCONT, "password\n"], 0, [*ONCE, *ONCE, "ok"], "it asks again when it goes on"),
     ("verify $8$", [], 2, ["hash refused: EncodingInvalid"], "what is refused without a password asks for none"),
     ("--version", [], 0, [VERSION], "nor does what needs none"),
+    (f"--raw {KEY}", [], 2, ["--raw does not write to a terminal"], "nor the bytes of a key, which would change the terminal"),
 ]
 
 

@@ -22,10 +22,10 @@ status_of refused = 2
 abbrev pub fixed_line : CliError → List ℕ
 fixed_line Usage =
     codes "usage: key LOG_N R P LEN SALT_HEX | hash phc|mcf LOG_N R P SALT_HEX [LEN] | verify HASH | rehash phc|mcf LOG_N R P LEN SALT_HEX HASH\n"
-fixed_line KeyMisfit = codes "key takes no option except --strip-newline: see --help\n"
+fixed_line KeyMisfit = codes "key takes no option except --raw and --strip-newline: see --help\n"
 fixed_line HashMisfit = codes "hash takes no option except --draw-salt, --recommended and --strip-newline: see --help\n"
-fixed_line VerifyMisfit = codes "verify does not take --draw-salt and --recommended: see --help\n"
-fixed_line RehashMisfit = codes "rehash does not take --recommended: see --help\n"
+fixed_line VerifyMisfit = codes "verify does not take --draw-salt, --raw and --recommended: see --help\n"
+fixed_line RehashMisfit = codes "rehash does not take --raw and --recommended: see --help\n"
 fixed_line SaltNotHex = codes "salt is not hexadecimal\n"
 fixed_line InvalidParams = codes "invalid scrypt parameters\n"
 fixed_line InvalidOutputLen = codes "invalid output buffer length\n"

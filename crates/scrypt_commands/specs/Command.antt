@@ -53,7 +53,7 @@ checked_params it key_len =
 
 -- whether a key of that length can be derived; a hash has an allowed length of its own
 abbrev pub has_allowed_len : Target → Bool
-has_allowed_len (Key len) = is_output_len len
+has_allowed_len (Key len is_raw) = is_output_len len
 has_allowed_len (Hash format) = true
 
 -- what is to be made, of a salt that was read
@@ -133,13 +133,13 @@ format_word words = do
       else Err Usage
 
 -- after `key`: LOG_N R P LEN SALT_HEX
-unfoldable pub key_words : List (List ℕ) → Result Making CliError
-key_words words = do
+unfoldable pub key_words : Bool → List (List ℕ) → Result Making CliError
+key_words is_raw words = do
   (params, words) ← params_words false words
   (len, words) ← len_word words
   (salt, words) ← salt_word None words
   _ ← end_of words
-  making_of (Key len) params None salt
+  making_of (Key len is_raw) params None salt
 
 -- after `hash`: phc|mcf LOG_N R P SALT_HEX [LEN], or phc|mcf SALT_HEX for the recommended parameters
 unfoldable pub hash_words : Bool → Option (List ℕ) → List (List ℕ) → Result Making CliError
@@ -179,7 +179,7 @@ to_make making = making >>= λ making. Ok (ToMake making)
 -- What the words of a command ask for. No words stand for the recommended parameters of `hash`, for a salt that was drawn, and for a
 -- hash that is the text of a file.
 abbrev pub requested_by : CommandLine → Name → Result Request CliError
-requested_by line names.Key = to_make (key_words line.words)
+requested_by line names.Key = to_make (key_words line.options.is_raw line.words)
 requested_by line names.Hash = to_make (hash_words line.options.is_recommended line.salt line.words)
 requested_by line names.Verify = verify_words line.file_text line.words
 requested_by line names.Rehash = rehash_words line.salt line.file_text line.words

@@ -22,6 +22,8 @@ help_text =
     ++ codes "The password is the whole standard input. With --strip-newline the newline at\n"
     ++ codes "its end, LF or CR LF, is cut off.\n"
     ++ codes "\n"
+    ++ codes "options for key:\n"
+    ++ codes "  --raw              print the bytes of the key and no newline, not to a terminal\n"
     ++ codes "options for hash and rehash:\n"
     ++ codes "  --draw-salt        draw a salt of 16 bytes: then leave SALT_HEX out\n"
     ++ codes "  --recommended      LOG_N R P are 17 8 1 and a salt is drawn: hash phc|mcf\n"

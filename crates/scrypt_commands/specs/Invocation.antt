@@ -43,12 +43,12 @@ abbrev pub is_about_hash : Options → Bool
 is_about_hash o = is_some o.bounds || is_some o.hash_file
 
 -- Why the options do not fit a command, if they don't. Options about a stored hash are for `verify` and `rehash`, a salt is drawn for
--- `hash` and `rehash`, and the recommended parameters are those of `hash`.
+-- `hash` and `rehash`, the recommended parameters are those of `hash`, and only a key is written raw.
 abbrev pub misfit : Options → Name → Option CliError
 misfit o Key = then_some (is_about_hash o || o.draws_salt) KeyMisfit
-misfit o Hash = then_some (is_about_hash o) HashMisfit
-misfit o Verify = then_some o.draws_salt VerifyMisfit
-misfit o Rehash = then_some o.is_recommended RehashMisfit
+misfit o Hash = then_some (is_about_hash o || o.is_raw) HashMisfit
+misfit o Verify = then_some (o.draws_salt || o.is_raw) VerifyMisfit
+misfit o Rehash = then_some (o.is_recommended || o.is_raw) RehashMisfit
 
 -- this command by these options, if they fit it
 abbrev pub line_of : Options → List (List ℕ) → Name → Result CommandLine CliError
@@ -78,6 +78,11 @@ abbrev pub draws_salt : Invocation → Bool
 draws_salt (Command line) = line.options.draws_salt
 draws_salt others = false
 
+-- whether the bytes of a key are written
+abbrev pub is_raw : Invocation → Bool
+is_raw (Command line) = line.options.is_raw
+is_raw others = false
+
 -- the file whose text is the hash, if it is not a word
 abbrev pub hash_file_of : Invocation → Option (List ℕ)
 hash_file_of (Command line) = line.options.hash_file
@@ -90,6 +95,7 @@ options_view it = record {
   draws_salt = it.draws_salt;
   is_recommended = it.is_recommended;
   strips_newline = it.strips_newline;
+  is_raw = it.is_raw;
   hash_file = option_copied it.hash_file;
   information = option_copied it.information;
 }

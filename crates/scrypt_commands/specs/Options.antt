@@ -18,6 +18,7 @@ pub record Options : Type 0 where
   pub draws_salt : Bool
   pub is_recommended : Bool
   pub strips_newline : Bool
+  pub is_raw : Bool
   pub hash_file : Option (List ℕ)
   pub information : Option (List ℕ)
 
@@ -28,6 +29,7 @@ no_options = record {
   draws_salt = false;
   is_recommended = false;
   strips_newline = false;
+  is_raw = false;
   hash_file = None;
   information = None;
 }
@@ -52,6 +54,7 @@ with_option o word =
     else if bytes_eq word (codes "--draw-salt") then Some (record o { draws_salt = true })
     else if bytes_eq word (codes "--recommended") then Some (record o { is_recommended = true; draws_salt = true })
     else if bytes_eq word (codes "--strip-newline") then Some (record o { strips_newline = true })
+    else if bytes_eq word (codes "--raw") then Some (record o { is_raw = true })
     else if bytes_eq word (codes "--help") then Some (record o { information = Some help_text })
     else if bytes_eq word (codes "--version") then Some (record o { information = Some version_text })
     else with_value o word

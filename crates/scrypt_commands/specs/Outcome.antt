@@ -71,16 +71,22 @@ new_hash Phc c password salt =
     if is_salt_len (length salt) then Ok (phc_text c password salt) else Err SaltInvalid
 new_hash Mcf c password salt = Ok (mcf_text c password salt)
 
--- the text of what is made of a password and a salt: a derived key in hexadecimal, or a hash
-abbrev pub new_text : Target → Parameters → List ℕ → List ℕ → Result (List ℕ) CliError
-new_text (Key len) c password salt = if is_output_len len then Ok (encode_lower (key_by c password salt len)) else Err InvalidOutputLen
-new_text (Hash format) c password salt = new_hash format c password salt
+-- the line of a key: its hexadecimal digits, or its bytes and no newline
+abbrev pub key_line : Bool → List ℕ → List ℕ
+key_line is_raw key = if is_raw then key else encode_lower key ++ codes "\n"
+
+-- the line of what is made of a password and a salt: a derived key, or a hash
+abbrev pub new_line : Target → Parameters → List ℕ → List ℕ → Result (List ℕ) CliError
+new_line (Key len is_raw) c password salt = if is_output_len len then Ok (key_line is_raw (key_by c password salt len)) else Err InvalidOutputLen
+new_line (Hash format) c password salt = do
+  text ← new_hash format c password salt
+  Ok (text ++ codes "\n")
 
 -- the answer with what is made
 abbrev pub made_reply : Making → List ℕ → Result Reply CliError
 made_reply making password = do
-  text ← new_text making.target making.params password making.salt
-  Ok (record { status = 0; line = text ++ codes "\n" })
+  line ← new_line making.target making.params password making.salt
+  Ok (record { status = 0; line = line })
 
 -- whether a password is right, by the verdict within these limits, if there are any
 abbrev pub right_of : Option Limits → Result ⊤ Refusal → Result Bool CliError

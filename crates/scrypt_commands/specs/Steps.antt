@@ -1,5 +1,5 @@
 -- Private: the steps of a run. Only the clauses of private functions cite these.
-use Rattle.std.specs.Prelude.{◌≡◌, ◌⊎◌, ℕ, Bool, true, List, codes, Option, Result, Ok, Err, String, length, option_map, string_bytes}
+use Rattle.std.specs.Prelude.{◌≡◌, ◌⊎◌, ℕ, Bool, true, List, codes, Option, Result, Ok, Err, String, length, option_map}
 use Rattle.std.specs.Bool.{then_some}
 use Rattle.std.specs.Borrow.{Bor}
 use Rattle.std.specs.Global.{Global}
@@ -65,7 +65,7 @@ request_view (Verify hash wanted) = ToVerify hash (option_map making_view wanted
 abbrev pub reply_view : Answer → Reply
 reply_view Right = record { status = 0; line = codes "ok\n" }
 reply_view Wrong = record { status = 1; line = codes "no\n" }
-reply_view (Made line) = record { status = 0; line = string_bytes line }
+reply_view (Made line) = record { status = 0; line = line.items }
 
 -- a salt of 16 bytes was drawn, if one is to be, and this holds of it
 abbrev pub IsDrawn : Bool → (List ℕ → Type 0) → Option (List ℕ) → Type 0

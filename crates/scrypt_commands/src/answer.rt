@@ -6,7 +6,7 @@ ghost use Rattle.password_hash.specs.Refusal.{OutOfMemory as Refused};
 ghost use Rattle.scrypt.specs.Reading.{IsVerdict, verdict, weaker};
 ghost use Rattle.scrypt.specs.StoredHash.{reading};
 ghost use Rattle.scrypt.specs.WithinLimits.{with_limited_refusal};
-ghost use Rattle.scrypt_commands.specs.Outcome.{bounded, limits_by, made_reply, new_hash, new_text, reply_to, right_of, right_reply};
+ghost use Rattle.scrypt_commands.specs.Outcome.{bounded, limits_by, made_reply, new_hash, new_line, reply_to, right_of, right_reply};
 ghost use Rattle.scrypt_commands.specs.Steps.{AreOfHash, AreOfRequest, Gives, making_view, reply_view, request_view};
 ghost use Rattle.scrypt_commands.specs.declared.command.Target.TheVariants.{Key};
 ghost use Rattle.scrypt_commands.specs.declared.error.CliError.TheVariants.{OutOfMemory};
@@ -26,20 +26,20 @@ pub enum Answer {
     Right,
     /// The password is not that of the hash.
     Wrong,
-    /// What was made of the password, and a newline.
-    Made { line: String },
+    /// What was made of the password.
+    Made { line: Vec<u8> },
 }
 
 impl Answer {
     /// Returns the exit status, which is 1 if the password is wrong, and the line for the output, with its
-    /// newline.
-    pub fn reply(&self) -> (u8, &str)
+    /// newline if it has one.
+    pub fn reply(&self) -> (u8, &[u8])
         ensures value { reply_view self.now ≡ record { status = result.0; line = result.1.now } }
     {
         match self {
-            Answer::Right => (0, "ok\n"),
-            Answer::Wrong => (1, "no\n"),
-            Answer::Made { line } => (0, line.as_str()),
+            Answer::Right => (0, b"ok\n"),
+            Answer::Wrong => (1, b"no\n"),
+            Answer::Made { line } => (0, line.as_slice()),
         }
     }
 }
@@ -148,18 +148,17 @@ fn is_weaker(hash: &StoredHash<'_>, wanted: &Params) -> bool
     }
 }
 
-// Makes the line of what is made of the password.
+// Makes what is made of the password.
 fn make(alloc: Global, password: &[u8], making: &Making) -> Result<Answer, CliError>
     ensures { Gives reply_view (made_reply (making_view making.now) password.now) result }
 {
-    let mut line = text(alloc, password, making)?;
-    line.push('\n')?;
+    let line = line(alloc, password, making)?;
     Ok(Answer::Made { line })
 }
 
-// Returns the text of what is made of the password.
-fn text(alloc: Global, password: &[u8], making: &Making) -> Result<String, CliError>
-    ensures { Gives string_bytes (new_text making.now.target making.now.params password.now making.now.salt.items) result }
+// Returns the line of what is made of the password.
+fn line(alloc: Global, password: &[u8], making: &Making) -> Result<Vec<u8>, CliError>
+    ensures { Gives (λ line. line.items) (new_line making.now.target making.now.params password.now making.now.salt.items) result }
 {
     let Making {
         target,
@@ -167,8 +166,12 @@ fn text(alloc: Global, password: &[u8], making: &Making) -> Result<String, CliEr
         salt,
     } = making;
     match target {
-        Target::Key { len } => key(alloc, password, salt, params, *len),
-        Target::Hash { format } => make_hash(alloc, password, salt, params, *format),
+        Target::Key { len, is_raw } => key(alloc, password, salt, params, *len, *is_raw),
+        Target::Hash { format } => {
+            let mut text = make_hash(alloc, password, salt, params, *format)?;
+            text.push('\n')?;
+            Ok(text.into_bytes())
+        }
     }
 }
 
@@ -209,7 +212,7 @@ fn make_hash(
     }
 }
 
-// Returns the derived key of `len` bytes in lower-case hexadecimal, if it can have that length.
+// Returns the line of the derived key of `len` bytes, if it can have that length.
 #[tactic(auto, using(crate::proofs::CommandFacts::output_len_decided))]
 fn key(
     alloc: Global,
@@ -217,10 +220,16 @@ fn key(
     salt: &[u8],
     params: &Params,
     len: usize,
-) -> Result<String, CliError>
-    ensures { Gives string_bytes (new_text (Key len) params.now password.now salt.now) result }
+    is_raw: bool,
+) -> Result<Vec<u8>, CliError>
+    ensures { Gives (λ line. line.items) (new_line (Key len is_raw) params.now password.now salt.now) result }
 {
     let mut key = vec![in alloc; 0u8; len]?;
     scrypt(alloc, password, salt, params, &mut key)?;
-    Ok(hex::encode(alloc, key.as_slice())?)
+    if is_raw {
+        return Ok(key);
+    }
+    let mut digits = hex::encode(alloc, key.as_slice())?;
+    digits.push('\n')?;
+    Ok(digits.into_bytes())
 }

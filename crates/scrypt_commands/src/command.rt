@@ -42,8 +42,8 @@ pub struct Making {
 /// What is made of a password.
 #[derive(Clone, Copy)]
 pub enum Target {
-    /// a key of `len` bytes
-    Key { len: usize },
+    /// a key of `len` bytes, in hexadecimal if it is not raw
+    Key { len: usize, is_raw: bool },
     /// a hash of this format
     Hash { format: Format },
 }
@@ -98,7 +98,7 @@ impl<'a> Command<'a> {
             file_text,
         } = line;
         match name {
-            Name::Key => Ok(Command::Make(key_words(alloc, words)?)),
+            Name::Key => Ok(Command::Make(key_words(alloc, options.is_raw, words)?)),
             Name::Hash => Ok(Command::Make(hash_words(
                 alloc,
                 options.is_recommended,
@@ -113,14 +113,14 @@ impl<'a> Command<'a> {
 
 // Reads the words after `key`.
 #[tactic(auto, unfolding(crate::specs::Command::key_words))]
-fn key_words(alloc: Global, words: &[String]) -> Result<Making, CliError>
-    ensures { Gives making_view (key_words (texts_of words.now)) result }
+fn key_words(alloc: Global, is_raw: bool, words: &[String]) -> Result<Making, CliError>
+    ensures { Gives making_view (key_words is_raw (texts_of words.now)) result }
 {
     let (params, words) = params_words(false, words)?;
     let (len, words) = len_word(words)?;
     let (salt, words) = salt_word(None, words)?;
     end_of(words)?;
-    making_of(alloc, Target::Key { len }, params, None, salt)
+    making_of(alloc, Target::Key { len, is_raw }, params, None, salt)
 }
 
 // Reads the words after `hash`. No words stand for the recommended parameters.
@@ -350,7 +350,7 @@ fn has_allowed_len(target: Target) -> bool
     ensures { result ≡ has_allowed_len target }
 {
     match target {
-        Target::Key { len } => output_len_ok(len),
+        Target::Key { len, .. } => output_len_ok(len),
         Target::Hash { .. } => true,
     }
 }

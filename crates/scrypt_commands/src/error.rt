@@ -147,14 +147,18 @@ impl CliError {
     {
         match self {
             CliError::Usage => USAGE,
-            CliError::KeyMisfit => b"key takes no option except --strip-newline: see --help\n",
+            CliError::KeyMisfit => {
+                b"key takes no option except --raw and --strip-newline: see --help\n"
+            }
             CliError::HashMisfit => {
                 b"hash takes no option except --draw-salt, --recommended and --strip-newline: see --help\n"
             }
             CliError::VerifyMisfit => {
-                b"verify does not take --draw-salt and --recommended: see --help\n"
+                b"verify does not take --draw-salt, --raw and --recommended: see --help\n"
             }
-            CliError::RehashMisfit => b"rehash does not take --recommended: see --help\n",
+            CliError::RehashMisfit => {
+                b"rehash does not take --raw and --recommended: see --help\n"
+            }
             CliError::SaltNotHex => b"salt is not hexadecimal\n",
             CliError::InvalidParams => b"invalid scrypt parameters\n",
             CliError::InvalidOutputLen => b"invalid output buffer length\n",

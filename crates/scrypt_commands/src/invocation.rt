@@ -3,7 +3,7 @@
 ghost use Rattle.std.specs.Prelude.{◌≡◌, ◌⊎◌, ℕ, IfOk, IsTrue, List, OnErr, Option, Ok, Err, length, true};
 ghost use Rattle.std.specs.Io.KnownBytes.{Keeps};
 ghost use Rattle.std.specs.Option.{option_copied};
-ghost use Rattle.scrypt_commands.specs.Invocation.{draws_salt, hash_file_of, invocation_of, invocation_view};
+ghost use Rattle.scrypt_commands.specs.Invocation.{draws_salt, hash_file_of, invocation_of, invocation_view, is_raw};
 ghost use Rattle.scrypt_commands.specs.Options.{texts_of};
 ghost use Rattle.scrypt_commands.specs.Run.{IsAtOnce, IsRun, at_once, plan_of};
 ghost use Rattle.scrypt_commands.specs.Steps.{IsDrawn};
@@ -60,6 +60,16 @@ impl<'a> Invocation<'a> {
         match self {
             Invocation::Command(line) => line.options.hash_file,
             _ => None,
+        }
+    }
+
+    /// Returns whether the output is the bytes of a key, by `--raw`, which are not for a terminal.
+    pub fn is_raw(&self) -> bool
+        ensures value { result ≡ is_raw (invocation_view self.now) }
+    {
+        match self {
+            Invocation::Command(line) => line.options.is_raw,
+            _ => false,
         }
     }
 
@@ -124,7 +134,7 @@ fn print<W: Write, F: Write>(text: &str, writer: &mut W, faults: &mut F) -> Ende
     ensures status { (result.status ≡ 0) ⊎ (result.status ≡ 4) }
     ensures output { ¬ IsTrue result.input_failed }
 {
-    match write_line(writer, text) {
+    match write_line(writer, text.as_bytes()) {
         Ok(()) => answered(0),
         Err(error) => end(error, faults),
     }

@@ -21,6 +21,8 @@ pub struct Options<'a> {
     pub is_recommended: bool,
     /// the password is the input without a newline at its end
     pub strips_newline: bool,
+    /// the bytes of a key are written, in place of their hexadecimal digits
+    pub is_raw: bool,
     /// the file whose text is HASH, the last word
     pub hash_file: Option<&'a str>,
     /// this text is printed, and there is no command
@@ -33,6 +35,7 @@ pub const NONE: Options<'static> = Options {
     draws_salt: false,
     is_recommended: false,
     strips_newline: false,
+    is_raw: false,
     hash_file: None,
     information: None,
 };
@@ -70,6 +73,7 @@ impl<'a> Options<'a> {
                 options.draws_salt = true;
             }
             "--strip-newline" => options.strips_newline = true,
+            "--raw" => options.is_raw = true,
             "--help" => options.information = Some(help()),
             "--version" => options.information = Some(version()),
             _ => return self.with_value(word),
@@ -116,9 +120,9 @@ impl<'a> Options<'a> {
     {
         match name {
             Name::Key => (self.is_about_hash() || self.draws_salt).then_some(CliError::KeyMisfit),
-            Name::Hash => self.is_about_hash().then_some(CliError::HashMisfit),
-            Name::Verify => self.draws_salt.then_some(CliError::VerifyMisfit),
-            Name::Rehash => self.is_recommended.then_some(CliError::RehashMisfit),
+            Name::Hash => (self.is_about_hash() || self.is_raw).then_some(CliError::HashMisfit),
+            Name::Verify => (self.draws_salt || self.is_raw).then_some(CliError::VerifyMisfit),
+            Name::Rehash => (self.is_recommended || self.is_raw).then_some(CliError::RehashMisfit),
         }
     }
 

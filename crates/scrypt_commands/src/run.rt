@@ -133,11 +133,11 @@ fn read_all<R: Read>(alloc: Global, reader: &mut R) -> Result<Vec<u8>, CliError>
 }
 
 /// Writes the whole line at once, and flushes it.
-pub(crate) fn write_line<W: Write>(writer: &mut W, line: &str) -> Result<(), CliError>
+pub(crate) fn write_line<W: Write>(writer: &mut W, line: &[u8]) -> Result<(), CliError>
     ensures ok { OnOk result (Appends (W.contents writer.old) (W.contents writer.new) line.now) }
     ensures err { IfErr result (λ error. error ≡ OutputFailed) }
 {
-    if writer.write_all(line.as_bytes()).is_err() || writer.flush().is_err() {
+    if writer.write_all(line).is_err() || writer.flush().is_err() {
         return Err(CliError::OutputFailed);
     }
     Ok(())

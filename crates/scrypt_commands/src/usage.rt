@@ -40,6 +40,8 @@ usage: scrypt_tool [OPTION..] COMMAND ..\n\
 The password is the whole standard input. With --strip-newline the newline at\n\
 its end, LF or CR LF, is cut off.\n\
 \n\
+options for key:\n\
+\x20 --raw              print the bytes of the key and no newline, not to a terminal\n\
 options for hash and rehash:\n\
 \x20 --draw-salt        draw a salt of 16 bytes: then leave SALT_HEX out\n\
 \x20 --recommended      LOG_N R P are 17 8 1 and a salt is drawn: hash phc|mcf\n\

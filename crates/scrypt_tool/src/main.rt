@@ -10,7 +10,7 @@ ghost use Rattle.std.specs.Prelude.{⊤};
 
 use scrypt_commands::invocation::{Invocation, SaltSource};
 use std::fs::{Files, OpenOptions};
-use std::io::{ErrorKind, Read};
+use std::io::{ErrorKind, IsTerminal, Read};
 use std::process::ExitCode;
 use std::random::RandomSource;
 use std::{env, io};
@@ -25,6 +25,10 @@ fn main(rt: HostRuntime) -> ExitCode {
         return ExitCode::from(3);
     };
     let invocation = Invocation::parse(&words);
+    if invocation.is_raw() && output.is_terminal() {
+        let _ = errors.write_all(b"--raw does not write to a terminal\n");
+        return ExitCode::from(2);
+    }
     let file_text = match file_text(&rt, invocation.hash_file()) {
         Ok(text) => text,
         Err(status) => return ExitCode::from(status),
