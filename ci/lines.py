@@ -11,3 +11,4 @@ MISFIT = {
     "verify": "verify does not take --draw-salt, --raw and --recommended: see --help",
     "rehash": "rehash does not take --raw and --recommended: see --help",
 }
+NO_FILE = "--hash-file wants its file after =, as in --hash-file=FILE"

@@ -15,7 +15,7 @@ import sys
 
 from ci import prompt
 from ci.hash_files import hash_files
-from ci.lines import MISFIT, USAGE
+from ci.lines import MISFIT, NO_FILE, USAGE
 from ci.streams import cuts, memory, streams
 from compare import allocations
 from tools import crypt64, reference, runs
@@ -100,7 +100,7 @@ ANSWERS = [
 NO_COMMANDS = {
     "no command": ["", "help", "Key 4 1 1 64 ", "--usual-limits", "--draw-salt", "--recommended", "--strip-newline", "--most-work=1"],
     "no command after an option": ["--usual-limits help"],
-    "one minus begins no option": ["-h", "-", "-key 4 1 1 64 ", f"-verify {EMPTY}"],
+    "one minus begins no option": ["-", "-help", "-H", "-hkey", "-key 4 1 1 64 ", f"-verify {EMPTY}"],
     "too few arguments": ["key", "key 4 1 1 16", "hash", "hash phc", "hash phc 4 1 1", "--draw-salt hash phc 4 1", "verify",
                           "rehash phc 4 1 1 32 00", f"rehash phc 4 1 1 00 {EMPTY}"],
     "too many": ["key 4 1 1 16 00 x", "hash phc 4 1 1 00 32 x", f"verify {EMPTY} x", f"rehash phc 4 1 1 32 00 {EMPTY} x"],
@@ -141,6 +141,10 @@ FAULTS = [
     (f"--most-work= verify {EMPTY}", "", 2, USAGE, "no number"),
     (f"--most-bytes=18446744073709551616 verify {EMPTY}", "", 2, USAGE, "a number of 2^64"),
     (f"--most-work 192 verify {EMPTY}", "", 2, USAGE, "a number in an argument of its own"),
+    ("--hash-file hash verify", "", 2, NO_FILE, "a file in an argument of its own"),
+    ("--usual-limits --hash-file", "", 2, NO_FILE, "no file at all"),
+    ("--hash-file --help", "", 2, NO_FILE, "what comes after it is not looked at"),
+    (f"--hash-files verify {EMPTY}", "", 2, USAGE, "another option"),
     (f"--no-limits verify {EMPTY}", "", 2, USAGE, "an unknown option"),
     ("--", "", 2, USAGE, "the same"),
     (f"--usual-limits --most verify {EMPTY}", "", 2, USAGE, "the same after another one"),
@@ -307,6 +311,7 @@ def information(program):
     named = USAGE.removeprefix("usage: ").split(" | ")
     missing = set(named) - {it.strip() for it in text.splitlines()}
     yield "--help", (status, missing, error), (0, set(), "")
+    yield "-h", run([program, "-h", "verify"]), (0, text, "")
 
 
 def raw_keys(program):

@@ -4,7 +4,7 @@ use Rattle.password_hash.specs.Refusal.{Refusal}
 use Rattle.password_hash.specs.Refusal as refusals
 use Rattle.scrypt.specs.declared.limits.Limits.{Limits}
 use Rattle.scrypt_commands.specs.declared.error.CliError.{CliError}
-use Rattle.scrypt_commands.specs.declared.error.CliError.TheVariants.{KeyMisfit, HashMisfit, VerifyMisfit, RehashMisfit}
+use Rattle.scrypt_commands.specs.declared.error.CliError.TheVariants.{NoHashFile, KeyMisfit, HashMisfit, VerifyMisfit, RehashMisfit}
 use Rattle.scrypt_commands.specs.declared.error.CliError.TheVariants.{Usage, SaltNotHex, InvalidParams, InvalidOutputLen, Algorithm}
 use Rattle.scrypt_commands.specs.declared.error.CliError.TheVariants.{EncodingInvalid, OutputSize, LnInvalid, RInvalid, PInvalid}
 use Rattle.scrypt_commands.specs.declared.error.CliError.TheVariants.{ParamsInvalid, SaltInvalid, Version, TooCostly, KeyTooShort}
@@ -22,6 +22,7 @@ status_of refused = 2
 abbrev pub fixed_line : CliError → List ℕ
 fixed_line Usage =
     codes "usage: key LOG_N R P LEN SALT_HEX | hash phc|mcf LOG_N R P SALT_HEX [LEN] | verify HASH | rehash phc|mcf LOG_N R P LEN SALT_HEX HASH\n"
+fixed_line NoHashFile = codes "--hash-file wants its file after =, as in --hash-file=FILE\n"
 fixed_line KeyMisfit = codes "key takes no option except --raw and --strip-newline: see --help\n"
 fixed_line HashMisfit = codes "hash takes no option except --draw-salt, --recommended and --strip-newline: see --help\n"
 fixed_line VerifyMisfit = codes "verify does not take --draw-salt, --raw and --recommended: see --help\n"

@@ -36,6 +36,6 @@ help_text =
     ++ codes "and as others can see a HASH that is an argument:\n"
     ++ codes "  --hash-file=FILE   read it from FILE: then leave HASH out\n"
     ++ codes "and alone:\n"
-    ++ codes "  --help, --version\n"
+    ++ codes "  -h, --help, --version\n"
     ++ codes "\n"
     ++ codes "Statuses: 0 done or ok, 1 no, 2 refused, 3 out of memory, 4 input or output failed.\n"

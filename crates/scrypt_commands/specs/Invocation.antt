@@ -9,7 +9,7 @@ use Rattle.scrypt_commands.specs.declared.command_line.CommandLine.{CommandLine 
 use Rattle.scrypt_commands.specs.declared.command_line.Name.{Name}
 use Rattle.scrypt_commands.specs.declared.command_line.Name.TheVariants.{Key, Hash, Verify, Rehash}
 use Rattle.scrypt_commands.specs.declared.error.CliError.{CliError}
-use Rattle.scrypt_commands.specs.declared.error.CliError.TheVariants.{HashMisfit, KeyMisfit, RehashMisfit, Usage, VerifyMisfit}
+use Rattle.scrypt_commands.specs.declared.error.CliError.TheVariants.{HashMisfit, KeyMisfit, NoHashFile, RehashMisfit, Usage, VerifyMisfit}
 use Rattle.scrypt_commands.specs.declared.invocation.Invocation.{Invocation as InvocationOf}
 use Rattle.scrypt_commands.specs.declared.invocation.Invocation.TheVariants as typed
 use Rattle.scrypt_commands.specs.declared.options.Options.{Options as OptionsOf}
@@ -60,6 +60,11 @@ abbrev pub command_by : Options → List (List ℕ) → Result CommandLine CliEr
 command_by o [] = Err Usage
 command_by o (word ∷ words) = name_of word and_then line_of o words
 
+-- whether the first word is `--hash-file`, which is no option without a file
+abbrev pub wants_file : List (List ℕ) → Bool
+wants_file [] = false
+wants_file (word ∷ words) = bytes_eq word (codes "--hash-file")
+
 -- what a command asks for, or that it is refused
 abbrev pub asked_by : Result CommandLine CliError → Invocation
 asked_by (Ok line) = Command line
@@ -67,7 +72,8 @@ asked_by (Err error) = Refuse error
 
 -- what these options and the words after them ask for
 abbrev pub invocation_by : Options × List (List ℕ) → Invocation
-invocation_by (o, words) = option_map_or Tell o.information (asked_by (command_by o words))
+invocation_by (o, words) = option_map_or Tell o.information
+    (if wants_file words then Refuse NoHashFile else asked_by (command_by o words))
 
 -- what these words ask for, of which the first may be options
 abbrev pub invocation_of : List (List ℕ) → Invocation

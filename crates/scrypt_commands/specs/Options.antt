@@ -56,6 +56,7 @@ with_option o word =
     else if bytes_eq word (codes "--strip-newline") then Some (record o { strips_newline = true })
     else if bytes_eq word (codes "--raw") then Some (record o { is_raw = true })
     else if bytes_eq word (codes "--help") then Some (record o { information = Some help_text })
+    else if bytes_eq word (codes "-h") then Some (record o { information = Some help_text })
     else if bytes_eq word (codes "--version") then Some (record o { information = Some version_text })
     else with_value o word
 

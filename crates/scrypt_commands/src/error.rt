@@ -20,6 +20,8 @@ use std::io::Write;
 pub enum CliError {
     /// The words are not those of a command, or one is not a decimal below its bound.
     Usage,
+    /// `--hash-file` has no value.
+    NoHashFile,
     /// The options do not fit `key`.
     KeyMisfit,
     /// The options do not fit `hash`.
@@ -147,6 +149,9 @@ impl CliError {
     {
         match self {
             CliError::Usage => USAGE,
+            CliError::NoHashFile => {
+                b"--hash-file wants its file after =, as in --hash-file=FILE\n"
+            }
             CliError::KeyMisfit => {
                 b"key takes no option except --raw and --strip-newline: see --help\n"
             }

@@ -3,7 +3,7 @@
 ghost use Rattle.std.specs.Prelude.{◌≡◌, ◌⊎◌, ℕ, IfOk, IsTrue, List, OnErr, Option, Ok, Err, length, true};
 ghost use Rattle.std.specs.Io.KnownBytes.{Keeps};
 ghost use Rattle.std.specs.Option.{option_copied};
-ghost use Rattle.scrypt_commands.specs.Invocation.{draws_salt, hash_file_of, invocation_of, invocation_view, is_raw};
+ghost use Rattle.scrypt_commands.specs.Invocation.{draws_salt, hash_file_of, invocation_of, invocation_view, is_raw, wants_file};
 ghost use Rattle.scrypt_commands.specs.Options.{texts_of};
 ghost use Rattle.scrypt_commands.specs.Run.{IsAtOnce, IsRun, at_once, plan_of};
 ghost use Rattle.scrypt_commands.specs.Steps.{IsDrawn};
@@ -45,6 +45,9 @@ impl<'a> Invocation<'a> {
         let (options, words) = parse_options(words);
         if let Some(text) = options.information {
             return Invocation::Tell(text);
+        }
+        if wants_file(words) {
+            return Invocation::Refuse(CliError::NoHashFile);
         }
         match CommandLine::new(options, words) {
             Ok(line) => Invocation::Command(line),
@@ -123,6 +126,16 @@ fn draw<S: SaltSource>(source: &S, is_drawn: bool) -> io::Result<Option<[u8; 16]
         return Ok(None);
     }
     Ok(Some(source.draw_salt()?))
+}
+
+// Returns whether the first word is `--hash-file`, which is no option without a file.
+fn wants_file(words: &[String]) -> bool
+    ensures { result ≡ wants_file (texts_of words.now) }
+{
+    match words.split_first() {
+        Some((word, _)) => word.as_str() == "--hash-file",
+        None => false,
+    }
 }
 
 // Writes a text to the output.

@@ -74,7 +74,7 @@ impl<'a> Options<'a> {
             }
             "--strip-newline" => options.strips_newline = true,
             "--raw" => options.is_raw = true,
-            "--help" => options.information = Some(help()),
+            "--help" | "-h" => options.information = Some(help()),
             "--version" => options.information = Some(version()),
             _ => return self.with_value(word),
         }

@@ -54,7 +54,7 @@ options for verify and rehash, as an untrusted HASH chooses its own cost:\n\
 and as others can see a HASH that is an argument:\n\
 \x20 --hash-file=FILE   read it from FILE: then leave HASH out\n\
 and alone:\n\
-\x20 --help, --version\n\
+\x20 -h, --help, --version\n\
 \n\
 Statuses: 0 done or ok, 1 no, 2 refused, 3 out of memory, 4 input or output failed.\n\
 ";
