@@ -1,4 +1,4 @@
-"""Runs of the program on hashes in files."""
+"""Runs of the program on hashes in files, and on names of files."""
 
 import os
 import tempfile
@@ -32,6 +32,16 @@ HASH_FILES = [
     ("\udcff", "--hash-file={} verify", 2, "{}: stream did not contain valid UTF-8", "not a text"),
 ]
 
+# Names of files that are not there, how they are printed, and the reason for the row.
+NAMES = [
+    ("a\nusage: b", "a\\nusage: b", "a newline: the fault is one line"),
+    ("\x1b[2J\x07", "\\u{1b}[2J\\u{7}", "what a terminal obeys"),
+    ("\u009b31m", "\\u{9b}31m", "the same in one character"),
+    ("\u202egnp", "\\u{202e}gnp", "what turns the line round"),
+    ("\\n", "\\\\n", "a backslash is two"),
+    ("schlüssel 塩", "schlüssel 塩", "letters stay"),
+]
+
 
 def hash_files(program):
     """Hashes in files."""
@@ -44,4 +54,7 @@ def hash_files(program):
             lines = f"{printed.format(file)}\n", ""
             words = [word.format(file) for word in line.split(" ")]
             yield f"{line!r} ({reason})", run([program, *words]), (status, *(lines if status < 2 else lines[::-1]))
+        for name, printed, reason in NAMES:
+            fault = f"{room}/{printed}: No such file or directory (os error 2)\n"
+            yield f"the name {printed!r} ({reason})", run([program, f"--hash-file={room}/{name}", "verify"]), (4, "", fault)
         yield "--help reads no file", run([program, "--help", f"--hash-file={room}"])[0], 0

@@ -75,6 +75,8 @@ fn file_text(rt: &HostRuntime, name: Option<&str>) -> Result<Option<String>, u8>
     match read_hash(rt, name) {
         Ok(text) => Ok(Some(text)),
         Err(error) => {
+            // So that the line stays one, and a name can't change the terminal.
+            let name = name.escape_debug();
             let _ = eprintln!(rt; "{name}: {error}");
             Err(status_of(&error))
         }
