@@ -5,7 +5,8 @@ use crate::holds;
 use password_hash::{
     CustomizedPasswordHasher, Error, PasswordHasher, PasswordVerifier, kdf, mcf, phc,
 };
-use scrypt::{Params, Scrypt};
+use scrypt::{LimitedError, Params, Scrypt};
+use std::alloc::{AllocError, Global};
 use std::test::Fail;
 
 // HMAC hashes it first.
@@ -46,6 +47,53 @@ fn mcf_hashes(rt: HostRuntime) -> Result<(), Fail> {
     holds(verified.is_ok(), "borrowed")
 }
 
+// An error of a caller's own, from each error of its calls.
+#[derive(Drop)]
+enum Failure {
+    Hash(Error),
+    Memory,
+}
+
+impl From<Error> for Failure {
+    fn from(error: Error) -> Failure {
+        Failure::Hash(error)
+    }
+}
+
+impl From<AllocError> for Failure {
+    fn from(_error: AllocError) -> Failure {
+        Failure::Memory
+    }
+}
+
+// Makes a hash by default, prints it, reads the text and verifies another password by it.
+fn printed_and_read(alloc: Global, password: &[u8], other: &[u8]) -> Result<(), Failure> {
+    let hasher = Scrypt::default();
+    let made: phc::PasswordHash = hasher.hash_password(alloc, password, *b"0123456789abcdef")?;
+    let text = made.to_string(alloc)?;
+    let read = phc::PasswordHash::new(text.as_str())?;
+    match hasher.verify_password(alloc, other, &read) {
+        Ok(()) => Ok(()),
+        Err(refused) => Err(Failure::from(refused)),
+    }
+}
+
+#[test]
+fn hashes_by_default(rt: HostRuntime) -> Result<(), Fail> {
+    for &(other, wanted, reason) in &[
+        ("hunter42", Ok(()), "the password"),
+        ("hunter4", Err(Error::PasswordInvalid), "another one"),
+    ] {
+        let verdict = match printed_and_read(rt.alloc(), b"hunter42", other.as_bytes()) {
+            Ok(()) => Ok(()),
+            Err(Failure::Hash(error)) => Err(error),
+            Err(Failure::Memory) => Err(Error::OutOfMemory),
+        };
+        holds(verdict == wanted, reason)?;
+    }
+    Ok(())
+}
+
 const TEXTS: [(Error, &str); 9] = [
     (Error::Algorithm, "unsupported algorithm"),
     (Error::EncodingInvalid, "invalid encoding"),
@@ -62,6 +110,8 @@ const TEXTS: [(Error, &str); 9] = [
 fn texts_of_errors(rt: HostRuntime) -> Result<(), Fail> {
     for &(error, text) in &TEXTS {
         holds(error.to_string(rt.alloc())?.as_str() == text, text)?;
+        let within = LimitedError::Hash(error).to_string(rt.alloc())?;
+        holds(within.as_str() == text, "also of a call with limits")?;
     }
     let refused = kdf::Error::Refused.to_string(rt.alloc())?;
     holds(refused.as_str() == "refused key length", "of a derivation")

@@ -3,7 +3,8 @@
 //! 7914, and `ci/hashes.py` which texts it verifies.
 //!
 //! A function that returns no error is exactly what its contract says, and its definition is evaluated on the standards'
-//! vectors in `proofs/StandardFacts.antt` of its crate: such a function has no test of its own here.
+//! vectors in `proofs/StandardFacts.antt` of its crate. The tables here show the compiled code on the same vectors, and on
+//! texts at the bounds of each format.
 #![tactic(auto)]
 
 #[cfg(test)]
@@ -18,6 +19,8 @@ mod groups;
 mod hash_allocations;
 #[cfg(test)]
 mod hashes;
+#[cfg(test)]
+mod laws;
 #[cfg(test)]
 mod parameters;
 #[cfg(test)]

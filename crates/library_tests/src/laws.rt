@@ -1,0 +1,81 @@
+// The laws on keys and hashes whose values are known: what a law states is computed too.
+
+use crate::holds;
+use password_hash::{PasswordHasher, PasswordVerifier, mcf};
+use scrypt::laws::{
+    made_hashes_are_accepted, shorter_key_is_prefix, zero_byte_and_digest_passwords_collide,
+};
+use scrypt::{Kdf, Params, Scrypt, scrypt};
+use std::test::Fail;
+
+// RFC 7914, section 12, the first key.
+const KEY: [u8; 64] = [
+    0x77, 0xd6, 0x57, 0x62, 0x38, 0x65, 0x7b, 0x20, 0x3b, 0x19, 0xca, 0x42, 0xc1, 0x8a, 0x04, 0x97,
+    0xf1, 0x6b, 0x48, 0x44, 0xe3, 0x07, 0x4a, 0xe8, 0xdf, 0xdf, 0xfa, 0x3f, 0xed, 0xe2, 0x14, 0x42,
+    0xfc, 0xd0, 0x06, 0x9d, 0xed, 0x09, 0x48, 0xf8, 0x32, 0x6a, 0x75, 0x3a, 0x0f, 0xc8, 0x1f, 0x17,
+    0xe8, 0xd3, 0xe0, 0xfb, 0x2e, 0x0d, 0x36, 0x28, 0xcf, 0x35, 0xe2, 0x0c, 0x38, 0xd1, 0x89, 0x06,
+];
+
+#[test]
+fn beginnings_of_a_key(rt: HostRuntime) -> Result<(), Fail> {
+    shorter_key_is_prefix();
+    let (params, mut key, mut whole) = (Params::new(4, 1, 1)?, [0; 64], [0; 64]);
+    for &len in &[1, 32, 33] {
+        scrypt(rt.alloc(), b"", b"", &params, &mut key[..len])?;
+        holds(key[..len] == KEY[..len], "its first bytes")?;
+    }
+    Scrypt::from(params).derive_key(rt.alloc(), b"", b"", &mut whole)?;
+    holds(whole == KEY, "the whole key, by the trait")
+}
+
+// SHA-256 of 65 letters `a`, by OpenSSL.
+const DIGEST: [u8; 32] = [
+    0x63, 0x53, 0x61, 0xc4, 0x8b, 0xb9, 0xea, 0xb1, 0x41, 0x98, 0xe7, 0x6e, 0xa8, 0xab, 0x7f, 0x1a,
+    0x41, 0x68, 0x5d, 0x6a, 0xd6, 0x2a, 0xa9, 0x14, 0x6d, 0x30, 0x1d, 0x4f, 0x17, 0xeb, 0x0a, 0xe0,
+];
+
+// Two passwords, and the first 16 bytes of their key by Python's hashlib.
+const SAME_KEYS: [(&[u8], &[u8], u128, &str); 2] = [
+    (
+        b"aaaaaaaaaaaaaaaaaaaaaaaaaaaaaaaaaaaaaaaaaaaaaaaaaaaaaaaaaaaaaaa",
+        b"aaaaaaaaaaaaaaaaaaaaaaaaaaaaaaaaaaaaaaaaaaaaaaaaaaaaaaaaaaaaaaa\0",
+        0xe0b4589da9a4cf4e793e11875539462f,
+        "63 letters, and a zero byte after them",
+    ),
+    (
+        b"aaaaaaaaaaaaaaaaaaaaaaaaaaaaaaaaaaaaaaaaaaaaaaaaaaaaaaaaaaaaaaaaa",
+        &DIGEST,
+        0xb598f174427f4e2605a5a1db00567ede,
+        "65 letters, and their digest",
+    ),
+];
+
+#[test]
+fn passwords_with_one_key(rt: HostRuntime) -> Result<(), Fail> {
+    zero_byte_and_digest_passwords_collide();
+    let params = Params::new(4, 1, 1)?;
+    for &(one, other, wanted, reason) in &SAME_KEYS {
+        let (mut key, mut same) = ([0; 64], [0; 64]);
+        scrypt(rt.alloc(), one, b"", &params, &mut key)?;
+        scrypt(rt.alloc(), other, b"", &params, &mut same)?;
+        let mut first = [0; 16];
+        first.copy_from_slice(&key[..16]);
+        holds(key == same && u128::from_be_bytes(first) == wanted, reason)?;
+    }
+    Ok(())
+}
+
+// libxcrypt's, of the empty password.
+pub const HASH: &str = "$7$2/..../....$rNxJWVHNv/mCNcgE/f6/L4zO6Fos5c2uTzhyzoisI62";
+
+#[test]
+fn a_made_hash_is_accepted(rt: HostRuntime) -> Result<(), Fail> {
+    made_hashes_are_accepted();
+    let hasher = Scrypt::from(Params::new(4, 1, 1)?);
+    let made: mcf::PasswordHash = hasher.hash_password_with_salt(rt.alloc(), b"", b"")?;
+    holds(made.as_str() == HASH, "the known hash")?;
+    holds(
+        hasher.verify_password(rt.alloc(), b"", &made).is_ok(),
+        "of its password",
+    )
+}
