@@ -180,7 +180,7 @@ fn end_of_making(
 }
 
 // A text with a letter after it, so many times.
-fn followed(alloc: Global, text: &str, letter: &str, count: usize) -> Result<String, Fail> {
+pub fn followed(alloc: Global, text: &str, letter: &str, count: usize) -> Result<String, Fail> {
     let letters = letter.repeat(alloc, count)?;
     Ok(format!(in alloc; "{text}{}", letters.as_str())?)
 }

@@ -20,9 +20,17 @@ mod hash_allocations;
 #[cfg(test)]
 mod hashes;
 #[cfg(test)]
+mod hostile;
+#[cfg(test)]
 mod laws;
 #[cfg(test)]
+mod mcf_texts;
+#[cfg(test)]
 mod parameters;
+#[cfg(test)]
+mod phc_texts;
+#[cfg(test)]
+mod refused;
 #[cfg(test)]
 mod romix;
 

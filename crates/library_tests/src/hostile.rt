@@ -1,0 +1,119 @@
+// Hostile `$7$` texts: a borrowed hash and an owned one have the same verdict. More texts are in `ci/hashes.py`.
+
+use crate::hash_allocations::followed;
+use crate::holds;
+use crate::laws::HASH;
+use password_hash::mcf::alphabet::value;
+use password_hash::{Error, PasswordVerifier, mcf};
+use scrypt::Scrypt;
+use scrypt::laws::texts_have_one_reading;
+use std::alloc::Global;
+use std::str;
+use std::test::Fail;
+
+// The verdict on the empty password, by the borrowed text and by the owned one alike.
+fn verdict(alloc: Global, text: &str) -> Result<Result<(), Error>, Fail> {
+    let scrypt = Scrypt::new();
+    let borrowed = match mcf::PasswordHashRef::new(text) {
+        Ok(hash) => scrypt.verify_password(alloc, b"", &hash),
+        Err(_) => Err(Error::EncodingInvalid),
+    };
+    let owned = match mcf::PasswordHash::new(alloc, text) {
+        Ok(hash) => scrypt.verify_password(alloc, b"", &hash),
+        Err(mcf::Error::EncodingInvalid) => Err(Error::EncodingInvalid),
+        Err(mcf::Error::OutOfMemory) => Err(Error::OutOfMemory),
+    };
+    holds(owned == borrowed, "the owned hash has another verdict")?;
+    Ok(borrowed)
+}
+
+// Where the key begins.
+const KEY_AT: usize = 15;
+
+// The lengths of the beginnings that are hashes of shorter keys.
+const SHORTER_KEYS: [usize; 14] = [19, 23, 25, 27, 31, 34, 35, 39, 43, 46, 47, 51, 55, 58];
+
+#[test]
+fn beginnings(rt: HostRuntime) -> Result<(), Fail> {
+    texts_have_one_reading();
+    for len in 0..=58 {
+        let beginning = HASH.get(..len).unwrap_or("");
+        let wanted = if len == KEY_AT {
+            Err(Error::OutputSize)
+        } else if SHORTER_KEYS.contains(&len) {
+            Ok(())
+        } else {
+            Err(Error::EncodingInvalid)
+        };
+        holds(
+            mcf::PasswordHashRef::new(beginning).is_ok() == (len > 1),
+            "whether it is an MCF text",
+        )?;
+        holds(verdict(rt.alloc(), beginning)? == wanted, "its verdict")?;
+    }
+    Ok(())
+}
+
+#[test]
+fn each_character_of_a_key_replaced(rt: HostRuntime) -> Result<(), Fail> {
+    texts_have_one_reading();
+    let mut letters = [0; 58];
+    letters.copy_from_slice(HASH.as_bytes().get(..58).ok_or("too short")?);
+    let mut texts = 0u32;
+    for at in KEY_AT..58 {
+        let letter = letters[at];
+        for by in 0u8..128 {
+            if by == letter {
+                continue;
+            }
+            letters[at] = by;
+            let wanted = match value(by) {
+                Some(value) if at < 57 || value < 16 => Err(Error::PasswordInvalid),
+                _ => Err(Error::EncodingInvalid),
+            };
+            holds(
+                verdict(rt.alloc(), str::from_utf8(&letters)?)? == wanted,
+                "its verdict",
+            )?;
+            texts = texts.saturating_add(1);
+        }
+        letters[at] = letter;
+    }
+    holds(texts == 5461, "43 places with 127 characters each")
+}
+
+// A `$7$` text without what comes a million times after it, how many fields it has, how long they are together, the verdict,
+// and the reason for the row.
+const MILLIONS: [(&str, &str, usize, usize, Error, &str); 2] = [
+    (
+        "$7$2/..../....$",
+        ".",
+        2,
+        1_000_011,
+        Error::PasswordInvalid,
+        "a key of 750000 bytes",
+    ),
+    (
+        "$7",
+        "$",
+        1_000_000,
+        0,
+        Error::EncodingInvalid,
+        "empty fields",
+    ),
+];
+
+#[test]
+fn a_million_letters(rt: HostRuntime) -> Result<(), Fail> {
+    for &(first, letter, wanted, wanted_len, error, reason) in &MILLIONS {
+        let text = followed(rt.alloc(), first, letter, 1_000_000)?;
+        let (mut fields, mut len) = (0usize, 0usize);
+        for field in mcf::PasswordHashRef::new(text.as_str())?.fields() {
+            fields = fields.saturating_add(1);
+            len = len.saturating_add(field.as_str().len());
+        }
+        holds(fields == wanted && len == wanted_len, reason)?;
+        holds(verdict(rt.alloc(), text.as_str())? == Err(error), reason)?;
+    }
+    Ok(())
+}

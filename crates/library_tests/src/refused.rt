@@ -1,0 +1,153 @@
+// Errors of verifying that need no memory, and which hashes are weaker than wanted.
+
+use crate::failing_allocations::{CallEnd, failing_allocations};
+use crate::holds;
+use crate::phc_texts::HASH as PHC;
+use password_hash::mcf::PasswordHashRef;
+use password_hash::phc::PasswordHash;
+use password_hash::{Error, PasswordVerifier, RehashCheck};
+use scrypt::{InvalidParams, Params, Scrypt};
+use std::test::Fail;
+
+// libxcrypt's, of `pleaseletmein`.
+const MCF: &str =
+    "$7$CU..../....Mq4YHD2syxYT.MsH1Ek0n1$JyHIxez0DOwm0r6.kAIohc8UFBOLU4xX8a1wGBpLrw7";
+
+// Texts and the error of verifying them, with every allocation refused, and the reason for the row.
+const REFUSED: [(&str, Error, &str); 10] = [
+    (
+        "$8$CU..../....Mq4YHD2syxYT.MsH1Ek0n1$JyHIxez0DOwm0r6.kAIohc8UFBOLU4xX8a1wGBpLrw7",
+        Error::Algorithm,
+        "another id",
+    ),
+    (
+        "$7$CU..../....Mq4YHD2syxYT.MsH1Ek0n1$JyHIxez0DOwm0r6.kAIohc8UFBOLU4xX8a1wGBpLrwE",
+        Error::EncodingInvalid,
+        "spare bits are set",
+    ),
+    (
+        "$7$CU..../....Mq4YHD2syxYT.MsH1Ek0n1$JyHIxez0DOwm0r6.kAIohc8UFBOLU4xX8a1wGBpLrw7$",
+        Error::EncodingInvalid,
+        "a third field",
+    ),
+    (
+        "$7$CU..../....Mq4YHD2syxYT.MsH1Ek0n1$",
+        Error::OutputSize,
+        "an empty key",
+    ),
+    (
+        "$7$CU..../....Mq4YHD2syxYT.MsH1Ek0n1",
+        Error::EncodingInvalid,
+        "no key",
+    ),
+    (
+        "$7$*U..../....Mq4YHD2syxYT.MsH1Ek0n1$JyHIxez0DOwm0r6.kAIohc8UFBOLU4xX8a1wGBpLrw7",
+        Error::ParamsInvalid,
+        "log_n is 255",
+    ),
+    (
+        "$7$t/..../....Mq4YHD2syxYT.MsH1Ek0n1$JyHIxez0DOwm0r6.kAIohc8UFBOLU4xX8a1wGBpLrw7",
+        Error::ParamsInvalid,
+        "log_n is 57",
+    ),
+    ("$7$", Error::EncodingInvalid, "an empty field"),
+    ("$7", Error::EncodingInvalid, "no field"),
+    ("$8$a", Error::Algorithm, "another id alone"),
+];
+
+#[test]
+fn errors_without_memory(rt: HostRuntime) -> Result<(), Fail> {
+    let (alloc, scrypt) = (rt.alloc(), Scrypt::new());
+    for &(text, error, reason) in &REFUSED {
+        let hash = PasswordHashRef::new(text)?;
+        let allocations = failing_allocations(alloc, &[], || {
+            if scrypt.verify_password(alloc, b"pleaseletmein", &hash) == Err(error) {
+                CallEnd::Done
+            } else {
+                CallEnd::Otherwise
+            }
+        })?;
+        holds(allocations == 0, reason)?;
+    }
+    Ok(())
+}
+
+// A text, the wanted log_n, r, p and length, or 0 for none, whether it is weaker, and the reason for the row.
+const WEAKER: [(&str, (u8, u32, u32), usize, Result<bool, Error>, &str); 14] = [
+    (PHC, (17, 8, 1), 0, Ok(true), "the recommended parameters"),
+    (PHC, (16, 8, 1), 0, Ok(false), "its own"),
+    (PHC, (15, 8, 1), 0, Ok(false), "lower ones"),
+    (PHC, (15, 16, 1), 0, Ok(true), "r is below"),
+    (PHC, (16, 8, 2), 0, Ok(true), "p is below"),
+    (PHC, (16, 8, 1), 33, Ok(true), "the length is below"),
+    (PHC, (16, 8, 1), 10, Ok(false), "a shorter key"),
+    (
+        "$scrypt$ln=14,r=8,p=1$U29kaXVtQ2hsb3JpZGU$cCO9yzr9c0hGHA",
+        (14, 8, 1),
+        0,
+        Ok(true),
+        "no length asks for 32 bytes",
+    ),
+    (
+        "$scrypt$ln=4$aA",
+        (17, 8, 1),
+        0,
+        Err(Error::PasswordInvalid),
+        "no key",
+    ),
+    (
+        MCF,
+        (17, 8, 1),
+        0,
+        Ok(true),
+        "the recommended parameters, of the other format",
+    ),
+    (
+        MCF,
+        (14, 8, 1),
+        0,
+        Ok(false),
+        "lower ones, of the other format",
+    ),
+    ("$8$a", (17, 8, 1), 0, Err(Error::Algorithm), "another id"),
+    (
+        "$7$2/..../....$",
+        (17, 8, 1),
+        0,
+        Err(Error::OutputSize),
+        "an empty key",
+    ),
+    (
+        "$7$2/..../....$rNxJWVHNv/mCNcgE",
+        (4, 1, 1),
+        0,
+        Ok(true),
+        "a key of 12 bytes",
+    ),
+];
+
+// Parameters with this length of a key, or none if it is 0.
+fn params_of((log_n, r, p): (u8, u32, u32), len: usize) -> Result<Params, InvalidParams> {
+    if len == 0 {
+        Params::new(log_n, r, p)
+    } else {
+        Params::new_with_output_len(log_n, r, p, len)
+    }
+}
+
+// Whether a hash is weaker than wanted. Identifiers of one digit are those of MCF texts.
+fn is_weaker(wanted: &Scrypt, text: &str) -> Result<bool, Error> {
+    match PasswordHashRef::new(text) {
+        Ok(hash) if hash.id().len() == 1 => wanted.needs_rehash(&hash),
+        _ => wanted.needs_rehash(&PasswordHash::new(text)?),
+    }
+}
+
+#[test]
+fn weaker_hashes() -> Result<(), Fail> {
+    for &(text, wanted, len, weaker, reason) in &WEAKER {
+        let wanted = Scrypt::from(params_of(wanted, len)?);
+        holds(is_weaker(&wanted, text) == weaker, reason)?;
+    }
+    Ok(())
+}
