@@ -8,6 +8,8 @@
 #![tactic(auto)]
 
 #[cfg(test)]
+mod buffers;
+#[cfg(test)]
 mod derivation_allocations;
 #[cfg(test)]
 mod examples;
@@ -21,6 +23,8 @@ mod hash_allocations;
 mod hashes;
 #[cfg(test)]
 mod hostile;
+#[cfg(test)]
+mod lanes;
 #[cfg(test)]
 mod laws;
 #[cfg(test)]

@@ -1,19 +1,75 @@
-// scryptROMix in the ways that no derivation takes by default.
+// scryptROMix in each order of its words, for small sizes. The buffers may hold anything before the call.
 
 use crate::holds;
 use scrypt::CoreCount;
 use scrypt::romix::{plain_ro_mix, scrypt_ro_mix, thin_ro_mix};
+use std::alloc::Global;
 use std::test::Fail;
 
-// The buffers may hold anything before the call. The wanted bytes are by the way of the keys of RFC 7914.
+// The bytes with the first 128 * r of them mixed in the standard's order of words, with r from 1 to 4 and log_n up to 6. The
+// diagonal order has to give the same. All buffers hold `word`.
+fn mixed(
+    alloc: Global,
+    bytes: &[u8; 512],
+    log_n: u8,
+    r: usize,
+    word: u32,
+) -> Result<[u8; 512], Fail> {
+    let (log_n, r, mut cores) = (log_n.min(6), r.clamp(1, 4), CoreCount::new());
+    let (len, words) = (128 * r, 64 * r);
+    let (mut plain, mut output, mut scratch) = (*bytes, *bytes, [word; 256]);
+    let mut table = vec![in alloc; word; (1usize << log_n) * (32 * r)]?;
+    scrypt_ro_mix(
+        &mut output[..len],
+        &mut table,
+        &mut scratch[..words],
+        log_n,
+        &mut cores,
+    );
+    table.fill(word);
+    scratch.fill(word);
+    plain_ro_mix(
+        &mut plain[..len],
+        &mut table,
+        &mut scratch[..words],
+        log_n,
+        &mut cores,
+    );
+    holds(plain == output, "in both orders")?;
+    Ok(plain)
+}
+
 #[test]
-fn other_ways() -> Result<(), Fail> {
+fn both_orders(rt: HostRuntime) -> Result<(), Fail> {
+    let mut bytes = [0; 512];
+    for i in 0..512 {
+        bytes[i] = (i % 251) as u8;
+    }
+    for log_n in 0..7 {
+        for r in 1..5 {
+            for &word in &[0, u32::MAX] {
+                mixed(rt.alloc(), &bytes, log_n, r, word)?;
+            }
+        }
+    }
+    Ok(())
+}
+
+#[test]
+fn zeros_stay_zeros(rt: HostRuntime) -> Result<(), Fail> {
+    for &(log_n, reason) in &[(0, "one row"), (4, "sixteen rows")] {
+        let output = mixed(rt.alloc(), &[0; 512], log_n, 1, u32::MAX)?;
+        holds(output == [0; 512], reason)?;
+    }
+    Ok(())
+}
+
+#[test]
+fn one_row_in_four() -> Result<(), Fail> {
     let (mut wanted, mut cores) = ([7u8; 128], CoreCount::new());
     wanted[127] = 1;
-    let (mut plain, mut thin) = (wanted, wanted);
+    let mut thin = wanted;
     scrypt_ro_mix(&mut wanted, &mut [9; 512], &mut [9; 64], 4, &mut cores);
-    plain_ro_mix(&mut plain, &mut [9; 512], &mut [9; 64], 4, &mut cores);
     thin_ro_mix(&mut thin, &mut [9; 128], &mut [9; 96], 4, 2, &mut cores);
-    holds(plain == wanted, "in standard order")?;
-    holds(thin == wanted, "with one row in four")
+    holds(thin == wanted, "the same bytes")
 }
