@@ -2,20 +2,78 @@
 
 use crate::failing_allocations::{CallEnd, failing_allocations};
 use crate::holds;
-use scrypt::{CoreCount, DeriveError, Kdf, Params, Scrypt, kdf, scrypt, scrypt_counted};
+use scrypt::{
+    CoreCount, DeriveError, Kdf, Params, Scrypt, kdf, scrypt, scrypt_counted, scrypt_in_groups,
+};
 use std::alloc::Global;
 use std::test::Fail;
 
-// The chunks, the table and the scratch at (4, 1, 1), in bytes.
-const BUFFERS: [usize; 3] = [128, 2048, 256];
-
-// The calls that derive a key in memory of their own.
+// The calls that derive a key in memory of their own, the last one in bytes for so many tables.
 #[derive(Clone, Copy)]
 enum Call {
     Scrypt,
     ScryptCounted,
     DeriveKey,
+    InGroups(usize),
 }
+
+// A call, p, the sizes of its allocations at (4, 1, p), how many of them it needs, and the reason for the row. They are
+// the chunks, the table and the scratch. A call for several tables that gets no scratch for them ends with one table: this
+// and its scratch fit where the several tables were.
+const CALLS: [(Call, u32, [usize; 3], usize, &str); 10] = [
+    (Call::Scrypt, 1, [128, 2048, 256], 3, "the three buffers"),
+    (
+        Call::ScryptCounted,
+        1,
+        [128, 2048, 256],
+        3,
+        "counting takes no memory",
+    ),
+    (
+        Call::DeriveKey,
+        1,
+        [128, 2048, 256],
+        3,
+        "the trait adds none",
+    ),
+    (
+        Call::Scrypt,
+        4,
+        [512, 2048, 256],
+        3,
+        "one table for four chunks",
+    ),
+    (
+        Call::DeriveKey,
+        4,
+        [512, 2048, 256],
+        3,
+        "the same by the trait",
+    ),
+    (
+        Call::InGroups(1),
+        4,
+        [512, 2048, 256],
+        3,
+        "as many bytes as one takes",
+    ),
+    (
+        Call::InGroups(4),
+        4,
+        [512, 2048, 256],
+        3,
+        "one table if four are refused",
+    ),
+    (
+        Call::InGroups(2),
+        4,
+        [512, 4096, 512],
+        2,
+        "two tables without scratches",
+    ),
+    (Call::InGroups(3), 4, [512, 6144, 768], 2, "three"),
+    (Call::InGroups(4), 4, [512, 8192, 1024], 2, "four"),
+];
 
 // How a call ends with this answer.
 fn end_of(answer: Result<(), DeriveError>) -> CallEnd {
@@ -49,21 +107,26 @@ fn ended(call: Call, alloc: Global, params: &Params) -> CallEnd {
             &mut cores,
         )),
         Call::DeriveKey => end_of_trait(alloc, params, &mut output),
+        Call::InGroups(tables) => end_of(scrypt_in_groups(
+            alloc,
+            b"",
+            b"",
+            params,
+            tables.min(4) * (2048 + 256) + 512,
+            &mut output,
+            &mut cores,
+        )),
     }
 }
 
 #[test]
 fn derivations(rt: HostRuntime) -> Result<(), Fail> {
-    let params = Params::new(4, 1, 1)?;
-    for &(call, reason) in &[
-        (Call::Scrypt, "the three buffers"),
-        (Call::ScryptCounted, "counting takes no memory"),
-        (Call::DeriveKey, "the trait adds none"),
-    ] {
-        let allocations = failing_allocations(rt.alloc(), &BUFFERS, || {
+    for &(call, p, sizes, needed, reason) in &CALLS {
+        let params = Params::new(4, 1, p)?;
+        let allocations = failing_allocations(rt.alloc(), &sizes, || {
             ended(call, rt.alloc(), &params)
         })?;
-        holds(allocations == BUFFERS.len(), reason)?;
+        holds(allocations == needed, reason)?;
     }
     Ok(())
 }

@@ -7,7 +7,7 @@ use std::test::Fail;
 const BLOCKS: usize = 100_000;
 
 // How a call ended whose allocations fail.
-#[derive(Clone, Copy, Debug, PartialEq, Eq)]
+#[derive(Clone, Copy)]
 pub enum CallEnd {
     Done,
     OutOfMemory,

@@ -8,9 +8,6 @@ use scrypt::{Params, Scrypt};
 use std::alloc::Global;
 use std::test::Fail;
 
-// Of the empty password and the empty salt.
-const MCF_HASH: &str = "$7$2/..../....$rNxJWVHNv/mCNcgE/f6/L4zO6Fos5c2uTzhyzoisI62";
-
 // How a call ended by its answer.
 fn ended<T, E: PartialEq + Drop>(answer: &Result<T, E>, out_of_memory: E) -> CallEnd {
     match answer {
@@ -29,38 +26,71 @@ enum Deriving {
     VerifyMcf,
 }
 
-// A call that derives a key, the key's length, the sizes of its allocations at (4, 1, 1), and the reason
-// for the row. The last three are the chunks, the table and the scratch.
-const DERIVING: [(Deriving, usize, &[usize], &str); 5] = [
+// A call that derives a key, p, the key's length, the sizes of its allocations at (4, 1, p), and the reason for the row. The
+// last three are the chunks, the table and the scratch.
+const DERIVING: [(Deriving, u32, usize, &[usize], &str); 9] = [
     (
         Deriving::HashPhc,
+        1,
         32,
         &[128, 2048, 256],
         "a PHC hash has its key in place",
     ),
     (
         Deriving::VerifyPhc,
+        1,
         32,
         &[128, 2048, 256],
         "a PHC hash is read in place",
     ),
     (
         Deriving::HashMcf,
+        1,
         32,
         &[58, 128, 2048, 256],
         "the whole text comes first",
     ),
     (
         Deriving::HashMcf,
+        1,
         64,
         &[101, 128, 2048, 256],
         "the text of a longer key, and nothing after the derivation",
     ),
     (
         Deriving::VerifyMcf,
+        1,
         32,
         &[128, 2048, 256],
         "the key is compared with its letters in the text",
+    ),
+    (
+        Deriving::HashPhc,
+        4,
+        32,
+        &[512, 2048, 256],
+        "one table for four chunks",
+    ),
+    (
+        Deriving::VerifyPhc,
+        4,
+        32,
+        &[512, 2048, 256],
+        "the same for a verdict",
+    ),
+    (
+        Deriving::HashMcf,
+        4,
+        32,
+        &[58, 512, 2048, 256],
+        "and for a hash of the other format",
+    ),
+    (
+        Deriving::VerifyMcf,
+        4,
+        32,
+        &[512, 2048, 256],
+        "and its verdict",
     ),
 ];
 
@@ -97,10 +127,10 @@ fn end_of_deriving(
 #[test]
 fn hashing_and_verifying(rt: HostRuntime) -> Result<(), Fail> {
     let alloc = rt.alloc();
-    for &(call, len, sizes, reason) in &DERIVING {
-        let hasher = Scrypt::from(Params::new_with_output_len(4, 1, 1, len)?);
+    for &(call, p, len, sizes, reason) in &DERIVING {
+        let hasher = Scrypt::from(Params::new_with_output_len(4, 1, p, len)?);
         let phc_hash: phc::PasswordHash = hasher.hash_password_with_salt(alloc, b"", b"salt")?;
-        let mcf_hash = mcf::PasswordHash::new(alloc, MCF_HASH)?;
+        let mcf_hash: mcf::PasswordHash = hasher.hash_password_with_salt(alloc, b"", b"")?;
         let allocations = failing_allocations(alloc, sizes, || {
             end_of_deriving(&call, alloc, &hasher, &phc_hash, &mcf_hash)
         })?;

@@ -30,6 +30,8 @@ mod laws;
 #[cfg(test)]
 mod mcf_texts;
 #[cfg(test)]
+mod memory;
+#[cfg(test)]
 mod parameters;
 #[cfg(test)]
 mod phc_texts;
