@@ -8,7 +8,7 @@ from dataclasses import dataclass
 from tools import sources, specs
 
 STANDARD_FACTS = "StandardFacts"
-TESTS = "library_tests"
+TESTS = "_tests"
 
 
 @dataclass(frozen=True)
@@ -37,8 +37,8 @@ class Library:
                 self.modules[name] = specs.read_module(name, os.path.relpath(path, self.folder), sources.read(path))
 
     def crates(self):
-        """The crates that are promised: libraries, except that of tests."""
-        return [it for it in self.uses if it != TESTS and os.path.exists(f"{self.folder}/crates/{it}/src/lib.rt")]
+        """The crates that are promised: libraries, except those of tests."""
+        return [it for it in self.uses if not it.endswith(TESTS) and os.path.exists(f"{self.folder}/crates/{it}/src/lib.rt")]
 
     def specs_of(self, crate):
         """The modules of definitions of a crate, in the order of its table of contents, with the lines on them."""

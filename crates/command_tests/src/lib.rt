@@ -1,0 +1,16 @@
+//! Tests of the commands: over streams that fail at each call, and by a caller whose contract rests on that of a run.
+#![tactic(auto)]
+
+pub mod program;
+#[cfg(test)]
+mod streams;
+
+#[cfg(test)]
+use std::test::Fail;
+
+// Fails a test with this text unless it holds. Each `assert!` would be proved where it stands, with all that the test has
+// there.
+#[cfg(test)]
+fn holds(is_so: bool, text: &'static str) -> Result<(), Fail> {
+    if is_so { Ok(()) } else { Err(text.into()) }
+}

@@ -1,0 +1,290 @@
+// The commands over streams that give or take one byte a call, and fail. `ci/streams.py` has streams of the system.
+
+ghost use Rattle.std.specs.Prelude.{◌≤◌, IfOk};
+
+use crate::holds;
+use scrypt_commands::run::{Ended, run};
+use std::alloc::Global;
+use std::io::{Error, ErrorKind, Read, Result, Write};
+use std::test::Fail;
+
+// A reader of letters `x`, or a writer, of one byte a call. The call after `end` of them returns the error, or no byte if
+// there is none. After that a writer takes bytes again, and a reader is at its end. A writer marks each flush by a `^`.
+#[derive(Drop)]
+struct Stream {
+    end: usize,
+    error: Option<ErrorKind>,
+    calls: usize,
+    text: Vec<u8>,
+}
+
+impl Stream {
+    fn new(alloc: Global, (end, error): Kind) -> Stream {
+        Stream {
+            end,
+            error,
+            calls: 0,
+            text: Vec::new(alloc),
+        }
+    }
+
+    // Gives or takes a byte, and returns how many, 1 or 0.
+    fn step(&mut self) -> Result<usize>
+        ensures bound { IfOk result (λ n. n ≤ 1) }
+    {
+        let is_end = self.calls == self.end;
+        self.calls = self.calls.saturating_add(1);
+        if !is_end {
+            return Ok(1);
+        }
+        match self.error {
+            Some(kind) => Err(Error::from(kind)),
+            None => Ok(0),
+        }
+    }
+}
+
+impl Read for Stream {
+    fn read(&mut self, buf: &mut [u8]) -> Result<usize> {
+        let Some(place) = buf.first_mut() else {
+            return Ok(0);
+        };
+        *place = b'x';
+        let given = self.step()?;
+        Ok(if self.calls > self.end { 0 } else { given })
+    }
+}
+
+impl Write for Stream {
+    fn write(&mut self, buf: &[u8]) -> Result<usize> {
+        let Some(byte) = buf.first() else {
+            return Ok(0);
+        };
+        let taken = self.step()?;
+        if taken > 0 {
+            self.text.push(*byte)?;
+        }
+        Ok(taken)
+    }
+
+    fn flush(&mut self) -> Result<()> {
+        self.text.push(b'^')?;
+        let _ = self.step()?;
+        Ok(())
+    }
+}
+
+// The end of a stream and its error.
+type Kind = (usize, Option<ErrorKind>);
+
+// A line, its input, its output, and the writer of errors; how the run ends, after how many reads, and what it has written to
+// the output and to that of errors; and the reason for the row.
+type Row<'a> = (
+    &'a str,
+    [Kind; 3],
+    (u8, bool, bool),
+    usize,
+    [&'a str; 2],
+    &'static str,
+);
+
+// Runs a line, and fails unless it ends as its row has it.
+fn check(alloc: Global, row: Row<'_>) -> std::result::Result<(), Fail> {
+    let (
+        line,
+        [input, output, faults],
+        (status, input_failed, fault_told),
+        reads,
+        [written, told],
+        reason,
+    ) = row;
+    let mut words = Vec::new(alloc);
+    for word in line.split(' ') {
+        words.push(String::from_str(alloc, word)?)?;
+    }
+    let mut input = Stream::new(alloc, input);
+    let mut output = Stream::new(alloc, output);
+    let mut faults = Stream::new(alloc, faults);
+    let ended = run(alloc, &words, &mut input, &mut output, &mut faults);
+    let wanted = Ended {
+        status,
+        input_failed,
+        fault_told,
+    };
+    let is_so = (ended == wanted)
+        & (input.calls == reads)
+        & (output.text.as_slice() == written.as_bytes())
+        & (faults.text.as_slice() == told.as_bytes());
+    holds(is_so, reason)
+}
+
+const OTHER: Option<ErrorKind> = Some(ErrorKind::Other);
+
+const INTERRUPTED: Option<ErrorKind> = Some(ErrorKind::Interrupted);
+
+const ALL: Kind = (usize::MAX, None);
+
+// The letters `xxx`.
+const INPUT: Kind = (3, None);
+
+const KEY: &str = "key 4 1 1 64 ";
+
+// A hash of `xxx`, and one of no password.
+const VERIFY: &str = "verify $7$2/..../....$W.DC6SK1n8Wquj250SWcOF3iCywSlnx7anZDmvlBgp.";
+
+const VERIFY_EMPTY: &str = "verify $7$2/..../....$rNxJWVHNv/mCNcgE/f6/L4zO6Fos5c2uTzhyzoisI62";
+
+const REHASH: &str =
+    "rehash mcf 4 1 1 64  $7$2/..../....$W.DC6SK1n8Wquj250SWcOF3iCywSlnx7anZDmvlBgp.";
+
+// Lines, their statuses, and what they write for `xxx`, by Python's hashlib.
+const ANSWERS: [(&str, u8, &str, &str); 4] = [
+    (
+        KEY,
+        0,
+        "22f03888670db322dafa4b1c8227a25a54b88ecf7bf1dc27e65c3ef21e376c0db90adb241ee0f4f3f27ca36d9c866861b65933995b0813e7c17fb4271434fbc9\n^",
+        "a key, in a line of 129 bytes",
+    ),
+    (VERIFY, 0, "ok\n^", "the right password"),
+    (
+        VERIFY_EMPTY,
+        1,
+        "no\n^",
+        "a wrong one: no `ok`, nor a part of it",
+    ),
+    (
+        REHASH,
+        0,
+        "$7$2/..../....$W.DC6SK1n8Wquj250SWcOF3iCywSlnx7anZDmvlBgpEi8gB7S.Cxn9DTXq4b4WKMqapANi30HQSkzFv7IEny71\n^",
+        "a new hash",
+    ),
+];
+
+const INPUT_FAILED: &str = "input failed\n";
+
+const OUTPUT_FAILED: &str = "output failed\n";
+
+// Lines, inputs that fail, and the reason for the row.
+const INPUTS: [(&str, Kind, &str); 9] = [
+    (KEY, (0, OTHER), "an input that seems empty"),
+    (KEY, (1, OTHER), "after a first piece"),
+    (KEY, (99_999, OTHER), "after many pieces"),
+    (KEY, (1, INTERRUPTED), "no read is tried again"),
+    (VERIFY, (3, OTHER), "no verdict on a part"),
+    ("verify $7$", (0, OTHER), "its fields are read later"),
+    (REHASH, (0, OTHER), "an old hash, and no input"),
+    (REHASH, (99_999, OTHER), "after many pieces"),
+    (REHASH, (1, INTERRUPTED), "and one error"),
+];
+
+const ENDS: [Row<'static>; 8] = [
+    (
+        "key 4 1 1 16 ",
+        [(99_999, None), ALL, ALL],
+        (0, false, true),
+        100_000,
+        ["d9d598b48803bb1bbed2d5892c9870b3\n^", ""],
+        "the key of many pieces, by hashlib",
+    ),
+    (
+        KEY,
+        [INPUT, (0, None), ALL],
+        (4, false, true),
+        4,
+        ["", OUTPUT_FAILED],
+        "an output that takes no byte",
+    ),
+    (
+        REHASH,
+        [INPUT, (0, None), ALL],
+        (4, false, true),
+        4,
+        ["", OUTPUT_FAILED],
+        "a new hash that is not taken",
+    ),
+    (
+        "verify $scrypt$",
+        [(0, OTHER), ALL, ALL],
+        (2, false, true),
+        0,
+        ["", "hash refused: EncodingInvalid\n"],
+        "a PHC text is read before the input",
+    ),
+    (
+        "key 4 1 1 0 ",
+        [INPUT, ALL, (0, OTHER)],
+        (2, false, false),
+        0,
+        ["", ""],
+        "a fault that cannot be written",
+    ),
+    (
+        "key 4 1 1 0 ",
+        [INPUT, ALL, (9, OTHER)],
+        (2, false, false),
+        0,
+        ["", "invalid o"],
+        "and one of which a part is",
+    ),
+    (
+        KEY,
+        [(0, OTHER), ALL, (12, None)],
+        (4, true, false),
+        1,
+        ["", "input failed"],
+        "and one without its newline",
+    ),
+    (
+        REHASH,
+        [INPUT, (0, OTHER), (0, OTHER)],
+        (4, false, false),
+        4,
+        ["", ""],
+        "neither output takes a byte",
+    ),
+];
+
+// The call after the last byte of an answer is the flush, which ends the run: there is none after it.
+#[test]
+fn runs_over_streams(rt: HostRuntime) -> std::result::Result<(), Fail> {
+    for &(line, status, answer, reason) in &ANSWERS {
+        for end in 0..answer.len() {
+            // A flush that fails is marked too.
+            let len = if end + 1 == answer.len() {
+                answer.len()
+            } else {
+                end
+            };
+            let told = [answer.get(..len).unwrap_or(""), OUTPUT_FAILED];
+            let streams = [INPUT, (end, OTHER), ALL];
+            check(
+                rt.alloc(),
+                (line, streams, (4, false, true), 4, told, reason),
+            )?;
+        }
+        let ended = (status, false, true);
+        check(
+            rt.alloc(),
+            (line, [INPUT, ALL, ALL], ended, 4, [answer, ""], reason),
+        )?;
+    }
+    for &(line, input, reason) in &INPUTS {
+        let reads = input.0.saturating_add(1);
+        let told = ["", INPUT_FAILED];
+        check(
+            rt.alloc(),
+            (
+                line,
+                [input, ALL, ALL],
+                (4, true, true),
+                reads,
+                told,
+                reason,
+            ),
+        )?;
+    }
+    for &row in &ENDS {
+        check(rt.alloc(), row)?;
+    }
+    Ok(())
+}
