@@ -50,7 +50,7 @@ make_objects() {
   done
   # A proved call that sees a password or a key is called by the one in clearing.c, and that by calls.c.
   nm -g --defined-only "$parts"/libscrypt_c/*.o |
-    awk '$2 == "T" && $3 !~ /^scrypt_(buffer_lens|wipe)$/ { print $3, "proved_" $3 }' > "$parts/proved"
+    awk '$2 == "T" && $3 != "scrypt_wipe" { print $3, "proved_" $3 }' > "$parts/proved"
   cut -d " " -f 1 "$parts/proved" > "$parts/proved.names"
   objcopy --redefine-syms="$parts/proved" "$parts"/libscrypt_c/*.o
   for object in "$parts"/*/*.o; do objcopy --redefine-syms="$common/clearing" "$object"; done
@@ -71,7 +71,7 @@ make_objects() {
   $CC -std=c99 -pedantic $flags -c -o "$parts/clearing.o" bindings/c/clearing.c
   # The calls that are called by those over them.
   sed 's/.*/cleared_&/' "$parts/proved.names" > "$parts/names"
-  printf '%s\n' scrypt_buffer_lens scrypt_wipe scrypt_version >> "$parts/names"
+  printf '%s\n' scrypt_wipe scrypt_version >> "$parts/names"
   join "$parts/calls.o" "$parts/names" "$parts"/libscrypt_c/*.o "$parts"/liblibc_c/*.o "$parts"/clearing.o \
     "$parts"/blocks.o "$parts"/registers.o "$parts"/version.o
 }

@@ -32,7 +32,7 @@ static int measure(uint32_t log_n, double *seconds) {
   return status;
 }
 
-int scrypt_calibrate(double seconds, size_t most_bytes, uint8_t *log_n, uint32_t *r, uint32_t *p) {
+int scrypt_calibrate(double seconds, size_t most_bytes, uint32_t *log_n, uint32_t *r, uint32_t *p) {
   double taken = 0, best_taken = 0;
   uint32_t it, best = 0;
   int status = SCRYPT_TOO_COSTLY;
@@ -46,7 +46,7 @@ int scrypt_calibrate(double seconds, size_t most_bytes, uint8_t *log_n, uint32_t
     best_taken = taken;
   }
   if (best == 0) return status;
-  *log_n = (uint8_t)best;
+  *log_n = best;
   *r = R;
   *p = seconds < MOST_P * best_taken ? (uint32_t)(seconds / best_taken) : MOST_P;
   return SCRYPT_OK;

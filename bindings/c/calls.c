@@ -7,11 +7,13 @@
 #define PROVED_PROCEDURE(name, parameters, arguments) void cleared_##name parameters;
 #include "proved_calls.h"
 
-/* The same with any pointers to bytes. */
+/* The same with any pointers to bytes, and log_n of any size. */
 #undef INPUTS
+#undef THE_INPUTS
 #undef STORED
 #define INPUTS \
-  const void *password, size_t password_len, const void *salt, size_t salt_len, uint8_t log_n, uint32_t r, uint32_t p
+  const void *password, size_t password_len, const void *salt, size_t salt_len, uint32_t log_n, uint32_t r, uint32_t p
+#define THE_INPUTS password, password_len, salt, salt_len, in_8_bits(log_n), r, p
 #define STORED const void *password, size_t password_len, const char *text, size_t text_len
 
 #define REFUSE_IF(is_wrong) \
@@ -27,6 +29,10 @@
   REFUSE_IF(is_null(output, output_len));   \
   if (output == NULL) output = &none
 #define TAKE_BUFFERS REFUSE_IF(chunks == NULL || table == NULL || scratch == NULL)
+
+int scrypt_buffer_lens(uint32_t log_n, uint32_t r, uint32_t p, uint8_t s, size_t *chunks, size_t *table, size_t *scratch) {
+  return cleared_scrypt_buffer_lens(in_8_bits(log_n), r, p, s, chunks, table, scratch);
+}
 
 int scrypt_key_with_buffers(INPUTS, OUTPUT, BUFFERS) {
   TAKE_OUTPUT;
@@ -96,15 +102,19 @@ int scrypt_verify_group_with_buffers(const scrypt_login *logins, size_t count, i
   return SCRYPT_OK;
 }
 
-int scrypt_needs_rehash(const char *text, size_t text_len, uint8_t log_n, uint32_t r, uint32_t p, size_t key_len) {
+int scrypt_needs_rehash(const char *text, size_t text_len, uint32_t log_n, uint32_t r, uint32_t p, size_t key_len) {
   TAKE(text);
-  return cleared_scrypt_needs_rehash(text, text_len, log_n, r, p, key_len);
+  return cleared_scrypt_needs_rehash(text, text_len, in_8_bits(log_n), r, p, key_len);
 }
 
-int scrypt_hash_params(const char *text, size_t text_len, uint8_t *log_n, uint32_t *r, uint32_t *p, size_t *key_len) {
+int scrypt_hash_params(const char *text, size_t text_len, uint32_t *log_n, uint32_t *r, uint32_t *p, size_t *key_len) {
+  uint8_t made = 0;
+  int status;
   TAKE(text);
   REFUSE_IF(log_n == NULL || r == NULL || p == NULL || key_len == NULL);
-  return cleared_scrypt_hash_params(text, text_len, log_n, r, p, key_len);
+  status = cleared_scrypt_hash_params(text, text_len, &made, r, p, key_len);
+  if (status == SCRYPT_OK) *log_n = made;
+  return status;
 }
 
 #define THESE(needs) &needs.tables, &needs.chunks_len, &needs.table_len, &needs.scratch_len
@@ -122,17 +132,17 @@ int scrypt_hash_needs(const char *text, size_t text_len, size_t most_bytes, uint
   return status;
 }
 
-int scrypt_params_need(uint8_t log_n, uint32_t r, uint32_t p, size_t most_bytes, uint64_t most_work, scrypt_needs *needs) {
+int scrypt_params_need(uint32_t log_n, uint32_t r, uint32_t p, size_t most_bytes, uint64_t most_work, scrypt_needs *needs) {
   scrypt_needs made = {log_n, r, p, 0, 0, 0, 0, 0};
   int status;
   REFUSE_IF(needs == NULL);
-  status = cleared_scrypt_params_need(log_n, r, p, most_bytes, most_work, THESE(made));
+  status = cleared_scrypt_params_need(in_8_bits(log_n), r, p, most_bytes, most_work, THESE(made));
   if (status == SCRYPT_OK) *needs = made;
   return status;
 }
 
-int scrypt_limits_for_new(uint8_t log_n, uint32_t r, uint32_t p, size_t key_len, size_t *most_bytes, uint64_t *most_work,
+int scrypt_limits_for_new(uint32_t log_n, uint32_t r, uint32_t p, size_t key_len, size_t *most_bytes, uint64_t *most_work,
                           size_t *least_key_len) {
   REFUSE_IF(most_bytes == NULL || most_work == NULL || least_key_len == NULL);
-  return cleared_scrypt_limits_for_new(log_n, r, p, key_len, most_bytes, most_work, least_key_len);
+  return cleared_scrypt_limits_for_new(in_8_bits(log_n), r, p, key_len, most_bytes, most_work, least_key_len);
 }

@@ -19,7 +19,7 @@ static void *drop_in;
 
 #define PASSWORD the->password, the->password_len
 #define SALT the->salt, the->salt_len
-#define PARAMS (uint8_t)the->log_n, the->r, the->p
+#define PARAMS the->log_n, the->r, the->p
 #define BUFFERS chunks, chunks_len, table, table_len, scratch, scratch_len
 
 /* The lengths for as many chunks at a time as there are. */
@@ -99,8 +99,7 @@ static int hash_mcf_with_buffers(void) {
 static int needs_rehash(void) { return scrypt_needs_rehash(phc, strlen(phc), 1, 1, 1, KEY_LEN); }
 
 static int hash_params(void) {
-  uint8_t log_n;
-  uint32_t r, p;
+  uint32_t log_n, r, p;
   size_t len;
   return scrypt_hash_params(phc, strlen(phc), &log_n, &r, &p, &len);
 }

@@ -6,7 +6,7 @@
 /* x86-64-v2 has 16 registers of four words, which four blocks at once don't fit into. */
 size_t most_at_once(void) { return strstr(scrypt_version(), "x86-64-v3") != NULL ? 4 : 3; }
 
-int key_in_buffers(const void *password, size_t password_len, const void *salt, size_t salt_len, uint8_t log_n, uint32_t r,
+int key_in_buffers(const void *password, size_t password_len, const void *salt, size_t salt_len, uint32_t log_n, uint32_t r,
                    uint32_t p, uint8_t *output, size_t output_len, const struct buffers *of) {
   int status = scrypt_key_with_buffers(password, password_len, salt, salt_len, log_n, r, p, output, output_len, of->chunks,
                                        of->chunks_len, of->table, of->table_len, of->scratch, of->scratch_len);

@@ -16,6 +16,9 @@ static inline const uint8_t *bytes_of(const void *bytes) {
   return bytes != NULL ? (const uint8_t *)bytes : (const uint8_t *)"";
 }
 
+/* For the proved calls, which accept no log_n above 56: a greater one mustn't become one that they accept. */
+static inline uint8_t in_8_bits(uint32_t log_n) { return log_n < 64 ? (uint8_t)log_n : UINT8_MAX; }
+
 /* How many at once pay on this processor, at most SCRYPT_MOST_LOGINS. */
 size_t most_at_once(void);
 
@@ -23,7 +26,7 @@ size_t most_at_once(void);
 size_t processors_of_process(void);
 
 /* The key in these buffers, of which the chunks and the scratch are zeros afterwards. */
-int key_in_buffers(const void *password, size_t password_len, const void *salt, size_t salt_len, uint8_t log_n, uint32_t r,
+int key_in_buffers(const void *password, size_t password_len, const void *salt, size_t salt_len, uint32_t log_n, uint32_t r,
                    uint32_t p, uint8_t *output, size_t output_len, const struct buffers *of);
 
 #endif

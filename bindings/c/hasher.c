@@ -19,10 +19,10 @@ void derive(const scrypt_hasher *hasher, struct call **group, size_t count, int 
                                               of->scratch, of->scratch_len);
   else if (it->is_key)
     statuses[0] = key_in_buffers(it->login.password, it->login.password_len, it->salt, it->salt_len,
-                                 (uint8_t)with->log_n, with->r, with->p, (uint8_t *)it->output, it->output_len, of);
+                                 with->log_n, with->r, with->p, (uint8_t *)it->output, it->output_len, of);
   else
     statuses[0] = (with->mcf ? scrypt_hash_mcf_with_buffers : scrypt_hash_phc_with_buffers)(
-        it->login.password, it->login.password_len, it->salt, it->salt_len, (uint8_t)with->log_n, with->r, with->p,
+        it->login.password, it->login.password_len, it->salt, it->salt_len, with->log_n, with->r, with->p,
         with->key_len, (char *)it->output, it->output_len, of->chunks, of->chunks_len, of->table, of->table_len,
         of->scratch, of->scratch_len);
   (void)status; /* nothing is NULL, and a group has no more than four */
@@ -82,7 +82,7 @@ int scrypt_hasher_key(scrypt_hasher *hasher, const void *password, size_t passwo
 int scrypt_hasher_needs_rehash(const scrypt_hasher *hasher, const char *text, size_t text_len) {
   const scrypt_options *with = scrypt_hasher_options(hasher);
   if (with == NULL) return SCRYPT_NULL_POINTER;
-  return scrypt_needs_rehash(text, text_len, (uint8_t)with->log_n, with->r, with->p, with->key_len);
+  return scrypt_needs_rehash(text, text_len, with->log_n, with->r, with->p, with->key_len);
 }
 
 /* ---- The beginning ---- */
@@ -105,15 +105,15 @@ static int complete(scrypt_hasher *hasher) {
   DEFAULT(salt_len, SCRYPT_SALT_LEN);
   DEFAULT(processors, processors_of_process());
   DEFAULT(at_once, with->processors > SIZE_MAX / 2 ? SIZE_MAX : 2 * with->processors);
-  if (with->log_n > UINT8_MAX || with->key_len < 10 || with->key_len > 64) return SCRYPT_INVALID_PARAMS;
-  status = scrypt_limits_for_new((uint8_t)with->log_n, with->r, with->p, with->key_len, &most_bytes, &most_work,
+  if (with->key_len < 10 || with->key_len > 64) return SCRYPT_INVALID_PARAMS;
+  status = scrypt_limits_for_new(with->log_n, with->r, with->p, with->key_len, &most_bytes, &most_work,
                                  &least_key_len);
   if (status != SCRYPT_OK) return status;
   DEFAULT(most_bytes, most_bytes);
   DEFAULT(most_work, most_work);
   DEFAULT(least_key_len, least_key_len);
   if (with->salt_len > MOST_SALT_LEN) return SCRYPT_SALT_INVALID;
-  return scrypt_params_need((uint8_t)with->log_n, with->r, with->p, with->most_bytes, with->most_work, &hasher->needs);
+  return scrypt_params_need(with->log_n, with->r, with->p, with->most_bytes, with->most_work, &hasher->needs);
 }
 
 scrypt_hasher *scrypt_hasher_new(const scrypt_options *options, int *status) {

@@ -5,7 +5,7 @@
 #define PROVED_PROCEDURE(name, parameters, arguments) void cleared_##name parameters;
 #include "proved_calls.h"
 
-int scrypt_key(const void *password, size_t password_len, const void *salt, size_t salt_len, uint8_t log_n, uint32_t r,
+int scrypt_key(const void *password, size_t password_len, const void *salt, size_t salt_len, uint32_t log_n, uint32_t r,
                uint32_t p, uint8_t *output, size_t output_len) {
   struct tables tables = {NULL, 0, NULL, 0, 0, 0};
   scrypt_needs needs;
@@ -22,8 +22,8 @@ int scrypt_key(const void *password, size_t password_len, const void *salt, size
       status = key_in_buffers(password, password_len, salt, salt_len, log_n, r, p, output, output_len, &of);
     } while (tables_are_lost(&tables));
   } else {
-    status = cleared_scrypt_kdf(bytes_of(password), password_len, bytes_of(salt), salt_len, log_n, r, p, output,
-                                output_len);
+    status = cleared_scrypt_kdf(bytes_of(password), password_len, bytes_of(salt), salt_len, in_8_bits(log_n), r,
+                                p, output, output_len);
   }
   tables_unmap(&tables);
   return status;

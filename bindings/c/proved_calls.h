@@ -42,6 +42,10 @@ PROVED_CALL(scrypt_params_need,
          (uint8_t log_n, uint32_t r, uint32_t p, size_t most_bytes, uint64_t most_work, NEEDS),
          (log_n, r, p, most_bytes, most_work, THE_NEEDS))
 
+PROVED_CALL(scrypt_buffer_lens,
+         (uint8_t log_n, uint32_t r, uint32_t p, uint8_t s, size_t *chunks, size_t *table, size_t *scratch),
+         (log_n, r, p, s, chunks, table, scratch))
+
 PROVED_CALL(scrypt_limits_for_new,
          (uint8_t log_n, uint32_t r, uint32_t p, size_t key_len, size_t *most_bytes, uint64_t *most_work,
           size_t *least_key_len),

@@ -18,9 +18,9 @@
  *   a salt for a new key or hash                     scrypt_draw_salt                         no
  *   the version of the library                       scrypt_version                           no
  *
- * A call that is marked yes is a proved function, and a few lines of C that check for NULL and terminate the text. The
- * others are written in C over them. All C is tested. Parameters are accepted if r > 0, p > 0, 128 * r * 2^log_n < 2^64 and
- * r * p < 2^30.
+ * A call that is marked yes is a proved function, and a few lines of C that check for NULL and for N in place of log_n, and
+ * terminate the text. The others are written in C over them. All C is tested. Parameters are accepted if r > 0, p > 0,
+ * 128 * r * 2^log_n < 2^64 and r * p < 2^30. log_n is the logarithm of N: N in its place is refused from 64 on.
  *
  * Lengths are in bytes unless words are named; a word has 4 bytes. A password, a salt, a text or an output may be NULL with
  * length 0. For any other NULL a call returns SCRYPT_NULL_POINTER before any other status; only scrypt_buffer_lens and
@@ -111,14 +111,14 @@ enum scrypt_status {
  * at a time, in up to four tables of together at most 128 MiB; if the system refuses that much memory, in fewer.
  * SCRYPT_NULL_POINTER, SCRYPT_INVALID_PARAMS, SCRYPT_INVALID_OUTPUT_LEN, SCRYPT_OUT_OF_MEMORY. */
 SCRYPT_CHECKED
-int scrypt_key(const void *password, size_t password_len, const void *salt, size_t salt_len, uint8_t log_n, uint32_t r,
+int scrypt_key(const void *password, size_t password_len, const void *salt, size_t salt_len, uint32_t log_n, uint32_t r,
                uint32_t p, uint8_t *output, size_t output_len);
 
 /* Writes the lengths of the buffers: of chunks in bytes, of table and scratch in words. With s = 0 they are the least
  * that scrypt_key_with_buffers accepts; with any s up to log_n they are exactly those of scrypt_key_thin with this s.
  * SCRYPT_INVALID_PARAMS, also if s is above log_n. */
 SCRYPT_CHECKED SCRYPT_NONNULL
-int scrypt_buffer_lens(uint8_t log_n, uint32_t r, uint32_t p, uint8_t s, size_t *chunks,
+int scrypt_buffer_lens(uint32_t log_n, uint32_t r, uint32_t p, uint8_t s, size_t *chunks,
                        size_t *table, size_t *scratch);
 
 /* Writes the same key, in the caller's buffers, each at least as long as scrypt_buffer_lens returns for s = 0. If the
@@ -128,7 +128,7 @@ int scrypt_buffer_lens(uint8_t log_n, uint32_t r, uint32_t p, uint8_t s, size_t 
  * SCRYPT_INVALID_PARAMS, SCRYPT_INVALID_OUTPUT_LEN, SCRYPT_BUFFER_SIZE if a buffer is too short. */
 SCRYPT_CHECKED
 int scrypt_key_with_buffers(const void *password, size_t password_len, const void *salt,
-                            size_t salt_len, uint8_t log_n, uint32_t r, uint32_t p, uint8_t *output,
+                            size_t salt_len, uint32_t log_n, uint32_t r, uint32_t p, uint8_t *output,
                             size_t output_len, uint8_t *chunks, size_t chunks_len, uint32_t *table,
                             size_t table_len, uint32_t *scratch, size_t scratch_len);
 
@@ -138,7 +138,7 @@ int scrypt_key_with_buffers(const void *password, size_t password_len, const voi
  * SCRYPT_INVALID_PARAMS, also if s is above log_n, SCRYPT_INVALID_OUTPUT_LEN, SCRYPT_BUFFER_SIZE. */
 SCRYPT_CHECKED
 int scrypt_key_thin(const void *password, size_t password_len, const void *salt,
-                    size_t salt_len, uint8_t log_n, uint32_t r, uint32_t p, uint8_t s,
+                    size_t salt_len, uint32_t log_n, uint32_t r, uint32_t p, uint8_t s,
                     uint8_t *output, size_t output_len, uint8_t *chunks, size_t chunks_len,
                     uint32_t *table, size_t table_len, uint32_t *scratch, size_t scratch_len);
 
@@ -162,13 +162,13 @@ int scrypt_hash_new(const void *password, size_t password_len, char *text, size_
  * SCRYPT_NULL_POINTER, SCRYPT_INVALID_PARAMS (also for key_len), SCRYPT_SALT_INVALID, SCRYPT_OUT_OF_MEMORY,
  * SCRYPT_BUFFER_SIZE. */
 SCRYPT_CHECKED
-int scrypt_hash_phc(const void *password, size_t password_len, const void *salt, size_t salt_len, uint8_t log_n, uint32_t r,
+int scrypt_hash_phc(const void *password, size_t password_len, const void *salt, size_t salt_len, uint32_t log_n, uint32_t r,
                     uint32_t p, size_t key_len, char *text, size_t capacity);
 
 /* The same for the $7$ text of crypt(3), with a salt of any length, for which SCRYPT_MCF_CAPACITY(salt_len) is enough.
  * SCRYPT_NULL_POINTER, SCRYPT_INVALID_PARAMS (also for key_len), SCRYPT_OUT_OF_MEMORY, SCRYPT_BUFFER_SIZE. */
 SCRYPT_CHECKED
-int scrypt_hash_mcf(const void *password, size_t password_len, const void *salt, size_t salt_len, uint8_t log_n, uint32_t r,
+int scrypt_hash_mcf(const void *password, size_t password_len, const void *salt, size_t salt_len, uint32_t log_n, uint32_t r,
                     uint32_t p, size_t key_len, char *text, size_t capacity);
 
 /* Does what scrypt_hash_phc does, in the caller's buffers, each at least as long as scrypt_buffer_lens returns for s = 0.
@@ -179,7 +179,7 @@ int scrypt_hash_mcf(const void *password, size_t password_len, const void *salt,
  * short, and after the derivation SCRYPT_BUFFER_SIZE if the text does not fit. */
 SCRYPT_CHECKED
 int scrypt_hash_phc_with_buffers(const void *password, size_t password_len, const void *salt, size_t salt_len,
-                                 uint8_t log_n, uint32_t r, uint32_t p, size_t key_len, char *text, size_t capacity,
+                                 uint32_t log_n, uint32_t r, uint32_t p, size_t key_len, char *text, size_t capacity,
                                  uint8_t *chunks, size_t chunks_len, uint32_t *table, size_t table_len,
                                  uint32_t *scratch, size_t scratch_len);
 
@@ -187,7 +187,7 @@ int scrypt_hash_phc_with_buffers(const void *password, size_t password_len, cons
  * SCRYPT_BUFFER_SIZE if the text does not fit or if a buffer is too short, both before the derivation. */
 SCRYPT_CHECKED
 int scrypt_hash_mcf_with_buffers(const void *password, size_t password_len, const void *salt, size_t salt_len,
-                                 uint8_t log_n, uint32_t r, uint32_t p, size_t key_len, char *text, size_t capacity,
+                                 uint32_t log_n, uint32_t r, uint32_t p, size_t key_len, char *text, size_t capacity,
                                  uint8_t *chunks, size_t chunks_len, uint32_t *table, size_t table_len,
                                  uint32_t *scratch, size_t scratch_len);
 
@@ -240,12 +240,12 @@ int scrypt_verify_group_with_buffers(const scrypt_login *logins, size_t count, i
  * wanted one, or if it has no salt or no key; otherwise SCRYPT_OK. Nothing is allocated. First SCRYPT_INVALID_PARAMS (also
  * for key_len), then the errors of scrypt_verify except SCRYPT_OUT_OF_MEMORY. */
 SCRYPT_CHECKED
-int scrypt_needs_rehash(const char *text, size_t text_len, uint8_t log_n, uint32_t r, uint32_t p, size_t key_len);
+int scrypt_needs_rehash(const char *text, size_t text_len, uint32_t log_n, uint32_t r, uint32_t p, size_t key_len);
 
 /* Writes the parameters of a hash, and the length of its key, or 0 if it has none. Nothing is allocated.
  * The errors of scrypt_verify except SCRYPT_OUT_OF_MEMORY and SCRYPT_MISMATCH. */
 SCRYPT_CHECKED
-int scrypt_hash_params(const char *text, size_t text_len, uint8_t *log_n, uint32_t *r, uint32_t *p, size_t *key_len);
+int scrypt_hash_params(const char *text, size_t text_len, uint32_t *log_n, uint32_t *r, uint32_t *p, size_t *key_len);
 
 /* What a derivation needs: its parameters, the length of the key of a hash, how many tables it can use within the bound on
  * bytes (1 to 4, and at most p; 1 also if even one is too much), and the lengths of the buffers with one: of chunks in
@@ -267,12 +267,12 @@ int scrypt_hash_needs(const char *text, size_t text_len, size_t most_bytes, uint
 /* The same for a derivation with these parameters: SCRYPT_INVALID_PARAMS, then SCRYPT_TOO_COSTLY. On an error nothing is
  * written. */
 SCRYPT_CHECKED
-int scrypt_params_need(uint8_t log_n, uint32_t r, uint32_t p, size_t most_bytes, uint64_t most_work, scrypt_needs *needs);
+int scrypt_params_need(uint32_t log_n, uint32_t r, uint32_t p, size_t most_bytes, uint64_t most_work, scrypt_needs *needs);
 
 /* Writes the default bounds of a hasher that makes such hashes: SCRYPT_MOST_BYTES, SCRYPT_MOST_WORK and SCRYPT_LEAST_KEY_LEN,
  * except that they admit these hashes. SCRYPT_INVALID_PARAMS; then nothing is written. */
 SCRYPT_CHECKED
-int scrypt_limits_for_new(uint8_t log_n, uint32_t r, uint32_t p, size_t key_len, size_t *most_bytes, uint64_t *most_work,
+int scrypt_limits_for_new(uint32_t log_n, uint32_t r, uint32_t p, size_t key_len, size_t *most_bytes, uint64_t *most_work,
                           size_t *least_key_len);
 
 /* ---- Hashers: password hashes for a service. Not proved: they use the calls above ---- */
@@ -365,7 +365,7 @@ void scrypt_hasher_free(scrypt_hasher *hasher);
  * takes some four times as long. SCRYPT_NULL_POINTER, SCRYPT_TOO_COSTLY if even log_n = 10 with p = 1 takes longer, or needs
  * more; SCRYPT_OUT_OF_MEMORY, SCRYPT_UNSUPPORTED. */
 SCRYPT_CHECKED
-int scrypt_calibrate(double seconds, size_t most_bytes, uint8_t *log_n, uint32_t *r, uint32_t *p);
+int scrypt_calibrate(double seconds, size_t most_bytes, uint32_t *log_n, uint32_t *r, uint32_t *p);
 
 /* ---- Salts, and the version ---- */
 

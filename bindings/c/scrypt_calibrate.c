@@ -17,8 +17,7 @@ static double number(const char *word, double most) {
 int main(int argc, char **argv) {
   double seconds = argc == 3 ? number(argv[1], 3600) : 0;
   double mib = argc == 3 ? number(argv[2], 1 << 20) : 0;
-  uint8_t log_n = 0;
-  uint32_t r = 0, p = 0;
+  uint32_t log_n = 0, r = 0, p = 0;
   int status;
   if (seconds == 0 || mib == 0) {
     fputs("usage: scrypt_calibrate SECONDS MIB\n"

@@ -25,7 +25,7 @@ static size_t table_bytes(const scrypt_needs *one) { return 4 * (one->table_len 
 #define MOST_OF_SEVERAL ((size_t)128 << 20)
 #define LEAST_OF_SEVERAL ((size_t)64 << 10)
 
-size_t tables_for_key(uint8_t log_n, uint32_t r, uint32_t p, scrypt_needs *needs) {
+size_t tables_for_key(uint32_t log_n, uint32_t r, uint32_t p, scrypt_needs *needs) {
   size_t most = p < most_at_once() ? p : most_at_once(), fit;
   if (scrypt_params_need(log_n, r, p, SIZE_MAX, UINT64_MAX, needs) != SCRYPT_OK) return 1;
   if (4 * needs->table_len < LEAST_OF_SEVERAL) return 1;
@@ -35,16 +35,16 @@ size_t tables_for_key(uint8_t log_n, uint32_t r, uint32_t p, scrypt_needs *needs
 
 static int has_huge(const scrypt_needs *one) { return 4 * one->table_len >= HUGE_PAGE; }
 
+/* Behind the room: 1 since the last buffers, or 0 in a child. */
+static uint32_t *mark_of(const struct tables *tables) { return (uint32_t *)(void *)(tables->front + tables->room); }
+
+int tables_are_lost(const struct tables *tables) { return __atomic_load_n(mark_of(tables), __ATOMIC_RELAXED) == 0; }
+
 void tables_unmap(struct tables *tables) {
   if (tables->mapping != NULL) (void)munmap(tables->mapping, tables->mapped);
   tables->mapping = NULL;
   tables->room = tables->used = 0;
 }
-
-/* Behind the room: 1 since the last buffers, or 0 in a child. */
-static uint32_t *mark_of(const struct tables *tables) { return (uint32_t *)(void *)(tables->front + tables->room); }
-
-int tables_are_lost(const struct tables *tables) { return __atomic_load_n(mark_of(tables), __ATOMIC_RELAXED) == 0; }
 
 void tables_free(struct tables *tables) {
   uint8_t none = 0;

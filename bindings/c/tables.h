@@ -4,7 +4,6 @@
 
 #include "groups.h"
 
-/* Zeros are the beginning. */
 struct tables {
   void *mapping; /* NULL if there is none */
   size_t mapped;
@@ -16,7 +15,7 @@ struct tables {
 
 /* How many tables pay for one key with these parameters, and what each needs: as many as p, if they are not tiny and take at
  * most 128 MiB together; otherwise 1. Then the needs are not written if there are no such buffers. */
-size_t tables_for_key(uint8_t log_n, uint32_t r, uint32_t p, scrypt_needs *needs);
+size_t tables_for_key(uint32_t log_n, uint32_t r, uint32_t p, scrypt_needs *needs);
 
 /* Makes room for `most` tables with scratch and chunks, or for as many as the system allows, and returns how many: 0 if not
  * even one. What they held is lost. */

@@ -18,7 +18,7 @@ static int verify(const char *password, const char *text) {
   return scrypt_verify(password, strlen(password), text, strlen(text));
 }
 
-static int rehash(const char *text, uint8_t log_n) {
+static int rehash(const char *text, uint32_t log_n) {
   return scrypt_needs_rehash(text, strlen(text), log_n, 8, 1, 32);
 }
 
@@ -124,7 +124,7 @@ static void several_tables_are_used(void) {
 static void hash_in_buffers(int is_mcf, const char *made) {
   static uint8_t chunks[2048];
   static uint32_t table[5000], scratch[600];
-  int (*hash)(const void *, size_t, const void *, size_t, uint8_t, uint32_t, uint32_t, size_t, char *, size_t,
+  int (*hash)(const void *, size_t, const void *, size_t, uint32_t, uint32_t, uint32_t, size_t, char *, size_t,
               uint8_t *, size_t, uint32_t *, size_t, uint32_t *, size_t) =
       is_mcf ? scrypt_hash_mcf_with_buffers : scrypt_hash_phc_with_buffers;
   char text[SCRYPT_PHC_CAPACITY];
@@ -155,7 +155,7 @@ static void hash_in_buffers(int is_mcf, const char *made) {
 }
 
 static void hash_params(const char *text) {
-  uint8_t log_n = 99;
+  uint32_t log_n = 99;
   uint32_t r = 99, p = 99;
   size_t key_len = 99, most_bytes, least_key_len;
   uint64_t most_work;

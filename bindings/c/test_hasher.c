@@ -191,7 +191,7 @@ static void options(void) {
   static const struct { const char *why; scrypt_options with; int status; } OPTIONS[] = {
       {"N = 1", OF(0, 1, 1, 0, 0, 0, 0, 0, 0), SCRYPT_OK},
       {"log_n alone", OF(4, 0, 0, 0, 0, 0, 0, 0, 0), SCRYPT_INVALID_PARAMS},
-      {"log_n above 8 bits", OF(260, 8, 1, 0, 0, 0, 0, 0, 0), SCRYPT_INVALID_PARAMS},
+      {"N in place of log_n", OF(16384, 8, 1, 0, 0, 0, 0, 0, 0), SCRYPT_INVALID_PARAMS},
       {"a key of 9 bytes", OF(4, 8, 1, 0, 9, 0, 0, 0, 0), SCRYPT_INVALID_PARAMS},
       {"a key of 65", OF(4, 8, 1, 0, 65, 0, 0, 0, 0), SCRYPT_INVALID_PARAMS},
       {"a salt of 65", OF(4, 8, 1, 0, 0, 65, 0, 0, 0), SCRYPT_SALT_INVALID},
@@ -374,8 +374,7 @@ static void key_forked(void) {
 }
 
 static void calibrated(void) {
-  uint8_t log_n = 0;
-  uint32_t r = 0, p = 0;
+  uint32_t log_n = 0, r = 0, p = 0;
   IS(scrypt_calibrate(0.02, (size_t)64 << 20, NULL, &r, &p), SCRYPT_NULL_POINTER);
   IS(scrypt_calibrate(1e-9, (size_t)64 << 20, &log_n, &r, &p), SCRYPT_TOO_COSTLY);
   IS(scrypt_calibrate(1, ((size_t)1 << 20) - 1, &log_n, &r, &p), SCRYPT_TOO_COSTLY);

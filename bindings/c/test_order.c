@@ -52,8 +52,7 @@ static int verify_group_with_buffers(void) {
   return memcmp(statuses, WANTED, sizeof WANTED) == 0 ? status : -1;
 }
 static int hash_params(void) {
-  uint8_t log_n = 0;
-  uint32_t r = 0, p = 0;
+  uint32_t log_n = 0, r = 0, p = 0;
   size_t key_len = 0;
   int status = scrypt_hash_params(OF(MCF), &log_n, &r, &p, &key_len);
   return log_n == 4 && r == 2 && p == 3 && key_len == 20 ? status : -1;
@@ -216,6 +215,33 @@ static void texts_with_two_faults(void) {
   }
 }
 
+/* N in place of log_n: refused by each call, also where its last 8 bits are a log_n. */
+static void n_in_place_of_log_n(void) {
+  static const uint32_t NUMBERS[] = {64, 256, 260, 16384, UINT32_MAX};
+  size_t i, lens[3], least;
+  uint64_t work;
+  scrypt_needs needs;
+  for (i = 0; i < sizeof NUMBERS / sizeof *NUMBERS; i++) {
+    const uint32_t n = NUMBERS[i];
+    const int statuses[] = {
+        scrypt_key(SECRETS, n, 2, 3, key, 20),
+        scrypt_buffer_lens(n, 2, 3, 0, &lens[0], &lens[1], &lens[2]),
+        scrypt_key_with_buffers(SECRETS, n, 2, 3, key, 20, BUFFERS),
+        scrypt_key_thin(SECRETS, n, 2, 3, 0, key, 20, BUFFERS),
+        scrypt_hash_phc(SECRETS, n, 2, 3, 20, TEXT),
+        scrypt_hash_mcf(SECRETS, n, 2, 3, 20, TEXT),
+        scrypt_hash_phc_with_buffers(SECRETS, n, 2, 3, 20, TEXT, BUFFERS),
+        scrypt_hash_mcf_with_buffers(SECRETS, n, 2, 3, 20, TEXT, BUFFERS),
+        scrypt_needs_rehash(OF(PHC), n, 2, 3, 20),
+        scrypt_params_need(n, 2, 3, SIZE_MAX, UINT64_MAX, &needs),
+        scrypt_limits_for_new(n, 2, 3, 20, &lens[0], &work, &least),
+    };
+    size_t j;
+    for (j = 0; j < sizeof statuses / sizeof *statuses; j++)
+      meets("N in place of log_n", statuses[j], SCRYPT_INVALID_PARAMS);
+  }
+}
+
 int main(void) {
   arguments();
   memset(key, 7, sizeof key);
@@ -225,5 +251,6 @@ int main(void) {
   phc_hashes_with_two_faults();
   mcf_hashes_with_two_faults();
   texts_with_two_faults();
+  n_in_place_of_log_n();
   return failed;
 }

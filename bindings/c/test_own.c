@@ -39,7 +39,7 @@ void *realloc(void *block, size_t len) {
 
 #ifdef NAMES
 static int called;
-int scrypt_key_with_buffers(const void *password, size_t password_len, const void *salt, size_t salt_len, uint8_t log_n,
+int scrypt_key_with_buffers(const void *password, size_t password_len, const void *salt, size_t salt_len, uint32_t log_n,
                             uint32_t r, uint32_t p, uint8_t *output, size_t output_len, uint8_t *chunks,
                             size_t chunks_len, uint32_t *table, size_t table_len, uint32_t *scratch, size_t scratch_len) {
   (void)password, (void)password_len, (void)salt, (void)salt_len, (void)log_n, (void)r, (void)p, (void)output;
@@ -52,7 +52,7 @@ int scrypt_draw_salt(uint8_t *salt, size_t len) {
   called = 1;
   return SCRYPT_OK;
 }
-int scrypt_buffer_lens(uint8_t log_n, uint32_t r, uint32_t p, uint8_t s, size_t *chunks_len, size_t *table_len,
+int scrypt_buffer_lens(uint32_t log_n, uint32_t r, uint32_t p, uint8_t s, size_t *chunks_len, size_t *table_len,
                        size_t *scratch_len) {
   (void)log_n, (void)r, (void)p, (void)s;
   *chunks_len = *table_len = *scratch_len = 0;

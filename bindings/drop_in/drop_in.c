@@ -185,8 +185,7 @@ API int crypto_pwhash_scryptsalsa208sha256_str(char text[TEXT_LEN + 1], const ch
 }
 
 static int verify_in_memory(const char *password, size_t password_len, const char *text) {
-  uint8_t log_n = 0;
-  uint32_t r = 0, p = 0; /* for which nothing is kept, if the text cannot be read */
+  uint32_t log_n = 0, r = 0, p = 0; /* for which nothing is kept, if the text cannot be read */
   size_t key_len;
   int status = scrypt_hash_params(text, TEXT_LEN, &log_n, &r, &p, &key_len);
   do {

@@ -218,9 +218,15 @@ func orUsual(n, usual int) int {
 	return n
 }
 
-// needs returns in words what a derivation needs.
+// needs returns in words what a derivation needs, or that there is none.
 func (params Params) needs() string {
-	memory, _ := params.Memory()
-	return fmt.Sprintf("LogN %d, R %d and P %d need %d bytes and a work of %d", params.LogN, params.R, params.P, memory,
-		params.Work())
+	words := fmt.Sprintf("LogN %d, R %d and P %d", params.LogN, params.R, params.P)
+	memory, err := params.Memory()
+	switch {
+	case params.LogN < 0 || params.LogN > 63:
+		return words + " are not accepted: LogN is the logarithm of N, from 0 to 63"
+	case err != nil:
+		return words + " are not accepted"
+	}
+	return fmt.Sprintf("%s need %d bytes and a work of %d", words, memory, params.Work())
 }

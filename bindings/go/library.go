@@ -26,14 +26,6 @@ func number(n int) C.uint32_t {
 	return C.uint32_t(n)
 }
 
-// octet returns n, or the greatest number of 8 bits, which the library does not accept for log_n.
-func octet(n int) C.uint8_t {
-	if n < 0 || n > math.MaxUint8 {
-		return math.MaxUint8
-	}
-	return C.uint8_t(n)
-}
-
 var none [1]byte
 
 // bytes returns where the bytes begin, which is never NULL: that would mean a random salt.

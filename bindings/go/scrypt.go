@@ -55,8 +55,7 @@ func Recommended() Params {
 // then the greatest P, with which one derivation takes at most the target; R is 8, and KeyLen 32. It takes some four times
 // the target. ErrTooCostly if even a LogN of 10 takes longer, or needs more.
 func Calibrate(target time.Duration, mostBytes uint64) (Params, error) {
-	var logN C.uint8_t
-	var r, p C.uint32_t
+	var logN, r, p C.uint32_t
 	err := failed(C.scrypt_calibrate(C.double(target.Seconds()), C.size_t(mostBytes), &logN, &r, &p))
 	if err != nil {
 		return Params{}, err
@@ -68,8 +67,7 @@ func Calibrate(target time.Duration, mostBytes uint64) (Params, error) {
 // (errors.Is).
 func ParamsOf(text string) (Params, error) {
 	raw := []byte(text)
-	var logN C.uint8_t
-	var r, p C.uint32_t
+	var logN, r, p C.uint32_t
 	var keyLen C.size_t
 	if err := failed(C.scrypt_hash_params(chars(raw), size(raw), &logN, &r, &p, &keyLen)); err != nil {
 		return Params{}, err
@@ -81,7 +79,7 @@ func ParamsOf(text string) (Params, error) {
 // and P are not accepted.
 func (params Params) Memory() (uint64, error) {
 	var chunks, table, scratch C.size_t
-	err := failed(C.scrypt_buffer_lens(octet(params.LogN), number(params.R), number(params.P), 0, &chunks, &table, &scratch))
+	err := failed(C.scrypt_buffer_lens(number(params.LogN), number(params.R), number(params.P), 0, &chunks, &table, &scratch))
 	sum, carry := bits.Add64(4*uint64(table), uint64(chunks)+4*uint64(scratch), 0)
 	if carry != 0 {
 		sum = math.MaxUint64
@@ -115,7 +113,7 @@ func Key(password, salt []byte, N, r, p, keyLen int) ([]byte, error) {
 	}
 	key, err := newKey(keyLen)
 	if err == nil {
-		err = failed(C.scrypt_key(pointer(password), size(password), pointer(salt), size(salt), octet(params.LogN), number(r),
+		err = failed(C.scrypt_key(pointer(password), size(password), pointer(salt), size(salt), number(params.LogN), number(r),
 			number(p), bytes(key), size(key)))
 	}
 	if err != nil {

@@ -241,6 +241,7 @@ def of_hashlib(trial):
     """Keys of hashlib as texts, with salts and lengths for both formats; and what it refuses."""
     for _ in range(2 * CASES):
         password, (n, r, p) = some_bytes(trial.rng, 80), trial.params()
+        n = max(n, 64)  # a smaller one is refused: it may be a log_n
         some, long = trial.rng.randrange(1, 200), trial.word(65, 300).encode()
         plain, short = (some_bytes(trial.rng, 63) + b"!", some + 9), ("ö".encode(), some % 10 + 1)
         salt, length = trial.rng.choice([plain, (b"", some), (long, some), short])
@@ -305,6 +306,7 @@ def rust_crate(trial):
         raise Missing("worker that calls it (--worker PATH)")
     worker = Worker("Rust crate", trial.worker)
     for password, salt, n, r, p, length in key_cases(trial):
+        n = max(n, 64)  # as for hashlib
         password, salt, params = password.encode(), bytes.fromhex(salt), (n.bit_length() - 1, r, p)
         key = worker.derive(password, salt, params, length)[1]
         trial.check(trial.key(password, salt, *params, length) == key, ("keys", password, salt))

@@ -22,7 +22,7 @@ def calibrate(seconds: float, most_bytes: int = MOST_BYTES) -> Params:
     time_of(seconds, "seconds")
     if not 0 < seconds < math.inf:
         raise ValueError(f"seconds is positive and finite, not {seconds}")
-    log_n, r, p = ctypes.c_uint8(), ctypes.c_uint32(), ctypes.c_uint32()
+    log_n, r, p = ctypes.c_uint32(), ctypes.c_uint32(), ctypes.c_uint32()
     status = library.calibrate(seconds, in_64_bits(most_bytes, "most_bytes"), log_n, r, p)
     least = f"even log_n=10, r=8, p=1 take more than {seconds} seconds, or {most_bytes} bytes"
     check(status, least if status == TOO_COSTLY else "")

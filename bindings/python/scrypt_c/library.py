@@ -84,7 +84,7 @@ def _declared(name: str, arguments: list[Any], result: Any = ctypes.c_int) -> An
 
 
 _bytes = [ctypes.c_char_p, ctypes.c_size_t]
-_params = [ctypes.c_uint8, ctypes.c_uint32, ctypes.c_uint32]
+_params = 3 * [ctypes.c_uint32]
 _params_out = [ctypes.POINTER(it) for it in _params]
 _size_out = ctypes.POINTER(ctypes.c_size_t)
 _wait = [ctypes.c_int64, ctypes.POINTER(ctypes.c_uint64)]

@@ -38,7 +38,14 @@ def _mcf_text(salt: bytes, key: bytes, log_n: int, r: int, p: int) -> str:
 
 def stored_text(salt: Bytes, key: Bytes, n: int, r: int, p: int) -> str:
     """A PHC text if the lengths allow it, otherwise a `$7$` text. Of a PHC text's key only the first 64 bytes are kept,
-    which are the key of that length."""
+    which are the key of that length. An n below 64 is refused: it may be a log_n, and then no password would match."""
+    if 1 <= number(n, "n") < 64:
+        raise ValueError(f"n is N, at least 64, and {n} may be its logarithm, log_n: n={1 << n} is N = 2**{n}")
+    return _text(salt, key, n, r, p)
+
+
+def _text(salt: Bytes, key: Bytes, n: int, r: int, p: int) -> str:
+    """What stored_text returns, with any N."""
     salt, key, n = raw_bytes(salt, "a salt"), raw_bytes(key, "a key"), number(n, "n")
     if n < 1 or n & (n - 1):
         raise ValueError(f"n is a power of two, which {n} is not")
@@ -68,19 +75,19 @@ def from_passlib(stored: str) -> str:
     pattern = r"\$scrypt\$ln=(\d+),r=(\d+),p=(\d+)\$([^$]*)\$([^$]*)"
     log_n, r, p, *letters = _matched(pattern, stored, "passlib")
     salt, key = (base64.b64decode(it.rstrip("=") + "=" * (-len(it.rstrip("=")) % 4), validate=True) for it in letters)
-    return stored_text(salt, key, 1 << min(int(log_n), 64), int(r), int(p))
+    return _text(salt, key, 1 << min(int(log_n), 64), int(r), int(p))
 
 
 def from_django(stored: str) -> str:
     """Converts a hash of Django 4.0 or later: `scrypt$n$salt$r$p$key`, with the salt as text."""
     n, salt, r, p, key = _matched(r"scrypt\$(\d+)\$([^$]+)\$(\d+)\$(\d+)\$([^$]*)", stored, "Django")
-    return stored_text(salt.encode(), base64.b64decode(key, validate=True), int(n), int(r), int(p))
+    return _text(salt.encode(), base64.b64decode(key, validate=True), int(n), int(r), int(p))
 
 
 def from_werkzeug(stored: str) -> str:
     """Converts a hash of Werkzeug 2.3 or later: `scrypt:n:r:p$salt$key`, with the salt as text."""
     n, r, p, salt, key = _matched(r"scrypt:(\d+):(\d+):(\d+)\$([^$]*)\$([0-9a-f]*)", stored, "Werkzeug")
-    return stored_text(salt.encode(), bytes.fromhex(key), int(n), int(r), int(p))
+    return _text(salt.encode(), bytes.fromhex(key), int(n), int(r), int(p))
 
 
 def from_crypt(stored: str) -> str:
@@ -90,7 +97,7 @@ def from_crypt(stored: str) -> str:
     if any(len(it) == 1 or _value(it) >> 8 * (len(it) - 1) for it in parts):
         raise ValueError("the last letters of the key encode no whole bytes")
     key = b"".join(_value(it).to_bytes(len(it) - 1, "little") for it in parts)
-    return stored_text(salt.encode(), key, 1 << _value(params[0]), _value(params[1:6]), _value(params[6:]))
+    return _text(salt.encode(), key, 1 << _value(params[0]), _value(params[1:6]), _value(params[6:]))
 
 
 def from_libscrypt(stored: str) -> str:
@@ -98,4 +105,4 @@ def from_libscrypt(stored: str) -> str:
     params, *letters = _matched(r"\$s1\$([\da-fA-F]{6})\$([^$]*)\$([^$]*)", stored, "libscrypt")
     log_n, r, p = bytes.fromhex(params)
     salt, key = (base64.b64decode(it, validate=True) for it in letters)
-    return stored_text(salt, key, 1 << log_n, r, p)
+    return _text(salt, key, 1 << log_n, r, p)

@@ -13,8 +13,9 @@ from .errors import INVALID_PARAMS, OUT_OF_MEMORY, TOO_COSTLY, check
 def accepted(log_n: int, r: int, p: int) -> tuple[int, int, int]:
     """The three, if they fit C's types: ctypes would truncate them. r and p are never 0, which could be a default in C."""
     log_n, r, p = number(log_n, "log_n"), number(r, "r"), number(p, "p")
-    if not (0 <= log_n < 1 << 8 and 0 < r < 1 << 32 and 0 < p < 1 << 32):
-        check(INVALID_PARAMS, f"log_n={log_n}, r={r}, p={p}")
+    if not (0 <= log_n <= 63 and 0 < r < 1 << 32 and 0 < p < 1 << 32):
+        hint = "; log_n is the logarithm of N, and at most 63" if log_n > 63 else ""
+        check(INVALID_PARAMS, f"log_n={log_n}, r={r}, p={p}{hint}")
     return log_n, r, p
 
 
@@ -81,6 +82,6 @@ def check_within(params: Params, most_bytes: int, most_work: int) -> None:
 def params_of(text: Union[str, bytes]) -> Params:
     """The parameters of a hash; `key_len` is 0 if it has no key. Raises InvalidHashError if it is not a scrypt hash."""
     raw = raw_text(text)
-    found = ctypes.c_uint8(), ctypes.c_uint32(), ctypes.c_uint32(), ctypes.c_size_t()
+    found = ctypes.c_uint32(), ctypes.c_uint32(), ctypes.c_uint32(), ctypes.c_size_t()
     check(library.hash_params(raw, len(raw), *found))
     return Params(*(it.value for it in found))

@@ -24,7 +24,7 @@ impl Bounds {
         let (log_n, r, p) = (params.log_n(), params.r(), params.p());
         let (bytes, work, mut needs) = (self.most_bytes, self.most_work, RawNeeds::default());
         // SAFETY: the place is this function's own.
-        unsafe { scrypt_params_need(log_n, r, p, bytes, work, &mut needs) == OK }
+        unsafe { scrypt_params_need(log_n.into(), r, p, bytes, work, &mut needs) == OK }
     }
 }
 

@@ -67,15 +67,15 @@ pub struct RawNeeds {
 // As in the header.
 #[rustfmt::skip]
 extern "C" {
-    pub fn scrypt_key(password: *const c_void, password_len: usize, salt: *const c_void, salt_len: usize, log_n: u8,
+    pub fn scrypt_key(password: *const c_void, password_len: usize, salt: *const c_void, salt_len: usize, log_n: u32,
         r: u32, p: u32, output: *mut u8, output_len: usize) -> c_int;
-    pub fn scrypt_buffer_lens(log_n: u8, r: u32, p: u32, s: u8, chunks: *mut usize, table: *mut usize,
+    pub fn scrypt_buffer_lens(log_n: u32, r: u32, p: u32, s: u8, chunks: *mut usize, table: *mut usize,
         scratch: *mut usize) -> c_int;
-    pub fn scrypt_params_need(log_n: u8, r: u32, p: u32, most_bytes: usize, most_work: u64, needs: *mut RawNeeds) -> c_int;
-    pub fn scrypt_hash_params(text: *const c_char, text_len: usize, log_n: *mut u8, r: *mut u32, p: *mut u32,
+    pub fn scrypt_params_need(log_n: u32, r: u32, p: u32, most_bytes: usize, most_work: u64, needs: *mut RawNeeds) -> c_int;
+    pub fn scrypt_hash_params(text: *const c_char, text_len: usize, log_n: *mut u32, r: *mut u32, p: *mut u32,
         key_len: *mut usize) -> c_int;
     pub fn scrypt_draw_salt(salt: *mut u8, len: usize) -> c_int;
-    pub fn scrypt_calibrate(seconds: f64, most_bytes: usize, log_n: *mut u8, r: *mut u32, p: *mut u32) -> c_int;
+    pub fn scrypt_calibrate(seconds: f64, most_bytes: usize, log_n: *mut u32, r: *mut u32, p: *mut u32) -> c_int;
     pub fn scrypt_hasher_new(options: *const RawOptions, status: *mut c_int) -> *mut RawHasher;
     #[cfg(test)]
     pub fn scrypt_hasher_options(hasher: *const RawHasher) -> *const RawOptions;

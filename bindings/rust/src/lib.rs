@@ -81,7 +81,7 @@ pub fn scrypt(
             password.len(),
             salt.as_ptr().cast(),
             salt.len(),
-            log_n,
+            log_n.into(),
             r,
             p,
             output.as_mut_ptr(),

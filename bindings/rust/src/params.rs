@@ -34,13 +34,18 @@ impl Params {
     pub fn new(log_n: u8, r: u32, p: u32) -> Result<Params, InvalidParams> {
         let (mut chunks, mut table, mut scratch) = (0, 0, 0);
         // SAFETY: the three places are this function's own.
-        let status =
-            unsafe { scrypt_buffer_lens(log_n, r, p, 0, &mut chunks, &mut table, &mut scratch) };
+        let status = unsafe {
+            scrypt_buffer_lens(log_n.into(), r, p, 0, &mut chunks, &mut table, &mut scratch)
+        };
         if status == OK {
             Ok(Params { log_n, r, p, len: None })
         } else {
             Err(InvalidParams)
         }
+    }
+
+    fn of_library(log_n: u32, r: u32, p: u32) -> Result<Params, InvalidParams> {
+        Params::new(u8::try_from(log_n).map_err(|_| InvalidParams)?, r, p)
     }
 
     /// The same, with the length of a hash's key.
@@ -87,7 +92,8 @@ impl Params {
         let (mut chunks, mut table, mut scratch) = (0, 0, 0);
         // SAFETY: the three places are this function's own. The parameters are accepted, so they are written.
         unsafe {
-            scrypt_buffer_lens(self.log_n, self.r, self.p, 0, &mut chunks, &mut table, &mut scratch)
+            let log_n = self.log_n.into();
+            scrypt_buffer_lens(log_n, self.r, self.p, 0, &mut chunks, &mut table, &mut scratch)
         };
         chunks as u128 + 4 * (table as u128 + scratch as u128)
     }
@@ -130,7 +136,7 @@ pub fn params_of(text: &str) -> Result<(Params, usize), Error> {
         scrypt_hash_params(text_at, text.len(), &mut log_n, &mut r, &mut p, &mut key_len)
     };
     Error::check(status)?;
-    Ok((Params::new(log_n, r, p)?, key_len))
+    Ok((Params::of_library(log_n, r, p)?, key_len))
 }
 
 /// Finds parameters by measuring this machine, now: the greatest `log_n` whose table has at most `most_bytes` bytes, and then
@@ -145,5 +151,5 @@ pub fn calibrate(target: Duration, most_bytes: usize) -> Result<Params, Error> {
     let status =
         unsafe { scrypt_calibrate(target.as_secs_f64(), most_bytes, &mut log_n, &mut r, &mut p) };
     Error::check(status)?;
-    Ok(Params::new(log_n, r, p)?)
+    Ok(Params::of_library(log_n, r, p)?)
 }
