@@ -89,10 +89,11 @@ int scrypt_verify_group_with_buffers(const scrypt_login *logins, size_t count, i
   size_t i;
   REFUSE_IF((logins == NULL || statuses == NULL) && count > 0);
   TAKE_BUFFERS;
+  for (i = 0; i < count; i++)
+    REFUSE_IF(is_null(logins[i].password, logins[i].password_len) || is_null(logins[i].text, logins[i].text_len));
   if (count > SCRYPT_MOST_LOGINS) return SCRYPT_BUFFER_SIZE;
   for (i = 0; i < SCRYPT_MOST_LOGINS; i++) {
     each[i] = i < count ? logins[i] : NONE;
-    REFUSE_IF(is_null(each[i].password, each[i].password_len) || is_null(each[i].text, each[i].text_len));
     each[i].password = bytes_of(each[i].password);
     if (each[i].text == NULL) each[i].text = "";
   }

@@ -8,7 +8,9 @@ static uint8_t key[32], chunks[2048];
 static uint32_t table[4096], scratch[512];
 static char text[SCRYPT_PHC_CAPACITY];
 static int statuses[] = {77, 77};
-static const scrypt_login LOGINS[] = {{"p", 1, "$7$", 3}, {"p", 1, NULL, 1}};
+#define LOGIN {"p", 1, "$7$", 3}
+static const scrypt_login LOGINS[] = {LOGIN, {"p", 1, NULL, 1}}, FIVE[] = {LOGIN, LOGIN, LOGIN, LOGIN, LOGIN},
+                          LAST[] = {LOGIN, LOGIN, LOGIN, LOGIN, {NULL, 1, "$7$", 3}};
 
 struct row {
   const char *why;
@@ -69,7 +71,9 @@ static void hashes(void) {
       {"verify a group, a text", scrypt_verify_group_with_buffers(LOGINS, 2, statuses, BUFFERS), SCRYPT_NULL_POINTER},
       {"verify a group, statuses", scrypt_verify_group_with_buffers(LOGINS, 1, NULL, BUFFERS), SCRYPT_NULL_POINTER},
       {"verify a group, logins", scrypt_verify_group_with_buffers(NULL, 1, statuses, BUFFERS), SCRYPT_NULL_POINTER},
-      {"verify a group of five", scrypt_verify_group_with_buffers(LOGINS, 5, statuses, BUFFERS), SCRYPT_BUFFER_SIZE},
+      {"verify a group of five", scrypt_verify_group_with_buffers(FIVE, 5, statuses, BUFFERS), SCRYPT_BUFFER_SIZE},
+      {"verify a group of five, a password", scrypt_verify_group_with_buffers(LAST, 5, statuses, BUFFERS),
+       SCRYPT_NULL_POINTER},
       {"verify nobody", scrypt_verify_group_with_buffers(NULL, 0, NULL, BUFFERS), SCRYPT_OK},
       {"needs_rehash, a text", scrypt_needs_rehash(NULL, 1, 4, 1, 1, 32), SCRYPT_NULL_POINTER},
       {"needs_rehash, an empty text", scrypt_needs_rehash(NULL, 0, 4, 1, 1, 32), SCRYPT_ENCODING_INVALID},
