@@ -189,7 +189,7 @@ if has gcc gcc && has valgrind valgrind; then each "$built" emulated; fi
 
 # The hasher, with its sources in the test.
 hasher_test() {
-  for test in test_hasher test_hasher_load; do
+  for test in test_hasher test_hasher_parts test_hasher_load; do
     gcc -std=gnu99 -g -Wall -Wextra -Werror -Wno-unused-function -Ibindings/c -DROOT="\"$room/root\"" "$@" bindings/c/$test.c \
       -o "$room/$test" -L"$lib" -lscrypt_c -Wl,-rpath,"$lib" -lpthread
     $checker "$room/$test" > /dev/null

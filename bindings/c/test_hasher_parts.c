@@ -1,0 +1,212 @@
+/* The hasher: its options, errors, verdicts, numbers of turns and of tables, many waits, and calibration. */
+#include "test_hasher.h"
+
+#define OF(...) {sizeof(scrypt_options), __VA_ARGS__, 1, 1}
+static void options(void) {
+  static const struct { const char *why; scrypt_options with; int status; } OPTIONS[] = {
+      {"N = 1", OF(0, 1, 1, 0, 0, 0, 0, 0, 0), SCRYPT_OK},
+      {"log_n alone", OF(4, 0, 0, 0, 0, 0, 0, 0, 0), SCRYPT_INVALID_PARAMS},
+      {"N in place of log_n", OF(16384, 8, 1, 0, 0, 0, 0, 0, 0), SCRYPT_INVALID_PARAMS},
+      {"a key of 9 bytes", OF(4, 8, 1, 0, 9, 0, 0, 0, 0), SCRYPT_INVALID_PARAMS},
+      {"a key of 65", OF(4, 8, 1, 0, 65, 0, 0, 0, 0), SCRYPT_INVALID_PARAMS},
+      {"a salt of 65", OF(4, 8, 1, 0, 0, 65, 0, 0, 0), SCRYPT_SALT_INVALID},
+      {"too few bytes", OF(14, 8, 1, 0, 0, 0, 1 << 20, 0, 0), SCRYPT_TOO_COSTLY},
+      {"too little work", OF(14, 8, 1, 0, 0, 0, 0, 1 << 10, 0), SCRYPT_TOO_COSTLY},
+      {"above the usual bounds, which follow", OF(20, 8, 4, 0, 0, 0, 0, 0, 0), SCRYPT_OK},
+      {"more than any has", {sizeof(scrypt_options), 4, 8, 1, 0, 0, 0, 0, 0, 0, SIZE_MAX, SIZE_MAX}, SCRYPT_OK}};
+  for (size_t i = 0; i < sizeof OPTIONS / sizeof OPTIONS[0]; i++) {
+    int status = -1;
+    scrypt_hasher *hasher = scrypt_hasher_new(&OPTIONS[i].with, &status);
+    expect(status == OPTIONS[i].status && (hasher != NULL) == (status == SCRYPT_OK), "%s: %d", OPTIONS[i].why, status);
+    scrypt_hasher_free(hasher);
+  }
+  size_t *older = (size_t *)calloc(1, sizeof *older); /* of a version with fewer options */
+  int status = -1;
+  IS(scrypt_hasher_new((const scrypt_options *)older, &status), NULL);
+  IS(status, SCRYPT_INVALID_PARAMS);
+  free(older);
+  scrypt_hasher *hasher = scrypt_hasher_new(NULL, NULL);
+  const scrypt_options *with = scrypt_hasher_options(hasher);
+  expect(with->log_n == 17 && with->r == 8 && with->p == 1 && with->key_len == 32 && with->salt_len == 16, "new hashes");
+  expect(with->most_bytes == SCRYPT_MOST_BYTES && with->most_work == SCRYPT_MOST_WORK && with->least_key_len == 16, "bounds");
+  expect(with->processors == processors_of_process() && with->at_once == 2 * with->processors, "turns");
+  expect(scrypt_hasher_options(NULL) == NULL, "no options of NULL");
+  scrypt_hasher_free(hasher);
+  WRITE(most_mapped, 1000);
+  IS(scrypt_hasher_new(NULL, &status), NULL);
+  IS(status, SCRYPT_OUT_OF_MEMORY);
+  WRITE(most_mapped, SIZE_MAX);
+}
+
+static void calls(void) {
+  char text[SCRYPT_PHC_CAPACITY], mcf[SCRYPT_MCF_CAPACITY(3)], good[SCRYPT_PHC_CAPACITY];
+  scrypt_options with = {sizeof with, 4, 8, 2, 1, 0, 0, 0, 0, 0, 1, 1};
+  scrypt_hasher *hasher = made(1, 1, 4), *of_mcf = scrypt_hasher_new(&with, NULL);
+  const struct tables *kept = &of_mcf->queue->turn[0].tables;
+  uint8_t key[32];
+  make_text(good, "right", 4, 8, 1);
+  IS(verify(hasher, "", "", -1), SCRYPT_ENCODING_INVALID);
+  IS(verify(hasher, "$scrypt$ln=19,r=8,p=1$c2FsdHNhbHQ$AAAAAAAAAAAAAAAAAAAAAA", "", -1), SCRYPT_TOO_COSTLY); /* bytes */
+  IS(verify(hasher, "$scrypt$ln=4,r=8,p=32768$c2FsdHNhbHQ$AAAAAAAAAAAAAAAAAAAAAA", "", -1), SCRYPT_TOO_COSTLY);
+  IS(verify(hasher, "$scrypt$ln=4,r=8,p=1$c2FsdHNhbHQ$AAAAAAAAAAAAAAAAAAAA", "", -1), SCRYPT_KEY_TOO_SHORT);
+  IS(verify(NULL, good, "", -1), SCRYPT_NULL_POINTER);
+  IS(scrypt_hasher_verify(hasher, NULL, 1, good, strlen(good), -1, NULL), SCRYPT_NULL_POINTER);
+  IS(scrypt_hasher_verify(hasher, "", 0, NULL, 1, -1, NULL), SCRYPT_NULL_POINTER);
+  IS(scrypt_hasher_verify(hasher, NULL, 0, NULL, 0, -1, NULL), SCRYPT_ENCODING_INVALID);
+  IS(scrypt_hasher_hash(hasher, "a", 1, NULL, 1, text, sizeof text, -1, NULL), SCRYPT_NULL_POINTER);
+  IS(scrypt_hasher_hash(hasher, "a", 1, "", 0, text, sizeof text, -1, NULL), SCRYPT_SALT_INVALID);
+  IS(scrypt_hasher_hash(hasher, "a", 1, NULL, 0, text, sizeof text - 1, -1, NULL), SCRYPT_BUFFER_SIZE);
+  IS(scrypt_hasher_hash(hasher, "a", 1, NULL, 0, NULL, 0, -1, NULL), SCRYPT_BUFFER_SIZE);
+  IS(scrypt_hasher_hash(hasher, "a", 1, NULL, 0, NULL, 1, -1, NULL), SCRYPT_NULL_POINTER);
+  IS(scrypt_hasher_hash(of_mcf, "a", 1, "abc", 3, mcf, sizeof mcf - 1, -1, NULL), SCRYPT_BUFFER_SIZE);
+  IS(scrypt_hasher_hash(of_mcf, "a", 1, "abc", SIZE_MAX, mcf, sizeof mcf, -1, NULL), SCRYPT_BUFFER_SIZE);
+  IS(scrypt_hasher_hash(hasher, "right", 5, NULL, 0, text, sizeof text, -1, NULL), SCRYPT_OK);
+  IS(scrypt_hasher_hash(of_mcf, NULL, 0, "abc", 3, mcf, sizeof mcf, 0, NULL), SCRYPT_OK);
+  expect(strncmp(text, "$scrypt$ln=4,r=8,p=1$", 21) == 0 && strncmp(mcf, "$7$2", 4) == 0, "texts %s, %s", text, mcf);
+  IS(verify(of_mcf, text, "right", -1), SCRYPT_OK);
+  IS(verify(hasher, mcf, "", -1), SCRYPT_OK);
+  IS(verify(hasher, mcf, "a", -1), SCRYPT_MISMATCH);
+  IS(scrypt_hasher_needs_rehash(hasher, text, strlen(text)), SCRYPT_OK);
+  IS(scrypt_hasher_needs_rehash(of_mcf, text, strlen(text)), SCRYPT_NEEDS_REHASH);
+  IS(scrypt_hasher_needs_rehash(NULL, text, 1), SCRYPT_NULL_POINTER);
+  IS(scrypt_hasher_key(hasher, "pw", 2, "salt", 4, key, 0, -1, NULL), SCRYPT_INVALID_OUTPUT_LEN);
+  IS(scrypt_hasher_key(of_mcf, "pw", 2, NULL, 0, key, 32, -1, NULL), SCRYPT_OK);
+  for (size_t i = 4 * of_mcf->needs.table_len; i < kept->used; i++) expect(kept->front[i] == 0, "byte %zu is kept", i);
+  WRITE(wakes, 0);
+  IS(verify(hasher, good, "right", -1), SCRYPT_OK);
+  lock(hasher);
+  hasher->queue->turn[0].is_taken = 1;
+  unlock(hasher);
+  IS(verify(hasher, good, "right", 2), SCRYPT_TIMEOUT);
+  hasher->queue->turn[0].is_taken = 0;
+  IS(READ(wakes), 0); /* nobody sleeps */
+  scrypt_hasher_close(hasher);
+  expect(look_at(hasher).is_idle, "closed");
+  IS(verify(hasher, "", "", -1), SCRYPT_ENCODING_INVALID); /* the errors of the text come first */
+  IS(verify(hasher, good, "right", -1), SCRYPT_CLOSED);
+  IS(scrypt_hasher_hash(hasher, "a", 1, NULL, 0, text, sizeof text, -1, NULL), SCRYPT_CLOSED);
+  scrypt_hasher_free(hasher);
+  scrypt_hasher_free(of_mcf);
+}
+
+/* Several tables pay for one key if they are not tiny, and take at most 128 MiB. */
+static void tables_of_keys(void) {
+  static const struct { uint8_t log_n; uint32_t p; size_t count; } KEYS[] = {
+      {5, 4, 1}, {6, 4, 4}, {14, 1, 1}, {14, 3, 3}, {14, 9, 4}, {15, 4, 4}, {16, 4, 2}, {17, 4, 1}, {18, 1, 1}, {20, 4, 1}, {60, 4, 1}};
+  scrypt_needs needs;
+  for (size_t i = 0; i < sizeof KEYS / sizeof KEYS[0]; i++)
+    expect(tables_for_key(KEYS[i].log_n, 8, KEYS[i].p, &needs) == KEYS[i].count, "tables for (%d, 8, %u)", KEYS[i].log_n, KEYS[i].p);
+}
+
+/* 1/256 of the derivation, at most a millisecond, and none below 50 microseconds. */
+static void moments(void) {
+  static const struct { uint8_t log_n; uint32_t p; int64_t ns; } MOMENTS[] = {
+      {4, 1, 0}, {12, 1, 0}, {12, 2, 52428}, {13, 1, 52428}, {14, 1, 104857}, {17, 1, 838860}, {18, 1, 1000000}};
+  scrypt_needs needs;
+  for (size_t i = 0; i < sizeof MOMENTS / sizeof MOMENTS[0]; i++) {
+    IS(scrypt_params_need(MOMENTS[i].log_n, 8, MOMENTS[i].p, SIZE_MAX, UINT64_MAX, &needs), SCRYPT_OK);
+    expect(moment_of(&needs) == MOMENTS[i].ns, "a moment for (%d, 8, %u)", MOMENTS[i].log_n, MOMENTS[i].p);
+  }
+  (void)prctl(PR_SET_TIMERSLACK, 50001);
+  expect(moment_of(&needs) == 0, "a moment where sleeps end later");
+  (void)prctl(PR_SET_TIMERSLACK, 0);
+}
+
+/* Waits that end in a mixed order, and waits that come back to their places, take n * log n. */
+static void many_waits(void) {
+  const uint64_t n = 80000;
+  scrypt_hasher *hasher = made(1, 1, 4);
+  struct call *all = (struct call *)calloc(n + 1, sizeof *all), *it;
+  clock_t begun_at = clock();
+  lock(hasher);
+  for (uint64_t i = 0; i <= n; i++) all[i].login.text = "", enter(hasher, &all[i], i % 3 == 0 ? UINT64_MAX : 0);
+  expect(all[n].place == n + 1, "a place that was not given is a new one");
+  for (uint64_t i = 0; i < n; i++) {
+    it = &all[1 + i * 7919 % n];
+    leave(hasher->queue, it);
+    if (i % 2 == 0) enter(hasher, it, it->place | 1); /* which another one has too */
+  }
+  for (it = hasher->queue->first[0]; it->next[0] != NULL; it = it->next[0]) IS(is_before(it, it->next[0]), 1);
+  it = hasher->queue->first[0];
+  for (int i = 0; i < 1000; i++, it = it->next[0]) it->needs.r = 1;
+  IS(gather(hasher, (struct call *[4]){&all[0]}, 1, 4), 1); /* it looks no further */
+  unlock(hasher);
+  WRITE(wakes, 0);
+  scrypt_hasher_close(hasher);
+  IS(READ(wakes), 1); /* not all at once: this one wakes the next */
+  lock(hasher);
+  all[0].needs.r = 1;
+  IS(gather(hasher, (struct call *[4]){&all[0]}, 1, 4), 1); /* nobody joins a group */
+  finish(hasher, (struct call *[]){&all[0]}, (int[]){SCRYPT_OK}, 1);
+  for (uint64_t i = 2; (it = hasher->queue->first[0]) != NULL; i += 2) {
+    IS(it->state, WAITS); /* nobody is given a turn */
+    dismiss(hasher);
+    IS(it->status, SCRYPT_CLOSED);
+    expect(i < n, "one more than there are");
+  }
+  unlock(hasher);
+  expect(clock() - begun_at < 10 * CLOCKS_PER_SEC, "not linear");
+  memset(hasher->queue, 0, sizeof *hasher->queue);
+  scrypt_hasher_free(hasher);
+  free(all);
+}
+
+/* Files of control groups below a folder of this test, in place of the system's. */
+static void processors(void) {
+  static const struct { const char *line, *folder, *quota; size_t count; } GROUPS[] = {
+      {"0::/a/b", "/a/b", "cpu.max max 100000", 64},
+      {"0::/a/b", "/a/b", "cpu.max 250000 100000", 3},
+      {"0::/a/b", "/a", "cpu.max 100000 100000", 1}, /* a group around it */
+      {"0::/x/y", "", "cpu.max 200000 100000", 2},   /* in a container, with the path of the host */
+      {"0::/", "", "cpu.max 1000 100000", 1},
+      {"0::/", "", "cpu.max", 64},
+      {"4:cpu,cpuacct:/a", "/cpu/a", "cpu.cfs_quota_us -1", 64},
+      {"9:memory:/m\n4:cpu,cpuacct:/a\n0::/", "/cpu/a", "cpu.cfs_quota_us 150000", 2},
+      {"4:cpuset:/a", "/cpu/a", "cpu.cfs_quota_us 100000", 64}};
+  cpu_set_t set;
+  size_t all = sched_getaffinity(0, sizeof set, &set) == 0 ? (size_t)CPU_COUNT(&set) : 1;
+  for (size_t i = 0; i < sizeof GROUPS / sizeof GROUPS[0]; i++) {
+    char command[1024];
+    snprintf(command, sizeof command,
+             "set -e; rm -rf '%s'; g='%s/sys/fs/cgroup%s'; mkdir -p '%s/proc/self' \"$g\"; "
+             "printf '%s\n' > '%s/proc/self/cgroup'; "
+             "set -- %s; f=$1; shift; echo \"$@\" > \"$g/$f\"; echo 100000 > \"$g/cpu.cfs_period_us\"",
+             ROOT, ROOT, GROUPS[i].folder, ROOT, GROUPS[i].line, ROOT, GROUPS[i].quota);
+    IS(system(command), 0);
+    expect(processors_of_process() == (GROUPS[i].count < all ? GROUPS[i].count : all), "%s", GROUPS[i].quota);
+  }
+}
+
+/* A key is derived again in a child that is forked meanwhile, where its tables are zeros. */
+static void key_forked(void) {
+  uint8_t key[32], right[32];
+  IS(scrypt_key("pw", 2, "salt", 4, 10, 8, 4, right, 32), SCRYPT_OK);
+  is_wiped_by_system = 1;
+  WRITE(hook, fork_in_handler);
+  IS(key_in_tables("pw", 2, "salt", 4, 10, 8, 4, key, 32), SCRYPT_OK);
+  expect(memcmp(key, right, 32) == 0 && READ(hook) == NULL, "another key");
+  is_wiped_by_system = 0;
+}
+
+static void calibrated(void) {
+  uint32_t log_n = 0, r = 0, p = 0;
+  IS(scrypt_calibrate(0.02, (size_t)64 << 20, NULL, &r, &p), SCRYPT_NULL_POINTER);
+  IS(scrypt_calibrate(1e-9, (size_t)64 << 20, &log_n, &r, &p), SCRYPT_TOO_COSTLY);
+  IS(scrypt_calibrate(1, ((size_t)1 << 20) - 1, &log_n, &r, &p), SCRYPT_TOO_COSTLY);
+  expect(log_n == 0 && r == 0 && p == 0, "unchanged");
+  WRITE(hook, fork_in_handler);
+  IS(scrypt_calibrate(9, (size_t)1 << 20, &log_n, &r, &p), SCRYPT_OK);
+  expect(log_n == 10 && r == 8 && p > 1, "the table as large as the bound, and p takes the time: %d %u %u", log_n, r, p);
+}
+
+int main(void) {
+  RUN(options);
+  RUN(calls);
+  RUN(tables_of_keys);
+  RUN(moments);
+  RUN(many_waits);
+  RUN(processors);
+  RUN(key_forked);
+  RUN(calibrated);
+  return failed;
+}
