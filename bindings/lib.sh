@@ -19,7 +19,7 @@ soname=libscrypt_c.so.0
 shared=libscrypt_c.so.${version%%+*}
 newer=glibc-hwcaps/x86-64-v3/$soname
 # What is written in C over the proved calls.
-over="calls key salt hasher queue tables groups processors calibrate"
+over="calls key salt hasher queue line lock tables groups processors calibrate"
 
 if [ "${1:-}" != built ]; then
   # rt lib leaves both under one name, so the newer one is moved.

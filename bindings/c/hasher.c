@@ -1,5 +1,6 @@
 /* The calls of a hasher: what they derive, and their errors that come before any wait. Not proved; what reads texts, checks
  * bounds and derives is. */
+#define _GNU_SOURCE
 #include "queue.h"
 
 #include <stdlib.h>

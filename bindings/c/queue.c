@@ -27,20 +27,13 @@
 #include "queue.h"
 
 #include <errno.h>
-#include <linux/futex.h>
-#include <pthread.h>
 #include <sched.h>
-#include <signal.h>
 #include <stdlib.h>
 #include <sys/mman.h>
 #include <sys/prctl.h>
-#include <sys/syscall.h>
 #include <time.h>
-#include <unistd.h>
 
-#define MOST_TURNS 8192 /* as many processors as Linux can have */
-#define CHILD_MS 1000   /* how often a thread that sleeps looks whether it is in a child, if no signal woke it there */
-#define NS_OF_MS INT64_C(1000000)
+#define CHILD_MS 1000 /* how often a thread that sleeps looks whether it is in a child, if no signal woke it there */
 #define MOST_LOOKED_AT 1000
 
 /* For how long a call that leads may wait for others: not for less than a sleep may end late. */
@@ -51,95 +44,6 @@
 #endif
 
 enum { BEGUN, WAITS, FOLLOWS, LEADS, OVER };
-
-/* Zeros are the beginning, also for the lock: PTHREAD_MUTEX_INITIALIZER is zeros in the C libraries of Linux. */
-struct queue {
-  pthread_mutex_t lock;
-  sigset_t unblocked; /* the signals of the thread that has the lock, before it had it */
-  uint64_t epoch;     /* 0 until the lock is taken for the first time in this process */
-  uint64_t places;    /* how many have been given */
-  uint32_t calls;     /* that began in this process and have not returned */
-  struct call *first[LEVELS];
-  struct turn {
-    int is_taken;
-    struct tables tables; /* while the turn is free */
-  } turn[MOST_TURNS];
-};
-
-/* ---- The lock, and whether this is a child ---- */
-
-static void lock(scrypt_hasher *hasher) {
-  struct queue *queue = hasher->queue;
-  sigset_t all, unblocked;
-  (void)sigfillset(&all);
-  (void)sigprocmask(SIG_SETMASK, &all, &unblocked); /* of this thread alone, on Linux */
-  (void)pthread_mutex_lock(&queue->lock);
-  queue->unblocked = unblocked;
-  if (queue->epoch == 0) queue->epoch = ++hasher->epochs;
-}
-
-static void unlock(scrypt_hasher *hasher) {
-  sigset_t unblocked = hasher->queue->unblocked;
-  (void)pthread_mutex_unlock(&hasher->queue->lock);
-  (void)sigprocmask(SIG_SETMASK, &unblocked, NULL);
-}
-
-/* Whether the call began in a process that this one was forked from. */
-static int is_of_parent(const scrypt_hasher *hasher, const struct call *call) {
-  return call->epoch != hasher->queue->epoch;
-}
-
-/* Gives the lock back and sleeps while the word is this one, until a signal comes, for at most so many nanoseconds.
- * Returns whether a signal came. A futex has no lock that a thread of the parent could have had at a fork, and is no
- * cancellation point. */
-static int sleep_while(scrypt_hasher *hasher, uint32_t *word, uint32_t is, int64_t ns) {
-  const struct timespec time = {.tv_sec = (time_t)(ns / (1000 * NS_OF_MS)), .tv_nsec = (long)(ns % (1000 * NS_OF_MS))};
-  int is_interrupted;
-  unlock(hasher);
-  is_interrupted = syscall(SYS_futex, word, FUTEX_WAIT_PRIVATE, is, &time, NULL, 0) == -1 && errno == EINTR;
-  lock(hasher);
-  return is_interrupted;
-}
-
-static void wake(uint32_t *word) { (void)syscall(SYS_futex, word, FUTEX_WAKE_PRIVATE, 1, NULL, NULL, 0); }
-
-/* ---- The line: with the lock ---- */
-
-/* One with a place that was given to another call too is still found again. */
-static int is_before(const struct call *it, const struct call *other) {
-  return it->place != other->place ? it->place < other->place : (uintptr_t)it < (uintptr_t)other;
-}
-
-/* Finds the pointer on each level that leads to this call, or would if it were there. */
-static void find(struct queue *queue, const struct call *call, struct call ***links) {
-  struct call **from = queue->first;
-  size_t level = LEVELS;
-  while (level-- > 0) {
-    while (from[level] != NULL && is_before(from[level], call)) from = from[level]->next;
-    links[level] = &from[level];
-  }
-}
-
-/* At the end for a new place; a call that comes again goes before those with later places. */
-static void join(struct queue *queue, struct call *call) {
-  uint64_t bits = call->place * UINT64_C(0x9e3779b97f4a7c15) >> 32;
-  struct call **links[LEVELS];
-  size_t level = 0;
-  find(queue, call, links);
-  do {
-    call->next[level] = *links[level];
-    *links[level] = call;
-    bits >>= 2;
-  } while (++level < LEVELS && (bits & 3) == 0);
-  call->state = WAITS;
-}
-
-static void leave(struct queue *queue, struct call *call) {
-  struct call **links[LEVELS];
-  size_t level;
-  find(queue, call, links);
-  for (level = 0; level < LEVELS && *links[level] == call; level++) *links[level] = call->next[level];
-}
 
 /* ---- The states of calls: with the lock ---- */
 
@@ -183,6 +87,12 @@ static void give(struct queue *queue, size_t turn, struct call *call) {
   go_on(call, LEADS);
 }
 
+/* At the end for a new place; a call that comes again goes before those with later places. */
+static void wait_in_line(struct queue *queue, struct call *call) {
+  line_join(&queue->line, call);
+  call->state = WAITS;
+}
+
 static void enter(scrypt_hasher *hasher, struct call *call, uint64_t place) {
   struct queue *queue = hasher->queue;
   size_t turn = free_turn(hasher);
@@ -193,7 +103,7 @@ static void enter(scrypt_hasher *hasher, struct call *call, uint64_t place) {
   queue->calls++;
   if (hasher->is_closed) end(call, SCRYPT_CLOSED);
   else if (turn < hasher->turns) give(queue, turn, call);
-  else join(queue, call);
+  else wait_in_line(queue, call);
 }
 
 static int are_alike(const scrypt_needs *one, const scrypt_needs *other) {
@@ -204,12 +114,12 @@ static int are_alike(const scrypt_needs *one, const scrypt_needs *other) {
  * all calls, so that no processor is idle for a larger group: none if the hasher is closed, or in a child. Returns how many
  * there are. It doesn't look at a whole long line, since it has the lock. */
 static size_t gather(scrypt_hasher *hasher, struct call **group, size_t count, size_t most) {
-  struct call *it = hasher->is_closed || is_of_parent(hasher, group[0]) ? NULL : hasher->queue->first[0];
+  struct call *it = hasher->is_closed || is_of_parent(hasher, group[0]) ? NULL : hasher->queue->line.first[0];
   size_t looked_at = 0, share = (hasher->queue->calls + hasher->turns - 1) / hasher->turns;
   if (most > share) most = share;
   for (; it != NULL && count < most && looked_at < MOST_LOOKED_AT; it = it->next[0], looked_at++) {
     if (it->login.text == NULL || !are_alike(&it->needs, &group[0]->needs)) continue;
-    leave(hasher->queue, it);
+    line_leave(&hasher->queue->line, it);
     it->state = FOLLOWS;
     group[count++] = it;
   }
@@ -219,22 +129,22 @@ static size_t gather(scrypt_hasher *hasher, struct call **group, size_t count, s
 /* Ends a group, and gives its turn to the first of the line. */
 static void finish(scrypt_hasher *hasher, struct call **group, const int *statuses, size_t count) {
   struct queue *queue = hasher->queue;
-  struct call *next = hasher->is_closed ? NULL : queue->first[0];
+  struct call *next = hasher->is_closed ? NULL : queue->line.first[0];
   size_t turn = group[0]->turn, i;
   if (!hasher->is_closed) queue->turn[turn].tables = take(&group[0]->tables);
   queue->turn[turn].is_taken = 0;
   for (i = 0; i < count; i++) end(group[i], statuses[i]);
   if (next == NULL) return;
-  leave(queue, next);
+  line_leave(&queue->line, next);
   give(queue, turn, next);
 }
 
 /* In a closed hasher, ends the first of the line. So each one that ends wakes the next, and close doesn't wake all of them
  * with the lock, for which they would then wait all at once: the system finds a thread to wake in the time of their number. */
 static void dismiss(scrypt_hasher *hasher) {
-  struct call *first = hasher->queue->first[0];
+  struct call *first = hasher->queue->line.first[0];
   if (!hasher->is_closed || first == NULL) return;
-  leave(hasher->queue, first);
+  line_leave(&hasher->queue->line, first);
   end(first, SCRYPT_CLOSED);
 }
 
@@ -254,7 +164,7 @@ static void await(scrypt_hasher *hasher, struct call *call, int64_t most_ms, int
     if (most_ms >= 0) left = most_ms - (now_ms() - begun);
     /* One that is closed doesn't depend on those before it, whose threads may be in signal handlers. */
     if (call->state == WAITS && (hasher->is_closed || left <= 0 || (is_interrupted && is_sliced))) {
-      leave(hasher->queue, call);
+      line_leave(&hasher->queue->line, call);
       call->state = BEGUN; /* it doesn't sleep */
       end(call, hasher->is_closed ? SCRYPT_CLOSED : SCRYPT_TIMEOUT);
       return;

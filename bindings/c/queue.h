@@ -1,9 +1,14 @@
-/* The queue of a hasher: whose turn it is to derive, and with whom. */
+/* The queue of a hasher: whose turn it is to derive, and with whom. Whoever includes this defines _GNU_SOURCE. */
 #ifndef QUEUE_H
 #define QUEUE_H
 
 #include "tables.h"
 
+#include <pthread.h>
+#include <signal.h>
+
+#define MOST_TURNS 8192 /* as many processors as Linux can have */
+#define NS_OF_MS INT64_C(1000000)
 #define LEVELS 8 /* of the line: a call is on each level with a fourth of those on the level below */
 
 /* A call of a hasher, in the stack of its thread. The part above `needs` is the queue's. */
@@ -24,6 +29,28 @@ struct call {
   int is_key;
 };
 
+/* The calls that wait, in the order of their places. Zeros are the beginning. */
+struct line {
+  struct call *first[LEVELS];
+};
+
+/* Zeros are the beginning, also for the lock: PTHREAD_MUTEX_INITIALIZER is zeros in the C libraries of Linux. */
+struct queue {
+  pthread_mutex_t lock;
+  sigset_t unblocked; /* the signals of the thread that has the lock, before it had it */
+  uint64_t epoch;     /* 0 until the lock is taken for the first time in this process */
+  uint64_t places;    /* how many have been given */
+  uint32_t calls;     /* that began in this process and have not returned */
+  struct line line;
+  struct turn {
+    int is_taken;
+    struct tables tables; /* while the turn is free */
+  } turn[MOST_TURNS];
+};
+
+void line_join(struct line *line, struct call *call);
+void line_leave(struct line *line, struct call *call);
+
 struct scrypt_hasher {
   scrypt_options options;
   scrypt_needs needs; /* of new hashes */
@@ -32,6 +59,18 @@ struct scrypt_hasher {
   uint64_t epochs; /* of this process and of those that it was forked from */
   struct queue *queue;
 };
+
+/* No signal handler runs in a thread that has the lock. */
+void lock(scrypt_hasher *hasher);
+void unlock(scrypt_hasher *hasher);
+
+/* Whether the call began in a process that this one was forked from. */
+int is_of_parent(const scrypt_hasher *hasher, const struct call *call);
+
+/* Gives the lock back and sleeps while the word is this one, until a signal comes, for at most so many nanoseconds. Returns
+ * whether a signal came. */
+int sleep_while(scrypt_hasher *hasher, uint32_t *word, uint32_t is, int64_t ns);
+void wake(uint32_t *word);
 
 /* Completes a hasher whose options are all set: SCRYPT_OK, SCRYPT_OUT_OF_MEMORY or SCRYPT_UNSUPPORTED. */
 int queue_new(scrypt_hasher *hasher);

@@ -57,6 +57,8 @@ static void call_hook(void) {
   (before_syscall(operation, value, time), syscall(number, word, operation, value, time, __VA_ARGS__))
 #define most_at_once() READ(widest)
 #define derive watched
+#include "line.c"
+#include "lock.c"
 #include "queue.c"
 #undef derive
 #include "hasher.c"
@@ -84,6 +86,9 @@ static int test_munmap(void *at, size_t size) {
   (void)ADD(mapped, -size);
   return munmap(at, size);
 }
+
+static pid_t parent;
+static struct look { int calls, leading, is_closed, is_idle; } look_at(scrypt_hasher *hasher);
 
 /* ---- Derivations that are watched, and stopped ---- */
 
@@ -152,7 +157,7 @@ static int verify(scrypt_hasher *hasher, const char *text, const char *password,
 }
 
 /* Whether no turn is taken, nobody waits, there is no call, and a closed hasher has no memory. */
-static struct look { int calls, leading, is_closed, is_idle; } look_at(scrypt_hasher *hasher) {
+static struct look look_at(scrypt_hasher *hasher) {
   const struct queue *queue = hasher->queue;
   struct look at = {0, 0, 0, 1};
   lock(hasher);
@@ -162,14 +167,14 @@ static struct look { int calls, leading, is_closed, is_idle; } look_at(scrypt_ha
     at.leading += queue->turn[turn].is_taken;
     at.is_idle &= !(hasher->is_closed && queue->turn[turn].tables.mapping != NULL);
   }
-  at.is_idle &= at.calls == 0 && at.leading == 0 && queue->first[0] == NULL;
+  at.is_idle &= at.calls == 0 && at.leading == 0 && queue->line.first[0] == NULL;
   unlock(hasher);
   return at;
 }
 
 /* ---- Signals and children ---- */
 
-static pid_t parent, children[4096];
+static pid_t children[4096];
 static int forks;
 static scrypt_hasher *of_signals;
 static void nothing_in_handler(int number) { (void)number; }

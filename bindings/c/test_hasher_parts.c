@@ -123,11 +123,11 @@ static void many_waits(void) {
   expect(all[n].place == n + 1, "a place that was not given is a new one");
   for (uint64_t i = 0; i < n; i++) {
     it = &all[1 + i * 7919 % n];
-    leave(hasher->queue, it);
+    line_leave(&hasher->queue->line, it);
     if (i % 2 == 0) enter(hasher, it, it->place | 1); /* which another one has too */
   }
-  for (it = hasher->queue->first[0]; it->next[0] != NULL; it = it->next[0]) IS(is_before(it, it->next[0]), 1);
-  it = hasher->queue->first[0];
+  for (it = hasher->queue->line.first[0]; it->next[0] != NULL; it = it->next[0]) IS(is_before(it, it->next[0]), 1);
+  it = hasher->queue->line.first[0];
   for (int i = 0; i < 1000; i++, it = it->next[0]) it->needs.r = 1;
   IS(gather(hasher, (struct call *[4]){&all[0]}, 1, 4), 1); /* it looks no further */
   unlock(hasher);
@@ -138,7 +138,7 @@ static void many_waits(void) {
   all[0].needs.r = 1;
   IS(gather(hasher, (struct call *[4]){&all[0]}, 1, 4), 1); /* nobody joins a group */
   finish(hasher, (struct call *[]){&all[0]}, (int[]){SCRYPT_OK}, 1);
-  for (uint64_t i = 2; (it = hasher->queue->first[0]) != NULL; i += 2) {
+  for (uint64_t i = 2; (it = hasher->queue->line.first[0]) != NULL; i += 2) {
     IS(it->state, WAITS); /* nobody is given a turn */
     dismiss(hasher);
     IS(it->status, SCRYPT_CLOSED);
