@@ -29,25 +29,42 @@ void derive(const scrypt_hasher *hasher, struct call **group, size_t count, int 
   (void)status; /* nothing is NULL, and a group has no more than four */
 }
 
+/* For NULL where it isn't allowed. */
+static int refuse_null(uint64_t *place) {
+  if (place != NULL) *place = 0;
+  return SCRYPT_NULL_POINTER;
+}
+
 int scrypt_hasher_verify(scrypt_hasher *hasher, const void *password, size_t password_len, const char *text,
                          size_t text_len, int64_t most_ms, uint64_t *place) {
   struct call call = {.login = {password, password_len, text != NULL ? text : "", text_len}};
   int status;
-  if (hasher == NULL || is_null(password, password_len) || is_null(text, text_len)) return SCRYPT_NULL_POINTER;
+  if (hasher == NULL || is_null(password, password_len) || is_null(text, text_len)) return refuse_null(place);
+  queue_begin(hasher, &call);
   status = scrypt_hash_needs(call.login.text, text_len, hasher->options.most_bytes, hasher->options.most_work,
                              hasher->options.least_key_len, &call.needs);
-  return status == SCRYPT_OK ? queue_run(hasher, &call, most_ms, place) : status;
+  return queue_end(hasher, &call, status, most_ms, place);
 }
 
 /* ---- With the parameters of new hashes ---- */
 
-static int run_new(scrypt_hasher *hasher, struct call *call, int64_t most_ms, uint64_t *place) {
-  int status;
+static int end_new(scrypt_hasher *hasher, struct call *call, int status, int64_t most_ms, uint64_t *place) {
   call->needs = hasher->needs;
-  status = queue_run(hasher, call, most_ms, place);
+  status = queue_end(hasher, call, status, most_ms, place);
   /* In a child the derivation may have gone on with zeros, whose result can be computed without scrypt's cost. */
   if (status == SCRYPT_CANCELLED) memset(call->output, 0, call->output_len);
   return status;
+}
+
+/* The salt is drawn if there is none. */
+static int check_hash(const scrypt_options *with, struct call *call, uint8_t drawn[MOST_SALT_LEN]) {
+  /* A PHC text that doesn't fit would be found after the derivation. */
+  size_t least = with->mcf ? SCRYPT_MCF_CAPACITY(call->salt_len) : SCRYPT_PHC_CAPACITY;
+  if (!with->mcf && (call->salt_len == 0 || call->salt_len > MOST_SALT_LEN)) return SCRYPT_SALT_INVALID;
+  if (call->salt_len > call->output_len || call->output_len < least) return SCRYPT_BUFFER_SIZE;
+  if (call->salt != NULL) return SCRYPT_OK;
+  call->salt = drawn;
+  return scrypt_draw_salt(drawn, call->salt_len);
 }
 
 int scrypt_hasher_hash(scrypt_hasher *hasher, const void *password, size_t password_len, const void *salt,
@@ -55,29 +72,22 @@ int scrypt_hasher_hash(scrypt_hasher *hasher, const void *password, size_t passw
   struct call call = {.login = {password, password_len, NULL, 0}, .salt = salt, .salt_len = salt_len, .output = text,
                       .output_len = capacity};
   uint8_t drawn[MOST_SALT_LEN];
-  size_t least;
   if (hasher == NULL || is_null(password, password_len) || is_null(salt, salt_len) || is_null(text, capacity))
-    return SCRYPT_NULL_POINTER;
+    return refuse_null(place);
+  queue_begin(hasher, &call);
   if (salt == NULL) call.salt_len = hasher->options.salt_len;
-  if (!hasher->options.mcf && (call.salt_len == 0 || call.salt_len > MOST_SALT_LEN)) return SCRYPT_SALT_INVALID;
-  /* A PHC text that doesn't fit would be found after the derivation. */
-  least = hasher->options.mcf ? SCRYPT_MCF_CAPACITY(call.salt_len) : SCRYPT_PHC_CAPACITY;
-  if (call.salt_len > capacity || capacity < least) return SCRYPT_BUFFER_SIZE;
-  if (salt == NULL) {
-    if (scrypt_draw_salt(drawn, call.salt_len) != SCRYPT_OK) return SCRYPT_NO_RANDOM_BYTES;
-    call.salt = drawn;
-  }
-  return run_new(hasher, &call, most_ms, place);
+  return end_new(hasher, &call, check_hash(&hasher->options, &call, drawn), most_ms, place);
 }
 
 int scrypt_hasher_key(scrypt_hasher *hasher, const void *password, size_t password_len, const void *salt,
                       size_t salt_len, uint8_t *key, size_t key_len, int64_t most_ms, uint64_t *place) {
   struct call call = {.login = {password, password_len, NULL, 0}, .salt = salt, .salt_len = salt_len, .output = key,
                       .output_len = key_len, .is_key = 1};
+  int is_allowed = key_len > 0 && key_len <= SCRYPT_MAX_OUTPUT_LEN;
   if (hasher == NULL || is_null(password, password_len) || is_null(salt, salt_len) || is_null(key, key_len))
-    return SCRYPT_NULL_POINTER;
-  if (key_len == 0 || key_len > SCRYPT_MAX_OUTPUT_LEN) return SCRYPT_INVALID_OUTPUT_LEN;
-  return run_new(hasher, &call, most_ms, place);
+    return refuse_null(place);
+  queue_begin(hasher, &call);
+  return end_new(hasher, &call, is_allowed ? SCRYPT_OK : SCRYPT_INVALID_OUTPUT_LEN, most_ms, place);
 }
 
 int scrypt_hasher_needs_rehash(const scrypt_hasher *hasher, const char *text, size_t text_len) {

@@ -7,7 +7,7 @@
  *
  *   state     its thread                        what ends it                                 next
  *   -------   -------------------------------   ------------------------------------------   -----------------
- *   (begun)   enters                            enter                                        WAITS, LEADS, OVER
+ *   (begun)   reads its arguments, enters       an error of these, enter                     WAITS, LEADS, OVER
  *   WAITS     sleeps; the call is in the line   give, gather, its time or a signal, dismiss  LEADS, FOLLOWS, OVER
  *   FOLLOWS   sleeps; another call's group      finish, of the call that leads it            OVER
  *   LEADS     makes room, gathers, derives      finish                                       OVER
@@ -96,11 +96,8 @@ static void wait_in_line(struct queue *queue, struct call *call) {
 static void enter(scrypt_hasher *hasher, struct call *call, uint64_t place) {
   struct queue *queue = hasher->queue;
   size_t turn = free_turn(hasher);
-  call->epoch = queue->epoch;
   call->place = place == 0 || place > queue->places ? ++queue->places : place;
-  call->status = SCRYPT_CANCELLED;
   call->state = BEGUN;
-  queue->calls++;
   if (hasher->is_closed) end(call, SCRYPT_CLOSED);
   else if (turn < hasher->turns) give(queue, turn, call);
   else wait_in_line(queue, call);
@@ -157,8 +154,8 @@ static int64_t now_ms(void) {
 }
 
 /* Until the call leads or is over, and no other thread touches it. */
-static void await(scrypt_hasher *hasher, struct call *call, int64_t most_ms, int is_sliced) {
-  int64_t begun = now_ms(), left = CHILD_MS;
+static void await(scrypt_hasher *hasher, struct call *call, int64_t begun, int64_t most_ms, int is_sliced) {
+  int64_t left = CHILD_MS;
   int is_interrupted = 0;
   while (call->state == WAITS || call->state == FOLLOWS) {
     if (most_ms >= 0) left = most_ms - (now_ms() - begun);
@@ -216,17 +213,38 @@ static void lead(scrypt_hasher *hasher, struct call *call) {
   if (!is_of_parent(hasher, call)) finish(hasher, group, statuses, count);
 }
 
-int queue_run(scrypt_hasher *hasher, struct call *call, int64_t most_ms, uint64_t *place) {
+void queue_begin(scrypt_hasher *hasher, struct call *call) {
   int before = errno; /* a signal handler must not change it */
   lock(hasher);
-  enter(hasher, call, place != NULL ? *place : 0);
-  await(hasher, call, most_ms, place != NULL);
-  if (call->state == LEADS) lead(hasher, call);
-  dismiss(hasher);
-  if (!is_of_parent(hasher, call) && --hasher->queue->calls == 0 && hasher->is_closed)
-    wake(&hasher->queue->calls); /* scrypt_hasher_free */
+  call->epoch = hasher->queue->epoch;
+  hasher->queue->calls++;
   unlock(hasher);
-  tables_free(&call->tables); /* which nobody keeps */
+  errno = before;
+}
+
+static void leave_hasher(scrypt_hasher *hasher) {
+  struct queue *queue = hasher->queue;
+  if (--queue->calls == 0 && hasher->is_closed) wake(&queue->calls); /* scrypt_hasher_free */
+}
+
+int queue_end(scrypt_hasher *hasher, struct call *call, int status, int64_t most_ms, uint64_t *place) {
+  int64_t begun = now_ms();
+  int before = errno;
+  lock(hasher);
+  call->status = status == SCRYPT_OK ? SCRYPT_CANCELLED : status;
+  if (status == SCRYPT_OK && !is_of_parent(hasher, call)) {
+    enter(hasher, call, place != NULL ? *place : 0);
+    await(hasher, call, begun, most_ms, place != NULL);
+    if (call->state == LEADS) lead(hasher, call);
+  }
+  dismiss(hasher);
+  if (call->tables.mapping != NULL) { /* which nobody keeps */
+    unlock(hasher);
+    tables_free(&call->tables);
+    lock(hasher);
+  }
+  if (!is_of_parent(hasher, call)) leave_hasher(hasher);
+  unlock(hasher);
   if (place != NULL) *place = call->status == SCRYPT_TIMEOUT ? call->place : 0;
   errno = before;
   return call->status;
@@ -244,19 +262,22 @@ int queue_new(scrypt_hasher *hasher) {
 }
 
 void scrypt_hasher_close(scrypt_hasher *hasher) {
+  uint64_t epoch;
   size_t turn;
   if (hasher == NULL) return;
   lock(hasher);
+  epoch = hasher->queue->epoch;
+  hasher->queue->calls++;
   hasher->is_closed = 1;
   dismiss(hasher);
-  unlock(hasher);
   for (turn = 0; turn < hasher->turns; turn++) {
-    struct tables unused;
-    lock(hasher);
-    unused = take(&hasher->queue->turn[turn].tables); /* none if it is taken */
+    struct tables unused = take(&hasher->queue->turn[turn].tables); /* none if it is taken */
     unlock(hasher);
     tables_free(&unused);
+    lock(hasher);
   }
+  if (hasher->queue->epoch == epoch) leave_hasher(hasher);
+  unlock(hasher);
 }
 
 void scrypt_hasher_free(scrypt_hasher *hasher) {

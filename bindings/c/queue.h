@@ -75,9 +75,11 @@ void wake(uint32_t *word);
 /* Completes a hasher whose options are all set: SCRYPT_OK, SCRYPT_OUT_OF_MEMORY or SCRYPT_UNSUPPORTED. */
 int queue_new(scrypt_hasher *hasher);
 
-/* Waits and derives, as the header says of the calls. Returns what the proved call returned for this one, or why none was
+/* A call begins before it reads anything, and from then on scrypt_hasher_free waits for it. If its status is SCRYPT_OK then, it
+ * waits and derives, as the header says of the calls. Returns what the proved call returned for this one, or why none was
  * called. */
-int queue_run(scrypt_hasher *hasher, struct call *call, int64_t most_ms, uint64_t *place);
+void queue_begin(scrypt_hasher *hasher, struct call *call);
+int queue_end(scrypt_hasher *hasher, struct call *call, int status, int64_t most_ms, uint64_t *place);
 
 /* Derives for the calls of a group in these buffers, and writes what the proved call returned for each. */
 void derive(const scrypt_hasher *hasher, struct call **group, size_t count, int *statuses, const struct buffers *of);

@@ -324,7 +324,8 @@ const scrypt_options *scrypt_hasher_options(const scrypt_hasher *hasher);
  * meanwhile whether it still wants the answer; one that doesn't just makes no further call. Between the calls nobody begins
  * with it.
  * fork: in a child nobody waits or derives, and a hasher works as in its parent. A call during which a signal handler forked
- * returns SCRYPT_CANCELLED in the child, where what it would have written is zeros.
+ * returns SCRYPT_CANCELLED in the child, where what it would have written is zeros; or, if it was just returning, what it
+ * returns in the parent.
  * A handler must not leave a call by siglongjmp, which would lose a processor for ever. If it waits without a bound while its
  * own thread waits or derives in a call, it may wait for ever, because that call has the processor or gets it first.
  * SCRYPT_NULL_POINTER; the errors of scrypt_hash_needs, without waiting; SCRYPT_CLOSED, SCRYPT_TIMEOUT, SCRYPT_CANCELLED,

@@ -51,6 +51,13 @@ static void call_hook(void) {
   if (now != NULL) now(0);
 }
 
+static int is_reading_stopped, reading; /* of calls that read their text, draw their salt, or unmap tables */
+static void read_slowly(void) {
+  (void)ADD(reading, 1);
+  while (READ(is_reading_stopped)) usleep(100);
+  (void)ADD(reading, -1);
+}
+
 #define mmap test_mmap
 #define munmap test_munmap
 #define syscall(number, word, operation, value, time, ...) \
@@ -61,7 +68,11 @@ static void call_hook(void) {
 #include "lock.c"
 #include "queue.c"
 #undef derive
+#define scrypt_hash_needs(...) (read_slowly(), scrypt_hash_needs(__VA_ARGS__))
+#define scrypt_draw_salt(...) (read_slowly(), scrypt_draw_salt(__VA_ARGS__))
 #include "hasher.c"
+#undef scrypt_hash_needs
+#undef scrypt_draw_salt
 #include "processors.c"
 #include "tables.c"
 #define scrypt_key key_in_tables
@@ -81,6 +92,7 @@ static void call_hook(void) {
 static int is_wiped_by_system;
 static int test_munmap(void *at, size_t size) {
   size_t words = size / sizeof(size_t);
+  if (size != sizeof(struct queue)) read_slowly();
   while (words > 0 && ((size_t *)at)[words - 1] == 0) words--;
   expect(words == 0 || size == sizeof(struct queue) || is_wiped_by_system, "memory is given back that is not wiped");
   (void)ADD(mapped, -size);

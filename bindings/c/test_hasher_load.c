@@ -93,11 +93,49 @@ static void freed_at_any_time(void) {
   }
 }
 
+static void *hash_one(void *hasher) {
+  char text[SCRYPT_PHC_CAPACITY];
+  IS(scrypt_hasher_hash(hasher, "pw", 2, NULL, 0, text, sizeof text, -1, NULL), SCRYPT_CLOSED);
+  return NULL;
+}
+
+static int is_freed;
+static void *free_it(void *hasher) {
+  scrypt_hasher_free((scrypt_hasher *)hasher);
+  WRITE(is_freed, 1);
+  return NULL;
+}
+
+static void *close_it(void *hasher) {
+  scrypt_hasher_close((scrypt_hasher *)hasher);
+  return NULL;
+}
+
+/* Nor before a call that still reads its text, draws its salt, or closes the hasher. */
+static void freed_while_read(void) {
+  void *(*const CALLS[])(void *) = {verify_one, hash_one, close_it};
+  for (int i = 0; i < 3; i++) {
+    scrypt_hasher *hasher = made(1, 1, 4);
+    pthread_t both[2];
+    WRITE(is_freed, 0);
+    if (CALLS[i] == close_it) (void)verify_one(hasher); /* so that it has memory */
+    WRITE(is_reading_stopped, 1);
+    pthread_create(&both[0], NULL, CALLS[i], hasher);
+    until(READ(reading) == 1);
+    pthread_create(&both[1], NULL, free_it, hasher);
+    usleep(50000);
+    expect(!READ(is_freed), "freed while call %d reads", i);
+    WRITE(is_reading_stopped, 0);
+    for (int j = 0; j < 2; j++) pthread_join(both[j], NULL);
+  }
+}
+
 int main(void) {
   make_text(texts[0], "right", 4, 8, 1);
   make_text(texts[1], "right", 6, 8, 1);
   make_text(texts[2], "right", 4, 8, 3);
   RUN(at_any_time);
   RUN(freed_at_any_time);
+  RUN(freed_while_read);
   return failed;
 }

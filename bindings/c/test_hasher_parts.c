@@ -89,6 +89,23 @@ static void calls(void) {
   scrypt_hasher_free(of_mcf);
 }
 
+/* Of a call that ends without waiting, whatever was in it. */
+static void places_of_errors(void) {
+  scrypt_hasher *hasher = made(1, 1, 4);
+  char text[SCRYPT_PHC_CAPACITY];
+  uint8_t key[4];
+  uint64_t place[7] = {1, 1, 1, 1, 1, 1, 1};
+  IS(scrypt_hasher_verify(NULL, "", 0, "", 0, -1, &place[0]), SCRYPT_NULL_POINTER);
+  IS(scrypt_hasher_verify(hasher, "", 0, "", 0, -1, &place[1]), SCRYPT_ENCODING_INVALID);
+  IS(scrypt_hasher_hash(hasher, NULL, 1, NULL, 0, text, sizeof text, -1, &place[2]), SCRYPT_NULL_POINTER);
+  IS(scrypt_hasher_hash(hasher, "", 0, "", 0, text, sizeof text, -1, &place[3]), SCRYPT_SALT_INVALID);
+  IS(scrypt_hasher_hash(hasher, "", 0, "s", 1, text, 1, -1, &place[4]), SCRYPT_BUFFER_SIZE);
+  IS(scrypt_hasher_key(hasher, "", 0, "", 0, NULL, 1, -1, &place[5]), SCRYPT_NULL_POINTER);
+  IS(scrypt_hasher_key(hasher, "", 0, "", 0, key, 0, -1, &place[6]), SCRYPT_INVALID_OUTPUT_LEN);
+  for (int i = 0; i < 7; i++) expect(place[i] == 0, "place %d", i);
+  scrypt_hasher_free(hasher);
+}
+
 /* Several tables pay for one key if they are not tiny, and take at most 128 MiB. */
 static void tables_of_keys(void) {
   static const struct { uint8_t log_n; uint32_t p; size_t count; } KEYS[] = {
@@ -119,6 +136,7 @@ static void many_waits(void) {
   struct call *all = (struct call *)calloc(n + 1, sizeof *all), *it;
   clock_t begun_at = clock();
   lock(hasher);
+  hasher->queue->calls = (uint32_t)n + 1;
   for (uint64_t i = 0; i <= n; i++) all[i].login.text = "", enter(hasher, &all[i], i % 3 == 0 ? UINT64_MAX : 0);
   expect(all[n].place == n + 1, "a place that was not given is a new one");
   for (uint64_t i = 0; i < n; i++) {
@@ -202,6 +220,7 @@ static void calibrated(void) {
 int main(void) {
   RUN(options);
   RUN(calls);
+  RUN(places_of_errors);
   RUN(tables_of_keys);
   RUN(moments);
   RUN(many_waits);
