@@ -28,6 +28,7 @@ void line_join(struct line *line, struct call *call) {
     *links[level] = call;
     bits >>= 2;
   } while (++level < LEVELS && (bits & 3) == 0);
+  line->len++;
 }
 
 void line_leave(struct line *line, struct call *call) {
@@ -35,4 +36,5 @@ void line_leave(struct line *line, struct call *call) {
   size_t level;
   find(line, call, links);
   for (level = 0; level < LEVELS && *links[level] == call; level++) *links[level] = call->next[level];
+  line->len--;
 }

@@ -82,6 +82,7 @@ static size_t free_turn(const scrypt_hasher *hasher) {
 /* Gives a turn that is free to a call that isn't in the line. */
 static void give(struct queue *queue, size_t turn, struct call *call) {
   queue->turn[turn].is_taken = 1;
+  queue->deriving++;
   call->turn = turn;
   call->tables = take(&queue->turn[turn].tables);
   go_on(call, LEADS);
@@ -118,6 +119,7 @@ static size_t gather(scrypt_hasher *hasher, struct call **group, size_t count, s
     if (it->login.text == NULL || !are_alike(&it->needs, &group[0]->needs)) continue;
     line_leave(&hasher->queue->line, it);
     it->state = FOLLOWS;
+    hasher->queue->deriving++;
     group[count++] = it;
   }
   return count;
@@ -130,6 +132,7 @@ static void finish(scrypt_hasher *hasher, struct call **group, const int *status
   size_t turn = group[0]->turn, i;
   if (!hasher->is_closed) queue->turn[turn].tables = take(&group[0]->tables);
   queue->turn[turn].is_taken = 0;
+  queue->deriving -= count;
   for (i = 0; i < count; i++) end(group[i], statuses[i]);
   if (next == NULL) return;
   line_leave(&queue->line, next);
@@ -222,8 +225,9 @@ void queue_begin(scrypt_hasher *hasher, struct call *call) {
   errno = before;
 }
 
-static void leave_hasher(scrypt_hasher *hasher) {
+static void leave_hasher(scrypt_hasher *hasher, int status, int is_sliced) {
   struct queue *queue = hasher->queue;
+  queue->refused += status == SCRYPT_OUT_OF_MEMORY || (status == SCRYPT_TIMEOUT && !is_sliced);
   if (--queue->calls == 0 && hasher->is_closed) wake(&queue->calls); /* scrypt_hasher_free */
 }
 
@@ -243,7 +247,7 @@ int queue_end(scrypt_hasher *hasher, struct call *call, int status, int64_t most
     tables_free(&call->tables);
     lock(hasher);
   }
-  if (!is_of_parent(hasher, call)) leave_hasher(hasher);
+  if (!is_of_parent(hasher, call)) leave_hasher(hasher, call->status, place != NULL);
   unlock(hasher);
   if (place != NULL) *place = call->status == SCRYPT_TIMEOUT ? call->place : 0;
   errno = before;
@@ -261,6 +265,16 @@ int queue_new(scrypt_hasher *hasher) {
   return errno == EINVAL ? SCRYPT_UNSUPPORTED : SCRYPT_OUT_OF_MEMORY;
 }
 
+int scrypt_hasher_stats(scrypt_hasher *hasher, scrypt_stats *stats) {
+  int before = errno;
+  if (hasher == NULL || stats == NULL) return SCRYPT_NULL_POINTER;
+  lock(hasher);
+  *stats = (scrypt_stats){hasher->queue->line.len, hasher->queue->deriving, hasher->queue->refused};
+  unlock(hasher);
+  errno = before;
+  return SCRYPT_OK;
+}
+
 void scrypt_hasher_close(scrypt_hasher *hasher) {
   uint64_t epoch;
   size_t turn;
@@ -276,7 +290,7 @@ void scrypt_hasher_close(scrypt_hasher *hasher) {
     tables_free(&unused);
     lock(hasher);
   }
-  if (hasher->queue->epoch == epoch) leave_hasher(hasher);
+  if (hasher->queue->epoch == epoch) leave_hasher(hasher, SCRYPT_OK, 0);
   unlock(hasher);
 }
 

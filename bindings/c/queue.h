@@ -32,6 +32,7 @@ struct call {
 /* The calls that wait, in the order of their places. Zeros are the beginning. */
 struct line {
   struct call *first[LEVELS];
+  size_t len;
 };
 
 /* Zeros are the beginning, also for the lock: PTHREAD_MUTEX_INITIALIZER is zeros in the C libraries of Linux. */
@@ -41,6 +42,8 @@ struct queue {
   uint64_t epoch;     /* 0 until the lock is taken for the first time in this process */
   uint64_t places;    /* how many have been given */
   uint32_t calls;     /* that began in this process and have not returned */
+  size_t deriving;    /* of them, those that lead or follow */
+  uint64_t refused;   /* see scrypt_stats */
   struct line line;
   struct turn {
     int is_taken;

@@ -353,6 +353,17 @@ int scrypt_hasher_key(scrypt_hasher *hasher, const void *password, size_t passwo
 SCRYPT_CHECKED
 int scrypt_hasher_needs_rehash(const scrypt_hasher *hasher, const char *text, size_t text_len);
 
+/* What a hasher does now, for metrics: in a child, since the fork. */
+typedef struct scrypt_stats {
+  size_t waiting;   /* calls in the line */
+  size_t deriving;  /* calls that derive, each one of a group too */
+  uint64_t refused; /* how many calls returned SCRYPT_OUT_OF_MEMORY, or without a place SCRYPT_TIMEOUT, until now */
+} scrypt_stats;
+
+/* Writes it. A signal handler may call this. SCRYPT_NULL_POINTER. */
+SCRYPT_CHECKED
+int scrypt_hasher_stats(scrypt_hasher *hasher, scrypt_stats *stats);
+
 /* Calls that wait, and later ones, return SCRYPT_CLOSED; those that derive go on. The memory is wiped and given back. Does
  * nothing for NULL. A signal handler may call this. */
 void scrypt_hasher_close(scrypt_hasher *hasher);

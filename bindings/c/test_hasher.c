@@ -96,7 +96,8 @@ static void *run(void *of) {
 /* Whether each call that was started is in the hasher or over, and each one that leads derives or is in its moment. */
 static int is_settled(scrypt_hasher *hasher, int started) {
   struct look at = look_at(hasher);
-  return READ(over) + at.calls == started && READ(inside) + READ(in_moments) == at.leading;
+  return READ(over) + at.calls == started && READ(inside) + READ(in_moments) == at.leading &&
+         (int)(at.stats.waiting + at.stats.deriving) == at.calls;
 }
 
 /* Until it is so twice. */
@@ -142,7 +143,14 @@ static void act(char what, scrypt_hasher *hasher) {
 static void check_row(const struct row *row, scrypt_hasher *hasher, const struct thread *all, int started) {
   static const char LETTERS[] = "=x??m????????????ctf?";
   char results[32] = "", in_order[256] = "", *end = in_order;
-  for (int i = 0; i < started; i++) results[i] = LETTERS[all[i].status];
+  scrypt_stats stats = {1, 1, 1};
+  uint64_t refused = 0;
+  for (int i = 0; i < started; i++) {
+    results[i] = LETTERS[all[i].status];
+    refused += all[i].status == SCRYPT_OUT_OF_MEMORY || (all[i].status == SCRYPT_TIMEOUT && all[i].how == '-');
+  }
+  IS(scrypt_hasher_stats(hasher, &stats), SCRYPT_OK);
+  expect(stats.waiting == 0 && stats.deriving == 0 && stats.refused == refused, "%s: %d refused", row->why, (int)stats.refused);
   for (int i = 0; i < begun; i++) end += sprintf(end, "%s%s", i > 0 ? " " : "", groups[i]);
   expect(strcmp(results, row->results) == 0, "%s: %s, not %s", row->why, results, row->results);
   expect(strcmp(in_order, row->groups) == 0, "%s: groups %s, not %s", row->why, in_order, row->groups);

@@ -100,7 +100,7 @@ static int test_munmap(void *at, size_t size) {
 }
 
 static pid_t parent;
-static struct look { int calls, leading, is_closed, is_idle; } look_at(scrypt_hasher *hasher);
+static struct look { int calls, leading, is_closed, is_idle; scrypt_stats stats; } look_at(scrypt_hasher *hasher);
 
 /* ---- Derivations that are watched, and stopped ---- */
 
@@ -124,6 +124,7 @@ void watched(const scrypt_hasher *hasher, struct call **group, size_t count, int
   had_moment = 0;
   if (slot < MOST_SEEN) strcpy(groups[slot], letters);
   expect(ADD(inside, 1) <= (int)hasher->turns, "too many derive at a time");
+  expect(look_at((scrypt_hasher *)hasher).stats.deriving >= count || getpid() != parent, "fewer derive than are in a group");
   expect(ADD(tables_inside, tables) <= (int)hasher->options.at_once, "too many tables at a time");
   call_hook();
   while (READ(is_stopped) && READ(passed) <= slot) usleep(100);
@@ -171,8 +172,9 @@ static int verify(scrypt_hasher *hasher, const char *text, const char *password,
 /* Whether no turn is taken, nobody waits, there is no call, and a closed hasher has no memory. */
 static struct look look_at(scrypt_hasher *hasher) {
   const struct queue *queue = hasher->queue;
-  struct look at = {0, 0, 0, 1};
+  struct look at = {0, 0, 0, 1, {0, 0, 0}};
   lock(hasher);
+  at.stats = (scrypt_stats){queue->line.len, queue->deriving, queue->refused};
   at.calls = (int)queue->calls;
   at.is_closed = hasher->is_closed;
   for (size_t turn = 0; turn < hasher->turns; turn++) {
@@ -180,6 +182,7 @@ static struct look look_at(scrypt_hasher *hasher) {
     at.is_idle &= !(hasher->is_closed && queue->turn[turn].tables.mapping != NULL);
   }
   at.is_idle &= at.calls == 0 && at.leading == 0 && queue->line.first[0] == NULL;
+  at.is_idle &= at.stats.waiting == 0 && at.stats.deriving == 0;
   unlock(hasher);
   return at;
 }

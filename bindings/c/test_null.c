@@ -50,6 +50,7 @@ static void keys(void) {
 }
 
 static void hashes(void) {
+  scrypt_stats stats;
   const struct row ROWS[] = {
       {"phc, a password", scrypt_hash_phc(NULL, 5, "s", 1, 4, 1, 1, 32, text, 99), SCRYPT_NULL_POINTER},
       {"phc, a salt", scrypt_hash_phc("p", 1, NULL, 16, 4, 1, 1, 32, text, 99), SCRYPT_NULL_POINTER},
@@ -81,6 +82,7 @@ static void hashes(void) {
       {"hash_needs, a place", scrypt_hash_needs("$7$", 3, 0, 0, 0, NULL), SCRYPT_NULL_POINTER},
       {"params_need, a place", scrypt_params_need(4, 1, 1, 0, 0, NULL), SCRYPT_NULL_POINTER},
       {"limits_for_new, a place", scrypt_limits_for_new(4, 1, 1, 32, NULL, NULL, NULL), SCRYPT_NULL_POINTER},
+      {"hasher_stats, a hasher", scrypt_hasher_stats(NULL, &stats), SCRYPT_NULL_POINTER},
   };
   CHECK_ROWS(ROWS);
 }
