@@ -7,7 +7,7 @@
 
 int scrypt_key(const void *password, size_t password_len, const void *salt, size_t salt_len, uint32_t log_n, uint32_t r,
                uint32_t p, uint8_t *output, size_t output_len) {
-  struct tables tables = {NULL, 0, NULL, 0, 0, 0};
+  struct tables tables = {0};
   scrypt_needs needs;
   uint8_t none = 0;
   size_t count = tables_for_key(log_n, r, p, &needs);

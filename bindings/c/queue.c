@@ -2,18 +2,18 @@
  *
  * A turn is the right to derive on one processor. A call waits in line for one, in its thread; the call that leads a turn
  * takes along others of the line that are like it, and derives for all. If it has room for more, and no turn is free for
- * those that come, it waits for them once, for a small part of the time of its derivation. Under the lock a call goes from
- * state to state:
+ * those that come, it waits for them once, for a small part of the time of its derivation. A turn for which there is no memory
+ * rests while another call derives, since that one may have what is missing. Under the lock a call goes from state to state:
  *
  *   state     its thread                        what ends it                                 next
  *   -------   -------------------------------   ------------------------------------------   -----------------
  *   (begun)   reads its arguments, enters       an error of these, enter                     WAITS, LEADS, OVER
  *   WAITS     sleeps; the call is in the line   give, gather, its time or a signal, dismiss  LEADS, FOLLOWS, OVER
  *   FOLLOWS   sleeps; another call's group      finish, of the call that leads it            OVER
- *   LEADS     makes room, gathers, derives      finish                                       OVER
+ *   LEADS     makes room, gathers, derives      finish; rest, if there is no room            OVER; WAITS
  *
- * 1. If a call is in the line, every turn is taken: enter and finish give a free turn to the first of the line at once.
- *    In a closed hasher nobody is given one; each call that ends dismisses the first of the line.
+ * 1. If a call is in the line, every turn is taken or rests, and one at least is taken: enter and finish give a free turn to
+ *    the first of the line at once. In a closed hasher nobody is given one; each call that ends dismisses the first of the line.
  * 2. The line is in the order of places. Only the first is given a turn; only what is like the one that leads passes others.
  * 3. A status is an error until a proved call has returned. Then it is in the stack of the thread that derived, and goes to
  *    the calls of its group with the state OVER.
@@ -43,7 +43,8 @@
 #define LEAST_MOMENT_NS SLACK_NS
 #endif
 
-enum { BEGUN, WAITS, FOLLOWS, LEADS, OVER };
+enum { BEGUN, WAITS, FOLLOWS, LEADS, OVER }; /* of a call */
+enum { FREE, TAKEN, RESTS };                 /* of a turn */
 
 /* ---- The states of calls: with the lock ---- */
 
@@ -75,13 +76,13 @@ static struct tables take(struct tables *from) {
 /* The first turn that is free, or as many as there are: the first ones are the narrowest and have been used most. */
 static size_t free_turn(const scrypt_hasher *hasher) {
   size_t turn = 0;
-  while (turn < hasher->turns && hasher->queue->turn[turn].is_taken) turn++;
+  while (turn < hasher->turns && hasher->queue->turn[turn].state != FREE) turn++;
   return turn;
 }
 
-/* Gives a turn that is free to a call that isn't in the line. */
+/* Gives a turn to a call that isn't in the line. */
 static void give(struct queue *queue, size_t turn, struct call *call) {
-  queue->turn[turn].is_taken = 1;
+  queue->turn[turn].state = TAKEN;
   queue->deriving++;
   call->turn = turn;
   call->tables = take(&queue->turn[turn].tables);
@@ -108,35 +109,69 @@ static int are_alike(const scrypt_needs *one, const scrypt_needs *other) {
   return one->log_n == other->log_n && one->r == other->r && one->p == other->p;
 }
 
-/* Adds those that are like the first of the group, in the order of the line, up to `most` in all, and to a turn's share of
+/* Finds those that are like the first of the group, in the order of the line, up to `most` in all, and to a turn's share of
  * all calls, so that no processor is idle for a larger group: none if the hasher is closed, or in a child. Returns how many
  * there are. It doesn't look at a whole long line, since it has the lock. */
-static size_t gather(scrypt_hasher *hasher, struct call **group, size_t count, size_t most) {
+static size_t find_alike(scrypt_hasher *hasher, struct call **group, size_t most) {
   struct call *it = hasher->is_closed || is_of_parent(hasher, group[0]) ? NULL : hasher->queue->line.first[0];
-  size_t looked_at = 0, share = (hasher->queue->calls + hasher->turns - 1) / hasher->turns;
+  size_t count = 1, looked_at = 0, share = (hasher->queue->calls + hasher->turns - 1) / hasher->turns;
   if (most > share) most = share;
-  for (; it != NULL && count < most && looked_at < MOST_LOOKED_AT; it = it->next[0], looked_at++) {
-    if (it->login.text == NULL || !are_alike(&it->needs, &group[0]->needs)) continue;
-    line_leave(&hasher->queue->line, it);
-    it->state = FOLLOWS;
-    hasher->queue->deriving++;
-    group[count++] = it;
-  }
+  for (; it != NULL && count < most && looked_at < MOST_LOOKED_AT; it = it->next[0], looked_at++)
+    if (it->login.text != NULL && are_alike(&it->needs, &group[0]->needs)) group[count++] = it;
   return count;
 }
 
-/* Ends a group, and gives its turn to the first of the line. */
+/* Takes along those that were found. */
+static void gather(struct queue *queue, struct call **group, size_t count) {
+  size_t i;
+  for (i = 1; i < count; i++) {
+    line_leave(&queue->line, group[i]);
+    group[i]->state = FOLLOWS;
+    queue->deriving++;
+  }
+}
+
+static void put_back(scrypt_hasher *hasher, struct call *call) {
+  hasher->queue->turn[call->turn].tables = take(&call->tables);
+}
+
+/* Gives a turn to the first of the line, or else frees it. Returns whether it was given. */
+static int pass_on(scrypt_hasher *hasher, size_t turn) {
+  struct queue *queue = hasher->queue;
+  struct call *first = hasher->is_closed ? NULL : queue->line.first[0];
+  queue->turn[turn].state = FREE;
+  if (first == NULL) return 0;
+  line_leave(&queue->line, first);
+  give(queue, turn, first);
+  return 1;
+}
+
+/* Ends a group, and passes its turn on. Then one of the turns that rest is tried again, or all if nobody waits. */
 static void finish(scrypt_hasher *hasher, struct call **group, const int *statuses, size_t count) {
   struct queue *queue = hasher->queue;
-  struct call *next = hasher->is_closed ? NULL : queue->line.first[0];
   size_t turn = group[0]->turn, i;
-  if (!hasher->is_closed) queue->turn[turn].tables = take(&group[0]->tables);
-  queue->turn[turn].is_taken = 0;
+  if (!hasher->is_closed) put_back(hasher, group[0]);
   queue->deriving -= count;
   for (i = 0; i < count; i++) end(group[i], statuses[i]);
-  if (next == NULL) return;
-  line_leave(&queue->line, next);
-  give(queue, turn, next);
+  (void)pass_on(hasher, turn);
+  for (turn = 0; turn < hasher->turns; turn++)
+    if (queue->turn[turn].state == RESTS && pass_on(hasher, turn)) break;
+}
+
+/* If another call derives, lets the turn of this one rest, and those that are free, and puts it into the line, where it was.
+ * Returns whether it did. */
+static int rest(scrypt_hasher *hasher, struct call *call) {
+  struct queue *queue = hasher->queue;
+  size_t turn = 0;
+  while (turn < hasher->turns && (turn == call->turn || queue->turn[turn].state != TAKEN)) turn++;
+  if (turn == hasher->turns) return 0;
+  put_back(hasher, call);
+  queue->turn[call->turn].state = FREE;
+  for (turn = 0; turn < hasher->turns; turn++)
+    if (queue->turn[turn].state == FREE) queue->turn[turn].state = RESTS;
+  queue->deriving--;
+  wait_in_line(queue, call);
+  return 1;
 }
 
 /* In a closed hasher, ends the first of the line. So each one that ends wakes the next, and close doesn't wake all of them
@@ -188,31 +223,71 @@ static int64_t moment_of(const scrypt_needs *needs) {
   return ns < MOST_MOMENT_NS ? ns : MOST_MOMENT_NS;
 }
 
-/* Room comes first, so that nobody follows a call without any. A group has no more chunks than there are tables, so that
- * nobody waits for the chunks of others. Those whose group has just ended often come again at once, and would be too late by
- * less than a moment. */
+/* Frees what a turn keeps. */
+static void free_kept(scrypt_hasher *hasher, size_t turn) {
+  struct tables kept = take(&hasher->queue->turn[turn].tables); /* none if it is taken */
+  unlock(hasher);
+  tables_free(&kept);
+  lock(hasher);
+}
+
+/* Frees what a free turn keeps. Returns 0 if none keeps anything. */
+static int give_back(scrypt_hasher *hasher) {
+  size_t turn = 0;
+  while (turn < hasher->turns &&
+         (hasher->queue->turn[turn].state != FREE || hasher->queue->turn[turn].tables.mapping == NULL))
+    turn++;
+  if (turn == hasher->turns) return 0;
+  free_kept(hasher, turn);
+  return 1;
+}
+
+/* Returns for how many tables a call that leads has room: for one at least, if memory that is kept is enough. */
+static size_t make_room(scrypt_hasher *hasher, struct call *call, size_t most) {
+  size_t width;
+  do {
+    unlock(hasher);
+    width = tables_room(&call->tables, &call->needs, most);
+    lock(hasher);
+  } while (width == 0 && !is_of_parent(hasher, call) && give_back(hasher));
+  return width;
+}
+
+/* Derives without the lock. */
+static void derive_in_room(scrypt_hasher *hasher, struct call **group, size_t count, size_t width, int *statuses) {
+  const scrypt_needs *needs = &group[0]->needs;
+  unlock(hasher);
+  if (width > 0) {
+    struct buffers of =
+        tables_buffers(&group[0]->tables, needs, width < count * needs->p ? width : count * needs->p, count);
+    derive(hasher, group, count, statuses, &of);
+  }
+  lock(hasher);
+}
+
+/* Room comes first, so that nobody follows a call without any, and no more than for those that are there. A group has no
+ * more chunks than there are tables, so that nobody waits for the chunks of others. Those whose group has just ended often
+ * come again at once, and would be too late by less than a moment. */
 static void lead(scrypt_hasher *hasher, struct call *call) {
   struct call *group[SCRYPT_MOST_LOGINS] = {call};
   int statuses[SCRYPT_MOST_LOGINS] = {SCRYPT_OUT_OF_MEMORY, SCRYPT_CANCELLED, SCRYPT_CANCELLED, SCRYPT_CANCELLED};
   int64_t moment = moment_of(&call->needs);
-  size_t p = call->needs.p, count, width, most;
-  unlock(hasher);
-  width = tables_room(&call->tables, &call->needs, width_of(hasher, call->turn));
-  most = call->login.text != NULL ? width / p : 1;
-  if (most > 1) (void)sched_yield(); /* for threads that are ready to run: it serves short derivations too */
-  lock(hasher);
-  count = gather(hasher, group, 1, most);
+  size_t p = call->needs.p, width = width_of(hasher, call->turn), most = call->login.text != NULL ? width / p : 1, count;
+  if (most > 1) { /* for threads that are ready to run: it serves short derivations too */
+    unlock(hasher);
+    (void)sched_yield();
+    lock(hasher);
+  }
+  count = find_alike(hasher, group, most);
   if (count < most && moment > 0 && free_turn(hasher) == hasher->turns) { /* or others take the free one */
     (void)sleep_while(hasher, &call->state, LEADS, moment);
-    count = gather(hasher, group, count, most);
+    count = find_alike(hasher, group, most);
   }
-  if (is_of_parent(hasher, call)) return;
-  unlock(hasher);
-  if (width > 0) {
-    struct buffers of = tables_buffers(&call->tables, &call->needs, width < count * p ? width : count * p, count);
-    derive(hasher, group, count, statuses, &of);
-  }
-  lock(hasher);
+  width = make_room(hasher, call, width < count * p ? width : count * p);
+  if (is_of_parent(hasher, call) || (width == 0 && rest(hasher, call))) return;
+  count = find_alike(hasher, group, width / p);
+  gather(hasher->queue, group, count);
+  derive_in_room(hasher, group, count, width, statuses);
   if (!is_of_parent(hasher, call)) finish(hasher, group, statuses, count);
 }
 
@@ -238,8 +313,10 @@ int queue_end(scrypt_hasher *hasher, struct call *call, int status, int64_t most
   call->status = status == SCRYPT_OK ? SCRYPT_CANCELLED : status;
   if (status == SCRYPT_OK && !is_of_parent(hasher, call)) {
     enter(hasher, call, place != NULL ? *place : 0);
-    await(hasher, call, begun, most_ms, place != NULL);
-    if (call->state == LEADS) lead(hasher, call);
+    do {
+      await(hasher, call, begun, most_ms, place != NULL);
+      if (call->state == LEADS) lead(hasher, call);
+    } while (call->state == WAITS);
   }
   dismiss(hasher);
   if (call->tables.mapping != NULL) { /* which nobody keeps */
@@ -284,12 +361,7 @@ void scrypt_hasher_close(scrypt_hasher *hasher) {
   hasher->queue->calls++;
   hasher->is_closed = 1;
   dismiss(hasher);
-  for (turn = 0; turn < hasher->turns; turn++) {
-    struct tables unused = take(&hasher->queue->turn[turn].tables); /* none if it is taken */
-    unlock(hasher);
-    tables_free(&unused);
-    lock(hasher);
-  }
+  for (turn = 0; turn < hasher->turns; turn++) free_kept(hasher, turn);
   if (hasher->queue->epoch == epoch) leave_hasher(hasher, SCRYPT_OK, 0);
   unlock(hasher);
 }

@@ -46,8 +46,8 @@ struct queue {
   uint64_t refused;   /* see scrypt_stats */
   struct line line;
   struct turn {
-    int is_taken;
-    struct tables tables; /* while the turn is free */
+    int state;
+    struct tables tables; /* while it isn't taken */
   } turn[MOST_TURNS];
 };
 

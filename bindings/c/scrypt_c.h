@@ -282,7 +282,8 @@ int scrypt_limits_for_new(uint32_t log_n, uint32_t r, uint32_t p, size_t key_len
  * same log_n, r and p are derived at once, in less time than one after another: one in each table of a processor, and at most
  * its share of all calls. While all processors are taken, a derivation waits for others to join it for about 1/256 of its time,
  * and at most 1 ms. An error of one affects no other. A hasher keeps its memory for later calls: at most at_once tables of
- * most_bytes, whatever p is. */
+ * most_bytes, whatever p is. It maps them when they are needed. A call for which the system has no memory while another one
+ * derives waits for it, at its place in the line. */
 typedef struct scrypt_hasher scrypt_hasher;
 
 /* Default bounds: 257 MiB, which admit a table of 256 MiB; four times the work of the recommended parameters; and a key of

@@ -70,8 +70,12 @@ static int map(struct tables *tables, size_t bytes, int is_huge) {
   return 1;
 }
 
+/* How many times room for several tables isn't tried after it was refused: to try it costs the one that there is. */
+#define SKIPPED 64
+
 size_t tables_room(struct tables *tables, const scrypt_needs *one, size_t most) {
   size_t bytes = table_bytes(one), count;
+  if (tables->refused != 0 && most > 1 && tables->skipped++ == SKIPPED) tables->refused = tables->skipped = 0;
   for (count = most; count > 0; count--) {
     size_t all = bytes > SIZE_MAX / count ? SIZE_MAX : count * bytes;
     if (all <= tables->room) return count;

@@ -10,7 +10,8 @@ struct tables {
   uint8_t *front; /* where the buffers begin: at a multiple of a huge page, if a table is as large as one */
   size_t room;    /* bytes from there on */
   size_t used;    /* how many of them have been asked for: these are populated, and may hold secrets */
-  size_t refused; /* the least size that the system refused for several tables, which is not tried again; or 0 */
+  size_t refused; /* the least size that the system refused for several tables, which isn't tried for some time; or 0 */
+  size_t skipped; /* how often it wasn't */
 };
 
 /* How many tables pay for one key with these parameters, and what each needs: as many as p, if they are not tiny and take at

@@ -33,12 +33,15 @@ static int failed;
 /* Waits until it holds, or for ten seconds. */
 #define until(holds) for (int tries_ = 0; !(holds) && tries_ < 50000; tries_++) usleep(200)
 
-static size_t most_mapped = SIZE_MAX, mapped; /* how much one mapping may be, and how much there is */
+static size_t most_mapped = SIZE_MAX, most_in_all = SIZE_MAX, mapped; /* how much one mapping and all may be, and are */
 static int refusals;
 static void *test_mmap(void *at, size_t size, int protection, int flags, int file, off_t offset) {
-  if (size > READ(most_mapped)) return (void)ADD(refusals, 1), errno = ENOMEM, MAP_FAILED;
-  (void)ADD(mapped, size);
-  return mmap(at, size, protection, flags, file, offset);
+  if (size <= READ(most_mapped) && ADD(mapped, size) <= READ(most_in_all))
+    return mmap(at, size, protection, flags, file, offset);
+  if (size <= READ(most_mapped)) (void)ADD(mapped, -size);
+  (void)ADD(refusals, 1);
+  errno = ENOMEM;
+  return MAP_FAILED;
 }
 
 static int test_munmap(void *at, size_t size);
@@ -178,11 +181,12 @@ static struct look look_at(scrypt_hasher *hasher) {
   at.calls = (int)queue->calls;
   at.is_closed = hasher->is_closed;
   for (size_t turn = 0; turn < hasher->turns; turn++) {
-    at.leading += queue->turn[turn].is_taken;
+    at.leading += queue->turn[turn].state == TAKEN;
     at.is_idle &= !(hasher->is_closed && queue->turn[turn].tables.mapping != NULL);
   }
   at.is_idle &= at.calls == 0 && at.leading == 0 && queue->line.first[0] == NULL;
   at.is_idle &= at.stats.waiting == 0 && at.stats.deriving == 0;
+  expect(at.is_closed || queue->line.len == 0 || free_turn(hasher) == hasher->turns, "a turn is free, and a call waits");
   unlock(hasher);
   return at;
 }

@@ -93,6 +93,36 @@ static void freed_at_any_time(void) {
   }
 }
 
+/* With memory for one table in all, each has its turn. */
+static void short_of_memory(void) {
+  pthread_t all[24];
+  scrypt_hasher *hasher = made(4, 8, 4);
+  WRITE(most_in_all, READ(mapped) + table_bytes(&hasher->needs) + sizeof(uint32_t));
+  for (int i = 0; i < 24; i++) pthread_create(&all[i], NULL, verify_one, hasher);
+  for (int i = 0; i < 24; i++) pthread_join(all[i], NULL);
+  WRITE(most_in_all, SIZE_MAX);
+  scrypt_hasher_free(hasher);
+}
+
+/* When there is memory again, each one that ends brings another processor back. */
+static void memory_again(void) {
+  pthread_t all[8];
+  scrypt_hasher *hasher = made(4, 4, 4);
+  WRITE(is_stopped, 1);
+  WRITE(most_in_all, READ(mapped) + table_bytes(&hasher->needs) + sizeof(uint32_t));
+  for (int i = 0; i < 8; i++) pthread_create(&all[i], NULL, verify_one, hasher);
+  until(look_at(hasher).stats.waiting == 7 && READ(inside) == 1);
+  WRITE(most_in_all, SIZE_MAX);
+  for (int ended_first = 1; ended_first < 4; ended_first++) {
+    WRITE(passed, ended_first);
+    until(READ(inside) == ended_first + 1);
+    expect(READ(inside) == ended_first + 1, "%d derive after %d", READ(inside), ended_first);
+  }
+  WRITE(is_stopped, 0);
+  for (int i = 0; i < 8; i++) pthread_join(all[i], NULL);
+  scrypt_hasher_free(hasher);
+}
+
 static void *hash_one(void *hasher) {
   char text[SCRYPT_PHC_CAPACITY];
   IS(scrypt_hasher_hash(hasher, "pw", 2, NULL, 0, text, sizeof text, -1, NULL), SCRYPT_CLOSED);
@@ -137,5 +167,7 @@ int main(void) {
   RUN(at_any_time);
   RUN(freed_at_any_time);
   RUN(freed_while_read);
+  RUN(short_of_memory);
+  RUN(memory_again);
   return failed;
 }

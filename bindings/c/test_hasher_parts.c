@@ -75,10 +75,10 @@ static void calls(void) {
   WRITE(wakes, 0);
   IS(verify(hasher, good, "right", -1), SCRYPT_OK);
   lock(hasher);
-  hasher->queue->turn[0].is_taken = 1;
+  hasher->queue->turn[0].state = TAKEN;
   unlock(hasher);
   IS(verify(hasher, good, "right", 2), SCRYPT_TIMEOUT);
-  hasher->queue->turn[0].is_taken = 0;
+  hasher->queue->turn[0].state = FREE;
   IS(READ(wakes), 0); /* nobody sleeps */
   scrypt_hasher_close(hasher);
   expect(look_at(hasher).is_idle, "closed");
@@ -104,6 +104,32 @@ static void places_of_errors(void) {
   IS(scrypt_hasher_key(hasher, "", 0, "", 0, key, 0, -1, &place[6]), SCRYPT_INVALID_OUTPUT_LEN);
   for (int i = 0; i < 7; i++) expect(place[i] == 0, "place %d", i);
   scrypt_hasher_free(hasher);
+}
+
+/* Who derives alone takes no room for others. */
+static void room_for_one(void) {
+  size_t before = READ(mapped);
+  scrypt_hasher *hasher = made(1, 4, 4);
+  char text[SCRYPT_PHC_CAPACITY];
+  make_text(text, "right", 4, 8, 1);
+  IS(verify(hasher, text, "right", -1), SCRYPT_OK);
+  IS(READ(mapped) - before, sizeof(struct queue) + table_bytes(&hasher->needs) + sizeof(uint32_t));
+  scrypt_hasher_free(hasher);
+}
+
+/* What was refused for several tables is tried again, and not each time. */
+static void refused_for_a_while(void) {
+  static const scrypt_needs ONE = {4, 8, 1, 32, 1, 1024, 16 * 256, 512};
+  struct tables tables = {0};
+  size_t before = READ(mapped), tries = 1;
+  WRITE(most_mapped, table_bytes(&ONE) + sizeof(uint32_t));
+  IS(tables_room(&tables, &ONE, 4), 1);
+  WRITE(most_mapped, SIZE_MAX);
+  while (tables_room(&tables, &ONE, 4) == 1 && tries < 1000) tries++;
+  expect(tries == SKIPPED + 1, "tried again after %zu times", tries);
+  tables_free(&tables);
+  IS(READ(mapped), before);
+  WRITE(refusals, 0);
 }
 
 /* Several tables pay for one key if they are not tiny, and take at most 128 MiB. */
@@ -147,14 +173,14 @@ static void many_waits(void) {
   for (it = hasher->queue->line.first[0]; it->next[0] != NULL; it = it->next[0]) IS(is_before(it, it->next[0]), 1);
   it = hasher->queue->line.first[0];
   for (int i = 0; i < 1000; i++, it = it->next[0]) it->needs.r = 1;
-  IS(gather(hasher, (struct call *[4]){&all[0]}, 1, 4), 1); /* it looks no further */
+  IS(find_alike(hasher, (struct call *[4]){&all[0]}, 4), 1); /* it looks no further */
   unlock(hasher);
   WRITE(wakes, 0);
   scrypt_hasher_close(hasher);
   IS(READ(wakes), 1); /* not all at once: this one wakes the next */
   lock(hasher);
   all[0].needs.r = 1;
-  IS(gather(hasher, (struct call *[4]){&all[0]}, 1, 4), 1); /* nobody joins a group */
+  IS(find_alike(hasher, (struct call *[4]){&all[0]}, 4), 1); /* nobody joins a group */
   finish(hasher, (struct call *[]){&all[0]}, (int[]){SCRYPT_OK}, 1);
   for (uint64_t i = 2; (it = hasher->queue->line.first[0]) != NULL; i += 2) {
     IS(it->state, WAITS); /* nobody is given a turn */
@@ -221,6 +247,8 @@ int main(void) {
   RUN(options);
   RUN(calls);
   RUN(places_of_errors);
+  RUN(room_for_one);
+  RUN(refused_for_a_while);
   RUN(tables_of_keys);
   RUN(moments);
   RUN(many_waits);
