@@ -24,6 +24,15 @@ void unlock(scrypt_hasher *hasher) {
   (void)sigprocmask(SIG_SETMASK, &unblocked, NULL);
 }
 
+void add_all_but_faults(sigset_t *blocked) {
+  static const int FAULTS[] = {SIGBUS, SIGFPE, SIGILL, SIGSEGV, SIGSYS, SIGTRAP};
+  const sigset_t before = *blocked;
+  size_t i;
+  (void)sigfillset(blocked);
+  for (i = 0; i < sizeof FAULTS / sizeof *FAULTS; i++)
+    if (!sigismember(&before, FAULTS[i])) (void)sigdelset(blocked, FAULTS[i]);
+}
+
 int is_of_parent(const scrypt_hasher *hasher, const struct call *call) {
   return call->epoch != hasher->queue->epoch;
 }

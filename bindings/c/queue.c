@@ -253,9 +253,11 @@ static size_t make_room(scrypt_hasher *hasher, struct call *call, size_t most) {
   return width;
 }
 
-/* Derives without the lock. */
+/* Derives without the lock; for others also without any signal handler, which might take longer than they may wait. */
 static void derive_in_room(scrypt_hasher *hasher, struct call **group, size_t count, size_t width, int *statuses) {
+  const sigset_t unblocked = hasher->queue->unblocked;
   const scrypt_needs *needs = &group[0]->needs;
+  if (count > 1) add_all_but_faults(&hasher->queue->unblocked);
   unlock(hasher);
   if (width > 0) {
     struct buffers of =
@@ -263,6 +265,7 @@ static void derive_in_room(scrypt_hasher *hasher, struct call **group, size_t co
     derive(hasher, group, count, statuses, &of);
   }
   lock(hasher);
+  hasher->queue->unblocked = unblocked;
 }
 
 /* Room comes first, so that nobody follows a call without any, and no more than for those that are there. A group has no

@@ -67,6 +67,9 @@ struct scrypt_hasher {
 void lock(scrypt_hasher *hasher);
 void unlock(scrypt_hasher *hasher);
 
+/* Adds all signals except those that a fault of the thread itself causes. */
+void add_all_but_faults(sigset_t *blocked);
+
 /* Whether the call began in a process that this one was forked from. */
 int is_of_parent(const scrypt_hasher *hasher, const struct call *call);
 

@@ -319,11 +319,14 @@ const scrypt_options *scrypt_hasher_options(const scrypt_hasher *hasher);
 /* Verifies a password against the text of a hash, like scrypt_verify, within the bounds of the hasher. Any thread may call
  * this and the next two calls, and a signal handler.
  * They wait for at most most_ms milliseconds, without a bound if that is negative, and then return SCRYPT_TIMEOUT; time that
- * a derivation takes does not count. If place is not NULL, a signal that the thread handles while it sleeps ends the wait too
- * (one that comes just before does not, so such a wait needs a bound), and *place, which is 0 at first, is the place in the
- * line with SCRYPT_TIMEOUT, and otherwise 0. The same call with the same *place waits there again, so that a caller can look
- * meanwhile whether it still wants the answer; one that doesn't just makes no further call. Between the calls nobody begins
- * with it.
+ * a derivation takes does not count. While a thread derives for others too, its signals are blocked, except those of faults, so
+ * that nobody waits for a signal handler.
+ * If place is not NULL, a signal that the thread handles while it sleeps ends the wait too (one that comes just before does
+ * not, so such a wait needs a bound; the C library's own does, as when another thread calls setresuid), and *place, which is 0
+ * at first, is the place in the line with SCRYPT_TIMEOUT, and otherwise 0. The same call with the same *place waits there
+ * again, so that a caller can look meanwhile whether it still wants the answer; one that doesn't just makes no further call.
+ * Between the calls nobody begins with it. A place is not checked: a later call with an old one goes before all that came
+ * since.
  * fork: in a child nobody waits or derives, and a hasher works as in its parent. A call during which a signal handler forked
  * returns SCRYPT_CANCELLED in the child, where what it would have written is zeros; or, if it was just returning, what it
  * returns in the parent.

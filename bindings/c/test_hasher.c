@@ -9,7 +9,7 @@
  * 100 ms. Then: . the group that began first ends; $ close; | fork; m no more than one table of A can be mapped at a time;
  * M no more in all than there is, or than one table of A; ^ the next call forks just before it sleeps; ~ 300 ms pass, and _
  * half of it; % moments in which others may join last until the comma. By a
- * signal to the thread of call N: !N nothing, &N fork, #N close, in its handler. */
+ * signal to the thread of call N: !N nothing, &N fork, #N close, in its handler, and @N nothing before its group ends. */
 static const struct class { uint8_t log_n; uint32_t r, p; } CLASSES[] = {
     {4, 8, 1}, {5, 8, 1}, {4, 8, 2}, {4, 8, 16}, {4, 16, 1}, {4, 8, 4}, {13, 8, 1}};
 static const struct row {
@@ -48,7 +48,7 @@ static const struct row {
     {"closed while a group derives", 1, 4, 4, "AaA.BKa$", "0 12", "=x=ccc"},
     {"closed by a signal to one who waits", 1, 4, 4, "AaB#1A", "0", "=ccc"},
     {"by one to a partner", 1, 4, 4, "AaA.B#2A", "0 12", "=x=cc"},
-    {"by one to the leader", 1, 4, 4, "AaA.B#1A", "0 12", "=x=cc"},
+    {"by one to who derives alone", 1, 4, 4, "AaB#0A", "0", "=ccc"},
     {"closed between two times that a call comes back", 1, 4, 4, "A*a~$", "0", "=c"},
     {"closed in a moment", 1, 4, 4, "%Gg$,", "0~", "=c"},
     {"memory is refused for a group: each alone", 1, 4, 4, "mAaAaA", "0 1 2 3 4", "=x=x="},
@@ -63,7 +63,7 @@ static const struct row {
     {"by one who is about to sleep", 1, 2, 4, "A^aA", "0 12", "=x="},
     {"by one who waits and comes back", 1, 2, 4, "A*aA&1", "0 12", "=x="},
     {"by a partner, who must not get the status that the leader begins with", 1, 2, 4, "AAa.&2&2&2", "0 12", "==x"},
-    {"by the leader", 1, 2, 4, "AaA.&1&1", "0 12", "=x="},
+    {"not while a thread derives for others: then no handler runs in it", 1, 2, 4, "AaA.@1.", "0 12", "=x="},
     {"by the leader in a moment", 1, 4, 4, "%Gg&0,", "01~", "=x"},
     {"by one alone, then by a key", 1, 2, 4, "aK&0.&1", "0 1", "x="},
     {"by a waiting key, in a closed hasher", 1, 2, 4, "AK&1$&0", "0", "=c"},
@@ -122,11 +122,19 @@ static void start(struct thread *it, int number, char how, char kind, scrypt_has
   expect(pthread_create(&it->id, NULL, run, it) == 0, "no thread");
 }
 
+static int noted;
+static void note_in_handler(int number) { (void)number, (void)ADD(noted, 1); }
+
 /* Sends a signal to the thread of a call, whose handler does what the script says. */
 static void interrupt(char what, struct thread *it) {
   int before = READ(forks), tries = what == '!' ? 10 : 1; /* one that comes before the sleep ends nothing */
-  handle(SIGUSR1, what == '&' ? fork_in_handler : what == '#' ? close_in_handler : nothing_in_handler);
+  handle(SIGUSR1, what == '&'   ? fork_in_handler
+                  : what == '#' ? close_in_handler
+                  : what == '@' ? note_in_handler
+                                : nothing_in_handler);
+  WRITE(noted, 0);
   while (tries-- > 0) pthread_kill(it->id, SIGUSR1), usleep(2000);
+  if (what == '@') expect(READ(noted) == 0, "a handler runs while its thread derives for others");
   if (what == '&') until(READ(forks) != before);
   if (what == '#') until(look_at(it->hasher).is_closed);
 }
@@ -177,7 +185,7 @@ static void run_row(const struct row *row) {
   WRITE(is_stopped, 1);
   for (at = row->script; *at != '\0'; at++) {
     if (strchr("-+*", *at) != NULL) how = *at;
-    else if (strchr("!&#", *at) != NULL) interrupt(*at, &all[at[1] - '0']), at++;
+    else if (strchr("!&#@", *at) != NULL) interrupt(*at, &all[at[1] - '0']), at++;
     else if (strchr(".$|mM~_^%,", *at) != NULL) act(*at, hasher);
     else start(&all[started], started, how, *at, hasher), started++, how = ' ';
     settle(hasher, started, row->why);
@@ -187,6 +195,7 @@ static void run_row(const struct row *row) {
   WRITE(most_mapped, SIZE_MAX);
   WRITE(most_in_all, SIZE_MAX);
   reap_all(row->why);
+  expect(strchr(row->script, '@') == NULL || READ(noted) == 1, "%s: %d handlers", row->why, READ(noted));
   check_row(row, hasher, all, started);
   scrypt_hasher_close(hasher);
   expect(READ(mapped) == before + sizeof(struct queue), "%s: closed, with %zu bytes", row->why, READ(mapped) - before);

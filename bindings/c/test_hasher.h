@@ -105,6 +105,12 @@ static int test_munmap(void *at, size_t size) {
 static pid_t parent;
 static struct look { int calls, leading, is_closed, is_idle; scrypt_stats stats; } look_at(scrypt_hasher *hasher);
 
+static int is_blocked(int number) {
+  sigset_t blocked;
+  (void)sigprocmask(SIG_BLOCK, NULL, &blocked);
+  return sigismember(&blocked, number);
+}
+
 /* ---- Derivations that are watched, and stopped ---- */
 
 /* The groups in the order in which they begin: the first letters of their passwords, after : the tables if they are
@@ -127,6 +133,11 @@ void watched(const scrypt_hasher *hasher, struct call **group, size_t count, int
   had_moment = 0;
   if (slot < MOST_SEEN) strcpy(groups[slot], letters);
   expect(ADD(inside, 1) <= (int)hasher->turns, "too many derive at a time");
+#ifdef __SANITIZE_THREAD__ /* which blocks all signals in a handler */
+  expect(count == 1 || is_blocked(SIGTERM), "signals of a thread that derives for %zu", count);
+#else
+  expect(is_blocked(SIGTERM) == (count > 1) && !is_blocked(SIGSEGV), "signals of a thread that derives for %zu", count);
+#endif
   expect(look_at((scrypt_hasher *)hasher).stats.deriving >= count || getpid() != parent, "fewer derive than are in a group");
   expect(ADD(tables_inside, tables) <= (int)hasher->options.at_once, "too many tables at a time");
   call_hook();
@@ -139,10 +150,8 @@ void watched(const scrypt_hasher *hasher, struct call **group, size_t count, int
 static int forks_before_sleep, wakes;
 static void fork_in_handler(int number);
 static void before_syscall(int operation, uint32_t value, const struct timespec *time) {
-  sigset_t blocked;
-  (void)sigprocmask(SIG_BLOCK, NULL, &blocked);
   if (operation == FUTEX_WAKE_PRIVATE) (void)ADD(wakes, 1);
-  expect((operation == FUTEX_WAKE_PRIVATE) == sigismember(&blocked, SIGTERM), "signals with the lock, or none without");
+  expect((operation == FUTEX_WAKE_PRIVATE) == is_blocked(SIGTERM), "signals with the lock, or none without");
   if (time == NULL) return;
   expect(time->tv_sec > 0 || time->tv_nsec > 0, "a thread spins in place of sleeping");
   if (READ(forks_before_sleep)) WRITE(forks_before_sleep, 0), fork_in_handler(0);
