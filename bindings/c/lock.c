@@ -15,7 +15,9 @@ void lock(scrypt_hasher *hasher) {
   (void)sigprocmask(SIG_SETMASK, &all, &unblocked); /* of this thread alone, on Linux */
   (void)pthread_mutex_lock(&queue->lock);
   queue->unblocked = unblocked;
-  if (queue->epoch == 0) queue->epoch = ++hasher->epochs;
+  if (queue->epoch != 0) return;
+  if (hasher->epochs > 0) notes_unmap(hasher->notes, hasher->turns, 1);
+  queue->epoch = ++hasher->epochs;
 }
 
 void unlock(scrypt_hasher *hasher) {

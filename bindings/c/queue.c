@@ -81,11 +81,13 @@ static size_t free_turn(const scrypt_hasher *hasher) {
 }
 
 /* Gives a turn to a call that isn't in the line. */
-static void give(struct queue *queue, size_t turn, struct call *call) {
+static void give(scrypt_hasher *hasher, size_t turn, struct call *call) {
+  struct queue *queue = hasher->queue;
   queue->turn[turn].state = TAKEN;
   queue->deriving++;
   call->turn = turn;
   call->tables = take(&queue->turn[turn].tables);
+  call->tables.note = &hasher->notes[turn];
   go_on(call, LEADS);
 }
 
@@ -101,7 +103,7 @@ static void enter(scrypt_hasher *hasher, struct call *call, uint64_t place) {
   call->place = place == 0 || place > queue->places ? ++queue->places : place;
   call->state = BEGUN;
   if (hasher->is_closed) end(call, SCRYPT_CLOSED);
-  else if (turn < hasher->turns) give(queue, turn, call);
+  else if (turn < hasher->turns) give(hasher, turn, call);
   else wait_in_line(queue, call);
 }
 
@@ -133,6 +135,7 @@ static void gather(struct queue *queue, struct call **group, size_t count) {
 
 static void put_back(scrypt_hasher *hasher, struct call *call) {
   hasher->queue->turn[call->turn].tables = take(&call->tables);
+  hasher->notes[call->turn].user = 0;
 }
 
 /* Gives a turn to the first of the line, or else frees it. Returns whether it was given. */
@@ -142,7 +145,7 @@ static int pass_on(scrypt_hasher *hasher, size_t turn) {
   queue->turn[turn].state = FREE;
   if (first == NULL) return 0;
   line_leave(&queue->line, first);
-  give(queue, turn, first);
+  give(hasher, turn, first);
   return 1;
 }
 
@@ -226,6 +229,7 @@ static int64_t moment_of(const scrypt_needs *needs) {
 /* Frees what a turn keeps. */
 static void free_kept(scrypt_hasher *hasher, size_t turn) {
   struct tables kept = take(&hasher->queue->turn[turn].tables); /* none if it is taken */
+  if (kept.note != NULL) kept.note->user = (uintptr_t)pthread_self();
   unlock(hasher);
   tables_free(&kept);
   lock(hasher);
@@ -276,6 +280,7 @@ static void lead(scrypt_hasher *hasher, struct call *call) {
   int statuses[SCRYPT_MOST_LOGINS] = {SCRYPT_OUT_OF_MEMORY, SCRYPT_CANCELLED, SCRYPT_CANCELLED, SCRYPT_CANCELLED};
   int64_t moment = moment_of(&call->needs);
   size_t p = call->needs.p, width = width_of(hasher, call->turn), most = call->login.text != NULL ? width / p : 1, count;
+  hasher->notes[call->turn].user = (uintptr_t)pthread_self();
   if (most > 1) { /* for threads that are ready to run: it serves short derivations too */
     unlock(hasher);
     (void)sched_yield();
@@ -338,11 +343,16 @@ int queue_end(scrypt_hasher *hasher, struct call *call, int status, int64_t most
 
 int queue_new(scrypt_hasher *hasher) {
   size_t at_once = hasher->options.at_once, processors = hasher->options.processors;
+  int status;
   hasher->turns = at_once < processors ? at_once : processors;
   if (hasher->turns > MOST_TURNS) hasher->turns = MOST_TURNS;
+  hasher->notes = (struct note *)calloc(hasher->turns, sizeof *hasher->notes);
+  if (hasher->notes == NULL) return SCRYPT_OUT_OF_MEMORY;
   hasher->queue = (struct queue *)map_zeros_in_child(sizeof *hasher->queue);
   if (hasher->queue != NULL) return SCRYPT_OK;
-  return errno == EINVAL ? SCRYPT_UNSUPPORTED : SCRYPT_OUT_OF_MEMORY;
+  status = errno == EINVAL ? SCRYPT_UNSUPPORTED : SCRYPT_OUT_OF_MEMORY;
+  free(hasher->notes);
+  return status;
 }
 
 int scrypt_hasher_stats(scrypt_hasher *hasher, scrypt_stats *stats) {
@@ -375,6 +385,8 @@ void scrypt_hasher_free(scrypt_hasher *hasher) {
   lock(hasher);
   while (hasher->queue->calls > 0) (void)sleep_while(hasher, &hasher->queue->calls, hasher->queue->calls, NS_OF_MS * CHILD_MS);
   unlock(hasher);
+  notes_unmap(hasher->notes, hasher->turns, 0); /* in a child there may be some of the parent */
   (void)munmap(hasher->queue, sizeof *hasher->queue);
+  free(hasher->notes);
   free(hasher);
 }

@@ -61,6 +61,7 @@ struct scrypt_hasher {
   size_t turns;
   uint64_t epochs; /* of this process and of those that it was forked from */
   struct queue *queue;
+  struct note *notes; /* for each turn, of its memory */
 };
 
 /* No signal handler runs in a thread that has the lock. */

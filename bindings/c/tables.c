@@ -6,6 +6,9 @@
 #include "pages.h"
 
 #include <errno.h>
+#include <pthread.h>
+#include <sys/syscall.h>
+#include <unistd.h>
 
 #define NO_ADVICE (-1)
 
@@ -35,12 +38,31 @@ size_t tables_for_key(uint32_t log_n, uint32_t r, uint32_t p, scrypt_needs *need
 
 static int has_huge(const scrypt_needs *one) { return 4 * one->table_len >= HUGE_PAGE; }
 
+/* Nobody maps or unmaps while the system copies a process. So what is noted is mapped in a child too, since it is noted after
+ * it was mapped, and until it is unmapped. */
+static void set_note(struct note *note, void *at, size_t size) {
+  if (at != NULL) note->size = size;
+  __atomic_store_n(&note->at, at, __ATOMIC_SEQ_CST);
+}
+
+void notes_unmap(struct note *notes, size_t count, int is_child) {
+  int has_forked = syscall(SYS_gettid) == getpid();
+  struct note *it;
+  for (it = notes; it < notes + count; it++) {
+    int may_be_used = is_child && it->user != 0 && (!has_forked || it->user == (uintptr_t)pthread_self());
+    if (it->at == NULL || may_be_used) continue;
+    (void)munmap(it->at, it->size);
+    it->at = NULL;
+  }
+}
+
 /* Behind the room: 1 since the last buffers, or 0 in a child. */
 static uint32_t *mark_of(const struct tables *tables) { return (uint32_t *)(void *)(tables->front + tables->room); }
 
 int tables_are_lost(const struct tables *tables) { return __atomic_load_n(mark_of(tables), __ATOMIC_RELAXED) == 0; }
 
 void tables_unmap(struct tables *tables) {
+  if (tables->note != NULL && tables->note->at == tables->mapping) set_note(tables->note, NULL, 0);
   if (tables->mapping != NULL) (void)munmap(tables->mapping, tables->mapped);
   tables->mapping = NULL;
   tables->room = tables->used = 0;
@@ -62,6 +84,7 @@ static int map(struct tables *tables, size_t bytes, int is_huge) {
   tables->mapping = map_zeros_in_child(bytes + more);
   if (tables->mapping == NULL) return 0;
   tables->mapped = bytes + more;
+  if (tables->note != NULL) set_note(tables->note, tables->mapping, tables->mapped);
   before = is_huge ? (HUGE_PAGE - (uintptr_t)tables->mapping % HUGE_PAGE) % HUGE_PAGE : 0;
   tables->front = (uint8_t *)tables->mapping + before;
   tables->room = bytes;

@@ -4,7 +4,16 @@
 
 #include "groups.h"
 
+/* Where a mapping is, in memory that isn't zeros in a child. */
+struct note {
+  void *at; /* NULL if there is none */
+  size_t size;
+  uintptr_t user; /* the thread that uses or frees it, or 0 */
+};
+
+/* Zeros are the beginning. */
 struct tables {
+  struct note *note; /* of this mapping; or NULL, then a child doesn't find it */
   void *mapping; /* NULL if there is none */
   size_t mapped;
   uint8_t *front; /* where the buffers begin: at a multiple of a huge page, if a table is as large as one */
@@ -34,6 +43,9 @@ void tables_free(struct tables *tables);
 
 /* Gives it back without that: the system wipes what it gives to others. */
 void tables_unmap(struct tables *tables);
+
+/* Gives back what is mapped there; in a child, except what a call of this thread uses that was interrupted when it forked. */
+void notes_unmap(struct note *notes, size_t count, int is_child);
 
 /* Memory that is zeros, also in a child that is forked later, whatever was written; or NULL, with EINVAL if the system cannot
  * do that. */

@@ -7,6 +7,7 @@
 #include <linux/futex.h>
 #include <pthread.h>
 #include <signal.h>
+#include <stdarg.h>
 #include <stdio.h>
 #include <stdlib.h>
 #include <sys/mman.h>
@@ -45,7 +46,7 @@ static void *test_mmap(void *at, size_t size, int protection, int flags, int fil
 }
 
 static int test_munmap(void *at, size_t size);
-static void before_syscall(int operation, uint32_t value, const struct timespec *time);
+static void before_syscall(long number, ...);
 static size_t widest = 4;
 static void (*hook)(int); /* called once, in the middle of a derivation */
 static void call_hook(void) {
@@ -63,8 +64,7 @@ static void read_slowly(void) {
 
 #define mmap test_mmap
 #define munmap test_munmap
-#define syscall(number, word, operation, value, time, ...) \
-  (before_syscall(operation, value, time), syscall(number, word, operation, value, time, __VA_ARGS__))
+#define syscall(...) (before_syscall(__VA_ARGS__), syscall(__VA_ARGS__))
 #define most_at_once() READ(widest)
 #define derive watched
 #include "line.c"
@@ -149,7 +149,16 @@ void watched(const scrypt_hasher *hasher, struct call **group, size_t count, int
 /* No handler runs with the lock, in which threads are woken. If it is set, forks just before a call sleeps. */
 static int forks_before_sleep, wakes;
 static void fork_in_handler(int number);
-static void before_syscall(int operation, uint32_t value, const struct timespec *time) {
+static void before_syscall(long number, ...) {
+  const struct timespec *time;
+  uint32_t value;
+  int operation;
+  va_list rest;
+  if (number != SYS_futex) return;
+  va_start(rest, number);
+  (void)va_arg(rest, uint32_t *);
+  operation = va_arg(rest, int), value = va_arg(rest, uint32_t), time = va_arg(rest, const struct timespec *);
+  va_end(rest);
   if (operation == FUTEX_WAKE_PRIVATE) (void)ADD(wakes, 1);
   expect((operation == FUTEX_WAKE_PRIVATE) == is_blocked(SIGTERM), "signals with the lock, or none without");
   if (time == NULL) return;

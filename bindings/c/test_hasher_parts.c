@@ -132,6 +132,49 @@ static void refused_for_a_while(void) {
   WRITE(refusals, 0);
 }
 
+/* A child gives back what its parent had mapped: with its first call, or when it frees the hasher. */
+static int generation(scrypt_hasher *hasher, const char *text, int more) {
+  size_t before = READ(mapped);
+  pid_t child = fork();
+  int status = -1;
+  if (child > 0) return waitpid(child, &status, 0) == child && WIFEXITED(status) && WEXITSTATUS(status) == 0;
+  IS(verify(hasher, text, "right", -1), SCRYPT_OK);
+  IS(READ(mapped), before);
+  if (more > 0) expect(generation(hasher, text, more - 1), "a grandchild");
+  scrypt_hasher_free(hasher);
+  IS(READ(mapped), 0);
+  _exit(failed);
+}
+
+static void generations(void) {
+  scrypt_hasher *hasher = made(1, 1, 4);
+  char text[SCRYPT_PHC_CAPACITY];
+  make_text(text, "right", 4, 8, 1);
+  IS(verify(hasher, text, "right", -1), SCRYPT_OK);
+  expect(generation(hasher, text, 8), "a child has mappings of its parents");
+  scrypt_hasher_free(hasher);
+}
+
+/* But not what a call uses that was interrupted when it forked: it goes on, in a child too. */
+static void verify_in_child(int number) {
+  char text[SCRYPT_PHC_CAPACITY];
+  fork_in_handler(number);
+  if (getpid() == parent) return;
+  make_text(text, "right", 4, 8, 1);
+  IS(verify(of_signals, text, "right", -1), SCRYPT_OK);
+}
+static void interrupted_in_child(void) {
+  scrypt_hasher *hasher = of_signals = made(1, 1, 4);
+  char text[SCRYPT_PHC_CAPACITY];
+  int status;
+  make_text(text, "right", 4, 8, 1);
+  WRITE(hook, verify_in_child);
+  status = verify(hasher, text, "right", -1);
+  if (getpid() != parent) be_child(hasher, status);
+  IS(status, SCRYPT_OK);
+  scrypt_hasher_free(hasher);
+}
+
 /* Several tables pay for one key if they are not tiny, and take at most 128 MiB. */
 static void tables_of_keys(void) {
   static const struct { uint8_t log_n; uint32_t p; size_t count; } KEYS[] = {
@@ -249,6 +292,8 @@ int main(void) {
   RUN(places_of_errors);
   RUN(room_for_one);
   RUN(refused_for_a_while);
+  RUN(generations);
+  RUN(interrupted_in_child);
   RUN(tables_of_keys);
   RUN(moments);
   RUN(many_waits);
