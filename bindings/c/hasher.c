@@ -101,6 +101,15 @@ int scrypt_hasher_needs_rehash(const scrypt_hasher *hasher, const char *text, si
 #define DEFAULT(field, value) \
   if (with->field == 0) with->field = (value)
 
+/* Two tables for each processor, or as many as fit into 7/8 of the memory: of the largest that are allowed or, if not one of
+ * these does, of new hashes. */
+static size_t usual_at_once(const scrypt_options *with, const scrypt_needs *new) {
+  size_t memory = memory_of_process(), usable = memory - memory / 8, fit = usable / with->most_bytes;
+  size_t two = with->processors > SIZE_MAX / 2 ? SIZE_MAX : 2 * with->processors;
+  if (fit == 0) fit = usable / table_bytes(new);
+  return fit == 0 ? 1 : fit < two ? fit : two;
+}
+
 /* Replaces zeros by defaults, and checks the options. */
 static int complete(scrypt_hasher *hasher) {
   scrypt_options *with = &hasher->options;
@@ -115,7 +124,6 @@ static int complete(scrypt_hasher *hasher) {
   DEFAULT(key_len, SCRYPT_KEY_LEN);
   DEFAULT(salt_len, SCRYPT_SALT_LEN);
   DEFAULT(processors, processors_of_process());
-  DEFAULT(at_once, with->processors > SIZE_MAX / 2 ? SIZE_MAX : 2 * with->processors);
   if (with->key_len < 10 || with->key_len > 64) return SCRYPT_INVALID_PARAMS;
   status = scrypt_limits_for_new(with->log_n, with->r, with->p, with->key_len, &most_bytes, &most_work,
                                  &least_key_len);
@@ -124,7 +132,9 @@ static int complete(scrypt_hasher *hasher) {
   DEFAULT(most_work, most_work);
   DEFAULT(least_key_len, least_key_len);
   if (with->salt_len > MOST_SALT_LEN) return SCRYPT_SALT_INVALID;
-  return scrypt_params_need(with->log_n, with->r, with->p, with->most_bytes, with->most_work, &hasher->needs);
+  status = scrypt_params_need(with->log_n, with->r, with->p, with->most_bytes, with->most_work, &hasher->needs);
+  if (status == SCRYPT_OK) DEFAULT(at_once, usual_at_once(with, &hasher->needs));
+  return status;
 }
 
 scrypt_hasher *scrypt_hasher_new(const scrypt_options *options, int *status) {

@@ -302,7 +302,8 @@ typedef struct scrypt_options {
   size_t most_bytes;        /* what the buffers for one hash may need, as in scrypt_hash_needs: SCRYPT_MOST_BYTES, or what */
   uint64_t most_work;       /* a new hash needs if that is more; and SCRYPT_MOST_WORK, or that of a new hash */
   size_t least_key_len;     /* of a hash that is verified: SCRYPT_LEAST_KEY_LEN, or key_len if that is less */
-  size_t at_once;           /* how many tables may exist at a time: two for each processor */
+  size_t at_once;           /* how many tables may exist at a time: two for each processor, or as many of most_bytes as fit */
+                            /* into 7/8 of the memory of the machine and of its control group, but one at least */
   size_t processors;        /* how many derive at a time: those that this process may use, by its affinity and CPU quota */
 } scrypt_options;
 

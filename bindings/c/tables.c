@@ -22,8 +22,7 @@ void *map_zeros_in_child(size_t size) {
   return NULL;
 }
 
-/* The bytes of one derivation's buffers. They are within a bound, so that the sum doesn't overflow. */
-static size_t table_bytes(const scrypt_needs *one) { return 4 * (one->table_len + one->scratch_len) + one->chunks_len; }
+size_t table_bytes(const scrypt_needs *one) { return 4 * (one->table_len + one->scratch_len) + one->chunks_len; }
 
 #define MOST_OF_SEVERAL ((size_t)128 << 20)
 #define LEAST_OF_SEVERAL ((size_t)64 << 10)

@@ -23,6 +23,9 @@ struct tables {
   size_t skipped; /* how often it wasn't */
 };
 
+/* The bytes of one derivation's buffers. They are within a bound, so that the sum doesn't overflow. */
+size_t table_bytes(const scrypt_needs *one);
+
 /* How many tables pay for one key with these parameters, and what each needs: as many as p, if they are not tiny and take at
  * most 128 MiB together; otherwise 1. Then the needs are not written if there are no such buffers. */
 size_t tables_for_key(uint32_t log_n, uint32_t r, uint32_t p, scrypt_needs *needs);

@@ -239,6 +239,16 @@ static void many_waits(void) {
 }
 
 /* Files of control groups below a folder of this test, in place of the system's. */
+static void set_group(const char *line, const char *folder, const char *file) {
+  char command[1024];
+  snprintf(command, sizeof command,
+           "set -e; rm -rf '%s'; g='%s/sys/fs/cgroup%s'; mkdir -p '%s/proc/self' \"$g\"; "
+           "printf '%s\n' > '%s/proc/self/cgroup'; "
+           "set -- %s; f=$1; shift; echo \"$@\" > \"$g/$f\"; echo 100000 > \"$g/cpu.cfs_period_us\"",
+           ROOT, ROOT, folder, ROOT, line, ROOT, file);
+  IS(system(command), 0);
+}
+
 static void processors(void) {
   static const struct { const char *line, *folder, *quota; size_t count; } GROUPS[] = {
       {"0::/a/b", "/a/b", "cpu.max max 100000", 64},
@@ -253,14 +263,32 @@ static void processors(void) {
   cpu_set_t set;
   size_t all = sched_getaffinity(0, sizeof set, &set) == 0 ? (size_t)CPU_COUNT(&set) : 1;
   for (size_t i = 0; i < sizeof GROUPS / sizeof GROUPS[0]; i++) {
-    char command[1024];
-    snprintf(command, sizeof command,
-             "set -e; rm -rf '%s'; g='%s/sys/fs/cgroup%s'; mkdir -p '%s/proc/self' \"$g\"; "
-             "printf '%s\n' > '%s/proc/self/cgroup'; "
-             "set -- %s; f=$1; shift; echo \"$@\" > \"$g/$f\"; echo 100000 > \"$g/cpu.cfs_period_us\"",
-             ROOT, ROOT, GROUPS[i].folder, ROOT, GROUPS[i].line, ROOT, GROUPS[i].quota);
-    IS(system(command), 0);
+    set_group(GROUPS[i].line, GROUPS[i].folder, GROUPS[i].quota);
     expect(processors_of_process() == (GROUPS[i].count < all ? GROUPS[i].count : all), "%s", GROUPS[i].quota);
+  }
+}
+
+/* How many tables a hasher with 64 processors may have, which its options show. */
+static void memory(void) {
+  static const struct { const char *line, *folder, *most; size_t most_bytes, at_once; } GROUPS[] = {
+      {"0::/a", "/a", "memory.max max", 1, 128},
+      {"0::/a", "/a", "memory.max 1073741824", 0, 3},              /* three of 257 MiB, and the rest of the process */
+      {"0::/a", "/a", "memory.max 1073741824", 129 << 20, 6},      /* or six */
+      {"0::/a", "", "memory.high 1073741824", 0, 3},               /* a group around it */
+      {"0::/a", "/a", "memory.max 268435456", 0, 1},               /* not one of 257 MiB, but one of a new hash */
+      {"0::/a", "/a", "memory.max 1073741824", SIZE_MAX, 6},       /* six of new hashes, as nobody has room for the largest */
+      {"0::/a", "/a", "memory.max 1000", 0, 1},
+      {"9:memory:/m\n4:cpu:/a", "/memory/m", "memory.limit_in_bytes 1073741824", 0, 3},
+      {"9:memory:/m", "/memory/m", "memory.limit_in_bytes 9223372036854771712", 1, 128},
+      {"9:cpu:/m", "/memory/m", "memory.limit_in_bytes 1000", 1, 128}};
+  for (size_t i = 0; i < sizeof GROUPS / sizeof GROUPS[0]; i++) {
+    scrypt_options with = {.size = sizeof with, .most_bytes = GROUPS[i].most_bytes, .processors = 64};
+    scrypt_hasher *hasher;
+    if (with.most_bytes == 1) with.most_bytes = 1 << 14, with.log_n = 4, with.r = 1, with.p = 1;
+    set_group(GROUPS[i].line, GROUPS[i].folder, GROUPS[i].most);
+    hasher = scrypt_hasher_new(&with, NULL);
+    expect(hasher != NULL && scrypt_hasher_options(hasher)->at_once == GROUPS[i].at_once, "%s", GROUPS[i].most);
+    scrypt_hasher_free(hasher);
   }
 }
 
@@ -298,6 +326,7 @@ int main(void) {
   RUN(moments);
   RUN(many_waits);
   RUN(processors);
+  RUN(memory);
   RUN(key_forked);
   RUN(calibrated);
   return failed;

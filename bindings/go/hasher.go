@@ -25,7 +25,8 @@ type Options struct {
 	MCF     bool // whether new hashes are $7$ texts of crypt(3), by default PHC texts
 	SaltLen int  // the length of a new hash's salt, 1 to 64 bytes: by default 16
 
-	// How many tables may exist at the same time: by default two for each processor.
+	// How many tables may exist at the same time: by default two for each processor, or as many of MostBytes as fit into 7/8
+	// of the memory of the machine and of its control group.
 	AtOnce int
 
 	// How many derivations may run at the same time: by default one for each processor that the process may use, by its
@@ -43,7 +44,8 @@ type Options struct {
 // than one after another. While all processors are taken, a derivation waits for others to join it for about 1/256 of its
 // time, and at most 1 ms. No error or context of one affects another.
 //
-// A Hasher holds at most AtOnce tables, whatever P is, and keeps their memory for later calls until Close. Create one with
+// A Hasher holds at most AtOnce tables, whatever P is, and keeps their memory for later calls until Close. A call for which
+// the system has no memory while another one derives waits for it. Create one with
 // NewHasher: on the zero value every method but Close returns ErrClosed.
 type Hasher struct {
 	of *hasher

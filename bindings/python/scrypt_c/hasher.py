@@ -27,8 +27,9 @@ class PasswordHasher:
     processors are taken, a derivation waits for others to join it for about 1/256 of its time, and at most 1 ms. No
     error, timeout or exception of one affects another.
 
-    A hasher holds at most `at_once` tables, whatever p is; the default is two for each processor. It keeps their memory
-    for later calls until `close` or the end of a `with` block.
+    A hasher holds at most `at_once` tables, whatever p is; the default is two for each processor, or as many of
+    `most_bytes` as fit into 7/8 of the memory of the machine and of its control group. It keeps their memory for later calls
+    until `close` or the end of a `with` block. A call for which the system has no memory waits while another one derives.
 
     A hash that needs more than `most_bytes` of memory, or whose `Params.work` is above `most_work`, is refused without
     waiting. By default these are 257 MiB and four times the work of the recommended parameters, or what new hashes need

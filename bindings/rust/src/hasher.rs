@@ -24,7 +24,8 @@ pub struct Options {
     pub format: Format,
     /// The length of the salt of a new hash, 1 to 64 bytes.
     pub salt_len: usize,
-    /// How many tables may exist at the same time. 0, the default, means two for each processor.
+    /// How many tables may exist at the same time. 0, the default, means two for each processor, or as many of the bound on
+    /// bytes as fit into 7/8 of the memory of the machine and of its control group.
     pub at_once: usize,
     /// How many derivations may run at the same time. 0, the default, means one for each processor that the process may
     /// use, by its affinity and its CPU quota.
@@ -49,7 +50,7 @@ impl Default for Options {
 /// another.
 ///
 /// A hasher holds at most [`Options::at_once`] tables, whatever p is, and keeps their memory for later calls until it is
-/// closed or dropped. A hash that needs more than the bounds is refused without waiting, and so is one whose key has fewer
+/// closed or dropped. A call for which the system has no memory waits while another one derives. A hash that needs more than the bounds is refused without waiting, and so is one whose key has fewer
 /// than [`Bounds::LEAST_KEY_LEN`] bytes, or than new keys if that is less.
 ///
 /// After a fork the hasher works in the child too, which has none of the parent's calls and memory.
