@@ -131,6 +131,7 @@ static int complete(scrypt_hasher *hasher) {
   DEFAULT(most_bytes, most_bytes);
   DEFAULT(most_work, most_work);
   DEFAULT(least_key_len, least_key_len);
+  if (with->least_key_len > with->key_len) return SCRYPT_INVALID_PARAMS; /* new hashes would be refused */
   if (with->salt_len > MOST_SALT_LEN) return SCRYPT_SALT_INVALID;
   status = scrypt_params_need(with->log_n, with->r, with->p, with->most_bytes, with->most_work, &hasher->needs);
   if (status == SCRYPT_OK) DEFAULT(at_once, usual_at_once(with, &hasher->needs));
@@ -140,7 +141,7 @@ static int complete(scrypt_hasher *hasher) {
 scrypt_hasher *scrypt_hasher_new(const scrypt_options *options, int *status) {
   static const scrypt_options DEFAULTS = {.size = sizeof DEFAULTS};
   scrypt_hasher *hasher = (scrypt_hasher *)calloc(1, sizeof *hasher);
-  int result = hasher != NULL ? SCRYPT_INVALID_PARAMS : SCRYPT_OUT_OF_MEMORY;
+  int result = hasher != NULL ? SCRYPT_OPTIONS_SIZE : SCRYPT_OUT_OF_MEMORY;
   if (options == NULL) options = &DEFAULTS;
   if (hasher != NULL && options->size == sizeof *options) {
     hasher->options = *options;

@@ -102,7 +102,8 @@ enum scrypt_status {
   SCRYPT_CLOSED = 17,             /* the hasher is closed */
   SCRYPT_TIMEOUT = 18,            /* a hasher did not begin with the call in its time, or before a signal */
   SCRYPT_CANCELLED = 19,          /* this is a child that a signal handler forked during the call */
-  SCRYPT_UNSUPPORTED = 20         /* the system cannot fill memory with zeros in a child: Linux before 4.14 */
+  SCRYPT_UNSUPPORTED = 20,        /* the system cannot fill memory with zeros in a child: Linux before 4.14 */
+  SCRYPT_OPTIONS_SIZE = 21        /* the size in the options of a hasher is not sizeof (scrypt_options) */
 };
 
 /* ---- Keys ---- */
@@ -301,16 +302,16 @@ typedef struct scrypt_options {
   size_t key_len, salt_len; /* of new hashes: 32 and 16 */
   size_t most_bytes;        /* what the buffers for one hash may need, as in scrypt_hash_needs: SCRYPT_MOST_BYTES, or what */
   uint64_t most_work;       /* a new hash needs if that is more; and SCRYPT_MOST_WORK, or that of a new hash */
-  size_t least_key_len;     /* of a hash that is verified: SCRYPT_LEAST_KEY_LEN, or key_len if that is less */
+  size_t least_key_len;     /* of a hash that is verified, at most key_len: SCRYPT_LEAST_KEY_LEN, or key_len if that is less */
   size_t at_once;           /* how many tables may exist at a time: two for each processor, or as many of most_bytes as fit */
                             /* into 7/8 of the memory of the machine and of its control group, but one at least */
   size_t processors;        /* how many derive at a time: those that this process may use, by its affinity and CPU quota */
 } scrypt_options;
 
 /* Creates a hasher; if options is NULL, with the default of each. The caller frees it. If status is not NULL, writes the
- * status there, which is SCRYPT_OK unless the result is NULL. SCRYPT_INVALID_PARAMS (also for size and key_len),
- * SCRYPT_SALT_INVALID for a salt_len above 64, SCRYPT_TOO_COSTLY if new hashes exceed the bounds, SCRYPT_OUT_OF_MEMORY,
- * SCRYPT_UNSUPPORTED. */
+ * status there, which is SCRYPT_OK unless the result is NULL. SCRYPT_OPTIONS_SIZE, SCRYPT_INVALID_PARAMS (also for key_len
+ * and least_key_len), SCRYPT_SALT_INVALID for a salt_len above 64, SCRYPT_TOO_COSTLY if new hashes exceed the bounds,
+ * SCRYPT_OUT_OF_MEMORY, SCRYPT_UNSUPPORTED. */
 SCRYPT_CHECKED
 scrypt_hasher *scrypt_hasher_new(const scrypt_options *options, int *status);
 
@@ -424,6 +425,7 @@ SCRYPT_HELPER const char *scrypt_status_text(int status) {
     case SCRYPT_TIMEOUT: return "the hasher did not begin with it in time";
     case SCRYPT_CANCELLED: return "the process was forked meanwhile";
     case SCRYPT_UNSUPPORTED: return "the system cannot fill memory with zeros in a child process (Linux before 4.14)";
+    case SCRYPT_OPTIONS_SIZE: return "the size in the options of a hasher is not sizeof (scrypt_options)";
     default: return "unknown status";
   }
 }

@@ -9,6 +9,8 @@ static void options(void) {
       {"N in place of log_n", OF(16384, 8, 1, 0, 0, 0, 0, 0, 0), SCRYPT_INVALID_PARAMS},
       {"a key of 9 bytes", OF(4, 8, 1, 0, 9, 0, 0, 0, 0), SCRYPT_INVALID_PARAMS},
       {"a key of 65", OF(4, 8, 1, 0, 65, 0, 0, 0, 0), SCRYPT_INVALID_PARAMS},
+      {"a key that is shorter than allowed", OF(4, 8, 1, 0, 20, 0, 0, 0, 21), SCRYPT_INVALID_PARAMS},
+      {"or as short", OF(4, 8, 1, 0, 20, 0, 0, 0, 20), SCRYPT_OK},
       {"a salt of 65", OF(4, 8, 1, 0, 0, 65, 0, 0, 0), SCRYPT_SALT_INVALID},
       {"too few bytes", OF(14, 8, 1, 0, 0, 0, 1 << 20, 0, 0), SCRYPT_TOO_COSTLY},
       {"too little work", OF(14, 8, 1, 0, 0, 0, 0, 1 << 10, 0), SCRYPT_TOO_COSTLY},
@@ -23,7 +25,7 @@ static void options(void) {
   size_t *older = (size_t *)calloc(1, sizeof *older); /* of a version with fewer options */
   int status = -1;
   IS(scrypt_hasher_new((const scrypt_options *)older, &status), NULL);
-  IS(status, SCRYPT_INVALID_PARAMS);
+  IS(status, SCRYPT_OPTIONS_SIZE);
   free(older);
   scrypt_hasher *hasher = scrypt_hasher_new(NULL, NULL);
   const scrypt_options *with = scrypt_hasher_options(hasher);

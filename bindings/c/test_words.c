@@ -17,17 +17,18 @@ static const struct {
     {SCRYPT_SALT_INVALID, "1 to 64 bytes", "the length of a salt"},
     {SCRYPT_VERSION, "scrypt has none", "a version"},
     {SCRYPT_BUFFER_SIZE, "the text does not fit", "the capacity of scrypt_hash_new"},
+    {SCRYPT_OPTIONS_SIZE, "sizeof (scrypt_options)", "the field that was forgotten"},
 };
 
 int main(void) {
   int status, other;
   size_t i;
-  for (status = SCRYPT_OK; status <= SCRYPT_UNSUPPORTED; status++) {
+  for (status = SCRYPT_OK; status <= SCRYPT_OPTIONS_SIZE; status++) {
     check(strcmp(scrypt_status_text(status), "unknown status") != 0, "the words of a status");
     for (other = SCRYPT_OK; other < status; other++)
       check(strcmp(scrypt_status_text(status), scrypt_status_text(other)) != 0, "words of its own");
   }
-  check(strcmp(scrypt_status_text(SCRYPT_UNSUPPORTED + 1), "unknown status") == 0, "no status");
+  check(strcmp(scrypt_status_text(SCRYPT_OPTIONS_SIZE + 1), "unknown status") == 0, "no status");
   for (i = 0; i < sizeof ALLOWED / sizeof ALLOWED[0]; i++)
     check(strstr(scrypt_status_text(ALLOWED[i].status), ALLOWED[i].words) != NULL, ALLOWED[i].why);
   return failed;

@@ -70,7 +70,7 @@ func TestStatusesOfTheHeader(t *testing.T) {
 		"HASH_PARAMS_INVALID": ErrHashParamsInvalid, "SALT_INVALID": ErrSaltInvalid, "VERSION": ErrVersion,
 		"TOO_COSTLY": ErrTooCostly, "NO_RANDOM_BYTES": ErrNoRandomBytes, "KEY_TOO_SHORT": ErrKeyTooShort,
 		"CLOSED": ErrClosed, "UNSUPPORTED": ErrUnsupported}
-	const noErrors = " OK NEEDS_REHASH BUFFER_SIZE NULL_POINTER TIMEOUT CANCELLED "
+	const noErrors = " OK NEEDS_REHASH BUFFER_SIZE NULL_POINTER TIMEOUT CANCELLED OPTIONS_SIZE "
 	found := regexp.MustCompile(`(?m)^  SCRYPT_(\w+) = (\d+)`).FindAllStringSubmatch(string(header), -1)
 	for _, it := range found {
 		status, _ := strconv.Atoi(it[2])

@@ -63,7 +63,7 @@ class Library(unittest.TestCase):
             statuses = {name: int(number) for name, number in re.findall(r"^  SCRYPT_(\w+) = (\d+)", file.read(), re.M)}
         for name in set(dir(errors)) & set(statuses):
             self.assertEqual(getattr(errors, name), statuses[name], name)
-        for name in ("OK", "NEEDS_REHASH", "BUFFER_SIZE", "NULL_POINTER", "CANCELLED"):
+        for name in ("OK", "NEEDS_REHASH", "BUFFER_SIZE", "NULL_POINTER", "CANCELLED", "OPTIONS_SIZE"):
             del statuses[name]
         self.assertEqual({name: number for number, (_, name, _) in errors.ERRORS.items()},
                          {f"SCRYPT_{name}": number for name, number in statuses.items()})

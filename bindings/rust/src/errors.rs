@@ -216,7 +216,7 @@ mod tests {
             ("CANCELLED", CANCELLED),
             ("UNSUPPORTED", UNSUPPORTED),
         ];
-        let cannot_come = ["BUFFER_SIZE", "NULL_POINTER", "TIMEOUT"];
+        let cannot_come = ["BUFFER_SIZE", "NULL_POINTER", "TIMEOUT", "OPTIONS_SIZE"];
         let header = header();
         let statuses = header.lines().filter_map(|line| {
             let (name, number) = line.strip_prefix("  SCRYPT_")?.split_once(" = ")?;
