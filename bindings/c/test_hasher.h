@@ -12,6 +12,7 @@
 #include <stdlib.h>
 #include <sys/mman.h>
 #include <sys/syscall.h>
+#include <sys/time.h>
 #include <sys/wait.h>
 #include <time.h>
 #include <unistd.h>
@@ -62,6 +63,8 @@ static void read_slowly(void) {
   (void)ADD(reading, -1);
 }
 
+static __thread int group_calls;
+
 #define mmap test_mmap
 #define munmap test_munmap
 #define syscall(...) (before_syscall(__VA_ARGS__), syscall(__VA_ARGS__))
@@ -73,9 +76,11 @@ static void read_slowly(void) {
 #undef derive
 #define scrypt_hash_needs(...) (read_slowly(), scrypt_hash_needs(__VA_ARGS__))
 #define scrypt_draw_salt(...) (read_slowly(), scrypt_draw_salt(__VA_ARGS__))
+#define scrypt_verify_group_with_buffers(...) (group_calls++, scrypt_verify_group_with_buffers(__VA_ARGS__))
 #include "hasher.c"
 #undef scrypt_hash_needs
 #undef scrypt_draw_salt
+#undef scrypt_verify_group_with_buffers
 #include "processors.c"
 #include "tables.c"
 #define scrypt_key key_in_tables
@@ -142,7 +147,9 @@ void watched(const scrypt_hasher *hasher, struct call **group, size_t count, int
   expect(ADD(tables_inside, tables) <= (int)hasher->options.at_once, "too many tables at a time");
   call_hook();
   while (READ(is_stopped) && READ(passed) <= slot) usleep(100);
+  group_calls = 0;
   derive(hasher, group, count, statuses, of);
+  expect(group_calls == (group[0]->login.text != NULL), "a group of %zu is derived by %d calls", count, group_calls);
   (void)ADD(inside, -1), (void)ADD(tables_inside, -tables), (void)ADD(ended, 1);
 }
 

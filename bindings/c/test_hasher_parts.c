@@ -177,6 +177,39 @@ static void interrupted_in_child(void) {
   scrypt_hasher_free(hasher);
 }
 
+/* In the middle of a call no status says that a password is right. */
+static int statuses_of_group[4], is_mid_call, looks;
+static void look_in_handler(int number) {
+  if (number != SIGALRM || !READ(is_mid_call)) return;
+  looks++;
+  for (int i = 0; i < 4; i++) expect(statuses_of_group[i] == 77, "status %d in the middle of the call", statuses_of_group[i]);
+}
+static void statuses_in_mid_call(void) {
+  const struct itimerval often = {{0, 500}, {0, 500}}, never = {{0, 0}, {0, 0}};
+  char text[SCRYPT_PHC_CAPACITY];
+  scrypt_needs needs;
+  struct tables tables = {0};
+  make_text(text, "right", 13, 8, 1);
+  IS(scrypt_hash_needs(text, strlen(text), SIZE_MAX, UINT64_MAX, 0, &needs), SCRYPT_OK);
+  IS(tables_room(&tables, &needs, 4), 4);
+  const struct buffers of = tables_buffers(&tables, &needs, 4, 4);
+  const scrypt_login login = {"right", 5, text, strlen(text)}, logins[4] = {login, login, login, login};
+  for (int i = 0; i < 4; i++) statuses_of_group[i] = 77;
+  handle(SIGALRM, look_in_handler);
+  WRITE(is_mid_call, 1);
+  setitimer(ITIMER_REAL, &often, NULL);
+  int status = scrypt_verify_group_with_buffers(logins, 4, statuses_of_group, of.chunks, of.chunks_len, of.table, of.table_len,
+                                                of.scratch, of.scratch_len);
+  WRITE(is_mid_call, 0);
+  setitimer(ITIMER_REAL, &never, NULL);
+  IS(status, SCRYPT_OK);
+  for (int i = 0; i < 4; i++) IS(statuses_of_group[i], SCRYPT_OK);
+#ifndef __SANITIZE_THREAD__ /* which calls handlers later */
+  expect(looks > 0, "nobody looked");
+#endif
+  tables_free(&tables);
+}
+
 /* Several tables pay for one key if they are not tiny, and take at most 128 MiB. */
 static void tables_of_keys(void) {
   static const struct { uint8_t log_n; uint32_t p; size_t count; } KEYS[] = {
@@ -324,6 +357,7 @@ int main(void) {
   RUN(refused_for_a_while);
   RUN(generations);
   RUN(interrupted_in_child);
+  RUN(statuses_in_mid_call);
   RUN(tables_of_keys);
   RUN(moments);
   RUN(many_waits);
