@@ -41,5 +41,6 @@ __asm__(
     proved_##name arguments;                          \
     clear_registers();                                \
     clear_stack(STACK_##name);                        \
+    __asm__ volatile(""); /* or it is called when the frame here is gone, and clears less */ \
   }
 #include "proved_calls.h"

@@ -60,17 +60,21 @@ static uint32_t *mark_of(const struct tables *tables) { return (uint32_t *)(void
 
 int tables_are_lost(const struct tables *tables) { return __atomic_load_n(mark_of(tables), __ATOMIC_RELAXED) == 0; }
 
+static void wipe(const struct tables *tables) {
+  uint8_t none = 0;
+  if (tables->used > 0)
+    scrypt_wipe(&none, 0, (uint32_t *)(void *)tables->front, tables->used / 4, mark_of(tables), 1);
+}
+
 void tables_unmap(struct tables *tables) {
   if (tables->note != NULL && tables->note->at == tables->mapping) set_note(tables->note, NULL, 0);
-  if (tables->mapping != NULL) (void)munmap(tables->mapping, tables->mapped);
+  if (tables->mapping != NULL && munmap(tables->mapping, tables->mapped) != 0) wipe(tables);
   tables->mapping = NULL;
   tables->room = tables->used = 0;
 }
 
 void tables_free(struct tables *tables) {
-  uint8_t none = 0;
-  if (tables->used > 0)
-    scrypt_wipe(&none, 0, (uint32_t *)(void *)tables->front, tables->used / 4, mark_of(tables), 1);
+  wipe(tables);
   tables_unmap(tables);
 }
 

@@ -44,7 +44,7 @@ int tables_are_lost(const struct tables *tables);
 /* Wipes what was used, and gives it back to the system. */
 void tables_free(struct tables *tables);
 
-/* Gives it back without that: the system wipes what it gives to others. */
+/* Gives it back without that: the system wipes what it gives to others. What it refuses to take is wiped. */
 void tables_unmap(struct tables *tables);
 
 /* Gives back what is mapped there; in a child, except what a call of this thread uses that was interrupted when it forked. */

@@ -53,6 +53,8 @@ is_chosen() {
 python3 bindings/c/abi.py "$lib"
 test -z "$(find "$lib" -type l)" # or the kit, and with it make check, refuses the repository
 release/hardened.sh "$lib/libscrypt_drop_in.so" $shared
+# In tail position its return address would be higher, and it would clear less than was measured.
+if objdump -d "$lib/libscrypt_c.so.0" | grep -E '[[:space:]](jmp|b)[[:space:]].*<clear_stack>'; then exit 1; fi
 echo "bound to themselves, when they are loaded, and read-only then, with stack protection: the shared libraries"
 python3 bindings/version.py --check
 each "$built" short_tests

@@ -97,10 +97,12 @@ static __thread int group_calls;
 #undef most_at_once
 
 /* What is given back is zeros, except for the queue, and the tables of scrypt_key, which the system wipes. */
-static int is_wiped_by_system;
+static int is_wiped_by_system, refuses_munmap;
+static size_t *refused;
 static int test_munmap(void *at, size_t size) {
   size_t words = size / sizeof(size_t);
   if (size != sizeof(struct queue)) read_slowly();
+  if (refuses_munmap) return (void)(refused = (size_t *)at), errno = ENOMEM, -1;
   while (words > 0 && ((size_t *)at)[words - 1] == 0) words--;
   expect(words == 0 || size == sizeof(struct queue) || is_wiped_by_system, "memory is given back that is not wiped");
   (void)ADD(mapped, -size);

@@ -338,6 +338,17 @@ static void key_forked(void) {
   is_wiped_by_system = 0;
 }
 
+/* The tables of a key that the system doesn't take back. */
+static void key_not_unmapped(void) {
+  uint8_t key[32];
+  size_t before = READ(mapped), size;
+  refuses_munmap = 1;
+  IS(key_in_tables("pw", 2, "salt", 4, 10, 8, 4, key, 32), SCRYPT_OK);
+  refuses_munmap = 0;
+  size = READ(mapped) - before;
+  IS(test_munmap(refused, size), 0);
+}
+
 static void calibrated(void) {
   uint32_t log_n = 0, r = 0, p = 0;
   IS(scrypt_calibrate(0.02, (size_t)64 << 20, NULL, &r, &p), SCRYPT_NULL_POINTER);
@@ -364,6 +375,7 @@ int main(void) {
   RUN(processors);
   RUN(memory);
   RUN(key_forked);
+  RUN(key_not_unmapped);
   RUN(calibrated);
   return failed;
 }

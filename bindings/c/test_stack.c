@@ -122,6 +122,18 @@ static void drawn_texts(void) {
   scrypt_hasher_free(hasher);
 }
 
+/* A register that no call has to keep: no letter of a hash is in it. */
+static void check_register(const char *name, int (*call)(void)) {
+#ifdef __x86_64__
+  uint64_t rcx = 0;
+  check(call() == SCRYPT_OK, name);
+  __asm__ volatile("mov %%rcx, %0" : "=m"(rcx));
+  check(rcx == 0, name);
+#else
+  (void)name, (void)call;
+#endif
+}
+
 static void all_calls(const struct traces_case *of) {
   size_t i;
   the = of;
@@ -129,6 +141,7 @@ static void all_calls(const struct traces_case *of) {
   for (i = 0; i < sizeof CALLS / sizeof *CALLS; i++) {
     if (CALLS[i].library != NULL && *CALLS[i].library == NULL) continue;
     check_stack(CALLS[i].name, CALLS[i].call, 1);
+    if (CALLS[i].call == hash_phc || CALLS[i].call == hash_mcf) check_register(CALLS[i].name, CALLS[i].call);
     check(holds_in_a_child(fits_its_stack, CALLS[i].call), CALLS[i].name);
     check(holds_in_a_child(works_on_a_small_thread, CALLS[i].call), CALLS[i].name);
   }
