@@ -1,4 +1,6 @@
-/* How many processors and how much memory this process may use. Not proved. */
+/* How many processors and how much memory this process may use. Not proved. Without _FORTIFY_SOURCE, by which snprintf would
+ * be a function that musl doesn't have. */
+#undef _FORTIFY_SOURCE
 #define _GNU_SOURCE
 #include "groups.h"
 

@@ -134,6 +134,14 @@ if has clang clang; then calls clang -std=c99; fi
 if has g++ g++; then calls g++ "-std=c++11 -x c++"; fi
 if has clang++ clang; then calls clang++ "-std=c++11 -x c++"; fi
 
+# The static library has no symbols of glibc alone.
+if has musl-gcc musl-tools; then
+  musl-gcc -std=c99 -O2 -Wall -Wextra -Werror -I"$lib" -DPROCESSOR="\"$newest\"" bindings/c/test.c -o "$room/musl" \
+    "$lib/libscrypt_c.a"
+  "$room/musl"
+  echo "called by: musl-gcc, with musl"
+fi
+
 # on CPU PROCESSOR OPTIONS.. builds the test for the code of a processor, and runs it on one that Debian's emulator has.
 on() {
   cpu=$1 processor=$2
