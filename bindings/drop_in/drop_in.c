@@ -31,29 +31,45 @@ static int overlap(const uint8_t *a, size_t a_len, const uint8_t *b, size_t b_le
   return a_len > 0 && b_len > 0 && (uintptr_t)a < (uintptr_t)b + b_len && (uintptr_t)b < (uintptr_t)a + a_len;
 }
 
-/* The buffers that this thread keeps for a key, in as many tables as pay or fewer; of no length if it keeps none. A derivation
- * in them is made again if they are lost. */
-static struct buffers kept_for(uint8_t log_n, uint32_t r, uint32_t p) {
-  struct buffers none = {NULL, NULL, NULL, 0, 0, 0};
-  scrypt_needs needs = {0, 0, 0, 0, 0, 0, 0, 0};
-  struct tables *kept = kept_tables();
-  size_t count = tables_for_key(log_n, r, p, &needs);
-  count = kept != NULL && needs.table_len > 0 ? tables_room(kept, &needs, count) : 0;
-  return count > 0 ? tables_buffers(kept, &needs, count, 1) : none;
+/* The memory of a call: one table, as the libraries of these names have, and not more that might not be there. What its thread
+ * keeps, or, for p of 2 or more, of this call; with p of 1 the calls of this library have one table themselves. A derivation
+ * in it is made again if it is lost. */
+struct memory {
+  struct tables *tables, of_call; /* NULL if there is none */
+};
+
+static void begin(struct memory *it, uint32_t p) {
+  memset(it, 0, sizeof *it);
+  it->tables = kept_take();
+  if (it->tables == NULL && p > 1) it->tables = &it->of_call;
 }
 
-static int are_lost(void) { return tables_are_lost(kept_tables()); }
+/* Buffers of no length if there is no room. */
+static struct buffers room(struct memory *it, uint32_t log_n, uint32_t r, uint32_t p) {
+  struct buffers none = {NULL, NULL, NULL, 0, 0, 0};
+  scrypt_needs needs;
+  if (it->tables == NULL || scrypt_params_need(log_n, r, p, SIZE_MAX, UINT64_MAX, &needs) != SCRYPT_OK) return none;
+  return tables_room(it->tables, &needs, 1) > 0 ? tables_buffers(it->tables, &needs, 1, 1) : none;
+}
+
+static int end(struct memory *it, int status) {
+  if (it->tables != NULL && it->tables != &it->of_call) kept_give(it->tables);
+  tables_unmap(&it->of_call);
+  return status;
+}
 
 static int derive_in_memory(const uint8_t *password, size_t password_len, const uint8_t *salt, size_t salt_len,
                             uint8_t log_n, uint32_t r, uint32_t p, uint8_t *output, size_t output_len) {
+  struct memory it;
   int status;
+  begin(&it, p);
   do {
-    struct buffers of = kept_for(log_n, r, p);
+    struct buffers of = room(&it, log_n, r, p);
     if (of.table_len == 0)
-      return scrypt_key(password, password_len, salt, salt_len, log_n, r, p, output, output_len);
+      return end(&it, scrypt_key(password, password_len, salt, salt_len, log_n, r, p, output, output_len));
     status = key_in_buffers(password, password_len, salt, salt_len, log_n, r, p, output, output_len, &of);
-  } while (are_lost());
-  return status;
+  } while (tables_are_lost(it.tables));
+  return end(&it, status);
 }
 
 /* The key, if the parameters are within the limits of these libraries, which take an output of 0 bytes, and one that
@@ -156,15 +172,17 @@ static int has_costs(const char *text) {
 
 static int hash_in_memory(const char *password, size_t password_len, const uint8_t salt[SALT_LEN], uint8_t log_n,
                           uint32_t r, uint32_t p, char text[TEXT_LEN + 1]) {
+  struct memory it;
   int status;
+  begin(&it, p);
   do {
-    struct buffers of = kept_for(log_n, r, p);
+    struct buffers of = room(&it, log_n, r, p);
     if (of.table_len == 0)
-      return scrypt_hash_mcf(password, password_len, salt, SALT_LEN, log_n, r, p, KEY_LEN, text, TEXT_LEN + 1);
+      return end(&it, scrypt_hash_mcf(password, password_len, salt, SALT_LEN, log_n, r, p, KEY_LEN, text, TEXT_LEN + 1));
     status = scrypt_hash_mcf_with_buffers(password, password_len, salt, SALT_LEN, log_n, r, p, KEY_LEN, text, TEXT_LEN + 1,
                                           of.chunks, of.chunks_len, of.table, of.table_len, of.scratch, of.scratch_len);
-  } while (are_lost());
-  return status;
+  } while (tables_are_lost(it.tables));
+  return end(&it, status);
 }
 
 API int crypto_pwhash_scryptsalsa208sha256_str(char text[TEXT_LEN + 1], const char *password,
@@ -185,16 +203,18 @@ API int crypto_pwhash_scryptsalsa208sha256_str(char text[TEXT_LEN + 1], const ch
 }
 
 static int verify_in_memory(const char *password, size_t password_len, const char *text) {
-  uint32_t log_n = 0, r = 0, p = 0; /* for which nothing is kept, if the text cannot be read */
+  uint32_t log_n = 0, r = 0, p = 0; /* for which there is no room, if the text cannot be read */
   size_t key_len;
+  struct memory it;
   int status = scrypt_hash_params(text, TEXT_LEN, &log_n, &r, &p, &key_len);
+  begin(&it, p);
   do {
-    struct buffers of = kept_for(log_n, r, p);
-    if (of.table_len == 0) return scrypt_verify(password, password_len, text, TEXT_LEN);
+    struct buffers of = room(&it, log_n, r, p);
+    if (of.table_len == 0) return end(&it, scrypt_verify(password, password_len, text, TEXT_LEN));
     status = scrypt_verify_with_buffers(password, password_len, text, TEXT_LEN, of.chunks, of.chunks_len, of.table,
                                         of.table_len, of.scratch, of.scratch_len);
-  } while (are_lost());
-  return status;
+  } while (tables_are_lost(it.tables));
+  return end(&it, status);
 }
 
 API int crypto_pwhash_scryptsalsa208sha256_str_verify(const char text[TEXT_LEN + 1], const char *password,

@@ -3,6 +3,7 @@
 #include "kept.h"
 
 #include <pthread.h>
+#include <signal.h>
 #include <stdlib.h>
 #include <string.h>
 
@@ -10,23 +11,38 @@ static pthread_once_t once = PTHREAD_ONCE_INIT;
 static pthread_key_t key;
 static int is_kept = 0;
 
-static void free_tables(void *tables) {
-  tables_free((struct tables *)tables);
-  free(tables);
+/* A signal handler that derives while its thread does must not have the same tables. */
+struct kept {
+  struct tables tables;
+  volatile sig_atomic_t is_taken;
+};
+
+static void free_kept(void *kept) {
+  tables_free(&((struct kept *)kept)->tables);
+  free(kept);
 }
 
 static void read_environment(void) {
   const char *asked = secure_getenv("SCRYPT_KEEP_MEMORY");
-  is_kept = asked != NULL && strcmp(asked, "1") == 0 && pthread_key_create(&key, free_tables) == 0;
+  is_kept = asked != NULL && strcmp(asked, "1") == 0 && pthread_key_create(&key, free_kept) == 0;
 }
 
-struct tables *kept_tables(void) {
-  struct tables *tables;
+static struct kept *of_thread(void) {
+  struct kept *kept;
   if (pthread_once(&once, read_environment) != 0 || !is_kept) return NULL;
-  tables = pthread_getspecific(key);
-  if (tables != NULL) return tables;
-  tables = calloc(1, sizeof *tables);
-  if (tables != NULL && pthread_setspecific(key, tables) == 0) return tables;
-  free(tables);
+  kept = pthread_getspecific(key);
+  if (kept != NULL) return kept;
+  kept = calloc(1, sizeof *kept);
+  if (kept != NULL && pthread_setspecific(key, kept) == 0) return kept;
+  free(kept);
   return NULL;
 }
+
+struct tables *kept_take(void) {
+  struct kept *kept = of_thread();
+  if (kept == NULL || kept->is_taken) return NULL;
+  kept->is_taken = 1;
+  return &kept->tables;
+}
+
+void kept_give(struct tables *tables) { ((struct kept *)tables)->is_taken = 0; }

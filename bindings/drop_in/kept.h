@@ -4,8 +4,9 @@
 
 #include "tables.h"
 
-/* The tables of this thread, or NULL if the environment doesn't ask for any, or the system refuses them. They are wiped and
- * unmapped when the thread ends. */
-struct tables *kept_tables(void);
+/* Takes the tables of this thread; NULL if the environment doesn't ask for any, if the system refuses them, or if a call that
+ * a signal handler interrupted has taken them. They are wiped and unmapped when the thread ends. */
+struct tables *kept_take(void);
+void kept_give(struct tables *tables);
 
 #endif

@@ -282,7 +282,38 @@ def forked():
     assert len(children) > 10 and not any(children), children
 
 
-for test in (keys, overlapping, choices, limits, texts, nulls, kept, forked):
+def derived_in_a_handler():
+    """A signal handler that derives during a call of its own thread changes neither key."""
+    outer, inner = (b"pw", b"salt", 1 << 13, 8, 4, 64), (b"other", b"salt", 1 << 12, 8, 4, 64)
+    keys = [by_costs(ours, "crypto_scrypt", *costs) for costs in (outer, inner)]
+    seen = []
+    derive = ctypes.CFUNCTYPE(None, ctypes.c_int)(lambda _: seen.append(by_costs(ours, "crypto_scrypt", *inner)))
+    ctypes.CDLL(None).signal(signal.SIGALRM, derive)
+    for at in range(1, 9):
+        signal.setitimer(signal.ITIMER_REAL, at / 400)
+        assert by_costs(ours, "crypto_scrypt", *outer) == keys[0], "a key that a handler changed"
+    signal.setitimer(signal.ITIMER_REAL, 0)
+    ctypes.CDLL(None).signal(signal.SIGALRM, None)
+    assert len(seen) > 4 and all(it == keys[1] for it in seen), "a key of a handler"
+
+
+def one_table():
+    """As the libraries of these names, each call has one table, whatever p is."""
+    text = text_of(14, 8, 4)
+    for name, derive in (
+        ("crypto_scrypt", lambda: by_costs(ours, "crypto_scrypt", b"pw", b"salt", 1 << 14, 8, 4, 64)[0] == 0),
+        ("to verify", lambda: verified(ours, text, b"pw")),
+    ):
+        child = os.fork()
+        if child == 0:
+            before = resource.getrusage(resource.RUSAGE_SELF).ru_maxrss
+            is_right = derive()
+            os._exit(min(255, (resource.getrusage(resource.RUSAGE_SELF).ru_maxrss - before) >> 10) if is_right else 255)
+        mib = os.waitstatus_to_exitcode(os.waitpid(child, 0)[1])
+        assert mib < 24, f"{name}: {mib} MiB for a table of 16"
+
+
+for test in (keys, overlapping, choices, limits, texts, nulls, kept, forked, derived_in_a_handler, one_table):
     test()
 for name, theirs, package in [
     (PWHASH, sodium, "libsodium23"),
