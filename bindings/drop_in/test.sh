@@ -19,6 +19,9 @@ traced() {
 
 nm -D --defined-only "$ours" | awk '{ print $3 }' | sort > "$room/drop_in_names"
 diff bindings/drop_in/symbols "$room/drop_in_names"
+while read -r name; do
+  grep -q "\`$name\`" bindings/README.md || { echo "bindings/README.md does not name $name" >&2; exit 1; }
+done < bindings/drop_in/symbols
 echo "exported: the documented drop-in names, and no other"
 if has objdump binutils; then
   needed=$(objdump -T "$ours" | grep -o 'GLIBC_[0-9.]*' | sort -Vu | tail -n 1)
