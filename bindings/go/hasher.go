@@ -9,6 +9,7 @@ import (
 	"context"
 	"fmt"
 	"runtime"
+	"sync/atomic"
 	"unsafe"
 )
 
@@ -55,6 +56,8 @@ type Hasher struct {
 type hasher struct {
 	c      *C.scrypt_hasher
 	inside chan struct{} // one for each goroutine that waits in C, where it takes a thread of the system
+	calls  atomic.Int64  // how many wait or derive
+	ended  atomic.Uint64 // how many waits ended with their context
 }
 
 // NewHasher returns a Hasher. Its errors name the options, and match (errors.Is) ErrInvalidParams, ErrSaltInvalid,
@@ -96,6 +99,40 @@ func NewHasher(options Options) (*Hasher, error) {
 	of.inside = make(chan struct{}, 8*derive)
 	runtime.SetFinalizer(of, func(of *hasher) { C.scrypt_hasher_free(of.c) })
 	return &Hasher{of}, nil
+}
+
+// Options returns the options of the Hasher, each default replaced by its value; those of the zero value are zero.
+func (h *Hasher) Options() Options {
+	if h.of == nil {
+		return Options{}
+	}
+	defer runtime.KeepAlive(h.of)
+	with := C.scrypt_hasher_options(h.of.c)
+	return Options{
+		Params:  Params{LogN: int(with.log_n), R: int(with.r), P: int(with.p), KeyLen: int(with.key_len)},
+		MCF:     with.mcf != 0,
+		SaltLen: int(with.salt_len), AtOnce: int(with.at_once), Processors: int(with.processors),
+		MostBytes: uint64(with.most_bytes), MostWork: uint64(with.most_work),
+	}
+}
+
+// Stats are what a Hasher does; in a child process, since the fork.
+type Stats struct {
+	Waiting, Deriving int    // how many calls wait for a processor, and derive, now
+	Refused           uint64 // how many found no memory until now, or waited until their context ended
+}
+
+// Stats returns what the Hasher does now, for metrics; that of the zero value is zero.
+func (h *Hasher) Stats() Stats {
+	var now C.scrypt_stats
+	if h.of == nil || C.scrypt_hasher_stats(h.of.c, &now) != C.SCRYPT_OK {
+		return Stats{}
+	}
+	waiting := h.of.calls.Load() - int64(now.deriving) // also those that are not in C
+	if waiting < 0 {
+		waiting = 0
+	}
+	return Stats{int(waiting), int(now.deriving), uint64(now.refused) + h.of.ended.Load()}
 }
 
 // Close frees the memory that the Hasher keeps; the memory of a running derivation is freed when it ends. Calls that wait,
@@ -190,7 +227,8 @@ func (h *Hasher) run(ctx context.Context, call func(ms int64, place *uint64) Err
 	if h.of == nil {
 		return ErrClosed
 	}
-	defer runtime.KeepAlive(h.of)
+	defer h.of.calls.Add(-1) // which also keeps it alive
+	h.of.calls.Add(1)
 	if err := ctx.Err(); err != nil {
 		return err
 	}
@@ -206,6 +244,7 @@ func (h *Hasher) run(ctx context.Context, call func(ms int64, place *uint64) Err
 	}
 	for status == C.SCRYPT_TIMEOUT {
 		if err := ctx.Err(); err != nil {
+			h.of.ended.Add(1)
 			return err
 		}
 		status = call(sliceMs, &place)

@@ -4,6 +4,7 @@ import (
 	"context"
 	"errors"
 	"math"
+	"runtime"
 	"strings"
 	"testing"
 )
@@ -91,6 +92,23 @@ func TestRefusedOptions(t *testing.T) {
 		if (hasher != nil) != (err == nil) || !errors.Is(err, it.want) || err != nil && !strings.Contains(err.Error(), it.words) {
 			t.Errorf("%s: %v", it.words, err)
 		}
+	}
+}
+
+// Each default is replaced by its value.
+func TestOptions(t *testing.T) {
+	usual := newHasher(t, Options{}).Options()
+	want := Options{Params: Recommended(), SaltLen: 16, AtOnce: usual.AtOnce, Processors: usual.Processors, MostBytes: MostBytes,
+		MostWork: MostWork}
+	if usual != want || usual.AtOnce < 1 || usual.AtOnce > 2*usual.Processors || usual.Processors > runtime.NumCPU() {
+		t.Errorf("%+v", usual)
+	}
+	given := Options{Params: Params{5, 3, 2, 20}, MCF: true, SaltLen: 64, AtOnce: 3, Processors: 2, MostBytes: 1 << 20, MostWork: 1 << 16}
+	if got := newHasher(t, given).Options(); got != given {
+		t.Errorf("%+v", got)
+	}
+	if got := new(Hasher).Options(); got != (Options{}) {
+		t.Errorf("%+v", got)
 	}
 }
 

@@ -122,6 +122,38 @@ func TestAtAnyTime(t *testing.T) {
 	}
 }
 
+// Calls that wait and derive, and contexts that end meanwhile.
+func TestStats(t *testing.T) {
+	hasher := newHasher(t, Options{Params: small(), AtOnce: 1, MostWork: 4 * MostWork})
+	ended := make(chan error)
+	go func() { ended <- hasher.Verify(context.Background(), "$scrypt$ln=17,r=8,p=4"+shortKey+"AA", nil) }()
+	for hasher.Stats() != (Stats{Deriving: 1}) {
+		time.Sleep(time.Millisecond)
+	}
+	ctx, cancel := context.WithCancel(context.Background())
+	for i := 0; i < 20; i++ {
+		go func() { ended <- hasher.Verify(ctx, noHash, nil) }()
+	}
+	for hasher.Stats() != (Stats{Waiting: 20, Deriving: 1}) {
+		time.Sleep(time.Millisecond)
+	}
+	cancel()
+	for i := 0; i < 20; i++ {
+		if err := <-ended; err != context.Canceled {
+			t.Error(err)
+		}
+	}
+	if now := hasher.Stats(); now != (Stats{Deriving: 1, Refused: 20}) {
+		t.Errorf("%+v", now)
+	}
+	if err, now := <-ended, hasher.Stats(); err != ErrMismatch || now != (Stats{Refused: 20}) {
+		t.Errorf("%v, %+v", err, now)
+	}
+	if now := new(Hasher).Stats(); now != (Stats{}) {
+		t.Errorf("%+v", now)
+	}
+}
+
 // Options that mean no bound: neither do they overflow, nor may a goroutine never wait in C, nor too many.
 func TestManyProcessors(t *testing.T) {
 	for _, n := range []int{511, 512, 513, 1 << 60, 1 << 61, math.MaxInt64} {

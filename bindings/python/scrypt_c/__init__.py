@@ -33,7 +33,7 @@ from .errors import (
     TooCostlyError,
     VerifyMismatchError,
 )
-from .hasher import PasswordHasher
+from .hasher import Options, PasswordHasher, Stats
 from .key import scrypt
 from .params import LEAST_KEY_LEN, MOST_BYTES, MOST_WORK, RECOMMENDED, Params, params_of
 
@@ -50,10 +50,12 @@ __all__ = [
     "InvalidParamsError",
     "InvalidSaltError",
     "KeyTooShortError",
+    "Options",
     "Params",
     "Password",
     "PasswordHasher",
     "ScryptError",
+    "Stats",
     "TooCostlyError",
     "VerifyMismatchError",
     "calibrate",

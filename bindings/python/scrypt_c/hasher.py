@@ -8,7 +8,7 @@ import math
 import os
 import threading
 import time
-from typing import Any, Callable, Literal, Optional, Union
+from typing import Any, Callable, Literal, NamedTuple, Optional, Union
 
 from . import library
 from .arguments import Bytes, Password, in_64_bits, number, raw_bytes, raw_password, raw_text, seconds
@@ -16,6 +16,27 @@ from .errors import CANCELLED, KEY_TOO_SHORT, NEEDS_REHASH, SALT_INVALID, TIMEOU
 from .params import Params, accepted, check_costs, params_of
 
 _SLICE_MS = 50
+
+
+class Options(NamedTuple):
+    """The options of a hasher, each default replaced by its value."""
+
+    mcf: bool
+    salt_len: int
+    most_bytes: int
+    most_work: int
+    least_key_len: int
+    at_once: int
+    processors: int
+
+
+class Stats(NamedTuple):
+    """How many calls wait and derive now, and how many were refused until now, as there was no memory or no turn in time. In
+    a child process, since the fork."""
+
+    waiting: int
+    deriving: int
+    refused: int
 
 
 class PasswordHasher:
@@ -67,6 +88,7 @@ class PasswordHasher:
         options = library.Options(ctypes.sizeof(library.Options), *self._params[:3], bool(mcf), *lens, **given)
         status = ctypes.c_int()
         self._c = library.hasher_new(options, status)
+        self._refused = 0  # how many waits of the main thread ended, whose slices the library does not count
         check_costs(status.value, self._params, most_bytes, most_work)
 
     @property
@@ -75,13 +97,20 @@ class PasswordHasher:
         return self._params
 
     @property
-    def _in_use(self) -> library.Options:
-        """The options, with each default replaced by its value."""
-        return library.hasher_options(self._c).contents
+    def options(self) -> Options:
+        """The options, each default replaced by its value."""
+        it = library.hasher_options(self._c).contents
+        return Options(bool(it.mcf), *(getattr(it, name) for name in Options._fields[1:]))
+
+    def stats(self) -> Stats:
+        """What the hasher does now, for metrics."""
+        it = library.Stats()
+        check(library.hasher_stats(self._c, it))
+        return Stats(it.waiting, it.deriving, it.refused + self._refused)
 
     def __repr__(self) -> str:
         log_n, r, p, key_len = self._params
-        options = f"mcf={self._options['mcf']}, at_once={self._in_use.at_once}"
+        options = f"mcf={self.options.mcf}, at_once={self.options.at_once}"
         return f"PasswordHasher(log_n={log_n}, r={r}, p={p}, key_len={key_len}, {options})"
 
     def __reduce__(self) -> tuple[Callable[..., PasswordHasher], tuple[int, ...]]:
@@ -141,6 +170,7 @@ class PasswordHasher:
             left_ms = max(0, math.ceil(1000 * (end - time.monotonic())))
             status = call(self._c, *arguments, min(left_ms, _SLICE_MS) if is_main else left_ms, place)
             if status != CANCELLED and (status != TIMEOUT or time.monotonic() >= end):
+                self._refused += is_main and status == TIMEOUT
                 return status
 
     def _check(self, status: int, params: Params) -> None:
@@ -148,5 +178,5 @@ class PasswordHasher:
         if status == TIMEOUT:
             check(status, f"timeout={self._timeout}")
         if status == KEY_TOO_SHORT:
-            check(status, f"its length is {params.key_len}, and at least {self._in_use.least_key_len} is required")
-        check_costs(status, params, self._in_use.most_bytes, self._in_use.most_work)
+            check(status, f"its length is {params.key_len}, and at least {self.options.least_key_len} is required")
+        check_costs(status, params, self.options.most_bytes, self.options.most_work)

@@ -60,6 +60,12 @@ class Options(ctypes.Structure):
     ]
 
 
+class Stats(ctypes.Structure):
+    """A scrypt_stats."""
+
+    _fields_ = [("waiting", ctypes.c_size_t), ("deriving", ctypes.c_size_t), ("refused", ctypes.c_uint64)]
+
+
 class Needs(ctypes.Structure):
     """A scrypt_needs."""
 
@@ -97,6 +103,7 @@ calibrate = _declared("scrypt_calibrate", [ctypes.c_double, ctypes.c_size_t, *_p
 _declared("scrypt_hasher_free", [Hasher], None)
 hasher_new = _declared("scrypt_hasher_new", [ctypes.POINTER(Options), ctypes.POINTER(ctypes.c_int)], Hasher)
 hasher_options = _declared("scrypt_hasher_options", [Hasher], ctypes.POINTER(Options))
+hasher_stats = _declared("scrypt_hasher_stats", [Hasher, ctypes.POINTER(Stats)])
 hasher_verify = _declared("scrypt_hasher_verify", [Hasher, *_bytes, *_bytes, *_wait])
 hasher_hash = _declared("scrypt_hasher_hash", [Hasher, *_bytes, *_bytes, *_bytes, *_wait])
 hasher_key = _declared("scrypt_hasher_key", [Hasher, *_bytes, *_bytes, *_bytes, *_wait])

@@ -1,5 +1,6 @@
 """PasswordHasher: both formats, and types of passwords. test_refused.py has what is refused."""
 
+import os
 import unittest
 
 import scrypt_c
@@ -25,6 +26,16 @@ class Hashes(unittest.TestCase):
             drawn = {hasher.hash("grün") for _ in range(20)}
             self.assertEqual((len(drawn), {len(it) for it in drawn}), (20, {size}))
             self.assertTrue(all(hasher.verify(it, "grün".encode()) for it in drawn))
+
+    def test_options(self):
+        """Each default is replaced by its value."""
+        usual = PasswordHasher().options
+        self.assertTrue(1 <= usual.at_once <= 2 * usual.processors <= 2 * os.cpu_count(), usual)
+        bounds = scrypt_c.MOST_BYTES, scrypt_c.MOST_WORK, scrypt_c.LEAST_KEY_LEN
+        self.assertEqual(usual, (False, 16, *bounds, usual.at_once, usual.processors))
+        given = {"mcf": True, "salt_len": 64, "most_bytes": 1 << 20, "most_work": 1 << 16, "at_once": 3}
+        named = PasswordHasher(log_n=4, key_len=10, **given).options._asdict()
+        self.assertEqual(named, {**given, "least_key_len": 10, "processors": usual.processors})
 
     def test_types_that_lie(self):
         """A subclass of bytes or str is what its buffer has, whatever its methods return."""

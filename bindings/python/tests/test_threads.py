@@ -158,6 +158,21 @@ class Threads(unittest.TestCase):
         del hasher
         self.assertLess(resident() - before, 8 << 10)
 
+    def test_stats(self):
+        """Calls that wait and derive, and those whose time is over: of the main thread, which waits in slices, and of another."""
+        hasher = PasswordHasher(log_n=4, at_once=1, timeout=0.3)
+        self.assertEqual(hasher.stats(), (0, 0, 0))
+        with busy(hasher, 4), ThreadPoolExecutor(1) as threads:
+            before = hasher.stats()
+            other = threads.submit(outcome, hasher, TEXT, "pw")
+            while hasher.stats().waiting == 0:
+                time.sleep(0.001)
+            self.assertEqual(hasher.stats(), (1, 1, before.refused))
+            self.assertEqual([outcome(hasher, TEXT, "pw"), other.result(WAIT)], 2 * [TimeoutError])
+            self.assertEqual(hasher.stats(), (0, 1, before.refused + 2))
+        self.assertEqual(hasher.stats(), (0, 0, before.refused + 2))
+        self.assertEqual(copy.copy(hasher).stats(), (0, 0, 0))
+
     def test_recursion(self):
         """At each depth up to the limit a call raises an error or returns, and afterwards one returns."""
         hasher = PasswordHasher(log_n=4, at_once=1, timeout=WAIT)

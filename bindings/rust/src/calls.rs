@@ -50,6 +50,15 @@ pub struct RawOptions {
     pub processors: usize,
 }
 
+/// `scrypt_stats`.
+#[repr(C)]
+#[derive(Default)]
+pub struct RawStats {
+    pub waiting: usize,
+    pub deriving: usize,
+    pub refused: u64,
+}
+
 /// `scrypt_needs`.
 #[repr(C)]
 #[derive(Default)]
@@ -77,8 +86,8 @@ extern "C" {
     pub fn scrypt_draw_salt(salt: *mut u8, len: usize) -> c_int;
     pub fn scrypt_calibrate(seconds: f64, most_bytes: usize, log_n: *mut u32, r: *mut u32, p: *mut u32) -> c_int;
     pub fn scrypt_hasher_new(options: *const RawOptions, status: *mut c_int) -> *mut RawHasher;
-    #[cfg(test)]
     pub fn scrypt_hasher_options(hasher: *const RawHasher) -> *const RawOptions;
+    pub fn scrypt_hasher_stats(hasher: *mut RawHasher, stats: *mut RawStats) -> c_int;
     pub fn scrypt_hasher_verify(hasher: *mut RawHasher, password: *const c_void, password_len: usize,
         text: *const c_char, text_len: usize, most_ms: i64, place: *mut u64) -> c_int;
     pub fn scrypt_hasher_hash(hasher: *mut RawHasher, password: *const c_void, password_len: usize, salt: *const c_void,

@@ -36,9 +36,26 @@ pub struct Options {
 
 impl Default for Options {
     fn default() -> Options {
-        let (params, format) = (Params::RECOMMENDED, Format::Phc);
-        Options { params, format, salt_len: 16, at_once: 0, processors: 0, bounds: None }
+        Options {
+            params: Params::RECOMMENDED,
+            format: Format::Phc,
+            salt_len: 16,
+            at_once: 0,
+            processors: 0,
+            bounds: None,
+        }
     }
+}
+
+/// What a [`Hasher`] does; in a child process, since the fork.
+#[derive(Clone, Copy, Debug, PartialEq, Eq)]
+pub struct Stats {
+    /// How many calls wait for a processor now.
+    pub waiting: usize,
+    /// How many derive now.
+    pub deriving: usize,
+    /// How many returned `OutOfMemory` or `Timeout` until now.
+    pub refused: u64,
 }
 
 /// Makes password hashes, and verifies passwords against hashes of either format.
@@ -58,7 +75,10 @@ impl Default for Options {
 pub struct Hasher(Arc<Inner>);
 
 #[derive(Debug)]
-struct Inner(NonNull<RawHasher>);
+struct Inner {
+    raw: NonNull<RawHasher>,
+    options: Options,
+}
 
 // SAFETY: any thread may make any call of the library on a hasher, except to free it during another call.
 unsafe impl Send for Inner {}
@@ -67,7 +87,7 @@ unsafe impl Sync for Inner {}
 impl Drop for Inner {
     fn drop(&mut self) {
         // SAFETY: no clone is left, so no call is running, and none follows.
-        unsafe { scrypt_hasher_free(self.0.as_ptr()) }
+        unsafe { scrypt_hasher_free(self.raw.as_ptr()) }
     }
 }
 
@@ -116,13 +136,29 @@ impl Hasher {
         let mut status = OK;
         // SAFETY: both are this function's own, and the options have their size.
         match NonNull::new(unsafe { scrypt_hasher_new(&raw, &mut status) }) {
-            Some(hasher) => Ok(Hasher(Arc::new(Inner(hasher)))),
+            Some(raw) => Ok(Hasher(Arc::new(Inner { raw, options }))),
             None => Err(Error::of(status)),
         }
     }
 
     fn raw(&self) -> *mut RawHasher {
-        self.0 .0.as_ptr()
+        self.0.raw.as_ptr()
+    }
+
+    /// The options, each default replaced by its value.
+    pub fn options(&self) -> Options {
+        // SAFETY: the hasher is there until this returns, and its options do not change.
+        let of = unsafe { &*scrypt_hasher_options(self.raw()) };
+        let bounds = Some(Bounds { most_bytes: of.most_bytes, most_work: of.most_work });
+        Options { at_once: of.at_once, processors: of.processors, bounds, ..self.0.options }
+    }
+
+    /// What the hasher does now, for metrics.
+    pub fn stats(&self) -> Stats {
+        let mut now = RawStats::default();
+        // SAFETY: the hasher is there until this returns, and the place is this function's own; so the status is OK.
+        unsafe { scrypt_hasher_stats(self.raw(), &mut now) };
+        Stats { waiting: now.waiting, deriving: now.deriving, refused: now.refused }
     }
 
     /// The text of a new hash, with a random salt from the system.

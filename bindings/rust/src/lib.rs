@@ -41,7 +41,7 @@ mod traits_0_4;
 pub use algorithm::Scrypt;
 pub use bounds::Bounds;
 pub use errors::{DeriveError, Error, InvalidParams};
-pub use hasher::{Format, Hasher, Options};
+pub use hasher::{Format, Hasher, Options, Stats};
 pub use kdf::{Kdf, Pbkdf};
 pub use params::{calibrate, params_of, Params};
 #[cfg(feature = "password-hash")]

@@ -42,6 +42,25 @@ fn keys() {
     assert_eq!(hasher.key("pw", b"", &mut []), Err(Error::InvalidOutputLen));
 }
 
+/// Each default is replaced by its value.
+#[test]
+fn options() {
+    let usual = Hasher::default().options();
+    let Options { at_once, processors, .. } = usual;
+    assert!((1..=2 * processors).contains(&at_once), "{usual:?}");
+    let bounds = Some(Bounds::USUAL);
+    assert_eq!(usual, Options { at_once, processors, bounds, ..Options::default() });
+    let given = Options {
+        params: Params::new_with_output_len(5, 3, 2, 20).unwrap(),
+        format: Format::Mcf,
+        salt_len: 64,
+        at_once: 3,
+        processors: 2,
+        bounds: Some(Bounds { most_bytes: 1 << 20, most_work: 1 << 16 }),
+    };
+    assert_eq!(Hasher::new(given).unwrap().options(), given);
+}
+
 /// Each bound is passed on as it is, and 0 is not the default.
 #[test]
 fn bounds() {
