@@ -175,6 +175,28 @@ func TestClosedHashers(t *testing.T) {
 	}
 }
 
+// A finalizer of a value that holds a Hasher may use it, and keep it: it is freed only when nothing refers to it.
+func TestFinalizers(t *testing.T) {
+	type login struct{ hasher *Hasher }
+	kept := make(chan *Hasher, 1)
+	it := &login{newHasher(t, Options{Params: small()})}
+	runtime.SetFinalizer(it, func(it *login) {
+		if err := it.hasher.Verify(context.Background(), noHash, nil); err != ErrMismatch {
+			t.Error("in the finalizer:", err)
+		}
+		kept <- it.hasher
+	})
+	it = nil
+	runtime.GC()
+	for hasher := <-kept; hasher != nil; hasher = nil {
+		runtime.GC()
+		if err := hasher.Verify(context.Background(), noHash, nil); err != ErrMismatch {
+			t.Error("kept:", err)
+		}
+	}
+	runtime.GC()
+}
+
 // A Hasher has as many tables as AtOnce, whatever P and Processors are, and they are given back when nothing refers to it.
 func TestMemory(t *testing.T) {
 	hashers := make([]*Hasher, 4)
@@ -186,8 +208,11 @@ func TestMemory(t *testing.T) {
 	runtime.KeepAlive(hashers)
 	hashers = nil
 	runtime.GC()
-	time.Sleep(100 * time.Millisecond)
-	if left := statusKiB(t, "VmRSS"); held > 640<<10 || left > held-192<<10 {
+	left := statusKiB(t, "VmRSS")
+	for until := time.Now().Add(time.Minute); left > held-192<<10 && time.Now().Before(until); left = statusKiB(t, "VmRSS") {
+		time.Sleep(10 * time.Millisecond) // finalizers have a goroutine of their own
+	}
+	if held > 640<<10 || left > held-192<<10 {
 		t.Errorf("4 Hashers with a table of 64 MiB: %d KiB, and %d KiB without them", held, left)
 	}
 }

@@ -4,7 +4,8 @@ from __future__ import annotations
 
 import ctypes
 import os
-from typing import Any
+import sys
+from typing import Any, Optional
 
 SONAME = "libscrypt_c.so.0"
 # Where a folder has the library for x86-64-v3, and what Linux calls the features of that processor beside x86-64-v2.
@@ -83,8 +84,8 @@ class Hasher(ctypes.c_void_p):
         free(self)
 
 
-def _declared(name: str, arguments: list[Any], result: Any = ctypes.c_int) -> Any:
-    call = getattr(_lib, name)
+def _declared(name: str, arguments: list[Any], result: Any = ctypes.c_int, library: ctypes.CDLL = _lib) -> Any:
+    call = getattr(library, name)
     call.argtypes, call.restype = arguments, result
     return call
 
@@ -101,7 +102,7 @@ key = _declared("scrypt_key", [*_bytes, *_bytes, *_params, *_bytes])
 hash_params = _declared("scrypt_hash_params", [*_bytes, *_params_out, _size_out])
 calibrate = _declared("scrypt_calibrate", [ctypes.c_double, ctypes.c_size_t, *_params_out])
 _declared("scrypt_hasher_free", [Hasher], None)
-hasher_new = _declared("scrypt_hasher_new", [ctypes.POINTER(Options), ctypes.POINTER(ctypes.c_int)], Hasher)
+_hasher_new = _declared("scrypt_hasher_new", [ctypes.POINTER(Options), ctypes.POINTER(ctypes.c_int)], Hasher)
 hasher_options = _declared("scrypt_hasher_options", [Hasher], ctypes.POINTER(Options))
 hasher_stats = _declared("scrypt_hasher_stats", [Hasher, ctypes.POINTER(Stats)])
 hasher_verify = _declared("scrypt_hasher_verify", [Hasher, *_bytes, *_bytes, *_wait])
@@ -109,6 +110,19 @@ hasher_hash = _declared("scrypt_hasher_hash", [Hasher, *_bytes, *_bytes, *_bytes
 hasher_key = _declared("scrypt_hasher_key", [Hasher, *_bytes, *_bytes, *_bytes, *_wait])
 hasher_needs_rehash = _declared("scrypt_hasher_needs_rehash", [Hasher, *_bytes])
 hasher_close = _declared("scrypt_hasher_close", [Hasher], None)
+
+if sys.implementation.name == "cpython":
+    _untrack = _declared("PyObject_GC_UnTrack", [ctypes.py_object], None, ctypes.PyDLL(None))
+
+
+def hasher_new(options: Optional[Options], status: Optional[ctypes.c_int]) -> Hasher:
+    """The garbage collector finalizes the objects of a cycle in any order, and would free a hasher that the others still
+    use. It refers to nothing, so the collector need not know it: then it is freed when nothing refers to it."""
+    hasher: Hasher = _hasher_new(options, status)
+    if sys.implementation.name == "cpython":
+        _untrack(hasher)
+    return hasher
+
 
 # As in scrypt_c.h.
 MAX_OUTPUT_LEN = 32 * (2**32 - 1)

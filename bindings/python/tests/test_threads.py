@@ -3,6 +3,7 @@
 import contextlib
 import copy
 import ctypes
+import gc
 import importlib
 import math
 import pickle
@@ -74,6 +75,59 @@ text = hasher.hash("pw")
 for _ in range(8):
     threading.Thread(target=lambda: [hasher.verify(text, "pw") for _ in iter(int, 1)], daemon=True).start()
 time.sleep(random.uniform(0, 0.1))
+print("end")
+"""
+
+# A program whose garbage is a cycle with a hasher, each of which uses it when the collector finalizes it. They are made before
+# and after the hasher, as the collector begins with the oldest.
+FINALIZERS = """
+import asyncio, gc, scrypt_c
+gc.disable()
+text = scrypt_c.PasswordHasher(log_n=4).hash("pw")
+kept = []
+
+class Login:
+    def __del__(self):
+        print(self.hasher.verify(text, "pw"))
+        kept.extend(self.keeps)
+
+def in_a_generator(login):
+    with login.hasher as hasher:
+        try:
+            yield
+        finally:
+            print(hasher.verify(text, "pw"))
+
+async def in_an_async_generator(login):
+    with login.hasher as hasher:
+        try:
+            yield
+        finally:
+            print(hasher.verify(text, "pw"))
+
+def make(keeps):
+    first, hasher, last = Login(), scrypt_c.PasswordHasher(log_n=4), Login()
+    for login in (first, last):
+        login.hasher, login.both, login.keeps = hasher, [first, last], []
+    last.keeps = [last] if keeps else []
+    first.generator = in_a_generator(first)
+    next(first.generator)
+
+async def main():
+    login = Login()
+    login.hasher, login.keeps = scrypt_c.PasswordHasher(log_n=4), []
+    login.generator = in_an_async_generator(login)
+    await login.generator.__anext__()
+    del login
+    gc.collect()
+    await asyncio.sleep(0)
+
+for keeps in (False, True):
+    make(keeps)
+    gc.collect()
+print(kept.pop().hasher.check_needs_rehash(text))
+gc.collect()
+asyncio.run(main())
 print("end")
 """
 
@@ -157,6 +211,13 @@ class Threads(unittest.TestCase):
         self.assertGreater(resident() - before, 60 << 10)
         del hasher
         self.assertLess(resident() - before, 8 << 10)
+
+    def test_finalizers(self):
+        """Whatever the collector finalizes first, a hasher is freed last, also if one of them was kept."""
+        run = subprocess.run([sys.executable, "-c", FINALIZERS], capture_output=True, text=True, timeout=WAIT)
+        wanted = [*6 * ["True"], "False", "True", "True", "end", ""]
+        self.assertEqual((run.stdout.split("\n"), run.stderr, run.returncode), (wanted, "", 0))
+        self.assertFalse(gc.is_tracked(PasswordHasher(log_n=4)._c))
 
     def test_stats(self):
         """Calls that wait and derive, and those whose time is over: of the main thread, which waits in slices, and of another."""

@@ -1,8 +1,10 @@
 //! A hasher that threads share, and child processes.
 
 use scrypt_c::{mcf, phc, DeriveError, Error, Hasher, InvalidParams, Options, Params, Scrypt};
+use std::cell::RefCell;
 use std::os::raw::c_int;
 use std::panic::{catch_unwind, AssertUnwindSafe, RefUnwindSafe, UnwindSafe};
+use std::sync::atomic::{AtomicU32, Ordering};
 use std::thread;
 
 fn with(log_n: u8, p: u32, at_once: usize) -> Hasher {
@@ -48,6 +50,31 @@ fn clones() {
     assert_eq!(clone.key("pw", b"", &mut [0]), Err(Error::Closed));
     assert_eq!(clone.verify("", "pw"), Err(Error::EncodingInvalid), "by its text alone");
     assert_eq!((clone.needs_rehash(&text), other.verify(&text, "pw")), (Ok(false), Ok(())));
+}
+
+/// A hasher is freed last: a value that is dropped, also one of a thread that ends, still uses its own.
+#[test]
+fn drops() {
+    struct Login(Hasher);
+    impl Drop for Login {
+        fn drop(&mut self) {
+            assert_eq!(self.0.verify(NO_HASH, "pw"), Err(Error::PasswordInvalid));
+            VERIFIED.fetch_add(1, Ordering::Relaxed);
+        }
+    }
+    static VERIFIED: AtomicU32 = AtomicU32::new(0);
+    const NO_HASH: &str = "$scrypt$ln=4,r=8,p=1$c2FsdHNhbHQ$AAAAAAAAAAAAAAAAAAAAAA";
+    thread_local!(static OF_THREAD: RefCell<Option<Login>> = const { RefCell::new(None) });
+    let hasher = with(4, 1, 1);
+    let clone = hasher.clone();
+    thread::spawn(|| OF_THREAD.with(|it| *it.borrow_mut() = Some(Login(clone)))).join().unwrap();
+    drop((Login(hasher.clone()), Login(hasher)));
+    let panicked = catch_unwind(|| {
+        let _login = Login(with(4, 1, 1));
+        panic!("on purpose")
+    });
+    assert!(panicked.is_err());
+    assert_eq!(VERIFIED.load(Ordering::Relaxed), 4);
 }
 
 /// How many KiB of this process are in memory.
