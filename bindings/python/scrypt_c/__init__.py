@@ -22,7 +22,7 @@ this package is used, or else the one that the system's loader finds.
 """
 
 from .arguments import Bytes, Password
-from .calibration import calibrate
+from .calibration import Calibrated, calibrate
 from .errors import (
     InvalidHashError,
     InvalidOutputLenError,
@@ -45,6 +45,7 @@ __all__ = [
     "MOST_WORK",
     "RECOMMENDED",
     "Bytes",
+    "Calibrated",
     "InvalidHashError",
     "InvalidOutputLenError",
     "InvalidParamsError",

@@ -73,7 +73,7 @@ ROWS = [
     (TooCostlyError, "even log_n=10, r=8, p=1 take more than 1e-06 seconds", scrypt_c.calibrate, [{"seconds": 1e-6}]),
     (TooCostlyError, "or 524288 bytes", scrypt_c.calibrate, [{"seconds": 1, "most_bytes": 1 << 19}]),
     (TypeError, "seconds is a number of seconds, not str", scrypt_c.calibrate, [{"seconds": "x"}]),
-    (ValueError, "seconds is", scrypt_c.calibrate, [{"seconds": it} for it in (math.inf, 0, -1, math.nan)]),
+    (ValueError, "seconds is", scrypt_c.calibrate, [{"seconds": it} for it in (math.inf, 0, -1, math.nan, 10**400, -(10**400))]),
     (TypeError, "a hash is a str or bytes, not", verify, [{"text": it} for it in (5, None, bytearray(b"$scrypt"))]),
 ]
 
