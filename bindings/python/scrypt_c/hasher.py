@@ -3,7 +3,6 @@
 from __future__ import annotations
 
 import ctypes
-import functools
 import math
 import os
 import threading
@@ -113,9 +112,10 @@ class PasswordHasher:
         options = f"mcf={self.options.mcf}, at_once={self.options.at_once}"
         return f"PasswordHasher(log_n={log_n}, r={r}, p={p}, key_len={key_len}, {options})"
 
-    def __reduce__(self) -> tuple[Callable[..., PasswordHasher], tuple[int, ...]]:
-        """A copy, also in another process, is a new hasher with the same arguments."""
-        return functools.partial(type(self), **self._options), tuple(self._params)
+    def __reduce__(self) -> tuple[Callable[..., PasswordHasher], tuple[Any, ...], dict[str, Any]]:
+        """A copy, also in another process, is a new hasher with the same arguments, and the attributes of a subclass."""
+        attributes = {name: value for name, value in vars(self).items() if name not in ("_c", "_refused")}
+        return _copied, (type(self), self._params, self._options), attributes
 
     def close(self) -> None:
         """Frees the memory that is kept. Derivations that have begun go on; those that wait, and later ones, raise
@@ -180,3 +180,10 @@ class PasswordHasher:
         if status == KEY_TOO_SHORT:
             check(status, f"its length is {params.key_len}, and at least {self.options.least_key_len} is required")
         check_costs(status, params, self.options.most_bytes, self.options.most_work)
+
+
+def _copied(kind: type[PasswordHasher], params: Params, options: dict[str, Any]) -> PasswordHasher:
+    """As for other classes, the `__init__` of a subclass isn't called."""
+    hasher = kind.__new__(kind)
+    PasswordHasher.__init__(hasher, *params, **options)
+    return hasher

@@ -257,11 +257,12 @@ class Processes(unittest.TestCase):
             {"log_n": 4, "r": 3, "p": 2, "key_len": 33, "salt_len": 40, "mcf": True},
             {"log_n": 4, "at_once": 3, "timeout": 0.5, "most_bytes": 1 << 20, "most_work": 1 << 15},
         ]:
-            hasher = Other(**options)
+            hasher = Other("one", **options)
+            hasher.tenants.append("another")
             size = len(hasher.hash("pw"))
             for copied in (pickle.loads(pickle.dumps(hasher)), copy.copy(hasher), copy.deepcopy(hasher)):
                 self.assertEqual((type(copied), repr(copied)), (Other, repr(hasher)))
-                self.assertEqual(*((it.params, it._options, it._timeout) for it in (copied, hasher)))
+                self.assertEqual(*((it.params, it._options, it._timeout, it.tenants) for it in (copied, hasher)))
                 with hasher:
                     pass
                 self.assertRaises(ValueError, hasher.hash, "pw")
@@ -289,7 +290,11 @@ class Processes(unittest.TestCase):
 
 
 class Other(PasswordHasher):
-    """A subclass."""
+    """A subclass with arguments and attributes of its own."""
+
+    def __init__(self, tenant, **options):
+        super().__init__(**options)
+        self.tenants = [tenant]
 
 
 if __name__ == "__main__":
