@@ -163,7 +163,9 @@ class PasswordHasher:
         Python runs the handlers of signals in its main thread, between calls, so that thread waits in slices and comes
         back to its place in line. A call leaves nothing behind: if a handler raises an exception, there is no next one. In
         a child that was forked during a call, it is called again."""
-        is_main = threading.get_native_id() == os.getpid()  # gevent replaces threading.current_thread
+        # By its number in the system, as gevent replaces threading.current_thread. An embedded Python may have another main
+        # thread than the process, and a child of a fork doesn't know the number of its own yet.
+        is_main = threading.get_native_id() in (threading.main_thread().native_id, os.getpid())
         place = ctypes.c_uint64() if is_main else None
         end = time.monotonic() + (threading.TIMEOUT_MAX if self._timeout is None else self._timeout)
         while True:

@@ -6,6 +6,7 @@ import ctypes
 import gc
 import importlib
 import math
+import os
 import pickle
 import random
 import signal
@@ -185,8 +186,8 @@ class Signals(unittest.TestCase):
             waits.append((most_ms, None if place is None else place.value))
             if place is not None:
                 place.value = 7
-            now += most_ms / 1000 if statuses[0] == TIMEOUT else 0
-            return statuses.pop(0)
+            now += most_ms / 1000 if left[0] == TIMEOUT else 0
+            return left.pop(0)
 
         for is_main, timeout, statuses, wanted in [
             (True, 0, [TIMEOUT], [(0, 0)]),
@@ -197,10 +198,12 @@ class Signals(unittest.TestCase):
             (False, None, [CANCELLED, 0], 2 * [(longest, None)]),
             (False, 1e300, [0], [(longest, None)]),
         ]:
-            now, waits, last, hasher = 0.0, [], statuses[-1], PasswordHasher(log_n=4, timeout=timeout)
-            with ThreadPoolExecutor(1) as threads, mock.patch("scrypt_c.hasher.time.monotonic", lambda: now):
-                status = hasher._run(call) if is_main else threads.submit(hasher._run, call).result(WAIT)
-            self.assertEqual((status, waits), (last, wanted))
+            for process in (os.getpid(), 0):  # an embedded Python may have another main thread than the process
+                now, waits, left, hasher = 0.0, [], list(statuses), PasswordHasher(log_n=4, timeout=timeout)
+                with ThreadPoolExecutor(1) as threads, mock.patch("scrypt_c.hasher.time.monotonic", lambda: now), \
+                        mock.patch("scrypt_c.hasher.os.getpid", lambda: process):
+                    status = hasher._run(call) if is_main else threads.submit(hasher._run, call).result(WAIT)
+                self.assertEqual((status, waits), (statuses[-1], wanted))
 
 
 class Threads(unittest.TestCase):
