@@ -11,7 +11,17 @@ from typing import Any, Callable, Literal, NamedTuple, Optional, Union
 
 from . import library
 from .arguments import Bytes, Password, in_64_bits, number, raw_bytes, raw_password, raw_text, seconds
-from .errors import CANCELLED, KEY_TOO_SHORT, NEEDS_REHASH, SALT_INVALID, TIMEOUT, InvalidParamsError, check
+from .errors import (
+    CANCELLED,
+    KEY_TOO_SHORT,
+    NEEDS_REHASH,
+    OUT_OF_MEMORY,
+    SALT_INVALID,
+    TIMEOUT,
+    TOO_COSTLY,
+    InvalidParamsError,
+    check,
+)
 from .params import Params, accepted, check_costs, params_of
 
 _SLICE_MS = 50
@@ -134,8 +144,7 @@ class PasswordHasher:
         given = None if salt is None else raw_bytes(salt, "a salt")
         salt_len = len(given or b"")
         text = ctypes.create_string_buffer(library.text_capacity(salt_len))
-        status = self._run(library.hasher_hash, secret, len(secret), given, salt_len, text, len(text))
-        self._check(status, self._params)
+        self._check(self._run(library.hasher_hash, secret, len(secret), given, salt_len, text, len(text)))
         return text.value.decode("ascii")
 
     def verify(self, text: Union[str, bytes], password: Password) -> Literal[True]:
@@ -144,9 +153,7 @@ class PasswordHasher:
         needs more than the bounds allow, and KeyTooShortError if its key is shorter than they allow. The errors of the
         text alone are raised without waiting."""
         raw, secret = raw_text(text), raw_password(password)
-        status = self._run(library.hasher_verify, secret, len(secret), raw, len(raw))
-        if status != 0:
-            self._check(status, params_of(raw))
+        self._check(self._run(library.hasher_verify, secret, len(secret), raw, len(raw)), raw)
         return True
 
     def check_needs_rehash(self, text: Union[str, bytes]) -> bool:
@@ -175,10 +182,12 @@ class PasswordHasher:
                 self._refused += is_main and status == TIMEOUT
                 return status
 
-    def _check(self, status: int, params: Params) -> None:
-        """Raises the error of a status for a hash with these parameters."""
-        if status == TIMEOUT:
-            check(status, f"timeout={self._timeout}")
+    def _check(self, status: int, text: Optional[bytes] = None) -> None:
+        """Raises the error of a status for this hash, or for a new one. Only a message that has parameters reads the hash."""
+        if status not in (KEY_TOO_SHORT, OUT_OF_MEMORY, TOO_COSTLY):
+            check(status, f"timeout={self._timeout}" if status == TIMEOUT else "")
+            return
+        params = self._params if text is None else params_of(text)
         if status == KEY_TOO_SHORT:
             check(status, f"its length is {params.key_len}, and at least {self.options.least_key_len} is required")
         check_costs(status, params, self.options.most_bytes, self.options.most_work)

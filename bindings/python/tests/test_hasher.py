@@ -2,6 +2,7 @@
 
 import os
 import unittest
+from unittest import mock
 
 import scrypt_c
 from scrypt_c import PasswordHasher
@@ -36,6 +37,15 @@ class Hashes(unittest.TestCase):
         given = {"mcf": True, "salt_len": 64, "most_bytes": 1 << 20, "most_work": 1 << 16, "at_once": 3}
         named = PasswordHasher(log_n=4, key_len=10, **given).options._asdict()
         self.assertEqual(named, {**given, "least_key_len": 10, "processors": usual.processors})
+
+    def test_texts_are_read_once(self):
+        """Only the message of an error that has parameters reads the hash again."""
+        text = SMALL.hash("pw")
+        with mock.patch("scrypt_c.hasher.params_of") as read:
+            self.assertTrue(SMALL.verify(text, "pw"))
+            for of, error in [(text, scrypt_c.VerifyMismatchError), ("$7$", scrypt_c.InvalidHashError)]:
+                self.assertRaises(error, SMALL.verify, of, "PW")
+            read.assert_not_called()
 
     def test_types_that_lie(self):
         """A subclass of bytes or str is what its buffer has, whatever its methods return."""
