@@ -87,7 +87,16 @@ class Hasher(ctypes.c_void_p):
 def _declared(name: str, arguments: list[Any], result: Any = ctypes.c_int, library: ctypes.CDLL = _lib) -> Any:
     call = getattr(library, name)
     call.argtypes, call.restype = arguments, result
-    return call
+
+    def called(*given: object) -> Any:
+        try:
+            return call(*given)
+        except ctypes.ArgumentError as error:  # which ctypes makes of any exception while it converts an argument
+            if "RecursionError" in str(error):
+                raise RecursionError("maximum recursion depth exceeded") from None
+            raise
+
+    return called
 
 
 _bytes = [ctypes.c_char_p, ctypes.c_size_t]

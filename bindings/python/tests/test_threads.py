@@ -2,7 +2,6 @@
 
 import contextlib
 import copy
-import ctypes
 import gc
 import importlib
 import math
@@ -18,7 +17,7 @@ import unittest
 from concurrent.futures import ThreadPoolExecutor
 from unittest import mock
 
-from scrypt_c import PasswordHasher, library
+from scrypt_c import PasswordHasher, library, scrypt
 from scrypt_c.errors import CANCELLED, TIMEOUT
 
 WAIT = 60  # seconds, after which something is taken to wait for ever
@@ -238,12 +237,19 @@ class Threads(unittest.TestCase):
         self.assertEqual(copy.copy(hasher).stats(), (0, 0, 0))
 
     def test_recursion(self):
-        """At each depth up to the limit a call raises an error or returns, and afterwards one returns."""
+        """At each depth up to the limit a call raises RecursionError or returns, and afterwards one returns."""
         hasher = PasswordHasher(log_n=4, at_once=1, timeout=WAIT)
+        calls = [
+            lambda: hasher.verify(TEXT, "pw"),
+            lambda: hasher.hash("pw"),
+            lambda: hasher.check_needs_rehash(TEXT),
+            lambda: PasswordHasher(log_n=4),
+            lambda: scrypt(b"pw", salt=b"", n=16, r=1, p=1),
+        ]
 
         def deep():
-            for call in (lambda: hasher.verify(TEXT, "pw"), lambda: hasher.hash("pw")):
-                with contextlib.suppress(RecursionError, ctypes.ArgumentError):  # which ctypes makes of it
+            for call in calls:
+                with contextlib.suppress(RecursionError):
                     call()
             deep()
 
