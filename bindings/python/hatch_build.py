@@ -1,8 +1,9 @@
 """Puts the library into the package, for x86-64-v2 and, if it is there, for x86-64-v3, with the licences.
 
 It is the file that SCRYPT_C_LIBRARY names, or that of this name in the folder that it names, or else the one that
-`make lib` put into build/lib of the repository; a source archive has it in the package already. What SCRYPT_C_PROVED
-names, if it is said, is a text about its proof, and goes beside the licences.
+`make lib` put into build/lib of the repository; a source archive has it in the package already, and takes no file from
+outside of itself, where another user may have put anything. What SCRYPT_C_PROVED names, if it is said, is a text about its
+proof, and goes beside the licences.
 """
 
 import os
@@ -17,7 +18,8 @@ NEWER = f"glibc-hwcaps/x86-64-v3/{SONAME}"
 class Library(BuildHookInterface):
     def initialize(self, version, build_data):
         root = pathlib.Path(self.root)
-        named = pathlib.Path(os.environ.get("SCRYPT_C_LIBRARY") or root / "../../build/lib")
+        top = root if (root / "PKG-INFO").exists() else root / "../.."  # which each source archive has
+        named = pathlib.Path(os.environ.get("SCRYPT_C_LIBRARY") or top / "build/lib")
         files = build_data["force_include"]
         found = {SONAME: named} if named.is_file() else {it: named / it for it in (SONAME, NEWER)}
         files |= {str(place.resolve()): f"scrypt_c/{it}" for it, place in found.items() if place.exists()}
@@ -25,7 +27,7 @@ class Library(BuildHookInterface):
             raise SystemExit(f"no {SONAME} in {named}: build it by `make lib`, or name its folder in SCRYPT_C_LIBRARY")
         is_wheel = self.target_name == "wheel"
         folder = f"{self.build_config.builder.artifact_project_id}.dist-info/" if is_wheel else ""
-        texts = [root / it for place in ("../..", "../../release", ".") for it in (f"{place}/LICENSE", f"{place}/NOTICES")]
+        texts = [place / it for place in (top, top / "release", root) for it in ("LICENSE", "NOTICES")]
         if is_wheel and os.environ.get("SCRYPT_C_PROVED"):
             texts.append(pathlib.Path(os.environ["SCRYPT_C_PROVED"]))
         files |= {str(it): f"{folder}{it.name}" for it in texts if it.exists()}

@@ -55,7 +55,17 @@ if /usr/bin/python3 -c 'import venv, ensurepip, hatchling' 2> /dev/null; then
   run "$room/by_folder/bin/python" test_hasher
   run "$room/by_folder/bin/python" test_threads Processes
   (cd bindings/python && /usr/bin/python3 -m hatchling build -t sdist -d "$room/source" > /dev/null)
-  (cd "$room/source" && tar xzf ./*.tar.gz && cd scrypt_c-*/ && /usr/bin/python3 -m hatchling build -t wheel -d "$room/wheels" > /dev/null)
+  # Around a source archive another user may have put anything.
+  mkdir -p "$room/build/lib" "$room/release"
+  for foreign in build/lib/libscrypt_c.so.0 LICENSE release/NOTICES; do echo foreign > "$room/$foreign"; done
+  wheel() { /usr/bin/python3 -m hatchling build -t wheel -d "$room/$1" > "$room/log" 2>&1; }
+  (cd "$room/source" && tar xzf ./*.tar.gz && cd scrypt_c-*/ && wheel wheels)
+  /usr/bin/python3 -m zipfile -e "$room"/wheels/*.whl "$room/unpacked"
+  cmp "$room/unpacked/scrypt_c/libscrypt_c.so.0" "$lib/libscrypt_c.so.0"
+  if grep -rqx foreign "$room/unpacked"; then echo "the wheel of the source archive has a file from outside of it" >&2; exit 1; fi
+  rm "$room"/source/scrypt_c-*/scrypt_c/libscrypt_c.so.0
+  if (cd "$room"/source/scrypt_c-*/ && wheel none); then echo "a source archive without a library makes a wheel" >&2; exit 1; fi
+  grep -q SCRYPT_C_LIBRARY "$room/log"
   install by_wheel "$(echo "$room"/wheels/*.whl)"
   run "$room/by_wheel/bin/python" test_hasher
   "$room/by_wheel/bin/pip" uninstall --quiet --yes scrypt_c
