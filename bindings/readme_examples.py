@@ -1,10 +1,11 @@
 #!/usr/bin/env python3
-"""Runs the examples of README in Python, Go and C over the library of build/lib, and the one of Python's own page.
+"""Runs the examples of README in Python, Go and C over the library of build/lib, and those of Python's own page.
 
 Only Go's has code around it. README's example in Rust is a part of the one of Rust's page (ci/docs.py), which `cargo
 test` runs. What is not installed is named by its Debian package. The script fails if an example fails or is missing.
 """
 
+import json
 import os
 import re
 import shutil
@@ -38,13 +39,13 @@ func main() {{
 """
 
 
-def example(language, page="README.md"):
-    """The first block of a page in this language."""
+def examples(language, page="README.md"):
+    """The blocks of a page in this language."""
     with open(os.path.join(TOP, page), encoding="utf-8") as file:
-        found = re.search(rf"^```{language}\n(.*?)^```$", file.read(), re.M | re.S)
+        found = re.findall(rf"^```{language}\n(.*?)^```$", file.read(), re.M | re.S)
     if not found:
         sys.exit(f"{page} has no example in {language}")
-    return found.group(1)
+    return found
 
 
 def written(room, name, text):
@@ -62,22 +63,24 @@ def run(command, **more):
 def run_python(room):
     paths = {"PYTHONPATH": os.path.join(TOP, "bindings", "python"), "SCRYPT_C_LIBRARY": LIBRARY}
     for page in ["README.md", "bindings/python/README.md"]:
-        run([sys.executable, "-B", written(room, "login.py", example("python", page))], env=os.environ | paths)
+        for example in examples("python", page):
+            run([sys.executable, "-B", written(room, "login.py", example)], env=os.environ | paths)
 
 
 def run_go(room):
     program = os.path.join(room, "go")
     os.mkdir(program)
-    written(program, "main.go", GO.format(example=example("go")))
-    folder = os.path.join(TOP, "bindings", "go")
-    written(program, "go.mod", f"module login\n\nrequire {GO_MODULE} v0.12.0\n\nreplace {GO_MODULE} => {folder}\n")
+    written(program, "main.go", GO.format(example=examples("go")[0]))
+    folder = os.path.join(room, "the module")  # as in a folder whose name has a blank
+    shutil.copytree(os.path.join(TOP, "bindings", "go"), folder)
+    written(program, "go.mod", f"module login\n\nrequire {GO_MODULE} v0.12.0\n\nreplace {GO_MODULE} => {json.dumps(folder)}\n")
     for name in ["libscrypt_c.a", "scrypt_c.h"]:
         shutil.copy(os.path.join(LIBRARY, name), folder)
     run(["go", "run", "-mod=mod", "."], cwd=program, env=os.environ | {"GOPROXY": "off"})
 
 
 def run_c(room):
-    source = written(room, "login.c", example("c"))
+    source = written(room, "login.c", examples("c")[0])
     program = os.path.join(room, "login")
     run(["cc", "-std=c99", "-Wall", "-Wextra", "-Werror", f"-I{LIBRARY}", source, f"{LIBRARY}/libscrypt_c.a", "-o", program])
     run([program])

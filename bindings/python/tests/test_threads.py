@@ -1,5 +1,6 @@
 """A hasher in threads and processes: exceptions, signals and copies at any time. Its queue has tests in C."""
 
+import asyncio
 import contextlib
 import copy
 import gc
@@ -235,6 +236,29 @@ class Threads(unittest.TestCase):
             self.assertEqual(hasher.stats(), (0, 1, before.refused + 2))
         self.assertEqual(hasher.stats(), (0, 0, before.refused + 2))
         self.assertEqual(copy.copy(hasher).stats(), (0, 0, 0))
+
+    def test_asyncio(self):
+        """The event loop runs meanwhile. An await that is cancelled ends at once, and its call after the hasher's timeout."""
+        hasher, ended = PasswordHasher(log_n=4, at_once=1, timeout=0.4), []
+
+        def verify():
+            try:
+                hasher.verify(TEXT, "pw")
+            except TimeoutError:
+                ended.append(time.monotonic() - begun)
+
+        async def login():
+            task = asyncio.create_task(asyncio.to_thread(verify))
+            await asyncio.sleep(0.01)
+            task.cancel()
+            await asyncio.wait([task])
+            self.assertEqual((task.cancelled(), ended), (True, []))
+
+        with busy(hasher, 4):
+            begun = time.monotonic()
+            asyncio.run(login())
+            self.assertEqual(len(ended), 1, "asyncio.run waited for it")
+            self.assertGreaterEqual(ended[0], 0.4)
 
     def test_recursion(self):
         """At each depth up to the limit a call raises RecursionError or returns, and afterwards one returns."""
