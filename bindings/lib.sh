@@ -121,8 +121,10 @@ mkdir -p build/bin
 $CC -std=c99 -pedantic -O2 -Wall -Wextra $hardened -Wl,-z,relro -Wl,-z,now -Ibindings/c -o build/bin/scrypt_calibrate \
   bindings/c/scrypt_calibrate.c "$out/libscrypt_c.a" -lpthread
 bindings/c/found.sh "$PWD/$out" "$PWD/$out" "$out" "$out"
-# The Go module is whole with the header and the static library in its folder.
+# The Go module and the Rust crate are whole with the header and the static library in their folders.
 cp "$out/libscrypt_c.a" "$out/scrypt_c.h" bindings/go/
+cp "$out/libscrypt_c.a" "$out/scrypt_c.h" bindings/rust/
+(cd bindings/rust && sha256sum libscrypt_c.a scrypt_c.h > SHA256SUMS)
 rm -r "$common"
 echo "$out: $shared for x86-64-v2"
 if [ -e "$out/$newer" ]; then

@@ -1,5 +1,6 @@
-//! Finds the library libscrypt_c: the file that SCRYPT_C_LIBRARY names, or the one in the folder that it names, or else
-//! what pkg-config finds, or else build/lib of the repository that this crate lies in.
+//! Finds the library libscrypt_c: the file that SCRYPT_C_LIBRARY names, or the one in the folder that it names, or else, on
+//! x86-64, the static one of this crate, as its hash says, or else what pkg-config finds. It takes nothing from the folders
+//! around the crate, where another user may have put anything.
 
 use std::path::Path;
 use std::process::Command;
@@ -28,6 +29,22 @@ fn link(place: &Path) -> Result<(), String> {
     Ok(())
 }
 
+/// Links the library of the crate, whose file SHA256SUMS has its hash.
+fn link_bundled(crate_folder: &Path) -> Result<(), String> {
+    println!("cargo:rerun-if-changed=SHA256SUMS");
+    let checked = Command::new("sha256sum")
+        .args(["--check", "--status", "--strict", "SHA256SUMS"])
+        .current_dir(crate_folder)
+        .status()
+        .map_err(|error| format!("sha256sum: {error}"))?;
+    if !checked.success() {
+        return Err(
+            "libscrypt_c.a or scrypt_c.h is not the file whose hash is in SHA256SUMS".into()
+        );
+    }
+    link(crate_folder)
+}
+
 /// Links what pkg-config finds.
 fn link_by_pkg_config() -> Result<(), String> {
     let program = std::env::var("PKG_CONFIG").unwrap_or_else(|_| "pkg-config".to_string());
@@ -45,15 +62,20 @@ fn main() {
     for name in ["SCRYPT_C_LIBRARY", "PKG_CONFIG", "PKG_CONFIG_PATH"] {
         println!("cargo:rerun-if-env-changed={name}");
     }
-    let built = Path::new(env!("CARGO_MANIFEST_DIR")).join("../../build/lib");
+    let crate_folder = std::env::var_os("CARGO_MANIFEST_DIR").expect("cargo runs this");
+    let crate_folder = Path::new(&crate_folder);
+    // The crate has the library for this processor alone.
+    let is_x86_64 = std::env::var("CARGO_CFG_TARGET_ARCH").as_deref() == Ok("x86_64");
     let linked = match std::env::var_os("SCRYPT_C_LIBRARY") {
         Some(place) => link(Path::new(&place)),
-        None => link_by_pkg_config().or_else(|why| link(&built).map_err(|_| why)),
+        None if is_x86_64 && crate_folder.join("SHA256SUMS").exists() => link_bundled(crate_folder),
+        None => link_by_pkg_config(),
     };
     if let Err(why) = linked {
         eprintln!(
-            "scrypt_c needs the library libscrypt_c: {why}. Install it (of a release: the package libscrypt-c-dev or \
-             install.sh; of the sources: make lib install), or let SCRYPT_C_LIBRARY name its folder or its file."
+            "scrypt_c needs the library libscrypt_c: {why}. Use the crate of a release, which has it; or run make lib in the \
+             repository; or install it (of a release: the package libscrypt-c-dev or install.sh; of the sources: make lib \
+             install); or let SCRYPT_C_LIBRARY name its folder or its file."
         );
         std::process::exit(1);
     }

@@ -10,7 +10,10 @@ if ! ls -d $registry/password-hash-0.4* > /dev/null 2>&1; then
   echo "Debian's password-hash is not installed (package librust-password-hash-dev): not run"
   exit 0
 fi
-export CARGO_TARGET_DIR="$room/target" CARGO_HOME="$room/cargo" SCRYPT_C_LIBRARY="$lib"
+export CARGO_TARGET_DIR="$room/target" CARGO_HOME="$room/cargo"
+unset SCRYPT_C_LIBRARY
+cp "$lib/libscrypt_c.a" "$lib/scrypt_c.h" bindings/rust/
+(cd bindings/rust && sha256sum libscrypt_c.a scrypt_c.h > SHA256SUMS)
 mkdir "$CARGO_HOME"
 cat > "$CARGO_HOME/config.toml" << CONFIG
 [net]
@@ -41,23 +44,39 @@ fi
 if cargo clippy --version > /dev/null 2>&1; then crate clippy --all-targets --all-features -- -D warnings; fi
 echo "no warning by cargo doc, rustfmt and clippy"
 
-# The package, built elsewhere: by the variable, by pkg-config, and refused by name without either.
+# The package, built elsewhere: whole, and refused if its library is another one, or if it has none. What another user put
+# around it is not taken.
 crate package --allow-dirty
-mkdir "$room/elsewhere"
+mkdir -p "$room/elsewhere/build"
 tar -xzf "$room"/target/package/scrypt_c-*.crate -C "$room/elsewhere"
-cd "$room"/elsewhere/scrypt_c-*
+cp -R "$lib" "$room/elsewhere/build/lib"
+mkdir "$room/elsewhere/around"
+mv "$room"/elsewhere/scrypt_c-* "$room/elsewhere/around/crate"
+cd "$room/elsewhere/around/crate"
+export CARGO_TARGET_DIR="$room/elsewhere/target"
 cargo run --quiet --example hash > "$room/log"
 grep -q '^\$scrypt\$ln=17,r=8,p=1\$' "$room/log"
-unset SCRYPT_C_LIBRARY
-if PKG_CONFIG=false cargo build --quiet 2> "$room/log"; then
-  echo "the package was built without a library" >&2
-  exit 1
-fi
-grep SCRYPT_C_LIBRARY "$room/log" | grep -q libscrypt-c-dev
+refused() {
+  words=$1
+  shift
+  if env "$@" cargo build --quiet 2> "$room/log"; then
+    echo "the package was built with a library that is not its own: $words" >&2
+    exit 1
+  fi
+  grep -q "$words" "$room/log" || { cat "$room/log"; exit 1; }
+}
+echo >> libscrypt_c.a
+refused 'is not the file whose hash is in SHA256SUMS' PKG_CONFIG=false
+rm libscrypt_c.a
+refused 'is not the file whose hash is in SHA256SUMS' PKG_CONFIG=false
+rm SHA256SUMS
+refused 'SCRYPT_C_LIBRARY' PKG_CONFIG=false
+refused 'libscrypt-c-dev' PKG_CONFIG=false
+SCRYPT_C_LIBRARY="$lib" cargo run --quiet --example hash > "$room/log"
 cd "$OLDPWD"
 make -s install prefix="$room/usr" DESTDIR= > /dev/null
-cd "$room"/elsewhere/scrypt_c-*
+cd "$room/elsewhere/around/crate"
 rm "$room/usr/lib/libscrypt_c.a"
 PKG_CONFIG_PATH=$room/usr/lib/pkgconfig LD_LIBRARY_PATH=$room/usr/lib cargo test --quiet > "$room/log" 2>&1 ||
   { cat "$room/log"; exit 1; }
-echo "packaged, and built elsewhere by SCRYPT_C_LIBRARY and by pkg-config; without both the error names the variable and the package"
+echo "packaged, and built elsewhere by its own library, by SCRYPT_C_LIBRARY and by pkg-config; without them the error names what is missing"
