@@ -19,6 +19,7 @@ pub const TOO_COSTLY: c_int = 13;
 pub const NO_RANDOM_BYTES: c_int = 14;
 pub const KEY_TOO_SHORT: c_int = 15;
 pub const CLOSED: c_int = 17;
+pub const TIMEOUT: c_int = 18;
 pub const CANCELLED: c_int = 19;
 pub const UNSUPPORTED: c_int = 20;
 

@@ -53,6 +53,8 @@ pub enum Error {
     NoRandomBytes,
     /// The hasher is closed.
     Closed,
+    /// The hasher did not begin with the call in its time.
+    Timeout,
     /// This is a child process that a signal handler forked during the call.
     Cancelled,
     /// The system is too old for a hasher: Linux before 4.14.
@@ -99,6 +101,7 @@ impl Error {
             KEY_TOO_SHORT => Error::KeyTooShort,
             NO_RANDOM_BYTES => Error::NoRandomBytes,
             CLOSED => Error::Closed,
+            TIMEOUT => Error::Timeout,
             CANCELLED => Error::Cancelled,
             UNSUPPORTED => Error::Unsupported,
             other => Error::Status(other),
@@ -166,6 +169,7 @@ impl fmt::Display for Error {
             }
             Error::NoRandomBytes => "the system has no random bytes",
             Error::Closed => "the hasher is closed",
+            Error::Timeout => "the hasher did not begin with it in time",
             Error::Cancelled => "the process was forked meanwhile",
             Error::Unsupported => {
                 "the system cannot fill memory with zeros in a child process (Linux before 4.14)"
@@ -213,10 +217,11 @@ mod tests {
             ("NO_RANDOM_BYTES", NO_RANDOM_BYTES),
             ("KEY_TOO_SHORT", KEY_TOO_SHORT),
             ("CLOSED", CLOSED),
+            ("TIMEOUT", TIMEOUT),
             ("CANCELLED", CANCELLED),
             ("UNSUPPORTED", UNSUPPORTED),
         ];
-        let cannot_come = ["BUFFER_SIZE", "NULL_POINTER", "TIMEOUT", "OPTIONS_SIZE"];
+        let cannot_come = ["BUFFER_SIZE", "NULL_POINTER", "OPTIONS_SIZE"];
         let header = header();
         let statuses = header.lines().filter_map(|line| {
             let (name, number) = line.strip_prefix("  SCRYPT_")?.split_once(" = ")?;

@@ -4,6 +4,7 @@ use crate::calls::*;
 use crate::{Bounds, Error, Params};
 use std::ptr::{null, null_mut, NonNull};
 use std::sync::Arc;
+use std::time::Duration;
 
 /// The format of a hash's text.
 #[derive(Clone, Copy, Debug, Default, PartialEq, Eq)]
@@ -30,6 +31,9 @@ pub struct Options {
     /// How many derivations may run at the same time. 0, the default, means one for each processor that the process may
     /// use, by its affinity and its CPU quota.
     pub processors: usize,
+    /// How long a call waits for a free processor before it returns `Timeout`, rounded up to milliseconds. `None`, the
+    /// default, means without a bound. The time of a derivation does not count.
+    pub timeout: Option<Duration>,
     /// The bounds above which a hash is refused: by default [`Bounds::USUAL`], or what new hashes need if that is more.
     pub bounds: Option<Bounds>,
 }
@@ -42,6 +46,7 @@ impl Default for Options {
             salt_len: 16,
             at_once: 0,
             processors: 0,
+            timeout: None,
             bounds: None,
         }
     }
@@ -61,7 +66,7 @@ pub struct Stats {
 /// Makes password hashes, and verifies passwords against hashes of either format.
 ///
 /// Any number of threads may use it, and its clones are the same hasher. At most one thread for each processor derives at
-/// a time, and the others wait, first come, first served. Of those that wait, verifications with the same N, r and p are
+/// a time, and the others wait, first come, first served, at most for [`Options::timeout`]. Of those that wait, verifications with the same N, r and p are
 /// derived together if there are tables for them, which takes less time than one after another. While all processors are
 /// taken, a derivation waits for others to join it for about 1/256 of its time, and at most 1 ms. No error of one affects
 /// another.
@@ -102,9 +107,6 @@ impl Default for Hasher {
     }
 }
 
-// Without a bound on the wait.
-const NO_BOUND: i64 = -1;
-
 impl Hasher {
     /// A hasher with these options.
     ///
@@ -113,7 +115,7 @@ impl Hasher {
     /// `SaltInvalid` unless the salt has 1 to 64 bytes, `TooCostly` if new hashes need more than the bounds, `OutOfMemory`,
     /// and `Unsupported` before Linux 4.14.
     pub fn new(options: Options) -> Result<Hasher, Error> {
-        let Options { params, format, salt_len, at_once, processors, bounds } = options;
+        let Options { params, format, salt_len, at_once, processors, bounds, .. } = options;
         if salt_len == 0 {
             return Err(Error::SaltInvalid);
         }
@@ -145,6 +147,12 @@ impl Hasher {
         self.0.raw.as_ptr()
     }
 
+    // For how many milliseconds a call may wait: -1 is without a bound.
+    fn most_ms(&self) -> i64 {
+        let ms = |it: Duration| (it.as_nanos() + 999_999) / 1_000_000;
+        self.0.options.timeout.map_or(-1, |it| i64::try_from(ms(it)).unwrap_or(i64::MAX))
+    }
+
     /// The options, each default replaced by its value.
     pub fn options(&self) -> Options {
         // SAFETY: the hasher is there until this returns, and its options do not change.
@@ -165,7 +173,7 @@ impl Hasher {
     ///
     /// # Errors
     ///
-    /// `NoRandomBytes`, `Closed` and `OutOfMemory`.
+    /// `NoRandomBytes`, `Closed`, `Timeout` and `OutOfMemory`.
     pub fn hash(&self, password: impl AsRef<[u8]>) -> Result<String, Error> {
         self.text(password.as_ref(), None)
     }
@@ -174,7 +182,7 @@ impl Hasher {
     ///
     /// # Errors
     ///
-    /// `SaltInvalid` unless the salt of a PHC hash has 1 to 64 bytes, `Closed` and `OutOfMemory`.
+    /// `SaltInvalid` unless the salt of a PHC hash has 1 to 64 bytes, `Closed`, `Timeout` and `OutOfMemory`.
     pub fn hash_with_salt(&self, password: impl AsRef<[u8]>, salt: &[u8]) -> Result<String, Error> {
         self.text(password.as_ref(), Some(salt))
     }
@@ -190,7 +198,7 @@ impl Hasher {
         #[rustfmt::skip]
         let status = unsafe {
             scrypt_hasher_hash(self.raw(), password.as_ptr().cast(), password.len(), salt.cast(), salt_len,
-                text.as_mut_ptr().cast(), capacity, NO_BOUND, null_mut())
+                text.as_mut_ptr().cast(), capacity, self.most_ms(), null_mut())
         };
         Error::check(status)?;
         text.truncate(text.iter().position(|it| *it == 0).unwrap_or(0));
@@ -202,8 +210,8 @@ impl Hasher {
     ///
     /// # Errors
     ///
-    /// `InvalidOutputLen` unless the output has 1 to 137438953440 bytes, `Closed` and `OutOfMemory`, which leave the output
-    /// unchanged; and [`Error::Cancelled`], which writes zeros.
+    /// `InvalidOutputLen` unless the output has 1 to 137438953440 bytes, `Closed`, `Timeout` and `OutOfMemory`, which leave
+    /// the output unchanged; and [`Error::Cancelled`], which writes zeros.
     pub fn key(
         &self,
         password: impl AsRef<[u8]>,
@@ -215,7 +223,7 @@ impl Hasher {
         #[rustfmt::skip]
         let status = unsafe {
             scrypt_hasher_key(self.raw(), password.as_ptr().cast(), password.len(), salt.as_ptr().cast(), salt.len(),
-                output.as_mut_ptr(), output.len(), NO_BOUND, null_mut())
+                output.as_mut_ptr(), output.len(), self.most_ms(), null_mut())
         };
         Error::check(status)
     }
@@ -225,15 +233,15 @@ impl Hasher {
     /// # Errors
     ///
     /// Those of [`Error::is_invalid_hash`]; `PasswordInvalid` for a wrong password, and for a hash without salt or key;
-    /// `TooCostly` if the hash needs more than the bounds; `KeyTooShort` if its key is shorter than they allow; `Closed`
-    /// and `OutOfMemory`. An error of the text alone is returned without waiting.
+    /// `TooCostly` if the hash needs more than the bounds; `KeyTooShort` if its key is shorter than they allow; `Closed`,
+    /// `Timeout` and `OutOfMemory`. An error of the text alone is returned without waiting.
     pub fn verify(&self, text: &str, password: impl AsRef<[u8]>) -> Result<(), Error> {
         let password = password.as_ref();
         // SAFETY: the hasher is there until this returns, and each pointer is that of a slice of the length after it.
         #[rustfmt::skip]
         let status = unsafe {
             scrypt_hasher_verify(self.raw(), password.as_ptr().cast(), password.len(), text.as_ptr().cast(), text.len(),
-                NO_BOUND, null_mut())
+                self.most_ms(), null_mut())
         };
         Error::check(status)
     }

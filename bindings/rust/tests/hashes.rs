@@ -1,6 +1,7 @@
 //! Makes hashes in both formats, and verifies passwords by them. The errors of texts are in traits.rs.
 
 use scrypt_c::{params_of, scrypt, Bounds, DeriveError, Error, Format, Hasher, Options, Params};
+use std::time::Duration;
 
 fn small() -> Options {
     Options { params: Params::new(4, 8, 1).unwrap(), ..Options::default() }
@@ -56,6 +57,7 @@ fn options() {
         salt_len: 64,
         at_once: 3,
         processors: 2,
+        timeout: Some(Duration::from_secs(1)),
         bounds: Some(Bounds { most_bytes: 1 << 20, most_work: 1 << 16 }),
     };
     assert_eq!(Hasher::new(given).unwrap().options(), given);

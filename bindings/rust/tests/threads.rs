@@ -6,6 +6,7 @@ use std::os::raw::c_int;
 use std::panic::{catch_unwind, AssertUnwindSafe, RefUnwindSafe, UnwindSafe};
 use std::sync::atomic::{AtomicU32, Ordering};
 use std::thread;
+use std::time::{Duration, Instant};
 
 fn with(log_n: u8, p: u32, at_once: usize) -> Hasher {
     let params = Params::new(log_n, 8, p).unwrap();
@@ -50,6 +51,37 @@ fn clones() {
     assert_eq!(clone.key("pw", b"", &mut [0]), Err(Error::Closed));
     assert_eq!(clone.verify("", "pw"), Err(Error::EncodingInvalid), "by its text alone");
     assert_eq!((clone.needs_rehash(&text), other.verify(&text, "pw")), (Ok(false), Ok(())));
+}
+
+/// While another derives, a call waits for as long as the options say.
+#[test]
+fn timeouts() {
+    let params = Params::new(4, 8, 1).unwrap();
+    let costly = format!("$scrypt$ln=17,r=8,p=4$c2FsdHNhbHQ${}", "A".repeat(43));
+    for (timeout, least_ms) in [
+        (Duration::ZERO, 0),
+        (Duration::from_nanos(1), 1),
+        (Duration::from_millis(50), 50),
+        (Duration::MAX, u128::MAX),
+    ] {
+        let options = Options { params, at_once: 1, timeout: Some(timeout), ..Options::default() };
+        let hasher = Hasher::new(options).unwrap();
+        thread::scope(|scope| {
+            let deriving = scope.spawn(|| hasher.verify(&costly, "pw"));
+            thread::sleep(Duration::from_millis(100));
+            let begun = Instant::now();
+            let status = hasher.key("pw", b"", &mut [0]);
+            if least_ms == u128::MAX {
+                assert_eq!(status, Ok(()), "its turn came");
+            } else {
+                assert_eq!(status, Err(Error::Timeout));
+                assert!(begun.elapsed().as_millis() >= least_ms && !deriving.is_finished());
+                let now = hasher.stats();
+                assert_eq!((now.waiting, now.deriving, now.refused), (0, 1, 1));
+            }
+            assert_eq!(deriving.join().unwrap(), Err(Error::PasswordInvalid));
+        });
+    }
 }
 
 /// A hasher is freed last: a value that is dropped, also one of a thread that ends, still uses its own.
