@@ -58,6 +58,18 @@ fn errors_of_this_crate() {
     assert_eq!(no_key(), Err(Error::Crypto));
 }
 
+#[cfg(feature = "std")]
+#[test]
+fn errors_are_std_errors() {
+    let salt = drawn();
+    let made = || -> Result<String, Box<dyn std::error::Error>> {
+        Ok(Scrypt
+            .hash_password_customized(b"", None, Some(1), Params::RECOMMENDED, &salt)?
+            .to_string())
+    };
+    assert_eq!(made().unwrap_err().to_string(), Error::Version.to_string());
+}
+
 #[test]
 fn refused() {
     const KEY: &str = "c2FsdHNhbHQ$AAAAAAAAAAAAAAAAAAAA";
