@@ -4,6 +4,7 @@
 #                  calls the library from C and Python
 # To use it:
 #   make lib       proves and builds the libraries for C into build/lib, for x86-64-v2 and for x86-64-v3
+#                  with ARCH=aarch64-linux-gnu those for arm64, and the program, into build/aarch64-linux-gnu
 #   make install   installs what is built below prefix=/usr/local, and honours DESTDIR
 #   make uninstall removes it, with the same variables
 #   make doc       makes pages for reading the proof, build/doc/index.html; it needs python3-jinja2 and python3-pygments

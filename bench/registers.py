@@ -21,26 +21,36 @@ BUILT = Path(__file__).parent.parent / "build" / "lib"
 
 # The limits of a loop by the number of its chunks: the vector instructions, and those with an operand on the stack. They are a
 # little above what was measured: for x86-64-v3 up to 404 and 0, 440 and 0, 852 and 12, 890 and 22; for x86-64-v2, whose
-# instructions overwrite an operand and whose vectors have four words, up to 528 and 0, 1082 and 24, 1688 and 78, 2410 and 355.
-# Blocks of three or four chunks that go through memory take 32 more, or those of x86-64-v2 48 and 64.
+# instructions overwrite an operand and whose vectors have four words, up to 528 and 0, 1082 and 24, 1688 and 78, 2410 and 355; for
+# arm64, which has 32 registers of four words, up to 751 and 0, 1127 and 0, 1555 and 36. Blocks of three or four chunks that go
+# through memory take 32 more, or those of x86-64-v2 48 and 64. One chunk is in words on arm64, and only moved in vectors.
 LIMITS = {
     "x86-64-v3": {1: (430, 0), 2: (470, 0), 3: (900, 28), 4: (940, 32)},
     "x86-64-v2": {1: (560, 0), 2: (1140, 40), 3: (1780, 100), 4: (2550, 400)},
+    "arm64": {2: (780, 0), 3: (1170, 0), 4: (1620, 44)},
+    "arm64, in words": {1: (90, 0)},
 }
 
-# A rotation by seven bits begins with this shift. A core has eight of each of its vectors, and a loop two cores.
-ROTATION = re.compile(r"v?pslld +\$0x7,")
-ROTATIONS = 16
+# A rotation by seven bits begins with this shift, or is in this instruction. A core has eight of each of its vectors, or 32, and a
+# loop two cores.
+ROTATION = re.compile(r"(v?pslld) +\$0x7,|(shl)\s+v\d+\.4s, v\d+\.4s, #7$|(eor)\s+w\d+, w\d+, w\d+, ror #25$")
+KINDS = {"vpslld": ("x86-64-v3", 16), "pslld": ("x86-64-v2", 16), "shl": ("arm64", 16), "eor": ("arm64, in words", 64)}
 
 INSTRUCTION = re.compile(r" *([0-9a-f]+):\s+(.*)")
-JUMP = re.compile(r"j[a-z]+ +([0-9a-f]+)")
-VECTOR, ON_STACK = re.compile(r"%[xy]mm"), re.compile(r"\(%[re]sp")
+JUMP = re.compile(r"(?:j[a-z]+|b(?:\.[a-z]+)?|cbn?z\s+[wx]\d+,|tbn?z\s+[wx]\d+, #\d+,)\s+([0-9a-f]+)")
+CALL = re.compile(r"call|blr?\s")
+VECTOR, ON_STACK = re.compile(r"%[xy]mm|\b[vq]\d+"), re.compile(r"\(%[re]sp|\[sp")
 
 
 def sections(library):
     """The instructions of each section of code, by their addresses. A library can have several objects."""
-    command = ["objdump", "-d", "--no-show-raw-insn", library]
-    text = subprocess.run(command, stdout=subprocess.PIPE, check=True, text=True).stdout
+    text = ""
+    for tools in "", "aarch64-linux-gnu-":
+        command = [f"{tools}objdump", "-d", "--no-show-raw-insn", library]
+        ran = subprocess.run(command, capture_output=True, text=True)
+        if ran.returncode == 0:
+            text = ran.stdout
+            break
     for section in re.split(r"^Disassembly of section ", text, flags=re.M)[1:]:
         found = (INSTRUCTION.fullmatch(line.rstrip()) for line in section.splitlines())
         yield {int(it[1], 16): it[2] for it in found if it}
@@ -59,7 +69,7 @@ def inner_loops(code):
 
 def wrong(chunks, level, texts, vectors, on_stack):
     """What is wrong with a loop of cores, or nothing."""
-    if any(it.startswith("call") for it in texts):
+    if any(CALL.match(it) for it in texts):
         return "calls a function, which was to be inlined"
     if chunks not in LIMITS[level]:
         return f"no limits are known for {chunks:g} chunks"
@@ -70,18 +80,20 @@ def wrong(chunks, level, texts, vectors, on_stack):
 
 
 def loops_of_cores(code):
-    """For each loop of cores of a section: its level of x86-64, its chunks, its numbers, and what is wrong with it."""
+    """For each loop of cores of a section: its processor, its chunks, its numbers, and what is wrong with it."""
     rotations = {at: text for at, text in code.items() if ROTATION.match(text)}
     for first, last in inner_loops(code):
         its = [text for at, text in rotations.items() if first <= at <= last]
         if its:
             texts = [text for at, text in code.items() if first <= at <= last]
-            level = "x86-64-v3" if its[0].startswith("v") else "x86-64-v2"
+            kinds = {it.split()[0] for it in its}
+            level, of_a_chunk = KINDS[kinds.pop()]
             # A vector of 256 bits has words of two chunks.
-            chunks = sum(2 if "%ymm" in it else 1 for it in its) / ROTATIONS
-            vectors = [it for it in texts if VECTOR.search(it)]
+            chunks = sum(2 if "%ymm" in it else 1 for it in its) / of_a_chunk
+            vectors = [it for it in texts if VECTOR.search(it) or of_a_chunk > 16 and ON_STACK.search(it)]
             counts = len(vectors), sum(bool(ON_STACK.search(it)) for it in vectors)
-            yield level, chunks, *counts, wrong(chunks, level, texts, *counts)
+            error = "in words and in vectors" if kinds else wrong(chunks, level, texts, *counts)
+            yield level, chunks, *counts, error
             rotations = {at: text for at, text in rotations.items() if not first <= at <= last}
     if rotations:
         yield "", 0, 0, 0, f"{len(rotations)} rotations of cores outside of a loop"

@@ -1,8 +1,9 @@
 # shellcheck shell=sh
-# What the test scripts of the languages share. Sets lib, the folder of the libraries, and room, a folder that is
-# removed in the end.
+# What the test scripts of the languages share. Sets lib, the folder of the libraries, room, a folder that is removed in the
+# end, and what arch.sh sets.
 set -eu
-lib=$PWD/build/lib
+. bindings/arch.sh
+lib=$PWD/$build/lib
 room=$(mktemp -d)
 trap 'chmod -R u+w "$room"; rm -rf "$room"' EXIT
 

@@ -9,7 +9,8 @@ set -eu
 unset CDPATH
 cd "$(dirname "$0")/.."
 action=$1
-program=build/bin/scrypt_tool
+. bindings/arch.sh
+program=$build/bin/scrypt_tool
 room=$(mktemp -d)
 trap 'rm -rf "$room"' EXIT
 newline='
@@ -58,12 +59,12 @@ link() { ln -s "$1" "$room/files${2#"$root"}"; }
 libraries() {
   shared=libscrypt_c.so.$(sed 's/+.*//' VERSION)
   bindings/c/found.sh "$libdir" "$includedir" "$libdir/pkgconfig" "$libdir/cmake/scrypt_c" "$room"
-  put 644 build/lib/libscrypt_c.a "$libdir/libscrypt_c.a"
-  put 755 "build/lib/$shared" "$libdir/$shared"
+  put 644 "$build/lib/libscrypt_c.a" "$libdir/libscrypt_c.a"
+  put 755 "$build/lib/$shared" "$libdir/$shared"
   link "$shared" "$libdir/libscrypt_c.so.0"
   link libscrypt_c.so.0 "$libdir/libscrypt_c.so"
-  put 755 build/lib/libscrypt_drop_in.so "$libdir/libscrypt_drop_in.so"
-  put 644 build/lib/scrypt_c.h "$includedir/scrypt_c.h"
+  put 755 "$build/lib/libscrypt_drop_in.so" "$libdir/libscrypt_drop_in.so"
+  put 644 "$build/lib/scrypt_c.h" "$includedir/scrypt_c.h"
   put 644 "$room/scrypt_c.pc" "$libdir/pkgconfig/scrypt_c.pc"
   for file in scrypt_c-config.cmake scrypt_c-config-version.cmake; do
     put 644 "$room/$file" "$libdir/cmake/scrypt_c/$file"
@@ -84,7 +85,7 @@ python_package() {
 
 programs() {
   put 755 "$program" "$bindir/scrypt_tool"
-  put 755 build/bin/scrypt_calibrate "$bindir/scrypt_calibrate"
+  put 755 "$build/bin/scrypt_calibrate" "$bindir/scrypt_calibrate"
   put 644 docs/scrypt_tool.1 "$mandir/man1/scrypt_tool.1"
   link scrypt_tool.1 "$mandir/man1/scrypt_calibrate.1"
   python3 bindings/completions.py "$room/share"
@@ -92,14 +93,14 @@ programs() {
   while read -r file; do put 644 "$room/share/$file" "$datarootdir/$file"; done < "$room/completions"
 }
 
-if [ ! -e build/lib/libscrypt_c.a ]; then
-  echo "build/lib is not built: make lib" >&2
+if [ ! -e "$build/lib/libscrypt_c.a" ]; then
+  echo "$build/lib is not built: make lib" >&2
   exit 1
 fi
 libraries
 python_package
 newer=glibc-hwcaps/x86-64-v3/libscrypt_c.so.0
-if [ -e build/lib/$newer ]; then put 755 build/lib/$newer "$libdir/$newer"; fi
+if [ -e "$build/lib/$newer" ]; then put 755 "$build/lib/$newer" "$libdir/$newer"; fi
 if [ -e "$program" ]; then
   programs
 else
@@ -107,4 +108,4 @@ else
 fi
 release/install.sh --tree "$room/files" "$list" "$DESTDIR$root"
 # Without a list, one that another version installed: the dynamic linker would take it before the other.
-if [ ! -e build/lib/$newer ]; then rm -f "$DESTDIR$libdir/$newer"; fi
+if [ ! -e "$build/lib/$newer" ]; then rm -f "$DESTDIR$libdir/$newer"; fi

@@ -6,6 +6,9 @@
   in an empty folder; the second, and the wrong bodies of that crate, take from it what they leave unchanged. Then they are
   linked and called.
 - When the program is proved: its answers. It is linked with what asks at a terminal after that.
+- For arm64: a copy of the crate scrypt that mixes one chunk otherwise, as soon as the crates below it are proved. When the crate
+  below the program is proved, the library and the program over that copy, whose calls and answers run in an emulator. A package that
+  this needs and isn't installed is named.
 
 All but the calls run on the processors that `rt ci` leaves idle, at a lower priority, since its crates wait for one another.
 What they print, with the time that each took, follows what `rt ci` prints. The count of what passed is the last line.
@@ -36,7 +39,18 @@ NEWER = "x86-64-v3"
 
 LIBRARY = "the library for C"
 
+SCRYPT_FOR_ARM64 = "scrypt for arm64"
+
 PROGRAM = "crates/scrypt_tool/out/scrypt_tool"
+
+ARM64 = "the library and the program for arm64"
+
+# What the build for arm64 and its tests need, and the Debian packages that have it.
+FOR_ARM64 = {
+    "/usr/bin/aarch64-linux-gnu-gcc": "gcc-aarch64-linux-gnu",
+    "/usr/aarch64-linux-gnu/include/stdio.h": "libc6-dev-arm64-cross",
+    "/usr/bin/qemu-aarch64-static": "qemu-user-static",
+}
 
 BEGUN = time.monotonic()
 
@@ -62,7 +76,9 @@ def clean():
     for name in sources.crates():
         if left_by_ci(name):
             shutil.rmtree(f"crates/{name}/out/rlib")
+        shutil.rmtree(f"crates/{name}/out/arm64", ignore_errors=True)
     shutil.rmtree("build/lib", ignore_errors=True)
+    shutil.rmtree("build/aarch64-linux-gnu", ignore_errors=True)
     with contextlib.suppress(FileNotFoundError):
         os.remove(f"{PROGRAM}.o")
 
@@ -157,6 +173,7 @@ def build(tasks, made, kept):
         if not is_well:
             return False, text
         lines += [line for line in text.splitlines() if line.startswith("logic=proved ") and f" cpu={NEWER} " in line]
+    shutil.copytree(kept, f"{kept}-arm64")
     return len(lines) == 1, "\n".join([f"== scrypt_c-{NEWER}", *lines, ""])
 
 
@@ -201,8 +218,23 @@ def answer(tasks, is_built):
     return tasks.run(sys.executable, "-m", "ci.program", PROGRAM) if is_well else (is_well, text)
 
 
+def missing_for_arm64():
+    """The packages that the build for arm64 and its tests need, and that aren't installed."""
+    return [package for path, package in FOR_ARM64.items() if not os.path.exists(path)]
+
+
+def test_arm64(tasks, kept):
+    """Proves the library and the program for arm64, over what the build of the other libraries kept, and calls them."""
+    tasks.begun[LIBRARY].result()
+    command = f"python3 -m bindings.arm64 scrypt_c={kept}-arm64 scrypt_commands scrypt_tool && bindings/lib.sh built && bindings/callers.sh short"
+    return tasks.run("env", "-u", "CC", "ARCH=aarch64-linux-gnu", "sh", "-c", command)
+
+
 def add_all(tasks, made, kept, is_built):
     """Adds the tasks, the longest first. The wrong bodies of scrypt_c are tried over what the build of the libraries kept."""
+    is_for_arm64 = is_built and not missing_for_arm64()
+    if is_for_arm64:
+        tasks.add(SCRYPT_FOR_ARM64, prover_command.below("scrypt"), lambda: tasks.run(sys.executable, "-m", "bindings.arm64", "scrypt"))
     if is_built:
         tasks.add(LIBRARY, prover_command.below("scrypt_c"), lambda: build(tasks, made, kept))
         tasks.add("callers of the library", prover_command.below("scrypt_c"), lambda: link_and_call(tasks, made), LIBRARY)
@@ -214,6 +246,8 @@ def add_all(tasks, made, kept, is_built):
     tasks.add("what must not compile", [], lambda: tasks.run(sys.executable, "-m", "ci.must_not_compile"))
     tasks.add("answers of the program", ["scrypt_tool"], lambda: answer(tasks, is_built))
     tasks.add("answers to hashes", ["scrypt_tool"], lambda: tasks.run(sys.executable, "-m", "ci.hashes", PROGRAM))
+    if is_for_arm64:
+        tasks.add(ARM64, prover_command.below("scrypt_tool"), lambda: test_arm64(tasks, kept), SCRYPT_FOR_ARM64)
 
 
 def prove(tasks, log):
@@ -243,6 +277,8 @@ def main():
         if failed:
             sys.exit(f"failed: {'; '.join(failed)}")
         check_axioms(log)
+        if missing_for_arm64():
+            print(f"Nothing was built for arm64: install the packages {' '.join(missing_for_arm64())}")
         if not is_built:
             print("No C compiler is here (package gcc): the library was not called.")
         else:

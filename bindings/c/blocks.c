@@ -8,7 +8,6 @@
 #include "clearing.h"
 #include "pages.h"
 
-#include <emmintrin.h>
 #include <stdint.h>
 #include <stdlib.h>
 #include <string.h>
@@ -16,7 +15,6 @@
 /* From this size on the pages of a block are given back to the system, which is faster than to overwrite them. The
  * usual malloc has such a block mapped, and free unmaps it. */
 #define LARGE ((size_t)32 << 20)
-#define PAGE ((size_t)4096)
 #define CACHE_LINE ((size_t)64)
 
 /* Before a block, in malloc's: where malloc's begins, and how long the block is. malloc_usable_size isn't asked: a program
@@ -30,14 +28,15 @@ static struct head *head_of(void *block) { return (struct head *)block - 1; }
 /* Writes zeros, in a way that the compiler may not optimize away. Whole cache lines are written through the cache, where the
  * next call finds them: memset takes a third longer for the table of (14, 8, 1). */
 static void overwrite(uint8_t *block, size_t len) {
-  const __m128i zeros = _mm_setzero_si128();
+  typedef uint64_t vector __attribute__((vector_size(16), may_alias));
+  const vector zeros = {0, 0};
   size_t lines = (uintptr_t)block % CACHE_LINE == 0 ? len / CACHE_LINE * CACHE_LINE : 0, i;
   for (i = 0; i < lines; i += CACHE_LINE) {
-    __m128i *line = (__m128i *)(block + i);
-    _mm_store_si128(line, zeros);
-    _mm_store_si128(line + 1, zeros);
-    _mm_store_si128(line + 2, zeros);
-    _mm_store_si128(line + 3, zeros);
+    vector *line = (vector *)(block + i);
+    line[0] = zeros;
+    line[1] = zeros;
+    line[2] = zeros;
+    line[3] = zeros;
     __asm__ volatile("" ::"r"(line) : "memory");
   }
   memset(block + lines, 0, len - lines);
@@ -62,9 +61,9 @@ static int are_dropped(const uint8_t *pages, size_t len) {
 
 /* Returns whole pages to the system, and overwrites the rest; or overwrites all. */
 static void clear_block(uint8_t *block, size_t len) {
-  size_t front = (PAGE - (uintptr_t)block % PAGE) % PAGE;
+  size_t front = (LARGEST_PAGE - (uintptr_t)block % LARGEST_PAGE) % LARGEST_PAGE;
   if (len >= LARGE) {
-    size_t pages = (len - front) / PAGE * PAGE;
+    size_t pages = (len - front) / LARGEST_PAGE * LARGEST_PAGE;
     if (madvise(block + front, pages, MADV_DONTNEED) == 0 && are_dropped(block + front, pages)) {
       overwrite(block, front);
       block += front + pages;

@@ -4,15 +4,28 @@
 #include "scrypt_c.h"
 #include "stack_lens.h" /* how much of the stack each proved call uses, measured by stack_lens.c */
 
-/* Writes zeros to the len bytes below the place of its own return address, which is where a call by the same caller had
- * its frames. In assembly, since a frame of C has parts that C can't name. From the top down, so that on a stack that is
- * too short the guard page comes first. len is a multiple of 8, and not 0. */
-void clear_stack(size_t len);
+/* Hidden, so that its address doesn't come from the global offset table: there the linker for arm64 takes the start of .text
+ * for it. */
+#define DIRECT __attribute__((visibility("hidden")))
+
+/* Writes zeros to the len bytes below the frame of its caller, or on x86-64 below the return address that is there, which is
+ * where a call by the same caller had its frames. In assembly, since a frame of C has parts that C can't name. From the top
+ * down, so that on a stack that is too short the guard page comes first. len is a multiple of 16, and not 0. */
+DIRECT void clear_stack(size_t len);
 __asm__(
     ".text\n"
-    ".type clear_stack, @function\n"
+    ".type clear_stack, %function\n"
     "clear_stack:\n"
     ".cfi_startproc\n"
+#ifdef __aarch64__
+    "mov x1, sp\n"
+    ".cfi_def_cfa_register x1\n"
+    "0: stp xzr, xzr, [sp, #-16]!\n"
+    "subs x0, x0, #16\n"
+    "b.ne 0b\n"
+    "mov sp, x1\n"
+    ".cfi_def_cfa_register sp\n"
+#else
     "mov %rsp, %rdx\n"
     ".cfi_def_cfa_register %rdx\n"
     "0: push $0\n"
@@ -20,6 +33,7 @@ __asm__(
     "jnz 0b\n"
     "mov %rdx, %rsp\n"
     ".cfi_def_cfa_register %rsp\n"
+#endif
     "ret\n"
     ".cfi_endproc\n"
     ".size clear_stack, .-clear_stack\n");

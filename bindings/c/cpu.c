@@ -1,6 +1,9 @@
 /* What runs when the library is loaded, before main: not proved. The proved code is for PROCESSOR, which is x86-64-v2, or
- * x86-64-v3 if X86_64_LEVEL is 3, and would die by an illegal instruction elsewhere. This file is for every x86-64. */
+ * x86-64-v3 if X86_64_LEVEL is 3, and would die by an illegal instruction elsewhere. This file is for every x86-64.
+ * For arm64 the code is for every processor. */
 #include "cpu.h"
+
+#ifdef __x86_64__
 
 #include <cpuid.h>
 #include <stdio.h>
@@ -38,3 +41,5 @@ __attribute__((constructor)) static void refuse_older_processors(void) {
   fputs("libscrypt_c: this processor lacks a feature of " PROCESSOR ", which the library was built for\n", stderr);
   abort();
 }
+
+#endif

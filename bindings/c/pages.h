@@ -1,4 +1,4 @@
-/* Huge pages. Whoever includes this defines _DEFAULT_SOURCE. */
+/* Pages. Whoever includes this defines _DEFAULT_SOURCE. */
 #ifndef PAGES_H
 #define PAGES_H
 
@@ -6,6 +6,13 @@
 #include <sys/mman.h>
 
 #define HUGE_PAGE ((size_t)2 << 20)
+
+/* Pages of arm64 have 4, 16 or 64 KiB, as the kernel was built. */
+#ifdef __aarch64__
+#define LARGEST_PAGE ((size_t)64 << 10)
+#else
+#define LARGEST_PAGE ((size_t)4 << 10)
+#endif
 
 /* May be refused. */
 static inline void ask_for_huge_pages(void *table, size_t size) {

@@ -2,6 +2,28 @@
  * writes those of SIMD to the stack when it binds a function at its first call. */
 #include "clearing.h"
 
+#ifdef __aarch64__
+
+/* A write to v0 clears all of z0, of which it is a part. The lower halves of v8 to v15 are the caller's, as x19 to x28 are: to clear
+ * them the code here would have to write them to the stack. */
+void clear_registers(void) {
+  __asm__ volatile(
+      "movi v0.2d, #0\n movi v1.2d, #0\n movi v2.2d, #0\n movi v3.2d, #0\n movi v4.2d, #0\n movi v5.2d, #0\n"
+      "movi v6.2d, #0\n movi v7.2d, #0\n mov v8.d[1], xzr\n mov v9.d[1], xzr\n mov v10.d[1], xzr\n mov v11.d[1], xzr\n"
+      "mov v12.d[1], xzr\n mov v13.d[1], xzr\n mov v14.d[1], xzr\n mov v15.d[1], xzr\n movi v16.2d, #0\n"
+      "movi v17.2d, #0\n movi v18.2d, #0\n movi v19.2d, #0\n movi v20.2d, #0\n movi v21.2d, #0\n movi v22.2d, #0\n"
+      "movi v23.2d, #0\n movi v24.2d, #0\n movi v25.2d, #0\n movi v26.2d, #0\n movi v27.2d, #0\n movi v28.2d, #0\n"
+      "movi v29.2d, #0\n movi v30.2d, #0\n movi v31.2d, #0\n"
+      "mov x0, #0\n mov x1, #0\n mov x2, #0\n mov x3, #0\n mov x4, #0\n mov x5, #0\n mov x6, #0\n mov x7, #0\n mov x8, #0\n mov x9, #0\n"
+      "mov x10, #0\n mov x11, #0\n mov x12, #0\n mov x13, #0\n mov x14, #0\n mov x15, #0\n mov x16, #0\n mov x17, #0\n"
+      "mov x18, #0\n" ::
+          : "v0", "v1", "v2", "v3", "v4", "v5", "v6", "v7", "v16", "v17", "v18", "v19", "v20", "v21", "v22", "v23", "v24",
+            "v25", "v26", "v27", "v28", "v29", "v30", "v31", "x0", "x1", "x2", "x3", "x4", "x5", "x6", "x7", "x8", "x9", "x10", "x11",
+            "x12", "x13", "x14", "x15", "x16", "x17", "x18");
+}
+
+#else
+
 #include <cpuid.h>
 
 /* Whether there are the registers zmm16 to zmm31, in which a copy of the C library's memcpy leaves what it copied. */
@@ -39,3 +61,5 @@ void clear_registers(void) {
       "vpxord %zmm28, %zmm28, %zmm28\n vpxord %zmm29, %zmm29, %zmm29\n vpxord %zmm30, %zmm30, %zmm30\n"
       "vpxord %zmm31, %zmm31, %zmm31\n");
 }
+
+#endif

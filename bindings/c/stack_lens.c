@@ -8,20 +8,26 @@
 
 /* No call uses DEEPEST bytes of the stack, and each uses more than OWN, which is room for the frames of paint and used.
  * MARGIN is for paths that test.c doesn't take, and OUTER for the callers of the proved calls in this library. */
-enum { DEEPEST = 1 << 16, OWN = 256, PAINT = 0xa5, WORD = sizeof(void *), MARGIN = 128, UNIT = 16, OUTER = 1024 };
+enum { DEEPEST = 1 << 16, OWN = 256, PAINT = 0xa5, MARGIN = 128, UNIT = 16, OUTER = 1024 };
 
-/* The place of the return address: where a call by the same caller has its own, and below it its frames. */
-#define RETURN_ADDRESS ((volatile uint8_t *)__builtin_frame_address(0) + WORD)
+#ifdef __x86_64__
+#define RETURN_LEN sizeof(void *) /* of its return address, which a call writes below the frame of its caller */
+#else
+#define RETURN_LEN 0
+#endif
+
+/* Below this another call by the same caller has its frames, and clear_stack writes zeros. */
+#define TOP ((volatile uint8_t *)__builtin_dwarf_cfa() - RETURN_LEN)
 
 __attribute__((noinline)) static void paint(void) {
-  volatile uint8_t *top = RETURN_ADDRESS;
+  volatile uint8_t *top = TOP;
   size_t i;
-  for (i = OWN; i <= DEEPEST; i++) *(top - i) = PAINT;
+  for (i = OWN; i <= DEEPEST + OWN; i++) *(top - i) = PAINT; /* used may be called with more on the stack */
 }
 
 /* How many bytes of the stack aren't painted any more. */
 __attribute__((noinline)) static size_t used(void) {
-  const volatile uint8_t *top = RETURN_ADDRESS;
+  const volatile uint8_t *top = TOP;
   size_t len = DEEPEST;
   while (len > OWN && *(top - len) == PAINT) len--;
   return len;

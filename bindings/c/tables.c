@@ -125,7 +125,7 @@ struct buffers tables_buffers(struct tables *tables, const scrypt_needs *one, si
   if (bytes > tables->used) {
 #ifdef MADV_POPULATE_WRITE
     /* All at once, which saves time if pages are small; from the start of the page in which the used ones end. */
-    size_t begin = tables->used - tables->used % 4096;
+    size_t begin = tables->used - tables->used % LARGEST_PAGE;
     if (has_huge(one)) (void)madvise(tables->front + begin, bytes - begin, MADV_POPULATE_WRITE);
 #endif
     tables->used = bytes;

@@ -1,17 +1,18 @@
 #!/bin/sh
 # Tests the libraries of build/lib from C and C++: what they export, the header's warnings, every call, AddressSanitizer,
 # valgrind, the stack, and what is installed; all calls of the library for x86-64-v3 too, if it is built. With the word
-# short: the exports, the version and one run of each.
+# short: the exports, the version and one run of each. With ARCH=aarch64-linux-gnu it tests the library for arm64 in Debian's
+# emulator, with random keys in place of the checkers, the compilers and what is installed.
 unset CDPATH
 cd "$(dirname "$0")/../.."
 . bindings/common.sh
-newer=$lib/glibc-hwcaps/x86-64-v3 newest=x86-64-v3
+newer=$lib/glibc-hwcaps/$newest
 if [ ! -e "$newer/libscrypt_c.so.0" ]; then
-  echo "no library for x86-64-v3, which an older processor does not build: only that for x86-64-v2 is tested"
-  newer= newest=x86-64-v2
+  test -z "$newest" || echo "no library for $newest, which an older processor does not build: only that for $oldest is tested"
+  newer= newest=$oldest
 fi
-# The shared library for x86-64-v2 in a folder that has no other.
-older=$room/x86-64-v2
+# The shared library for the oldest processor in a folder that has no other.
+older=$room/$oldest
 mkdir "$older"
 cp -P "$lib"/libscrypt_c.so.0* "$older"
 # each NAMES COMMAND.. runs a command with each of these libraries, and the processor whose code it calls.
@@ -19,7 +20,7 @@ each() {
   libraries=$1
   shift
   for library in $libraries; do
-    case $library in */x86-64-v2/*) processor=x86-64-v2 ;; *) processor=$newest ;; esac
+    case $library in */$oldest/*) processor=$oldest ;; *) processor=$newest ;; esac
     LD_LIBRARY_PATH=${library%/*} "$@" "$library" $processor
   done
 }
@@ -28,11 +29,11 @@ shared="$older/libscrypt_c.so.0 ${newer:+"$newer/libscrypt_c.so.0"}"
 # Builds and runs tests with a library that is for a processor. Its calls are bound before: that uses the stack too.
 short_tests() {
   for test in test test_stack; do
-    ${CC:-cc} -std=gnu99 -O2 -Wall -Wextra -Werror -Wl,-z,now -I"$lib" -DPROCESSOR="\"$2\"" bindings/c/$test.c \
+    $CC -std=gnu99 -O2 -Wall -Wextra -Werror -Wl,-z,now -I"$lib" -DPROCESSOR="\"$2\"" bindings/c/$test.c \
       -o "$room/$test" "$1" -lpthread
   done
-  "$room/test" small
-  "$room/test_stack" > /dev/null
+  $emulator "$room/test" small
+  $emulator "$room/test_stack" > /dev/null
   echo "called from C, also on a small stack: $2"
 }
 # The dynamic linker chooses by the processor, which its own option and a tunable of the C library can make an older one.
@@ -40,7 +41,7 @@ is_chosen() {
   [ -n "$newer" ] || return 0
   echo '#include <scrypt_c.h>' > "$room/version.c"
   echo 'int puts(const char *); int main(void) { return puts(scrypt_version()) < 0; }' >> "$room/version.c"
-  ${CC:-cc} -I"$lib" "$room/version.c" -o "$room/version" "$lib/libscrypt_c.so"
+  $CC -I"$lib" "$room/version.c" -o "$room/version" "$lib/libscrypt_c.so"
   expect() {
     loaded=$(shift; env LD_LIBRARY_PATH="$lib" "$@" "$room/version")
     case $loaded in *" $1") echo "chosen by the dynamic linker: $1" ;; *) echo "$2 takes that for $loaded" >&2; exit 1 ;; esac
@@ -50,19 +51,23 @@ is_chosen() {
   expect x86-64-v2 GLIBC_TUNABLES=glibc.cpu.hwcaps=-AVX2,-AVX2_Usable
 }
 
+if [ -n "$emulator" ]; then
+  $CC -O2 -Wall -Wextra -Werror -fPIC -shared bindings/c/emulator.c -o "$room/emulator.so"
+  emulator="$emulator -E LD_PRELOAD=$room/emulator.so"
+fi
 python3 bindings/c/abi.py "$lib"
 test -z "$(find "$lib" -type l)" # or the kit, and with it make check, refuses the repository
 release/hardened.sh "$lib/libscrypt_drop_in.so" $shared
 # In tail position its return address would be higher, and it would clear less than was measured.
-if objdump -d "$lib/libscrypt_c.so.0" | grep -E '[[:space:]](jmp|b)[[:space:]].*<clear_stack>'; then exit 1; fi
+if "${tools}objdump" -d "$lib/libscrypt_c.so.0" | grep -E '[[:space:]](jmp|b)[[:space:]].*<clear_stack>'; then exit 1; fi
 echo "bound to themselves, when they are loaded, and read-only then, with stack protection: the shared libraries"
 python3 bindings/version.py --check
 each "$built" short_tests
 is_chosen
 # The program that chooses parameters prints those that scrypt_tool takes, or says what it takes itself.
-build/bin/scrypt_calibrate 0.1 16 | grep -xE '1[0-4] 8 [1-9][0-9]*' > "$room/log"
+$emulator "$build/bin/scrypt_calibrate" ${emulator:+1}0.1 16 | grep -xE '1[0-4] 8 [1-9][0-9]*' > "$room/log"
 while read -r words; do
-  if build/bin/scrypt_calibrate $words > "$room/log" 2>&1 || [ $? != 2 ] || ! grep -qE '^usage|^10 8 1' "$room/log"; then
+  if $emulator "$build/bin/scrypt_calibrate" $words > "$room/log" 2>&1 || [ $? != 2 ] || ! grep -qE '^usage|^10 8 1' "$room/log"; then
     echo "scrypt_calibrate $words: not refused by name" >&2
     exit 1
   fi
@@ -78,7 +83,45 @@ nan 16
 1e-9 16
 END
 echo "scrypt_calibrate prints parameters, and refuses other words"
+compiled() {
+  program=$1
+  shift
+  $CC -std=gnu99 -O2 -Wall -Wextra -Werror -I"$lib" -o "$room/$program" "$@" -lpthread
+}
+# Our own C for the kit's, which passes the same test on x86-64.
+kit_tests() {
+  compiled test_kit bindings/c/test_kit.c "$@"
+  $emulator "$room/test_kit" four '' words
+}
+kit_tests bindings/c/kit_heap.c bindings/terminal/kit_os.c
+if [ -n "$is_kits" ] && command -v rt > /dev/null; then
+  kit=$(dirname "$(rt doc)")
+  kit_tests "$kit/c/libos_c.a" "$kit/c/liblibc_c.a"
+fi
+echo "as their contracts say: the functions in C that the proved code calls"
+if [ -n "$emulator" ]; then
+  compiled key_lines bindings/c/key_lines.c "$lib/libscrypt_c.a"
+  python3 -B bindings/c/random_keys.py 200 1 $emulator "$room/key_lines"
+fi
 if [ "${1:-}" = short ]; then exit; fi
+
+# The tests that need no checker, and the hasher. Not test_salt: the emulator refuses no system calls.
+in_emulator() {
+  for test in test_words test_order test_null threads test_traces; do
+    $CC -O2 -Wl,-z,now -I"$lib" -DPROCESSOR="\"$2\"" bindings/c/$test.c -o "$room/$test" "$1" -lpthread
+    $emulator "$room/$test" small
+  done
+  for test in test_hasher test_hasher_load; do
+    $CC -std=gnu99 -O2 -Wno-unused-function -Ibindings/c -DROOT="\"$room/root\"" bindings/c/$test.c -o "$room/$test" \
+      -L"$lib" -lscrypt_c -lpthread
+    LD_LIBRARY_PATH=$lib $emulator "$room/$test" > /dev/null
+  done
+}
+if [ -n "$emulator" ]; then
+  each "$lib/libscrypt_c.a $shared" in_emulator
+  echo "no fault in the emulator: the tests, four threads at once, and the hasher, for $oldest"
+  exit
+fi
 
 # A program that includes the header alone, with every warning as an error that does not ask for a newer language, or
 # for C++98, or complain of an inline function that is not called.

@@ -1,11 +1,12 @@
 /* How much of the stack calls use: each call of the header succeeds on a stack of SCRYPT_STACK_BYTES with no memory below
- * it, and on a thread whose stack has two pages more, for what the system has there. It leaves what is further below as it was, and zeros where it had its
- * frames, also for random texts.
+ * it, and on a thread whose stack has 8 KiB more, for what the system has there, or as much as the C library asks for. It leaves
+ * what is further below as it was, and zeros where it had its frames, also for random texts.
  *
  * usage: test_stack [DROP_IN]   a library with the names of others */
 #define _GNU_SOURCE
 #include "check.h"
 #include "every_call.c"
+#include "pages.h"
 
 #include <pthread.h>
 #include <sys/mman.h>
@@ -14,7 +15,7 @@
 #include <unistd.h>
 
 /* OWN is room for the frames of the test itself and of what isn't proved, which aren't cleared. */
-enum { PAGE = 4096, ROOM = 1 << 16, PAINT = 0xa5, OWN = 2048 };
+enum { OF_SYSTEM = 8192, ROOM = 1 << 16, PAINT = 0xa5, OWN = 2048 };
 
 static ucontext_t caller, callee;
 static int (*call_of_callee)(void);
@@ -50,9 +51,9 @@ static int holds_in_a_child(int (*test)(int (*call)(void)), int (*call)(void)) {
 }
 
 static int fits_its_stack(int (*call)(void)) {
-  uint8_t *below = mapped(PAGE + SCRYPT_STACK_BYTES);
-  if (mprotect(below, PAGE, PROT_NONE) != 0) exit(3);
-  return on_stack(below + PAGE, SCRYPT_STACK_BYTES, call) == SCRYPT_OK;
+  uint8_t *below = mapped(LARGEST_PAGE + SCRYPT_STACK_BYTES);
+  if (mprotect(below, LARGEST_PAGE, PROT_NONE) != 0) exit(3);
+  return on_stack(below + LARGEST_PAGE, SCRYPT_STACK_BYTES, call) == SCRYPT_OK;
 }
 
 static void *on_thread(void *call) { return (*(int (**)(void))call)() == SCRYPT_OK ? call : NULL; }
@@ -61,8 +62,9 @@ static int works_on_a_small_thread(int (*call)(void)) {
   pthread_attr_t attributes;
   pthread_t thread;
   void *answer = NULL;
+  size_t len = SCRYPT_STACK_BYTES + OF_SYSTEM, least = (size_t)PTHREAD_STACK_MIN;
   if (pthread_attr_init(&attributes) != 0) exit(3);
-  if (pthread_attr_setstacksize(&attributes, SCRYPT_STACK_BYTES + 2 * PAGE) != 0) exit(3);
+  if (pthread_attr_setstacksize(&attributes, len > least ? len : least) != 0) exit(3);
   if (pthread_create(&thread, &attributes, on_thread, &call) != 0) exit(3);
   return pthread_join(thread, &answer) == 0 && answer != NULL;
 }

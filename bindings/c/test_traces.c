@@ -36,7 +36,7 @@ struct turn {
   int (*call)(void);
   int status;
   uint8_t *volatile frame;
-  volatile int is_done, may_end;
+  int is_done, may_end; /* with these the other thread sees what was written before */
 };
 
 static void *take_turn(void *argument) {
@@ -44,8 +44,8 @@ static void *take_turn(void *argument) {
   uint8_t here;
   turn->frame = &here;
   turn->status = turn->call();
-  turn->is_done = 1;
-  while (!turn->may_end) {
+  __atomic_store_n(&turn->is_done, 1, __ATOMIC_RELEASE);
+  while (!__atomic_load_n(&turn->may_end, __ATOMIC_ACQUIRE)) {
   }
   return NULL;
 }
@@ -72,10 +72,10 @@ static int leaves_nothing(const char *name, int (*call)(void), int is_expected) 
   pthread_attr_init(&attributes);
   if (pthread_attr_setstack(&attributes, stack, STACK_LEN) != 0) exit(3);
   if (pthread_create(&thread, &attributes, take_turn, &turn) != 0) exit(3);
-  while (!turn.is_done) nanosleep(&soon, NULL);
+  while (!__atomic_load_n(&turn.is_done, __ATOMIC_ACQUIRE)) nanosleep(&soon, NULL);
   is_clear = is_cleared(stack, turn.frame);
   found = traces_search(is_expected);
-  turn.may_end = 1;
+  __atomic_store_n(&turn.may_end, 1, __ATOMIC_RELEASE);
   pthread_join(thread, NULL);
   check(turn.status == SCRYPT_OK, name);
   if (found > 0 && !is_expected) fprintf(stderr, "%zu traces of %s\n", found, name);

@@ -1,0 +1,53 @@
+#!/usr/bin/env python3
+"""Estimates the cycles of a Salsa20/8 core on arm64 by llvm-mca, which simulates a processor's pipeline by LLVM's description of it.
+No caches are simulated, and nothing is measured.
+
+usage: cycles.py LIBRARY [PROCESSOR..]
+
+LIBRARY is a library or an object for arm64. For each number of chunks at once it prints the least and the most cycles of the loops
+that registers.py knows, for each of their cores.
+"""
+
+import collections
+import re
+import subprocess
+import sys
+
+import registers
+
+LLVM_MCA = "llvm-mca-22"
+PROCESSORS = ["neoverse-n1", "neoverse-n2", "neoverse-v1", "neoverse-v2"]
+ITERATIONS = 100
+BRANCH = re.compile(r"(b(?:\.\w+)?|cbn?z\s+\w+,|tbn?z\s+\w+, #\w+,)\s+[0-9a-f]+ <.*")
+
+
+def cycles(texts, processor):
+    """How many cycles one iteration of a loop takes, with these instructions."""
+    lines = [BRANCH.sub(r"\1 .L", re.sub(r"\s+//.*", "", it)) for it in texts]
+    command = [LLVM_MCA, "-mtriple=aarch64", f"-mcpu={processor}", f"-iterations={ITERATIONS}", "-resource-pressure=false"]
+    ran = subprocess.run(command, input="\n".join([".L:", *lines, ""]), capture_output=True, check=True, text=True)
+    return int(re.search(r"Total Cycles: +(\d+)", ran.stdout)[1]) / ITERATIONS
+
+
+def loops(library):
+    """The instructions of each loop of cores, with its kind and its chunks."""
+    for code in registers.sections(library):
+        for first, last in registers.inner_loops(code):
+            texts = [text for at, text in code.items() if first <= at <= last]
+            its = [text.split()[0] for text in texts if registers.ROTATION.match(text)]
+            if its:
+                kind, of_a_chunk = registers.KINDS[its[0]]
+                yield kind, len(its) / of_a_chunk, texts
+
+
+def main(library, *processors):
+    processors = processors or PROCESSORS
+    found = collections.defaultdict(list)
+    for kind, chunks, texts in loops(library):
+        found[kind, chunks].append([cycles(texts, it) / (2 * chunks) for it in processors])
+    for (kind, chunks), rows in sorted(found.items(), key=lambda it: (it[0][1], it[0][0])):
+        each = (f"{name} {min(its):.0f} to {max(its):.0f}" for name, its in zip(processors, zip(*rows)))
+        print(f"{kind}, {chunks:g} at once, cycles for a core: {', '.join(each)}")
+
+
+main(*sys.argv[1:])

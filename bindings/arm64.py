@@ -1,0 +1,68 @@
+#!/usr/bin/env python3
+"""Proves and compiles for arm64: a copy of the crate scrypt that mixes one chunk in words (one_in_words.edit), and over it the
+crate scrypt_c, the commands and the program scrypt_tool. What it makes is in crates/NAME/out/arm64.
+
+usage: python3 -m bindings.arm64 NAME[=KEPT] ..   scrypt, scrypt_c, scrypt_commands and scrypt_tool, in this order; KEPT is a
+                                                  folder of proofs of the crate that are kept
+
+It needs the kit, and the libraries below the crate scrypt, which `make lib` proves. Without KEPT it begins with what it kept itself,
+or a check of the crate did.
+"""
+
+import os
+import shutil
+import sys
+import tempfile
+from pathlib import Path
+
+from tools import copies
+
+TARGET = "aarch64-unknown-linux-gnu"
+LIBRARIES = {"scrypt": "scrypt.rlib", "scrypt_commands": "scrypt_commands.rlib"}
+MADE = LIBRARIES | {"scrypt_c": "libscrypt_c.a", "scrypt_tool": "scrypt_tool.o"}
+EDITS = {"scrypt": ["bindings/one_in_words.edit"]}
+
+# LLVM would join the four words of a step to a vector again. If it follows operands no further than this, of 12 steps that are
+# usual, it doesn't, and all other code stays the same. bench/registers.py checks it.
+FLAGS = "-mllvm", "-slp-recursion-max-depth=8"
+
+# The gate proves from nothing.
+IS_GATE = "PROVED_LIBRARIES" in os.environ
+
+
+def begin(name, given):
+    """The folder of kept proofs to begin with, or none."""
+    own = [] if IS_GATE else [f"crates/{name}/out/arm64/kept", f"crates/{name}/out/incremental"]
+    return next((it for it in [given, *own] if os.path.isdir(it)), None)
+
+
+def build(room, name, given, *options):
+    """Proves and builds a copy of a crate."""
+    out = Path(f"crates/{name}/out/arm64").resolve()
+    out.mkdir(parents=True, exist_ok=True)
+    copies.copy_crate(name, room / name, EDITS.get(name, ()))
+    verdict = copies.build(name, room / name, out / MADE[name], *options, kept=begin(name, given))
+    shutil.rmtree(out / "kept", ignore_errors=True)
+    shutil.move(room / name / "kept", out / "kept")
+    print(f"== {name}-arm64\n{verdict}", flush=True)
+
+
+def main(*words):
+    # Not in the repository, in which rt refuses sources that are of no crate.
+    with tempfile.TemporaryDirectory() as folder:
+        room = Path(folder)
+        copies.copy_toolchain(room / "toolchain", *FLAGS)
+        copies.libraries_with(room / "libraries", "scrypt").symlink_to(copies.TOP / "crates/scrypt/out/arm64/scrypt.rlib")
+        (room / "libraries/scrypt_commands/out/rlib").mkdir(parents=True)
+        made = copies.TOP / "crates/scrypt_commands/out/arm64/scrypt_commands.rlib"
+        (room / "libraries/scrypt_commands/out/rlib/scrypt_commands.rlib").symlink_to(made)
+        compiled = ["--toolchain", room / "toolchain", "--backend", "llvm", "--target", TARGET]
+        for name, _, given in (it.partition("=") for it in words):
+            build(room, name, given, *([] if name in LIBRARIES else compiled))
+
+
+if __name__ == "__main__":
+    os.chdir(copies.TOP)
+    if not sys.argv[1:] or not {it.partition("=")[0] for it in sys.argv[1:]} <= MADE.keys():
+        sys.exit(__doc__)
+    main(*sys.argv[1:])

@@ -1,0 +1,80 @@
+"""Copies of crates and of the kit's toolchain, for a target for which other code is faster or smaller, and their build.
+
+A copy is changed by edits, as those of wrong bodies are written (edits.py), and is proved as the crate is.
+"""
+
+import os
+import re
+import shutil
+import subprocess
+import sys
+from pathlib import Path
+
+from tools import edits, kit, prover_command
+
+TOP = Path(__file__).resolve().parents[1]
+
+
+def run(*words, cwd=None):
+    """What a command prints. If it fails, this ends with that."""
+    how = {"stdout": subprocess.PIPE, "stderr": subprocess.STDOUT, "text": True, "errors": "replace"}
+    ran = subprocess.run(list(map(str, words)), cwd=cwd, **how)
+    if ran.returncode:
+        sys.exit(f"{ran.stdout}{words[0]} failed")
+    return ran.stdout
+
+
+def copy_crate(name, to, changes=(), left_out=()):
+    """Copies a crate, changed by these edits, without these functions and their proofs."""
+    for part in "src", "specs", "proofs":
+        if os.path.isdir(f"crates/{name}/{part}"):
+            shutil.copytree(f"crates/{name}/{part}", to / part)
+    for function in left_out:
+        leave_out(to, function)
+    edits.write(edits.texts_after(map(edits.of_file, changes), to))
+
+
+def leave_out(crate, function):
+    """Removes a function that C can call, with its doc comment and its answers."""
+    text = re.compile(rf'(?:///.*\n)*#\[.*\n(?:pub )?extern "C" fn {function}\b(?:.*\n)*?\}}\n')
+    found = [path for path in crate.glob("src/**/*.rt") if text.search(path.read_text("utf-8"))]
+    if len(found) != 1:
+        sys.exit(f"{function}: {len(found)} functions of that name")
+    found[0].write_text(text.sub("", found[0].read_text("utf-8")), "utf-8")
+    for answers in crate.glob(f"proofs/**/{function}"):
+        shutil.rmtree(answers)
+
+
+def copy_toolchain(to, *flags):
+    """The kit's toolchain, with a compiler that has these flags."""
+    own = f"{kit.located()}/toolchain"
+    (to / "bin").mkdir(parents=True)
+    (to / "lib").symlink_to(f"{own}/lib")
+    for tool in os.listdir(f"{own}/bin"):
+        (to / "bin" / tool).symlink_to(f"{own}/bin/{tool}")
+    compiler = to / "bin/clang"
+    compiler.unlink()
+    compiler.write_text(f'#!/bin/sh\nexec "{own}/bin/clang" {" ".join(flags)} "$@"\n')
+    compiler.chmod(0o755)
+
+
+def libraries_with(to, changed):
+    """A folder of libraries, as PROVED_LIBRARIES names one, for a crate over a changed one, which is built there."""
+    own = Path(os.environ.get("PROVED_LIBRARIES") or TOP / "crates")
+    (to / changed / "out/rlib").mkdir(parents=True)
+    for library in prover_command.below(changed):
+        (to / library).symlink_to(own / library)
+    os.environ["PROVED_LIBRARIES"] = str(to)
+    return to / changed / f"out/rlib/{changed}.rlib"
+
+
+def build(name, crate, output, *options, kept=None):
+    """Proves and builds a copy, from what is kept of proofs of its crate, and returns the verdict."""
+    if kept and os.path.isdir(kept):
+        shutil.copytree(kept, crate / "kept")
+    command = [*prover_command.of("build", name), "--jobs", "2", "--incremental", "kept", *options, "-o", output]
+    said = run(*command, cwd=crate)
+    verdict = re.search("^logic=proved .*", said, re.M)
+    if not verdict:
+        sys.exit(f"{said}{name}: not proved as wanted")
+    return verdict[0]
