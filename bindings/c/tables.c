@@ -10,13 +10,26 @@
 #include <sys/syscall.h>
 #include <unistd.h>
 
-#define NO_ADVICE (-1)
+static void *map_anonymous(size_t size, int flags) {
+  void *mapping = mmap(NULL, size, PROT_READ | PROT_WRITE, MAP_ANONYMOUS | MAP_NORESERVE | flags, -1, 0);
+  return mapping == MAP_FAILED ? NULL : mapping;
+}
+
+/* Whether advice is followed, or errno says why not. Some emulators accept all advice, and follow none. Others accept what Linux
+ * doesn't know, and hand this advice to Linux, which refuses it for shared memory. */
+static int is_advice_followed(void) {
+  void *shared = map_anonymous(1, MAP_SHARED);
+  int is_refused = shared != NULL && madvise(shared, 1, MADV_WIPEONFORK) != 0;
+  if (shared == NULL) return 0;
+  (void)munmap(shared, 1);
+  errno = EINVAL;
+  return is_refused;
+}
 
 void *map_zeros_in_child(size_t size) {
-  void *mapping = mmap(NULL, size, PROT_READ | PROT_WRITE, MAP_PRIVATE | MAP_ANONYMOUS | MAP_NORESERVE, -1, 0);
-  if (mapping == MAP_FAILED) return NULL;
-  /* Some emulators accept all advice, and follow none. */
-  if (madvise(mapping, size, NO_ADVICE) != 0 && madvise(mapping, size, MADV_WIPEONFORK) == 0) return mapping;
+  /* Before the mapping, for which there may be just enough memory. */
+  void *mapping = is_advice_followed() ? map_anonymous(size, MAP_PRIVATE) : NULL;
+  if (mapping == NULL || madvise(mapping, size, MADV_WIPEONFORK) == 0) return mapping;
   (void)munmap(mapping, size);
   errno = EINVAL;
   return NULL;

@@ -83,11 +83,17 @@ nan 16
 1e-9 16
 END
 echo "scrypt_calibrate prints parameters, and refuses other words"
+# What the system does with advice, for a program with its own madvise.
 compiled() {
   program=$1
   shift
   $CC -std=gnu99 -O2 -Wall -Wextra -Werror -I"$lib" -o "$room/$program" "$@" -lpthread
 }
+if [ -z "$emulator" ]; then
+  compiled test_advice bindings/c/test_advice.c "$lib/libscrypt_c.a"
+  "$room/test_advice"
+  echo "a hasher only if the system fills its memory with zeros in a child"
+fi
 # Our own C for the kit's, which passes the same test on x86-64.
 kit_tests() {
   compiled test_kit bindings/c/test_kit.c "$@"
