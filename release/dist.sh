@@ -9,15 +9,16 @@ SOURCE_DATE_EPOCH=$(git log -1 --format=%ct)
 export SOURCE_DATE_EPOCH LC_ALL=C TZ=UTC
 dist=$PWD/build/dist parts=$PWD/build/dist-parts version=$(cat VERSION)
 name=scrypt-proved-$version
-lib=$parts/files/lib
+archs="x86_64-linux-gnu aarch64-linux-gnu"
 python=/usr/bin/python3 # Debian's, which has hatchling
 
 needed() { echo "$1 is not here (Debian's package $2), and make dist needs it" >&2; exit 1; }
 command -v dh > /dev/null || needed dh debhelper
 command -v cargo > /dev/null || needed cargo cargo
+command -v aarch64-linux-gnu-strip > /dev/null || needed aarch64-linux-gnu-strip binutils-aarch64-linux-gnu
 $python -c 'import hatchling' 2> /dev/null || needed hatchling python3-hatchling
 ls -d /usr/share/cargo/registry/password-hash-0.4* > /dev/null 2>&1 || needed password-hash librust-password-hash-dev
-for built in build/bin/scrypt_tool build/lib/glibc-hwcaps; do
+for built in build/bin/scrypt_tool build/lib/glibc-hwcaps build/aarch64-linux-gnu/bin/scrypt_tool; do
   [ -e $built ] || { echo "not built: $built. \`make test\` builds all, with the kit" >&2; exit 1; }
 done
 python3 -B release/proved.py check
@@ -27,18 +28,24 @@ mkdir -p "$dist" "$parts"
 trap 'debian/rules clean > /dev/null 2>&1; rm -rf "$parts"' EXIT
 
 # The files below any prefix, the documents, and what PROVED.txt says of the files.
-make -s install prefix="$parts/files" pythondir="$parts/python" docdir="$parts/doc" DESTDIR=
+for ARCH in $archs; do
+  make -s install prefix="$parts/files/$ARCH" pythondir="$parts/python" docdir="$parts/doc" DESTDIR= ARCH="$ARCH"
+  ARCH=$ARCH release/strip.sh "$parts/files/$ARCH"
+done
 python3 -B -m doc.promises clauses > "$parts/doc/docs/CLAUSES.md"
-release/strip.sh "$parts/files"
 python3 -B release/proved.py text "$parts/files" > "$parts/PROVED.txt"
-# The newest glibc whose names a binary may take: the wheel's tag manylinux2014 promises 2.17 for its libraries.
+# The newest glibc whose names a binary may take: the wheel's tag promises 2.17 for its libraries.
 glibc() {
-  newest=$(objdump -T "$2" | grep -o 'GLIBC_[0-9.]*' | sort -Vu | tail -n 1)
+  newest=$("${tools}objdump" -T "$2" | grep -o 'GLIBC_[0-9.]*' | sort -Vu | tail -n 1)
   printf '%s\n' "$newest" "GLIBC_$1" | sort -V -C || { echo "$2 takes names of $newest, newer than $1" >&2; exit 1; }
 }
-release/hardened.sh "$parts"/files/bin/* "$lib"/lib*.so "$lib"/glibc-hwcaps/*/*
-for file in "$lib"/libscrypt_c.so.0 "$lib"/glibc-hwcaps/*/*; do glibc 2.17 "$file"; done
-for file in "$parts"/files/bin/* "$lib"/libscrypt_drop_in.so; do glibc 2.34 "$file"; done
+for ARCH in $archs; do
+  . bindings/arch.sh
+  files=$parts/files/$ARCH
+  release/hardened.sh "$files"/bin/* $(find "$files/lib" -name 'lib*.so*')
+  for file in $(find "$files/lib" -name 'libscrypt_c.so.0'); do glibc 2.17 "$file"; done
+  for file in "$files"/bin/* "$files/lib/libscrypt_drop_in.so"; do glibc 2.34 "$file"; done
+done
 
 # packed NAME.. packs folders of parts into an archive of the first one's name.
 packed() {
@@ -46,15 +53,21 @@ packed() {
   tar -C "$parts" --sort=name --mtime=@"$SOURCE_DATE_EPOCH" --owner=0 --group=0 --numeric-owner --format=posix \
     --pax-option=delete=atime,delete=ctime -cf - "$1" | gzip -9n > "$dist/$1.tar.gz"
 }
-debian/rules clean binary > "$parts/log" 2>&1 || { cat "$parts/log"; exit 1; }
-export SCRYPT_C_LIBRARY="$lib" SCRYPT_C_PROVED="$parts/PROVED.txt"
-(cd bindings/python && $python -B -m hatchling build -t wheel -d "$dist")
+export SCRYPT_C_PROVED="$parts/PROVED.txt"
+for ARCH in $archs; do
+  dpkg-architecture -t "$ARCH" -f -c debian/rules clean binary > "$parts/log" 2>&1 || { cat "$parts/log"; exit 1; }
+  (cd bindings/python && SCRYPT_C_LIBRARY="$parts/files/$ARCH/lib" $python -B -m hatchling build -t wheel -d "$dist")
+done
 
 set -- LICENSE release/NOTICES "$parts/PROVED.txt"
 module=scrypt-go-$version
 mkdir "$parts/$module"
 cp "$@" bindings/go/*.go bindings/go/library.h bindings/go/go.mod bindings/go/README.md "$parts/$module"
-cp "$lib/libscrypt_c.a" build/lib/scrypt_c.h "$parts/$module"
+for ARCH in $archs; do
+  . bindings/arch.sh
+  cp "$parts/files/$ARCH/lib/libscrypt_c.a" "$parts/$module/$in_go"
+done
+cp build/lib/scrypt_c.h "$parts/$module"
 packed "$module"
 
 mkdir "$parts/cargo"
@@ -65,11 +78,14 @@ cp release/NOTICES "$parts/PROVED.txt" "$lib/libscrypt_c.a" build/lib/scrypt_c.h
 (cd bindings/rust && cargo package --quiet --offline --no-verify --allow-dirty)
 cp "$parts"/cargo/package/*.crate "$dist"
 
-mkdir "$parts/$name-linux-x86_64"
-mv "$parts/files" "$parts/$name-linux-x86_64/"
-cp "$@" release/install.sh "$dist"/*.whl "$parts/$name-linux-x86_64"
-cp -R "$parts/doc/README.md" "$parts/doc/SECURITY.md" "$parts/doc/docs" "$parts/$name-linux-x86_64"
-packed "$name-linux-x86_64"
+for ARCH in $archs; do
+  packed=$name-linux-${ARCH%%-*}
+  mkdir "$parts/$packed"
+  mv "$parts/files/$ARCH" "$parts/$packed/files"
+  cp "$@" release/install.sh "$dist"/*_"${ARCH%%-*}".whl "$parts/$packed"
+  cp -R "$parts/doc/README.md" "$parts/doc/SECURITY.md" "$parts/doc/docs" "$parts/$packed"
+  packed "$packed"
+done
 git archive --format=tar --prefix="$name/" HEAD | gzip -9n > "$dist/$name-source.tar.gz"
 chmod 644 "$dist"/*
 (cd "$dist" && sha256sum -- * > "$parts/SHA256SUMS")

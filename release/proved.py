@@ -19,11 +19,15 @@ from pathlib import Path
 
 KEPT = Path("build/proved.json")
 # What the kit built, and what was linked of it.
-PACKED = ["crates/scrypt_c/out/**/libscrypt_c.a", "crates/scrypt_tool/out/scrypt_tool*", "build/lib/**/*", "build/bin/*"]
+PACKED = [
+    *["crates/scrypt_c/out/**/libscrypt_c.a", "crates/scrypt_tool/out/scrypt_tool*", "crates/scrypt_tool/out/arm64/scrypt_tool.o"],
+    *["build/lib/**/*", "build/bin/*", "build/aarch64-linux-gnu/**/*"],
+]
 UNPROVED = "There is no verdict here: `make dist UNPROVED=1` packed what was built, proved or not."
 GATE = """\
 The gate proved each crate from nothing, in this commit's own clone, and what is packed was linked there. The library for C
-is proved once for both processors, in a folder that was empty before, so its lines have `incremental=trusted`."""
+is proved once for both levels of x86-64, in a folder that was empty before, so its lines have `incremental=trusted`, and so
+have those for arm64, whose copies of crates are in folders of their own."""
 
 
 def output(*command):
@@ -110,13 +114,13 @@ def text(folder):
     tools = [output(tool, "--version").split("\n")[0] for tool in (os.environ.get("CC", "cc"), "ld")]
     said = "\n\n".join([f"{GATE}\nIt was {record['kit']}.", *record["verdicts"]]) if record else UNPROVED
     files = {os.path.relpath(path, folder): it for path, it in digests(Path(folder).rglob("*")).items()}
-    built = {path: it for path, it in packed().items() if path.startswith("crates/")}
+    built = {path: it for path, it in packed().items() if path.startswith("crates/") or path.endswith(".wasm")}
     sections = [
         ("scrypt, proved", f"version {version}\ncommit  {commit()}\nlinker  {', '.join(tools)}"),
         ("What the gate printed of each crate, and of its tests", said),
         ("What is trusted", claims(Path("README.md").read_text(encoding="utf-8"))),
         ("SHA-256 of the binaries, as they are in the packages",
-         "\n".join(f"{it}  {path}" for path, it in files.items() if re.search(r"\.so|\.a$|^bin/", path))),
+         "\n".join(f"{it}  {path}" for path, it in files.items() if re.search(r"\.so|\.a$|\bbin/", path))),
         ("SHA-256 of what the kit built, from which these were linked", "\n".join(f"{it}  {path}" for path, it in built.items())),
         ("To compare", "With the kit and this compiler and linker, the gate and `make dist` on this commit make the same files."),
     ]

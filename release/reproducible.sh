@@ -15,11 +15,12 @@ if [ -e build/proved.json ]; then cp build/proved.json "$room/source/build/"; fi
 command="make test dist"
 if [ "${1:-}" != proofs ]; then
   for file in crates/scrypt_c/out/libscrypt_c.a crates/scrypt_c/out/x86-64-v3/libscrypt_c.a \
-    crates/scrypt_tool/out/scrypt_tool.o crates/scrypt_tool/out/scrypt_tool; do
+    crates/scrypt_tool/out/scrypt_tool.o crates/scrypt_tool/out/scrypt_tool crates/scrypt_c/out/arm64/libscrypt_c.a \
+    crates/scrypt_tool/out/arm64/scrypt_tool.o; do
     mkdir -p "$room/source/${file%/*}"
     cp -p $file "$room/source/$file"
   done
-  command="bindings/lib.sh built && bindings/terminal/build.sh && release/dist.sh"
+  command="bindings/lib.sh built && bindings/terminal/build.sh && ARCH=aarch64-linux-gnu bindings/lib.sh built && release/dist.sh"
 fi
 # What is left out needs a file system or a clock of its own, or another user. rustup finds its cargo below the home.
 export RUSTUP_HOME="${RUSTUP_HOME:-$HOME/.rustup}"

@@ -1,6 +1,11 @@
 /* What the package includes of the library. */
-#if defined SCRYPT_BUNDLED && !(__has_include("scrypt_c.h") && __has_include("libscrypt_c.a"))
-#error "scrypt_c.h and libscrypt_c.a are not in the package's folder: make lib, or make install and -tags scrypt_system"
+#ifdef __aarch64__
+#define LIBRARY "libscrypt_c_arm64.a"
+#else
+#define LIBRARY "libscrypt_c.a"
+#endif
+#if defined SCRYPT_BUNDLED && !(__has_include("scrypt_c.h") && __has_include(LIBRARY))
+#error "scrypt_c.h and libscrypt_c.a, or libscrypt_c_arm64.a, are not in the package's folder: make lib, or make install and -tags scrypt_system"
 #else
 #include <scrypt_c.h>
 

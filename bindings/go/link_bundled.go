@@ -1,7 +1,8 @@
-//go:build cgo && linux && amd64 && !scrypt_system
+//go:build cgo && linux && (amd64 || arm64) && !scrypt_system
 
 package scrypt
 
 // #cgo CFLAGS: -I${SRCDIR} -DSCRYPT_BUNDLED
-// #cgo LDFLAGS: ${SRCDIR}/libscrypt_c.a -lpthread
+// #cgo amd64 LDFLAGS: ${SRCDIR}/libscrypt_c.a -lpthread
+// #cgo arm64 LDFLAGS: ${SRCDIR}/libscrypt_c_arm64.a -lpthread
 import "C"

@@ -32,13 +32,13 @@ refused() {
   fi
   grep -q "$words" "$room/log" || { cat "$room/log"; exit 1; }
 }
-refused 'error.*libscrypt_c.a are not in' go build .
+refused 'error.*libscrypt_c.a, .* are not in' go build .
 cp "$lib/scrypt_c.h" "$room/bare"
-refused 'error.*libscrypt_c.a are not in' go build .
+refused 'error.*libscrypt_c.a, .* are not in' go build .
 cp "$lib/libscrypt_c.a" "$room/bare"
 (cd "$room/bare" && go build .)
 refused 'undefined: scrypt_needs_cgo' env CGO_ENABLED=0 go build .
-refused 'undefined: scrypt_needs_cgo.*linux_amd64' env GOARCH=arm64 go build .
+refused 'undefined: scrypt_needs_cgo.*linux_amd64_or_arm64' env GOARCH=riscv64 go build .
 echo "a build without the library, without cgo, or for another processor says what is missing"
 
 # A program in a module of its own, which prints true.

@@ -1,4 +1,4 @@
-"""Puts the library into the package, for x86-64-v2 and, if it is there, for x86-64-v3, with the licences.
+"""Puts the library into the package, for x86-64-v2 and, if it is there, for x86-64-v3, or for arm64, with the licences.
 
 It is the file that SCRYPT_C_LIBRARY names, or that of this name in the folder that it names, or else the one that
 `make lib` put into build/lib of the repository; a source archive has it in the package already, and takes no file from
@@ -13,6 +13,9 @@ from hatchling.builders.hooks.plugin.interface import BuildHookInterface
 
 SONAME = "libscrypt_c.so.0"
 NEWER = f"glibc-hwcaps/x86-64-v3/{SONAME}"
+
+# What a library says of its processor, in the header of the file, and what Python calls that.
+MACHINES = {62: "x86_64", 183: "aarch64"}
 
 
 class Library(BuildHookInterface):
@@ -32,5 +35,7 @@ class Library(BuildHookInterface):
             texts.append(pathlib.Path(os.environ["SCRYPT_C_PROVED"]))
         files |= {str(it): f"{folder}{it.name}" for it in texts if it.exists()}
         if is_wheel:
-            # The newest name that the library takes from glibc is of 2.14, and this tag asks for 2.17.
-            build_data |= {"pure_python": False, "tag": "py3-none-manylinux2014_x86_64"}
+            # The newest name that the library takes from glibc is of 2.14, or of 2.17 for arm64, and this tag asks for 2.17.
+            library = next((it for it in found.values() if it.exists()), root / "scrypt_c" / SONAME)
+            machine = MACHINES[int.from_bytes(library.read_bytes()[18:20], "little")]
+            build_data |= {"pure_python": False, "tag": f"py3-none-manylinux_2_17_{machine}.manylinux2014_{machine}"}
