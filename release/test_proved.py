@@ -27,6 +27,7 @@ git init -q && git add VERSION README.md && git commit -qm "The sources"
 ROWS = [
     ("nothing changed", "keep; dist", 0, "low\n    logic=proved functions=1"),
     ("the binaries have their hashes", "keep; dist", 0, "  lib/libscrypt_c.a"),
+    ("what is assumed of the system calls is named", "keep; dist", 0, "The axioms of the program\n-------------------------\nlibc::chdir\n"),
     ("a crate that an earlier gate proved", "keep 'rt: low is kept: an earlier run'; dist", 0, "low\n    an earlier run"),
     ("no gate", "dist", 1, "make test"),
     ("no gate, which is allowed", "UNPROVED=1; export UNPROVED; dist", 0, "There is no verdict here"),
@@ -51,6 +52,8 @@ def run(script, folder):
 
 def prepare(folder):
     shutil.copytree(ROOT / "release", folder / "release")
+    (folder / "doc").mkdir()
+    shutil.copy(ROOT / "doc" / "axioms.txt", folder / "doc")
     for name in ("README.md", "VERSION"):
         shutil.copy(ROOT / name, folder)
     (folder / "bin").mkdir()
