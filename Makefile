@@ -7,8 +7,9 @@
 #                  with ARCH=aarch64-linux-gnu those for arm64, and the program, into build/aarch64-linux-gnu
 #   make install   installs what is built below prefix=/usr/local, and honours DESTDIR
 #   make uninstall removes it, with the same variables
+#   make js        proves and builds the module for JavaScript into bindings/js, and tests it in Node and in Chromium
 #   make doc       makes pages for reading the proof, build/doc/index.html; it needs python3-jinja2 and python3-pygments
-#   make dist      makes packages for Debian, Python, Go and Rust, an archive, the sources and their hashes in build/dist
+#   make dist      makes packages for Debian, Python, Go, Rust and npm, an archive, the sources and their hashes in build/dist
 # To change it:
 #   make check     proves and tests what changed since the last check
 #   make documents checks the documents and the scripts, and reports every fault
@@ -24,7 +25,7 @@
 # A user's CDPATH would make cd go elsewhere.
 unexport CDPATH
 
-.PHONY: help run test lib install uninstall doc dist check documents wrong-bodies oracle callers bench clean kit
+.PHONY: help run test lib js install uninstall doc dist check documents wrong-bodies oracle callers bench clean kit
 
 help:
 	@sed -n '/^#/!q; s/^# \{0,1\}//p' Makefile
@@ -119,6 +120,11 @@ oracle: lib
 lib: kit
 	$(MAKE) -j$(SIDE_BY_SIDE) proved-scrypt
 	bindings/lib.sh
+
+js: kit
+	$(MAKE) -j$(SIDE_BY_SIDE) proved-scrypt
+	python3 -m bindings.js.build
+	bindings/js/test/test.sh
 
 # Where `make install` puts what is built, by the names that other projects use; PREFIX is another name for prefix.
 prefix = $(or $(PREFIX),/usr/local)

@@ -19,7 +19,7 @@ from tools.sources import read, read_crate
 
 DOCS = ["*.md", "docs/*.md", "bindings/**/*.md", "release/*.md", "examples/**/*.md"]
 SOURCES = ["crates/**/*.rt", "crates/**/*.antt", "examples/**/*.py"]
-SOURCES += [f"bindings/**/*.{suffix}" for suffix in ("c", "h", "py", "go", "rs")]
+SOURCES += [f"bindings/**/*.{suffix}" for suffix in ("c", "h", "py", "go", "rs", "js")]
 
 # Names of other programs and libraries.
 OTHERS = {"check_password", "find_package", "generate", "maxmem_bytes", "mlockall", "must_use", "needs_update", "run_in_executor"}

@@ -3,8 +3,8 @@
 - At once: the documents, the scripts and what must not compile. A fault there ends the gate early.
 - When the crates below are proved, over a copy of their libraries: the wrong bodies, and the static libraries for C, since
   `rt lib` takes nothing from `rt ci` and would prove the crates below again. The first of these libraries checks its crate
-  in an empty folder; the second, and the wrong bodies of that crate, take from it what they leave unchanged. Then they are
-  linked and called.
+  in an empty folder; the second, the module for JavaScript, and the wrong bodies of that crate, take from it what they leave
+  unchanged. Then they are linked and called.
 - When the program is proved: its answers. It is linked with what asks at a terminal after that.
 - For arm64: a copy of the crate scrypt that mixes one chunk otherwise, as soon as the crates below it are proved. When the crate
   below the program is proved, the library and the program over that copy, whose calls and answers run in an emulator. A package that
@@ -40,6 +40,8 @@ NEWER = "x86-64-v3"
 LIBRARY = "the library for C"
 
 SCRYPT_FOR_ARM64 = "scrypt for arm64"
+
+MODULE = "the module for JavaScript"
 
 PROGRAM = "crates/scrypt_tool/out/scrypt_tool"
 
@@ -230,6 +232,13 @@ def test_arm64(tasks, kept):
     return tasks.run("env", "-u", "CC", "ARCH=aarch64-linux-gnu", "sh", "-c", command)
 
 
+def build_module(tasks, kept, is_for_arm64):
+    """Builds the module for JavaScript over what the build of the libraries kept, and that of the crate scrypt for arm64."""
+    tasks.begun[LIBRARY].result()
+    below = ["crates/scrypt/out/arm64/kept"] if is_for_arm64 else []
+    return tasks.run(sys.executable, "-m", "bindings.js.build", kept, *below)
+
+
 def add_all(tasks, made, kept, is_built):
     """Adds the tasks, the longest first. The wrong bodies of scrypt_c are tried over what the build of the libraries kept."""
     is_for_arm64 = is_built and not missing_for_arm64()
@@ -238,6 +247,9 @@ def add_all(tasks, made, kept, is_built):
     if is_built:
         tasks.add(LIBRARY, prover_command.below("scrypt_c"), lambda: build(tasks, made, kept))
         tasks.add("callers of the library", prover_command.below("scrypt_c"), lambda: link_and_call(tasks, made), LIBRARY)
+        before = SCRYPT_FOR_ARM64 if is_for_arm64 else LIBRARY
+        tasks.add(MODULE, prover_command.below("scrypt_c"), lambda: build_module(tasks, kept, is_for_arm64), before)
+        tasks.add("callers of the module", prover_command.below("scrypt_c"), lambda: tasks.run("bindings/js/test/test.sh"), MODULE)
     for name in edits.crates_with(edits.GATE):
         over, before = (["over", kept], LIBRARY) if name == "scrypt_c" and is_built else ([], None)
         command = [sys.executable, "-m", "ci.wrong_bodies", *over, name]

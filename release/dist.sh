@@ -1,6 +1,6 @@
 #!/bin/sh
-# Makes build/dist from what is built: Debian packages, the Python wheel, the Go module, the Rust crate, an archive of
-# everything, the sources and the hashes of all. It is the same byte by byte wherever and whenever it is made.
+# Makes build/dist from what is built: Debian packages, the Python wheel, the Go module, the Rust crate, the package for npm,
+# an archive of everything, the sources and the hashes of all. It is the same byte by byte wherever and whenever it is made.
 set -eu
 unset CDPATH
 umask 022
@@ -18,7 +18,7 @@ command -v cargo > /dev/null || needed cargo cargo
 command -v aarch64-linux-gnu-strip > /dev/null || needed aarch64-linux-gnu-strip binutils-aarch64-linux-gnu
 $python -c 'import hatchling' 2> /dev/null || needed hatchling python3-hatchling
 ls -d /usr/share/cargo/registry/password-hash-0.4* > /dev/null 2>&1 || needed password-hash librust-password-hash-dev
-for built in build/bin/scrypt_tool build/lib/glibc-hwcaps build/aarch64-linux-gnu/bin/scrypt_tool; do
+for built in build/bin/scrypt_tool build/lib/glibc-hwcaps build/aarch64-linux-gnu/bin/scrypt_tool bindings/js/scrypt.wasm; do
   [ -e $built ] || { echo "not built: $built. \`make test\` builds all, with the kit" >&2; exit 1; }
 done
 python3 -B release/proved.py check
@@ -69,6 +69,16 @@ for ARCH in $archs; do
 done
 cp build/lib/scrypt_c.h "$parts/$module"
 packed "$module"
+
+# As `npm pack` makes it.
+mkdir "$parts/package"
+files=$(cd bindings/js && $python -c 'import json; print(*json.load(open("package.json"))["files"])')
+for file in package.json README.md $files; do
+  case $file in NOTICES | PROVED.txt) ;; *) cp "bindings/js/$file" "$parts/package" ;; esac
+done
+cp "$@" "$parts/package"
+packed package
+mv "$dist/package.tar.gz" "$dist/$name.tgz"
 
 mkdir "$parts/cargo"
 cp release/cargo.toml "$parts/cargo/config.toml"

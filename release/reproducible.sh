@@ -16,7 +16,7 @@ command="make test dist"
 if [ "${1:-}" != proofs ]; then
   for file in crates/scrypt_c/out/libscrypt_c.a crates/scrypt_c/out/x86-64-v3/libscrypt_c.a \
     crates/scrypt_tool/out/scrypt_tool.o crates/scrypt_tool/out/scrypt_tool crates/scrypt_c/out/arm64/libscrypt_c.a \
-    crates/scrypt_tool/out/arm64/scrypt_tool.o; do
+    crates/scrypt_tool/out/arm64/scrypt_tool.o build/wasm/scrypt64.wasm bindings/js/scrypt.wasm; do
     mkdir -p "$room/source/${file%/*}"
     cp -p $file "$room/source/$file"
   done

@@ -18,8 +18,9 @@ PATH=$PWD/bin:$PATH lib=crates/scrypt_c/out/x86-64-v3/libscrypt_c.a
 export GIT_AUTHOR_NAME=a GIT_AUTHOR_EMAIL=a GIT_COMMITTER_NAME=a GIT_COMMITTER_EMAIL=a
 """
 PREPARED = r"""
-mkdir -p packed/lib crates/scrypt_c/out/x86-64-v3 crates/scrypt_tool/out build/lib build/bin
+mkdir -p packed/lib crates/scrypt_c/out/x86-64-v3 crates/scrypt_tool/out build/lib build/bin build/wasm bindings/js
 change packed/lib/libscrypt_c.a $lib build/lib/libscrypt_c.a build/bin/scrypt_tool crates/scrypt_tool/out/scrypt_tool
+change build/wasm/scrypt64.wasm bindings/js/scrypt.wasm
 git init -q && git add VERSION README.md && git commit -qm "The sources"
 """
 
@@ -36,6 +37,8 @@ ROWS = [
     ("a change before the gate", "change VERSION; keep; dist", 1, "nothing was proved"),
     ("another library of the kit", "keep; change $lib; dist", 1, "x86-64-v3/libscrypt_c.a is not the file that the gate left"),
     ("another program in its place", "keep; change build/bin/scrypt_tool; dist", 1, "build/bin/scrypt_tool is not the file"),
+    ("another module", "keep; change bindings/js/scrypt.wasm; dist", 1, "bindings/js/scrypt.wasm is not the file"),
+    ("the module has its hash", "keep; dist", 0, "  bindings/js/scrypt.wasm"),
     ("a library more", "keep; change build/lib/other.so; dist", 1, "build/lib/other.so is not the file"),
     ("a library less", "keep; rm build/lib/libscrypt_c.a; dist", 1, "build/lib/libscrypt_c.a is not the file"),
     ("a crate that is not proved", "keep logic=failed", 1, "low is not proved"),

@@ -1,0 +1,90 @@
+#!/usr/bin/env python3
+"""Makes bindings/js/scrypt.wasm of the crate scrypt_c, without what the package doesn't call.
+
+usage: build.py                     begins with the proofs that are kept in crates/scrypt_c/out and crates/scrypt/out
+       build.py KEPT [KEPT_BELOW]   or in these folders, the second of which is of the crate scrypt
+
+The crate is proved for WebAssembly with a 64-bit memory, over a copy of the crate scrypt that mixes at most two chunks at a
+time (two_at_once.edit): with three or four, engines lack registers. It is linked as build/wasm/scrypt64.wasm. scrypt.wasm is
+the same with a 32-bit memory. It needs the kit, and the libraries below the crate, which `make lib` proves.
+"""
+
+import re
+import shutil
+import subprocess
+import sys
+import tempfile
+from pathlib import Path
+
+from bindings.js import lower
+from tools import copies
+
+TOP = Path(__file__).resolve().parents[2]
+
+TARGET = "wasm64-unknown-unknown"
+MADE = TOP / "build/wasm/scrypt64.wasm"
+MODULE = TOP / "bindings/js/scrypt.wasm"
+
+# The calls that the package makes. Others are left out: those that allocate have no allocator on this target.
+CALLS = set("""
+scrypt_hash_mcf_with_buffers scrypt_hash_needs scrypt_hash_params scrypt_hash_phc_with_buffers scrypt_kdf_with_buffers
+scrypt_limits_for_new scrypt_needs_rehash scrypt_params_need scrypt_verify_with_buffers
+""".split())
+
+# The kit compiles for the oldest processor of this target, which has no vectors. Every engine has them by now, and with them a
+# key takes less than half of the time.
+VECTORS = "-msimd128"
+
+
+def other_calls():
+    """The calls of the crate that the package doesn't make."""
+    texts = [path.read_text("utf-8") for path in Path("crates/scrypt_c/src").glob("**/*.rt")]
+    return sorted({name for text in texts for name in re.findall(r'extern "C" fn (\w+)', text)} - CALLS)
+
+
+def prove(room, kept, kept_below):
+    """Proves the two crates, and returns what the linker takes."""
+    scrypt, crate, toolchain, archive = (room / name for name in ("scrypt", "scrypt_c", "toolchain", "libscrypt_c.a"))
+    copies.copy_crate("scrypt", scrypt, ["bindings/js/two_at_once.edit"])
+    copies.copy_crate("scrypt_c", crate, left_out=other_calls())
+    copies.copy_toolchain(toolchain, VECTORS)
+    library = copies.libraries_with(room / "libraries", "scrypt")
+    below = copies.build("scrypt", scrypt, library, kept=kept_below)
+    options = ["--target", TARGET, "--toolchain", toolchain, "--backend", "llvm"]
+    verdict = copies.build("scrypt_c", crate, archive, *options, kept=kept)
+    # It calls nothing outside, so that no axiom is reached.
+    if f" target={TARGET} " not in verdict or "axioms=" in verdict:
+        sys.exit(f"{verdict}\nnot proved as wanted")
+    print(f"== scrypt-two-at-once\n{below}\n== scrypt_c-wasm64\n{verdict}")
+    return archive
+
+
+def optimizer():
+    """Binaryen's wasm-opt, if it is newer than version 108, which gets the lowering of some instructions wrong."""
+    found = shutil.which("wasm-opt")
+    said = subprocess.run([found, "--version"], capture_output=True, text=True, check=True).stdout if found else ""
+    version = re.search(r"version (\d+)", said)
+    return found if version and int(version[1]) > 108 else None
+
+
+def lower_memory(source, target):
+    """Makes the module with a 32-bit memory by wasm-opt, or by lower.py where that can't be. Returns by which."""
+    options = ["--enable-memory64", "--enable-simd", "--enable-bulk-memory", "--memory64-lowering", "-o", target]
+    if optimizer() and subprocess.run([optimizer(), source, *options], capture_output=True).returncode == 0:
+        return "wasm-opt"
+    lower.main(source, target)
+    return "lower.py"
+
+
+def main(kept, kept_below=None):
+    MADE.parent.mkdir(parents=True, exist_ok=True)
+    # Not in the repository, in which rt refuses sources that are of no crate.
+    with tempfile.TemporaryDirectory() as room:
+        archive = prove(Path(room), kept, kept_below)
+        own = copies.kit.located()
+        copies.run(f"{own}/bin/rattle-link", "--target", TARGET, "--toolchain", f"{own}/toolchain", "-o", MADE, archive)
+    print(f"{lower_memory(MADE, MODULE)} made {MODULE.stat().st_size} bytes of {MADE.stat().st_size}")
+
+
+if __name__ == "__main__":
+    main(*sys.argv[1:] or ("crates/scrypt_c/out/incremental", "crates/scrypt/out/incremental"))

@@ -1,0 +1,131 @@
+/** A string is encoded as UTF-8; one with a lone surrogate is refused. */
+export type Bytes = string | ArrayBuffer | ArrayBufferView;
+
+export interface Params {
+  /** The cost, a power of two. A derivation takes 128 * N * r bytes of memory. */
+  N: number;
+  /** The block size. */
+  r: number;
+  /** The parallelization. Two chunks are mixed at a time, in twice the memory, if `maxmem` and the engine allow it. */
+  p: number;
+  /** The length of the key in bytes; 32 if left out. Of a new hash it is 10 to 64. */
+  dkLen?: number | undefined;
+}
+
+/** As options, each of which may be left out or undefined: 2 ** 17, 8 and 1, and 32 bytes. */
+export type PartialParams = { [K in keyof Params]?: Params[K] | undefined };
+
+/** As they are read from a hash. */
+export type ReadParams = Params & { dkLen: number };
+
+export interface KeyOptions extends Params {
+  /** The most bytes of memory; 2 ** 30 + 2 ** 20 if left out. */
+  maxmem?: number | undefined;
+  /** The most work, 4 * (N + 32) * r * p; no limit if left out. */
+  maxwork?: number | undefined;
+}
+
+export interface HashOptions extends PartialParams {
+  /** 1 to 64 bytes, or any number for `'mcf'`; 16 random ones if left out. */
+  salt?: Bytes | undefined;
+  /** `'phc'`, the default: `$scrypt$ln=17,r=8,p=1$..`; or `'mcf'`, as crypt(3) has it: `$7$..`. */
+  format?: 'phc' | 'mcf' | undefined;
+  /** The most bytes of memory; 2 ** 30 + 2 ** 20 if left out. */
+  maxmem?: number | undefined;
+}
+
+/**
+ * An untrusted hash chooses its own cost. The limits that are left out admit hashes that are made with these parameters, and
+ * 4 times the work of the defaults. `Infinity` is no limit.
+ */
+export interface VerifyOptions extends PartialParams {
+  /** The most bytes of memory; 257 * 2 ** 20 if left out, or more if the parameters need more. */
+  maxmem?: number | undefined;
+  /** The most work, 4 * (N + 32) * r * p; 16781312 if left out, or that of the parameters. */
+  maxwork?: number | undefined;
+  /** The least length of the key in bytes; 16 if left out, or dkLen if that is less. */
+  minKeyLength?: number | undefined;
+}
+
+export interface Abortable {
+  /** Ends the work, and the promise is rejected with the signal's reason. */
+  signal?: AbortSignal | undefined;
+}
+
+export type ErrorCode =
+  /** N, r, p or dkLen is not accepted. */
+  | 'INVALID_PARAMS'
+  /** The dkLen of `scrypt` is 0. */
+  | 'INVALID_OUTPUT_LEN'
+  /** A limit is not a whole number, or is negative. */
+  | 'INVALID_LIMIT'
+  /** An argument has another type than it should, or is missing. */
+  | 'INVALID_TYPE'
+  | 'LONE_SURROGATE'
+  | 'DETACHED_BUFFER'
+  | 'SHARED_BUFFER'
+  | 'OUT_OF_MEMORY'
+  /** The parameters exceed the limit on memory or on work. */
+  | 'TOO_COSTLY'
+  /** The key in the hash is shorter than the limit allows. */
+  | 'KEY_TOO_SHORT'
+  /** The salt of a new hash in PHC form has no bytes, or more than 64. */
+  | 'SALT_INVALID'
+  /**
+   * The text is not a hash in PHC form or `$7$`, or in PHC form its salt or its key has a length that is not allowed: 1 to 64 and
+   * 10 to 64 bytes are. A hash of bcrypt is such a text.
+   */
+  | 'ENCODING_INVALID'
+  /** The text has PHC form, but names another algorithm, as argon2id. */
+  | 'ALGORITHM'
+  /** The hash in PHC form names a version. */
+  | 'VERSION'
+  /** The key of a `$7$` hash is empty. */
+  | 'OUTPUT_SIZE'
+  /** ln, r or p in PHC form is not a decimal number without leading zeros, or is above 255 (ln) or 2 ** 32 - 1 (r, p). */
+  | 'HASH_PARAM_INVALID'
+  /** The parameters in the hash are not accepted, or one in PHC form is not ln, r or p. */
+  | 'HASH_PARAMS_INVALID'
+  /** The engine lacks WebAssembly with vectors. */
+  | 'UNSUPPORTED'
+  /** The module was not found or not allowed to be compiled. The next call tries again. */
+  | 'LOAD_FAILED'
+  /** A worker did not start, or ended. The next call starts another one. This thread may be one that cannot start workers: use `load()`. */
+  | 'WORKER_FAILED'
+  /** A fault of this package. */
+  | 'INTERNAL';
+
+export class ScryptError extends Error {
+  private constructor();
+  readonly code: ErrorCode;
+}
+
+/** Derives a key, in a worker. */
+export function scrypt(password: Bytes, salt: Bytes, options: KeyOptions & Abortable): Promise<Uint8Array>;
+/** Makes the text of a hash with a random salt, in a worker. */
+export function hash(password: Bytes, options?: HashOptions & Abortable): Promise<string>;
+/** Whether the password is that of the text, in a worker. A text that is not a hash of scrypt is an error. */
+export function verify(password: Bytes, text: Bytes, options?: VerifyOptions & Abortable): Promise<boolean>;
+/** Whether the hash of the text is weaker than one with these options. */
+export function needsRehash(text: Bytes, options?: PartialParams): Promise<boolean>;
+/** The parameters of the text of a hash, and the length of its key: 0 if it has none. */
+export function params(text: Bytes): Promise<ReadParams>;
+/** Whether this engine has WebAssembly with vectors. */
+export function isSupported(): boolean;
+
+/** The same calls in the caller's own thread, which waits for them. */
+export interface Scrypt {
+  scrypt(password: Bytes, salt: Bytes, options: KeyOptions): Uint8Array;
+  hash(password: Bytes, options?: HashOptions): string;
+  verify(password: Bytes, text: Bytes, options?: VerifyOptions): boolean;
+  needsRehash(text: Bytes, options?: PartialParams): boolean;
+  params(text: Bytes): ReadParams;
+  /** How many bytes of memory the module holds, all zero between calls. They are free once this object is. */
+  readonly memory: number;
+}
+
+/**
+ * Loads the module for calls in the caller's own thread. `source` is where it is, if not beside this package's files: a URL, its
+ * bytes, or a compiled module. All later calls use that one too.
+ */
+export function load(source?: URL | string | ArrayBuffer | ArrayBufferView | WebAssembly.Module): Promise<Scrypt>;

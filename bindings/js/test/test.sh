@@ -1,0 +1,35 @@
+#!/bin/sh
+# Tests the package in Node and in Chromium, against hashlib, and its types. Prints which package is not installed.
+set -eu
+unset CDPATH
+cd "$(dirname "$0")"
+room=$(mktemp -d)
+trap 'rm -rf "$room"' EXIT
+
+# Whether this succeeds, or else which package brings it, and what was left out.
+has() {
+  package=$1
+  shift
+  "$@" > /dev/null 2>&1 || { echo "package $package is not installed, or is too old: not run"; return 1; }
+}
+
+# Runs a script from the top, as the modules that it shares with others need it.
+module() { (cd ../../.. && timeout 300 python3 -B -m "$@"); }
+
+in_node() {
+  # Newer versions have a 64-bit memory without the flag, and may not know it any more.
+  MEMORY64=$(node --experimental-wasm-memory64 -e 'console.log("--experimental-wasm-memory64")' 2> /dev/null || true)
+  export MEMORY64
+  module bindings.js.test.test_lower
+  # shellcheck disable=SC2086 # one word or none
+  CASES=$room/cases.json MODULE64=../../../build/wasm/scrypt64.wasm node $MEMORY64 --test node.test.js > "$room/log" ||
+    { cat "$room/log"; exit 1; }
+  grep -E '^# (pass|fail) ' "$room/log"
+}
+
+python3 -B cases.py > "$room/cases.json"
+if has "nodejs, from 20.16 on" node -e 'process.getBuiltinModule("node:fs")'; then in_node; fi
+if has node-typescript tsc --version; then tsc --project tsconfig.json; fi
+if has chromium-driver chromedriver --version && has chromium chromium --version &&
+  has python3-selenium sh -c 'cd ../../.. && python3 -B -c "from tools import browser; assert browser.webdriver"'
+then module bindings.js.test.in_browser "$room/cases.json"; fi

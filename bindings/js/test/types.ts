@@ -1,0 +1,42 @@
+// Compiled by tsc with `strict`, and not run: that the types fit what is called, and refuse what they should.
+import { Bytes, ErrorCode, Scrypt, ScryptError, hash, isSupported, load, needsRehash, params, scrypt, verify } from 'scrypt-proved';
+
+const signal = new AbortController().signal;
+
+export async function calls(password: Bytes): Promise<string | undefined> {
+  const key: Uint8Array = await scrypt(password, new Uint8Array(16), { N: 2 ** 17, r: 8, p: 1, dkLen: 64, maxmem: Infinity, signal });
+  const text: string = await hash(new DataView(key.buffer), { p: 2, salt: 'salt', format: 'mcf', signal });
+  const isRight: boolean = await verify(password, text, { maxwork: 2 ** 30, minKeyLength: 10 });
+  // What is undefined is left out.
+  const none = { N: undefined, dkLen: undefined, maxmem: undefined, signal: undefined };
+  await hash('', { ...none, salt: undefined, format: undefined });
+  await verify('', '', { ...none, maxwork: undefined, minKeyLength: undefined });
+  await needsRehash('', { N: 2 ** 18, dkLen: undefined });
+  await scrypt('', '', { ...none, N: 2, r: 8, p: 1, maxwork: undefined });
+  const own: Scrypt = await load(new URL('./scrypt.wasm', 'https://example.org/'));
+  const { N, r, p, dkLen } = own.params(text);
+  const same: typeof own.params extends (text: Bytes) => infer R ? R : never = await params(text);
+  const needs: boolean = own.needsRehash(text) && (await needsRehash(text, { N, r, p, dkLen }));
+  try {
+    own.verify(password, own.hash(password)) && own.scrypt(password, key, same);
+  } catch (error) {
+    const code: ErrorCode | null = error instanceof ScryptError ? error.code : null;
+    return code === 'TOO_COSTLY' ? error instanceof Error ? error.message : '' : undefined;
+  }
+  return isRight && needs && isSupported() ? `${own.memory}` : undefined;
+}
+
+export const refused = [
+  // @ts-expect-error: parameters of a key are not left out
+  () => scrypt('', ''),
+  // @ts-expect-error
+  () => scrypt('', '', { N: 2, r: 8 }),
+  // @ts-expect-error: a number is not a password
+  () => hash(5),
+  // @ts-expect-error: no such format
+  () => hash('', { format: 'bcrypt' }),
+  // @ts-expect-error: a misspelt name
+  () => verify('', '', { maxMem: 5 }),
+  // @ts-expect-error: only this package makes these
+  () => new ScryptError('INTERNAL', ''),
+];
