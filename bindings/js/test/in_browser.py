@@ -1,7 +1,8 @@
 #!/usr/bin/env python3
-"""Runs checks.js in a headless Chromium, by its driver, or in another browser, which a command opens.
+"""Runs checks.js in a headless Chromium, by its driver, and opens key files in the page of examples/key_page; or runs the checks
+in another browser, which a command opens.
 
-usage: in_browser.py CASES
+usage: in_browser.py CASES [PICTURE]
        in_browser.py CASES -- COMMAND..     followed by the address, as firefox-esr --headless --profile FOLDER
 """
 
@@ -13,6 +14,7 @@ import sys
 import threading
 from pathlib import Path
 
+from examples.key_page import test_key_page
 from tools import browser
 
 TOP = Path(__file__).resolve().parents[3]
@@ -81,12 +83,12 @@ def all_passed(said):
     return said is not None and said.endswith("all passed\n")
 
 
-def in_chromium(at):
+def in_chromium(at, picture=None):
     chromium = browser.Browser()
     try:
         print("Chromium", chromium.driver.capabilities["browserVersion"])
         chromium.open(f"{at}{PAGE}")
-        return all_passed(answer())
+        return all_passed(answer()) and test_key_page.opens(chromium, at, picture)
     finally:
         chromium.close()
 
@@ -97,7 +99,7 @@ def main(cases, *options):
     if options[:1] == ("--",):
         is_well = all_passed(in_another(options[1:], f"{at}{PAGE}"))
     else:
-        is_well = in_chromium(at)
+        is_well = in_chromium(at, *options)
     sys.exit(not is_well)
 
 
