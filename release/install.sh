@@ -68,6 +68,35 @@ put() {
   mv -fT "$beside" "$target/$2"
 }
 
+# put_list SOURCE writes the list, before any other file. The missing folders above it come with it, by one rename.
+put_list() {
+  if [ -d "$missing/" ]; then
+    put "$1" "$list"
+  else
+    beside=${missing%/*}/.scrypt_c_new.$$ place=$target/$list
+    place=$beside${place#"$missing"}
+    mkdir -p "${place%/*}"
+    cp "$1" "$place"
+    mv -T "$beside" "$missing"
+  fi
+}
+# remove_list removes the list, after all other files, with the folders that were made for it and have nothing else.
+remove_list() {
+  last=$list
+  while
+    case $last in */*) above=${last%/*}/ ;; *) above=./ ;; esac
+    [ "$last" != . ] && grep -qxF "$above" "$room/old" && [ "$(ls -A "$target/$above" | wc -l)" = 1 ]
+  do last=${above%/}; done
+  if [ "$last" = . ]; then last=$target; else last=$target/$last; fi
+  beside=${last%/*}/.scrypt_c_new.$$
+  mv -T "$last" "$beside"
+  rm -rf "$beside"
+}
+
+# The first folder that is missing above the list. If this is killed beside it, nothing else is left.
+missing=$target/${list%/*}
+while [ ! -d "${missing%/*}/" ]; do missing=${missing%/*}; done
+if [ ! -e "$target/$list" ]; then rm -rf "${missing%/*}"/.scrypt_c_new.*; fi
 # A list that another user wrote could name any file. One that doesn't name itself was moved here, and has other paths.
 : > "$room/old"
 if [ -e "$target/$list" ] && [ ! -O "$target/$list" ]; then
@@ -80,7 +109,8 @@ if [ $action = remove ]; then
     printf '%s\n' "nothing is removed, because this is no list of what was installed here: $target/$list" >&2
     exit 1
   fi
-  remove < "$room/old"
+  grep -vxF "$list" "$room/old" | remove
+  remove_list
   exit
 fi
 
@@ -92,7 +122,7 @@ folders "$room/new" > "$room/folders"
 { if [ ! -d "$target/" ]; then echo ./; fi; there < "$room/folders" | LC_ALL=C comm -13 - "$room/folders"; } > "$room/made"
 # While files are written the list has those of both versions, so that what is interrupted can be removed too.
 cat "$room/old" "$room/new" "$room/made" | LC_ALL=C sort -u > "$room/both"
-put "$room/both" "$list"
+put_list "$room/both"
 while IFS= read -r it; do put "$files/$it" "$it"; done < "$room/files"
 cat "$room/new" "$room/folders" | LC_ALL=C sort | LC_ALL=C comm -23 "$room/old" - | grep -vxF ./ | remove
 { cat "$room/new"; grep '/$' "$room/both" | there; } | LC_ALL=C sort -u > "$room/final"

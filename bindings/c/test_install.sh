@@ -157,6 +157,44 @@ by_archive uninstall
 find "$room/had" | sort | diff "$room/before" -
 echo "installed, upgraded and removed: what was there before is left, and nothing else, also after an error"
 
+# Killed at each of its commands in turn, and then removed, or removed again: nothing is left but what was hidden and not in
+# its place yet, and the next install or removal removes that.
+list=share/doc/scrypt_c/installed
+mkdir -p "$room/few/bin" "$room/few/share/doc/scrypt_c" "$room/fewer/lib/python" "$room/killing" "$room/killed"
+touch "$room/few/bin/program" "$room/few/share/doc/scrypt_c/page" "$room/fewer/lib/python/module.py"
+for it in mkdir rm rmdir cp install mv find ls; do
+  cat > "$room/killing/$it" << END
+#!/bin/sh
+echo >> "$room/counted"
+test "\$(wc -l < "$room/counted")" != "\$KILLED" || kill -9 0
+exec /bin/$it "\$@"
+END
+  chmod +x "$room/killing/$it"
+done
+killed_at_each() { # WHY, what is installed before, a target, and the words before the list
+  why=$1 first=$2 target=$3 number=0
+  shift 3
+  while
+    number=$((number + 1))
+    : > "$room/counted"
+    if [ -n "$first" ]; then release/install.sh --tree "$room/$first" $list "$target"; fi
+    KILLED=$number PATH=$room/killing:$PATH setsid -w release/install.sh "$@" $list "$target" 2> /dev/null || :
+    test "$(wc -l < "$room/counted")" -ge $number
+  do
+    release/install.sh --remove --tree "" $list "$target" 2> "$room/log" || grep -q "this is no list" "$room/log"
+    left=$(find "$room/killed" -mindepth 1 ! -path '*/.scrypt_c_new.*')
+    if [ -n "$left" ]; then printf '%s\n' "$why: killed at command $number, and this is left:" "$left" >&2; exit 1; fi
+  done
+  release/install.sh --remove --tree "" $list "$target" 2> /dev/null || :
+  test -z "$(ls -A "$room/killed")"
+  echo "$why: killed at each of $((number - 1)) commands"
+}
+killed_at_each "installed, in a new folder" "" "$room/killed/new" --tree "$room/few"
+killed_at_each "installed" "" "$room/killed" --tree "$room/few"
+killed_at_each "upgraded" fewer "$room/killed/new" --tree "$room/few"
+killed_at_each "removed" few "$room/killed/new" --remove --tree ""
+killed_at_each "removed from a folder" few "$room/killed" --remove --tree ""
+
 # A program that has both libraries loaded, and one that loads them for each key, go on while they are installed again.
 use() {
   python3 -B - "$room/had/lib" "$room/end" "$1" << 'END'
