@@ -30,7 +30,7 @@ def to_base64(data):
 
 def from_der(data, depth=8):
     """The items of DER, up to this depth: a list for a sequence, a number for an integer, and bytes for anything else."""
-    items = []
+    items, data = [], memoryview(data)  # of which a part is no copy
     while data:
         if len(data) < 2 or depth == 0:
             raise ValueError("DER that is cut, or too deep")

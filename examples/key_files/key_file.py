@@ -1,7 +1,7 @@
 """Opens key files of other programs with keys that scrypt derives from a password. README.md describes them.
 
-Each function takes the file and the password, and raises ValueError if the password is wrong, or the file is damaged or asks
-for more than is allowed. It needs the package scrypt_c, and python3-cryptography for the ciphers.
+Each function takes the file and the password, and raises ValueError, and nothing else, if the password is wrong, or the file is
+damaged or asks for more than is allowed. It needs the package scrypt_c, and python3-cryptography for the ciphers.
 """
 
 import hashlib
@@ -9,7 +9,7 @@ import hmac
 import json
 import re
 
-from cryptography.exceptions import InvalidTag
+from cryptography.exceptions import InternalError, InvalidTag, UnsupportedAlgorithm
 from cryptography.hazmat.primitives.ciphers import Cipher, algorithms, modes
 from cryptography.hazmat.primitives.ciphers.aead import ChaCha20Poly1305
 from cryptography.hazmat.primitives.serialization import load_der_private_key
@@ -20,28 +20,38 @@ from key_codecs import from_base64, from_der, keccak_256, xor
 MOST_MEMORY = 256 << 20  # bytes of the table
 MOST_WORK = scrypt_c.MOST_WORK  # four times the work of the recommended parameters (17, 8, 1)
 
+MOST_LETTERS = 1 << 16  # of a file, or of the header of one of age
+
 SCRYPT_ID, AES_256_CBC_ID = bytes.fromhex("2b06010401da47040b"), bytes.fromhex("60864801650304012a")
 
 
 def key_of(password, salt, n, r, p, length, most_memory=MOST_MEMORY, most_work=MOST_WORK):
     """The derived key. The parameters are checked against the bounds here, before the derivation, and nowhere else."""
-    memory, work = 128 * r * max(n, p), scrypt_c.Params(n.bit_length() - 1, r, p).work
+    work = scrypt_c.Params(n.bit_length() - 1, r, p).work  # or a ValueError, if no memory or time would do
+    memory = 128 * r * max(n, p)
     if memory > most_memory or work > most_work:
         needed = f"{memory} bytes and a work of {work}, above {most_memory} and {most_work}"
         raise ValueError(f"the file's parameters need more than is allowed: {needed}")
     return scrypt_c.scrypt(password, salt=salt, n=n, r=r, p=p, dklen=length)
 
 
+def short(text):
+    """The text, so that no time is spent on a longer one before its parameters are known."""
+    if len(text) > MOST_LETTERS:
+        raise ValueError("a key file is shorter")
+    return text
+
+
 def age_file_key(file, password, **limits):
     """The file key of a file of age, from which HKDF-SHA-256 makes the keys of the header and of the content."""
-    version, stanza, body = file.split(b"\n---", 1)[0].decode().split("\n")
-    _, method, salt, log_n = stanza.split(" ")
-    if version != "age-encryption.org/v1" or method != "scrypt" or not re.fullmatch("[1-9][0-9]?", log_n):
-        raise ValueError("not a file of age with a passphrase")
-    salt = b"age-encryption.org/v1/scrypt" + from_base64(salt)
+    match file[:MOST_LETTERS].split(b"\n---", 1)[0].decode().replace("\n", " ").split(" "):
+        case ["age-encryption.org/v1", "->", "scrypt", salt, log_n, body] if re.fullmatch("[1-9][0-9]?", log_n):
+            salt, body = b"age-encryption.org/v1/scrypt" + from_base64(salt), from_base64(body)
+        case _:
+            raise ValueError("not a file of age with a passphrase")
     key = key_of(password, salt, 1 << int(log_n), 8, 1, 32, **limits)
     try:
-        return ChaCha20Poly1305(key).decrypt(bytes(12), from_base64(body), None)
+        return ChaCha20Poly1305(key).decrypt(bytes(12), body, None)
     except InvalidTag:
         raise ValueError("wrong password") from None
 
@@ -59,26 +69,39 @@ def tarsnap_keys(file, password, **limits):
 
 def ethereum_secret(text, password, **limits):
     """The private key in a file of Ethereum's secret storage, version 3."""
-    crypto = json.loads(text)["crypto"]
-    if (crypto["cipher"], crypto["kdf"]) != ("aes-128-ctr", "scrypt"):
-        raise ValueError("unsupported method")
-    params, encrypted = crypto["kdfparams"], bytes.fromhex(crypto["ciphertext"])
-    key = key_of(password, bytes.fromhex(params["salt"]), params["n"], params["r"], params["p"], 32, **limits)
-    if keccak_256(key[16:] + encrypted).hex() != crypto["mac"]:
+    try:
+        file = json.loads(short(text))
+    except RecursionError:
+        raise ValueError("not a file of Ethereum") from None
+    match file:
+        case {"crypto": {
+            "cipher": "aes-128-ctr", "cipherparams": {"iv": str(iv)}, "ciphertext": str(encrypted), "mac": mac,
+            "kdf": "scrypt", "kdfparams": {"n": int(n), "r": int(r), "p": int(p), "salt": str(salt)},
+        }}:
+            iv, encrypted, salt = map(bytes.fromhex, (iv, encrypted, salt))
+        case _:
+            raise ValueError("unsupported method")
+    key = key_of(password, salt, n, r, p, 32, **limits)
+    if keccak_256(key[16:] + encrypted).hex() != mac:
         raise ValueError("wrong password")
-    counter = modes.CTR(bytes.fromhex(crypto["cipherparams"]["iv"]))
-    return Cipher(algorithms.AES(key[:16]), counter).decryptor().update(encrypted)
+    return Cipher(algorithms.AES(key[:16]), modes.CTR(iv)).decryptor().update(encrypted)
 
 
 def pkcs8_key(pem, password, **limits):
     """The private key in a file of `openssl pkcs8 -topk8 -scrypt -v2 aes-256-cbc`."""
-    letters = "".join(pem.split("-----")[2].split())
-    [[[_, [[kdf, params], [cipher, iv]]], encrypted]] = from_der(from_base64(letters.rstrip("=")))
-    if (kdf, cipher) != (SCRYPT_ID, AES_256_CBC_ID):
-        raise ValueError("unsupported method")
-    key = key_of(password, *params[:4], 32, **limits)
+    letters = "".join("".join(short(pem).split("-----")[2:3]).split())
+    match from_der(from_base64(letters.rstrip("="))):
+        case [[[_, [[kdf, [bytes(salt), int(n), int(r), int(p), *_]], [cipher, bytes(iv)]]], bytes(encrypted)]] if (
+            (kdf, cipher) == (SCRYPT_ID, AES_256_CBC_ID)
+        ):
+            key = key_of(password, salt, n, r, p, 32, **limits)
+        case _:
+            raise ValueError("unsupported method")
     plain = Cipher(algorithms.AES(key), modes.CBC(iv)).decryptor().update(encrypted)
-    return load_der_private_key(plain[: -plain[-1]], None)
+    try:
+        return load_der_private_key(plain[: -plain[-1]], None)
+    except (LookupError, TypeError, InternalError, UnsupportedAlgorithm):
+        raise ValueError("wrong password, or an unsupported key") from None
 
 
 def minisign_params(work, memory):
@@ -91,7 +114,7 @@ def minisign_params(work, memory):
 
 def minisign_secret(text, password, **limits):
     """The number of a secret key of minisign, and the seed of Ed25519 with the public key."""
-    data = from_base64(text.split("\n")[1])
+    data = from_base64(short(text).partition("\n")[2].partition("\n")[0])
     if data[:6] != b"EdScB2":
         raise ValueError("not an encrypted key of minisign")
     log_n, p = minisign_params(*(int.from_bytes(data[at : at + 8], "little") for at in (38, 46)))

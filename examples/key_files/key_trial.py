@@ -5,6 +5,7 @@ import random
 import re
 import string
 import subprocess
+import time
 
 import key_file
 
@@ -12,6 +13,8 @@ HERE = os.path.dirname(os.path.abspath(__file__))
 PAGE = os.path.join(HERE, "README.md")
 
 CHANGES = 40  # of each file whose bytes are changed
+# What means something else to a reader: tags of DER and lengths, brackets, line ends, numbers.
+ODD_BYTES = [b"\x02", b"\x04", b"\x30", b"\x80", b"\x00", b"\xff", b"[", b'"', b"}", b"\n", b" ", b"-", b"9", b"e9"]
 # What an error prints of a file that asks for too much: its numbers, and those that are allowed.
 TOO_COSTLY = re.compile(r".*more than is allowed: \d+ bytes and a work of \d+, above \d+ and \d+$")
 
@@ -76,10 +79,36 @@ class Trial:
             other = self.rng.choice((data[:at], data[:at] + self.rng.randbytes(1) + data[at + 1 :]))
             try:
                 opened = open_file(other.decode("latin-1") if isinstance(file, str) else other, password, *more)
-            except (ValueError, LookupError, TypeError):
+            except ValueError:
                 self.check(True, about)
             else:
                 self.check(opened == wanted, (about, "is opened", other))
+
+    def raises_nothing_else(self, about, open_file, files, password):
+        """Damaged files are refused by ValueError alone, or opened, each in two seconds. They count as one case."""
+        bound = {"most_work": 1 << 20}  # since a damaged file may ask for seconds of work that are allowed
+        faults = []
+        for file in files:
+            begin = time.monotonic()
+            try:
+                open_file(file, password, **bound)
+            except ValueError:
+                pass
+            except Exception as fault:
+                faults.append(f"{type(fault).__name__} for {file[:200]!r}")
+            if time.monotonic() - begin > 2:
+                faults.append(f"{time.monotonic() - begin:.1f} seconds for {file[:200]!r}")
+        self.check(not faults, (about, len(faults), *faults[:5]))
+
+    def damaged(self, data, count=500):
+        """Copies of some bytes, each with one or two changed, left out or repeated, or with the rest cut off."""
+        for _ in range(count):
+            made = data
+            for _ in range(self.rng.randrange(1, 3)):
+                at, to = self.rng.randrange(len(made) + 1), self.rng.randrange(len(made) + 1)
+                other = self.rng.choice((self.rng.randbytes(1), ODD_BYTES[self.rng.randrange(len(ODD_BYTES))], b""))
+                made = self.rng.choice((made[:at] + other + made[at + 1 :], made[:at] + other, made[:at] + made[to:]))
+            yield made
 
     def in_shell(self):
         """The key of the last file that was opened, by the shell's line of the page."""
@@ -117,5 +146,13 @@ def run(words, answers=""):
     return ran.returncode, ran.stdout
 
 
-def changed(data, at):
-    return data[:at] + bytes([data[at] ^ 1]) + data[at + 1 :]
+def other_values(value):
+    """What is read from JSON, without each of its parts and with something else in its place."""
+    yield from (None, True, -1, 0, 3, 1.5, 1 << 70, "", "x", "\u00e9", [], {}, [[1]])
+    for name, part in value.items() if isinstance(value, dict) else ():
+        yield {other: it for other, it in value.items() if other != name}
+        yield from (value | {name: other} for other in other_values(part))
+
+
+def changed(data, at, bit=0):
+    return data[:at] + bytes([data[at] ^ 1 << bit]) + data[at + 1 :]

@@ -9,12 +9,15 @@ import sys
 import key_contents
 import key_vectors
 from foreign import Missing, installed
-from key_codecs import keccak_256
-from key_trial import changed, read, run
+from key_codecs import keccak_256, to_base64
+from key_trial import changed, other_values, read, run
 from tools.terminal import on_terminal
 
 # Contents of files: none, some, and more than one chunk of age.
 LENGTHS = (0, 1000, 70000)
+
+# The letters, or more, of a file that nobody makes.
+LARGE = 1 << 19
 
 # Limits of work and memory, and what libsodium makes of them.
 MINISIGN_CASES = [
@@ -44,6 +47,8 @@ def age(trial):
     trial.refuses_at_once("age: log_n of 19", trial.age_file_key, more, b"")
     small = key_contents.age_file(b"content", b"password", 10, trial.key_of)
     trial.refuses_what_is_changed("age", whole_age, small, b"password", trial)
+    odd = [b"", b"\n---", small[:1] * LARGE, small.replace(b"\n", b"\n" * LARGE, 1), small.replace(b" 10\n", b" \xd9\xa1\n", 1)]
+    trial.raises_nothing_else("age", trial.age_file_key, [*odd, *trial.damaged(small)], b"password")
     for length, log_n in zip(LENGTHS, (1, 10, 15)):
         content, password, opened = trial.content(length), trial.word(), trial.path("opened")
         made = key_contents.age_file(content, password.encode(), log_n, trial.key_of)
@@ -81,10 +86,14 @@ def tarsnap(trial):
         trial.check(run(decrypt, password + "x\n") == (1, b""), "scrypt dec takes a wrong password")
     small = key_contents.tarsnap_file(b"content", b"password", (10, 1, 1), trial.key_of)
     trial.refuses_what_is_changed("scrypt enc", whole_tarsnap, small, b"password", trial)
-    more = file[:7] + bytes([63]) + file[8:48]
-    more += hashlib.sha256(more).digest()[:16] + file[64:]
-    trial.refuses_at_once("scrypt enc: log_n of 63", trial.tarsnap_keys, more, b"")
+    trial.raises_nothing_else("scrypt enc", trial.tarsnap_keys, map(with_digest, trial.damaged(small)), b"password")
+    trial.refuses_at_once("scrypt enc: log_n of 63", trial.tarsnap_keys, with_digest(file[:7] + bytes([63]) + file[8:]), b"")
     tarsnap_default(trial, [command, "enc", "--logN", "20", "-r", "8", "-p", "1", *by_input])
+
+
+def with_digest(file):
+    """A file of `scrypt enc` whose header was changed, and fits its digest again."""
+    return file[:48] + hashlib.sha256(file[:48]).digest()[:16] + file[64:]
 
 
 def tarsnap_default(trial, encrypt):
@@ -124,6 +133,10 @@ def ethereum(trial):
         trial.opens(secret, "a file that is made here", trial.ethereum_secret, file, password.encode())
         trial.refuses("Ethereum: a wrong password", trial.ethereum_secret, file, password.encode() + b"x")
     trial.refuses_what_is_changed("Ethereum", whole_ethereum, file, password.encode(), trial)
+    large = file.replace('"ciphertext": "', '"ciphertext": "' + "00" * LARGE)
+    odd = ["", "[" * LARGE, '{"crypto":' * LARGE, f"[{'9' * LARGE}]", large, *map(json.dumps, other_values(json.loads(file)))]
+    odd += [it.decode("latin-1") for it in trial.damaged(file.encode())]
+    trial.raises_nothing_else("Ethereum", trial.ethereum_secret, odd, password.encode())
     trial.notes.append("no program of Debian reads these files: the published vector")
 
 
@@ -179,6 +192,14 @@ def pkcs8(trial):
             trial.check(opened == 1, "openssl pkey opens a file with a wrong password")
     small = key_contents.pkcs8_file(info, b"password", (10, 1, 1), trial.key_of, *ids)
     trial.refuses_what_is_changed("PKCS#8", whole_pkcs8, small, b"password", trial)
+    info = key_contents.private_info(key_contents.ed25519(bytes(32)))
+    small = key_contents.pkcs8_file(info, b"password", (4, 1, 1), trial.key_of, *ids)
+    data = trial.from_base64("".join(small.split("-----")[2].split()).rstrip("="))
+    flipped = [changed(data, at, bit) for at in range(len(data)) for bit in range(8)]  # also the IV, and by it the kind of key
+    odd = [key_contents.pem(it) for it in (b"", *flipped, *trial.damaged(data), b"\x02\x00" * LARGE, b"\x30\x00" * LARGE)]
+    odd.append(key_contents.pkcs8_file(b"", b"", (LARGE, 8, 1), lambda *_: bytes(32), *ids))  # N of 2^(2^19)
+    odd += [it.decode("latin-1") for it in trial.damaged(small.encode())]
+    trial.raises_nothing_else("PKCS#8", trial.pkcs8_key, odd, b"password")
     many = key_contents.pkcs8_file(info, b"", (40, 8, 1), lambda *_: bytes(32), *ids)
     trial.refuses_at_once("PKCS#8: N of 2^40", trial.pkcs8_key, many, b"")
 
@@ -213,6 +234,10 @@ def minisign(trial):
         trial.check(signed, ("minisign does not sign by a key with limits", limits))
         trial.check(run(sign, password + "x\n")[0] != 0, "minisign takes a wrong password")
     trial.refuses_what_is_changed("minisign", trial.minisign_secret, made, password.encode())
+    data = trial.from_base64(made.split("\n")[1].rstrip("="))
+    odd = ["", "\n", "\n" + "A" * LARGE, *("\n" + to_base64(it) for it in trial.damaged(data))]
+    odd += [it.decode("latin-1") for it in trial.damaged(made.encode())]
+    trial.raises_nothing_else("minisign", trial.minisign_secret, odd, password.encode())
     other_keys(trial, password)
 
 
