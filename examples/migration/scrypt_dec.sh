@@ -5,10 +5,10 @@
 # key in the list of processes while openssl runs.
 hex() { od -An -v -tx1 | tr -d ' \n'; }
 part() { tail -c "+$(($1 + 1))" "$file" | head -c "$2" | hex; }
-params="$((0x$(part 7 1))) $((0x$(part 8 4))) $((0x$(part 12 4)))"
-key=$(printf %s "$password" | scrypt_tool key $params 64 "$(part 16 32)")
 hmac() { openssl dgst -sha256 -r -mac HMAC -macopt "hexkey:$(echo "$key" | cut -c 65-)" | cut -c -64; }
 test "$(wc -c < "$file")" -ge 128 &&
+  params="$((0x$(part 7 1))) $((0x$(part 8 4))) $((0x$(part 12 4)))" &&
+  key=$(printf %s "$password" | scrypt_tool key $params 64 "$(part 16 32)") &&
   test "$(head -c 64 "$file" | hmac)" = "$(part 64 32)" &&
   test "$(head -c -32 "$file" | hmac)" = "$(tail -c 32 "$file" | hex)" &&
   tail -c +97 "$file" | head -c -32 |

@@ -335,15 +335,22 @@ def tarsnap(trial):
             header = file + ".header"
             with open(header, "wb") as out:
                 out.write(data[:96])
+            # No memory suffices for log_n of 63, so there is no key by which openssl could compare or decrypt.
+            costly = file + ".costly"
+            with open(file, "rb") as made, open(costly, "wb") as out:
+                out.write(made.read(7) + bytes([63]) + made.read()[1:])
             for tried, path, wanted in (
-                (password, file, (0, plain)),
-                (password + "x", file, (1, b"")),
-                (password, changed, (1, b"")),
-                (password, header, (1, b"")),
+                (password, file, (0, plain, 0)),
+                (password + "x", file, (1, b"", 0)),
+                (password, changed, (1, b"", 0)),
+                (password, header, (1, b"", 0)),
+                (password, costly, (2, b"", 1)),
+                (password, os.devnull, (1, b"", 0)),
             ):
                 env = os.environ | {"PROGRAM": trial.program, "file": path, "password": tried}
                 ran = subprocess.run(["sh", "-c", script], env=env, capture_output=True)
-                trial.check((ran.returncode, ran.stdout) == wanted, (params, wanted, ran))
+                lines = ran.stderr.count(b"\n")
+                trial.check((ran.returncode, ran.stdout, lines) == wanted, (params, wanted, ran))
 
 
 TOOLS = [
