@@ -14,7 +14,7 @@ func TestLimiterNeedsNoMoreMemoryForMoreKeys(t *testing.T) {
 	runtime.ReadMemStats(&before)
 	l := newLimiter()
 	for i := 0; i < 1_000_000; i++ {
-		l.charge(*pause, fmt.Sprint("name ", i))
+		l.charge(*pause, allowance{fmt.Sprint("name ", i), 1})
 	}
 	runtime.GC()
 	if runtime.ReadMemStats(&after); after.HeapAlloc > before.HeapAlloc+3<<20 {
@@ -24,10 +24,10 @@ func TestLimiterNeedsNoMoreMemoryForMoreKeys(t *testing.T) {
 	// A slot whose tries are all used is one of 262144, so few other names share one of these.
 	l, others := newLimiter(), 0
 	for i := 0; i < 100*20; i++ {
-		l.charge(*pause, fmt.Sprint("name ", i%100))
+		l.charge(*pause, allowance{fmt.Sprint("name ", i%100), 1})
 	}
 	for i := 0; i < 10_000; i++ {
-		if !l.charge(*pause, fmt.Sprint("other ", i)) {
+		if !l.charge(*pause, allowance{fmt.Sprint("other ", i), 1}) {
 			others++
 		}
 	}
@@ -37,7 +37,7 @@ func TestLimiterNeedsNoMoreMemoryForMoreKeys(t *testing.T) {
 }
 
 func TestTriesComeBack(t *testing.T) {
-	l := newLimiter()
+	l, ada := newLimiter(), allowance{"name ada", 1}
 	for _, it := range []struct {
 		why   string
 		later time.Duration
@@ -52,8 +52,8 @@ func TestTriesComeBack(t *testing.T) {
 	} {
 		l.begin = l.begin.Add(-it.later)
 		taken := 0
-		for i := 0; i <= *tries && l.charge(0, "name ada"); i++ {
-			l.charge(*pause, "name ada")
+		for i := 0; i <= *tries && l.charge(0, ada); i++ {
+			l.charge(*pause, ada)
 			taken++
 		}
 		if taken != it.taken {
@@ -61,9 +61,9 @@ func TestTriesComeBack(t *testing.T) {
 		}
 	}
 	// Two who were checked at once owe one more.
-	l.charge(2**pause, "name ada")
+	l.charge(2**pause, ada)
 	l.begin = l.begin.Add(-2 * *pause)
-	if l.charge(0, "name ada") {
+	if l.charge(0, ada) {
 		t.Error("a try that is owed is forgotten")
 	}
 }

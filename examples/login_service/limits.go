@@ -106,21 +106,42 @@ type limiter struct {
 
 func newLimiter() *limiter { return &limiter{seed: maphash.MakeSeed(), begin: time.Now()} }
 
-// charge reports whether each key had a try left, and charges each in any case: a try costs a pause. The first two keys are
-// a name and a network. The third is a wider network, which pays half.
-func (l *limiter) charge(cost time.Duration, keys ...string) bool {
+// An allowance is that of a key, which has so many times the tries of a name.
+type allowance struct {
+	key   string
+	times time.Duration
+}
+
+// charge reports whether each allowance had a try left, and charges each in any case: a try costs a pause.
+func (l *limiter) charge(cost time.Duration, of ...allowance) bool {
 	l.Lock()
 	defer l.Unlock()
 	now, ok := time.Since(l.begin), true
-	for i, key := range keys {
-		end := &l.ends[maphash.String(l.seed, key)%uint64(len(l.ends))]
+	for _, it := range of {
+		end := &l.ends[maphash.String(l.seed, it.key)%uint64(len(l.ends))]
 		if *end < now {
 			*end = now
 		}
-		ok = ok && *end-now <= time.Duration(*tries)**pause-*pause>>(i/2)
-		*end += cost >> (i / 2)
+		ok = ok && *end-now <= time.Duration(*tries)**pause-*pause/it.times
+		*end += cost / it.times
 	}
 	return ok
+}
+
+// allowances returns what a form is charged to: its name, and its address unless the browser is known. All forms of an
+// address pay a further and larger allowance, so that known browsers do not keep the processors busy without end either.
+func allowances(name string, known bool, from []string) []allowance {
+	if known {
+		name = "known " + name
+	}
+	of := []allowance{{name, 1}}
+	for i, network := range from { // the second is wider, and has twice as many tries
+		if !known {
+			of = append(of, allowance{network, 1 << i})
+		}
+		of = append(of, allowance{"all of " + network, 4 << i})
+	}
+	return of
 }
 
 // networks returns the keys of an address: an IPv4 address itself, or the /64 and the /56 of an IPv6 address.

@@ -149,13 +149,12 @@ func (s *Service) try(r *http.Request, action, name, password, wanted string) (t
 	}
 	s.places.leave()
 	from := networks(client(r))
-	keys := append([]string{action + " " + name}, from...)
-	if known, err := s.user(r, "known"); err != nil {
+	known, err := s.user(r, "known")
+	if err != nil {
 		return "", err
-	} else if known == name {
-		keys = []string{"known " + keys[0]}
 	}
-	if !s.tries.charge(0, keys...) { // first, so that a form that is refused takes no place
+	of := allowances(action+" "+name, known == name, from)
+	if !s.tries.charge(0, of...) { // first, so that a form that is refused takes no place
 		s.lines.print(fmt.Sprintf("no try is left: %s from %v of %q", action, client(r), name), from...)
 		return "", errTries
 	}
@@ -163,16 +162,16 @@ func (s *Service) try(r *http.Request, action, name, password, wanted string) (t
 		return "", errFull
 	}
 	defer s.places.leave(from...)
-	if !s.names.enter(false, keys[0]) {
+	if !s.names.enter(false, of[0].key) {
 		return "", errFull
 	}
-	defer s.names.leave(keys[0])
+	defer s.names.leave(of[0].key)
 	if action == "sign-up" {
 		text, err = s.accounts.SignUp(r.Context(), name, wanted)
 	} else {
 		text, err = s.accounts.LogIn(r.Context(), name, password, wanted)
 	}
-	s.tries.charge(cost(r.Context(), action, err), keys...)
+	s.tries.charge(cost(r.Context(), action, err), of...)
 	if err == errWrong {
 		log.Printf("failed %s from %v of %q: %v", action, client(r), name, err) // fail2ban.conf matches this line
 		if action == "change" {

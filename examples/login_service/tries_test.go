@@ -15,7 +15,7 @@ func numbered(text string, number int) string {
 	return strings.ReplaceAll(text, "#", strconv.Itoa(number))
 }
 
-// Each row has names and addresses of its own. A step is an address, with an A before it for a browser that stays; a form,
+// Each row has names and addresses of its own. A step is an address, with a letter before it for a browser that stays; a form,
 // a name and a password; and the statuses of the answers: "403*3,429" of four such forms.
 func TestTriesAreLimited(t *testing.T) {
 	w := newWorld(t, small, "-tries=3", "-pause=1h", proxied)
@@ -31,6 +31,9 @@ func TestTriesAreLimited(t *testing.T) {
 		{"and of the name", "A99 log-in u1 ok 303; # log-in u1 ok 303*40,429; A99 log-in u1 ok 303"},
 		{"a known browser has an allowance of its own", "A1 log-in u1 ok 303*42,429"},
 		{"and tries", "A1 log-in u1 ok 303*2; A1 log-in u1 no 403*2,429; A1 log-in u1 ok 429"},
+		{"all known browsers of an address have a further allowance, four times as large, which those of no other address use",
+			"A1 log-in u1 ok 303*42; B1 log-in u2 ok 303*42; C1 log-in u3 ok 303*42; D1 log-in u4 ok 303*42; E1 log-in u5 ok 303*42; " +
+				"F1 log-in u6 ok 303*11,429; A1 log-in u1 ok 429; G2 log-in u7 ok 303*42"},
 		{"a sign-up costs a try", "1 sign-up new# ok 303*3,429"},
 		{"wrong current passwords", "A1 sign-up new ok 303; A1 change - no 403*3,429; A1 log-out - - 303"},
 		{"tries of others keep no user who is logged in from a change", "A9 log-in u1 ok 303; # log-in u1 no 403*2,429; A9 change - ok 303"},
@@ -60,13 +63,13 @@ func (w *world) step(row, number int, part []string, stay map[string]*browser) (
 	from, name := numbered(part[0], number), fmt.Sprint(numbered(part[2], number), "-", row)
 	one, password := stay[from], map[string]string{"ok": right, "no": wrong}[part[3]]
 	if one == nil {
-		address := strings.TrimPrefix(from, "A")
+		address := strings.TrimLeft(from, "ABCDEFG")
 		if !strings.Contains(address, ":") {
 			address = fmt.Sprint("192.0.", row, ".", address)
 		}
 		one = w.at(address)
 	}
-	if from[0] == 'A' {
+	if from[0] >= 'A' {
 		stay[from] = one
 	}
 	switch part[1] {
