@@ -109,7 +109,6 @@ func (w *world) start(arguments ...string) {
 	arguments = append([]string{"-c", limit + ` && exec ./as.sh "$@"`, "sh", program, "-store", w.store, "-listen", w.address}, arguments...)
 	w.service = exec.Command("sh", arguments...)
 	w.service.Stdout, w.service.Stderr = w.log, w.log
-	w.service.Env = append(os.Environ(), "MALLOC_ARENA_MAX=1", "GOMEMLIMIT=32MiB") // as run.sh
 	if err := w.service.Start(); err != nil {
 		w.Fatal(err)
 	}

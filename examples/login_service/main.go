@@ -4,25 +4,24 @@ package main
 import (
 	"context"
 	"crypto/rand"
-	"database/sql"
-	"errors"
 	"flag"
 	"log"
-	"net"
 	"net/http"
 	"net/netip"
 	"os"
 	"runtime"
+	"runtime/debug"
 	"strings"
 	"time"
 
-	"github.com/lib/pq"
 	"nilomafy.example/scrypt"
 )
 
 var (
 	listen     = flag.String("listen", "127.0.0.1:8080", "where to listen")
-	socket     = flag.String("store", "/var/run/postgresql", "the folder with PostgreSQL's socket")
+	host       = flag.String("store", "/var/run/postgresql", "PostgreSQL: the folder with its socket, or its host")
+	database   = flag.String("database", "postgres", "the database")
+	role       = flag.String("role", "login_service", "the role, which owns the table users; PGPASSWORD may have its password")
 	logN       = flag.Int("log-n", 17, "log_n of new hashes, 10 to 24; r is 8 and p is 1")
 	most       = flag.Int("most-mib", 257, "the memory of a derivation, in MiB, above which a hash is refused")
 	waiting    = flag.Int("waiting", 32, "how many forms may wait for a processor")
@@ -36,25 +35,18 @@ var (
 
 func main() {
 	flag.TextVar(&proxy, "proxy", netip.Addr{}, "the address of a proxy whose X-Forwarded-For and X-Forwarded-Proto are trusted")
-	flag.Parse()
-	if flag.NArg() > 0 {
-		log.Fatalf("%q is not a flag, and no flag after it was read; a value follows its flag after =", flag.Arg(0))
-	}
-	within("-log-n", *logN, 10, 24)
-	within("-most-mib", *most, 1, 1<<20)
-	within("-waiting", *waiting, 0, 10_000)
-	within("-per-address", *perAddress, 1, 10_000)
-	within("-tries", *tries, 1, 1_000_000)
-	within("-patience", *patience, time.Second, 10*time.Minute)
-	within("-pause", *pause, time.Second, time.Hour)
+	settings()
 	if os.Geteuid() == 0 {
 		log.Fatal("the service does not run as root: run.sh starts it as another user")
+	}
+	if os.Getenv("GOMEMLIMIT") == "" {
+		debug.SetMemoryLimit(32 << 20) // what Go has beside the tables, which are in no memory of Go
 	}
 	hasher, err := scrypt.NewHasher(scrypt.Options{MostBytes: uint64(*most) << 20, Params: scrypt.Params{LogN: *logN, R: 8, P: 1, KeyLen: 32}})
 	if err != nil {
 		log.Fatalf("-log-n %d with -most-mib %d: %v", *logN, *most, err)
 	}
-	store := must(open(*socket))
+	store := must(open())
 	nobody := must(hasher.Hash(context.Background(), drawn(32)))
 	// A drawn key signs cookies: a restart logs all users out, and no hash depends on it.
 	places := runtime.GOMAXPROCS(0) + *waiting
@@ -67,47 +59,34 @@ func main() {
 	log.Fatal(server.ListenAndServe())
 }
 
+// settings reads each flag from the environment, -log-n from LOGIN_LOG_N, and then from the command line, and checks it.
+func settings() {
+	flag.VisitAll(func(it *flag.Flag) {
+		name := "LOGIN_" + strings.ToUpper(strings.ReplaceAll(it.Name, "-", "_"))
+		if value, ok := os.LookupEnv(name); ok {
+			if err := it.Value.Set(value); err != nil {
+				log.Fatalf("invalid value %q for %s: %v", value, name, err)
+			}
+		}
+	})
+	flag.Parse()
+	if flag.NArg() > 0 {
+		log.Fatalf("%q is not a flag, and no flag after it was read; a value follows its flag after =", flag.Arg(0))
+	}
+	within("-log-n", *logN, 10, 24)
+	within("-most-mib", *most, 1, 1<<20)
+	within("-waiting", *waiting, 0, 10_000)
+	within("-per-address", *perAddress, 1, 10_000)
+	within("-tries", *tries, 1, 1_000_000)
+	within("-patience", *patience, time.Second, 10*time.Minute)
+	within("-pause", *pause, time.Second, time.Hour)
+}
+
 // within exits if a flag is out of range. Every number is checked before it is converted to a smaller type.
 func within[T int | time.Duration](name string, value, least, most T) {
 	if value < least || value > most {
 		log.Fatalf("%s is %v, and %v to %v are allowed", name, value, least, most)
 	}
-}
-
-// storeTime is how long a statement waits for a connection to the store, and then for each answer.
-const storeTime = 5 * time.Second
-
-// A storeDialer makes connections with deadlines: the driver itself waits for answers even after its context has ended.
-type storeDialer struct{}
-
-func (d storeDialer) Dial(a, b string) (net.Conn, error) { return d.DialTimeout(a, b, storeTime) }
-
-func (storeDialer) DialTimeout(network, address string, most time.Duration) (net.Conn, error) {
-	connection, err := net.DialTimeout(network, address, most)
-	return timed{connection}, err
-}
-
-type timed struct{ net.Conn }
-
-// Write sets the deadline of the answer as well, since the driver reads only after it has written.
-func (t timed) Write(bytes []byte) (int, error) {
-	_ = t.SetDeadline(time.Now().Add(storeTime))
-	return t.Conn.Write(bytes)
-}
-
-// open returns the store, or an error if the service may do more there than to read and write its table.
-func open(folder string) (*sql.DB, error) {
-	host := strings.NewReplacer(`\`, `\\`, `'`, `\'`).Replace(folder)
-	connector := must(pq.NewConnector("host='" + host + "' user=login_service dbname=postgres sslmode=disable connect_timeout=2"))
-	connector.Dialer(storeDialer{})
-	store := sql.OpenDB(connector)
-	store.SetMaxOpenConns(16)
-	var super bool
-	err := store.QueryRow(`SELECT rolsuper FROM pg_roles WHERE rolname = current_user`).Scan(&super)
-	if err == nil && super {
-		err = errors.New("the role login_service is a superuser of the store")
-	}
-	return store, err
 }
 
 // drawn returns random bytes of the system.

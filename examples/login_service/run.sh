@@ -13,9 +13,7 @@ go build -o "$room/login_service" .
 chmod 711 "$room" "$room/login_service" # for root, whose service runs as another user
 ./postgres.sh start "$store"
 trap './postgres.sh fast "$store" || :; rm -rf "$room"' EXIT
-ulimit -n 2048 # connections, each with some 20 KiB
-# A hash is made in memory of malloc, which keeps some for each of its arenas; Go's own memory is beside the derivations.
-MALLOC_ARENA_MAX=1 GOMEMLIMIT=32MiB ./as.sh "$room/login_service" -store "$store" "$@" &
+./as.sh "$room/login_service" -store "$store" "$@" &
 service=$!
 trap 'kill "$service"' INT TERM
 wait "$service"

@@ -102,6 +102,12 @@ func TestServiceRefusesToHavePower(t *testing.T) {
 	if out, ok := ran("timeout", "5", program, "-store", w.store, "-listen", "127.0.0.1:0"); ok || !strings.Contains(out, "root") {
 		t.Errorf("started as root: %s", out)
 	}
+	for flag, refused := range map[string]string{"-database=other": `database "other"`, "-role=other": `user "other"`} {
+		words := append(as("login-service"), "timeout", "5", program, "-store", w.store, "-listen", "127.0.0.1:0", flag)
+		if out, ok := ran(words...); ok || !strings.Contains(out, "no pg_hba.conf entry") || !strings.Contains(out, refused) {
+			t.Errorf("%s: %s", flag, out)
+		}
+	}
 	// A store that another program made, or an earlier version
 	w.postgres("fast")
 	single := `cd / && PATH="$PATH:$(ls -d /usr/lib/postgresql/*/bin | tail -n 1)" && echo "ALTER ROLE login_service SUPERUSER" |
