@@ -4,7 +4,9 @@ import (
 	"crypto/rand"
 	"encoding/base64"
 	"fmt"
+	"net"
 	"os"
+	"os/exec"
 	"path/filepath"
 	"strconv"
 	"strings"
@@ -62,6 +64,67 @@ func TestKilledInTheMiddleOf500Changes(t *testing.T) {
 	t.Logf("killed after %d answers: %d users have the old text, %d the new one", count, old, new)
 	if old == 0 || new == 0 {
 		t.Error("the service was not killed in the middle")
+	}
+}
+
+// After TERM what has begun is answered, nothing else begins, and the service ends without an error.
+func TestTermLetsFormsEnd(t *testing.T) {
+	w := newWorld(t, small)
+	w.db.SetMaxOpenConns(1) // which has the lock
+	browsers := make([]*browser, 12)
+	for i := range browsers {
+		browsers[i] = newBrowser(w.address)
+		w.expect(200)(browsers[i].read())
+	}
+	w.exec(`BEGIN`)
+	w.exec(`LOCK TABLE users`)
+	wait := meanwhile(len(browsers), func(i int) (answer, error) {
+		return browsers[i].send("sign-up", "name", fmt.Sprint("user", i), "new", right)
+	})
+	time.Sleep(time.Second)
+	_ = w.service.Process.Signal(syscall.SIGTERM)
+	time.Sleep(time.Second)
+	if got, err := newBrowser(w.address).read(); err == nil {
+		t.Errorf("a client that comes after it gets %d", got.status)
+	}
+	w.exec(`ROLLBACK`)
+	if got := wait(); got.of[303] != len(browsers) {
+		t.Errorf("those that had begun get %v", got.of)
+	}
+	if err := w.service.Wait(); err != nil {
+		t.Error(err)
+	}
+}
+
+// The store of run.sh ends with it, also if TERM comes while it starts.
+func TestRunStopsItsStore(t *testing.T) {
+	for _, serves := range []bool{false, true} {
+		free, store := must(net.Listen("tcp", "127.0.0.1:0")), must(os.MkdirTemp("", "login-store-"))
+		address := free.Addr().String()
+		_ = free.Close()
+		run := exec.Command("./run.sh", "-listen", address, small)
+		run.Env = append(os.Environ(), "LOGIN_STORE="+store)
+		must(0, run.Start())
+		for i := 0; i < 600; i++ {
+			_, err := os.Stat(filepath.Join(store, "data"))
+			if serves {
+				_, err = newBrowser(address).read()
+			}
+			if err == nil {
+				break
+			}
+			time.Sleep(50 * time.Millisecond)
+		}
+		_ = run.Process.Signal(syscall.SIGTERM)
+		if err := run.Wait(); (err == nil) != serves {
+			t.Errorf("run.sh ends with %v, and served: %v", err, serves)
+		}
+		time.Sleep(3 * time.Second) // in which a store that was left starts
+		if _, err := os.Stat(filepath.Join(store, "data", "postmaster.pid")); err == nil {
+			t.Errorf("the store is left, and served: %v", serves)
+			_, _ = ran("./postgres.sh", "fast", store)
+		}
+		_ = os.RemoveAll(store)
 	}
 }
 

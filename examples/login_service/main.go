@@ -9,9 +9,11 @@ import (
 	"net/http"
 	"net/netip"
 	"os"
+	"os/signal"
 	"runtime"
 	"runtime/debug"
 	"strings"
+	"syscall"
 	"time"
 
 	"nilomafy.example/scrypt"
@@ -52,11 +54,25 @@ func main() {
 	places := runtime.GOMAXPROCS(0) + *waiting
 	service := &Service{accounts: &Accounts{store, hasher, nobody}, key: drawn(32), places: newCrowd(places, places),
 		names: newCrowd(2, 2*places), tries: newLimiter(), lines: newCrowd(1, 1000)}
-	server := http.Server{Addr: *listen, Handler: service, ReadHeaderTimeout: *patience / 4, ReadTimeout: *patience,
+	serve(&http.Server{Addr: *listen, Handler: service, ReadHeaderTimeout: *patience / 4, ReadTimeout: *patience,
 		WriteTimeout: 3 * *patience, MaxHeaderBytes: mostForm, ConnState: newCrowd(*perAddress, connections()).watch,
-		ErrorLog: log.New(service.lines, "", 0)}
-	log.Print("listening on http://", *listen)
-	log.Fatal(server.ListenAndServe())
+		ErrorLog: log.New(service.lines, "", 0)})
+}
+
+// serve answers requests until TERM or INT comes. It answers those that have begun then, and takes no others.
+func serve(server *http.Server) {
+	stopped, _ := signal.NotifyContext(context.Background(), syscall.SIGTERM, os.Interrupt)
+	go func() {
+		log.Print("listening on http://", *listen)
+		if err := server.ListenAndServe(); err != http.ErrServerClosed {
+			log.Fatal(err)
+		}
+	}()
+	<-stopped.Done()
+	log.Print("stopping, as soon as what has begun is answered")
+	last, cancel := context.WithTimeout(context.Background(), 4**patience)
+	defer cancel()
+	must(0, server.Shutdown(last))
 }
 
 // settings reads each flag from the environment, -log-n from LOGIN_LOG_N, and then from the command line, and checks it.

@@ -3,8 +3,9 @@
 # LOGIN_STORE names a folder for them. The arguments are those of the service: run.sh -help
 set -eu
 unset CDPATH
-room=$(mktemp -d)
+room=$(mktemp -d) stopped= service=
 trap 'rm -rf "$room"' EXIT
+trap 'stopped=1; test -z "$service" || kill "$service"' HUP INT TERM
 store=$(realpath -m "${LOGIN_STORE:-$room/store}")
 test -e "$store" || mkdir -m 700 "$store"
 cd "$(dirname "$0")"
@@ -13,7 +14,7 @@ go build -o "$room/login_service" .
 chmod 711 "$room" "$room/login_service" # for root, whose service runs as another user
 ./postgres.sh start "$store"
 trap './postgres.sh fast "$store" || :; rm -rf "$room"' EXIT
+test -z "$stopped"
 ./as.sh "$room/login_service" -store "$store" "$@" &
 service=$!
-trap 'kill "$service"' INT TERM
-wait "$service"
+wait "$service" || wait "$service" # which answers what has begun, and needs the store until then
