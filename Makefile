@@ -184,6 +184,7 @@ dist-test:
 	python3 -B release/test_proved.py
 	release/reproducible.sh
 	release/test.sh
+	release/container.sh
 
 thin: lib
 	python3 -m bench.thin $(MEASURED) 2 docs/thin.svg

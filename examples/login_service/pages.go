@@ -72,28 +72,44 @@ func (s *Service) ServeHTTP(w http.ResponseWriter, r *http.Request) {
 	if peer := addressOf(r.RemoteAddr); !isProxy(peer) && r.Header.Get("X-Forwarded-For") != "" {
 		s.proxied.Do(func() { log.Printf(unproxied, peer) })
 	}
-	switch action := strings.TrimPrefix(r.URL.Path, "/"); {
-	case action == "" && (r.Method == http.MethodGet || r.Method == http.MethodHead):
-		s.show(w, r, Refusal{http.StatusOK, done[r.URL.Query().Get("done")]})
-	case action == "":
+	err, refusal := s.answer(w, r), errNotNow
+	if err == nil {
+		return
+	}
+	if !errors.As(err, &refusal) {
+		s.lines.print(fmt.Sprintf("%s: %v", r.URL.Path, err), networks(client(r))...)
+	}
+	s.show(w, r, refusal)
+}
+
+// answer does what a request asks for, or returns what the page has to say.
+func (s *Service) answer(w http.ResponseWriter, r *http.Request) error {
+	action := strings.TrimPrefix(r.URL.Path, "/")
+	isRead := r.Method == http.MethodGet || r.Method == http.MethodHead
+	switch {
+	case action == "health" && isRead: // for what watches the service: it needs the store, and derives nothing
+		text, err := s.accounts.ask(r.Context(), errNotNow, `SELECT 'ok'`)
+		if err == nil {
+			fmt.Fprintln(w, text)
+		}
+		return err
+	case action == "" && isRead:
+		return Refusal{http.StatusOK, done[r.URL.Query().Get("done")]}
+	case action == "" || action == "health":
 		w.Header().Set("Allow", "GET, HEAD")
-		s.show(w, r, errMethod)
+		return errMethod
 	case done[action] == "":
 		http.NotFound(w, r)
+		return nil
 	case r.Method != http.MethodPost:
 		w.Header().Set("Allow", "POST")
-		s.show(w, r, errMethod)
-	default:
-		err, refusal := s.act(w, r, action), errNotNow
-		if err == nil {
-			http.Redirect(w, r, "/?done="+action, http.StatusSeeOther)
-			return
-		}
-		if !errors.As(err, &refusal) {
-			s.lines.print(fmt.Sprintf("%s: %v", action, err), networks(client(r))...)
-		}
-		s.show(w, r, refusal)
+		return errMethod
 	}
+	err := s.act(w, r, action)
+	if err == nil {
+		http.Redirect(w, r, "/?done="+action, http.StatusSeeOther)
+	}
+	return err
 }
 
 // act does what a form asks for.

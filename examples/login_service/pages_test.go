@@ -80,10 +80,14 @@ func TestPages(t *testing.T) {
 }
 
 // The page of a store that is stopped has no form, so the way back has the name.
-func TestNameStaysWithoutAStore(t *testing.T) {
+func TestPagesWithoutAStore(t *testing.T) {
 	w := newWorld(t, small)
 	one := newBrowser(w.address)
+	if got := w.expect(200)(one.ask("GET", "/health", nil)); got.page != "ok\n" {
+		t.Errorf("a healthy service answers %q", got.page)
+	}
 	w.postgres("fast")
+	w.expect(503)(one.ask("GET", "/health", nil))
 	if got := w.expect(503)(one.logIn("ad\u00e4 &c", "no")); !strings.Contains(got.page, `<a href="/?name=ad%c3%a4%20%26c">`) {
 		t.Errorf("the way back has no name: %s", got.page)
 	}

@@ -74,6 +74,8 @@ func TestHeadersOfEachAnswer(t *testing.T) {
 		{"the page", "GET", "/", 200, ""},
 		{"the page without its text", "HEAD", "/", 200, ""},
 		{"a page that is not there", "GET", "/else", 404, ""},
+		{"whether the service is healthy", "GET", "/health", 200, ""},
+		{"another method of that", "POST", "/health", 405, "GET, HEAD"},
 		{"a form to the page", "POST", "/", 405, "GET, HEAD"},
 		{"another method of the page", "DELETE", "/", 405, "GET, HEAD"},
 		{"a part of a method's name", "GE", "/", 405, "GET, HEAD"},
