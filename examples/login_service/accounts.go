@@ -24,7 +24,8 @@ type Accounts struct {
 const unseen = "\u2800\U0001d159\U00016fe4"
 
 // normal returns a name as it is stored, and whether it is allowed: in NFKC, so that one name is not stored as two, without
-// surrounding or repeated spaces, and with 1 to 64 characters, all of them visible.
+// surrounding or repeated spaces, and with 1 to 64 characters, all of them visible. The profile Nickname of x/text/secure/precis
+// is alike, but version 0.7.0 panics for U+3319.
 func normal(name string) (string, bool) {
 	name = strings.TrimSpace(norm.NFKC.String(name))
 	for _, it := range name {
