@@ -11,7 +11,8 @@
   this needs and isn't installed is named.
 
 All but the calls run on the processors that `rt ci` leaves idle, at a lower priority, since its crates wait for one another.
-What they print, with the time that each took, follows what `rt ci` prints. The count of what passed is the last line.
+What they print, with the time that each took, follows what `rt ci` prints. The last line counts what passed: the crates
+and programs of `rt ci`, and each of these tasks.
 """
 
 import concurrent.futures
@@ -34,6 +35,9 @@ BESIDE, AFTERWARDS, MOST = 3, 4, 16
 
 # What `rt ci` prints of a crate whose library is there.
 PROVED = re.compile(r"rt: (\w+) (?:proved$|is kept: )")
+
+# The last line that it prints if nothing failed.
+PASSED = re.compile(r"(\d+) passed, 0 failed\b")
 
 NEWER = "x86-64-v3"
 
@@ -298,7 +302,7 @@ def main():
             subprocess.run([sys.executable, "-B", "release/proved.py", "keep", log.name], check=True)
     used = resource.getrusage(resource.RUSAGE_CHILDREN)
     print(f"{clock()}, {(used.ru_utime + used.ru_stime) / 60:.1f} processor minutes")
-    print(count, end="")
+    print(f"{int(PASSED.match(count)[1]) + len(tasks.begun)} passed, 0 failed")
 
 
 if __name__ == "__main__":
