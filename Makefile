@@ -78,7 +78,7 @@ test: kit
 	python3 -m ci.gate
 
 # Each check runs whatever the others find, so that one run reports every fault.
-DOCUMENTS = lint formats names fit promises tests-of-ci tests-of-doc tests-of-compare tests-of-release pages
+DOCUMENTS = lint formats names facts fit promises tests-of-ci tests-of-doc tests-of-compare tests-of-release pages
 documents:
 	@$(MAKE) --no-print-directory --keep-going --output-sync -j$$(nproc) $(DOCUMENTS:%=document-%)
 .PHONY: $(DOCUMENTS:%=document-%)
@@ -90,6 +90,8 @@ document-formats:
 	else echo "rattle fmt: SKIPPED: the Rattle kit isn't here"; fi
 document-names:
 	@python3 -m ci.docs
+document-facts:
+	@python3 -m ci.facts
 document-fit:
 	@python3 -m ci.wrong_bodies fit
 document-promises:
