@@ -78,7 +78,7 @@ test: kit
 	python3 -m ci.gate
 
 # Each check runs whatever the others find, so that one run reports every fault.
-DOCUMENTS = lint formats names facts fit promises tests-of-ci tests-of-doc tests-of-compare tests-of-release pages
+DOCUMENTS = lint formats names facts cycles fit promises tests-of-ci tests-of-doc tests-of-compare tests-of-release pages
 documents:
 	@$(MAKE) --no-print-directory --keep-going --output-sync -j$$(nproc) $(DOCUMENTS:%=document-%)
 .PHONY: $(DOCUMENTS:%=document-%)
@@ -92,6 +92,8 @@ document-names:
 	@python3 -m ci.docs
 document-facts:
 	@python3 -m ci.facts
+document-cycles:
+	@python3 -m ci.cycles
 document-fit:
 	@python3 -m ci.wrong_bodies fit
 document-promises:
