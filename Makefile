@@ -20,7 +20,7 @@
 #   make clean     removes what was built
 #
 # CONTRIBUTING.md names the scripts for what is done seldom: comparing packages in a fresh root, the pages in a browser,
-# the login service and its load, tables and pictures of docs/.
+# the login service, tables and pictures of docs/.
 
 # A user's CDPATH would make cd go elsewhere.
 unexport CDPATH
@@ -216,9 +216,9 @@ axioms: proved-scrypt_commands
 	sed -n 's/^  \([a-z0-9_:]*\) *reached$$/\1/p' build/axioms.log > doc/axioms.txt
 
 # The library is built only if it is not there: the kit is not needed after that.
-.PHONY: login-service login-test login-load
+.PHONY: login-service login-test
 login-service: $(if $(wildcard build/lib/libscrypt_c.a),,lib)
 	examples/login_service/run.sh
 
-login-test login-load: $(if $(wildcard build/lib/libscrypt_c.a),,lib)
-	examples/login_service/test.sh $@
+login-test: $(if $(wildcard build/lib/libscrypt_c.a),,lib)
+	examples/login_service/test.sh

@@ -4,11 +4,15 @@ import (
 	"context"
 	"database/sql"
 	"errors"
+	"fmt"
 	"log"
+	"net"
 	"strings"
+	"time"
 	"unicode"
 	"unicode/utf8"
 
+	"github.com/lib/pq"
 	"golang.org/x/text/unicode/norm"
 	"nilomafy.example/scrypt"
 )
@@ -20,25 +24,20 @@ type Accounts struct {
 	nobody string // a hash whose password nobody knows, verified if there is no other
 }
 
-// unseen has invisible characters that are in none of Unicode's tables: a blank of Braille, a notehead and a filler.
-const unseen = "\u2800\U0001d159\U00016fe4"
-
-// normal returns a name as it is stored, and whether it is allowed: in NFKC, so that one name is not stored as two, without
-// surrounding or repeated spaces, and with 1 to 64 characters, all of them visible. The profile Nickname of x/text/secure/precis
-// is alike, but version 0.7.0 panics for U+3319.
-func normal(name string) (string, bool) {
-	name = strings.TrimSpace(norm.NFKC.String(name))
+// normal returns a name as it is stored, or "" if it is not allowed: in NFKC, so that one name is not stored as two, without
+// surrounding or repeated spaces, and with 1 to 64 characters, all of them visible.
+func normal(name string) string {
+	name = strings.Join(strings.Fields(norm.NFKC.String(name)), " ")
 	for _, it := range name {
 		// IsGraphic is false for control and bidirectional characters. The two tables have letters and marks that aren't seen.
-		if !unicode.IsGraphic(it) || strings.ContainsRune(unseen, it) ||
-			unicode.In(it, unicode.Other_Default_Ignorable_Code_Point, unicode.Variation_Selector) {
-			return "", false
+		if !unicode.IsGraphic(it) || unicode.In(it, unicode.Other_Default_Ignorable_Code_Point, unicode.Variation_Selector) {
+			return ""
 		}
 	}
-	name = strings.Join(strings.Fields(name), " ")
-	count := utf8.RuneCountInString(name)
-	// The package makes another letter of a few rare ones with a mark, which isn't in NFKC: a session would not have its name.
-	return name, utf8.ValidString(name) && norm.NFKC.IsNormalString(name) && count >= 1 && count <= 64
+	if !utf8.ValidString(name) || utf8.RuneCountInString(name) > 64 {
+		return ""
+	}
+	return name
 }
 
 // SignUp adds a user and returns the text of the hash, or errTaken.
@@ -80,7 +79,7 @@ func (a *Accounts) verify(ctx context.Context, name, password string) (string, e
 		return "", err
 	}
 	err = a.hasher.Verify(ctx, text, []byte(password))
-	if isRefused(err) {
+	if errors.Is(err, scrypt.ErrInvalidHash) || errors.Is(err, scrypt.ErrTooCostly) || errors.Is(err, scrypt.ErrKeyTooShort) {
 		log.Printf("the hash of %q is refused: %v", name, err)
 		known, err = false, a.hasher.Verify(ctx, a.nobody, []byte(password))
 	}
@@ -88,12 +87,6 @@ func (a *Accounts) verify(ctx context.Context, name, password string) (string, e
 		return "", errWrong
 	}
 	return text, err
-}
-
-// isRefused reports whether a hash is at fault, and not a password.
-func isRefused(err error) bool {
-	return errors.Is(err, scrypt.ErrInvalidHash) || errors.Is(err, scrypt.ErrTooCostly) ||
-		errors.Is(err, scrypt.ErrKeyTooShort)
 }
 
 // put hashes a password, and returns the text if the statement stores it, or else `otherwise`.
@@ -114,4 +107,35 @@ func (a *Accounts) ask(ctx context.Context, otherwise error, statement string, v
 		err = otherwise
 	}
 	return text, err
+}
+
+// storeTime is how long a statement waits for a connection to the store, and then for each answer.
+const storeTime = 5 * time.Second
+
+// A storeDialer makes connections with deadlines: the driver itself waits for answers even after its context has ended.
+type storeDialer struct{}
+
+func (d storeDialer) Dial(a, b string) (net.Conn, error) { return d.DialTimeout(a, b, storeTime) }
+
+func (storeDialer) DialTimeout(network, address string, most time.Duration) (net.Conn, error) {
+	connection, err := net.DialTimeout(network, address, most)
+	return timed{connection}, err
+}
+
+type timed struct{ net.Conn }
+
+// Write sets the deadline of the answer as well, since the driver reads only after it has written.
+func (t timed) Write(bytes []byte) (int, error) {
+	_ = t.SetDeadline(time.Now().Add(storeTime))
+	return t.Conn.Write(bytes)
+}
+
+// open returns the store, or an error if it is not there.
+func open() (*sql.DB, error) {
+	quoted := strings.NewReplacer(`\`, `\\`, `'`, `\'`).Replace
+	connector := must(pq.NewConnector(fmt.Sprintf("connect_timeout=2 host='%s' dbname='%s' user='%s'", quoted(*host), quoted(*database), quoted(*role))))
+	connector.Dialer(storeDialer{})
+	store := sql.OpenDB(connector)
+	store.SetMaxOpenConns(16)
+	return store, store.Ping()
 }

@@ -10,7 +10,6 @@ import (
 	"net/url"
 	"os"
 	"os/exec"
-	"os/signal"
 	"path/filepath"
 	"regexp"
 	"strconv"
@@ -25,7 +24,7 @@ import (
 )
 
 // small is for hashes that take no time. The password of each user is right, where a test says nothing else.
-const small, right, wrong = "-log-n=10", "a password", "not it"
+const small, right, wrong, another = "-log-n=10", "a password", "not it", "another password"
 
 var program string
 
@@ -37,14 +36,6 @@ func TestMain(m *testing.M) {
 		os.Exit(1)
 	}
 	_, _ = ran("chmod", "711", room, program) // for root, whose service runs as another user
-	signals := make(chan os.Signal, 1)
-	signal.Notify(signals, os.Interrupt, syscall.SIGTERM)
-	go func() {
-		<-signals
-		worlds.Range(func(w, _ any) bool { w.(*world).close(); return true })
-		_ = os.RemoveAll(room)
-		os.Exit(1)
-	}()
 	code := m.Run()
 	_ = os.RemoveAll(room)
 	os.Exit(code)
@@ -56,8 +47,10 @@ func ran(words ...string) (string, bool) {
 	return string(out), err == nil
 }
 
-// worlds has those that are not closed yet, so that they end with the tests if these are stopped.
-var worlds sync.Map
+// numbered puts a number at each # of a text.
+func numbered(text string, number int) string {
+	return strings.ReplaceAll(text, "#", strconv.Itoa(number))
+}
 
 // A world is a PostgreSQL and a service of its own, which end with the test.
 type world struct {
@@ -70,27 +63,26 @@ type world struct {
 
 func newWorld(t testing.TB, arguments ...string) *world {
 	t.Helper()
-	w := &world{TB: t, store: must(os.MkdirTemp("", "login-store-")), log: must(os.CreateTemp("", "login-log-"))}
+	w := &world{TB: t, store: must(os.MkdirTemp("", "login-store-")), log: must(os.CreateTemp("", "login-log-")), address: free()}
 	w.db = must(sql.Open("postgres", "host="+w.store+" user=login_service dbname=postgres sslmode=disable"))
+	w.db.SetMaxOpenConns(1) // so that the connection which has a lock is that which rolls back
 	w.postgres("start")
-	worlds.Store(w, nil)
-	t.Cleanup(w.close)
-	free := must(net.Listen("tcp", "127.0.0.1:0"))
-	w.address = free.Addr().String()
-	_ = free.Close()
+	t.Cleanup(func() {
+		w.stop()
+		_ = w.db.Close()
+		w.postgres("fast")
+		_ = os.RemoveAll(w.store)
+		_ = os.Remove(w.log.Name())
+	})
 	w.start(arguments...)
 	return w
 }
 
-func (w *world) close() {
-	worlds.Delete(w)
-	if w.service != nil {
-		w.stop()
-	}
-	_ = w.db.Close()
-	w.postgres("fast")
-	_ = os.RemoveAll(w.store)
-	_ = os.Remove(w.log.Name())
+// free returns an address on which nobody listens.
+func free() string {
+	listener := must(net.Listen("tcp", "127.0.0.1:0"))
+	defer listener.Close()
+	return listener.Addr().String()
 }
 
 func (w *world) postgres(word string) {
@@ -109,12 +101,9 @@ func (w *world) start(arguments ...string) {
 	arguments = append([]string{"-c", limit + ` && exec ./as.sh "$@"`, "sh", program, "-store", w.store, "-listen", w.address}, arguments...)
 	w.service = exec.Command("sh", arguments...)
 	w.service.Stdout, w.service.Stderr = w.log, w.log
-	if err := w.service.Start(); err != nil {
-		w.Fatal(err)
-	}
+	must(0, w.service.Start())
 	for i := 0; i < 300; i++ {
-		if response, err := http.Get("http://" + w.address + "/"); err == nil {
-			_ = response.Body.Close()
+		if _, err := browserAt("127.0.0.1", w.address).read(); err == nil {
 			return
 		}
 		time.Sleep(50 * time.Millisecond)
@@ -136,7 +125,7 @@ func (w *world) restart(arguments ...string) {
 
 func (w *world) logged() string { return string(must(os.ReadFile(w.log.Name()))) }
 
-// status returns a number of KiB that the system knows of the service.
+// status returns a number that the system knows of the service.
 func (w *world) status(name string) int {
 	w.Helper()
 	status := must(os.ReadFile(fmt.Sprintf("/proc/%d/status", w.service.Process.Pid)))
@@ -146,9 +135,7 @@ func (w *world) status(name string) int {
 // peak returns the most memory that the service had since the last call, in MiB.
 func (w *world) peak() int {
 	kib := w.status("VmHWM")
-	if err := os.WriteFile(fmt.Sprintf("/proc/%d/clear_refs", w.service.Process.Pid), []byte("5"), 0); err != nil {
-		w.Error(err)
-	}
+	must(0, os.WriteFile(fmt.Sprintf("/proc/%d/clear_refs", w.service.Process.Pid), []byte("5"), 0))
 	return kib >> 10
 }
 
@@ -175,9 +162,9 @@ func (w *world) hash(name string) (text string) {
 	return text
 }
 
-// A browser runs no scripts.
+// A browser keeps cookies and runs no scripts.
 type browser struct {
-	address, token   string
+	address          string
 	cookies, headers map[string]string
 	http             http.Client
 }
@@ -185,22 +172,22 @@ type browser struct {
 // addresses counts the browsers, each of which has an address of its own on this machine.
 var addresses uint32
 
-func newBrowser(address string) *browser {
+func (w *world) browser() *browser {
 	number := atomic.AddUint32(&addresses, 1)
-	return newBrowserFrom(fmt.Sprintf("127.%d.%d.%d", 1+number>>16, number>>8&255, number&255), address)
+	return browserAt(fmt.Sprintf("127.%d.%d.%d", 1+number>>16, number>>8&255, number&255), w.address)
 }
 
-func newBrowserFrom(own, address string) *browser {
+func browserAt(own, address string) *browser {
 	noRedirect := func(*http.Request, []*http.Request) error { return http.ErrUseLastResponse }
 	return &browser{address: address, cookies: map[string]string{}, headers: map[string]string{}, http: http.Client{CheckRedirect: noRedirect,
-		Timeout: 60 * time.Second, Transport: &http.Transport{MaxIdleConnsPerHost: 1, DialContext: dialer(own).DialContext}}}
+		Timeout: 60 * time.Second, Transport: &http.Transport{IdleConnTimeout: 100 * time.Millisecond, DialContext: dialer(own).DialContext}}}
 }
 
 // proxied is for a service that trusts the proxy for which at makes browsers: their addresses are sent by the proxy.
 const proxied = "-proxy=127.0.9.100"
 
 func (w *world) at(address string) *browser {
-	one := newBrowserFrom("127.0.9.100", w.address)
+	one := browserAt("127.0.9.100", w.address)
 	one.headers["X-Forwarded-For"] = address
 	return one
 }
@@ -211,29 +198,21 @@ func dialer(own string) *net.Dialer {
 }
 
 type answer struct {
-	status int
-	retry  string
-	page   string
-	took   time.Duration
-	header http.Header
+	status      int
+	retry, page string
+	took        time.Duration
+	header      http.Header
 }
 
-var tokenInPage = regexp.MustCompile(`name="token" value="([^"]*)"`)
-
 func (c *browser) ask(method, path string, body io.Reader) (answer, error) {
-	request, err := http.NewRequest(method, "http://"+c.address+path, body)
-	if err != nil {
-		return answer{}, err
-	}
+	request := must(http.NewRequest(method, "http://"+c.address+path, body))
 	for name, value := range c.cookies {
 		request.AddCookie(&http.Cookie{Name: name, Value: value})
 	}
 	for name, value := range c.headers {
 		request.Header.Set(name, value)
 	}
-	if method == http.MethodPost {
-		request.Header.Set("Content-Type", "application/x-www-form-urlencoded")
-	}
+	request.Header.Set("Content-Type", "application/x-www-form-urlencoded")
 	began := time.Now()
 	response, err := c.http.Do(request)
 	if err != nil {
@@ -250,46 +229,27 @@ func (c *browser) ask(method, path string, body io.Reader) (answer, error) {
 	return answer{response.StatusCode, response.Header.Get("Retry-After"), string(page), time.Since(began), response.Header}, err
 }
 
-// read opens the page, and keeps the token of its forms.
-func (c *browser) read() (answer, error) {
-	got, err := c.ask(http.MethodGet, "/", nil)
-	if found := tokenInPage.FindStringSubmatch(got.page); found != nil {
-		c.token = found[1]
-	}
-	return got, err
-}
+func (c *browser) read() (answer, error) { return c.ask(http.MethodGet, "/", nil) }
 
-// send sends a form of the page that was read: the action, and the names of its fields each before its value.
+// send sends a form: the action, and the names of its fields each before its value.
 func (c *browser) send(action string, fields ...string) (answer, error) {
-	form := url.Values{"token": {c.token}}
+	form := url.Values{}
 	for i := 0; i < len(fields); i += 2 {
 		form.Set(fields[i], fields[i+1])
 	}
 	return c.ask(http.MethodPost, "/"+action, strings.NewReader(form.Encode()))
 }
 
-// fill reads the page, and sends a form of it.
-func (c *browser) fill(action string, fields ...string) (answer, error) {
-	if got, err := c.read(); err != nil || got.status != http.StatusOK {
-		return got, err
-	}
-	return c.send(action, fields...)
-}
-
-// logIn is a log-in by a browser that is not logged in.
 func (c *browser) logIn(name, password string) (answer, error) {
-	delete(c.cookies, "session")
-	return c.fill("log-in", "name", name, "password", password)
+	return c.send("log-in", "name", name, "password", password)
 }
 
-// signUp is a sign-up by a browser that is not logged in.
 func (c *browser) signUp(name, password string) (answer, error) {
-	delete(c.cookies, "session")
-	return c.fill("sign-up", "name", name, "new", password)
+	return c.send("sign-up", "name", name, "new", password)
 }
 
 func (c *browser) change(password, wanted string) (answer, error) {
-	return c.fill("change", "password", password, "new", wanted)
+	return c.send("change", "password", password, "new", wanted)
 }
 
 // expect ends the test unless an answer has a status.
@@ -313,15 +273,14 @@ type answers struct {
 
 // each acts for the numbers below a count, some at a time.
 func each(count, atOnce int, act func(number int) (answer, error)) *answers {
-	all := &answers{of: map[int]int{}}
+	all, next := &answers{of: map[int]int{}}, int32(-1)
 	var group sync.WaitGroup
-	numbers := make(chan int)
 	for i := 0; i < atOnce; i++ {
 		group.Add(1)
 		go func() {
 			defer group.Done()
-			for number := range numbers {
-				got, err := act(number)
+			for number := atomic.AddInt32(&next, 1); int(number) < count; number = atomic.AddInt32(&next, 1) {
+				got, err := act(int(number))
 				if err != nil || (got.status == 429 || got.status == 503) && got.retry == "" {
 					got.status = 0
 				}
@@ -334,10 +293,6 @@ func each(count, atOnce int, act func(number int) (answer, error)) *answers {
 			}
 		}()
 	}
-	for i := 0; i < count; i++ {
-		numbers <- i
-	}
-	close(numbers)
 	group.Wait()
 	return all
 }

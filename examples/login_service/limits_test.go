@@ -3,6 +3,8 @@ package main
 import (
 	"fmt"
 	"io"
+	"net/http/httptest"
+	"net/netip"
 	"os"
 	"runtime"
 	"strings"
@@ -12,73 +14,216 @@ import (
 	"time"
 )
 
-// slowly opens connections that send no whole header, and returns how many the service keeps.
-func (w *world) slowly(count int, from string, addresses int) (kept int32) {
-	each(count, 64, func(i int) (answer, error) {
-		connection, err := dialer(numbered(from, 1+i%addresses)).Dial("tcp", w.address)
-		if err != nil {
-			return answer{}, err
+func TestTriesComeBack(t *testing.T) {
+	l, ada := newLimiter(), allowance{"name ada", 1}
+	for _, it := range []struct {
+		why   string
+		later time.Duration
+		taken int // of as many tries as there are at once, and one more
+	}{
+		{"at first", 0, *tries},
+		{"none is left", 0, 0},
+		{"a moment before the pause is over", *pause - time.Second, 0},
+		{"after the pause", time.Second, 1},
+		{"after three pauses more", 3 * *pause, 3},
+		{"after a day, no more than at first", 24 * time.Hour, *tries},
+	} {
+		l.begin = l.begin.Add(-it.later)
+		taken := 0
+		for i := 0; i <= *tries && l.charge(0, ada); i++ {
+			l.charge(*pause, ada)
+			taken++
 		}
-		w.Cleanup(func() { _ = connection.Close() })
-		_, _ = connection.Write([]byte("GET / HTTP/1.1\r\nHost"))
-		_ = connection.SetReadDeadline(time.Now().Add(300 * time.Millisecond))
-		if _, err = io.ReadAll(connection); os.IsTimeout(err) {
-			atomic.AddInt32(&kept, 1)
+		if taken != it.taken {
+			t.Errorf("%s: %d tries", it.why, taken)
 		}
-		return answer{}, err
-	})
-	return kept
+	}
+	// Two who were checked at once owe one more.
+	l.charge(2**pause, ada)
+	l.begin = l.begin.Add(-2 * *pause)
+	if l.charge(0, ada) {
+		t.Error("a try that is owed is forgotten")
+	}
 }
 
-// Clients open more slow connections than run.sh allows descriptors.
-func TestManySlowConnections(t *testing.T) {
-	for _, it := range []struct {
-		why, patience, from string
-		addresses           int
-		most                int32 // how many stay open
-	}{
-		{"one client has no more than its share", "20s", "127.0.2.#", 1, 64},
-		{"many clients leave descriptors for the store, and connections for others", "40s", "127.0.3.#", 50, 1984},
+func TestAddresses(t *testing.T) {
+	proxy = netip.MustParseAddr("::ffff:192.0.2.100")
+	defer func() { proxy = netip.Addr{} }()
+	for _, it := range []struct{ why, peer, forwarded, network string }{
+		{"a connection of IPv4", "192.0.2.1:80", "", "192.0.2.1"},
+		{"IPv4 on a socket for both", "[::ffff:192.0.2.1]:80", "", "192.0.2.1"},
+		{"a customer has 56 bits of IPv6", "[2001:db8:1:fff2:3:4:5:6]:80", "", "2001:db8:1:ff00::/56"},
+		{"an interface is no part of it", "[fe80::1%eth0]:80", "", "fe80::/56"},
+		{"an address that the client makes up", "192.0.2.1:80", "198.51.100.1", "192.0.2.1"},
+		{"the address by the proxy", "192.0.2.100:80", "192.0.2.1", "192.0.2.1"},
+		{"one of IPv6 by the proxy", "192.0.2.100:80", "2001:db8::1", "2001:db8::/56"},
+		{"one that the client sent to the proxy", "192.0.2.100:80", "198.51.100.1, 192.0.2.2", "192.0.2.2"},
+		{"one that is no address", "192.0.2.100:80", `x" from 198.51.100.1`, "192.0.2.100"},
 	} {
-		w := newWorld(t, "ulimit -n 2048", small, "-pause=1m", "-patience="+it.patience)
-		w.users(1, 10)
-		before, after := newBrowser(w.address), newBrowser(w.address)
-		w.expect(200)(before.read())
-		if kept := w.slowly(2100, it.from, it.addresses); kept > it.most {
-			t.Errorf("%s: %d connections are open", it.why, kept)
-		}
-		// The store has no connection yet: each log-in at once needs one.
-		if got := w.expect(303)(before.send("log-in", "name", "user0", "password", right)); got.took > time.Second {
-			t.Errorf("%s: a client who is connected waits %v", it.why, got.took)
-		}
-		after.http.Timeout = time.Second
-		w.expect(303)(after.logIn("user0", right))
-		if logged := w.logged(); strings.Contains(logged, "too many open files") {
-			t.Errorf("%s: no descriptor is left\n%s", it.why, logged)
+		r := httptest.NewRequest("GET", "/", nil)
+		r.RemoteAddr = it.peer
+		r.Header.Set("X-Forwarded-For", it.forwarded)
+		if got := network(client(r)); got != it.network {
+			t.Errorf("%s: %s is of %s", it.why, it.peer, got)
 		}
 	}
 }
 
-// While 60 clients log in again and again, others find places: 48 others, or the user's known browser.
-var floods = []struct {
-	why, tries, from string
-	addresses, names int // of those clients, and of each of their addresses
-	password, cookie string
-	known            bool
-}{
-	{"one address", "1000000", "192.0.2.#", 1, 1, right, "", false},
-	{"two addresses", "1000000", "192.0.2.#", 2, 1, right, "", false},
-	{"two addresses, each with many accounts", "1000000", "192.0.2.#", 2, 30, right, "", false},
-	{"all networks of a /56, with many accounts", "1000000", "2001:db8:0:#::1", 60, 1, right, "", false},
-	{"others whose tries are used up", "2", "192.0.2.#", 1, 1, wrong, "", true},
-	{"forged cookies, which are compared with the store", "2", "192.0.2.#", 1, 1, wrong, "end=9&id=0&name=user0&tag=0", true},
-	{"others who have tries for the name", "1000000", "198.51.100.1", 1, 1, wrong, "", true},
+func TestCrowds(t *testing.T) {
+	for _, it := range []struct {
+		why       string
+		each, all int
+		enter     string // the letters are keys
+		entered   int
+	}{
+		{"one key has half of all places", 36, 36, strings.Repeat("a ", 36), 18},
+		{"two have a third each", 36, 36, strings.Repeat("a b ", 36), 24},
+		{"another finds one while two take what they can", 36, 36, strings.Repeat("a b ", 36) + "c d e f", 24 + 4},
+		{"one place is for the first", 1, 1, "a b", 1},
+		{"each has no more than its bound", 2, 100, "a a a b b b", 4},
+		{"the trusted proxy has all places", 1, 3, "- - - -", 3},
+	} {
+		c, entered := newCrowd(it.each, it.all), 0
+		for _, word := range strings.Fields(it.enter) {
+			key := strings.Trim(word, "-")
+			if c.enter(key, false) {
+				entered++
+				defer c.leave(key)
+			}
+		}
+		if entered != it.entered || c.sum != entered {
+			t.Errorf("%s: %d and not %d", it.why, entered, it.entered)
+		}
+	}
 }
 
+// Each row has names and addresses of its own. A step is an address, with a letter before it for a browser that stays; a form,
+// a name and a password; and the statuses of the answers: "403*3,429" of four such forms.
+func TestTriesAreLimited(t *testing.T) {
+	w := newWorld(t, small, "-tries=3", "-pause=1h", proxied)
+	w.users(2000, 10)
+	w.exec(`UPDATE users SET name = 'u' || substr(name, 5)::int % 100 || '-' || substr(name, 5)::int / 100`)
+	for row, it := range []struct{ why, steps string }{
+		{"wrong passwords for a name; then a right one is not tried", "# log-in u1 no 403*3; 9 log-in u1 ok 429"},
+		{"a name that nobody has is limited as any", "# log-in nobody no 403*3,429"},
+		{"a name in another form is the same", "1 log-in u1 no 403; 2 log-in \uff551 no 403*2; 3 log-in u1 no 429"},
+		{"an address tries other names, and limits no other address", "1 log-in u# no 403*3; 1 log-in u9 ok 429; 2 log-in u9 ok 303"},
+		{"right passwords do not give back what wrong ones took", "1 log-in u# no 403*2; 1 log-in u8 ok 303; 1 log-in u9 no 429"},
+		{"right ones cost a twentieth of a try, of the address", "A1 log-in u99 ok 303; 1 log-in u# ok 303*40,429; A1 log-in u99 ok 303"},
+		{"and of the name", "A99 log-in u1 ok 303; # log-in u1 ok 303*40,429; A99 log-in u1 ok 303"},
+		{"a known browser has an allowance of its own", "A1 log-in u1 ok 303*42,429"},
+		{"and tries", "A1 log-in u1 ok 303*2; A1 log-in u1 no 403*2,429; A1 log-in u1 ok 429"},
+		{"all known browsers of an address have a further allowance, four times as large, which those of no other address use",
+			"A1 log-in u1 ok 303*42; B1 log-in u2 ok 303*42; C1 log-in u3 ok 303*42; D1 log-in u4 ok 303*42; E1 log-in u5 ok 303*42; " +
+				"F1 log-in u6 ok 303*11,429; A1 log-in u1 ok 429; G2 log-in u7 ok 303*42"},
+		{"a sign-up costs a try", "1 sign-up new# ok 303*3,429"},
+		{"wrong current passwords", "A1 sign-up new ok 303; A1 change - no 403*3,429; A1 log-out - - 303"},
+		{"tries of others keep no user who is logged in from a change", "A9 log-in u1 ok 303; # log-in u1 no 403*2,429; A9 change - ok 303"},
+		{"addresses of a /56", "2001:db8:0:1#::1 log-in nobody# no 403*3,429; 2001:db8:0:300::1 log-in nobody no 403"},
+		{"addresses of IPv4", "# log-in nobody# no 403*8"},
+	} {
+		stay := map[string]*browser{}
+		for _, step := range strings.Split(it.steps, "; ") {
+			part, number := strings.Fields(step), 0
+			for _, group := range strings.Split(part[4], ",") {
+				status, times := 0, 1
+				_, _ = fmt.Sscanf(group, "%d*%d", &status, &times)
+				for ; times > 0; times-- {
+					got, err := w.step(row, number, part, stay)
+					if err != nil || got.status != status || (got.status == 429) != (got.retry == "3600") {
+						t.Errorf("%s: %s: number %d gets %d, Retry-After %q, %v", it.why, step, number, got.status, got.retry, err)
+					}
+					number++
+				}
+			}
+		}
+	}
+}
+
+func (w *world) step(row, number int, part []string, stay map[string]*browser) (answer, error) {
+	from, name := numbered(part[0], number), fmt.Sprint(numbered(part[2], number), "-", row)
+	one, password := stay[from], map[string]string{"ok": right, "no": wrong}[part[3]]
+	if one == nil {
+		address := strings.TrimLeft(from, "ABCDEFG")
+		if !strings.Contains(address, ":") {
+			address = fmt.Sprint("192.0.", row, ".", address)
+		}
+		one = w.at(address)
+	}
+	if from[0] >= 'A' {
+		stay[from] = one
+	}
+	return one.send(part[1], "name", name, "password", password, "new", another)
+}
+
+// Forms that come at once are checked before one of them is charged, so as many more passwords may be tried as there are
+// places. An office is one address: its people log in at once, whatever tries are left.
+func TestTriesAtOnce(t *testing.T) {
+	const waiting = 60
+	w := newWorld(t, "-log-n=13", "-tries=5", "-pause=1h", fmt.Sprint("-waiting=", waiting), proxied)
+	w.users(100, 13)
+	half := (runtime.GOMAXPROCS(0) + waiting) / 2
+	for _, it := range []struct {
+		why, from, name, password string
+		before, forms             int // so many wrong passwords before, and so many forms, 100 at once, and then six more
+		least, most               int // how many are tried
+	}{
+		{"one name has two places", "192.0.0.#", "user99", wrong, 0, 200, 5, 5 + 1},
+		{"one address has half of all places", "192.0.1.1", "nobody#", wrong, 0, 200, 5, 5 + half},
+		{"more people than tries", "192.0.2.1", "user#", right, 0, 24, 30, 30},
+		{"after wrong passwords, which leave two tries", "192.0.3.1", "user#", right, 3, 24, 24, 24},
+	} {
+		for i := 0; i < it.before; i++ {
+			w.expect(403)(w.at(it.from).logIn(fmt.Sprint("other", i), wrong))
+		}
+		act := func(i int) (answer, error) {
+			return w.at(numbered(it.from, i)).logIn(numbered(it.name, i), it.password)
+		}
+		got, more := each(it.forms, 100, act), each(6, 1, act)
+		tried := got.of[403] + got.of[303] + more.of[403] + more.of[303]
+		if tried < it.least || tried > it.most || got.of[0]+more.of[0] > 0 {
+			t.Errorf("%s: %v, %v, and %d to %d should be tried", it.why, got.of, more.of, it.least, it.most)
+		}
+		if it.password == wrong {
+			w.expect(429)(w.at(numbered(it.from, 1)).logIn(numbered(it.name, 1), right))
+		}
+	}
+}
+
+// Who leaves before the answer pays, so that nobody tries passwords in this way.
+func TestWhoLeavesPays(t *testing.T) {
+	w := newWorld(t, "-log-n=17", "-tries=1", "-pause=1h", proxied)
+	one, all := w.at("192.0.2.1"), 4*runtime.GOMAXPROCS(0)
+	wait := meanwhile(all, func(i int) (answer, error) {
+		return w.at(fmt.Sprint("198.51.100.", i)).logIn(fmt.Sprint("nobody", i), wrong)
+	})
+	time.Sleep(100 * time.Millisecond) // all processors derive
+	one.http.Timeout = 50 * time.Millisecond
+	if got, err := one.logIn("nobody", wrong); err == nil {
+		t.Errorf("a client that has to wait gets %d", got.status)
+	}
+	if got := wait(); got.of[403] != all {
+		t.Errorf("the others get %v", got.of)
+	}
+	w.expect(429)(w.at("192.0.2.1").logIn("another", wrong))
+}
+
+// While 60 clients log in again and again, others find places: 48 others, or the user's known browser.
 func TestOthersFindPlaces(t *testing.T) {
 	w := newWorld(t, small)
 	w.users(60+48, 14)
-	for _, it := range floods {
+	for _, it := range []struct {
+		why, tries, from string
+		addresses, names int // of those clients, and of each of their addresses
+		password, cookie string
+		known            bool
+	}{
+		{"two addresses", "1000000", "192.0.2.#", 2, 1, right, "", false},
+		{"two addresses, each with many accounts", "1000000", "192.0.2.#", 2, 30, right, "", false},
+		{"all networks of a /56, with many accounts", "1000000", "2001:db8:0:#::1", 60, 1, right, "", false},
+		{"forged cookies, which are compared with the store", "2", "192.0.2.#", 1, 1, wrong, "end=9&id=0&name=user0&tag=0", true},
+		{"others who have tries for the name", "1000000", "198.51.100.1", 1, 1, wrong, "", true},
+	} {
 		w.restart("-log-n=14", "-waiting=12", "-pause=1h", "-tries="+it.tries, proxied)
 		known, others, atOnce := w.at("192.0.2.0"), 48, 4
 		if it.known {
@@ -105,8 +250,8 @@ func TestOthersFindPlaces(t *testing.T) {
 		})
 		atomic.StoreInt32(&ended, 1)
 		wait()
-		if got.of[303] != others {
-			t.Errorf("%s: of %d log-ins of others %v", it.why, others, got.of)
+		if peak := w.peak(); got.of[303] != others || peak > 2*runtime.GOMAXPROCS(0)*16+64 {
+			t.Errorf("%s: of %d log-ins of others %v, and a peak of %d MiB", it.why, others, got.of, peak)
 		}
 	}
 }
@@ -115,10 +260,10 @@ func TestOthersFindPlaces(t *testing.T) {
 func TestOverloadNeedsNoStore(t *testing.T) {
 	w := newWorld(t, small, "-waiting=0")
 	w.users(1, 10)
-	known, all := newBrowser(w.address), runtime.GOMAXPROCS(0)
+	known, all := w.browser(), runtime.GOMAXPROCS(0)
 	w.expect(303)(known.logIn("user0", right))
 	w.signal(syscall.SIGSTOP)
-	wait := meanwhile(all, func(i int) (answer, error) { return newBrowser(w.address).logIn(fmt.Sprint("nobody", i), wrong) })
+	wait := meanwhile(all, func(i int) (answer, error) { return w.browser().logIn(fmt.Sprint("nobody", i), wrong) })
 	time.Sleep(500 * time.Millisecond)
 	got, err := known.logIn("user0", right)
 	w.signal(syscall.SIGCONT)
@@ -128,37 +273,49 @@ func TestOverloadNeedsNoStore(t *testing.T) {
 	}
 }
 
-// Those who send a byte a second take no place from others, and lose their connection in the end.
+// Those who send a byte a second take no place from others, have no more connections than their share, and lose them in the
+// end. There are more of them than descriptors.
 func TestSlowClients(t *testing.T) {
-	w := newWorld(t, small, "-patience=4s")
-	w.users(1, 10)
-	var closed int32
-	wait := meanwhile(300, func(i int) (answer, error) {
-		connection, err := dialer(fmt.Sprint("127.0.1.", 1+i%10)).Dial("tcp", w.address)
-		if err != nil {
-			return answer{}, err
-		}
-		defer connection.Close()
-		if i%2 == 0 { // slow in the form, else already in the header
-			_, _ = fmt.Fprint(connection, slowForm)
-		}
-		for seconds := 0; seconds < 12; seconds++ {
-			if _, err = connection.Write([]byte("G")); err != nil {
-				atomic.AddInt32(&closed, 1)
-				break
+	const slowForm = "POST /log-in HTTP/1.1\r\nHost: here\r\nContent-Length: 1000\r\n\r\n"
+	for _, it := range []struct {
+		why, from string
+		addresses int
+		most      int32 // how many stay connected
+	}{
+		{"one client", "127.0.2.#", 1, 64},
+		{"many clients", "127.0.3.#", 50, 960},
+	} {
+		w := newWorld(t, "ulimit -n 1024", small, "-patience=12s")
+		w.users(1, 10)
+		var open, closed int32
+		wait := meanwhile(1100, func(i int) (answer, error) {
+			connection, err := dialer(numbered(it.from, 1+i%it.addresses)).Dial("tcp", w.address)
+			if err != nil {
+				return answer{}, err
 			}
-			time.Sleep(time.Second)
+			defer connection.Close()
+			if i%2 == 0 { // slow in the form, else already in the header
+				_, _ = fmt.Fprint(connection, slowForm)
+			}
+			_ = connection.SetReadDeadline(time.Now().Add(300 * time.Millisecond))
+			if _, err = io.ReadAll(connection); os.IsTimeout(err) {
+				atomic.AddInt32(&open, 1)
+			}
+			for seconds := 0; seconds < 20; seconds++ {
+				if _, err = connection.Write([]byte("G")); err != nil {
+					atomic.AddInt32(&closed, 1)
+					break
+				}
+				time.Sleep(time.Second)
+			}
+			return answer{}, err
+		})
+		time.Sleep(500 * time.Millisecond)
+		got := each(20, 1, func(int) (answer, error) { return w.browser().logIn("user0", right) })
+		wait()
+		if got.of[303] != 20 || got.slowest > time.Second || open > it.most || closed != 1100 {
+			t.Errorf("%s: %v of 20 log-ins, the slowest in %v; %d were connected, and %d are not in the end\n%s",
+				it.why, got.of, got.slowest, open, closed, w.logged())
 		}
-		return answer{}, err
-	})
-	time.Sleep(500 * time.Millisecond)
-	got := each(50, 1, func(int) (answer, error) { return newBrowser(w.address).logIn("user0", right) })
-	wait()
-	t.Logf("%v of 50 log-ins beside 300 slow clients, the slowest in %v; %d slow ones lost their connection", got.of, got.slowest, closed)
-	if got.of[303] != 50 || closed != 300 {
-		t.Error("a slow client took a place, or kept its connection")
 	}
 }
-
-// slowForm is the beginning of a form whose bytes come later.
-const slowForm = "POST /log-in HTTP/1.1\r\nHost: here\r\nContent-Length: 1000\r\n\r\n"

@@ -20,23 +20,21 @@ import (
 )
 
 var (
-	listen     = flag.String("listen", "127.0.0.1:8080", "where to listen")
-	host       = flag.String("store", "/var/run/postgresql", "PostgreSQL: the folder with its socket, or its host")
-	database   = flag.String("database", "postgres", "the database")
-	role       = flag.String("role", "login_service", "the role, which owns the table users; PGPASSWORD may have its password")
-	logN       = flag.Int("log-n", 17, "log_n of new hashes, 10 to 24; r is 8 and p is 1")
-	most       = flag.Int("most-mib", 257, "the memory of a derivation, in MiB, above which a hash is refused")
-	waiting    = flag.Int("waiting", 32, "how many forms may wait for a processor")
-	patience   = flag.Duration("patience", 20*time.Second, "how long sending a request, and how long answering it, may take")
-	perAddress = flag.Int("per-address", 64, "how many connections an address may have, or a /64 of IPv6; its /56 may have twice as many")
-	tries      = flag.Int("tries", 20, "how many wrong passwords, or 20 times as many log-ins, a name or an address may have in a row")
-	pause      = flag.Duration("pause", 30*time.Second, "after that, the time until one more wrong password is allowed")
-	https      = flag.Bool("https", false, "the page is served over https, by a proxy that terminates TLS")
-	proxy      netip.Addr // of the flag below, or not valid
+	listen   = flag.String("listen", "127.0.0.1:8080", "where to listen")
+	host     = flag.String("store", "/var/run/postgresql", "PostgreSQL: the folder with its socket, or its host")
+	database = flag.String("database", "postgres", "the database")
+	role     = flag.String("role", "login_service", "the role, which owns the table users; PGPASSWORD may have its password")
+	logN     = flag.Int("log-n", 17, "log_n of new hashes, 10 to 24; r is 8 and p is 1")
+	waiting  = flag.Int("waiting", 32, "how many forms may wait for a processor")
+	patience = flag.Duration("patience", 20*time.Second, "how long sending a request, and how long answering it, may take")
+	tries    = flag.Int("tries", 20, "how many wrong passwords, or 20 times as many log-ins, a name or an address may have in a row")
+	pause    = flag.Duration("pause", 30*time.Second, "after that, the time until one more wrong password is allowed")
+	https    = flag.Bool("https", false, "the page is served over https, by a proxy that terminates TLS")
+	proxy    netip.Addr // of the flag below, or not valid
 )
 
 func main() {
-	flag.TextVar(&proxy, "proxy", netip.Addr{}, "the address of a proxy whose X-Forwarded-For and X-Forwarded-Proto are trusted")
+	flag.TextVar(&proxy, "proxy", netip.Addr{}, "the address of a proxy whose X-Forwarded-For is trusted")
 	settings()
 	if os.Geteuid() == 0 {
 		log.Fatal("the service does not run as root: run.sh starts it as another user")
@@ -44,19 +42,13 @@ func main() {
 	if os.Getenv("GOMEMLIMIT") == "" {
 		debug.SetMemoryLimit(32 << 20) // what Go has beside the tables, which are in no memory of Go
 	}
-	hasher, err := scrypt.NewHasher(scrypt.Options{MostBytes: uint64(*most) << 20, Params: scrypt.Params{LogN: *logN, R: 8, P: 1, KeyLen: 32}})
-	if err != nil {
-		log.Fatalf("-log-n %d with -most-mib %d: %v", *logN, *most, err)
-	}
-	store := must(open())
-	nobody := must(hasher.Hash(context.Background(), drawn(32)))
+	hasher := must(scrypt.NewHasher(scrypt.Options{Params: scrypt.Params{LogN: *logN, R: 8, P: 1, KeyLen: 32}}))
+	accounts := &Accounts{must(open()), hasher, must(hasher.Hash(context.Background(), drawn(32)))}
 	// A drawn key signs cookies: a restart logs all users out, and no hash depends on it.
 	places := runtime.GOMAXPROCS(0) + *waiting
-	service := &Service{accounts: &Accounts{store, hasher, nobody}, key: drawn(32), places: newCrowd(places, places),
-		names: newCrowd(2, 2*places), tries: newLimiter(), lines: newCrowd(1, 1000)}
+	service := &Service{accounts, drawn(32), newCrowd(places, places), newCrowd(2, 2*places), newLimiter()}
 	serve(&http.Server{Addr: *listen, Handler: service, ReadHeaderTimeout: *patience / 4, ReadTimeout: *patience,
-		WriteTimeout: 3 * *patience, MaxHeaderBytes: mostForm, ConnState: newCrowd(*perAddress, connections()).watch,
-		ErrorLog: log.New(service.lines, "", 0)})
+		WriteTimeout: 3 * *patience, MaxHeaderBytes: mostForm, ConnState: newCrowd(64, 960).watch}) // with the store, 1024 descriptors
 }
 
 // serve answers requests until TERM or INT comes. It answers those that have begun then, and takes no others.
@@ -69,7 +61,6 @@ func serve(server *http.Server) {
 		}
 	}()
 	<-stopped.Done()
-	log.Print("stopping, as soon as what has begun is answered")
 	last, cancel := context.WithTimeout(context.Background(), 4**patience)
 	defer cancel()
 	must(0, server.Shutdown(last))
@@ -90,9 +81,7 @@ func settings() {
 		log.Fatalf("%q is not a flag, and no flag after it was read; a value follows its flag after =", flag.Arg(0))
 	}
 	within("-log-n", *logN, 10, 24)
-	within("-most-mib", *most, 1, 1<<20)
 	within("-waiting", *waiting, 0, 10_000)
-	within("-per-address", *perAddress, 1, 10_000)
 	within("-tries", *tries, 1, 1_000_000)
 	within("-patience", *patience, time.Second, 10*time.Minute)
 	within("-pause", *pause, time.Second, time.Hour)

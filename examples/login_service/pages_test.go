@@ -1,151 +1,176 @@
 package main
 
 import (
-	"sort"
+	"fmt"
+	"net/http"
+	"net/http/httptest"
+	"net/url"
 	"strings"
 	"testing"
 	"time"
 )
 
-// field is the field for a name of the form to log in, and own that of the form to sign up.
-func field(name string) string { return `id="name" name="name" value="` + name + `"` }
-func own(name string) string   { return `id="own" name="name" value="` + name + `"` }
-
-// What is sent by somebody who is not logged in, or by ada, and parts of the page after it: what was wrong, and the name in
-// its field.
-var forms = []struct {
-	why, action string
-	in          bool // whether the browser is logged in
-	status      int
-	fields      []string
-	seen        []string
-}{
-	{"the old password", "log-in", false, 403, []string{"name", "ada", "password", "first password"},
-		[]string{"The name or the password is wrong.", field("ada"), own("")}},
-	{"an unknown user", "log-in", false, 403, []string{"name", "eve", "password", "first password"}, nil},
-	{"a name that is taken", "sign-up", false, 409, []string{"name", "ada", "new", "another password"},
-		[]string{"The name is taken.", field(""), own("ada")}},
-	{"a short password", "sign-up", false, 400, []string{"name", "eve", "new", "7 chars"}, nil},
-	{"a long password", "sign-up", false, 400, []string{"name", "eve", "new", strings.Repeat("x", 1025)}, nil},
-	{"no name", "sign-up", false, 400, []string{"name", "", "new", "first password"}, nil},
-	{"a name with a zero byte", "log-in", false, 400, []string{"name", "a\x00", "password", "first password"}, nil},
-	{"a name that is no text", "log-in", false, 400, []string{"name", "a\xffda\x00", "password", "no"},
-		[]string{"visible characters", field("ada\ufffd")}},
-	{"a name as it was typed", "log-in", false, 403, []string{"name", " Am\u00e9lie", "password", "no"}, []string{field(" Am\u00e9lie")}},
-	{"a name with a sign of HTML", "log-in", false, 403, []string{"name", `"><script>`, "password", "no"},
-		[]string{field("&#34;&gt;&lt;script&gt;")}},
-	{"another token", "log-in", false, 403, []string{"name", "ada", "password", "second password", "token", "no"}, nil},
-	{"a change without a session", "change", false, 400, []string{"password", "second password", "new", "third password"}, nil},
-	{"a page that is not there", "else", false, 404, nil, nil},
-	{"another current password", "change", true, 403, []string{"password", "not it", "new", "third password"},
-		[]string{"The current password is wrong."}},
-	{"a short new password", "change", true, 400, []string{"password", "second password", "new", "short"},
-		[]string{`role="alert">A new password has 8 characters or more`}},
+// isIn fails unless a browser is logged in as ada, or is not.
+func (w *world) isIn(of *browser, in bool, why string) {
+	w.Helper()
+	if strings.Contains(w.expect(200)(of.read()).page, "logged in as <b>ada</b>") != in {
+		w.Error(why)
+	}
 }
 
+// field is the field for a name.
+func field(name string) string { return `name="name" value="` + name + `"` }
+
+// What is sent by somebody who is not logged in, or by ada, and a part of the answer. The header may have a name of a site.
 func TestPages(t *testing.T) {
 	w := newWorld(t, small)
-	one, two := newBrowser(w.address), newBrowser(w.address)
-	is := func(of *browser, in bool, why string) {
-		t.Helper() // and not ada alone, which a token in hexadecimal may have
-		if strings.Contains(w.expect(200)(of.read()).page, "logged in as <b>ada</b>") != in {
-			t.Error(why)
-		}
-	}
+	one, two := w.browser(), w.browser()
 	w.expect(303)(one.signUp("ada", "first password"))
-	is(one, true, "a sign-up is no log-in")
+	w.isIn(one, true, "a sign-up is no log-in")
 	w.expect(303)(two.logIn("ada", "first password"))
 	w.expect(303)(one.change("first password", "second password"))
-	is(one, true, "a change of the password ended its own session")
-	is(two, false, "a change of the password left another session")
-	w.expect(303)(one.fill("log-out"))
-	is(one, false, "logged in after the log-out")
-	w.expect(303)(one.logIn("ada", "second password"))
-	session := one.cookies["session"]
-	one.cookies["session"] = strings.Replace(session, "name=ada", "name=eve", 1)
-	is(one, false, "a session of another name")
-	one.cookies["session"] = session
-	browsers := map[bool]*browser{true: one, false: newBrowser(w.address)}
-	for _, it := range forms {
-		got, err := browsers[it.in].fill(it.action, it.fields...)
-		if err != nil || got.status != it.status {
-			t.Errorf("%s: %d and not %d, %v", it.why, got.status, it.status, err)
+	w.isIn(one, true, "a change of the password ended its own session")
+	w.isIn(two, false, "a change of the password left another session")
+	w.expect(303)(two.signUp("Ame\u0301lie ", right))
+	w.expect(303)(two.logIn("Am\u00e9lie", right))
+	for _, it := range []struct {
+		why, request, header, form string
+		in                         bool // whether the browser is logged in
+		status                     int
+		seen                       string
+	}{
+		{"the old password", "POST /log-in", "", "name=ada&password=first+password", false, 403, "The name or the password is wrong."},
+		{"an unknown user, who typed a space", "POST /log-in", "", "name=+ev%C3%A9&password=no", false, 403, field(" ev\u00e9")},
+		{"a name with a sign of HTML", "POST /log-in", "", "name=%22%3E%3Cb%3E&password=no", false, 403, field("&#34;&gt;&lt;b&gt;")},
+		{"a name with a zero byte", "POST /log-in", "", "name=a%00&password=no", false, 400, "visible characters"},
+		{"a name that is no text", "POST /log-in", "", "name=a%FFda&password=no", false, 400, field("ada")},
+		{"a name that is taken", "POST /sign-up", "", "name=ada&new=" + another, false, 409, "The name is taken."},
+		{"a short password", "POST /sign-up", "", "name=eve&new=7+chars", false, 400, "a new password 8 or more"},
+		{"a long password", "POST /sign-up", "", "name=eve&new=" + strings.Repeat("x", 1025), false, 400, ""},
+		{"a long password to log in", "POST /log-in", "", "name=ada&password=" + strings.Repeat("x", 1025), false, 400, ""},
+		{"a long form", "POST /log-in", "", "name=ada&password=" + strings.Repeat("x", 20<<10), false, 413, ""},
+		{"another site's form", "POST /log-in", "Origin: http://else", "name=ada&password=second+password", false, 403, "not of this page"},
+		{"the same by a hidden page", "POST /change", "Origin: null", "password=second+password&new=" + another, true, 403, "not of this page"},
+		{"the same by a newer browser", "POST /log-out", "Sec-Fetch-Site: same-site", "", true, 403, "not of this page"},
+		{"the page's own", "POST /log-in", "Origin: http://" + w.address, "name=ada&password=no", false, 403, "password is wrong"},
+		{"a change without a session", "POST /change", "", "password=second+password&new=" + another, false, 400, ""},
+		{"another current password", "POST /change", "", "password=no&new=" + another, true, 403, "The current password is wrong."},
+		{"a short new password", "POST /change", "", "password=second+password&new=short", true, 400, `role="alert">A name has`},
+		{"the page without its text", "HEAD /", "", "", true, 200, ""},
+		{"a page that is not there", "GET /else", "", "", false, 404, "no such page"},
+		{"whether the service is healthy", "GET /health", "", "", false, 200, "ok\n"},
+		{"another method of that", "POST /health", "", "", false, 405, "Allow:[GET, HEAD]"},
+		{"a form in the address", "GET /change?new=password", "", "", true, 405, "Allow:[POST]"},
+		{"a question for methods", "OPTIONS /sign-up", "", "", false, 405, "Allow:[POST]"},
+	} {
+		of, words := map[bool]*browser{true: one, false: w.browser()}[it.in], strings.Fields(it.request)
+		name, value, _ := strings.Cut(it.header, ": ")
+		of.headers = map[string]string{"X-Test": it.why}
+		if name != "" {
+			of.headers[name] = value
 		}
-		for _, text := range it.seen {
-			if !strings.Contains(got.page, text) {
-				t.Errorf("%s: %q is not in\n%s", it.why, text, got.page)
+		got, err := of.ask(words[0], words[1], strings.NewReader(it.form))
+		if err != nil || got.status != it.status || !strings.Contains(fmt.Sprint(got.header)+got.page, it.seen) {
+			t.Errorf("%s: %d and not %d, %v, without %q: %v\n%s", it.why, got.status, it.status, err, it.seen, got.header, got.page)
+			continue
+		}
+		for name, value := range map[string]string{"X-Content-Type-Options": "nosniff", "Cache-Control": "no-store",
+			"Content-Security-Policy": "default-src 'none'; style-src 'unsafe-inline'; form-action 'self'; frame-ancestors 'none'; base-uri 'none'",
+			"Referrer-Policy":         "same-origin"} {
+			if header := got.header.Get(name); header != value {
+				t.Errorf("%s: %s: %q", it.why, name, header)
 			}
 		}
 	}
 }
 
-// The page of a store that is stopped has no form, so the way back has the name.
-func TestPagesWithoutAStore(t *testing.T) {
+func TestCookies(t *testing.T) {
 	w := newWorld(t, small)
-	one := newBrowser(w.address)
-	if got := w.expect(200)(one.ask("GET", "/health", nil)); got.page != "ok\n" {
-		t.Errorf("a healthy service answers %q", got.page)
+	for prefix, flag := range map[string]string{"": "-https=false", "__Host-": "-https"} {
+		w.restart(small, flag)
+		one := w.browser()
+		got := w.expect(303)(one.signUp("ada"+prefix, right))
+		cookies := got.header.Values("Set-Cookie")
+		for kind, seconds := range map[string]string{"session": "3600", "known": "7776000"} {
+			if !strings.Contains(fmt.Sprint(cookies), prefix+kind+"=") || !strings.Contains(fmt.Sprint(cookies), "Max-Age="+seconds+";") {
+				t.Errorf("%s: no cookie %s%s in %q", flag, prefix, kind, cookies)
+			}
+		}
+		for _, cookie := range cookies {
+			if !strings.Contains(cookie, "; Path=/;") || !strings.Contains(cookie, "; HttpOnly;") || !strings.Contains(cookie, "; SameSite=Strict") ||
+				strings.Contains(cookie, "Domain") || strings.Contains(cookie, "; Secure;") != (prefix != "") {
+				t.Errorf("%s: %s", flag, cookie)
+			}
+		}
 	}
-	w.postgres("fast")
-	w.expect(503)(one.ask("GET", "/health", nil))
-	if got := w.expect(503)(one.logIn("ad\u00e4 &c", "no")); !strings.Contains(got.page, `<a href="/?name=ad%c3%a4%20%26c">`) {
-		t.Errorf("the way back has no name: %s", got.page)
+	w.restart(small)
+	one := w.browser()
+	w.expect(303)(one.logIn("ada", right))
+	session := one.cookies["session"]
+	for _, change := range []string{"name=ada name=eve", "id= id=0", "end=2 end=3", "tag= tag=0", "name=ada name=%00", "name=ada name=%ff"} {
+		old, new, _ := strings.Cut(change, " ")
+		one.cookies["session"] = strings.Replace(session, old, new, 1)
+		w.isIn(one, false, "a session with "+new)
 	}
-	w.postgres("start")
-	if got := w.expect(200)(one.ask("GET", "/?name=ad%c3%a4%20%26c", nil)); !strings.Contains(got.page, field("ad\u00e4 &amp;c")) {
-		t.Errorf("the page after it: %s", got.page)
+	one.cookies["session"] = session
+	w.expect(303)(one.logIn("ada", right))
+	if one.cookies["session"] == session {
+		t.Error("two log-ins have the same session")
+	}
+	w.expect(303)(one.send("log-out"))
+	if one.cookies["session"] != "" || one.cookies["known"] == "" {
+		t.Errorf("left after a log-out: %v", one.cookies)
+	}
+	s := &Service{key: drawn(32), accounts: &Accounts{store: w.db}}
+	for later, name := range map[time.Duration]string{-time.Second: "", time.Minute: "ada"} {
+		end := time.Now().Add(later).UTC().Format(time.RFC3339)
+		r := httptest.NewRequest("GET", "/", nil)
+		signed := url.Values{"id": {"1"}, "name": {"ada"}, "end": {end}, "tag": {s.tag("session", "1", "ada", end, w.hash("ada"))}}
+		r.AddCookie(&http.Cookie{Name: "session", Value: signed.Encode()})
+		if got, err := s.user(r, "session"); got != name || err != nil || s.tag("ab", "c") == s.tag("a", "bc") {
+			t.Errorf("a cookie that ends in %v is of %q, %v", later, got, err)
+		}
 	}
 }
 
-// The pages are the same letter by letter but for the name, and the times are those of the same derivation.
-func TestUnknownUserIsAnsweredAsAWrongPassword(t *testing.T) {
-	w := newWorld(t, "-log-n=14", "-tries=1000")
-	browser := newBrowser(w.address)
-	w.users(1, 14)
-	w.exec(`INSERT INTO users VALUES ('hostile', '$scrypt$ln=40,r=8,p=1$c2FsdA$AAAAAAAAAAAAAAAAAAAAAA')`)
-	times, pages := map[string][]time.Duration{}, map[string]string{}
-	for i := 0; i < 60; i++ {
-		for _, name := range []string{"user0", "eve", "hostile"} {
-			got := w.expect(403)(browser.logIn(name, wrong))
-			times[name] = append(times[name], got.took)
-			pages[name] = strings.ReplaceAll(got.page, `value="`+name+`"`, `value="the name"`)
+// All tries of an address are used up, and in the second part all tries of the name.
+func TestKnownBrowsersHaveTriesOfTheirOwn(t *testing.T) {
+	w := newWorld(t, small)
+	w.users(3, 10)
+	w.exec(`UPDATE users SET name = CASE name WHEN 'user0' THEN 'ada' WHEN 'user1' THEN 'eve' ELSE name END`)
+	for part, tried := range []struct{ from, name string }{{"192.0.2.1", "nobody#"}, {"198.51.100.#", "ada"}} {
+		w.restart(small, "-tries=3", "-pause=1h", proxied)
+		browser, others := w.at("192.0.2.1"), w.at("192.0.2.1")
+		w.expect(303)(browser.logIn("ada", right))
+		w.expect(303)(others.logIn("eve", right))
+		for i := 0; i < 3; i++ {
+			_, _ = w.at(numbered(tried.from, i)).logIn(numbered(tried.name, i), wrong)
 		}
-	}
-	median := func(name string) time.Duration {
-		sort.Slice(times[name], func(i, j int) bool { return times[name][i] < times[name][j] })
-		return times[name][len(times[name])/2]
-	}
-	t.Logf("median of a wrong password %v, of an unknown user %v, of a refused hash %v", median("user0"), median("eve"), median("hostile"))
-	for _, name := range []string{"eve", "hostile"} {
-		if pages[name] != pages["user0"] {
-			t.Errorf("another page for %s", name)
+		own, other := browser.cookies["known"], others.cookies["known"]
+		for _, it := range []struct {
+			why, cookie string
+			status      int
+		}{
+			{"the user's browser", own, 303},
+			{"a browser that is not known", "", 429},
+			{"the browser of another user", other, 429},
+			{"the name of the user in the cookie of another", strings.Replace(other, "name=eve", "name=ada", 1), 429},
+			{"no tag", strings.Split(own, "tag=")[0], 429},
+			{"a session, which another kind of cookie is", browser.cookies["session"], 429},
+		} {
+			one := w.at("192.0.2.1")
+			one.cookies["known"] = it.cookie
+			if got, err := one.logIn("ada", right); err != nil || got.status != it.status {
+				t.Errorf("part %d, %s: %d and not %d, %v", part, it.why, got.status, it.status, err)
+			}
 		}
-		if ratio := float64(median(name)) / float64(median("user0")); ratio < 0.8 || ratio > 1.25 {
-			t.Errorf("%s takes %.2f of the time", name, ratio)
-		}
-	}
-}
-
-// Hashes that other programs made, those without a format of the library's as stored texts.
-func TestImportedHashesAreRewritten(t *testing.T) {
-	w := newWorld(t, "-log-n=15")
-	const password = "correct horse"
-	for name, text := range map[string]string{
-		"passlib":   "$scrypt$ln=10,r=8,p=1$ce5d6x2DcO59T0kJwTiHcA$c655SQ3rR0JqkNGxXBKGM2cfd8O98q0Yfe8Js9XzLlE",
-		"libsodium": "$7$86..../....Q4WnW2DfDjORw14LdDu8NqhEvTA/tBmDtUZpLnaakGB$c.vX8tQv2a6siqVe8moB/8DKknx3w4CjqhF38ICQ3q/",
-		"mkpasswd":  "$7$BU..../....uLseZq.TrRZplB9Pl4W4c.$tz0N1dFiEgXZrLcEkoD0PsoSw98XondeF2T7pCpprH/",
-		"node":      "$scrypt$ln=14,r=8,p=1$YSBzYWx0IG9mIG5vZGU$uqlW2Jelxowk87krj/dNmR8X2biCuY44ywJ6tUrNtJM",
-		"libscrypt": "$scrypt$ln=14,r=8,p=1$VeQm+PLYAdnH8FoQ3+mONw$R9cHRTDQ/O4ORbIbVAv4EAVTYVG5DdasUBX7VA7Ja8epR6baV04h1Wg4IEkRiPFZ0h7dfhjpjliLJgVMZyzlrw",
-	} {
-		w.exec(`INSERT INTO users VALUES ($1, $2)`, name, text)
-		w.expect(403)(newBrowser(w.address).logIn(name, wrong))
-		if w.hash(name) != text {
-			t.Errorf("%s: rewritten by a wrong password", name)
-		}
-		w.expect(303)(newBrowser(w.address).logIn(name, password))
-		if after := w.hash(name); !strings.HasPrefix(after, "$scrypt$ln=15,r=8,p=1$") {
-			t.Errorf("%s: %s was not rewritten: %s", name, text, after)
-		}
-		w.expect(303)(newBrowser(w.address).logIn(name, password))
+		// A log-out leaves it, and a change of the password ends it.
+		w.expect(303)(browser.send("log-out"))
+		w.expect(303)(browser.logIn("ada", right))
+		w.expect(303)(browser.change(right, another))
+		before := w.at("192.0.2.1")
+		before.cookies["known"] = own
+		w.expect(429)(before.logIn("ada", another))
+		w.expect(303)(browser.change(another, right))
 	}
 }

@@ -10,23 +10,13 @@ as() { "$here/as.sh" "$@"; }
 user=$(as id -un)
 cd /
 
-refuse() {
-  echo "$folder is refused: $1" >&2
-  exit 1
-}
-
-# Who may enter the folder reaches the socket, and who may rename what is above it can put another folder in its place.
+# Who may enter the folder reaches the socket. Root may give an empty folder of its own to the user of the service.
 refuse_others() {
-  above=$folder
-  while [ "$above" != / ]; do
-    above=$(dirname "$above")
-    test -z "$(find "$above" -maxdepth 0 \( ! -user 0 ! -user "$user" -o -perm /022 ! -perm -1000 \))" ||
-      refuse "others than $user may rename what is in $above"
-  done
-  test -n "$(find "$folder" -maxdepth 0 -type d ! -perm /077)" || refuse "nobody else may enter it (mode 700)"
-  # Root may give an empty folder of its own to the user of the service.
   if [ -O "$folder" ] && [ -z "$(ls -A "$folder")" ]; then chown "$user" "$folder"; fi
-  test "$(stat -c %U "$folder")" = "$user" || refuse "it must belong to $user"
+  if [ "$(stat -c '%U %a' "$folder")" != "$user 700" ]; then
+    echo "$folder is refused: it must belong to $user, with mode 700" >&2
+    exit 1
+  fi
 }
 
 # The role owns its table and nothing else. The superuser can't log in over the socket: this is done by a single process.

@@ -16,45 +16,38 @@ func (s *Service) tag(parts ...string) string {
 	return fmt.Sprintf("%x", mac.Sum(nil))
 }
 
-// secure reports whether the browser uses https, according to the flag or the trusted proxy.
-func secure(r *http.Request) bool {
-	return *https || isProxy(addressOf(r.RemoteAddr)) && r.Header.Get("X-Forwarded-Proto") == "https"
-}
-
 // cookieName returns the name of a cookie. A browser accepts one with this prefix only from this host, over https.
-func cookieName(r *http.Request, name string) string {
-	if secure(r) {
+func cookieName(name string) string {
+	if *https {
 		return "__Host-" + name
 	}
 	return name
 }
 
-func setCookie(w http.ResponseWriter, r *http.Request, name, value string, seconds int) {
-	http.SetCookie(w, &http.Cookie{Name: cookieName(r, name), Value: value, Path: "/", MaxAge: seconds, HttpOnly: true,
-		Secure: secure(r), SameSite: http.SameSiteStrictMode})
+func setCookie(w http.ResponseWriter, name, value string, seconds int) {
+	http.SetCookie(w, &http.Cookie{Name: cookieName(name), Value: value, Path: "/", MaxAge: seconds, HttpOnly: true, Secure: *https,
+		SameSite: http.SameSiteStrictMode})
 }
 
 // begin begins a session, and makes the browser known as the user's. The text of the hash is signed in both cookies, so a
-// password change ends them. Those from before are replaced, because somebody else may have set them and know them.
-func (s *Service) begin(w http.ResponseWriter, r *http.Request, name, text string) {
+// password change ends them.
+func (s *Service) begin(w http.ResponseWriter, name, text string) {
 	for kind, seconds := range map[string]int{"session": 3600, "known": 90 * 24 * 3600} {
-		id, end := drawnText(), time.Now().Add(time.Duration(seconds)*time.Second).UTC().Format(time.RFC3339)
+		id, end := fmt.Sprintf("%x", drawn(16)), time.Now().Add(time.Duration(seconds)*time.Second).UTC().Format(time.RFC3339)
 		signed := url.Values{"id": {id}, "name": {name}, "end": {end}, "tag": {s.tag(kind, id, name, end, text)}}
-		setCookie(w, r, kind, signed.Encode(), seconds)
+		setCookie(w, kind, signed.Encode(), seconds)
 	}
-	setCookie(w, r, "visitor", drawnText(), 0)
 }
 
 // user returns the name of the user for whom this kind of cookie was signed, or "".
 func (s *Service) user(r *http.Request, kind string) (string, error) {
-	cookie, err := r.Cookie(cookieName(r, kind))
+	cookie, err := r.Cookie(cookieName(kind))
 	if err != nil {
 		return "", nil
 	}
 	signed, _ := url.ParseQuery(cookie.Value)
-	name, ok := normal(signed.Get("name"))
-	id, end := signed.Get("id"), signed.Get("end")
-	if end < time.Now().UTC().Format(time.RFC3339) || !ok {
+	name, id, end := normal(signed.Get("name")), signed.Get("id"), signed.Get("end")
+	if end < time.Now().UTC().Format(time.RFC3339) || name == "" {
 		return "", nil
 	}
 	text, err := s.accounts.hash(r.Context(), name)
@@ -65,15 +58,11 @@ func (s *Service) user(r *http.Request, kind string) (string, error) {
 	return name, err
 }
 
-// token returns the CSRF token that a form of this browser and user has to send. If the browser's own cookie is missing,
-// it is set.
-func (s *Service) token(w http.ResponseWriter, r *http.Request, name string) string {
-	cookie, err := r.Cookie(cookieName(r, "visitor"))
-	if err != nil {
-		cookie = &http.Cookie{Value: drawnText()}
-		setCookie(w, r, "visitor", cookie.Value, 0)
+// isForeign reports whether another site's page sent a form: browsers name the site in one of these headers.
+func isForeign(r *http.Request) bool {
+	if site := r.Header.Get("Sec-Fetch-Site"); site != "" {
+		return site != "same-origin"
 	}
-	return s.tag("form", cookie.Value, name)
+	from, err := url.Parse(r.Header.Get("Origin"))
+	return err != nil || from.Host != r.Host && r.Header.Get("Origin") != ""
 }
-
-func drawnText() string { return fmt.Sprintf("%x", drawn(16)) }

@@ -1,123 +1,181 @@
 package main
 
 import (
+	"fmt"
 	"os"
+	"os/exec"
 	"path/filepath"
+	"strconv"
 	"strings"
+	"syscall"
 	"testing"
+	"time"
 )
 
-// asRoot leaves out what only root can try: to be another user.
-func asRoot(t *testing.T) {
-	if os.Geteuid() != 0 {
-		t.Skip("only root can be another user")
-	}
-}
-
-// as are the words before a command of another user.
-func as(user string) []string {
-	return []string{"setpriv", "--reuid=" + user, "--regid=nogroup", "--clear-groups"}
-}
-
-func TestFoldersThatOthersMayEnterAreRefused(t *testing.T) {
-	for _, it := range []struct{ why, above, folder, owner, file, refused string }{
-		{"nobody else may enter it", "755", "700", "", "", ""},
-		{"a name with a space, and nobody else may enter it", "755", "700", "", "", ""},
-		{"others may enter it and reach the socket", "755", "755", "", "", "mode 700"},
-		{"others may pass through it to the socket", "755", "711", "", "", "mode 700"},
-		{"its group may enter it", "755", "750", "", "", "mode 700"},
-		{"its owner is another user, who may open it later", "755", "700", "nobody", "", "must belong to"},
-		{"root's folder with files in it is not given away", "755", "700", "root", "file", "must belong to"},
-		{"others may put another folder in its place", "777", "700", "", "", "may rename"},
-		{"nobody may rename the files of others in a sticky folder", "1777", "700", "", "", ""},
+// The flags are read before the store, which is not there.
+func TestNumbersOutsideTheirRangeAreRefused(t *testing.T) {
+	const read, wrong = "dial unix", "allowed"
+	for _, it := range []struct{ why, flag, printed, environment string }{
+		{"the least log_n", "-log-n=10", read, ""},
+		{"too little work", "-log-n=9", wrong, ""},
+		{"0 in 8 bits", "-log-n=256", wrong, ""},
+		{"17 in 64 bits", "-log-n=18446744073709551633", "out of range", ""},
+		{"fewer than nobody", "-waiting=-5", wrong, ""},
+		{"no time, which net/http takes for no limit", "-patience=0s", wrong, ""},
+		{"a time whose triple is negative", "-patience=2000000h", wrong, ""},
+		{"no try", "-tries=0", wrong, ""},
+		{"tries whose pauses are more than a number has", "-tries=9223372036854775807", wrong, ""},
+		{"no pause, so that a try costs nothing", "-pause=0s", wrong, ""},
+		{"the proxy's address", "-proxy=::ffff:127.0.0.1", read, ""},
+		{"a name for the proxy", "-proxy=localhost", "invalid value", ""},
+		{"a word, after which no flag is read", "true", `"true" is not a flag`, ""},
+		{"by the environment", "", wrong, "LOGIN_LOG_N=9"},
+		{"no number in the environment", "", `invalid value "x" for LOGIN_LOG_N`, "LOGIN_LOG_N=x"},
+		{"the store by the environment", "", "/elsewhere/", "LOGIN_STORE=/elsewhere"},
+		{"a flag before the environment", "-log-n=10", read, "LOGIN_LOG_N=9"},
 	} {
-		if it.owner != "" && os.Geteuid() != 0 {
-			continue
-		}
-		above := t.TempDir()
-		for place := above; place != os.TempDir(); place = filepath.Dir(place) { // testing makes these for all to read
-			_ = os.Chmod(place, 0o755)
-		}
-		folder := filepath.Join(above, map[bool]string{true: "store of mine", false: "store"}[strings.Contains(it.why, "space")])
-		made, ok := ran("sh", "-ec", `mkdir "$1"; cd "$1"; chmod $2 .; chmod $3 ..; test -z "$4" || touch $4; test -z "$5" || chown $5 .
-			stat -c "%U %a" .; ls`, "sh", folder, it.folder, it.above, it.file, it.owner)
-		if !ok {
-			t.Fatal(made)
-		}
-		out, ok := ran("./postgres.sh", "start", folder)
-		if ok {
-			_, _ = ran("./postgres.sh", "immediate", folder)
-		}
-		if ok != (it.refused == "") || !strings.Contains(out, it.refused) {
-			t.Errorf("%s: started: %v\n%s", it.why, ok, out)
-		}
-		if now, _ := ran("sh", "-c", `cd "$1"; stat -c "%U %a" .; ls`, "sh", folder); it.refused != "" && now != made {
-			t.Errorf("%s: a refused folder was %s and is %s", it.why, made, now)
+		words := "./as.sh timeout 5 env LOGIN_STORE=/nowhere LOGIN_LISTEN=127.0.0.1:0 " + it.environment + " " + program + " " + it.flag
+		if out, ok := ran(strings.Fields(words)...); ok || !strings.Contains(out, it.printed) {
+			t.Errorf("%s (%s): %v %s", it.why, it.environment+it.flag, ok, out)
 		}
 	}
 }
 
 // The folder and the socket are opened for all, so that PostgreSQL alone refuses.
 func TestOtherUsersDoNotReachTheStore(t *testing.T) {
-	asRoot(t)
+	if os.Geteuid() != 0 {
+		t.Skip("only root can be another user")
+	}
 	w := newWorld(t, small)
-	w.users(1, 10)
-	closed := append(as("nobody"), "psql", "-h", w.store, "-U", "login_service", "postgres", "-c", "SELECT 1")
-	if out, ok := ran(closed...); ok || !strings.Contains(out, "Permission denied") {
+	as := func(user, role, database, statement string) (string, bool) {
+		return ran("setpriv", "--reuid="+user, "--regid=nogroup", "--clear-groups", "psql", "-h", w.store, "-U", role, database, "-c", statement)
+	}
+	if out, ok := as("nobody", "login_service", "postgres", "SELECT 1"); ok || !strings.Contains(out, "Permission denied") {
 		t.Errorf("nobody reaches the socket: %s", out)
 	}
 	if out, ok := ran("chmod", "777", w.store, filepath.Join(w.store, ".s.PGSQL.5432")); !ok {
 		t.Fatal(out)
 	}
-	for _, it := range []struct{ why, user, role, statement, refused string }{
-		{"the service reads its table", "login-service", "login_service", "SELECT hash FROM users", ""},
-		{"another user is not the service", "nobody", "login_service", "SELECT hash FROM users", "Peer authentication failed"},
-		{"another user is not the superuser", "nobody", "postgres", "SELECT 1", "no pg_hba.conf entry"},
-		{"PostgreSQL's own user is not the service", "postgres", "login_service", "SELECT 1", "Peer authentication failed"},
-		{"the service is not the superuser", "login-service", "postgres", "SELECT 1", "no pg_hba.conf entry"},
-		{"the service has no other database", "login-service", "login_service template1", "SELECT 1", "no pg_hba.conf entry"},
-		{"the service runs no program", "login-service", "login_service", "COPY users TO PROGRAM 'id'", "must be superuser"},
-		{"the service reads no file", "login-service", "login_service", "SELECT pg_read_file('PG_VERSION')", "permission denied"},
-		{"the service writes no file", "login-service", "login_service", "COPY users TO '/tmp/users'", "must be superuser"},
-		{"the service makes no other table", "login-service", "login_service", "CREATE TABLE others (name text)", "permission denied"},
-		{"the service makes no role", "login-service", "login_service", "CREATE ROLE other SUPERUSER", "must be superuser"},
+	const own, peer, none = "login-service", "Peer authentication failed", "no pg_hba.conf entry"
+	for _, it := range []struct{ why, user, role, database, statement, refused string }{
+		{"the service reads its table", own, "login_service", "postgres", "SELECT hash FROM users", ""},
+		{"another user is not the service", "nobody", "login_service", "postgres", "SELECT 1", peer},
+		{"PostgreSQL's own user is not the service", "postgres", "login_service", "postgres", "SELECT 1", peer},
+		{"another user is not the superuser", "nobody", "postgres", "postgres", "SELECT 1", none},
+		{"the service is not the superuser", own, "postgres", "postgres", "SELECT 1", none},
+		{"the service has no other database", own, "login_service", "template1", "SELECT 1", none},
+		{"the service runs no program", own, "login_service", "postgres", "COPY users TO PROGRAM 'id'", "must be superuser"},
+		{"the service reads no file", own, "login_service", "postgres", "SELECT pg_read_file('PG_VERSION')", "permission denied"},
+		{"the service makes no role", own, "login_service", "postgres", "CREATE ROLE other SUPERUSER", "must be superuser"},
 	} {
-		role, database, _ := strings.Cut(it.role, " ")
-		if database == "" {
-			database = "postgres"
-		}
-		out, ok := ran(append(as(it.user), "psql", "-h", w.store, "-U", role, database, "-c", it.statement)...)
-		if ok != (it.refused == "") || !strings.Contains(out, it.refused) {
+		if out, ok := as(it.user, it.role, it.database, it.statement); ok != (it.refused == "") || !strings.Contains(out, it.refused) {
 			t.Errorf("%s: %v\n%s", it.why, ok, out)
+		}
+	}
+	if out, ok := ran("timeout", "5", program, "-store", w.store, "-listen", "127.0.0.1:0"); ok || !strings.Contains(out, "root") || w.status("Uid") == 0 {
+		t.Errorf("started as root: %s", out)
+	}
+}
+
+// The store of run.sh ends with it, also if TERM comes while it starts.
+func TestRunStopsItsStore(t *testing.T) {
+	for _, serves := range []bool{false, true} {
+		address, store := free(), must(os.MkdirTemp("", "login-store-"))
+		run := exec.Command("./run.sh", "-listen", address, small)
+		run.Env = append(os.Environ(), "LOGIN_STORE="+store)
+		must(0, run.Start())
+		for i := 0; i < 600; i++ {
+			_, err := os.Stat(filepath.Join(store, "data"))
+			if serves {
+				_, err = browserAt("127.0.0.1", address).read()
+			}
+			if err == nil {
+				break
+			}
+			time.Sleep(50 * time.Millisecond)
+		}
+		_ = run.Process.Signal(syscall.SIGTERM)
+		if err := run.Wait(); (err == nil) != serves {
+			t.Errorf("run.sh ends with %v, and served: %v", err, serves)
+		}
+		time.Sleep(3 * time.Second) // in which a store that was left starts
+		if _, err := os.Stat(filepath.Join(store, "data", "postmaster.pid")); err == nil {
+			t.Errorf("the store is left, and served: %v", serves)
+			_, _ = ran("./postgres.sh", "fast", store)
+		}
+		_ = os.RemoveAll(store)
+	}
+}
+
+// After TERM what has begun is answered, nothing else begins, and the service ends without an error.
+func TestTermLetsFormsEnd(t *testing.T) {
+	w := newWorld(t, small)
+	w.exec(`BEGIN`)
+	w.exec(`LOCK TABLE users`)
+	wait := meanwhile(12, func(i int) (answer, error) { return w.browser().signUp(fmt.Sprint("user", i), right) })
+	time.Sleep(time.Second)
+	_ = w.service.Process.Signal(syscall.SIGTERM)
+	time.Sleep(time.Second)
+	if got, err := w.browser().read(); err == nil {
+		t.Errorf("a client that comes after it gets %d", got.status)
+	}
+	w.exec(`ROLLBACK`)
+	if got := wait(); got.of[303] != 12 {
+		t.Errorf("those that had begun get %v", got.of)
+	}
+	if err := w.service.Wait(); err != nil {
+		t.Error(err)
+	}
+}
+
+// signal sends a signal to all processes of the store.
+func (w *world) signal(signal syscall.Signal) {
+	first, _, _ := strings.Cut(string(must(os.ReadFile(filepath.Join(w.store, "data", "postmaster.pid")))), "\n")
+	others, _ := ran("ps", "-o", "pid=", "--ppid", first)
+	for _, word := range append([]string{first}, strings.Fields(others)...) {
+		if err := syscall.Kill(must(strconv.Atoi(word)), signal); err != nil && err != syscall.ESRCH { // some end meanwhile
+			w.Error(err)
 		}
 	}
 }
 
-func TestServiceRefusesToHavePower(t *testing.T) {
-	asRoot(t)
+// Every request gets an answer, and log-ins work as soon as the store does: it has five seconds for each step of a statement.
+func TestStoreThatFails(t *testing.T) {
 	w := newWorld(t, small)
-	if uid := w.status("Uid"); uid == 0 {
-		t.Error("the service runs as root")
-	}
-	if out, ok := ran("timeout", "5", program, "-store", w.store, "-listen", "127.0.0.1:0"); ok || !strings.Contains(out, "root") {
-		t.Errorf("started as root: %s", out)
-	}
-	for flag, refused := range map[string]string{"-database=other": `database "other"`, "-role=other": `user "other"`} {
-		words := append(as("login-service"), "timeout", "5", program, "-store", w.store, "-listen", "127.0.0.1:0", flag)
-		if out, ok := ran(words...); ok || !strings.Contains(out, "no pg_hba.conf entry") || !strings.Contains(out, refused) {
-			t.Errorf("%s: %s", flag, out)
+	w.users(8, 10)
+	var browsers [40]*browser
+	for i := range browsers {
+		if browsers[i] = w.browser(); i < 8 {
+			w.expect(303)(browsers[i].logIn(fmt.Sprint("user", i), right))
 		}
 	}
-	// A store that another program made, or an earlier version
-	w.postgres("fast")
-	single := `cd / && PATH="$PATH:$(ls -d /usr/lib/postgresql/*/bin | tail -n 1)" && echo "ALTER ROLE login_service SUPERUSER" |
-		setpriv --reuid=login-service --regid=login-service --clear-groups postgres --single -D "$1/data" postgres`
-	if out, ok := ran("sh", "-c", single, "sh", w.store); !ok {
-		t.Fatal(out)
-	}
-	w.postgres("start")
-	words := append(as("login-service"), "timeout", "5", program, "-store", w.store, "-listen", "127.0.0.1:0")
-	if out, ok := ran(words...); ok || !strings.Contains(out, "superuser") {
-		t.Errorf("started with a superuser: %s", out)
+	for _, it := range []struct {
+		why        string
+		begin, end func()
+	}{
+		{"it is stopped", func() { w.postgres("fast") }, func() { w.postgres("start") }},
+		{"it is killed", func() { w.postgres("immediate") }, func() { w.postgres("start") }},
+		{"its processes are suspended", func() { w.signal(syscall.SIGSTOP) }, func() { w.signal(syscall.SIGCONT) }},
+		{"its table is locked", func() { w.exec(`BEGIN`); w.exec(`LOCK TABLE users`) }, func() { w.exec(`ROLLBACK`) }},
+	} {
+		it.begin()
+		got := each(len(browsers), len(browsers), func(i int) (answer, error) {
+			switch {
+			case i < 4:
+				return browsers[i].read()
+			case i < 8:
+				return browsers[i].change(right, another)
+			case i < 12:
+				return browsers[i].signUp(fmt.Sprint("new", i), right)
+			case i == 12 && it.why != "its table is locked":
+				return browsers[i].ask("GET", "/health", nil)
+			}
+			return browsers[i].logIn(fmt.Sprint("user", i%8), right)
+		})
+		it.end()
+		if got.of[503] != len(browsers) || got.slowest > 15*time.Second {
+			t.Errorf("%s: a request gets another answer than 503, or late: %v, %v", it.why, got.of, got.slowest)
+		}
+		w.expect(303)(w.browser().logIn("user0", right))
 	}
 }
