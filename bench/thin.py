@@ -29,7 +29,7 @@ def thin_call(path):
         # With s = 0 the scratch is that of a derivation with the whole table.
         lens = 128 * r * p, 32 * r << (log_n - s), (96 if s else 64) * r
         chunks = ctypes.create_string_buffer(lens[0])
-        table, scratch = (ours.WORD * lens[1])(), (ours.WORD * lens[2])()
+        table, scratch = (ctypes.c_uint32 * lens[1])(), (ctypes.c_uint32 * lens[2])()
         buffers = [key, LENGTH, chunks, lens[0], table, lens[1], scratch, lens[2]]
         start = time.perf_counter()
         status = derive(PASSWORD, len(PASSWORD), SALT, len(SALT), log_n, r, p, s, *buffers)

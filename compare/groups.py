@@ -12,29 +12,14 @@ import ctypes
 import random
 import sys
 
+from tools import header
 from tools.reference import hash_of
 from tools.runs import report
 
 # Of the chunks in bytes, of the table and of the scratch in words: for any one that is not costly.
 LENS = 1 << 11, 1 << 12, 1 << 9
 OK, MISMATCH, ENCODING_INVALID, BUFFER_SIZE = 0, 1, 6, 12
-
-
-class Login(ctypes.Structure):
-    """scrypt_login."""
-
-    _fields_ = [*[("password", ctypes.c_char_p), ("password_len", ctypes.c_size_t)],
-                *[("text", ctypes.c_char_p), ("text_len", ctypes.c_size_t)]]
-
-
-def library(path):
-    found = ctypes.CDLL(path)
-    login = [ctypes.c_char_p, ctypes.c_size_t] * 2
-    buffers = [ctypes.c_void_p, ctypes.c_size_t] * 3
-    found.scrypt_verify_with_buffers.argtypes = [*login, *buffers]
-    numbers = ctypes.POINTER(ctypes.c_int)
-    found.scrypt_verify_group_with_buffers.argtypes = [ctypes.POINTER(Login), ctypes.c_size_t, numbers, *buffers]
-    return found
+LOGIN = header.structure("scrypt_login")
 
 
 def made(rng):
@@ -70,7 +55,7 @@ def cases(call, count, rng, kinds, statuses):
         logins = [(password, len(password), text, len(text)) for text, password, _ in group]
         alone = [call.scrypt_verify_with_buffers(*it, *buffers) for it in logins]
         found = (ctypes.c_int * len(group))(*[-1] * len(group))
-        status = call.scrypt_verify_group_with_buffers((Login * len(group))(*logins), len(group), found, *buffers)
+        status = call.scrypt_verify_group_with_buffers((LOGIN * len(group))(*logins), len(group), found, *buffers)
         kinds.update([tuple(kind for _, _, kind in group[:2])])
         statuses.update(alone)
         yield group, (status, list(found)), (OK, alone)
@@ -81,7 +66,7 @@ def main():
     count = int(numbers[0]) if numbers else 3000
     seed = int(numbers[1]) if len(numbers) > 1 else random.randrange(1 << 32)
     kinds, statuses = collections.Counter(), collections.Counter()
-    _, wrong = report(f"groups of seed {seed}", cases(library(path), count, random.Random(seed), kinds, statuses))
+    _, wrong = report(f"groups of seed {seed}", cases(header.loaded(path), count, random.Random(seed), kinds, statuses))
     missing = {OK, MISMATCH, ENCODING_INVALID, BUFFER_SIZE} - set(statuses)
     print(f"{len(kinds)} kinds of the first two; statuses {dict(statuses)}")
     sys.exit(1 if wrong or missing or len(kinds) < 25 else 0)

@@ -19,7 +19,7 @@ import re
 import resource
 import sys
 
-from tools import crypt64, known, phc, reference, runs
+from tools import crypt64, header, known, phc, reference, runs
 
 TEXTS = 1_000_000
 
@@ -149,20 +149,10 @@ def verdict(text, by):
     return mcf_verdict(text, by) if text == "$7" or text.startswith("$7$") else phc_verdict(text, by)
 
 
-class Needs(ctypes.Structure):
-    """scrypt_needs."""
-
-    _fields_ = [*((name, ctypes.c_uint32) for name in ("log_n", "r", "p")), *((f"len{at}", ctypes.c_size_t) for at in range(5))]
-
-
 def calls(path):
     """The calls that verify a text with the empty password: in memory of their own, and within the bounds in the buffers."""
-    library, size = ctypes.CDLL(path), ctypes.c_size_t
-    login = [ctypes.c_char_p, size] * 2
-    library.scrypt_verify.argtypes = login
-    library.scrypt_verify_with_buffers.argtypes = login + [ctypes.c_void_p, size] * 3
-    library.scrypt_hash_needs.argtypes = [ctypes.c_char_p, size, size, ctypes.c_uint64, size, ctypes.POINTER(Needs)]
-    needs, rooms = Needs(), [((ctypes.c_uint32 * length)(), length) for length in LENS]
+    library = header.loaded(path)
+    needs, rooms = header.structure("scrypt_needs")(), [((ctypes.c_uint32 * length)(), length) for length in LENS]
     buffers = list(itertools.chain(*rooms))
 
     def within(*text):

@@ -9,9 +9,9 @@ import sys
 import time
 
 from tools import crypt64, ours
-from tools.ours import DATA, SIZE, WORD
 from tools.worker import Refused
 
+DATA, SIZE, WORD = ctypes.c_char_p, ctypes.c_size_t, ctypes.c_uint32
 
 OURS, OPENSSL = "this library", "OpenSSL"
 

@@ -2,57 +2,14 @@
 
 import ctypes
 import mmap
-import os
 import sys
 import time
 
-DATA, SIZE, WORD, BUFFER = ctypes.c_char_p, ctypes.c_size_t, ctypes.c_uint32, ctypes.c_void_p
-_TEXTS, _PARAMS = [DATA, SIZE, DATA, SIZE], [ctypes.c_uint8, WORD, WORD]
-_BOUNDS = [SIZE, ctypes.c_uint64]
+from tools.header import loaded, structure
+
 UNBOUNDED = (1 << 64) - 1
-
-
-class Needs(ctypes.Structure):
-    """scrypt_needs."""
-
-    _fields_ = [("log_n", WORD), ("r", WORD), ("p", WORD), ("key_len", SIZE), ("tables", SIZE), ("chunks_len", SIZE),
-                ("table_len", SIZE), ("scratch_len", SIZE)]
-
-
-class Login(ctypes.Structure):
-    """scrypt_login."""
-
-    _fields_ = [("password", DATA), ("password_len", SIZE), ("text", DATA), ("text_len", SIZE)]
-
-
-CALLS = {
-    "scrypt_key": [*_TEXTS, *_PARAMS, DATA, SIZE],
-    "scrypt_key_thin": [*_TEXTS, *_PARAMS, ctypes.c_uint8, *[BUFFER, SIZE] * 4],
-    "scrypt_key_with_buffers": [*_TEXTS, *_PARAMS, DATA, SIZE, *[BUFFER, SIZE] * 3],
-    "scrypt_params_need": [*_PARAMS, *_BOUNDS, ctypes.POINTER(Needs)],
-    "scrypt_verify": _TEXTS,
-    "scrypt_hasher_verify": [BUFFER, *_TEXTS, ctypes.c_int64, BUFFER],
-    "scrypt_verify_group_with_buffers": [ctypes.POINTER(Login), SIZE, ctypes.POINTER(ctypes.c_int), *[BUFFER, SIZE] * 3],
-}
-
-
-class Options(ctypes.Structure):
-    """scrypt_options. What is 0 has its default."""
-
-    _fields_ = [
-        *[("size", SIZE), ("log_n", WORD), ("r", WORD), ("p", WORD), ("mcf", ctypes.c_int), ("key_len", SIZE)],
-        *[("salt_len", SIZE), ("most_bytes", SIZE), ("most_work", ctypes.c_uint64), ("least_key_len", SIZE)],
-        *[("at_once", SIZE), ("processors", SIZE)],
-    ]
-
-
-def loaded(path):
-    """The shared library, with the arguments of these calls."""
-    library = ctypes.CDLL(os.path.abspath(path))
-    for name, arguments in CALLS.items():
-        getattr(library, name).argtypes = arguments
-    library.scrypt_hasher_new.restype = ctypes.c_void_p
-    return library
+Options, Needs, Login = (structure(f"scrypt_{it}") for it in ("options", "needs", "login"))
+__all__ = ["Login", "Needs", "Options", "UNBOUNDED", "buffers", "loaded", "seconds", "verifying"]
 
 
 def verifying(library, most_bytes, most_work):

@@ -2,48 +2,39 @@
 """Compares what the libraries export with the list in the file `abi` beside this script, and the names of the arguments
 that C declares with those of the proved functions, and refuses what differs.
 
-usage: abi.py FOLDER            FOLDER has the libraries and the header, as build/lib has
-       abi.py FOLDER --print    prints the list that they have
+usage: python3 -m bindings.c.abi FOLDER            FOLDER has the libraries and the header, as build/lib has
+       python3 -m bindings.c.abi FOLDER --print    prints the list that they have
 
 A line of the list is an exported name and sizes in bytes: of the result, and of each argument; or a structure and the sizes
 of its fields. Another is a status and its number. A program that was linked with the library relies on all of these.
 """
 
+import ctypes
 import glob
 import os
 import re
 import subprocess
 import sys
 
-SONAME, VERSION = "libscrypt_c.so.0", "SCRYPT_C_0.12"
-SIZES = {"int": 4, "uint8_t": 1, "uint32_t": 4, "uint64_t": 8, "int64_t": 8, "size_t": 8, "double": 8}
+from tools import header
 
+SONAME, VERSION = "libscrypt_c.so.0", "SCRYPT_C_0.12"
 
 HERE = os.path.dirname(os.path.abspath(__file__))
 SOURCES = os.path.join(HERE, "../../crates/scrypt_c/src/*.rt")
 
 
-def size(declared):
-    """The size of an argument, which ends in its name."""
-    return 8 if "*" in declared else SIZES[declared.split()[-2]]
-
-
-def calls_of(header):
-    """The result, the name and the arguments of each call."""
-    text = re.sub(r"/\*.*?\*/", "", header, flags=re.S)
-    return re.findall(r"^(int|void|(?:const )?\w+ \*) ?(scrypt_\w+)\(([^{}]*?)\);", text, re.M)
+def sizes(declared):
+    """The sizes of arguments, of fields or of a result."""
+    return [0 if header.kind(it) is None else ctypes.sizeof(header.kind(it)) for it in declared]
 
 
 def of_header(text):
     """The list that a header has."""
-    lines = []
-    for result, name, arguments in calls_of(text):
-        sizes = [8 if "*" in result else SIZES.get(result, 0), *(size(it) for it in arguments.split(",") if it != "void")]
-        lines.append(" ".join([name, *map(str, sizes)]))
-    for fields, name in re.findall(r"^typedef struct \w+ \{(.*?)\} (\w+);", re.sub(r"/\*.*?\*/", "", text, flags=re.S), re.M | re.S):
-        sizes = [8 if "*" in it else SIZES[it.split()[0]] for it in fields.split(";") if it.strip() for _ in it.split(",")]
-        lines.append(" ".join(["struct", name, *map(str, sizes)]))
-    return sorted(lines) + [f"{name} {number}" for name, number in re.findall(r"^  (SCRYPT_\w+) = (\d+)", text, re.M)]
+    lines = [(name, *sizes([result, *arguments])) for result, name, arguments in header.calls_of(text)]
+    lines += [("struct", name, *sizes(fields)) for name, fields in header.structures_of(text).items()]
+    statuses = [f"SCRYPT_{name} {number}" for name, number in header.statuses_of(text).items()]
+    return sorted(" ".join(map(str, it)) for it in lines) + statuses
 
 
 def proved():
@@ -65,12 +56,12 @@ def called():
               for name, result in (("PROVED_CALL", "int"), ("PROVED_PROCEDURE", "void"))]
     declared = output("cc", "-E", "-P", *macros, "-xc", os.path.join(HERE, "proved_calls.h"))
     with open(os.path.join(HERE, "scrypt_c.h"), encoding="utf-8") as file:
-        return [*calls_of(file.read()), *calls_of(declared.replace(" (", "("))]
+        return [*header.calls_of(file.read()), *header.calls_of(declared.replace(" (", "("))]
 
 
 def misnamed():
     """A contract is proved whatever the order of the arguments, and C declares its own."""
-    named = {name: [it.split()[-1].lstrip("*") for it in arguments.split(",")] for _, name, arguments in called()}
+    named = {name: [header.name_of(it) for it in arguments] for _, name, arguments in called()}
     yield from (f"{name} has the arguments {names}, and in C {named.get(name)}"
                 for name, names in proved() if named.get(name) != names)
 
@@ -81,8 +72,7 @@ def output(*command):
 
 def complaints(folder, wanted):
     with open(os.path.join(folder, "scrypt_c.h"), encoding="utf-8") as file:
-        header = file.read()
-    listed = of_header(header)
+        listed = of_header(file.read())
     yield from misnamed()
     yield from (f"the list has it, and not the header: {it}" for it in wanted if it not in listed)
     yield from (f"the header has it, and not the list: {it}" for it in listed if it not in wanted)

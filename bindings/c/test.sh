@@ -55,7 +55,7 @@ if [ -n "$emulator" ]; then
   $CC -O2 -Wall -Wextra -Werror -fPIC -shared bindings/c/emulator.c -o "$room/emulator.so"
   emulator="$emulator -E LD_PRELOAD=$room/emulator.so"
 fi
-python3 bindings/c/abi.py "$lib"
+python3 -m bindings.c.abi "$lib"
 test -z "$(find "$lib" -type l)" # or the kit, and with it make check, refuses the repository
 release/hardened.sh "$lib/libscrypt_drop_in.so" $shared
 # In tail position its return address would be higher, and it would clear less than was measured.

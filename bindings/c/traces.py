@@ -14,7 +14,7 @@ import ctypes
 import hashlib
 import sys
 
-from tools import crypt64
+from tools import crypt64, header
 
 # Why, the length of the password, and the parameters.
 CASES = [
@@ -64,11 +64,8 @@ def buffers_after(library, password, salt, costs):
     assert library.scrypt_buffer_lens(*costs, 0, *map(ctypes.byref, sizes)) == 0
     made = [ctypes.create_string_buffer(size.value * width) for size, width in zip(sizes, (1, 4, 4))]
     lent = [it for one, size in zip(made, sizes) for it in (one, size)]
-    derive = library.scrypt_key_with_buffers
-    word, size, data = ctypes.c_uint32, ctypes.c_size_t, ctypes.c_char_p
-    derive.argtypes = [data, size, data, size, ctypes.c_uint8, word, word, data, size, *[data, size] * 3]
     key = ctypes.create_string_buffer(KEY_LEN)
-    assert derive(password, len(password), salt, len(salt), *costs, key, KEY_LEN, *lent) == 0
+    assert library.scrypt_key_with_buffers(password, len(password), salt, len(salt), *costs, key, KEY_LEN, *lent) == 0
     return [it.raw for it in made]
 
 
@@ -112,7 +109,7 @@ def written(name, data):
 
 def main(path):
     assert state_after(b"\x80".ljust(64, b"\0")) == swapped(hashlib.sha256(b"").digest()), "SHA-256"
-    library = ctypes.CDLL(path)
+    library = header.loaded(path)
     for why, length, costs in CASES:
         drawn = hashlib.shake_256(why.encode()).digest(length + SALT_LEN)
         text = crypt64.letters(drawn).encode()
