@@ -28,7 +28,7 @@ FACTS = [
     ("the default limit on memory in MiB", "crates/scrypt/src/limits.rt", r"most_bytes: (\d+) << 20", ("{} MiB", "{} << 20", "C({}) << 20"), """
         CHANGELOG.md SECURITY.md bench/bounds.py bindings/c/scrypt_c.h bindings/c/test_hasher_parts.c bindings/go/README.md
         bindings/go/scrypt.go bindings/js/README.md bindings/python/README.md
-        bindings/python/scrypt_c/__init__.py bindings/python/scrypt_c/hasher.py bindings/python/scrypt_c/params.py bindings/rust/README.md
+        bindings/python/scrypt_c/__init__.py bindings/python/scrypt_c/hasher.py bindings/rust/README.md
         bindings/rust/src/bounds.rs ci/program.py compare/hostile.py docs/API.md docs/DECISIONS.md docs/MIGRATION.md docs/scrypt_tool.1
         examples/login_service/README.md"""),
     ("the default limit on work", "crates/scrypt/src/limits.rt", r"Limits::USUAL\.most_work == (\d+)", ("{}",), """

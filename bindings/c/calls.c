@@ -118,10 +118,10 @@ int scrypt_hash_params(const char *text, size_t text_len, uint32_t *log_n, uint3
   return status;
 }
 
-#define THESE(needs) &needs.tables, &needs.chunks_len, &needs.table_len, &needs.scratch_len
+#define THESE(needs) &needs.tables, &needs.chunks_len, &needs.table_len, &needs.scratch_len, &needs.bytes, &needs.work
 int scrypt_hash_needs(const char *text, size_t text_len, size_t most_bytes, uint64_t most_work, size_t least_key_len,
                       scrypt_needs *needs) {
-  scrypt_needs made = {0, 0, 0, 0, 0, 0, 0, 0};
+  scrypt_needs made = {0, 0, 0, 0, 0, 0, 0, 0, 0, 0};
   uint8_t log_n = 0;
   int status;
   TAKE(text);
@@ -134,11 +134,11 @@ int scrypt_hash_needs(const char *text, size_t text_len, size_t most_bytes, uint
 }
 
 int scrypt_params_need(uint32_t log_n, uint32_t r, uint32_t p, size_t most_bytes, uint64_t most_work, scrypt_needs *needs) {
-  scrypt_needs made = {log_n, r, p, 0, 0, 0, 0, 0};
+  scrypt_needs made = {log_n, r, p, 0, 0, 0, 0, 0, 0, 0};
   int status;
   REFUSE_IF(needs == NULL);
   status = cleared_scrypt_params_need(in_8_bits(log_n), r, p, most_bytes, most_work, THESE(made));
-  if (status == SCRYPT_OK) *needs = made;
+  if (status == SCRYPT_OK || status == SCRYPT_TOO_COSTLY) *needs = made;
   return status;
 }
 

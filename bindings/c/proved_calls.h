@@ -31,8 +31,8 @@ PROVED_PROCEDURE(scrypt_verify_group_with_buffers,
                  (THE_STORED, THE_OTHER(2), THE_OTHER(3), THE_OTHER(4), statuses, THE_BUFFERS))
 
 /* The others take no password; those with a text read the key in it. */
-#define NEEDS size_t *tables, size_t *chunks_len, size_t *table_len, size_t *scratch_len
-#define THE_NEEDS tables, chunks_len, table_len, scratch_len
+#define NEEDS size_t *tables, size_t *chunks_len, size_t *table_len, size_t *scratch_len, uint64_t *bytes, uint64_t *work
+#define THE_NEEDS tables, chunks_len, table_len, scratch_len, bytes, work
 PROVED_CALL(scrypt_hash_needs,
          (const char *text, size_t text_len, size_t most_bytes, uint64_t most_work, size_t least_key_len,
           uint8_t *log_n, uint32_t *r, uint32_t *p, size_t *key_len, NEEDS),

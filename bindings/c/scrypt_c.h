@@ -78,8 +78,8 @@ extern "C" {
 #endif
 
 /* What the calls return. If several errors apply, it is the one that the call's comment names first. With any status but
- * SCRYPT_OK the outputs are unchanged, except for the salt of scrypt_draw_salt, *place of a hasher's call, and zeros with
- * SCRYPT_CANCELLED. */
+ * SCRYPT_OK the outputs are unchanged, except for the salt of scrypt_draw_salt, what scrypt_hash_needs and
+ * scrypt_params_need write, *place of a hasher's call, and zeros with SCRYPT_CANCELLED. */
 enum scrypt_status {
   SCRYPT_OK = 0,
   SCRYPT_MISMATCH = 1,            /* the password is wrong, or the hash has no salt or no key */
@@ -250,23 +250,24 @@ int scrypt_hash_params(const char *text, size_t text_len, uint32_t *log_n, uint3
 
 /* What a derivation needs: its parameters, the length of the key of a hash, how many tables it can use within the bound on
  * bytes (1 to 4, and at most p; 1 also if even one is too much), and the lengths of the buffers with one: of chunks in
- * bytes, of table and scratch in words. With w tables, table and scratch are w times as long. */
+ * bytes, of table and scratch in words. With w tables, table and scratch are w times as long. Last are the bytes of the
+ * buffers with one table together, and the work, 4 * (2^log_n + 32) * r * p: each is at most UINT64_MAX, which also means
+ * more. */
 typedef struct scrypt_needs {
   uint32_t log_n, r, p;
   size_t key_len, tables, chunks_len, table_len, scratch_len;
+  uint64_t bytes, work;
 } scrypt_needs;
 
 /* Checks a hash against bounds, and writes what verifying it needs. Nothing is allocated. The errors of scrypt_verify for a
- * text that cannot be read (SCRYPT_MISMATCH without a salt or a key); then SCRYPT_TOO_COSTLY if the buffers together have
- * more than most_bytes bytes, or if the work, 4 * (2^log_n + 32) * r * p, is above most_work; then SCRYPT_KEY_TOO_SHORT if
- * the key has fewer than least_key_len bytes. These two write what verifying needs too; on any other error nothing is
- * written. */
+ * text that cannot be read (SCRYPT_MISMATCH without a salt or a key); then SCRYPT_TOO_COSTLY if the bytes are above
+ * most_bytes, or the work above most_work; then SCRYPT_KEY_TOO_SHORT if the key has fewer than least_key_len bytes. These
+ * two write what verifying needs too; on any other error nothing is written. */
 SCRYPT_CHECKED
 int scrypt_hash_needs(const char *text, size_t text_len, size_t most_bytes, uint64_t most_work, size_t least_key_len,
                       scrypt_needs *needs);
 
-/* The same for a derivation with these parameters: SCRYPT_INVALID_PARAMS, then SCRYPT_TOO_COSTLY. On an error nothing is
- * written. */
+/* The same for a derivation with these parameters: SCRYPT_INVALID_PARAMS, and then nothing is written; SCRYPT_TOO_COSTLY. */
 SCRYPT_CHECKED
 int scrypt_params_need(uint32_t log_n, uint32_t r, uint32_t p, size_t most_bytes, uint64_t most_work, scrypt_needs *needs);
 

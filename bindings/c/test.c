@@ -159,7 +159,7 @@ static void hash_params(const char *text) {
   uint32_t r = 99, p = 99;
   size_t key_len = 99, most_bytes, least_key_len;
   uint64_t most_work;
-  const scrypt_needs nines = {9, 9, 9, 9, 9, 9, 9, 9};
+  const scrypt_needs nines = {9, 9, 9, 9, 9, 9, 9, 9, 9, 9};
   scrypt_needs needs = nines;
   check(scrypt_hash_needs("$7$", 3, SIZE_MAX, UINT64_MAX, 0, &needs) == SCRYPT_ENCODING_INVALID && needs.table_len == 9,
         "an error leaves what is needed");
@@ -169,12 +169,20 @@ static void hash_params(const char *text) {
   check(scrypt_hash_needs(text, strlen(text), 0, UINT64_MAX, 0, &needs) == SCRYPT_TOO_COSTLY, "more than no bytes");
   check(needs.log_n == 4 && needs.r == 8 && needs.p == 1 && needs.key_len == 32 && needs.tables == 1 &&
             needs.chunks_len == 1024 && needs.table_len == 4096 && needs.scratch_len == 512, "what a costly hash needs");
+  check(needs.bytes == 1024 + 4 * (4096 + 512) && needs.work == 4 * (16 + 32) * 8, "the bytes and the work of a costly hash");
   needs.log_n = 9;
   check(scrypt_hash_needs(text, strlen(text), SIZE_MAX, UINT64_MAX, 33, &needs) == SCRYPT_KEY_TOO_SHORT && needs.log_n == 4,
         "what a hash with a short key needs");
   check(scrypt_params_need(4, 8, 7, SIZE_MAX, UINT64_MAX, &needs) == SCRYPT_OK && needs.tables == 4, "at most four tables");
   check(scrypt_params_need(4, 8, 7, 7168 + 3 * 4 * (4096 + 512), UINT64_MAX, &needs) == SCRYPT_OK && needs.tables == 3,
         "as many as there is room for");
+  needs = nines;
+  check(scrypt_params_need(0, 1, 0, 0, 0, &needs) == SCRYPT_INVALID_PARAMS && needs.tables == 9 && needs.work == 9,
+        "invalid parameters leave what is needed");
+  check(scrypt_params_need(27, (1 << 30) - 1, 1, 0, 0, &needs) == SCRYPT_TOO_COSTLY && needs.table_len == 32ull * ((1 << 30) - 1) << 27 &&
+            needs.bytes == UINT64_MAX && needs.work == 4ull * ((1 << 27) + 32) * ((1 << 30) - 1), "bytes above 64 bits");
+  check(scrypt_params_need(56, 1, (1 << 30) - 1, SIZE_MAX, UINT64_MAX, &needs) == SCRYPT_TOO_COSTLY &&
+            needs.bytes > (uint64_t)1 << 63 && needs.work == UINT64_MAX, "work above 64 bits");
   check(scrypt_limits_for_new(18, 8, 1, 32, &most_bytes, &most_work, &least_key_len) == SCRYPT_OK &&
             most_bytes == SCRYPT_MOST_BYTES && most_work == SCRYPT_MOST_WORK && least_key_len == SCRYPT_LEAST_KEY_LEN,
         "the usual bounds");

@@ -121,7 +121,7 @@ static void room_for_one(void) {
 
 /* What was refused for several tables is tried again, and not each time. */
 static void refused_for_a_while(void) {
-  static const scrypt_needs ONE = {4, 8, 1, 32, 1, 1024, 16 * 256, 512};
+  static const scrypt_needs ONE = {4, 8, 1, 32, 1, 1024, 16 * 256, 512, 0, 0};
   struct tables tables = {0};
   size_t before = READ(mapped), tries = 1;
   WRITE(most_mapped, table_bytes(&ONE) + sizeof(uint32_t));

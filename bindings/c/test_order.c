@@ -61,7 +61,7 @@ static int hash_params(void) {
 /* Whether this is needed, with so many tables. */
 static int are_needed(int status, const scrypt_needs *it, size_t tables) {
   return it->log_n == 4 && it->r == 2 && it->p == 3 && it->tables == tables && it->chunks_len == 768 &&
-                 it->table_len == 1024 && it->scratch_len == 128
+                 it->table_len == 1024 && it->scratch_len == 128 && it->bytes == 5376 && it->work == 1152
              ? status
              : -1;
 }
@@ -71,12 +71,12 @@ static int buffer_lens(void) {
   return lens[0] == 768 && lens[1] == 512 && lens[2] == 192 ? status : -1;
 }
 static int hash_needs(void) {
-  scrypt_needs needs = {0, 0, 0, 0, 0, 0, 0, 0};
+  scrypt_needs needs = {0, 0, 0, 0, 0, 0, 0, 0, 0, 0};
   int status = scrypt_hash_needs(OF(PHC), 5376, 1152, 20, &needs);
   return needs.key_len == 20 ? are_needed(status, &needs, 1) : -1;
 }
 static int params_need(void) {
-  scrypt_needs needs = {0, 0, 0, 0, 0, 0, 0, 0};
+  scrypt_needs needs = {0, 0, 0, 0, 0, 0, 0, 0, 0, 0};
   int status = scrypt_params_need(PARAMS, 9984, 1152, &needs);
   return are_needed(status, &needs, 2);
 }

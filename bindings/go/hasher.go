@@ -199,11 +199,12 @@ func (h *Hasher) Verify(ctx context.Context, text string, password []byte) error
 	if err != ErrTooCostly && err != ErrKeyTooShort {
 		return err
 	}
-	params, _ := ParamsOf(text) // it can be read, or there would be another error
+	var needs C.scrypt_needs // which this writes with either error
 	with := C.scrypt_hasher_options(h.of.c)
 	defer runtime.KeepAlive(h.of)
+	C.scrypt_hash_needs(chars(raw), size(raw), with.most_bytes, with.most_work, with.least_key_len, &needs)
 	return fmt.Errorf("%w: %v, and a key of %d bytes; MostBytes is %d, MostWork is %d, and the least key has %d bytes", err,
-		params.needs(), params.KeyLen, with.most_bytes, with.most_work, with.least_key_len)
+		inWords(needs), needs.key_len, with.most_bytes, with.most_work, with.least_key_len)
 }
 
 // NeedsRehash reports whether one of the parameters of the hash, or its key's length, is below that of new hashes. Its
@@ -261,13 +262,17 @@ func orUsual(n, usual int) int {
 
 // needs returns in words what a derivation needs, or that there is none.
 func (params Params) needs() string {
-	words := fmt.Sprintf("LogN %d, R %d and P %d", params.LogN, params.R, params.P)
-	memory, err := params.Memory()
-	switch {
-	case params.LogN < 0 || params.LogN > 63:
-		return words + " are not accepted: LogN is the logarithm of N, from 0 to 63"
-	case err != nil:
-		return words + " are not accepted"
+	needs, err := params.need()
+	if err == nil {
+		return inWords(needs)
 	}
-	return fmt.Sprintf("%s need %d bytes and a work of %d", words, memory, params.Work())
+	words := fmt.Sprintf("LogN %d, R %d and P %d are not accepted", params.LogN, params.R, params.P)
+	if params.LogN < 0 || params.LogN > 63 {
+		words += ": LogN is the logarithm of N, from 0 to 63"
+	}
+	return words
+}
+
+func inWords(needs C.scrypt_needs) string {
+	return fmt.Sprintf("LogN %d, R %d and P %d need %d bytes and a work of %d", needs.log_n, needs.r, needs.p, needs.bytes, needs.work)
 }

@@ -78,26 +78,27 @@ func ParamsOf(text string) (Params, error) {
 // Memory returns the number of bytes of a derivation's buffers, at most math.MaxUint64, or ErrInvalidParams if LogN, R
 // and P are not accepted.
 func (params Params) Memory() (uint64, error) {
-	var chunks, table, scratch C.size_t
-	err := failed(C.scrypt_buffer_lens(number(params.LogN), number(params.R), number(params.P), 0, &chunks, &table, &scratch))
-	sum, carry := bits.Add64(4*uint64(table), uint64(chunks)+4*uint64(scratch), 0)
-	if carry != 0 {
-		sum = math.MaxUint64
+	needs, err := params.need()
+	return uint64(needs.bytes), err
+}
+
+// need returns what a derivation needs without bounds, or ErrInvalidParams.
+func (params Params) need() (needs C.scrypt_needs, err error) {
+	status := C.scrypt_params_need(number(params.LogN), number(params.R), number(params.P), math.MaxUint64, math.MaxUint64, &needs)
+	if status == C.SCRYPT_INVALID_PARAMS {
+		err = ErrInvalidParams
 	}
-	return sum, err
+	return needs, err
 }
 
 // Work returns the work of a derivation, which Options.MostWork bounds: 4 * (N + 32) * R * P Salsa20/8 cores, where 32
 // stands for PBKDF2. It is math.MaxUint64 if it would be more, or if the parameters are not accepted.
 func (params Params) Work() uint64 {
-	if _, err := params.Memory(); err != nil {
+	needs, err := params.need()
+	if err != nil {
 		return math.MaxUint64
 	}
-	high, low := bits.Mul64(4*uint64(params.R)*uint64(params.P), 1<<params.LogN+32)
-	if high != 0 {
-		return math.MaxUint64
-	}
-	return low
+	return uint64(needs.work)
 }
 
 // Key returns the key of keyLen bytes of a password and a salt. N is a power of two. To errors.Is the errors are

@@ -151,7 +151,7 @@ export class Scrypt {
       const usual = this.#words(3);
       this.#call('scrypt_limits_for_new', ...wanted, keyLen, ...places(usual));
       const limits = ['maxmem', 'maxwork', 'minKeyLength'].map((name, i) => limit(options[name], name, this.#big(usual[i])));
-      const [params, sizes] = [this.#words(4), this.#words(4)];
+      const [params, sizes] = [this.#words(4), this.#words(6)];
       return this.#isOk('scrypt_hash_needs', slices[1], ...limits, ...places(params), ...places(sizes))
         && this.#isOk('scrypt_verify_with_buffers', ...slices, ...this.#buffers(sizes));
     });
@@ -244,7 +244,7 @@ export class Scrypt {
   }
 
   #buffersFor(params, mostBytes, mostWork) {
-    const sizes = this.#words(4);
+    const sizes = this.#words(6);
     this.#call('scrypt_params_need', ...params, mostBytes, mostWork, ...places(sizes));
     return this.#buffers(sizes);
   }

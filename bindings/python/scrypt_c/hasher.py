@@ -22,7 +22,7 @@ from .errors import (
     InvalidParamsError,
     check,
 )
-from .params import Params, accepted, check_costs, params_of
+from .params import Params, accepted, check_costs, needs_of
 
 _SLICE_MS = 50
 
@@ -98,7 +98,7 @@ class PasswordHasher:
         status = ctypes.c_int()
         self._c = library.hasher_new(options, status)
         self._refused = 0  # how many waits of the main thread ended, whose slices the library does not count
-        check_costs(status.value, self._params, most_bytes, most_work)
+        check_costs(status.value, needs_of(self._params)[1], most_bytes, most_work)
 
     @property
     def params(self) -> Params:
@@ -187,10 +187,13 @@ class PasswordHasher:
         if status not in (KEY_TOO_SHORT, OUT_OF_MEMORY, TOO_COSTLY):
             check(status, f"timeout={self._timeout}" if status == TIMEOUT else "")
             return
-        params = self._params if text is None else params_of(text)
+        most = self.options
+        needs = needs_of(self._params)[1]
+        if text is not None:  # which can be read, so that this writes what it needs
+            library.hash_needs(text, len(text), most.most_bytes, most.most_work, most.least_key_len, needs)
         if status == KEY_TOO_SHORT:
-            check(status, f"its length is {params.key_len}, and at least {self.options.least_key_len} is required")
-        check_costs(status, params, self.options.most_bytes, self.options.most_work)
+            check(status, f"its length is {needs.key_len}, and at least {most.least_key_len} is required")
+        check_costs(status, needs, most.most_bytes, most.most_work)
 
 
 def _copied(kind: type[PasswordHasher], params: Params, options: dict[str, Any]) -> PasswordHasher:

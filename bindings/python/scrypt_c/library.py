@@ -68,11 +68,15 @@ class Stats(ctypes.Structure):
 
 
 class Needs(ctypes.Structure):
-    """A scrypt_needs."""
+    """A scrypt_needs; as text, what the message of an error has."""
+
+    def __str__(self) -> str:
+        return f"log_n={self.log_n}, r={self.r}, p={self.p} need {self.bytes} bytes and a work of {self.work}"
 
     _fields_ = [
         *((name, ctypes.c_uint32) for name in ("log_n", "r", "p")),
         *((name, ctypes.c_size_t) for name in ("key_len", "tables", "chunks_len", "table_len", "scratch_len")),
+        *((name, ctypes.c_uint64) for name in ("bytes", "work")),
     ]
 
 
@@ -102,11 +106,15 @@ def _declared(name: str, arguments: list[Any], result: Any = ctypes.c_int, libra
 _bytes = [ctypes.c_char_p, ctypes.c_size_t]
 _params = 3 * [ctypes.c_uint32]
 _params_out = [ctypes.POINTER(it) for it in _params]
+_bounds = [ctypes.c_size_t, ctypes.c_uint64]
 _size_out = ctypes.POINTER(ctypes.c_size_t)
 _wait = [ctypes.c_int64, ctypes.POINTER(ctypes.c_uint64)]
 
-buffer_lens = _declared("scrypt_buffer_lens", [*_params, ctypes.c_uint8, *3 * [_size_out]])
-params_need = _declared("scrypt_params_need", [*_params, ctypes.c_size_t, ctypes.c_uint64, ctypes.POINTER(Needs)])
+params_need = _declared("scrypt_params_need", [*_params, *_bounds, ctypes.POINTER(Needs)])
+hash_needs = _declared("scrypt_hash_needs", [*_bytes, *_bounds, ctypes.c_size_t, ctypes.POINTER(Needs)])
+limits_for_new = _declared(
+    "scrypt_limits_for_new", [*_params, ctypes.c_size_t, _size_out, ctypes.POINTER(ctypes.c_uint64), _size_out]
+)
 key = _declared("scrypt_key", [*_bytes, *_bytes, *_params, *_bytes])
 hash_params = _declared("scrypt_hash_params", [*_bytes, *_params_out, _size_out])
 calibrate = _declared("scrypt_calibrate", [ctypes.c_double, ctypes.c_size_t, *_params_out])

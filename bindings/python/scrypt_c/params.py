@@ -7,7 +7,10 @@ from typing import NamedTuple, Optional, Union
 
 from . import library
 from .arguments import in_64_bits, number, raw_text
-from .errors import INVALID_PARAMS, OUT_OF_MEMORY, TOO_COSTLY, check
+from .errors import INVALID_PARAMS, TOO_COSTLY, check
+
+# No bound.
+MOST = 2**64 - 1
 
 
 def accepted(log_n: int, r: int, p: int) -> tuple[int, int, int]:
@@ -35,48 +38,48 @@ class Params(NamedTuple):
 
     @property
     def work(self) -> int:
-        """The work that `most_work` bounds: the Salsa20/8 cores, and for PBKDF2 those of 32 more rows in each chunk."""
-        log_n, r, p = accepted(self.log_n, self.r, self.p)
-        return 4 * ((1 << log_n) + 32) * r * p
+        """The work that `most_work` bounds, at most 2**64 - 1: the Salsa20/8 cores, and for PBKDF2 those of 32 more rows in
+        each chunk."""
+        return int(needs_of(self)[1].work)
 
     @property
     def memory(self) -> int:
-        """The number of bytes of the buffers of a derivation."""
-        log_n, r, p = accepted(self.log_n, self.r, self.p)
-        lens = [ctypes.c_size_t() for _ in range(3)]
-        check(library.buffer_lens(log_n, r, p, 0, *lens), f"log_n={log_n}, r={r}, p={p}")
-        chunks, table, scratch = (it.value for it in lens)
-        return chunks + 4 * table + 4 * scratch
+        """The number of bytes of the buffers of a derivation, at most 2**64 - 1."""
+        return int(needs_of(self)[1].bytes)
 
-    @property
-    def _costs(self) -> str:
-        """For the message of an error, of parameters that are accepted."""
-        return f"log_n={self.log_n}, r={self.r}, p={self.p} need {self.memory} bytes and a work of {self.work}"
+
+def needs_of(params: Params, most_bytes: int = MOST, most_work: int = MOST) -> tuple[int, library.Needs]:
+    """What a derivation needs, and whether the bounds allow it: OK or TOO_COSTLY. Raises InvalidParamsError."""
+    log_n, r, p = accepted(*params[:3])
+    needs = library.Needs()
+    status = int(library.params_need(log_n, r, p, most_bytes, most_work, needs))
+    if status == INVALID_PARAMS:
+        check(status, f"log_n={log_n}, r={r}, p={p}")
+    return status, needs
+
+
+def _usual() -> tuple[int, int, int]:
+    bounds = ctypes.c_size_t(), ctypes.c_uint64(), ctypes.c_size_t()
+    check(library.limits_for_new(*RECOMMENDED, *bounds))
+    return bounds[0].value, bounds[1].value, bounds[2].value
 
 
 RECOMMENDED = Params()
 
 # The default bounds on the cost of a hash, and on the length of its key.
-MOST_BYTES = 257 << 20
-MOST_WORK = 4 * RECOMMENDED.work
-LEAST_KEY_LEN = 16
+MOST_BYTES, MOST_WORK, LEAST_KEY_LEN = _usual()
 
 
-def check_costs(status: int, params: Params, most_bytes: Optional[int], most_work: Optional[int]) -> None:
-    """Raises the error of a status for these parameters and bounds, of which None is a default."""
-    about = f"log_n={params.log_n}, r={params.r}, p={params.p}"
-    if status == OUT_OF_MEMORY:
-        about = params._costs
-    if status == TOO_COSTLY:
-        about = f"{params._costs}, with most_bytes={most_bytes} and most_work={most_work}"
+def check_costs(status: int, needs: library.Needs, most_bytes: Optional[int], most_work: Optional[int]) -> None:
+    """Raises the error of a status of a derivation that needs this, for bounds of which None is a default."""
+    about = f"{needs}, with most_bytes={most_bytes} and most_work={most_work}" if status == TOO_COSTLY else str(needs)
     check(status, about)
 
 
 def check_within(params: Params, most_bytes: int, most_work: int) -> None:
     """Raises TooCostlyError if a derivation with these parameters needs more, and InvalidParamsError."""
-    most = in_64_bits(most_bytes, "most_bytes"), in_64_bits(most_work, "most_work")
-    needs = library.Needs()
-    check_costs(library.params_need(*accepted(*params[:3]), *most, needs), params, most_bytes, most_work)
+    status, needs = needs_of(params, in_64_bits(most_bytes, "most_bytes"), in_64_bits(most_work, "most_work"))
+    check_costs(status, needs, most_bytes, most_work)
 
 
 def params_of(text: Union[str, bytes]) -> Params:

@@ -41,7 +41,7 @@ class Hashes(unittest.TestCase):
     def test_texts_are_read_once(self):
         """Only the message of an error that has parameters reads the hash again."""
         text = SMALL.hash("pw")
-        with mock.patch("scrypt_c.hasher.params_of") as read:
+        with mock.patch("scrypt_c.library.hash_needs") as read:
             self.assertTrue(SMALL.verify(text, "pw"))
             for of, error in [(text, scrypt_c.VerifyMismatchError), ("$7$", scrypt_c.InvalidHashError)]:
                 self.assertRaises(error, SMALL.verify, of, "PW")

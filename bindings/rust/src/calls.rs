@@ -72,6 +72,8 @@ pub struct RawNeeds {
     pub chunks_len: usize,
     pub table_len: usize,
     pub scratch_len: usize,
+    pub bytes: u64,
+    pub work: u64,
 }
 
 // As in the header.
@@ -79,8 +81,6 @@ pub struct RawNeeds {
 extern "C" {
     pub fn scrypt_key(password: *const c_void, password_len: usize, salt: *const c_void, salt_len: usize, log_n: u32,
         r: u32, p: u32, output: *mut u8, output_len: usize) -> c_int;
-    pub fn scrypt_buffer_lens(log_n: u32, r: u32, p: u32, s: u8, chunks: *mut usize, table: *mut usize,
-        scratch: *mut usize) -> c_int;
     pub fn scrypt_params_need(log_n: u32, r: u32, p: u32, most_bytes: usize, most_work: u64, needs: *mut RawNeeds) -> c_int;
     pub fn scrypt_hash_params(text: *const c_char, text_len: usize, log_n: *mut u32, r: *mut u32, p: *mut u32,
         key_len: *mut usize) -> c_int;

@@ -1,6 +1,6 @@
 //! The parameters of a derivation.
 
-use crate::calls::{scrypt_buffer_lens, scrypt_calibrate, scrypt_hash_params, OK};
+use crate::calls::*;
 use crate::{Error, InvalidParams};
 use std::time::Duration;
 
@@ -32,15 +32,18 @@ impl Params {
     ///
     /// `InvalidParams` unless `r` and `p` are positive, `128 * r * 2^log_n` is below `2^64` and `r * p` below `2^30`.
     pub fn new(log_n: u8, r: u32, p: u32) -> Result<Params, InvalidParams> {
-        let (mut chunks, mut table, mut scratch) = (0, 0, 0);
-        // SAFETY: the three places are this function's own.
-        let status = unsafe {
-            scrypt_buffer_lens(log_n.into(), r, p, 0, &mut chunks, &mut table, &mut scratch)
-        };
-        if status == OK {
-            Ok(Params { log_n, r, p, len: None })
-        } else {
-            Err(InvalidParams)
+        let params = Params { log_n, r, p, len: None };
+        params.needs().map(|_| params)
+    }
+
+    // What a derivation needs without bounds.
+    fn needs(&self) -> Result<RawNeeds, InvalidParams> {
+        let (log_n, r, p) = (self.log_n.into(), self.r, self.p);
+        let mut needs = RawNeeds::default();
+        // SAFETY: the place is this function's own.
+        match unsafe { scrypt_params_need(log_n, r, p, usize::MAX, u64::MAX, &mut needs) } {
+            INVALID_PARAMS => Err(InvalidParams),
+            _ => Ok(needs),
         }
     }
 
@@ -87,15 +90,9 @@ impl Params {
         self.p
     }
 
-    /// The number of bytes of the buffers of a derivation.
-    pub fn memory(&self) -> u128 {
-        let (mut chunks, mut table, mut scratch) = (0, 0, 0);
-        // SAFETY: the three places are this function's own. The parameters are accepted, so they are written.
-        unsafe {
-            let log_n = self.log_n.into();
-            scrypt_buffer_lens(log_n, self.r, self.p, 0, &mut chunks, &mut table, &mut scratch)
-        };
-        chunks as u128 + 4 * (table as u128 + scratch as u128)
+    /// The number of bytes of the buffers of a derivation, at most `u64::MAX`.
+    pub fn memory(&self) -> u64 {
+        self.needs().map_or(u64::MAX, |it| it.bytes)
     }
 
     /// The number of Salsa20/8 cores of a derivation.
@@ -103,9 +100,10 @@ impl Params {
         (4 * u128::from(self.r) * u128::from(self.p)) << self.log_n
     }
 
-    /// The work, which [`Bounds`](crate::Bounds) limit: `4 * (N + 32) * r * p` Salsa20/8 cores, where 32 stands for PBKDF2.
-    pub fn work(&self) -> u128 {
-        self.cores() + 128 * u128::from(self.r) * u128::from(self.p)
+    /// The work, which [`Bounds`](crate::Bounds) limit, at most `u64::MAX`: `4 * (N + 32) * r * p` Salsa20/8 cores, where 32
+    /// stands for PBKDF2.
+    pub fn work(&self) -> u64 {
+        self.needs().map_or(u64::MAX, |it| it.work)
     }
 
     /// The length of a hash's key in bytes.

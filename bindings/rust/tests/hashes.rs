@@ -68,8 +68,8 @@ fn options() {
 fn bounds() {
     let params = Params::new_with_output_len(6, 3, 5, 15).unwrap();
     let (bytes, cores, work) = (128 * 3 * (64 + 5 + 2), 4 * 64 * 3 * 5, 4 * (64 + 32) * 3 * 5);
-    assert_eq!((params.memory(), params.cores()), (bytes as u128, cores));
-    assert_eq!(params.work(), u128::from(work));
+    assert_eq!((params.memory(), params.cores()), (bytes as u64, cores));
+    assert_eq!(params.work(), work);
     let text = Hasher::new(Options { params, ..small() }).unwrap().hash("pw").unwrap();
     assert_eq!(params_of(&text), Ok((Params::new(6, 3, 5).unwrap(), 15)));
     for (most_bytes, most_work, wanted) in [

@@ -1,7 +1,7 @@
 -- The status of what parameters need within limits.
-use Rattle.std.specs.Prelude.{◌≡◌, ◌⊎◌, ◌↔◌, ℕ, ℤ, pos, length, IsTrue, None}
+use Rattle.std.specs.Prelude.{◌≡◌, ◌⊎◌, ◌↔◌, ℕ, ℤ, ◌-◌, ◌^◌, min, pos, length, IsTrue, None}
 use Rattle.scrypt.specs.Accepted.{AreAccepted, Parameters}
-use Rattle.scrypt.specs.Limits.{are_within}
+use Rattle.scrypt.specs.Limits.{are_within, buffers_bytes, work}
 use Rattle.scrypt.specs.Reading.{Stored}
 use Rattle.scrypt.specs.declared.limits.Limits.{Limits}
 
@@ -13,6 +13,13 @@ limits_of most_bytes most_work least_key_len =
 -- these parameters, without a length
 abbrev pub params_of : ℕ → ℕ → ℕ → Parameters
 params_of log_n r p = record { log_n = log_n; r = r; p = p; output_len = None }
+
+-- the bytes of the buffers of a derivation with these parameters, and its work, if 64 bits can say it
+abbrev pub bytes_needed : Parameters → ℕ
+bytes_needed c = min (buffers_bytes c.log_n c.r c.p) (2 ^ 64 - 1)
+
+abbrev pub work_needed : Parameters → ℕ
+work_needed c = min (work c.log_n c.r c.p) (2 ^ 64 - 1)
 
 -- the status of what parameters need: 0, or that they aren't accepted, or not within limits
 pub record IsNeedStatus (most_bytes most_work log_n r p : ℕ) (status : ℤ) : Type 0 where

@@ -45,3 +45,17 @@ returns-clause-lens c =
       table_is = rw params (search (rules, c.write_needs.ensures.lens.table_is));
       scratch_is = rw params (search (rules, c.write_needs.ensures.lens.scratch_is));
     }))
+
+pub returns-clause-bytes : goal.returns-clause-bytes
+returns-clause-bytes c =
+    let read = c.in-Ok-params_and_key_len in
+    let whole = c.parameters_are_those_of_the_reading.ensures.whole c.in-Ok.hash in
+    rw c.in-Ok.ensures.reading (of_read (reading c.in-Ok.hash) _ (read.params, read.len) _ whole read.ensures.value
+    (λ s params len. rw params (search rules)))
+
+pub returns-clause-work : goal.returns-clause-work
+returns-clause-work c =
+    let read = c.in-Ok-params_and_key_len in
+    let whole = c.parameters_are_those_of_the_reading.ensures.whole c.in-Ok.hash in
+    rw c.in-Ok.ensures.reading (of_read (reading c.in-Ok.hash) _ (read.params, read.len) _ whole read.ensures.value
+    (λ s params len. rw params (search rules)))
