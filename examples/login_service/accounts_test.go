@@ -195,14 +195,14 @@ func TestHostileHashes(t *testing.T) {
 	}
 }
 
-// The limit leaves 128 MiB above what the service has with all its threads, and the hash needs 256.
+// The limit leaves 256 MiB above what the service has with all its threads, and the hash needs 512.
 func TestMemoryRefused(t *testing.T) {
-	w := newWorld(t, small)
+	w := newWorld(t, small, "-most-mib=1024")
 	w.users(32, 10)
-	w.exec(`INSERT INTO users SELECT 'large' || n, '$scrypt$ln=18,r=8,p=1$c2FsdA$AAAAAAAAAAAAAAAAAAAAAA' FROM generate_series(0, 99) n`)
+	w.exec(`INSERT INTO users SELECT 'large' || n, '$scrypt$ln=19,r=8,p=1$c2FsdA$AAAAAAAAAAAAAAAAAAAAAA' FROM generate_series(0, 99) n`)
 	logIn := func(i int) (answer, error) { return w.browser().logIn(fmt.Sprint("user", i%32), right) } // since a name has two places
 	each(400, 16, logIn)
-	w.restart(fmt.Sprintf("ulimit -v %d", w.status("VmSize")+128<<10), small)
+	w.restart(fmt.Sprintf("ulimit -v %d", w.status("VmSize")+256<<10), small, "-most-mib=1024")
 	each(400, 16, logIn)
 	got := each(200, 16, func(i int) (answer, error) {
 		if i%2 == 0 {
@@ -212,6 +212,6 @@ func TestMemoryRefused(t *testing.T) {
 	})
 	count := strings.Count(w.logged(), "log-in: "+scrypt.ErrOutOfMemory.Error())
 	if got.of[503] != 100 || got.of[303] != 100 || count != 100 {
-		t.Errorf("of 100 log-ins that need 256 MiB and 100 others %v, and %d lines in the log\n%s", got.of, count, w.logged())
+		t.Errorf("of 100 log-ins that need 512 MiB and 100 others %v, and %d lines in the log\n%s", got.of, count, w.logged())
 	}
 }

@@ -2,7 +2,6 @@ package main
 
 import (
 	"fmt"
-	"io"
 	"net/http/httptest"
 	"net/netip"
 	"os"
@@ -192,7 +191,7 @@ func TestTriesAtOnce(t *testing.T) {
 
 // Who leaves before the answer pays, so that nobody tries passwords in this way.
 func TestWhoLeavesPays(t *testing.T) {
-	w := newWorld(t, "-log-n=17", "-tries=1", "-pause=1h", proxied)
+	w := newWorld(t, "-log-n=17", "-tries=1", "-pause=1h", "-patience=2m", proxied)
 	one, all := w.at("192.0.2.1"), 4*runtime.GOMAXPROCS(0)
 	wait := meanwhile(all, func(i int) (answer, error) {
 		return w.at(fmt.Sprint("198.51.100.", i)).logIn(fmt.Sprint("nobody", i), wrong)
@@ -280,14 +279,14 @@ func TestSlowClients(t *testing.T) {
 	for _, it := range []struct {
 		why, from string
 		addresses int
-		most      int32 // how many stay connected
+		most      int // how many stay connected
 	}{
 		{"one client", "127.0.2.#", 1, 64},
 		{"many clients", "127.0.3.#", 50, 960},
 	} {
 		w := newWorld(t, "ulimit -n 1024", small, "-patience=12s")
 		w.users(1, 10)
-		var open, closed int32
+		var closed int32
 		wait := meanwhile(1100, func(i int) (answer, error) {
 			connection, err := dialer(numbered(it.from, 1+i%it.addresses)).Dial("tcp", w.address)
 			if err != nil {
@@ -296,10 +295,6 @@ func TestSlowClients(t *testing.T) {
 			defer connection.Close()
 			if i%2 == 0 { // slow in the form, else already in the header
 				_, _ = fmt.Fprint(connection, slowForm)
-			}
-			_ = connection.SetReadDeadline(time.Now().Add(300 * time.Millisecond))
-			if _, err = io.ReadAll(connection); os.IsTimeout(err) {
-				atomic.AddInt32(&open, 1)
 			}
 			for seconds := 0; seconds < 20; seconds++ {
 				if _, err = connection.Write([]byte("G")); err != nil {
@@ -312,9 +307,10 @@ func TestSlowClients(t *testing.T) {
 		})
 		time.Sleep(500 * time.Millisecond)
 		got := each(20, 1, func(int) (answer, error) { return w.browser().logIn("user0", right) })
+		open := len(must(os.ReadDir(fmt.Sprintf("/proc/%d/fd", w.service.Process.Pid)))) // with those of the store and the log
 		wait()
-		if got.of[303] != 20 || got.slowest > time.Second || open > it.most || closed != 1100 {
-			t.Errorf("%s: %v of 20 log-ins, the slowest in %v; %d were connected, and %d are not in the end\n%s",
+		if got.of[303] != 20 || got.slowest > 3*time.Second || open > it.most+40 || closed != 1100 {
+			t.Errorf("%s: %v of 20 log-ins, the slowest in %v; %d were open, and %d are closed in the end\n%s",
 				it.why, got.of, got.slowest, open, closed, w.logged())
 		}
 	}

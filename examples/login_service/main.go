@@ -25,6 +25,7 @@ var (
 	database = flag.String("database", "postgres", "the database")
 	role     = flag.String("role", "login_service", "the role, which owns the table users; PGPASSWORD may have its password")
 	logN     = flag.Int("log-n", 17, "log_n of new hashes, 10 to 24; r is 8 and p is 1")
+	most     = flag.Int("most-mib", 257, "the memory of a derivation, in MiB, above which a hash is refused")
 	waiting  = flag.Int("waiting", 32, "how many forms may wait for a processor")
 	patience = flag.Duration("patience", 20*time.Second, "how long sending a request, and how long answering it, may take")
 	tries    = flag.Int("tries", 20, "how many wrong passwords, or 20 times as many log-ins, a name or an address may have in a row")
@@ -42,7 +43,7 @@ func main() {
 	if os.Getenv("GOMEMLIMIT") == "" {
 		debug.SetMemoryLimit(32 << 20) // what Go has beside the tables, which are in no memory of Go
 	}
-	hasher := must(scrypt.NewHasher(scrypt.Options{Params: scrypt.Params{LogN: *logN, R: 8, P: 1, KeyLen: 32}}))
+	hasher := must(scrypt.NewHasher(scrypt.Options{Params: scrypt.Params{LogN: *logN, R: 8, P: 1, KeyLen: 32}, MostBytes: uint64(*most) << 20}))
 	accounts := &Accounts{must(open()), hasher, must(hasher.Hash(context.Background(), drawn(32)))}
 	// A drawn key signs cookies: a restart logs all users out, and no hash depends on it.
 	places := runtime.GOMAXPROCS(0) + *waiting
@@ -81,6 +82,7 @@ func settings() {
 		log.Fatalf("%q is not a flag, and no flag after it was read; a value follows its flag after =", flag.Arg(0))
 	}
 	within("-log-n", *logN, 10, 24)
+	within("-most-mib", *most, 1, 1<<20)
 	within("-waiting", *waiting, 0, 10_000)
 	within("-tries", *tries, 1, 1_000_000)
 	within("-patience", *patience, time.Second, 10*time.Minute)

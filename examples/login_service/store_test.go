@@ -18,8 +18,8 @@ func TestNumbersOutsideTheirRangeAreRefused(t *testing.T) {
 	for _, it := range []struct{ why, flag, printed, environment string }{
 		{"the least log_n", "-log-n=10", read, ""},
 		{"too little work", "-log-n=9", wrong, ""},
-		{"0 in 8 bits", "-log-n=256", wrong, ""},
 		{"17 in 64 bits", "-log-n=18446744073709551633", "out of range", ""},
+		{"0 bytes in 64 bits, which is no bound", "-most-mib=17592186044416", wrong, ""},
 		{"fewer than nobody", "-waiting=-5", wrong, ""},
 		{"no time, which net/http takes for no limit", "-patience=0s", wrong, ""},
 		{"a time whose triple is negative", "-patience=2000000h", wrong, ""},
