@@ -20,9 +20,19 @@ TOP = Path(__file__).resolve().parents[1]
 
 in_browser.SECONDS = 900
 
+# Prints what javascript.js measures, as JSON.
+NODE = """
+import { scryptSync } from 'node:crypto';
+import { measure } from './javascript.js';
+
+const crypto = (password, salt) => (N, r, p) => scryptSync(password, salt, 32, { N, r, p, maxmem: 2 ** 33 });
+console.log(JSON.stringify(await measure((password, salt) => ({ "Node's crypto": crypto(password, salt) }))));
+"""
+
 
 def in_node():
-    ran = subprocess.run(["node", TOP / "bench/javascript_node.js"], capture_output=True, text=True, check=True)
+    words = ["node", "--input-type=module", "--eval", NODE]
+    ran = subprocess.run(words, cwd=TOP / "bench", capture_output=True, text=True, check=True)
     return json.loads(ran.stdout)
 
 

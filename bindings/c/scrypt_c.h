@@ -25,8 +25,8 @@
  * Lengths are in bytes unless words are named; a word has 4 bytes. A password, a salt, a text or an output may be NULL with
  * length 0. For any other NULL a call returns SCRYPT_NULL_POINTER before any other status; only scrypt_buffer_lens and
  * scrypt_wipe do not check, and gcc and clang warn there.
- * No output may overlap an input or another output. The caller frees nothing but a scrypt_hasher. The library has no global
- * state: any number of threads may call it at once.
+ * No output may overlap an input or another output. The caller frees nothing but a scrypt_hasher. Any number of threads may
+ * call at once.
  */
 #ifndef SCRYPT_C_H
 #define SCRYPT_C_H
@@ -324,12 +324,12 @@ const scrypt_options *scrypt_hasher_options(const scrypt_hasher *hasher);
  * They wait for at most most_ms milliseconds, without a bound if that is negative, and then return SCRYPT_TIMEOUT; time that
  * a derivation takes does not count. While a thread derives for others too, its signals are blocked, except those of faults, so
  * that nobody waits for a signal handler.
- * If place is not NULL, a signal that the thread handles while it sleeps ends the wait too (one that comes just before does
- * not, so such a wait needs a bound; the C library's own does, as when another thread calls setresuid), and *place, which is 0
- * at first, is the place in the line with SCRYPT_TIMEOUT, and otherwise 0. The same call with the same *place waits there
- * again, so that a caller can look meanwhile whether it still wants the answer; one that doesn't just makes no further call.
- * Between the calls nobody begins with it. A place is not checked: a later call with an old one goes before all that came
- * since.
+ * If place is not NULL, a signal that the thread handles while it sleeps ends the wait too, also one that the C library sends
+ * itself, as when another thread calls setresuid. A signal that is handled just before the thread sleeps does not: who waits
+ * for signals needs a small most_ms. *place, which is 0 at first, is the place in the line with SCRYPT_TIMEOUT, and otherwise
+ * 0. The same call with the same *place waits there again, so that a caller can look meanwhile whether it still wants the
+ * answer; one that doesn't just makes no further call. Between the calls nobody begins with it. A place is not checked: a
+ * later call with an old one goes before all that came since.
  * fork: in a child nobody waits or derives, and a hasher works as in its parent. A call during which a signal handler forked
  * returns SCRYPT_CANCELLED in the child, where what it would have written is zeros; or, if it was just returning, what it
  * returns in the parent.
