@@ -284,7 +284,7 @@ func TestSlowClients(t *testing.T) {
 		{"one client", "127.0.2.#", 1, 64},
 		{"many clients", "127.0.3.#", 50, 960},
 	} {
-		w := newWorld(t, "ulimit -n 1024", small, "-patience=12s")
+		w := newWorld(t, "ulimit -n 1024", small, "-patience=20s")
 		w.users(1, 10)
 		var closed int32
 		wait := meanwhile(1100, func(i int) (answer, error) {
@@ -296,7 +296,7 @@ func TestSlowClients(t *testing.T) {
 			if i%2 == 0 { // slow in the form, else already in the header
 				_, _ = fmt.Fprint(connection, slowForm)
 			}
-			for seconds := 0; seconds < 20; seconds++ {
+			for seconds := 0; seconds < 30; seconds++ {
 				if _, err = connection.Write([]byte("G")); err != nil {
 					atomic.AddInt32(&closed, 1)
 					break
@@ -305,7 +305,7 @@ func TestSlowClients(t *testing.T) {
 			}
 			return answer{}, err
 		})
-		time.Sleep(500 * time.Millisecond)
+		time.Sleep(2 * time.Second) // in which those that are refused are closed
 		got := each(20, 1, func(int) (answer, error) { return w.browser().logIn("user0", right) })
 		open := len(must(os.ReadDir(fmt.Sprintf("/proc/%d/fd", w.service.Process.Pid)))) // with those of the store and the log
 		wait()

@@ -14,10 +14,11 @@ limits_of most_bytes most_work least_key_len =
 abbrev pub params_of : ℕ → ℕ → ℕ → Parameters
 params_of log_n r p = record { log_n = log_n; r = r; p = p; output_len = None }
 
--- the bytes of the buffers of a derivation with these parameters, and its work, if 64 bits can say it
+-- the bytes of the buffers of a derivation with these parameters, if 64 bits can say it
 abbrev pub bytes_needed : Parameters → ℕ
 bytes_needed c = min (buffers_bytes c.log_n c.r c.p) (2 ^ 64 - 1)
 
+-- its work, if 64 bits can say it
 abbrev pub work_needed : Parameters → ℕ
 work_needed c = min (work c.log_n c.r c.p) (2 ^ 64 - 1)
 
