@@ -26,13 +26,13 @@ LEFT_OUT = (":!*.svg", ":!docs/PROMISES.md", ":!ci/facts.py", ":!crates/*/wrong-
 # A fact, the file and the pattern of its room, its forms with the value as `{}`, and the files that state it.
 FACTS = [
     ("the default limit on memory in MiB", "crates/scrypt/src/limits.rt", r"most_bytes: (\d+) << 20", ("{} MiB", "{} << 20", "C({}) << 20"), """
-        CHANGELOG.md SECURITY.md bench/bounds.py bindings/c/scrypt_c.h bindings/c/test_hasher_parts.c bindings/go/README.md
+        CHANGELOG.md SECURITY.md bindings/c/scrypt_c.h bindings/c/test_hasher_parts.c bindings/go/README.md
         bindings/go/scrypt.go bindings/js/README.md bindings/python/README.md
         bindings/python/scrypt_c/__init__.py bindings/python/scrypt_c/hasher.py bindings/rust/README.md
         bindings/rust/src/bounds.rs ci/program.py compare/hostile.py docs/API.md docs/DECISIONS.md docs/MIGRATION.md docs/scrypt_tool.1
         examples/login_service/README.md"""),
     ("the default limit on work", "crates/scrypt/src/limits.rt", r"Limits::USUAL\.most_work == (\d+)", ("{}",), """
-        bench/bounds.py bindings/c/scrypt_c.h bindings/js/index.d.ts bindings/python/tests/test_refused.py bindings/rust/src/bounds.rs
+        bindings/c/scrypt_c.h bindings/js/index.d.ts bindings/python/tests/test_refused.py bindings/rust/src/bounds.rs
         ci/program.py crates/scrypt_commands/specs/Information.antt crates/scrypt_commands/src/usage.rt docs/scrypt_tool.1"""),
     ("the greatest length of a key", "bindings/c/scrypt_c.h", r"SCRYPT_MAX_OUTPUT_LEN UINT64_C\((\d+)\)", ("{}",), """
         README.md bindings/c/test_words.c bindings/go/key_test.go bindings/python/scrypt_c/errors.py bindings/python/tests/test_refused.py
@@ -125,6 +125,8 @@ def in_python(module, declared):
 def other_python():
     """The calls and structures of the Python package that differ from the header."""
     module, calls = python()
+    if f"UINT64_C({module.MAX_OUTPUT_LEN})" not in header.TEXT:
+        yield f"{PYTHON}: MAX_OUTPUT_LEN is another number than in the header"
     for result, name, arguments in header.calls_of(header.TEXT):
         if name in calls and [*calls[name].argtypes, calls[name].restype] != [in_python(module, it) for it in (*arguments, result)]:
             yield f"{PYTHON}: {name} has other types than in the header: {', '.join(arguments)}"
