@@ -191,7 +191,7 @@ func TestTriesAtOnce(t *testing.T) {
 
 // Who leaves before the answer pays, so that nobody tries passwords in this way.
 func TestWhoLeavesPays(t *testing.T) {
-	w := newWorld(t, "-log-n=17", "-tries=1", "-pause=1h", "-patience=2m", proxied)
+	w := newWorld(t, "-log-n=16", "-tries=1", "-pause=1h", "-patience=2m", proxied)
 	one, all := w.at("192.0.2.1"), 4*runtime.GOMAXPROCS(0)
 	wait := meanwhile(all, func(i int) (answer, error) {
 		return w.at(fmt.Sprint("198.51.100.", i)).logIn(fmt.Sprint("nobody", i), wrong)
@@ -202,7 +202,7 @@ func TestWhoLeavesPays(t *testing.T) {
 		t.Errorf("a client that has to wait gets %d", got.status)
 	}
 	if got := wait(); got.of[403] != all {
-		t.Errorf("the others get %v", got.of)
+		t.Errorf("the others get %v\n%s", got.of, w.logged())
 	}
 	w.expect(429)(w.at("192.0.2.1").logIn("another", wrong))
 }
@@ -306,7 +306,11 @@ func TestSlowClients(t *testing.T) {
 			return answer{}, err
 		})
 		time.Sleep(2 * time.Second) // in which those that are refused are closed
-		got := each(20, 1, func(int) (answer, error) { return w.browser().logIn("user0", right) })
+		got := each(20, 1, func(int) (answer, error) {
+			one := w.browser()
+			defer one.http.CloseIdleConnections()
+			return one.logIn("user0", right)
+		})
 		open := len(must(os.ReadDir(fmt.Sprintf("/proc/%d/fd", w.service.Process.Pid)))) // with those of the store and the log
 		wait()
 		if got.of[303] != 20 || got.slowest > 3*time.Second || open > it.most+40 || closed != 1100 {
