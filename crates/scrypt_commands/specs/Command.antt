@@ -51,17 +51,12 @@ checked_params it key_len =
     then Ok (record { log_n = it.log_n; r = it.r; p = it.p; output_len = key_len })
     else Err InvalidParams
 
--- whether a key of that length can be derived; a hash has an allowed length of its own
-abbrev pub has_allowed_len : Target → Bool
-has_allowed_len (Key len is_raw) = is_output_len len
-has_allowed_len (Hash format) = true
-
 -- what is to be made, of a salt that was read
 unfoldable pub making_of : Target → UncheckedParams → Option ℕ → Result (List ℕ) CliError → Result Making CliError
 making_of target unchecked key_len salt = do
   salt ← salt
   params ← checked_params unchecked key_len
-  if has_allowed_len target then Ok (record { target = target; params = params; salt = salt }) else Err InvalidOutputLen
+  Ok (record { target = target; params = params; salt = salt })
 
 -- the text of a hash, if it is one of its format
 abbrev pub hash_of : List ℕ → Result (List ℕ) CliError
@@ -139,7 +134,8 @@ key_words is_raw words = do
   (len, words) ← len_word words
   (salt, words) ← salt_word None words
   _ ← end_of words
-  making_of (Key len is_raw) params None salt
+  making ← making_of (Key len is_raw) params None salt
+  if is_output_len len then Ok making else Err InvalidOutputLen
 
 -- after `hash`: phc|mcf LOG_N R P SALT_HEX [LEN], or phc|mcf SALT_HEX for the recommended parameters
 unfoldable pub hash_words : Bool → Option (List ℕ) → List (List ℕ) → Result Making CliError

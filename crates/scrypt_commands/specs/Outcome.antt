@@ -8,7 +8,7 @@ use Rattle.password_hash.specs.Crypt64.{crypt64_of}
 use Rattle.password_hash.specs.Parts.{dollar}
 use Rattle.password_hash.specs.Phc.{hash_text}
 use Rattle.password_hash.specs.Refusal.{Refusal}
-use Rattle.scrypt.specs.Accepted.{Parameters, is_output_len}
+use Rattle.scrypt.specs.Accepted.{Parameters}
 use Rattle.scrypt.specs.Hashing.{key_len_or_default}
 use Rattle.scrypt.specs.KeyOfParams.{key_by}
 use Rattle.scrypt.specs.McfParams.{params_text}
@@ -28,7 +28,7 @@ use Rattle.scrypt_commands.specs.declared.command.Format.TheVariants.{Phc, Mcf}
 use Rattle.scrypt_commands.specs.declared.command.Target.{Target}
 use Rattle.scrypt_commands.specs.declared.command.Target.TheVariants.{Key, Hash}
 use Rattle.scrypt_commands.specs.declared.error.CliError.{CliError}
-use Rattle.scrypt_commands.specs.declared.error.CliError.TheVariants.{InvalidOutputLen, SaltInvalid}
+use Rattle.scrypt_commands.specs.declared.error.CliError.TheVariants.{SaltInvalid}
 
 -- an answer: the exit status, and the line for the output
 pub record Reply : Type 0 where
@@ -77,7 +77,7 @@ key_line is_raw key = if is_raw then key else encode_lower key ++ codes "\n"
 
 -- the line of what is made of a password and a salt: a derived key, or a hash
 abbrev pub new_line : Target → Parameters → List ℕ → List ℕ → Result (List ℕ) CliError
-new_line (Key len is_raw) c password salt = if is_output_len len then Ok (key_line is_raw (key_by c password salt len)) else Err InvalidOutputLen
+new_line (Key len is_raw) c password salt = Ok (key_line is_raw (key_by c password salt len))
 new_line (Hash format) c password salt = do
   text ← new_hash format c password salt
   Ok (text ++ codes "\n")

@@ -4,8 +4,6 @@ use Rattle.std.specs.Bool.{then_some}
 use Rattle.std.specs.Borrow.{Bor}
 use Rattle.std.specs.Global.{Global}
 use Rattle.std.specs.Io.KnownBytes.{Appends}
-use Rattle.scrypt.specs.declared.errors.DeriveError.{DeriveError}
-use Rattle.scrypt.specs.declared.errors.DeriveError.TheVariants.{InvalidOutputLen as DerivedBadLength, OutOfMemory as DerivedOutOfMemory}
 use Rattle.hex.specs.Hex.{decode_of}
 use Rattle.password_hash.specs.Refusal.{Refusal}
 use Rattle.scrypt_kernel.specs.Count.{AreCounted}
@@ -27,7 +25,7 @@ use Rattle.scrypt_commands.specs.declared.command.Command.{Command}
 use Rattle.scrypt_commands.specs.declared.command.Command.TheVariants.{Make, Verify}
 use Rattle.scrypt_commands.specs.declared.command.Making.{Making as MakingOf}
 use Rattle.scrypt_commands.specs.declared.error.CliError.{CliError}
-use Rattle.scrypt_commands.specs.declared.error.CliError.TheVariants.{InvalidOutputLen, OutOfMemory}
+use Rattle.scrypt_commands.specs.declared.error.CliError.TheVariants.{OutOfMemory}
 
 -- the salt of a command: its hexadecimal digits, or bytes that were drawn
 abbrev pub salt_of : Salt → Result (List ℕ) CliError
@@ -37,11 +35,6 @@ salt_of (Drawn salt) = Ok salt
 -- what is read of the first words, and the words after them
 abbrev pub before_words : {A B : Type 0} → (A → B) → A × Bor (List (String Global)) → B × List (List ℕ)
 before_words view (read, words) = (view read, texts_of words.now)
-
--- the error of a derivation that fails
-abbrev pub derive_error : DeriveError → CliError
-derive_error DerivedBadLength = InvalidOutputLen
-derive_error DerivedOutOfMemory = OutOfMemory
 
 -- an allocation failed, or this holds of an error with status 2
 abbrev pub FailsWith : (CliError → Type 0) → CliError → Type 0

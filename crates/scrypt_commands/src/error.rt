@@ -5,12 +5,11 @@ ghost use Rattle.std.specs.Io.KnownBytes.{Appends};
 ghost use Rattle.password_hash.specs.Refusal.{refusal};
 ghost use Rattle.scrypt.specs.WithinLimits.{limited_refusal};
 ghost use Rattle.scrypt_commands.specs.CliError.{error_line, error_of, fixed_line, limited_error_of, status_of};
-ghost use Rattle.scrypt_commands.specs.Steps.{derive_error};
 ghost use Rattle.scrypt_commands.specs.declared.error.CliError.TheVariants.{InvalidParams as BadParams, KeyTooShort, OutOfMemory, TooCostly};
 
 use crate::usage::USAGE;
 use password_hash::Error;
-use scrypt::{DeriveError, InvalidParams, LimitedError, Limits};
+use scrypt::{InvalidParams, LimitedError, Limits};
 use std::alloc::AllocError;
 use std::io;
 use std::io::Write;
@@ -220,17 +219,6 @@ impl From<AllocError> for CliError {
 
     fn from(_error: AllocError) -> CliError {
         CliError::OutOfMemory
-    }
-}
-
-impl From<DeriveError> for CliError {
-    ghost from_gives = { λ failed error. error ≡ derive_error failed };
-
-    fn from(failed: DeriveError) -> CliError {
-        match failed {
-            DeriveError::InvalidOutputLen => CliError::InvalidOutputLen,
-            DeriveError::OutOfMemory => CliError::OutOfMemory,
-        }
     }
 }
 
