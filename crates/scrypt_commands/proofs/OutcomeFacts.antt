@@ -1,29 +1,29 @@
 -- Making hashes, carrying out a command, and the outcome of a run.
-use Rattle.std.proofs.Common.{◌≡◌, ◌⊎◌, ℕ, true, List, [], Option, Some, None, Ok, Err, inl, inr, length, false}
+use Rattle.std.proofs.Common.{◌≡◌, ◌⊎◌, ℕ, true, List, [], Option, Some, None, Ok, Err, inl, inr, length}
 use Rattle.std.proofs.Common.{◌∙◌, refl, sym, append-nil, arith}
-use Rattle.std.specs.Prelude.{IfSome, IsErrOf, Result, ⊤}
+use Rattle.std.specs.Prelude.{IfSome, Result}
 use Rattle.std.specs.Bool.{Decides}
 use Rattle.std.specs.Io.KnownBytes.{Appends, Keeps}
 use Rattle.password_hash.specs.Phc.{hash_text}
-use Rattle.password_hash.specs.Refusal.{Refusal, OutOfMemory as Refused}
+use Rattle.password_hash.specs.Refusal.{Refusal, refusal, OutOfMemory as Refused}
+use Rattle.password_hash.specs.Refusal as refusals
+use Rattle.password_hash.specs.declared.error.Error.{Error}
+use Rattle.password_hash.specs.declared.error.Error.TheVariants.{OutOfMemory as NoMemory, SaltInvalid}
 use Rattle.password_hash.specs.declared.phc.hash.PasswordHash.{PasswordHash}
 use Rattle.scrypt.specs.Accepted.{Parameters}
 use Rattle.scrypt.specs.Hashing.{by_algorithm, by_memory, by_salt, by_version}
-use Rattle.scrypt.specs.Reading.{IsVerdict, Stored, verdict}
-use Rattle.scrypt.specs.declared.limits.Limits.{Limits}
 use Rattle.scrypt.specs.PhcHash.{HashIsRefused, IsMadeHash, IsSaltLen}
-use Rattle.scrypt_kernel.specs.declared.cores.count.CoreCount.{CoreCount}
 use Rattle.std.proofs.lemmas.Bool.{false_from_ne_true}
 use Rattle.std.proofs.lemmas.Bool.Decides.{nat_tests}
-use Rattle.scrypt_commands.specs.CliError.{error_line, error_of, limited_error_of, status_of}
+use Rattle.scrypt_commands.specs.CliError.{ErrorLine, error_line, hash_error, status_of}
 use Rattle.scrypt_commands.specs.Command.{request_of}
 use Rattle.scrypt_commands.specs.Invocation.{CommandLine}
-use Rattle.scrypt_commands.specs.Outcome.{Reply, is_salt_len, new_hash, outcome, phc_text, reply_by, right_of}
+use Rattle.scrypt_commands.specs.Outcome.{Reply, is_salt_len, new_hash, outcome, phc_text, reply_by}
 use Rattle.scrypt_commands.specs.Run.{HasOutcome, OnInput, Streams}
-use Rattle.scrypt_commands.specs.Steps.{AppendsReply, AreOfHash, FailsWith}
+use Rattle.scrypt_commands.specs.Steps.{AppendsReply, FailsWith}
 use Rattle.scrypt_commands.specs.declared.command.Format.TheVariants.{Phc}
 use Rattle.scrypt_commands.specs.declared.error.CliError.{CliError}
-use Rattle.scrypt_commands.specs.declared.error.CliError.TheVariants.{InputFailed, OutOfMemory, OutputFailed, SaltInvalid}
+use Rattle.scrypt_commands.specs.declared.error.CliError.TheVariants.{InputFailed, OutOfMemory, OutputFailed}
 use Rattle.scrypt_commands.specs.declared.run.Ended.{Ended}
 
 salt_len_decided : (n : ℕ) → Decides (is_salt_len n) (IsSaltLen n)
@@ -38,33 +38,22 @@ phc_made c password salt text hash made is =
     rw (is, (salt_len_decided (length salt)).1 made.salt_len, made.algorithm, made.version, made.params, made.salt_is, made.key_is) refl
 
 -- the error of one that was not made
-pub phc_refused : (c : Parameters) (password salt : List ℕ) (error : CliError) (why : Refusal)
-    → HashIsRefused salt None None why → error_of why ≡ Some error → FailsWith (λ error. new_hash Phc c password salt ≡ Err error) error
-phc_refused c password salt error why (by_algorithm h) is = absurd (h tt)
-phc_refused c password salt error why (by_version h i) is = absurd cc
-phc_refused c password salt error why (by_memory h i j) is = inl cc
-phc_refused c password salt error why (by_salt h i none) is =
-    let same : SaltInvalid ≡ error = cc in
-    rw (← same) (inr (refl, rw (false_from_ne_true _ (λ fits. none ((salt_len_decided (length salt)).0 fits))) refl))
-
--- a password is wrong if verifying reports a refusal that has no error
-pub wrong_password : (limits : Option Limits) (password : List ℕ) (stored : Result Stored Refusal) (why : Refusal)
-    → IsVerdict password stored (Err why) → limited_error_of limits why ≡ None → right_of limits (verdict password stored) ≡ Ok false
-wrong_password limits password stored why (inl is) none = rw (← is, none) refl
-wrong_password None password stored why (inr (_, failed)) none = absurd cc
-wrong_password (Some limits) password stored why (inr (_, failed)) none = absurd cc
-
--- the cores of verifying, by the error that is reported for its refusal, if there is one
-pub reported_cores : (limits : Option Limits) (why : Refusal) (stored : Result Stored Refusal) (failed : Type 0) (before after : CoreCount)
-    → (limited_error_of limits why ≡ Some OutOfMemory → failed) → AreOfHash stored (IsErrOf {T = ⊤} (Err why) Refused) before after
-    → AreOfHash stored failed before after
-reported_cores limits why (Err unread) failed before after reported cores = cores
-reported_cores limits why (Ok s) failed before after reported cores = λ no. cores (λ is.
-    let same : why ≡ Refused = cc in no (reported (rw same (reports limits))))
+pub phc_refused : (c : Parameters) (password salt : List ℕ) (why : Error) (refused : Refusal) → refusal why ≡ refused
+    → HashIsRefused salt None None refused → FailsWith (λ error. new_hash Phc c password salt ≡ Err (error_line error)) (hash_error why)
+phc_refused c password salt why refused is (by_algorithm h) = absurd (h tt)
+phc_refused c password salt why refused is (by_version h i) = absurd cc
+phc_refused c password salt why refused is (by_memory h i j) = inl (reported why is)
   where
-    reports : (limits : Option Limits) → limited_error_of limits Refused ≡ Some OutOfMemory
-    reports None = refl
-    reports (Some limits) = refl
+    reported : (why : Error) → refusal why ≡ Refused → hash_error why ≡ OutOfMemory
+    reported NoMemory is = refl
+    reported others is = absurd cc
+phc_refused c password salt why refused is (by_salt h i none) =
+    let long = false_from_ne_true _ (λ fits. none ((salt_len_decided (length salt)).0 fits)) in
+    let same : why ≡ SaltInvalid = reported why is in rw same (inr (refl, rw long refl))
+  where
+    reported : (why : Error) → refusal why ≡ refusals.SaltInvalid → why ≡ SaltInvalid
+    reported SaltInvalid is = refl
+    reported others is = absurd cc
 
 -- what holds of every input holds of that of a reader
 pub on_any_input : (known : Option (List ℕ)) (P : List ℕ → Type 0) → ((input : List ℕ) → P input) → OnInput known P
@@ -83,15 +72,15 @@ appends_nothing (Some xs) (Some ys) h = rw h (sym (append-nil xs))
 
 -- words that are refused are refused on each input
 pub refused_args : (line : CommandLine) (known : Option (List ℕ)) (error : CliError)
-    → FailsWith (λ error. request_of line ≡ Err error) error → status_of error ≡ 2
-    → OnInput known (λ input. reply_by line input ≡ Err error)
+    → FailsWith (λ error. request_of line ≡ Err (error_line error)) error → status_of error ≡ 2
+    → OnInput known (λ input. reply_by line input ≡ Err (error_line error))
 refused_args line known error (inl h) two = let wrong : ◌≡◌ {A = ℕ} 3 2 = rw h at two in absurd cc
 refused_args line known error (inr (two, is)) _ = on_any_input known _ (λ input. rw is refl)
 
 -- a command that is refused is refused on the input that was read
-pub refused_input : (reply_on : List ℕ → Result Reply CliError) (known : Option (List ℕ)) (input : List ℕ) (error : CliError)
-    → IfSome known (λ bytes. input ≡ bytes) → FailsWith (λ error. reply_on input ≡ Err error) error → status_of error ≡ 2
-    → OnInput known (λ input. reply_on input ≡ Err error)
+pub refused_input : (reply_on : List ℕ → Result Reply ErrorLine) (known : Option (List ℕ)) (input : List ℕ) (error : CliError)
+    → IfSome known (λ bytes. input ≡ bytes) → FailsWith (λ error. reply_on input ≡ Err (error_line error)) error → status_of error ≡ 2
+    → OnInput known (λ input. reply_on input ≡ Err (error_line error))
 refused_input reply_on known input error same (inl h) two = let wrong : ◌≡◌ {A = ℕ} 3 2 = rw h at two in absurd cc
 refused_input reply_on known input error same (inr (two, is)) _ = (input, same, is)
 
@@ -102,10 +91,10 @@ status_cases OutputFailed = inr (inl refl)
 status_cases refused = inr (inr refl)
 
 -- the outcome of a run that ends without a line
-pub end_outcome : (reply_on : List ℕ → Result Reply CliError) (known old new faults faults' : Option (List ℕ)) (ended : Ended) (error : CliError)
+pub end_outcome : (reply_on : List ℕ → Result Reply ErrorLine) (known old new faults faults' : Option (List ℕ)) (ended : Ended) (error : CliError)
     → ended.status ≡ status_of error → (error ≡ OutputFailed) ⊎ Keeps old new
     → (ended.fault_told ≡ true → Appends faults faults' (error_line error))
-    → (status_of error ≡ 2 → OnInput known (λ input. reply_on input ≡ Err error))
+    → (status_of error ≡ 2 → OnInput known (λ input. reply_on input ≡ Err (error_line error)))
     → (ended.status ≡ 3) ⊎ (ended.status ≡ 4) ⊎ OnInput known (λ input. HasOutcome ended
     (record { input = known; output = old; faults = faults }) (record { input = known; output = new; faults = faults' }) (outcome (reply_on input)))
 end_outcome reply_on known old new faults faults' ended error is kept written refused = elim (status_cases error) [
@@ -114,11 +103,11 @@ end_outcome reply_on known old new faults faults' ended error is kept written re
   | inr (inr two) ↦ inr (inr (of_two two kept (refused two)))
 ]
   where
-    of_two : status_of error ≡ 2 → (error ≡ OutputFailed) ⊎ Keeps old new → OnInput known (λ input. reply_on input ≡ Err error)
+    of_two : status_of error ≡ 2 → (error ≡ OutputFailed) ⊎ Keeps old new → OnInput known (λ input. reply_on input ≡ Err (error_line error))
         → OnInput known (λ input. HasOutcome ended (record { input = known; output = old; faults = faults })
         (record { input = known; output = new; faults = faults' }) (outcome (reply_on input)))
     of_two two (inl failed) h = let wrong : ◌≡◌ {A = ℕ} 4 2 = rw failed at two in absurd cc
-    of_two two (inr kept) (input, same, has) = (input, same, rw has (is, appends_nothing old new kept, written))
+    of_two two (inr kept) (input, same, has) = (input, same, rw has (is ∙ two, appends_nothing old new kept, written))
 
 -- known bytes keep themselves
 pub kept : (known : Option (List ℕ)) → Keeps known known
@@ -126,7 +115,7 @@ kept None = tt
 kept (Some xs) = refl
 
 -- the outcome of a run that has written its line
-pub answered_outcome : (reply_on : List ℕ → Result Reply CliError) (before after : Streams) (status : ℕ) (ended : Ended)
+pub answered_outcome : (reply_on : List ℕ → Result Reply ErrorLine) (before after : Streams) (status : ℕ) (ended : Ended)
     → ended.status ≡ status → Keeps before.faults after.faults → AppendsReply reply_on before.input before.output after.output status
     → OnInput before.input (λ input. HasOutcome ended before after (outcome (reply_on input)))
 answered_outcome reply_on before after status ended is same_faults (input, same, (line, has, appends)) =

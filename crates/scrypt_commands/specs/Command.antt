@@ -3,9 +3,11 @@
 use Rattle.std.specs.Prelude.{ℕ, ◌^◌, ◌&&◌, Bool, false, true, bytes_eq, nat_le, if◌then◌else◌, codes, ⊤}
 use Rattle.std.specs.Prelude.{List, [], ◌∷◌, Option, None, Some, is_some, ok_or, Result, Ok, Err}
 use Rattle.hex.specs.Hex.{decode_of}
+use Rattle.password_hash.specs.declared.error.Error.TheVariants.{EncodingInvalid}
 use Rattle.password_hash.specs.Decimal.{decimal_below}
 use Rattle.scrypt.specs.Accepted.{Parameters, are_accepted, is_output_len}
 use Rattle.scrypt.specs.StoredHash.{is_stored_text}
+use Rattle.scrypt_commands.specs.CliError.{ErrorLine, error_line, hash_error, refuse}
 use Rattle.scrypt_commands.specs.Invocation.{CommandLine}
 use Rattle.scrypt_commands.specs.declared.command.Format.{Format}
 use Rattle.scrypt_commands.specs.declared.command.Format.TheVariants.{Phc, Mcf}
@@ -14,8 +16,7 @@ use Rattle.scrypt_commands.specs.declared.command_line.Name.TheVariants as names
 use Rattle.scrypt_commands.specs.declared.command.Target.{Target}
 use Rattle.scrypt_commands.specs.declared.command.Target.TheVariants.{Key, Hash}
 use Rattle.scrypt_commands.specs.declared.command.UncheckedParams.{UncheckedParams}
-use Rattle.scrypt_commands.specs.declared.error.CliError.{CliError}
-use Rattle.scrypt_commands.specs.declared.error.CliError.TheVariants.{EncodingInvalid, InvalidOutputLen, InvalidParams, SaltNotHex, Usage}
+use Rattle.scrypt_commands.specs.declared.error.CliError.TheVariants.{InvalidOutputLen, InvalidParams, SaltNotHex, Usage}
 
 -- what is to be made of a password
 pub record Making : Type 0 where
@@ -30,14 +31,14 @@ pub data Request : Type 0 where
 
 -- the second step, if the first gave a value
 infixl 10 ◌>>=◌
-abbrev pub ◌>>=◌ : {A B : Type 0} → Result A CliError → (A → Result B CliError) → Result B CliError
+abbrev pub ◌>>=◌ : {A B : Type 0} → Result A ErrorLine → (A → Result B ErrorLine) → Result B ErrorLine
 Ok x >>= f = f x
-Err error >>= f = Err error
+Err line >>= f = Err line
 
 -- the salt of hexadecimal digits, if they are
-abbrev pub decoded_salt : {E : Type 0} → Result (List ℕ) E → Result (List ℕ) CliError
+abbrev pub decoded_salt : {E : Type 0} → Result (List ℕ) E → Result (List ℕ) ErrorLine
 decoded_salt (Ok salt) = Ok salt
-decoded_salt (Err why) = Err SaltNotHex
+decoded_salt (Err why) = refuse SaltNotHex
 
 -- whether a stored key can have this length: 10 to 64 bytes
 unfoldable pub is_stored_len : Option ℕ → Bool
@@ -45,43 +46,43 @@ is_stored_len None = true
 is_stored_len (Some len) = nat_le 10 len && nat_le len 64
 
 -- the parameters, with the length that is named for the key of a hash, if they are accepted
-unfoldable pub checked_params : UncheckedParams → Option ℕ → Result Parameters CliError
+unfoldable pub checked_params : UncheckedParams → Option ℕ → Option Parameters
 checked_params it key_len =
     if are_accepted it.log_n it.r it.p && is_stored_len key_len
-    then Ok (record { log_n = it.log_n; r = it.r; p = it.p; output_len = key_len })
-    else Err InvalidParams
+    then Some (record { log_n = it.log_n; r = it.r; p = it.p; output_len = key_len })
+    else None
 
 -- what is to be made, of a salt that was read
-unfoldable pub making_of : Target → UncheckedParams → Option ℕ → Result (List ℕ) CliError → Result Making CliError
+unfoldable pub making_of : Target → UncheckedParams → Option ℕ → Result (List ℕ) ErrorLine → Result Making ErrorLine
 making_of target unchecked key_len salt = do
   salt ← salt
-  params ← checked_params unchecked key_len
+  params ← ok_or (checked_params unchecked key_len) (error_line InvalidParams)
   Ok (record { target = target; params = params; salt = salt })
 
 -- the text of a hash, if it is one of its format
-abbrev pub hash_of : List ℕ → Result (List ℕ) CliError
-hash_of text = if is_stored_text text then Ok text else Err EncodingInvalid
+abbrev pub hash_of : List ℕ → Result (List ℕ) ErrorLine
+hash_of text = if is_stored_text text then Ok text else refuse (hash_error EncodingInvalid)
 
 -- the first word, and the words after it
-abbrev pub first_word : List (List ℕ) → Result (List ℕ × List (List ℕ)) CliError
-first_word [] = Err Usage
+abbrev pub first_word : List (List ℕ) → Result (List ℕ × List (List ℕ)) ErrorLine
+first_word [] = refuse Usage
 first_word (word ∷ words) = Ok (word, words)
 
 -- there are no words after the last one
-abbrev pub end_of : List (List ℕ) → Result ⊤ CliError
+abbrev pub end_of : List (List ℕ) → Result ⊤ ErrorLine
 end_of [] = Ok tt
-end_of words = Err Usage
+end_of words = refuse Usage
 
 -- a decimal below its bound
-abbrev pub number_of : ℕ → List ℕ → Result ℕ CliError
-number_of bound word = ok_or (decimal_below bound word) Usage
+abbrev pub number_of : ℕ → List ℕ → Result ℕ ErrorLine
+number_of bound word = ok_or (decimal_below bound word) (error_line Usage)
 
 -- the recommended parameters
 abbrev pub recommended : UncheckedParams
 recommended = record { log_n = 17; r = 8; p = 1 }
 
 -- LOG_N R P, and the words after them; the recommended parameters have no words
-unfoldable pub params_words : Bool → List (List ℕ) → Result (UncheckedParams × List (List ℕ)) CliError
+unfoldable pub params_words : Bool → List (List ℕ) → Result (UncheckedParams × List (List ℕ)) ErrorLine
 params_words true words = Ok (recommended, words)
 params_words false words = do
   (log_n, words) ← first_word words
@@ -93,14 +94,14 @@ params_words false words = do
   Ok (record { log_n = log_n; r = r; p = p }, words)
 
 -- LEN, and the words after it
-unfoldable pub len_word : List (List ℕ) → Result (ℕ × List (List ℕ)) CliError
+unfoldable pub len_word : List (List ℕ) → Result (ℕ × List (List ℕ)) ErrorLine
 len_word words = do
   (len, words) ← first_word words
   len ← number_of (2 ^ 64) len
   Ok (len, words)
 
 -- [LEN], and no words after it
-unfoldable pub optional_len : List (List ℕ) → Result (Option ℕ) CliError
+unfoldable pub optional_len : List (List ℕ) → Result (Option ℕ) ErrorLine
 optional_len [] = Ok None
 optional_len words = do
   (len, words) ← len_word words
@@ -108,47 +109,47 @@ optional_len words = do
   Ok (Some len)
 
 -- SALT_HEX, and the words after it; a salt that was drawn has no word
-unfoldable pub salt_word : Option (List ℕ) → List (List ℕ) → Result (Result (List ℕ) CliError × List (List ℕ)) CliError
+unfoldable pub salt_word : Option (List ℕ) → List (List ℕ) → Result (Result (List ℕ) ErrorLine × List (List ℕ)) ErrorLine
 salt_word (Some drawn) words = Ok (Ok drawn, words)
 salt_word None words = do
   (digits, words) ← first_word words
   Ok (decoded_salt (decode_of digits), words)
 
 -- HASH, and the words after it; the text of a file has no word
-abbrev pub hash_word : Option (List ℕ) → List (List ℕ) → Result (List ℕ × List (List ℕ)) CliError
+abbrev pub hash_word : Option (List ℕ) → List (List ℕ) → Result (List ℕ × List (List ℕ)) ErrorLine
 hash_word (Some text) words = Ok (text, words)
 hash_word None words = first_word words
 
 -- phc|mcf, and the words after it
-unfoldable pub format_word : List (List ℕ) → Result (Format × List (List ℕ)) CliError
+unfoldable pub format_word : List (List ℕ) → Result (Format × List (List ℕ)) ErrorLine
 format_word words = do
   (name, words) ← first_word words
   if bytes_eq name (codes "phc") then Ok (Phc, words)
       else if bytes_eq name (codes "mcf") then Ok (Mcf, words)
-      else Err Usage
+      else refuse Usage
 
 -- after `key`: LOG_N R P LEN SALT_HEX
-unfoldable pub key_words : Bool → List (List ℕ) → Result Making CliError
+unfoldable pub key_words : Bool → List (List ℕ) → Result Making ErrorLine
 key_words is_raw words = do
   (params, words) ← params_words false words
   (len, words) ← len_word words
   (salt, words) ← salt_word None words
   _ ← end_of words
   making ← making_of (Key len is_raw) params None salt
-  if is_output_len len then Ok making else Err InvalidOutputLen
+  if is_output_len len then Ok making else refuse InvalidOutputLen
 
 -- after `hash`: phc|mcf LOG_N R P SALT_HEX [LEN], or phc|mcf SALT_HEX for the recommended parameters
-unfoldable pub hash_words : Bool → Option (List ℕ) → List (List ℕ) → Result Making CliError
+unfoldable pub hash_words : Bool → Option (List ℕ) → List (List ℕ) → Result Making ErrorLine
 hash_words is_recommended drawn words = do
   (format, words) ← format_word words
   (params, words) ← params_words is_recommended words
   (salt, words) ← salt_word drawn words
   len ← optional_len words
-  if is_recommended && is_some len then Err Usage
+  if is_recommended && is_some len then refuse Usage
       else making_of (Hash format) params len salt
 
 -- after `verify`: HASH
-unfoldable pub verify_words : Option (List ℕ) → List (List ℕ) → Result Request CliError
+unfoldable pub verify_words : Option (List ℕ) → List (List ℕ) → Result Request ErrorLine
 verify_words file words = do
   (text, words) ← hash_word file words
   _ ← end_of words
@@ -156,7 +157,7 @@ verify_words file words = do
   Ok (ToVerify text None)
 
 -- after `rehash`: phc|mcf LOG_N R P LEN SALT_HEX HASH
-unfoldable pub rehash_words : Option (List ℕ) → Option (List ℕ) → List (List ℕ) → Result Request CliError
+unfoldable pub rehash_words : Option (List ℕ) → Option (List ℕ) → List (List ℕ) → Result Request ErrorLine
 rehash_words drawn file words = do
   (format, words) ← format_word words
   (params, words) ← params_words false words
@@ -169,17 +170,17 @@ rehash_words drawn file words = do
   Ok (ToVerify text (Some wanted))
 
 -- to make this
-abbrev pub to_make : Result Making CliError → Result Request CliError
+abbrev pub to_make : Result Making ErrorLine → Result Request ErrorLine
 to_make making = making >>= λ making. Ok (ToMake making)
 
 -- What the words of a command ask for. No words stand for the recommended parameters of `hash`, for a salt that was drawn, and for a
 -- hash that is the text of a file.
-abbrev pub requested_by : CommandLine → Name → Result Request CliError
+abbrev pub requested_by : CommandLine → Name → Result Request ErrorLine
 requested_by line names.Key = to_make (key_words line.options.is_raw line.words)
 requested_by line names.Hash = to_make (hash_words line.options.is_recommended line.salt line.words)
 requested_by line names.Verify = verify_words line.file_text line.words
 requested_by line names.Rehash = rehash_words line.salt line.file_text line.words
 
 -- what a command asks for
-abbrev pub request_of : CommandLine → Result Request CliError
+abbrev pub request_of : CommandLine → Result Request ErrorLine
 request_of line = requested_by line line.name

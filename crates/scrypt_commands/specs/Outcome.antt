@@ -1,13 +1,13 @@
 -- The outcome of a command line: what the program prints for its arguments and its input.
 use Rattle.std.specs.Prelude.{ℕ, ◌&&◌, Bool, false, true, nat_le, if◌then◌else◌, List, [], ◌∷◌, ◌++◌, length, codes}
-use Rattle.std.specs.Prelude.{Option, None, Some, option_map, Result, Ok, Err, ⊤}
-use Rattle.std.specs.Option.{option_map_or}
+use Rattle.std.specs.Prelude.{Option, None, Some, option_map, unwrap_or, Result, Ok, Err, ⊤}
 use Rattle.std.specs.Result.{result_unwrap_or}
 use Rattle.hex.specs.Hex.{encode_lower}
 use Rattle.password_hash.specs.Crypt64.{crypt64_of}
 use Rattle.password_hash.specs.Parts.{dollar}
 use Rattle.password_hash.specs.Phc.{hash_text}
-use Rattle.password_hash.specs.Refusal.{Refusal}
+use Rattle.password_hash.specs.Refusal.{PasswordInvalid, Refusal}
+use Rattle.password_hash.specs.declared.error.Error.TheVariants.{SaltInvalid}
 use Rattle.scrypt.specs.Accepted.{Parameters}
 use Rattle.scrypt.specs.Hashing.{key_len_or_default}
 use Rattle.scrypt.specs.KeyOfParams.{key_by}
@@ -15,20 +15,20 @@ use Rattle.scrypt.specs.McfParams.{params_text}
 use Rattle.scrypt.specs.PhcParams.{written_pairs}
 use Rattle.scrypt.specs.Reading.{Stored, verdict, weaker}
 use Rattle.scrypt.specs.declared.limits.Limits.{Limits}
+use Rattle.scrypt.specs.declared.limits.TheConstants.Limits.{USUAL}
 use Rattle.scrypt.specs.StoredHash.{reading}
 use Rattle.scrypt.specs.WithinLimits.{within}
 use Rattle.scrypt_commands.specs.Bounds.{limits_of}
 use Rattle.scrypt_commands.specs.Invocation.{CommandLine}
 use Rattle.scrypt_commands.specs.Options.{password_of}
 use Rattle.scrypt_commands.specs.Command.{◌>>=◌, Making, Request, ToMake, ToVerify, request_of}
-use Rattle.scrypt_commands.specs.CliError.{error_line, limited_error_of, status_of}
+use Rattle.scrypt_commands.specs.CliError.{ErrorLine, error_line, hash_error, limited_line, refuse, status_of}
 use Rattle.scrypt_commands.specs.declared.bounds.Bounds.{Bounds}
 use Rattle.scrypt_commands.specs.declared.command.Format.{Format}
 use Rattle.scrypt_commands.specs.declared.command.Format.TheVariants.{Phc, Mcf}
 use Rattle.scrypt_commands.specs.declared.command.Target.{Target}
 use Rattle.scrypt_commands.specs.declared.command.Target.TheVariants.{Key, Hash}
 use Rattle.scrypt_commands.specs.declared.error.CliError.{CliError}
-use Rattle.scrypt_commands.specs.declared.error.CliError.TheVariants.{SaltInvalid}
 
 -- an answer: the exit status, and the line for the output
 pub record Reply : Type 0 where
@@ -41,10 +41,14 @@ pub record Outcome : Type 0 where
   pub line : List ℕ
   pub error : List ℕ
 
--- the outcome of an answer or an error
-abbrev pub outcome : Result Reply CliError → Outcome
+-- the outcome of an answer or an error line
+abbrev pub outcome : Result Reply ErrorLine → Outcome
 outcome (Ok reply) = record { status = reply.status; line = reply.line; error = [] }
-outcome (Err error) = record { status = status_of error; line = []; error = error_line error }
+outcome (Err line) = record { status = 2; line = []; error = line }
+
+-- the outcome of an error
+abbrev pub failure : CliError → Outcome
+failure error = record { status = status_of error; line = []; error = error_line error }
 
 -- the text of the PHC hash that parameters make of a password and a salt
 unfoldable pub phc_text : Parameters → List ℕ → List ℕ → List ℕ
@@ -66,9 +70,9 @@ unfoldable pub is_salt_len : ℕ → Bool
 is_salt_len n = nat_le 1 n && nat_le n 64
 
 -- the text of a new hash of this format; a `$7$` hash takes any salt
-abbrev pub new_hash : Format → Parameters → List ℕ → List ℕ → Result (List ℕ) CliError
+abbrev pub new_hash : Format → Parameters → List ℕ → List ℕ → Result (List ℕ) ErrorLine
 new_hash Phc c password salt =
-    if is_salt_len (length salt) then Ok (phc_text c password salt) else Err SaltInvalid
+    if is_salt_len (length salt) then Ok (phc_text c password salt) else refuse (hash_error SaltInvalid)
 new_hash Mcf c password salt = Ok (mcf_text c password salt)
 
 -- the line of a key: its hexadecimal digits, or its bytes and no newline
@@ -76,25 +80,26 @@ abbrev pub key_line : Bool → List ℕ → List ℕ
 key_line is_raw key = if is_raw then key else encode_lower key ++ codes "\n"
 
 -- the line of what is made of a password and a salt: a derived key, or a hash
-abbrev pub new_line : Target → Parameters → List ℕ → List ℕ → Result (List ℕ) CliError
+abbrev pub new_line : Target → Parameters → List ℕ → List ℕ → Result (List ℕ) ErrorLine
 new_line (Key len is_raw) c password salt = Ok (key_line is_raw (key_by c password salt len))
 new_line (Hash format) c password salt = do
   text ← new_hash format c password salt
   Ok (text ++ codes "\n")
 
 -- the answer with what is made
-abbrev pub made_reply : Making → List ℕ → Result Reply CliError
+abbrev pub made_reply : Making → List ℕ → Result Reply ErrorLine
 made_reply making password = do
   line ← new_line making.target making.params password making.salt
   Ok (record { status = 0; line = line })
 
 -- whether a password is right, by the verdict within these limits, if there are any
-abbrev pub right_of : Option Limits → Result ⊤ Refusal → Result Bool CliError
+abbrev pub right_of : Option Limits → Result ⊤ Refusal → Result Bool ErrorLine
 right_of limits (Ok right) = Ok true
-right_of limits (Err why) = option_map_or Err (limited_error_of limits why) (Ok false)
+right_of limits (Err PasswordInvalid) = Ok false
+right_of limits (Err why) = Err (limited_line (unwrap_or limits USUAL) why)
 
 -- the answer to the right password of a hash: what is wanted in its place if it is weaker than that
-abbrev pub right_reply : Option Making → Result Stored Refusal → List ℕ → Result Reply CliError
+abbrev pub right_reply : Option Making → Result Stored Refusal → List ℕ → Result Reply ErrorLine
 right_reply None reading password = Ok (record { status = 0; line = codes "ok\n" })
 right_reply (Some wanted) reading password =
     if result_unwrap_or (weaker wanted.params reading) false then made_reply wanted password else Ok (record { status = 0; line = codes "ok\n" })
@@ -109,14 +114,14 @@ abbrev pub limits_by : Option Bounds → Option Making → Option Limits
 limits_by bounds wanted = option_map (λ b. limits_of b (option_map (λ making. making.params) wanted)) bounds
 
 -- the answer to a request within bounds, if there are any
-abbrev pub reply_to : Option Bounds → Request → List ℕ → Result Reply CliError
+abbrev pub reply_to : Option Bounds → Request → List ℕ → Result Reply ErrorLine
 reply_to bounds (ToMake making) password = made_reply making password
 reply_to bounds (ToVerify text wanted) password = do
   right ← right_of (limits_by bounds wanted) (verdict password (bounded (limits_by bounds wanted) (reading text)))
   if right then right_reply wanted (reading text) password else Ok (record { status = 1; line = codes "no\n" })
 
 -- the answer to a command by its options
-abbrev pub reply_by : CommandLine → List ℕ → Result Reply CliError
+abbrev pub reply_by : CommandLine → List ℕ → Result Reply ErrorLine
 reply_by line input = do
   request ← request_of line
   reply_to line.options.bounds request (password_of line.options.strips_newline input)

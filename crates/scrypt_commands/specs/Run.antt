@@ -1,5 +1,5 @@
 -- How a run goes: what it prints, and what it reads and writes.
-use Rattle.std.specs.Prelude.{◌≡◌, ◌⊎◌, ℕ, Bool, false, true, if◌then◌else◌, List, Option, Result, Ok, Err, IfSome, IsTrue, ⊤}
+use Rattle.std.specs.Prelude.{◌≡◌, ◌⊎◌, ℕ, Bool, false, true, if◌then◌else◌, List, [], Option, Result, Ok, Err, IfSome, IsTrue, ⊤}
 use Rattle.std.specs.Bool.{then_some}
 use Rattle.std.specs.Result.{is_err}
 use Rattle.std.specs.Io.KnownBytes.{Appends, IsAtEnd, Keeps}
@@ -7,7 +7,7 @@ use Rattle.scrypt_commands.specs.CliError.{error_line, status_of}
 use Rattle.scrypt_commands.specs.Command.{request_of}
 use Rattle.scrypt_commands.specs.Invocation.{Command, CommandLine, Invocation, Refuse, Tell, command_by}
 use Rattle.scrypt_commands.specs.Options.{no_options}
-use Rattle.scrypt_commands.specs.Outcome.{Outcome, Reply, outcome, reply_by}
+use Rattle.scrypt_commands.specs.Outcome.{Outcome, failure, outcome, reply_by}
 use Rattle.scrypt_commands.specs.declared.error.CliError.{CliError}
 use Rattle.scrypt_commands.specs.declared.error.CliError.TheVariants.{InputFailed, OutOfMemory, OutputFailed}
 use Rattle.scrypt_commands.specs.declared.run.Ended.{Ended}
@@ -18,8 +18,8 @@ pub record Plan : Type 0 where
   pub is_unread : Bool
 
 -- the plan to print this whatever the input is
-abbrev pub at_once : Result Reply CliError → Plan
-at_once reply = record { outcome_on = λ _. outcome reply; is_unread = true }
+abbrev pub at_once : Outcome → Plan
+at_once outcome = record { outcome_on = λ _. outcome; is_unread = true }
 
 -- the plan of a command by its options: words that are refused are refused before the input is read
 abbrev pub plan_by : CommandLine → Plan
@@ -28,7 +28,7 @@ plan_by line = record { outcome_on = λ input. outcome (reply_by line input); is
 -- the plan of what may be a command
 abbrev pub plan_of_command : Result CommandLine CliError → Plan
 plan_of_command (Ok line) = plan_by line
-plan_of_command (Err error) = at_once (Err error)
+plan_of_command (Err error) = at_once (failure error)
 
 -- the plan of words without options
 abbrev pub plan_of_words : List (List ℕ) → Plan
@@ -36,8 +36,8 @@ plan_of_words words = plan_of_command (command_by no_options words)
 
 -- the plan of what is asked for, with this salt if the options draw one
 abbrev pub plan_of : List ℕ → Option (List ℕ) → Invocation → Plan
-plan_of salt file (Tell text) = at_once (Ok (record { status = 0; line = text }))
-plan_of salt file (Refuse error) = at_once (Err error)
+plan_of salt file (Tell text) = at_once (record { status = 0; line = text; error = [] })
+plan_of salt file (Refuse error) = at_once (failure error)
 plan_of salt file (Command line) = plan_by (record line { salt = then_some line.options.draws_salt salt; file_text = file })
 
 -- what is left of the input, and what was written to the output and to that of errors, where these bytes are known

@@ -12,7 +12,7 @@ use Rattle.scrypt.specs.Cost.{cost}
 use Rattle.scrypt.specs.Reading.{Stored}
 use Rattle.scrypt.specs.StoredHash.{reading}
 use Rattle.scrypt_commands.specs.Options.{texts_of}
-use Rattle.scrypt_commands.specs.CliError.{status_of}
+use Rattle.scrypt_commands.specs.CliError.{ErrorLine, error_line, status_of}
 use Rattle.scrypt_commands.specs.Command.{Making, Request, ToMake, ToVerify, decoded_salt}
 use Rattle.scrypt_commands.specs.Outcome.{Reply, bounded, limits_by}
 use Rattle.scrypt_commands.specs.Run.{OnInput}
@@ -28,7 +28,7 @@ use Rattle.scrypt_commands.specs.declared.error.CliError.{CliError}
 use Rattle.scrypt_commands.specs.declared.error.CliError.TheVariants.{OutOfMemory}
 
 -- the salt of a command: its hexadecimal digits, or bytes that were drawn
-abbrev pub salt_of : Salt → Result (List ℕ) CliError
+abbrev pub salt_of : Salt → Result (List ℕ) ErrorLine
 salt_of (Digits digits) = decoded_salt (decode_of digits.now)
 salt_of (Drawn salt) = Ok salt
 
@@ -40,10 +40,10 @@ before_words view (read, words) = (view read, texts_of words.now)
 abbrev pub FailsWith : (CliError → Type 0) → CliError → Type 0
 FailsWith Is error = (error ≡ OutOfMemory) ⊎ ((status_of error ≡ 2) × Is error)
 
--- a step gives what is expected, or an allocation failed
-abbrev pub Gives : {A B : Type 0} → (A → B) → Result B CliError → Result A CliError → Type 0
+-- a step gives what is expected, also the line of an error, or an allocation failed
+abbrev pub Gives : {A B : Type 0} → (A → B) → Result B ErrorLine → Result A CliError → Type 0
 Gives view expected (Ok x) = expected ≡ Ok (view x)
-Gives view expected (Err error) = FailsWith (λ error. expected ≡ Err error) error
+Gives view expected (Err error) = FailsWith (λ error. expected ≡ Err (error_line error)) error
 
 -- what is to be made, with the bytes of the salt
 abbrev pub making_view : MakingOf → Making
@@ -65,7 +65,7 @@ abbrev pub IsDrawn : Bool → (List ℕ → Type 0) → Option (List ℕ) → Ty
 IsDrawn is_drawn Is drawn = (salt : List ℕ) × (length salt ≡ 16) × (is_drawn ≡ true → Is salt) × (drawn ≡ then_some is_drawn salt)
 
 -- the line that answers with this status was appended
-abbrev pub AppendsReply : (List ℕ → Result Reply CliError) → Option (List ℕ) → Option (List ℕ) → Option (List ℕ) → ℕ → Type 0
+abbrev pub AppendsReply : (List ℕ → Result Reply ErrorLine) → Option (List ℕ) → Option (List ℕ) → Option (List ℕ) → ℕ → Type 0
 AppendsReply reply_on known old new status =
     OnInput known (λ input. (line : List ℕ) × (reply_on input ≡ Ok (record { status = status; line = line })) × Appends old new line)
 

@@ -14,7 +14,7 @@ ghost use Rattle.scrypt_commands.specs.declared.error.CliError.TheVariants.{OutO
 use crate::bounds::Bounds;
 use crate::command::{Command, Format, Making, Target};
 use crate::error::CliError;
-use password_hash::{PasswordHasher, mcf, phc};
+use password_hash::{Error, PasswordHasher, mcf, phc};
 use scrypt::laws::{hashers_are_accepted, made_hashes_are_accepted, texts_have_one_reading};
 use scrypt::{CoreCount, LimitedError, Limits, Params, Scrypt, StoredHash, scrypt};
 use std::alloc::Global;
@@ -108,10 +108,8 @@ fn verify(
 {
     match verify_within(alloc, hash, password, limits, cores) {
         Ok(()) => Ok(true),
-        Err(refused) => match CliError::of_limited(refused, limits) {
-            Some(error) => Err(error),
-            None => Ok(false),
-        },
+        Err(LimitedError::Hash(Error::PasswordInvalid)) => Ok(false),
+        Err(why) => Err(CliError::of(why, limits.unwrap_or(Limits::USUAL))),
     }
 }
 
@@ -192,22 +190,12 @@ fn make_hash(
     texts_have_one_reading();
     match format {
         Format::Phc => {
-            let made: password_hash::Result<phc::PasswordHash> = hasher.hash_password_with_salt(
-                alloc, password, salt,
-            );
-            match made {
-                Ok(hash) => Ok(hash.to_string(alloc)?),
-                Err(refused) => Err(CliError::of(refused).unwrap()),
-            }
+            let hash: phc::PasswordHash = hasher.hash_password_with_salt(alloc, password, salt)?;
+            Ok(hash.to_string(alloc)?)
         }
         Format::Mcf => {
-            let made: password_hash::Result<mcf::PasswordHash> = hasher.hash_password_with_salt(
-                alloc, password, salt,
-            );
-            match made {
-                Ok(hash) => Ok(hash.into_string()),
-                Err(refused) => Err(CliError::of(refused).unwrap()),
-            }
+            let hash: mcf::PasswordHash = hasher.hash_password_with_salt(alloc, password, salt)?;
+            Ok(hash.into_string())
         }
     }
 }

@@ -326,7 +326,9 @@ fn making_of(
     ensures { Gives making_view (making_of target unchecked key_len (salt_of salt.entry)) result }
 {
     let salt = read_salt(alloc, salt)?;
-    let params = checked_params(unchecked, key_len)?;
+    let Some(params) = checked_params(unchecked, key_len) else {
+        return Err(CliError::InvalidParams);
+    };
     Ok(Making {
         target,
         params,
@@ -334,15 +336,15 @@ fn making_of(
     })
 }
 
-// Returns the parameters, with the length that is named for the key of a hash.
+// Returns the parameters, with the length that is named for the key of a hash, if they are accepted.
 #[tactic(auto, using(crate::proofs::CommandFacts::accepted_decided, crate::proofs::CommandFacts::stored_len_decided), unfolding(crate::specs::Command::checked_params))]
-fn checked_params(unchecked: UncheckedParams, key_len: Option<usize>) -> Result<Params, CliError>
-    ensures { Gives (λ params. params) (checked_params unchecked key_len) result }
+fn checked_params(unchecked: UncheckedParams, key_len: Option<usize>) -> Option<Params>
+    ensures { result ≡ checked_params unchecked key_len }
 {
     let UncheckedParams { log_n, r, p } = unchecked;
     match key_len {
-        Some(len) => Ok(Params::new_with_output_len(log_n, r, p, len)?),
-        None => Ok(Params::new(log_n, r, p)?),
+        Some(len) => Params::new_with_output_len(log_n, r, p, len).ok(),
+        None => Params::new(log_n, r, p).ok(),
     }
 }
 
@@ -350,10 +352,7 @@ fn checked_params(unchecked: UncheckedParams, key_len: Option<usize>) -> Result<
 fn hash_of(text: &str) -> Result<StoredHash<'_>, CliError>
     ensures { Gives (λ hash. hash) (hash_of text.now) result }
 {
-    match StoredHash::read(text) {
-        Ok(hash) => Ok(hash),
-        Err(_) => Err(CliError::EncodingInvalid),
-    }
+    Ok(StoredHash::read(text)?)
 }
 
 // Returns the bytes of the salt. SALT_HEX is an even number of hexadecimal digits of either case.

@@ -4,12 +4,12 @@ ghost use Rattle.std.specs.Prelude.{◌≡◌, OnOk};
 ghost use Rattle.std.specs.Io.KnownBytes.{Appends};
 ghost use Rattle.password_hash.specs.Refusal.{refusal};
 ghost use Rattle.scrypt.specs.WithinLimits.{limited_refusal};
-ghost use Rattle.scrypt_commands.specs.CliError.{error_line, error_of, fixed_line, limited_error_of, status_of};
-ghost use Rattle.scrypt_commands.specs.declared.error.CliError.TheVariants.{InvalidParams as BadParams, KeyTooShort, OutOfMemory, TooCostly};
+ghost use Rattle.scrypt_commands.specs.CliError.{error_line, error_of, fixed_line, hash_error, limited_line, refused_line, status_of};
+ghost use Rattle.scrypt_commands.specs.declared.error.CliError.TheVariants.{OutOfMemory};
 
 use crate::usage::USAGE;
 use password_hash::Error;
-use scrypt::{InvalidParams, LimitedError, Limits};
+use scrypt::{LimitedError, Limits};
 use std::alloc::AllocError;
 use std::io;
 use std::io::Write;
@@ -35,38 +35,10 @@ pub enum CliError {
     InvalidParams,
     /// LEN is 0, or above 32 * (2^32 - 1).
     InvalidOutputLen,
-    /// The algorithm of a hash is not the one of its format.
-    Algorithm,
-    /// The text is not that of a hash.
-    EncodingInvalid,
-    /// The key of a hash has a length that is not allowed.
-    OutputSize,
-    /// The parameter `ln` of a hash is not a decimal of at most 255.
-    LnInvalid,
-    /// The parameter `r` of a hash is not a decimal.
-    RInvalid,
-    /// The parameter `p` of a hash is not a decimal.
-    PInvalid,
-    /// A hash has another parameter, or its parameters are not accepted.
-    ParamsInvalid,
-    /// The salt has a length that is not allowed.
-    SaltInvalid,
-    /// A hash has a version.
-    Version,
-    /// A hash needs more memory or work than the limits allow.
-    TooCostly {
-        /// the bytes that it needs
-        bytes: u128,
-        /// the work that it needs
-        work: u128,
-        /// what is allowed
-        limits: Limits,
-    },
-    /// The key of a hash is shorter than the limits allow.
-    KeyTooShort {
-        /// its length in bytes
-        key_len: usize,
-        /// what is allowed
+    /// The library refuses a hash, or the salt of a new one.
+    Refused {
+        why: LimitedError,
+        /// the limits, if the hash exceeds them
         limits: Limits,
     },
     /// An allocation failed.
@@ -78,41 +50,13 @@ pub enum CliError {
 }
 
 impl CliError {
-    /// Returns the error that reports one of hashing or verifying, or `None` for a wrong password.
-    pub fn of(refused: Error) -> Option<CliError>
-        ensures value { result ≡ error_of (refusal refused) }
+    /// Returns the error that reports one of the library, of a call with these limits.
+    pub fn of(why: LimitedError, limits: Limits) -> CliError
+        ensures value { result ≡ error_of limits why }
     {
-        Some(match refused {
-            Error::Algorithm => CliError::Algorithm,
-            Error::EncodingInvalid => CliError::EncodingInvalid,
-            Error::OutputSize => CliError::OutputSize,
-            Error::ParamInvalid { name: "ln" } => CliError::LnInvalid,
-            Error::ParamInvalid { name: "r" } => CliError::RInvalid,
-            Error::ParamInvalid { .. } => CliError::PInvalid,
-            Error::ParamsInvalid => CliError::ParamsInvalid,
-            Error::SaltInvalid => CliError::SaltInvalid,
-            Error::Version => CliError::Version,
-            Error::OutOfMemory => CliError::OutOfMemory,
-            Error::PasswordInvalid => return None,
-        })
-    }
-
-    /// Returns the error that reports one of verifying within these limits, if there are any, or `None` for
-    /// a wrong password.
-    pub fn of_limited(refused: LimitedError, limits: Option<Limits>) -> Option<CliError>
-        ensures value { result ≡ limited_error_of limits (limited_refusal refused) }
-    {
-        match refused {
-            LimitedError::Hash(error) => CliError::of(error),
-            LimitedError::TooCostly { bytes, work } => Some(CliError::TooCostly {
-                bytes,
-                work,
-                limits: limits?,
-            }),
-            LimitedError::KeyTooShort { key_len } => Some(CliError::KeyTooShort {
-                key_len,
-                limits: limits?,
-            }),
+        match why {
+            LimitedError::Hash(Error::OutOfMemory) => CliError::OutOfMemory,
+            _ => CliError::Refused { why, limits },
         }
     }
 
@@ -132,17 +76,12 @@ impl CliError {
         ensures written { OnOk result (Appends (F.contents faults.old) (F.contents faults.new) (error_line self)) }
     {
         match self {
-            CliError::TooCostly {
-                bytes,
-                work,
-                limits,
-            } => write_too_costly(faults, bytes, work, limits),
-            CliError::KeyTooShort { key_len, limits } => write_too_short(faults, key_len, limits),
+            CliError::Refused { why, limits } => write_refused(faults, why, limits),
             _ => faults.write_all(self.fixed_line()),
         }
     }
 
-    // Returns the error line, with its newline, or no bytes if it has numbers.
+    // Returns the error line, with its newline, or no bytes for a refusal of the library.
     fn fixed_line(self) -> &'static [u8]
         ensures { result.now ≡ fixed_line self }
     {
@@ -166,52 +105,52 @@ impl CliError {
             CliError::SaltNotHex => b"salt is not hexadecimal\n",
             CliError::InvalidParams => b"invalid scrypt parameters\n",
             CliError::InvalidOutputLen => b"invalid output buffer length\n",
-            CliError::Algorithm => b"hash refused: Algorithm\n",
-            CliError::EncodingInvalid => b"hash refused: EncodingInvalid\n",
-            CliError::OutputSize => b"hash refused: OutputSize\n",
-            CliError::LnInvalid => b"hash refused: ParamInvalid ln\n",
-            CliError::RInvalid => b"hash refused: ParamInvalid r\n",
-            CliError::PInvalid => b"hash refused: ParamInvalid p\n",
-            CliError::ParamsInvalid => b"hash refused: ParamsInvalid\n",
-            CliError::SaltInvalid => b"hash refused: SaltInvalid\n",
-            CliError::Version => b"hash refused: Version\n",
             CliError::OutOfMemory => b"out of memory\n",
             CliError::InputFailed => b"input failed\n",
             CliError::OutputFailed => b"output failed\n",
-            CliError::TooCostly { .. } | CliError::KeyTooShort { .. } => b"",
+            CliError::Refused { .. } => b"",
         }
     }
 }
 
-// Writes the line of a hash that exceeds a limit on its cost.
-fn write_too_costly<F: Write>(
-    faults: &mut F,
-    bytes: u128,
-    work: u128,
-    limits: Limits,
-) -> io::Result<()>
-    ensures written { OnOk result (Appends (F.contents faults.old) (F.contents faults.new) (error_line (TooCostly bytes work limits))) }
+// Writes the line of a refusal, with its newline, by one `write_all` if it has no numbers.
+fn write_refused<F: Write>(faults: &mut F, why: LimitedError, limits: Limits) -> io::Result<()>
+    ensures written { OnOk result (Appends (F.contents faults.old) (F.contents faults.new) (limited_line limits (limited_refusal why))) }
 {
     let Limits {
         most_bytes,
         most_work,
-        ..
+        least_key_len,
     } = limits;
-    write!(
-        faults,
-        "hash refused: TooCostly, it needs {bytes} bytes and work {work}, and --most-bytes is {most_bytes} and --most-work {most_work}\n"
-    )
+    match why {
+        LimitedError::Hash(why) => faults.write_all(refused_line(why)),
+        LimitedError::TooCostly { bytes, work } => write!(
+            faults,
+            "hash refused: TooCostly, it needs {bytes} bytes and work {work}, and --most-bytes is {most_bytes} and --most-work {most_work}\n"
+        ),
+        LimitedError::KeyTooShort { key_len } => write!(
+            faults,
+            "hash refused: KeyTooShort, its key has {key_len} bytes, and --least-key-len is {least_key_len}\n"
+        ),
+    }
 }
 
-// Writes the line of a hash whose key is too short.
-fn write_too_short<F: Write>(faults: &mut F, key_len: usize, limits: Limits) -> io::Result<()>
-    ensures written { OnOk result (Appends (F.contents faults.old) (F.contents faults.new) (error_line (KeyTooShort key_len limits))) }
+// Returns the line of a refusal, with its newline: it names the error, and the parameter.
+fn refused_line(why: Error) -> &'static [u8]
+    ensures { result.now ≡ refused_line (refusal why) }
 {
-    let least = limits.least_key_len;
-    write!(
-        faults,
-        "hash refused: KeyTooShort, its key has {key_len} bytes, and --least-key-len is {least}\n"
-    )
+    match why {
+        Error::Algorithm => b"hash refused: Algorithm\n",
+        Error::EncodingInvalid => b"hash refused: EncodingInvalid\n",
+        Error::OutputSize => b"hash refused: OutputSize\n",
+        Error::ParamInvalid { name: "ln" } => b"hash refused: ParamInvalid ln\n",
+        Error::ParamInvalid { name: "r" } => b"hash refused: ParamInvalid r\n",
+        Error::ParamInvalid { .. } => b"hash refused: ParamInvalid p\n",
+        Error::ParamsInvalid => b"hash refused: ParamsInvalid\n",
+        Error::SaltInvalid => b"hash refused: SaltInvalid\n",
+        Error::Version => b"hash refused: Version\n",
+        Error::PasswordInvalid | Error::OutOfMemory => b"",
+    }
 }
 
 impl From<AllocError> for CliError {
@@ -222,10 +161,10 @@ impl From<AllocError> for CliError {
     }
 }
 
-impl From<InvalidParams> for CliError {
-    ghost from_gives = { λ _ error. error ≡ BadParams };
+impl From<Error> for CliError {
+    ghost from_gives = { λ why error. error ≡ hash_error why };
 
-    fn from(_error: InvalidParams) -> CliError {
-        CliError::InvalidParams
+    fn from(why: Error) -> CliError {
+        CliError::of(LimitedError::Hash(why), Limits::USUAL)
     }
 }

@@ -1,6 +1,6 @@
 //! What a command line asks for, of which the first words may be options.
 
-ghost use Rattle.std.specs.Prelude.{◌≡◌, ◌⊎◌, ℕ, IfOk, IsTrue, List, OnErr, Option, Ok, Err, length, true};
+ghost use Rattle.std.specs.Prelude.{◌≡◌, ◌⊎◌, ℕ, IfOk, IsTrue, List, [], OnErr, Option, length, true};
 ghost use Rattle.std.specs.Io.KnownBytes.{Keeps};
 ghost use Rattle.std.specs.Option.{option_copied};
 ghost use Rattle.scrypt_commands.specs.Invocation.{draws_salt, hash_file_of, invocation_of, invocation_view, is_raw, wants_file};
@@ -141,7 +141,7 @@ fn wants_file(words: &[String]) -> bool
 // Writes a text to the output.
 #[tactic(auto, using(crate::proofs::OutcomeFacts::at_once))]
 fn print<W: Write, F: Write>(text: &str, writer: &mut W, faults: &mut F) -> Ended
-    ensures run { (input : Option (List ℕ)) → IsRun (at_once (Ok (record { status = 0; line = text.now })))
+    ensures run { (input : Option (List ℕ)) → IsRun (at_once (record { status = 0; line = text.now; error = [] }))
         (record { input = input; output = W.contents writer.old; faults = F.contents faults.old })
         (record { input = input; output = W.contents writer.new; faults = F.contents faults.new }) result }
     ensures status { (result.status ≡ 0) ⊎ (result.status ≡ 4) }

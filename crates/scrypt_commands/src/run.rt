@@ -90,7 +90,7 @@ fn execute<R: Read, W: Write>(
     ensures ok { IfOk result IsAnswer }
     ensures read { OnOk result (IsAtEnd (R.remaining reader.new)) }
     ensures err { IfErr result (λ error. status_of error ≡ 2
-        → OnInput (R.remaining reader.old) (λ input. reply_by (line_view line.entry) input ≡ Err error)) }
+        → OnInput (R.remaining reader.old) (λ input. reply_by (line_view line.entry) input ≡ Err (error_line error))) }
     ensures read_before_error { IfErr result (λ error. (error ≡ OutOfMemory) ⊎ (error ≡ InputFailed)
         ⊎ IsErr (request_of (line_view line.entry)) ⊎ IsAtEnd (R.remaining reader.new)) }
     ensures nothing { IfErr result (λ error. (error ≡ OutputFailed)
