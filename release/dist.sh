@@ -30,6 +30,7 @@ trap 'debian/rules clean > /dev/null 2>&1; rm -rf "$parts"' EXIT
 # The files below any prefix, the documents, and what PROVED.txt says of the files.
 for ARCH in $archs; do
   make -s install prefix="$parts/files/$ARCH" pythondir="$parts/python" docdir="$parts/doc" DESTDIR= ARCH="$ARCH"
+  rm "$parts/doc/installed" # or the next one would be an upgrade, and remove these
   ARCH=$ARCH release/strip.sh "$parts/files/$ARCH"
 done
 python3 -B -m doc.promises clauses > "$parts/doc/docs/CLAUSES.md"
@@ -83,7 +84,7 @@ mv "$dist/package.tar.gz" "$dist/$name.tgz"
 mkdir "$parts/cargo"
 cp release/cargo.toml "$parts/cargo/config.toml"
 export CARGO_HOME="$parts/cargo" CARGO_TARGET_DIR="$parts/cargo"
-cp release/NOTICES "$parts/PROVED.txt" "$lib/libscrypt_c.a" build/lib/scrypt_c.h bindings/rust
+cp release/NOTICES "$parts/PROVED.txt" "$parts/files/x86_64-linux-gnu/lib/libscrypt_c.a" build/lib/scrypt_c.h bindings/rust
 (cd bindings/rust && sha256sum libscrypt_c.a scrypt_c.h > SHA256SUMS)
 (cd bindings/rust && cargo package --quiet --offline --no-verify --allow-dirty)
 cp "$parts"/cargo/package/*.crate "$dist"
