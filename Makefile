@@ -188,7 +188,9 @@ dist-test:
 	python3 -B release/test_proved.py
 	release/reproducible.sh
 	release/test.sh
+	release/test_arm64.sh
 	release/container.sh
+	release/arm64_machine.sh
 
 thin: lib
 	python3 -m bench.thin $(MEASURED) 2 docs/thin.svg

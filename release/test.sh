@@ -1,25 +1,16 @@
 #!/bin/bash
 # Tests build/dist as a user meets it, in a fresh root made from Debian packages, without the kit: installs, uses and
-# removes the packages, does the same with the archive without root, and builds programs in C, Go and Rust. Needs root,
-# mmdebstrap, lintian and a network for Debian's packages. With ARCH=aarch64-linux-gnu the root is of arm64, which the kernel
-# runs by Debian's emulator if binfmt_misc is mounted.
+# removes the packages, does the same with the archive without root, builds programs in C, Go and Rust, and runs one in Node.
+# Needs root, mmdebstrap, lintian and a network for Debian's packages. test_arm64.sh tests what is for arm64.
 set -euo pipefail
 unset CDPATH
 cd "$(dirname "$0")/.."
-. bindings/arch.sh
-dist=build/dist
-other=aarch64-linux-gnu
-if [ "$ARCH" = $other ]; then other=x86_64-linux-gnu; fi
-debian=$(dpkg-architecture -t "$ARCH" -f -q DEB_HOST_ARCH)
-if [ -z "$is_kits" ] && ! grep -qs "flags: .*F" /proc/sys/fs/binfmt_misc/qemu-"${ARCH%%-*}"; then
-  echo "the kernel doesn't run programs for arm64 (package qemu-user-static, and binfmt_misc): not tested in a root" >&2
-  exit 1
-fi
+dist=build/dist oldest=x86-64-v2 newest=x86-64-v3
 key=77d6576238657b203b19ca42c18a0497f16b4844e3074ae8dfdffa3fede21442
 key+=fcd0069ded0948f8326a753a0fc81f17e8d3e0fb2e0d3628cf35e20c38d18906
 command="scrypt_tool key 4 1 1 64" # and an empty salt
 packages="scrypt-tool libscrypt-c0 libscrypt-c-dev libscrypt-drop-in"
-private=/usr/lib/$ARCH/scrypt_c
+private=/usr/lib/x86_64-linux-gnu/scrypt_c
 room=$(mktemp -d)
 root=$room/root
 trap 'rm -rf "$room"' EXIT
@@ -50,7 +41,7 @@ listed() {
 lintian --fail-on error $dist/*.deb
 echo "each file has its hash in SHA256SUMS, and lintian finds no error"
 # Debian's emulator has older processors than x86-64-v2.
-if [ -z "$is_kits" ]; then :; elif command -v qemu-x86_64-static > /dev/null; then
+if command -v qemu-x86_64-static > /dev/null; then
   tar xzf $dist/*-linux-x86_64.tar.gz -C "$room"
   old_processor="qemu-x86_64-static -cpu qemu64"
   if $old_processor "$room"/scrypt-*/files/bin/$command "" > "$room/log" 2>&1 < /dev/null; then exit 1; fi
@@ -59,9 +50,9 @@ else
   echo "qemu-x86_64-static is not here (package qemu-user-static): no older processor was tried"
 fi
 
-mmdebstrap --quiet --arch="$debian" --variant=apt --include=man-db,bash-completion,zsh,python3-venv,passwd,pamtester bookworm "$root"
+mmdebstrap --quiet --arch=amd64 --variant=apt --include=man-db,bash-completion,zsh,python3-venv,passwd,pamtester bookworm "$root"
 cp /etc/resolv.conf "$root/etc/resolv.conf"
-cp release/check.c release/check.go release/check.rs $dist/*_"$debian".deb $dist/*_"${ARCH%%-*}".whl $dist/*-linux-"${ARCH%%-*}".tar.gz \
+cp release/check.c release/check.go release/check.rs $dist/*_amd64.deb $dist/*_x86_64.whl $dist/*-linux-x86_64.tar.gz \
   $dist/scrypt-go-* $dist/*.crate "$root/tmp/"
 install -d -o nobody -g nogroup "$root/home/user"
 listed > "$room/before"
@@ -70,7 +61,7 @@ install_packages
 echo "apt-get install ./*.deb"
 # Each packed binary is in a file of the packages, and the other way round.
 sed -n '/^SHA-256 of the binaries/,/^SHA-256 of what/s/^\([0-9a-f]\{64\}\) .*/\1/p' \
-  <(grep -v " $other/" "$root/usr/share/doc/libscrypt-c0/PROVED.txt") | sort > "$room/packed"
+  <(grep -v " aarch64-linux-gnu/" "$root/usr/share/doc/libscrypt-c0/PROVED.txt") | sort > "$room/packed"
 inside sh -c "dpkg -L $packages"' | grep -E "\.so|\.a$|/bin/." | sort -u |
   while read -r it; do [ -h "$it" ] || sha256sum "$it"; done' | cut -c -64 | sort | diff - "$room/packed"
 echo "each installed binary has its hash in PROVED.txt: $(wc -l < "$room/packed")"
@@ -89,7 +80,7 @@ expect "$(inside zsh -c "$completed")" _scrypt_tool "zsh finds the completions o
 inside env LD_PRELOAD=$private/libscrypt_drop_in.so python3 -c 'import ctypes; ctypes.CDLL(None).crypto_scrypt'
 echo "the drop-in library gives crypto_scrypt by LD_PRELOAD"
 
-if [ -z "$newest" ] || ! "$root"/lib64/ld-linux-x86-64.so.2 --help | grep "$newest (supported" > /dev/null; then newest=$oldest; fi
+if ! "$root"/lib64/ld-linux-x86-64.so.2 --help | grep "$newest (supported" > /dev/null; then newest=$oldest; fi
 python='from scrypt_c import PasswordHasher, library; h = PasswordHasher(log_n=10); h.verify(h.hash("a"), "a")
 version = library._lib.scrypt_version; version.restype = library.ctypes.c_char_p; print(version().split()[-1].decode())'
 as_user sh -c 'python3 -m venv ~/venv && ~/venv/bin/pip install -q --no-index /tmp/*.whl'
@@ -132,9 +123,7 @@ compile='cc /tmp/check.c -o ~/check $(pkg-config --cflags --libs scrypt_c)'
 inside sh -c "$compile"
 expect "$(inside /root/check)" "$key $newest" "a C program by pkg-config prints it, with the package"
 masked="/lib64/ld-linux-x86-64.so.2 --glibc-hwcaps-mask $oldest"
-if [ -n "$is_kits" ]; then
-  expect "$(inside $masked /root/check)" "$key $oldest" "and by the library for $oldest, if the other is masked"
-fi
+expect "$(inside $masked /root/check)" "$key $oldest" "and by the library for $oldest, if the other is masked"
 inside sh -c 'cc -static /tmp/check.c -o ~/check $(pkg-config --static --cflags --libs scrypt_c)'
 expect "$(inside /root/check)" "$key $newest" "and by the static library, which chooses itself"
 unpack_archive
@@ -154,4 +143,14 @@ install -D -o nobody release/cargo.toml "$root/home/user/.cargo/config.toml"
 chown nobody "$root/home/user/.cargo"
 build="cargo init --quiet --vcs none; $(lines Rust); cp /tmp/check.rs src/main.rs && cargo run --quiet"
 expect "$(in_a_folder rust '*.crate' "$build")" "$key" "a Rust program prints it, with the crate of the release"
+
+# The lines of README.md in JavaScript, with the package unpacked by hand, in the first Debian whose Node is new enough.
+root=$room/node
+mmdebstrap --quiet --arch=amd64 --variant=apt --include=nodejs trixie "$root"
+install -d -o nobody -g nogroup "$root/home/user" "$root/home/user/node_modules"
+cp $dist/*.tgz "$root/tmp"
+as_user sh -c 'cd ~/node_modules && tar xzf /tmp/*.tgz && mv package scrypt-proved'
+{ sed -n '/^```js$/,/^```$/p' README.md | sed '1d;$d'; echo "console.log(text.slice(0, 22), await verify('another', text));"; } \
+  > "$root/home/user/login.mjs"
+expect "$(as_user node /home/user/login.mjs)" '$scrypt$ln=17,r=8,p=1$ false' "Node $(as_user node --version) runs README's lines"
 echo "build/dist: tested in a fresh Debian root"

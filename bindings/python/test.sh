@@ -72,7 +72,7 @@ if /usr/bin/python3 -c 'import venv, ensurepip, hatchling' 2> /dev/null; then
   test -z "$(find "$room/by_wheel" -name 'scrypt_c*')"
   echo "installed by pip from the folder and as the wheel $(cd "$room/wheels" && echo *.whl)"
   # The own line of the releases' README, by Debian's Python, whose pip is refused outside a virtual environment.
-  line=$(sed -n 's/^    \(.*scrypt_c-\*\.whl\).*/\1/p' release/README.md)
+  line=$(sed -n 's/^    \(.*scrypt_c-.*\.whl\).*/\1/p' release/README.md)
   (cd "$room/wheels" && PATH=/usr/bin:$PATH PIP_NO_INDEX=1 PIP_QUIET=1 sh -c "$line" && venv/bin/python -c 'import scrypt_c')
   echo "installed by README's line: $line"
 else
