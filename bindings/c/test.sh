@@ -117,7 +117,7 @@ in_emulator() {
     $CC -O2 -Wl,-z,now -I"$lib" -DPROCESSOR="\"$2\"" bindings/c/$test.c -o "$room/$test" "$1" -lpthread
     $emulator "$room/$test" small
   done
-  for test in test_hasher test_hasher_load; do
+  for test in test_hasher test_hasher_parts test_hasher_load; do
     $CC -std=gnu99 -O2 -Wno-unused-function -Ibindings/c -DROOT="\"$room/root\"" bindings/c/$test.c -o "$room/$test" \
       -L"$lib" -lscrypt_c -lpthread
     LD_LIBRARY_PATH=$lib $emulator "$room/$test" > /dev/null
