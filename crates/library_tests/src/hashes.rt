@@ -2,6 +2,8 @@
 // verified and refused is in `ci/hashes.py` and `ci/program.py`, which ask the built programs.
 
 use crate::holds;
+use crate::refused::MCF;
+use password_hash::mcf::Base64;
 use password_hash::{
     CustomizedPasswordHasher, Error, PasswordHasher, PasswordVerifier, kdf, mcf, phc,
 };
@@ -92,6 +94,20 @@ fn hashes_by_default(rt: HostRuntime) -> Result<(), Fail> {
         holds(verdict == wanted, reason)?;
     }
     Ok(())
+}
+
+// libxcrypt's hash, from the bytes that the letters of its salt decode to.
+#[test]
+fn a_known_mcf_hash(rt: HostRuntime) -> Result<(), Fail> {
+    let (alloc, params) = (rt.alloc(), Params::new(14, 32, 1)?);
+    let salt = Base64::Crypt.decode_vec(alloc, "Mq4YHD2syxYT.MsH1Ek0n1")?;
+    let made: mcf::PasswordHash = Scrypt::new().hash_password_with_params(
+        alloc,
+        b"pleaseletmein",
+        &salt,
+        params,
+    )?;
+    holds(made.as_str() == MCF, "the whole text")
 }
 
 const TEXTS: [(Error, &str); 9] = [

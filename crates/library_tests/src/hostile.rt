@@ -1,31 +1,14 @@
-// Hostile `$7$` texts: a borrowed hash and an owned one have the same verdict. More texts are in `ci/hashes.py`.
+// Hostile `$7$` texts, whose verdicts are those of borrowed hashes and of owned ones. More texts are in `ci/hashes.py`.
 
 use crate::hash_allocations::followed;
 use crate::holds;
 use crate::laws::HASH;
+use crate::verdicts::mcf_verdict;
 use password_hash::mcf::alphabet::value;
-use password_hash::{Error, PasswordVerifier, mcf};
-use scrypt::Scrypt;
+use password_hash::{Error, mcf};
 use scrypt::laws::texts_have_one_reading;
-use std::alloc::Global;
 use std::str;
 use std::test::Fail;
-
-// The verdict on the empty password, by the borrowed text and by the owned one alike.
-fn verdict(alloc: Global, text: &str) -> Result<Result<(), Error>, Fail> {
-    let scrypt = Scrypt::new();
-    let borrowed = match mcf::PasswordHashRef::new(text) {
-        Ok(hash) => scrypt.verify_password(alloc, b"", &hash),
-        Err(_) => Err(Error::EncodingInvalid),
-    };
-    let owned = match mcf::PasswordHash::new(alloc, text) {
-        Ok(hash) => scrypt.verify_password(alloc, b"", &hash),
-        Err(mcf::Error::EncodingInvalid) => Err(Error::EncodingInvalid),
-        Err(mcf::Error::OutOfMemory) => Err(Error::OutOfMemory),
-    };
-    holds(owned == borrowed, "the owned hash has another verdict")?;
-    Ok(borrowed)
-}
 
 // Where the key begins.
 const KEY_AT: usize = 15;
@@ -49,7 +32,10 @@ fn beginnings(rt: HostRuntime) -> Result<(), Fail> {
             mcf::PasswordHashRef::new(beginning).is_ok() == (len > 1),
             "whether it is an MCF text",
         )?;
-        holds(verdict(rt.alloc(), beginning)? == wanted, "its verdict")?;
+        holds(
+            mcf_verdict(rt.alloc(), beginning, b"")? == wanted,
+            "its verdict",
+        )?;
     }
     Ok(())
 }
@@ -72,7 +58,7 @@ fn each_character_of_a_key_replaced(rt: HostRuntime) -> Result<(), Fail> {
                 _ => Err(Error::EncodingInvalid),
             };
             holds(
-                verdict(rt.alloc(), str::from_utf8(&letters)?)? == wanted,
+                mcf_verdict(rt.alloc(), str::from_utf8(&letters)?, b"")? == wanted,
                 "its verdict",
             )?;
             texts = texts.saturating_add(1);
@@ -113,7 +99,10 @@ fn a_million_letters(rt: HostRuntime) -> Result<(), Fail> {
             len = len.saturating_add(field.as_str().len());
         }
         holds(fields == wanted && len == wanted_len, reason)?;
-        holds(verdict(rt.alloc(), text.as_str())? == Err(error), reason)?;
+        holds(
+            mcf_verdict(rt.alloc(), text.as_str(), b"")? == Err(error),
+            reason,
+        )?;
     }
     Ok(())
 }

@@ -39,6 +39,8 @@ mod phc_texts;
 mod refused;
 #[cfg(test)]
 mod romix;
+#[cfg(test)]
+mod verdicts;
 
 #[cfg(test)]
 use std::test::Fail;

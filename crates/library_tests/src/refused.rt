@@ -10,7 +10,7 @@ use scrypt::{InvalidParams, Params, Scrypt};
 use std::test::Fail;
 
 // libxcrypt's, of `pleaseletmein`.
-const MCF: &str =
+pub const MCF: &str =
     "$7$CU..../....Mq4YHD2syxYT.MsH1Ek0n1$JyHIxez0DOwm0r6.kAIohc8UFBOLU4xX8a1wGBpLrw7";
 
 // Texts and the error of verifying them, with every allocation refused, and the reason for the row.
