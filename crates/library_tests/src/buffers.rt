@@ -1,20 +1,24 @@
 // Derivations in the caller's buffers, which may hold anything.
 
 use crate::holds;
+use crate::laws::KEY;
 use scrypt::{BufferLens, CoreCount, InvalidOutputLen, Params, scrypt_thin, scrypt_with_buffers};
 use scrypt_examples::derived_keys::key_in_a_thin_table;
 use std::test::Fail;
 
-// RFC 7914, section 12, the first 16 bytes of the first and the second key.
-const FIRST: u128 = 0x77d6576238657b203b19ca42c18a0497;
-
-const SECOND: u128 = 0xfdbabe1c9d3472007856e7190d01e9fe;
+// RFC 7914, section 12, the second key.
+const SECOND: [u8; 64] = [
+    0xfd, 0xba, 0xbe, 0x1c, 0x9d, 0x34, 0x72, 0x00, 0x78, 0x56, 0xe7, 0x19, 0x0d, 0x01, 0xe9, 0xfe,
+    0x7c, 0x6a, 0xd7, 0xcb, 0xc8, 0x23, 0x78, 0x30, 0xe7, 0x73, 0x76, 0x63, 0x4b, 0x37, 0x31, 0x62,
+    0x2e, 0xaf, 0x30, 0xd9, 0x2e, 0x22, 0xa3, 0x88, 0x6f, 0xf1, 0x09, 0x27, 0x9d, 0x98, 0x30, 0xda,
+    0xc7, 0x27, 0xaf, 0xb9, 0x4a, 0x83, 0xee, 0x6d, 0x83, 0x60, 0xcb, 0xdf, 0xa2, 0xcc, 0x06, 0x40,
+];
 
 #[test]
 fn keys_in_used_buffers() -> Result<(), Fail> {
     let (params, mut cores) = (Params::new(4, 1, 1)?, CoreCount::new());
     let (mut chunks, mut table, mut scratch) = ([0xff; 128], [u32::MAX; 512], [u32::MAX; 64]);
-    let (mut key, mut again) = ([0; 16], [0; 16]);
+    let (mut key, mut again) = ([0; 64], [0; 64]);
     scrypt_with_buffers(
         b"",
         b"",
@@ -35,17 +39,16 @@ fn keys_in_used_buffers() -> Result<(), Fail> {
         &mut again,
         &mut cores,
     )?;
-    holds(u128::from_be_bytes(key) == FIRST, "the first time")?;
-    holds(u128::from_be_bytes(again) == FIRST, "and again")
+    holds(key == KEY && again == KEY, "both times")
 }
 
 #[test]
 fn keys_by_thin_tables(rt: HostRuntime) -> Result<(), Fail> {
     let (alloc, mut cores) = (rt.alloc(), CoreCount::new());
-    let (params, mut key) = (Params::new(4, 1, 1)?, [0; 16]);
+    let (params, mut key) = (Params::new(4, 1, 1)?, [0; 64]);
     for s in 0..5 {
         key_in_a_thin_table(alloc, b"", b"", &params, s, &mut key, &mut cores)?;
-        holds(u128::from_be_bytes(key) == FIRST, "the first key")?;
+        holds(key == KEY, "the first key")?;
     }
     let params = Params::new(10, 8, 16)?;
     key_in_a_thin_table(
@@ -57,7 +60,7 @@ fn keys_by_thin_tables(rt: HostRuntime) -> Result<(), Fail> {
         &mut key,
         &mut cores,
     )?;
-    holds(u128::from_be_bytes(key) == SECOND, "one row in eight")
+    holds(key == SECOND, "one row in eight")
 }
 
 #[test]
