@@ -19,7 +19,7 @@ enum Call {
 
 // A call, p, the sizes of its allocations at (4, 1, p), how many of them it needs, and the reason for the row. They are
 // the chunks, the table and the scratch. A call for several tables that gets no scratch for them ends with one table: this
-// and its scratch fit where the several tables were.
+// and its scratch fit where the several tables were. How many tables a call takes is in `memory.rt`.
 const CALLS: [(Call, u32, [usize; 3], usize, &str); 10] = [
     (Call::Scrypt, 1, [128, 2048, 256], 3, "the three buffers"),
     (
@@ -75,6 +75,9 @@ const CALLS: [(Call, u32, [usize; 3], usize, &str); 10] = [
     (Call::InGroups(4), 4, [512, 8192, 1024], 2, "four"),
 ];
 
+// What an output holds before a call.
+const BEFORE: [u8; 32] = [0xaa; 32];
+
 // How a call ends with this answer.
 fn end_of(answer: Result<(), DeriveError>) -> CallEnd {
     match answer {
@@ -93,10 +96,10 @@ fn end_of_trait(alloc: Global, params: &Params, output: &mut [u8]) -> CallEnd {
     }
 }
 
-// How this call ends.
+// How this call ends. If it runs out of memory, its output is as it was.
 fn ended(call: Call, alloc: Global, params: &Params) -> CallEnd {
-    let (mut output, mut cores) = ([0u8; 32], CoreCount::new());
-    match call {
+    let (mut output, mut cores) = (BEFORE, CoreCount::new());
+    let end = match call {
         Call::Scrypt => end_of(scrypt(alloc, b"", b"", params, &mut output)),
         Call::ScryptCounted => end_of(scrypt_counted(
             alloc,
@@ -116,6 +119,10 @@ fn ended(call: Call, alloc: Global, params: &Params) -> CallEnd {
             &mut output,
             &mut cores,
         )),
+    };
+    match end {
+        CallEnd::OutOfMemory if output != BEFORE => CallEnd::Otherwise,
+        _ => end,
     }
 }
 
@@ -127,6 +134,28 @@ fn derivations(rt: HostRuntime) -> Result<(), Fail> {
             ended(call, rt.alloc(), &params)
         })?;
         holds(allocations == needed, reason)?;
+    }
+    Ok(())
+}
+
+// A length of a key, log_n, how its derivation ends, and the reason for the row.
+const REFUSED: [(usize, u8, DeriveError, &str); 3] = [
+    (0, 4, DeriveError::InvalidOutputLen, "no byte"),
+    (
+        0,
+        56,
+        DeriveError::InvalidOutputLen,
+        "no byte, which comes before memory",
+    ),
+    (32, 56, DeriveError::OutOfMemory, "a table of 2^63 bytes"),
+];
+
+#[test]
+fn refused_derivations(rt: HostRuntime) -> Result<(), Fail> {
+    for &(len, log_n, error, reason) in &REFUSED {
+        let (params, mut output) = (Params::new(log_n, 1, 1)?, BEFORE);
+        let refused = scrypt(rt.alloc(), b"", b"", &params, &mut output[..len]);
+        holds(refused == Err(error) && output == BEFORE, reason)?;
     }
     Ok(())
 }

@@ -157,7 +157,7 @@ enum Making {
 }
 
 // A call, the sizes of its allocations, and the reason for the row. What is pushed to is made in the
-// call, by the first allocation.
+// call, by the first allocation, and is as it was if the push fails.
 const MAKING: [(Making, &[usize], &str); 7] = [
     (Making::New, &[LETTERS], "a copy of the text"),
     (Making::FromId, &[LETTERS], "a dollar and the id"),
@@ -202,6 +202,9 @@ fn end_of_making(
                     Making::PushStr => hash.push_str(field.as_str()),
                     _ => hash.push_base64(bytes, Base64::Crypt),
                 };
+                if pushed.is_err() && hash.as_str() != text {
+                    return CallEnd::Otherwise;
+                }
                 ended(&pushed, memory)
             }
             Err(_) => CallEnd::OutOfMemory,
