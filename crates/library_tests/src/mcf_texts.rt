@@ -1,9 +1,11 @@
-// Five-letter numbers, the parameters of `$7$` texts, and MCF texts.
+// Five-letter numbers, the parameters of `$7$` texts, crypt Base64, and MCF texts.
 
 use crate::holds;
 use password_hash::Error::{self, EncodingInvalid, ParamsInvalid};
 use password_hash::mcf::{self, Base64, PasswordHash, PasswordHashRef};
 use scrypt::mcf::{decode_params_and_salt, decode64_uint32, encode64_uint32};
+use std::alloc::Global;
+use std::str;
 use std::test::Fail;
 
 // Numbers, their letters in the first five of six places, and the reason for the row.
@@ -74,11 +76,24 @@ fn read(text: &str) -> Result<(u8, u32, u32, &[u8]), Error> {
     }
 }
 
-// `ci/hashes.py` replaces each letter of r and p.
 #[test]
 fn params_and_salts() -> Result<(), Fail> {
     for &(text, wanted, reason) in &PARAMS {
         holds(read(text) == wanted, reason)?;
+    }
+    Ok(())
+}
+
+// Each letter of r and p is replaced.
+#[test]
+fn no_letters_of_numbers() -> Result<(), Fail> {
+    for at in 1..11 {
+        for &by in b"$* -" {
+            let mut letters = *b"CU..../....";
+            letters[at] = by;
+            let read = read(str::from_utf8(&letters)?);
+            holds(read == Err(EncodingInvalid), "no letter")?;
+        }
     }
     Ok(())
 }
@@ -102,7 +117,8 @@ fn ids_and_fields() -> Result<(), Fail> {
         holds(hash.id() == id && left.next().is_none(), text)?;
     }
     for &text in &["", "$", "7", "$A$a", "$$a"] {
-        holds(PasswordHashRef::new(text).is_err(), text)?;
+        let refused = PasswordHashRef::new(text).err();
+        holds(refused == Some(mcf::Error::EncodingInvalid), text)?;
     }
     Ok(())
 }
@@ -119,6 +135,55 @@ fn pushes(rt: HostRuntime) -> Result<(), Fail> {
     holds(hash.as_str() == "$7$", "an empty field")?;
     hash.push_base64(&[0xff, 0xff], Base64::Crypt)?;
     holds(hash.as_str() == "$7$$zzD", "two bytes")
+}
+
+// The bytes of these letters, which a text and a field of a hash give alike.
+fn decoded(alloc: Global, letters: &str) -> Result<mcf::Result<Vec<u8>>, Fail> {
+    let mut hash = PasswordHash::from_id(alloc, "7")?;
+    hash.push_str(letters)?;
+    let field = hash.fields().next().ok_or("no field")?;
+    let bytes = Base64::Crypt.decode_vec(alloc, letters);
+    let of_field = field.decode_base64(alloc, Base64::Crypt);
+    holds(of_field == bytes, "the field has others")?;
+    Ok(bytes)
+}
+
+// Bytes and their letters.
+const LETTERS: [(&[u8], &str); 8] = [
+    (&[], ""),
+    (&[0xff], "z1"),
+    (&[0xff, 0xff], "zzD"),
+    (&[0xff, 0xff, 0xff], "zzzz"),
+    (&[1], "/."),
+    (&[0, 0, 0], "...."),
+    (&[1, 2, 3], "/6k."),
+    (
+        b"\x98\x6d\x90\xd3\x43\xe0\x7e\x4f\x7e\x00\x86\x4f\x03\x04\x0b\xf3",
+        "Mq4YHD2syxYT.MsH1Ek0n1",
+    ),
+];
+
+// What are no letters of any bytes, and why.
+const NO_LETTERS: [(&str, &str); 4] = [
+    ("z", "a letter alone"),
+    ("z2", "spare bits of one byte are set"),
+    ("zzE", "spare bits of two bytes are set"),
+    ("zz=", "padding"),
+];
+
+#[test]
+fn letters_of_bytes(rt: HostRuntime) -> Result<(), Fail> {
+    for &(bytes, letters) in &LETTERS {
+        let encoded = Base64::Crypt.encode_string(rt.alloc(), bytes)?;
+        holds(encoded.as_str() == letters, letters)?;
+        let decoded = decoded(rt.alloc(), letters)??;
+        holds(decoded.as_slice() == bytes, letters)?;
+    }
+    for &(letters, reason) in &NO_LETTERS {
+        let refused = decoded(rt.alloc(), letters)?.err();
+        holds(refused == Some(mcf::Error::EncodingInvalid), reason)?;
+    }
+    Ok(())
 }
 
 // How many bytes, and how many letters they have.

@@ -1,4 +1,4 @@
-// Decimals, and the parameters of PHC texts.
+// PHC texts, their decimals and their parameters.
 
 use crate::holds;
 use password_hash::Error::{self, EncodingInvalid, ParamsInvalid};
@@ -66,6 +66,34 @@ fn added_parameters() -> Result<(), Fail> {
 // passlib's, of `password`.
 pub const HASH: &str =
     "$scrypt$ln=16,r=8,p=1$aM15713r3Xsvxbi31lqr1Q$nFNh2CVHVjNldFVKDHDlm4CbdRSCdEBsjjJxD+iCs5E";
+
+// Texts that print as they were read, and the reason for the row. `ci/hashes.py` has texts that are refused.
+const PRINTED: [(&str, &str); 6] = [
+    (HASH, "a whole one"),
+    ("$scrypt", "the algorithm alone"),
+    ("$scrypt$v=0", "the least version"),
+    (
+        "$scrypt$v=1$ln=1$aA$AAAAAAAAAAAAAA",
+        "the shortest salt and key",
+    ),
+    (
+        "$scrypt$x=00000000000000000000000000000000000000000000000000000000000000000000000000000000000000000000000000000000000000000000000000000",
+        "127 bytes of parameters",
+    ),
+    (
+        "$aaaaaaaaaaaaaaaaaaaaaaaaaaaaaaaa",
+        "an algorithm of 32 letters",
+    ),
+];
+
+#[test]
+fn printed_texts(rt: HostRuntime) -> Result<(), Fail> {
+    for &(text, reason) in &PRINTED {
+        let printed = PasswordHash::new(text)?.to_string(rt.alloc())?;
+        holds(printed.as_str() == text, reason)?;
+    }
+    Ok(())
+}
 
 #[test]
 fn parameters_of_a_hash() -> Result<(), Fail> {
