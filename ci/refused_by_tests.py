@@ -3,7 +3,7 @@
 No clause can say that an allocation succeeds, or how much a call allocates: a body that allocates once more, or that
 always returns `OutOfMemory`, is proved. Each edit for the tests in crates/NAME/wrong-bodies.txt is such a body. It is
 applied to a copy of the repository, where everything still has to be proved, and a test of the crate NAME has to fail.
-The tests of the program are the cases of ci/program.py.
+If every clause is exact, an edit may weaken one with its body. The tests of the program are the cases of ci/program.py.
 
 usage: python3 -m ci.refused_by_tests [NAME..]    the crates, or all that have such edits; minutes for each edit
 """
