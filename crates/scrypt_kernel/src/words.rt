@@ -67,6 +67,16 @@ pub(crate) fn put_lanes(x: &mut [u32], k: usize, from: u32x4)
     from.copy_to_slice(&mut x[4 * k..4 * k + 4]);
 }
 
+/// Writes four words as part `k` of `x`, which is cut into parts of four words.
+#[inline(always)]
+pub(crate) fn put_words(x: &mut [u32], k: usize, from: &[u32; 4])
+    requires { 4 * k + 4 ≤ length x.old }
+    ensures written { part 4 x.new k ≡ from.now }
+    ensures others { (j : ℕ) → j ≢ k → part 4 x.new j ≡ part 4 x.old j }
+{
+    x[4 * k..4 * k + 4].copy_from_slice(from);
+}
+
 /// Writes four lanes as vector `j` of part `k` of `x`, which is cut into parts of `len` words.
 #[inline(always)]
 #[tactic(auto, using(crate::proofs::PartFacts::part_put_other))]

@@ -1,28 +1,61 @@
 //! The lanes of one block as words of their own. A processor can take longer for a step of one block in vectors than in words,
 //! as those of arm64 do, which rotate a word in the instruction that takes it in.
 
-ghost use Rattle.std.specs.Prelude.{◌≡◌, ℕ, ◌+◌, ◌*◌, ◌<◌, ◌≤◌, List, length};
+ghost use Rattle.std.specs.Prelude.{◌≡◌, ◌≢◌, ℕ, ◌+◌, ◌*◌, ◌<◌, ◌≤◌, ◌∷◌, [], List, length};
+ghost use Rattle.scrypt_kernel.specs.Words.{part, xor_words};
 
 use crate::cores::lanes::Lanes;
 use crate::parts::Parts;
-use crate::words::part;
+use crate::words::{lanes, put_words};
 use std::simd::u32x4;
 
-/// Four lanes of one block, each of them in a register of its own.
+/// Four lanes of one block, each of them in a register of its own. What is read is a vector at first, so that rows are loaded and
+/// joined four words at a time: the lanes are the exclusive or of the words and of that vector.
 #[derive(Clone, Copy)]
 pub struct Scalars {
-    pub(crate) a: u32,
-    pub(crate) b: u32,
-    pub(crate) c: u32,
-    pub(crate) d: u32,
+    a: u32,
+    b: u32,
+    c: u32,
+    d: u32,
+    row: u32x4,
+}
+
+impl Scalars {
+    ghost use Rattle.std.specs.Prelude.{◌∷◌, []};
+    ghost use Rattle.scrypt_kernel.specs.Words.{xor_words};
+
+    // Four lanes that are these words.
+    #[inline]
+    fn of(a: u32, b: u32, c: u32, d: u32) -> Scalars
+        ensures words { result.a ∷ result.b ∷ result.c ∷ result.d ∷ [] ≡ a ∷ b ∷ c ∷ d ∷ [] }
+        ensures lanes { xor_words (a ∷ b ∷ c ∷ d ∷ []) result.row ≡ a ∷ b ∷ c ∷ d ∷ [] }
+    {
+        let row = u32x4::splat(0);
+        Scalars { a, b, c, d, row }
+    }
+
+    // The same lanes, all of them in words.
+    #[inline]
+    fn in_words(self) -> Scalars
+        ensures { result.a ∷ result.b ∷ result.c ∷ result.d ∷ [] ≡ xor_words (self.a ∷ self.b ∷ self.c ∷ self.d ∷ []) self.row }
+    {
+        let row = self.row.to_array();
+        Scalars::of(
+            self.a ^ row[0],
+            self.b ^ row[1],
+            self.c ^ row[2],
+            self.d ^ row[3],
+        )
+    }
 }
 
 impl Lanes for Scalars {
     ghost use Rattle.std.specs.Prelude.{◌∷◌, []};
+    ghost use Rattle.scrypt_kernel.specs.Words.{xor_words};
 
     ghost count = { 1 };
 
-    ghost lanes = { λ v k. v.a ∷ v.b ∷ v.c ∷ v.d ∷ [] };
+    ghost lanes = { λ v k. xor_words (v.a ∷ v.b ∷ v.c ∷ v.d ∷ []) v.row };
 
     #[inline]
     fn count() -> usize {
@@ -31,23 +64,30 @@ impl Lanes for Scalars {
 
     #[inline]
     fn read(parts: &Parts<'_>, first: usize, j: usize) -> Scalars {
-        let x = part(4, parts.part(first), j);
         Scalars {
-            a: x[0],
-            b: x[1],
-            c: x[2],
-            d: x[3],
+            a: 0,
+            b: 0,
+            c: 0,
+            d: 0,
+            row: lanes(parts.part(first), j),
         }
     }
 
     #[inline]
+    fn write(self, x: &mut [u32], len: usize, j: usize) {
+        let v = self.in_words();
+        put_words(&mut x[..len], j, &[v.a, v.b, v.c, v.d]);
+    }
+
+    #[inline]
     fn plus(self, y: Scalars) -> Scalars {
-        Scalars {
-            a: self.a.wrapping_add(y.a),
-            b: self.b.wrapping_add(y.b),
-            c: self.c.wrapping_add(y.c),
-            d: self.d.wrapping_add(y.d),
-        }
+        let (x, y) = (self.in_words(), y.in_words());
+        Scalars::of(
+            x.a.wrapping_add(y.a),
+            x.b.wrapping_add(y.b),
+            x.c.wrapping_add(y.c),
+            x.d.wrapping_add(y.d),
+        )
     }
 
     #[inline]
@@ -57,45 +97,34 @@ impl Lanes for Scalars {
             b: self.b ^ y.b,
             c: self.c ^ y.c,
             d: self.d ^ y.d,
+            row: self.row ^ y.row,
         }
     }
 
     #[inline]
     fn xor_rotated(self, y: Scalars, bits: u32) -> Scalars {
-        Scalars {
-            a: self.a ^ y.a.rotate_left(bits),
-            b: self.b ^ y.b.rotate_left(bits),
-            c: self.c ^ y.c.rotate_left(bits),
-            d: self.d ^ y.d.rotate_left(bits),
-        }
+        let (x, y) = (self.in_words(), y.in_words());
+        Scalars::of(
+            x.a ^ y.a.rotate_left(bits),
+            x.b ^ y.b.rotate_left(bits),
+            x.c ^ y.c.rotate_left(bits),
+            x.d ^ y.d.rotate_left(bits),
+        )
     }
 
     #[inline]
     fn turned(b: Scalars, c: Scalars, d: Scalars) -> (Scalars, Scalars, Scalars) {
+        let (b, c, d) = (b.in_words(), c.in_words(), d.in_words());
         (
-            Scalars {
-                a: d.b,
-                b: d.c,
-                c: d.d,
-                d: d.a,
-            },
-            Scalars {
-                a: c.c,
-                b: c.d,
-                c: c.a,
-                d: c.b,
-            },
-            Scalars {
-                a: b.d,
-                b: b.a,
-                c: b.b,
-                d: b.c,
-            },
+            Scalars::of(d.b, d.c, d.d, d.a),
+            Scalars::of(c.c, c.d, c.a, c.b),
+            Scalars::of(b.d, b.a, b.b, b.c),
         )
     }
 
     #[inline]
     fn four(self, _k: usize) -> u32x4 {
-        u32x4::from_array([self.a, self.b, self.c, self.d])
+        let v = self.in_words();
+        u32x4::from_array([v.a, v.b, v.c, v.d])
     }
 }
