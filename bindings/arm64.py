@@ -15,16 +15,12 @@ import sys
 import tempfile
 from pathlib import Path
 
-from tools import copies
+from tools import copies, kit
 
 TARGET = "aarch64-unknown-linux-gnu"
 LIBRARIES = {"scrypt": "scrypt.rlib", "scrypt_commands": "scrypt_commands.rlib"}
 MADE = LIBRARIES | {"scrypt_c": "libscrypt_c.a", "scrypt_tool": "scrypt_tool.o"}
 EDITS = {"scrypt": ["bindings/one_in_words.edit"]}
-
-# LLVM would join the four words of a step to a vector again. If it follows operands no further than this, of 12 steps that are
-# usual, it doesn't, and all other code stays the same. bench/registers.py checks it.
-FLAGS = "-mllvm", "-slp-recursion-max-depth=8"
 
 # The gate proves from nothing.
 IS_GATE = "PROVED_LIBRARIES" in os.environ
@@ -51,12 +47,11 @@ def main(*words):
     # Not in the repository, in which rt refuses sources that are of no crate.
     with tempfile.TemporaryDirectory() as folder:
         room = Path(folder)
-        copies.copy_toolchain(room / "toolchain", *FLAGS)
         copies.libraries_with(room / "libraries", "scrypt").symlink_to(copies.TOP / "crates/scrypt/out/arm64/scrypt.rlib")
         (room / "libraries/scrypt_commands/out/rlib").mkdir(parents=True)
         made = copies.TOP / "crates/scrypt_commands/out/arm64/scrypt_commands.rlib"
         (room / "libraries/scrypt_commands/out/rlib/scrypt_commands.rlib").symlink_to(made)
-        compiled = ["--toolchain", room / "toolchain", "--backend", "llvm", "--target", TARGET]
+        compiled = ["--toolchain", f"{kit.located()}/toolchain", "--backend", "llvm", "--target", TARGET]
         for name, _, given in (it.partition("=") for it in words):
             build(room, name, given, *([] if name in LIBRARIES else compiled))
 
