@@ -6,11 +6,11 @@
   in an empty folder; the second, the module for JavaScript, and the wrong bodies of that crate, take from it what they leave
   unchanged. Then they are linked and called.
 - When the program is proved: its answers. It is linked with what asks at a terminal after that.
-- For arm64: a copy of the crate scrypt that mixes one chunk otherwise, as soon as the crates below it are proved. When the crate
-  below the program is proved, the library and the program over that copy, whose calls and answers run in an emulator. A package that
-  this needs and isn't installed is named.
+- For arm64: a copy of the crate scrypt that mixes one chunk otherwise, as soon as the crates below it are proved; then, side by
+  side, the program and the library over that copy, whose calls and answers run in an emulator. A package that this needs and isn't
+  installed is named. Nothing else takes as long from its beginning to its end: this waits for no other task, at no lower priority.
 
-All but the calls run on the processors that `rt ci` leaves idle, at a lower priority, since its crates wait for one another.
+All else but the calls runs on the processors that `rt ci` leaves idle, at a lower priority, since its crates wait for one another.
 What they print, with the time that each took, follows what `rt ci` prints. The last line counts what passed: the crates
 and programs of `rt ci`, and each of these tasks.
 """
@@ -31,7 +31,7 @@ import time
 from tools import edits, kit, prover_command, sources
 
 # How many tasks run beside `rt ci`, and how many after it; and how many may have begun, with those that wait for another.
-BESIDE, AFTERWARDS, MOST = 3, 4, 16
+BESIDE, AFTERWARDS, MOST = 3, 4, 20
 
 # What `rt ci` prints of a crate whose library is there.
 PROVED = re.compile(r"rt: (\w+) (?:proved$|is kept: )")
@@ -49,7 +49,14 @@ MODULE = "the module for JavaScript"
 
 PROGRAM = "crates/scrypt_tool/out/scrypt_tool"
 
-ARM64 = "the library and the program for arm64"
+PROGRAM_FOR_ARM64 = "the program for arm64"
+
+LIBRARY_FOR_ARM64 = "the library for arm64"
+
+ARM64 = "callers for arm64"
+
+# The longest chain of tasks, which have a lane of their own.
+CHAIN = SCRYPT_FOR_ARM64, PROGRAM_FOR_ARM64, LIBRARY_FOR_ARM64, ARM64
 
 # What the build for arm64 and its tests need, and the Debian packages that have it.
 FOR_ARM64 = {
@@ -98,7 +105,7 @@ class Tasks:
         self.prover = self.early = None
         self.spent = threading.local()
 
-    def add(self, name, needs, call, before=None):
+    def add(self, name, needs, call, *before):
         self.waiting.append((name, needs, call, before))
 
     def begin(self):
@@ -106,15 +113,15 @@ class Tasks:
             self.waiting.remove(task)
             self.start(*task)
 
-    def start(self, name, needs, call, before=None):
-        """Starts a task that needs these crates, after the task `before`, whose results it needs."""
-        self.begun[name] = self.threads.submit(self.run_task, name, call, not needs, self.begun.get(before))
+    def start(self, name, needs, call, before=()):
+        """Starts a task that needs these crates, after the tasks `before`, whose results it needs."""
+        self.begun[name] = self.threads.submit(self.run_task, name, call, not needs, [self.begun[it] for it in before])
 
     def run_task(self, name, call, is_early, before):
         """Runs a task. If one fails that needs nothing proved, the prover is ended too."""
-        if before is not None and not before.result()[0]:
+        if not all([it.result()[0] for it in before]):
             return False, ""
-        with self.lanes:
+        with contextlib.nullcontext() if name in CHAIN else self.lanes:
             begun, self.spent.seconds = clock(), 0
             is_well, text = call()
             text = f"{begun} to {clock()}, {in_minutes(self.spent.seconds)} of a processor: {name}\n{text}"
@@ -229,41 +236,57 @@ def missing_for_arm64():
     return [package for path, package in FOR_ARM64.items() if not os.path.exists(path)]
 
 
-def test_arm64(tasks, kept):
-    """Proves the library and the program for arm64, over what the build of the other libraries kept, and calls them."""
-    tasks.begun[LIBRARY].result()
-    command = f"python3 -m bindings.arm64 scrypt_c={kept}-arm64 scrypt_commands scrypt_tool && bindings/lib.sh built && bindings/callers.sh short"
+def prove_for_arm64(tasks, *names):
+    """Proves copies of these crates for arm64."""
+    return tasks.run(sys.executable, "-m", "bindings.arm64", *names, nice=0)
+
+
+def test_arm64(tasks):
+    """Links the library and the program for arm64, and calls them."""
+    command = "bindings/lib.sh built && bindings/callers.sh short"
     return tasks.run("env", "-u", "CC", "ARCH=aarch64-linux-gnu", "sh", "-c", command)
+
+
+def add_for_arm64(tasks, kept):
+    """Adds what is over the copy of the crate scrypt for arm64."""
+    program = "scrypt_commands", "scrypt_tool"
+    tasks.add(PROGRAM_FOR_ARM64, prover_command.below("scrypt"), lambda: prove_for_arm64(tasks, *program), SCRYPT_FOR_ARM64)
+    needs = prover_command.below("scrypt_c")
+    tasks.add(LIBRARY_FOR_ARM64, needs, lambda: prove_for_arm64(tasks, f"scrypt_c={kept}-arm64"), SCRYPT_FOR_ARM64, LIBRARY)
+    tasks.add(ARM64, needs, lambda: test_arm64(tasks), PROGRAM_FOR_ARM64, LIBRARY_FOR_ARM64)
 
 
 def build_module(tasks, kept, is_for_arm64):
     """Builds the module for JavaScript over what the build of the libraries kept, and that of the crate scrypt for arm64."""
-    tasks.begun[LIBRARY].result()
     below = ["crates/scrypt/out/arm64/kept"] if is_for_arm64 else []
     return tasks.run(sys.executable, "-m", "bindings.js.build", kept, *below)
 
 
 def add_all(tasks, made, kept, is_built):
-    """Adds the tasks, the longest first. The wrong bodies of scrypt_c are tried over what the build of the libraries kept."""
-    is_for_arm64 = is_built and not missing_for_arm64()
-    if is_for_arm64:
-        tasks.add(SCRYPT_FOR_ARM64, prover_command.below("scrypt"), lambda: tasks.run(sys.executable, "-m", "bindings.arm64", "scrypt"))
-    if is_built:
-        tasks.add(LIBRARY, prover_command.below("scrypt_c"), lambda: build(tasks, made, kept))
-        tasks.add("callers of the library", prover_command.below("scrypt_c"), lambda: link_and_call(tasks, made), LIBRARY)
-        before = SCRYPT_FOR_ARM64 if is_for_arm64 else LIBRARY
-        tasks.add(MODULE, prover_command.below("scrypt_c"), lambda: build_module(tasks, kept, is_for_arm64), before)
-        tasks.add("callers of the module", prover_command.below("scrypt_c"), lambda: tasks.run("bindings/js/test/test.sh"), MODULE)
-    for name in edits.crates_with(edits.GATE):
-        over, before = (["over", kept], LIBRARY) if name == "scrypt_c" and is_built else ([], None)
-        command = [sys.executable, "-m", "ci.wrong_bodies", *over, name]
-        tasks.add(f"wrong bodies of {name}", prover_command.below(name), lambda command=command: tasks.run(*command), before)
+    """Adds the tasks: those that may end the gate early, and then the longest first. The wrong bodies of scrypt_c are tried over
+    what the build of the libraries kept."""
     tasks.add("the documents", [], lambda: tasks.run("make", "--no-print-directory", "documents"))
     tasks.add("what must not compile", [], lambda: tasks.run(sys.executable, "-m", "ci.must_not_compile"))
+    is_for_arm64 = is_built and not missing_for_arm64()
+    if is_for_arm64:
+        tasks.lanes.acquire()
+        tasks.add(SCRYPT_FOR_ARM64, prover_command.below("scrypt"), lambda: prove_for_arm64(tasks, "scrypt"))
+    if is_built:
+        tasks.add(LIBRARY, prover_command.below("scrypt_c"), lambda: build(tasks, made, kept))
+    if is_for_arm64:
+        add_for_arm64(tasks, kept)
+    if is_built:
+        tasks.add("callers of the library", prover_command.below("scrypt_c"), lambda: link_and_call(tasks, made), LIBRARY)
+        before = [LIBRARY, SCRYPT_FOR_ARM64] if is_for_arm64 else [LIBRARY]
+        tasks.add(MODULE, prover_command.below("scrypt_c"), lambda: build_module(tasks, kept, is_for_arm64), *before)
+        tasks.add("callers of the module", prover_command.below("scrypt_c"), lambda: tasks.run("bindings/js/test/test.sh"), MODULE)
+    for name in edits.crates_with(edits.GATE):
+        is_over = name == "scrypt_c" and is_built
+        command = [sys.executable, "-m", "ci.wrong_bodies", *(["over", kept] if is_over else []), name]
+        before = [LIBRARY] if is_over else []
+        tasks.add(f"wrong bodies of {name}", prover_command.below(name), lambda command=command: tasks.run(*command), *before)
     tasks.add("answers of the program", ["scrypt_tool"], lambda: answer(tasks, is_built))
     tasks.add("answers to hashes", ["scrypt_tool"], lambda: tasks.run(sys.executable, "-m", "ci.hashes", PROGRAM))
-    if is_for_arm64:
-        tasks.add(ARM64, prover_command.below("scrypt_tool"), lambda: test_arm64(tasks, kept), SCRYPT_FOR_ARM64)
 
 
 def prove(tasks, log):
