@@ -55,7 +55,7 @@ proved-scrypt_commands: proved-scrypt
 
 # What is cheap is reported first, and each part runs whatever the others find.
 check: kit
-	@$(MAKE) -j1 --no-print-directory --keep-going documents what-changed answers
+	@python3 -m ci.telling $(MAKE) -j1 --no-print-directory --keep-going documents what-changed answers
 
 # From nothing, the libraries are proved first, with more jobs for each. What is kept of them lets a check prove only what
 # changed.

@@ -1,0 +1,27 @@
+"""telling.py says what is in work below a command, also below its children, and has its status."""
+
+import contextlib
+import io
+import sys
+import unittest
+
+from ci import telling
+
+# A shell whose child is a process with the words of a check.
+CHECK = f"{sys.executable} -c 'import time; time.sleep(1.5)' check --crate-name walk; exit 3"
+
+
+class Telling(unittest.TestCase):
+    def test_a_check(self):
+        with contextlib.redirect_stdout(io.StringIO()) as said:
+            self.assertEqual(telling.run(["sh", "-c", CHECK], every=0.5), 3)
+        self.assertIn("in work: walk\n", said.getvalue())
+
+    def test_a_short_one(self):
+        with contextlib.redirect_stdout(io.StringIO()) as said:
+            self.assertEqual(telling.run(["true"]), 0)
+        self.assertEqual(said.getvalue(), "")
+
+
+if __name__ == "__main__":
+    unittest.main()
