@@ -13,12 +13,6 @@ from tools import sources
 
 FOLDERS = ["bench", "bindings", "bindings/c", "bindings/js", "bindings/js/test", "ci", "compare", "doc", "examples/key_files", "examples/key_page", "examples/login_service", "examples/migration", "tools"]
 
-# Uses that are left out: of a type, or a number's reading, that is declared where its users look for it.
-LEFT_OUT = {
-    "crates/scrypt": [("buffers", "derivation")],
-    "crates/scrypt_commands": [("bounds", "command"), ("options", "command_line")],
-}
-
 
 def home(crate, source, path):
     """The module in whose file an item is that a source uses by this path, or None if it is in another crate."""
@@ -62,10 +56,8 @@ def folders():
     return {folder: its - {folder, None} for folder, its in found.items()}
 
 
-def cycle(graph, left_out=()):
-    """A cycle without these uses, or None."""
-    for module, used in left_out:
-        graph[module].remove(used)
+def cycle(graph):
+    """A cycle, or None."""
     try:
         graphlib.TopologicalSorter(graph).prepare()
     except graphlib.CycleError as error:
@@ -75,7 +67,7 @@ def cycle(graph, left_out=()):
 
 def main():
     graphs = {f"crates/{name}": modules(name) for name in sources.crates()} | {"scripts": folders()}
-    found = {what: cycle(graph, LEFT_OUT.get(what, ())) for what, graph in graphs.items()}
+    found = {what: cycle(graph) for what, graph in graphs.items()}
     sys.exit("\n".join(f"{what}: a cycle of {' -> '.join(its)}" for what, its in found.items() if its) or 0)
 
 

@@ -2,10 +2,10 @@
 use Rattle.std.specs.Prelude.{ℕ, List, [], Option, Some, unwrap_or}
 use Rattle.password_hash.specs.Crypt64.{decoded}
 use Rattle.password_hash.specs.McfViews.{field_text}
-use Rattle.scrypt.specs.declared.stored_hash.parts.Key.{Key}
-use Rattle.scrypt.specs.declared.stored_hash.parts.Key.TheVariants.{Mcf, Phc}
-use Rattle.scrypt.specs.declared.stored_hash.parts.Salt.{Salt}
-use Rattle.scrypt.specs.declared.stored_hash.parts.Salt.TheVariants as salts
+use Rattle.scrypt.specs.declared.stored_parts.Key.{Key}
+use Rattle.scrypt.specs.declared.stored_parts.Key.TheVariants.{Mcf, Phc}
+use Rattle.scrypt.specs.declared.stored_parts.Salt.{Salt}
+use Rattle.scrypt.specs.declared.stored_parts.Salt.TheVariants as salts
 
 -- the bytes of a salt
 abbrev pub salt_bytes : Salt → List ℕ

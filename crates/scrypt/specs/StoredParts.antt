@@ -5,7 +5,7 @@ use Rattle.scrypt.specs.Accepted.{Parameters}
 use Rattle.scrypt.specs.Reading.{Stored, mapped, with_refusal}
 use Rattle.scrypt.specs.StoredHash.{is_stored_text, params_reading, reading}
 use Rattle.scrypt.specs.StoredKey.{key_bytes, salt_bytes}
-use Rattle.scrypt.specs.declared.stored_hash.parts.StoredParts.{StoredParts}
+use Rattle.scrypt.specs.declared.stored_parts.StoredParts.{StoredParts}
 
 -- the parts of a hash, with the bytes of its salt and of its key
 abbrev pub stored : StoredParts → Stored

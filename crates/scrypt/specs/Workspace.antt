@@ -7,7 +7,7 @@ use Rattle.scrypt.specs.Accepted.{Parameters}
 use Rattle.scrypt.specs.Cost.{chunks_bytes, cost, scratch_words, table_words}
 use Rattle.scrypt.specs.InBuffers.{IsWiped}
 use Rattle.scrypt.specs.Reading.{◌and_then◌, Stored, verdict}
-use Rattle.scrypt.specs.declared.derivation.BufferLens.{BufferLens}
+use Rattle.scrypt.specs.declared.buffers.BufferLens.{BufferLens}
 
 -- the caller's buffers, and the count of cores
 pub record Workspace : Type 0 where

@@ -4,7 +4,7 @@ ghost use Rattle.std.specs.Prelude.{◌≡◌};
 ghost use Rattle.scrypt.specs.Reading.{is_right, mixed_of};
 ghost use Rattle.scrypt.specs.StoredParts.{stored};
 
-use crate::stored_hash::parts::StoredParts;
+use crate::stored_parts::StoredParts;
 use scrypt_kernel::pbkdf2::Blocks;
 
 /// The length of a piece in bytes. It is whole blocks of PBKDF2, and whole groups of crypt Base64.

@@ -3,7 +3,6 @@
 ghost use Rattle.std.specs.Prelude.{◌≡◌, ◌↔◌, None, length, replicate, IfErr, IfOk, IsTrue, OnOk};
 ghost use Rattle.std.specs.Option.{option_map};
 ghost use Rattle.scrypt_kernel.specs.Count.{AreCounted};
-ghost use Rattle.scrypt.specs.Accepted.{IsStoredLen};
 ghost use Rattle.scrypt.specs.Cost.{chunks_bytes, cost};
 ghost use Rattle.scrypt.specs.Hashing.{IsCallRefused, IsNamedOrNone, key_len_or_default};
 ghost use Rattle.scrypt.specs.KeyOfParams.{key_by};
@@ -47,17 +46,6 @@ fn is_named_or_none(name: &str, alg_id: Option<&str>) -> bool
     }
 }
 
-/// Returns the length in bytes of the key that hashing with these parameters makes.
-pub(crate) fn key_len_or_default(params: &Params) -> usize
-    ensures value { result ≡ key_len_or_default params.now }
-    ensures stored { IsStoredLen result }
-{
-    match params.output_len() {
-        Some(len) => len,
-        None => Params::RECOMMENDED_LEN,
-    }
-}
-
 /// Derives the key that hashing with these parameters stores, in three buffers of its own: the chunks, the
 /// table and the scratch, allocated in this order and before the first core.
 ///
@@ -96,7 +84,7 @@ pub(crate) fn stored_key<M: Memory>(
     ensures spent { IsSpent M.room params.now used.old used.new }
 {
     let mut places = [0u8; Output::MAX_LENGTH];
-    let key = &mut places[..key_len_or_default(params)];
+    let key = &mut places[..params.key_len_or_default()];
     derive_in::<M>(password, salt, params, 0, used, key);
     used.chunks.fill(0);
     used.scratch.fill(0);

@@ -29,13 +29,14 @@ mod params;
 pub mod phc;
 mod rehashing;
 mod stored_hash;
+mod stored_parts;
 mod verifying;
 mod wiping;
 
 pub use algorithm::Scrypt;
-pub use buffers::used_lens;
+pub use buffers::{BufferLens, used_lens};
 pub use derivation::{
-    BufferLens, output_len_ok, scrypt, scrypt_counted, scrypt_in_groups, scrypt_thin,
+    output_len_ok, scrypt, scrypt_counted, scrypt_in_groups, scrypt_thin,
     scrypt_with_buffers,
 };
 pub use errors::{DeriveError, InvalidOutputLen, InvalidParams, LimitedError};

@@ -16,7 +16,7 @@ use crate::comparing::is_derived_key;
 use crate::derivation::derive_chunks;
 use crate::derivation::mixing::mix_all;
 use crate::errors::LimitedError;
-use crate::stored_hash::parts::StoredParts;
+use crate::stored_parts::StoredParts;
 use crate::stored_hash::within::limited;
 use crate::verifying::{verdict, verify_in_buffers};
 use crate::{BufferLens, CoreCount, Limits, Params, StoredHash};

@@ -3,7 +3,8 @@
 ghost use Rattle.std.specs.Prelude.{◌≡◌, ◌↔◌, ◌+◌, ◌*◌, ◌^◌, ◌<◌, ◌≤◌, IsOk, IfOk, IfSome, IsTrue, None, Some};
 ghost use Rattle.scrypt.specs.Accepted.{AreAccepted, IsStoredLen, Parameters, parameters_eq, recommended_parameters};
 ghost use Rattle.scrypt.specs.Limits.{work};
-ghost use Rattle.scrypt.specs.Reading.{checked, with_refusal};
+ghost use Rattle.scrypt.specs.Hashing.{key_len_or_default};
+ghost use Rattle.scrypt.specs.Reading.{checked, is_below, with_refusal};
 ghost use Rattle.scrypt.specs.Cost.{cost};
 ghost use Rattle.std.specs.Cmp.{and_equiv, on_equiv, partial_equiv_from_equiv};
 ghost use Rattle.std.specs.Cmp.Lexicographic.{options_equiv};
@@ -153,6 +154,28 @@ impl Params {
         ensures stored { IfSome result IsStoredLen }
     {
         self.output_len
+    }
+
+    /// Returns the length in bytes of the key that hashing with these parameters makes.
+    pub(crate) fn key_len_or_default(&self) -> usize
+        ensures value { result ≡ key_len_or_default self.now }
+        ensures stored { IsStoredLen result }
+    {
+        match self.output_len() {
+            Some(len) => len,
+            None => Params::RECOMMENDED_LEN,
+        }
+    }
+
+    /// Returns whether `log_n`, `r`, `p` or the length of the key, which is `key_len`, is below the wanted one.
+    #[tactic(auto, unfolding(crate::specs::Reading::is_below))]
+    pub(crate) fn is_below(&self, wanted: &Params, key_len: usize) -> bool
+        ensures { result ≡ is_below wanted.now self.now key_len }
+    {
+        self.log_n() < wanted.log_n()
+            || self.r() < wanted.r()
+            || self.p() < wanted.p()
+            || key_len < wanted.key_len_or_default()
     }
 
     /// Returns the logarithm of the work factor `N` to base 2, at most 56.

@@ -4,12 +4,11 @@ ghost use Rattle.std.specs.Prelude.{◌≡◌};
 ghost use Rattle.password_hash.specs.McfViews.{borrowed_text};
 ghost use Rattle.scrypt.specs.McfHash.{read_mcf};
 ghost use Rattle.scrypt.specs.PhcHash.{read_phc};
-ghost use Rattle.scrypt.specs.Reading.{is_below, weaker as weaker_than};
+ghost use Rattle.scrypt.specs.Reading.{weaker as weaker_than};
 
-use crate::hashing::key_len_or_default;
 use crate::mcf::reading::parts_of_mcf;
 use crate::phc::reading::{parts_of_phc, read_params};
-use crate::{Params, Scrypt};
+use crate::Scrypt;
 use password_hash::{RehashCheck, Result, mcf, phc};
 
 impl RehashCheck<phc::PasswordHash> for Scrypt {
@@ -22,7 +21,7 @@ impl RehashCheck<phc::PasswordHash> for Scrypt {
     /// Returns the same errors as verifying does before it allocates, in the same order.
     fn needs_rehash(&self, hash: &phc::PasswordHash) -> Result<bool> {
         match parts_of_phc(hash, &read_params(hash)) {
-            Ok(parts) => Ok(is_below(&self.params(), &parts.params, parts.key_len)),
+            Ok(parts) => Ok(parts.params.is_below(&self.params(), parts.key_len)),
             Err(error) => Err(error),
         }
     }
@@ -36,7 +35,7 @@ impl<'a> RehashCheck<mcf::PasswordHashRef<'a>> for Scrypt {
     /// Returns the same errors as verifying does before it allocates, in the same order.
     fn needs_rehash(&self, hash: &mcf::PasswordHashRef<'a>) -> Result<bool> {
         match parts_of_mcf(hash) {
-            Ok(stored) => Ok(is_below(&self.params(), &stored.params, stored.key_len)),
+            Ok(stored) => Ok(stored.params.is_below(&self.params(), stored.key_len)),
             Err(refused) => Err(refused),
         }
     }
@@ -49,15 +48,4 @@ impl RehashCheck<mcf::PasswordHash> for Scrypt {
     fn needs_rehash(&self, hash: &mcf::PasswordHash) -> Result<bool> {
         self.needs_rehash(&hash.as_password_hash_ref())
     }
-}
-
-/// Returns whether one of the four is below the wanted one.
-#[tactic(auto, unfolding(crate::specs::Reading::is_below))]
-pub(crate) fn is_below(wanted: &Params, stored: &Params, key_len: usize) -> bool
-    ensures { result ≡ is_below wanted.now stored.now key_len }
-{
-    stored.log_n() < wanted.log_n()
-        || stored.r() < wanted.r()
-        || stored.p() < wanted.p()
-        || key_len < key_len_or_default(wanted)
 }

@@ -10,13 +10,11 @@ ghost use Rattle.scrypt.specs.StoredHash.{formatted, is_mcf_text, is_stored_text
 ghost use Rattle.scrypt.specs.StoredParts.{IsReadAs, stored};
 ghost use Rattle.scrypt.specs.Workspace.{IsLeft, verdict_in, workspace_of};
 
-pub(crate) mod parts;
 pub(crate) mod within;
 
 use crate::mcf::reading::parts_of_mcf;
 use crate::phc::reading::{parts_of_phc, read_params};
-use crate::rehashing::is_below;
-use crate::stored_hash::parts::StoredParts;
+use crate::stored_parts::StoredParts;
 use crate::verifying::{verify_allocating, verify_in_buffers};
 use crate::{BufferLens, CoreCount, Params};
 use password_hash::{Error, Result, mcf, phc};
@@ -167,7 +165,7 @@ impl<'a> StoredHash<'a> {
         ensures weaker { with_refusal result ≡ weaker wanted.now (reading self.now) }
     {
         match self.parts() {
-            Ok(parts) => Ok(is_below(wanted, &parts.params, parts.key_len)),
+            Ok(parts) => Ok(parts.params.is_below(wanted, parts.key_len)),
             Err(error) => Err(error),
         }
     }

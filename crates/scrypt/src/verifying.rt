@@ -14,7 +14,7 @@ use crate::buffers::{Buffers, InUse, width_in};
 use crate::comparing::is_derived_key;
 use crate::derivation::derive_chunks;
 use crate::derivation::mixing::mix_all;
-use crate::stored_hash::parts::StoredParts;
+use crate::stored_parts::StoredParts;
 use crate::{BufferLens, CoreCount};
 use password_hash::{Error, Result};
 use scrypt_kernel::memory::{Buffer, Memory};

@@ -11,8 +11,8 @@ use Rattle.scrypt_commands.specs.CliError.{ErrorLine, error_line, hash_error, re
 use Rattle.scrypt_commands.specs.Invocation.{CommandLine}
 use Rattle.scrypt_commands.specs.declared.command.Format.{Format}
 use Rattle.scrypt_commands.specs.declared.command.Format.TheVariants.{Phc, Mcf}
-use Rattle.scrypt_commands.specs.declared.command_line.Name.{Name}
-use Rattle.scrypt_commands.specs.declared.command_line.Name.TheVariants as names
+use Rattle.scrypt_commands.specs.declared.command_name.Name.{Name}
+use Rattle.scrypt_commands.specs.declared.command_name.Name.TheVariants as names
 use Rattle.scrypt_commands.specs.declared.command.Target.{Target}
 use Rattle.scrypt_commands.specs.declared.command.Target.TheVariants.{Key, Hash}
 use Rattle.scrypt_commands.specs.declared.command.UncheckedParams.{UncheckedParams}

@@ -6,8 +6,8 @@ use Rattle.std.specs.Option.{option_copied, option_map_or}
 use Rattle.scrypt.specs.Reading.{◌and_then◌}
 use Rattle.scrypt_commands.specs.Options.{Options, options_of, texts_of}
 use Rattle.scrypt_commands.specs.declared.command_line.CommandLine.{CommandLine as CommandLineOf}
-use Rattle.scrypt_commands.specs.declared.command_line.Name.{Name}
-use Rattle.scrypt_commands.specs.declared.command_line.Name.TheVariants.{Key, Hash, Verify, Rehash}
+use Rattle.scrypt_commands.specs.declared.command_name.Name.{Name}
+use Rattle.scrypt_commands.specs.declared.command_name.Name.TheVariants.{Key, Hash, Verify, Rehash}
 use Rattle.scrypt_commands.specs.declared.error.CliError.{CliError}
 use Rattle.scrypt_commands.specs.declared.error.CliError.TheVariants.{HashMisfit, KeyMisfit, NoHashFile, RehashMisfit, Usage, VerifyMisfit}
 use Rattle.scrypt_commands.specs.declared.invocation.Invocation.{Invocation as InvocationOf}
@@ -40,7 +40,7 @@ name_of word =
 
 -- whether an option is about a stored hash: its limits, or its file
 abbrev pub is_about_hash : Options → Bool
-is_about_hash o = is_some o.bounds || is_some o.hash_file
+is_about_hash o = is_some o.limit_options || is_some o.hash_file
 
 -- Why the options do not fit a command, if they don't. Options about a stored hash are for `verify` and `rehash`, a salt is drawn for
 -- `hash` and `rehash`, the recommended parameters are those of `hash`, and only a key is written raw.
@@ -97,7 +97,7 @@ hash_file_of others = None
 -- the options, with the texts that they have
 abbrev pub options_view : OptionsOf → Options
 options_view it = record {
-  bounds = it.bounds;
+  limit_options = it.limit_options;
   draws_salt = it.draws_salt;
   is_recommended = it.is_recommended;
   strips_newline = it.strips_newline;

@@ -2,7 +2,7 @@
 -- the program prints.
 
 -- what a stored hash may need
-pub mod Bounds
+pub mod LimitOptions
 -- what the program prints about itself
 pub mod Information
 -- the options before a command

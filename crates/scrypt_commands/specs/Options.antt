@@ -4,9 +4,9 @@ use Rattle.std.specs.Prelude.{List, [], ◌∷◌, Option, None, Some, String, l
 use Rattle.std.specs.Global.{Global}
 use Rattle.std.specs.List.{after_first, before_first, ends_with, position_or_len}
 use Rattle.std.specs.Option.{option_map_or}
-use Rattle.scrypt_commands.specs.Bounds.{usual, with_number}
+use Rattle.scrypt_commands.specs.LimitOptions.{usual, with_number}
 use Rattle.scrypt_commands.specs.Information.{help_text, version_text}
-use Rattle.scrypt_commands.specs.declared.bounds.Bounds.{Bounds}
+use Rattle.scrypt_commands.specs.declared.limit_options.LimitOptions.{LimitOptions}
 
 -- the texts of words
 abbrev pub texts_of : List (String Global) → List (List ℕ)
@@ -14,7 +14,7 @@ texts_of words = map string_bytes words
 
 -- the options before a command
 pub record Options : Type 0 where
-  pub bounds : Option Bounds
+  pub limit_options : Option LimitOptions
   pub draws_salt : Bool
   pub is_recommended : Bool
   pub strips_newline : Bool
@@ -25,7 +25,7 @@ pub record Options : Type 0 where
 -- no options
 abbrev pub no_options : Options
 no_options = record {
-  bounds = None;
+  limit_options = None;
   draws_salt = false;
   is_recommended = false;
   strips_newline = false;
@@ -38,7 +38,7 @@ no_options = record {
 abbrev pub with_named : Options → List ℕ → List ℕ → Option Options
 with_named o name value =
     if bytes_eq name (codes "--hash-file") then Some (record o { hash_file = Some value })
-    else option_map (λ bounds. record o { bounds = Some bounds }) (with_number (unwrap_or o.bounds usual) name value)
+    else option_map (λ limit_options. record o { limit_options = Some limit_options }) (with_number (unwrap_or o.limit_options usual) name value)
 
 -- the same, of an option whose value comes after its first `=`
 abbrev pub with_value : Options → List ℕ → Option Options
@@ -50,7 +50,7 @@ with_value o word =
 -- the options with this one too; a later one overrides an earlier one
 unfoldable pub with_option : Options → List ℕ → Option Options
 with_option o word =
-    if bytes_eq word (codes "--usual-limits") then Some (record o { bounds = Some usual })
+    if bytes_eq word (codes "--usual-limits") then Some (record o { limit_options = Some usual })
     else if bytes_eq word (codes "--draw-salt") then Some (record o { draws_salt = true })
     else if bytes_eq word (codes "--recommended") then Some (record o { is_recommended = true; draws_salt = true })
     else if bytes_eq word (codes "--strip-newline") then Some (record o { strips_newline = true })

@@ -18,12 +18,12 @@ use Rattle.scrypt.specs.declared.limits.Limits.{Limits}
 use Rattle.scrypt.specs.declared.limits.TheConstants.Limits.{USUAL}
 use Rattle.scrypt.specs.StoredHash.{reading}
 use Rattle.scrypt.specs.WithinLimits.{within}
-use Rattle.scrypt_commands.specs.Bounds.{limits_of}
+use Rattle.scrypt_commands.specs.LimitOptions.{limits_of}
 use Rattle.scrypt_commands.specs.Invocation.{CommandLine}
 use Rattle.scrypt_commands.specs.Options.{password_of}
 use Rattle.scrypt_commands.specs.Command.{◌>>=◌, Making, Request, ToMake, ToVerify, request_of}
 use Rattle.scrypt_commands.specs.CliError.{ErrorLine, error_line, hash_error, limited_line, refuse, status_of}
-use Rattle.scrypt_commands.specs.declared.bounds.Bounds.{Bounds}
+use Rattle.scrypt_commands.specs.declared.limit_options.LimitOptions.{LimitOptions}
 use Rattle.scrypt_commands.specs.declared.command.Format.{Format}
 use Rattle.scrypt_commands.specs.declared.command.Format.TheVariants.{Phc, Mcf}
 use Rattle.scrypt_commands.specs.declared.command.Target.{Target}
@@ -109,19 +109,19 @@ abbrev pub bounded : Option Limits → Result Stored Refusal → Result Stored R
 bounded None reading = reading
 bounded (Some limits) reading = within limits reading
 
--- the limits on a hash, if there are bounds, and something may be wanted in its place
-abbrev pub limits_by : Option Bounds → Option Making → Option Limits
-limits_by bounds wanted = option_map (λ b. limits_of b (option_map (λ making. making.params) wanted)) bounds
+-- the limits on a hash, if options name any, and something may be wanted in its place
+abbrev pub limits_by : Option LimitOptions → Option Making → Option Limits
+limits_by limit_options wanted = option_map (λ b. limits_of b (option_map (λ making. making.params) wanted)) limit_options
 
--- the answer to a request within bounds, if there are any
-abbrev pub reply_to : Option Bounds → Request → List ℕ → Result Reply ErrorLine
-reply_to bounds (ToMake making) password = made_reply making password
-reply_to bounds (ToVerify text wanted) password = do
-  right ← right_of (limits_by bounds wanted) (verdict password (bounded (limits_by bounds wanted) (reading text)))
+-- the answer to a request within limits, if options name any
+abbrev pub reply_to : Option LimitOptions → Request → List ℕ → Result Reply ErrorLine
+reply_to limit_options (ToMake making) password = made_reply making password
+reply_to limit_options (ToVerify text wanted) password = do
+  right ← right_of (limits_by limit_options wanted) (verdict password (bounded (limits_by limit_options wanted) (reading text)))
   if right then right_reply wanted (reading text) password else Ok (record { status = 1; line = codes "no\n" })
 
 -- the answer to a command by its options
 abbrev pub reply_by : CommandLine → List ℕ → Result Reply ErrorLine
 reply_by line input = do
   request ← request_of line
-  reply_to line.options.bounds request (password_of line.options.strips_newline input)
+  reply_to line.options.limit_options request (password_of line.options.strips_newline input)

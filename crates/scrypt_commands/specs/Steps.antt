@@ -17,7 +17,7 @@ use Rattle.scrypt_commands.specs.Command.{Making, Request, ToMake, ToVerify, dec
 use Rattle.scrypt_commands.specs.Outcome.{Reply, bounded, limits_by}
 use Rattle.scrypt_commands.specs.Run.{OnInput}
 use Rattle.scrypt_commands.specs.declared.answer.Answer.{Answer}
-use Rattle.scrypt_commands.specs.declared.bounds.Bounds.{Bounds}
+use Rattle.scrypt_commands.specs.declared.limit_options.LimitOptions.{LimitOptions}
 use Rattle.scrypt_commands.specs.declared.answer.Answer.TheVariants.{Made, Right, Wrong}
 use Rattle.scrypt_commands.specs.declared.command.Salt.{Salt}
 use Rattle.scrypt_commands.specs.declared.command.Salt.TheVariants.{Digits, Drawn}
@@ -75,8 +75,8 @@ abbrev pub AreOfHash : Result Stored Refusal → (failed : Type 0) → CoreCount
 AreOfHash (Err why) failed before after = after ≡ before
 AreOfHash (Ok s) failed before after = ¬ failed → AreCounted (cost s.params.log_n s.params.r s.params.p) before after
 
--- the cores of verifying for a request within bounds, if there are any: none if it asks only to make something
-abbrev pub AreOfRequest : Option Bounds → Request → (failed : Type 0) → CoreCount → CoreCount → Type 0
-AreOfRequest bounds (ToMake making) failed before after = after ≡ before
-AreOfRequest bounds (ToVerify text wanted) failed before after =
-    AreOfHash (bounded (limits_by bounds wanted) (reading text)) failed before after
+-- the cores of verifying for a request within limits, if options name any: none if it asks only to make something
+abbrev pub AreOfRequest : Option LimitOptions → Request → (failed : Type 0) → CoreCount → CoreCount → Type 0
+AreOfRequest limit_options (ToMake making) failed before after = after ≡ before
+AreOfRequest limit_options (ToVerify text wanted) failed before after =
+    AreOfHash (bounded (limits_by limit_options wanted) (reading text)) failed before after

@@ -11,7 +11,7 @@ ghost use Rattle.scrypt_commands.specs.Steps.{AreOfHash, AreOfRequest, Gives, ma
 ghost use Rattle.scrypt_commands.specs.declared.command.Target.TheVariants.{Key};
 ghost use Rattle.scrypt_commands.specs.declared.error.CliError.TheVariants.{OutOfMemory};
 
-use crate::bounds::Bounds;
+use crate::limit_options::LimitOptions;
 use crate::command::{Command, Format, Making, Target};
 use crate::error::CliError;
 use password_hash::{Error, PasswordHasher, mcf, phc};
@@ -45,25 +45,25 @@ impl Answer {
 }
 
 impl<'a> Command<'a> {
-    /// Carries out the command on this password. A hash is verified only within the bounds, if there are any.
+    /// Carries out the command on this password. A hash is verified only within limits, if options name any.
     ///
     /// Returns the error of hashing or verifying, also `TooCostly` or `KeyTooShort` if a hash exceeds
-    /// the bounds, and `OutOfMemory` if an allocation fails. `cores` counts the cores of verifying: none if
-    /// the hash cannot be read or exceeds the bounds.
+    /// the limits, and `OutOfMemory` if an allocation fails. `cores` counts the cores of verifying: none if
+    /// the hash cannot be read or exceeds the limits.
     pub fn answer(
         &self,
         alloc: Global,
         password: &[u8],
-        bounds: Option<Bounds>,
+        limit_options: Option<LimitOptions>,
         cores: &mut CoreCount,
     ) -> Result<Answer, CliError>
-        ensures reply { Gives reply_view (reply_to bounds (request_view self.now) password.now) result }
-        ensures cores { AreOfRequest bounds (request_view self.now) (IsErrOf result OutOfMemory) cores.old cores.new }
+        ensures reply { Gives reply_view (reply_to limit_options (request_view self.now) password.now) result }
+        ensures cores { AreOfRequest limit_options (request_view self.now) (IsErrOf result OutOfMemory) cores.old cores.new }
     {
         match self {
             Command::Make(making) => make(alloc, password, making),
             Command::Verify { hash, wanted } => {
-                if !verify(alloc, hash, password, limits_by(bounds, wanted), cores)? {
+                if !verify(alloc, hash, password, limits_by(limit_options, wanted), cores)? {
                     return Ok(Answer::Wrong);
                 }
                 replace(alloc, hash, password, wanted)
@@ -72,11 +72,15 @@ impl<'a> Command<'a> {
     }
 }
 
-// Returns the limits on a hash, if there are bounds.
-fn limits_by(bounds: Option<Bounds>, wanted: &Option<Making>) -> Option<Limits>
-    ensures { result ≡ limits_by bounds (option_map making_view wanted.now) }
+// Returns the limits on a hash, if options name any.
+fn limits_by(limit_options: Option<LimitOptions>, wanted: &Option<Making>) -> Option<Limits>
+    ensures { result ≡ limits_by limit_options (option_map making_view wanted.now) }
 {
-    Some(bounds?.limits(wanted))
+    let limit_options = limit_options?;
+    match wanted {
+        Some(making) => Some(limit_options.limits(Some(making.params))),
+        None => Some(limit_options.limits(None)),
+    }
 }
 
 // Makes what is wanted in place of a hash with this password, if the hash is weaker.

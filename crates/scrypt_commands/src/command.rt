@@ -1,8 +1,7 @@
 // What a command asks for.
 
-ghost use Rattle.std.specs.Prelude.{◌≡◌, ◌^◌};
+ghost use Rattle.std.specs.Prelude.{◌≡◌};
 ghost use Rattle.std.specs.Option.{option_copied};
-ghost use Rattle.password_hash.specs.Decimal.{decimal_below};
 ghost use Rattle.scrypt_commands.specs.Command.{checked_params, end_of, first_word, format_word, hash_of, hash_word, hash_words};
 ghost use Rattle.scrypt_commands.specs.Command.{key_words, len_word, making_of, optional_len, params_words, rehash_words, request_of, salt_word};
 ghost use Rattle.scrypt_commands.specs.Command.{verify_words};
@@ -10,11 +9,11 @@ ghost use Rattle.scrypt_commands.specs.Invocation.{line_view};
 ghost use Rattle.scrypt_commands.specs.Options.{texts_of};
 ghost use Rattle.scrypt_commands.specs.Steps.{Gives, before_words, making_view, request_view, salt_of};
 
-use crate::command_line::{CommandLine, Name};
+use crate::command_line::CommandLine;
+use crate::command_name::Name;
+use crate::decimals::{parse_byte, parse_len, parse_word};
 use crate::error::CliError;
 use hex::FromHexError;
-use password_hash::decimal::read_decimal;
-use password_hash::laws::decimals_are_read;
 use scrypt::{Params, StoredHash, output_len_ok};
 use std::alloc::Global;
 
@@ -288,30 +287,6 @@ fn end_of(words: &[String]) -> Result<(), CliError>
         return Ok(());
     }
     Err(CliError::Usage)
-}
-
-/// Parses LEN.
-pub fn parse_len(word: &str) -> Option<usize>
-    ensures value { result ≡ decimal_below (2 ^ 64) word.now }
-{
-    decimals_are_read();
-    read_decimal(word)
-}
-
-// Parses R or P.
-fn parse_word(word: &str) -> Option<u32>
-    ensures { result ≡ decimal_below (2 ^ 32) word.now }
-{
-    decimals_are_read();
-    read_decimal(word)
-}
-
-// Parses LOG_N.
-fn parse_byte(word: &str) -> Option<u8>
-    ensures { result ≡ decimal_below (2 ^ 8) word.now }
-{
-    decimals_are_read();
-    read_decimal(word)
 }
 
 // Reads the salt, and then checks the parameters.

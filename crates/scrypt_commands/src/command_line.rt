@@ -3,20 +3,12 @@
 ghost use Rattle.std.specs.Prelude.{◌≡◌, IfErr};
 ghost use Rattle.scrypt.specs.Reading.{mapped};
 ghost use Rattle.scrypt_commands.specs.CliError.{status_of};
-ghost use Rattle.scrypt_commands.specs.Invocation.{command_by, line_view, name_of, options_view};
+ghost use Rattle.scrypt_commands.specs.Invocation.{command_by, line_view, options_view};
 ghost use Rattle.scrypt_commands.specs.Options.{texts_of};
 
+use crate::command_name::Name;
 use crate::error::CliError;
 use crate::options::Options;
-
-/// The name of a command.
-#[derive(Clone, Copy)]
-pub enum Name {
-    Key,
-    Hash,
-    Verify,
-    Rehash,
-}
 
 /// A command by its options, whose words are not read yet.
 #[derive(Clone, Copy)]
@@ -29,23 +21,6 @@ pub struct CommandLine<'a> {
     pub drawn: Option<[u8; 16]>,
     /// the text of the file that the options name, if they name one
     pub file_text: Option<&'a str>,
-}
-
-impl Name {
-    /// Returns the command of this name, or `Usage` if there is none.
-    #[tactic(auto, using(crate::proofs::CommandFacts::other), unfolding(crate::specs::Invocation::name_of))]
-    pub fn of(word: &str) -> Result<Name, CliError>
-        ensures value { result ≡ name_of word.now }
-        ensures refused { IfErr result (λ error. status_of error ≡ 2) }
-    {
-        match word {
-            "key" => Ok(Name::Key),
-            "hash" => Ok(Name::Hash),
-            "verify" => Ok(Name::Verify),
-            "rehash" => Ok(Name::Rehash),
-            _ => Err(CliError::Usage),
-        }
-    }
 }
 
 impl<'a> CommandLine<'a> {

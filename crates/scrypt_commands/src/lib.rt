@@ -3,9 +3,11 @@
 #![tactic(auto)]
 
 mod answer;
-mod bounds;
+mod limit_options;
 mod command;
 mod command_line;
+mod command_name;
+mod decimals;
 mod error;
 pub mod invocation;
 mod options;

@@ -5,8 +5,8 @@ ghost use Rattle.scrypt_commands.specs.CliError.{status_of};
 ghost use Rattle.scrypt_commands.specs.Invocation.{is_about_hash, misfit, options_view};
 ghost use Rattle.scrypt_commands.specs.Options.{options_of, password_of, texts_of, with_option, with_value, without_newline};
 
-use crate::bounds::Bounds;
-use crate::command_line::Name;
+use crate::limit_options::LimitOptions;
+use crate::command_name::Name;
 use crate::error::CliError;
 use crate::usage::{help, version};
 
@@ -14,7 +14,7 @@ use crate::usage::{help, version};
 #[derive(Clone, Copy)]
 pub struct Options<'a> {
     /// what the hash of `verify` and `rehash` may need, if there are limits
-    pub bounds: Option<Bounds>,
+    pub limit_options: Option<LimitOptions>,
     /// a salt is drawn for `hash` and `rehash`
     pub draws_salt: bool,
     /// `hash` takes the recommended parameters, and a salt is drawn
@@ -31,7 +31,7 @@ pub struct Options<'a> {
 
 /// No options.
 pub const NONE: Options<'static> = Options {
-    bounds: None,
+    limit_options: None,
     draws_salt: false,
     is_recommended: false,
     strips_newline: false,
@@ -66,7 +66,7 @@ impl<'a> Options<'a> {
     {
         let mut options = self;
         match word {
-            "--usual-limits" => options.bounds = Some(Bounds::usual()),
+            "--usual-limits" => options.limit_options = Some(LimitOptions::usual()),
             "--draw-salt" => options.draws_salt = true,
             "--recommended" => {
                 options.is_recommended = true;
@@ -96,12 +96,12 @@ impl<'a> Options<'a> {
                 ..self
             });
         }
-        let bounds = self
-            .bounds
-            .unwrap_or(Bounds::usual())
+        let limit_options = self
+            .limit_options
+            .unwrap_or(LimitOptions::usual())
             .with_number(name, value)?;
         Some(Options {
-            bounds: Some(bounds),
+            limit_options: Some(limit_options),
             ..self
         })
     }
@@ -110,7 +110,7 @@ impl<'a> Options<'a> {
     fn is_about_hash(self) -> bool
         ensures { result ≡ is_about_hash (options_view self.entry) }
     {
-        self.bounds.is_some() || self.hash_file.is_some()
+        self.limit_options.is_some() || self.hash_file.is_some()
     }
 
     /// Returns why the options do not fit this command, if they don't.

@@ -104,7 +104,7 @@ fn execute<R: Read, W: Write>(
     let answer = command.answer(
         alloc,
         line.options.password(&input),
-        line.options.bounds,
+        line.options.limit_options,
         &mut CoreCount::new(),
     )?;
     let (status, line) = answer.reply();

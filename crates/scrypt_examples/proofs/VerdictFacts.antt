@@ -9,7 +9,7 @@ use Rattle.scrypt.specs.Accepted.{Parameters}
 use Rattle.scrypt.specs.Cost.{chunks_bytes, cost, scratch_words, table_words}
 use Rattle.scrypt.specs.Reading.{Stored, mapped, verdict}
 use Rattle.scrypt.specs.Workspace.{IsLeft, Workspace, has_room, verdict_in}
-use Rattle.scrypt.specs.declared.derivation.BufferLens.{BufferLens}
+use Rattle.scrypt.specs.declared.buffers.BufferLens.{BufferLens}
 use Rattle.scrypt_examples.specs.Buffers.{AreEnoughFor}
 
 has_room_for : (c : Parameters) (w : Workspace) → chunks_bytes c.r c.p ≤ length w.chunks → table_words c.log_n c.r ≤ length w.table

@@ -4,7 +4,7 @@ use Rattle.password_hash.specs.Refusal.{Refusal}
 use Rattle.scrypt.specs.Accepted.{Parameters}
 use Rattle.scrypt.specs.Cost.{chunks_bytes, scratch_words, table_words}
 use Rattle.scrypt.specs.Reading.{Stored}
-use Rattle.scrypt.specs.declared.derivation.BufferLens.{BufferLens}
+use Rattle.scrypt.specs.declared.buffers.BufferLens.{BufferLens}
 
 -- the buffers are long enough for a derivation with these parameters, and are zeros
 pub record AreZeros (c : Parameters) (chunks table scratch : List ℕ) : Type 0 where

@@ -15,7 +15,7 @@ ghost use Rattle.scrypt.specs.Workspace.{IsDone, workspace_of};
 ghost use Rattle.scrypt_kernel.specs.Memory.{buffer_room};
 
 use crate::buffers::{InUse, width_in};
-use crate::hashing::{check_call, key_allocating, key_len_or_default, stored_key};
+use crate::hashing::{check_call, key_allocating, stored_key};
 use crate::mcf::five_letters::five_letters;
 use crate::mcf::reading::is_mcf;
 use crate::{BufferLens, CoreCount, Params, Scrypt};
@@ -121,7 +121,7 @@ pub fn hash_len(params: &Params, salt: &[u8]) -> usize
     params.known();
     PARAMS_LEN
         + Base64::Crypt.encoded_len(salt.len())
-        + (1 + Base64::Crypt.encoded_len(key_len_or_default(params)))
+        + (1 + Base64::Crypt.encoded_len(params.key_len_or_default()))
 }
 
 // Returns `$7$` and the eleven letters of the parameters.

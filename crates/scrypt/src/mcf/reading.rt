@@ -8,7 +8,7 @@ ghost use Rattle.scrypt.specs.StoredParts.{stored};
 
 use crate::mcf::params::decode_params_and_salt;
 use crate::output_len_ok;
-use crate::stored_hash::parts::{Key, Salt, StoredParts};
+use crate::stored_parts::{Key, Salt, StoredParts};
 use password_hash::mcf::{Fields, PasswordHashRef};
 use password_hash::{Error, Result};
 

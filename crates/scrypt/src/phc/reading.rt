@@ -7,7 +7,7 @@ ghost use Rattle.scrypt.specs.StoredParts.{stored};
 
 use crate::Params;
 use crate::phc::ALG_ID;
-use crate::stored_hash::parts::{Key, Salt, StoredParts};
+use crate::stored_parts::{Key, Salt, StoredParts};
 use password_hash::phc::{Ident, PasswordHash};
 use password_hash::{Error, Result};
 

@@ -6,14 +6,14 @@ use Rattle.scrypt.specs.Accepted.{Parameters}
 use Rattle.scrypt.specs.Limits.{buffers_bytes, work}
 use Rattle.scrypt.specs.declared.limits.Limits.{Limits}
 use Rattle.scrypt.specs.declared.limits.TheConstants.Limits.{USUAL}
-use Rattle.scrypt_commands.specs.declared.bounds.Bounds.{Bounds}
+use Rattle.scrypt_commands.specs.declared.limit_options.LimitOptions.{LimitOptions}
 
 -- the usual limits of the library, where `verify` and `rehash` choose the length of the key
-abbrev pub usual : Bounds
+abbrev pub usual : LimitOptions
 usual = record { most_bytes = USUAL.most_bytes; most_work = USUAL.most_work; least_key_len = None }
 
--- the bounds with the one of this name, whose value is a number below 2 ^ 64
-unfoldable pub with_number : Bounds → List ℕ → List ℕ → Option Bounds
+-- the options with the one of this name, whose value is a number below 2 ^ 64
+unfoldable pub with_number : LimitOptions → List ℕ → List ℕ → Option LimitOptions
 with_number b name value =
     if bytes_eq name (codes "--most-bytes") then option_map (λ n. record b { most_bytes = n }) (decimal_below (2 ^ 64) value)
     else if bytes_eq name (codes "--most-work") then option_map (λ n. record b { most_work = n }) (decimal_below (2 ^ 64) value)
@@ -22,7 +22,7 @@ with_number b name value =
 
 -- The limits on a hash: a key has at least 16 bytes, if no option says otherwise. If a new hash is wanted in its place, they are at
 -- least what that needs, and a short key is weaker than wanted, and so allowed if no option says otherwise.
-abbrev pub limits_of : Bounds → Option Parameters → Limits
+abbrev pub limits_of : LimitOptions → Option Parameters → Limits
 limits_of b None =
     record { most_bytes = b.most_bytes; most_work = b.most_work; least_key_len = unwrap_or b.least_key_len USUAL.least_key_len }
 limits_of b (Some wanted) = record {

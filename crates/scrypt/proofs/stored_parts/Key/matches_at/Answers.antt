@@ -1,5 +1,5 @@
 use Rattle.password_hash.proofs.DecodedFacts.{encoded_is}
-use Rattle.scrypt.proofs.stored_hash.parts.Key.matches_at.Goals as goal
+use Rattle.scrypt.proofs.stored_parts.Key.matches_at.Goals as goal
 
 pub base64_matches_at-requires : goal.base64_matches_at-requires
 base64_matches_at-requires c =

@@ -1,14 +1,14 @@
 // What a stored hash may need, and how short its key may be.
 
-ghost use Rattle.std.specs.Prelude.{◌≡◌, option_map};
-ghost use Rattle.scrypt_commands.specs.Bounds.{limits_of, usual, with_number};
+ghost use Rattle.std.specs.Prelude.{◌≡◌};
+ghost use Rattle.scrypt_commands.specs.LimitOptions.{limits_of, usual, with_number};
 
-use crate::command::{Making, parse_len};
-use scrypt::{BufferLens, Limits};
+use crate::decimals::parse_len;
+use scrypt::{BufferLens, Limits, Params};
 
 /// What a stored hash may need.
 #[derive(Clone, Copy)]
-pub struct Bounds {
+pub struct LimitOptions {
     /// the most bytes of memory
     pub most_bytes: usize,
     /// the most work, `4 * (N + 32) * R * P`
@@ -17,34 +17,34 @@ pub struct Bounds {
     pub least_key_len: Option<usize>,
 }
 
-impl Bounds {
+impl LimitOptions {
     /// Returns the usual limits on memory and work.
-    pub fn usual() -> Bounds
+    pub fn usual() -> LimitOptions
         ensures value { result ≡ usual }
     {
-        Bounds {
+        LimitOptions {
             most_bytes: Limits::USUAL.most_bytes,
             most_work: Limits::USUAL.most_work,
             least_key_len: None,
         }
     }
 
-    /// Returns the bounds with the one of this name, or `None` if there is none of it, or the value is not
+    /// Returns the options with the one of this name, or `None` if there is none of it, or the value is not
     /// a number.
-    #[tactic(auto, using(crate::proofs::CommandFacts::other), unfolding(crate::specs::Bounds::with_number))]
-    pub fn with_number(self, name: &str, value: &str) -> Option<Bounds>
+    #[tactic(auto, using(crate::proofs::CommandFacts::other), unfolding(crate::specs::LimitOptions::with_number))]
+    pub fn with_number(self, name: &str, value: &str) -> Option<LimitOptions>
         ensures value { result ≡ with_number self name.now value.now }
     {
         match name {
-            "--most-bytes" => Some(Bounds {
+            "--most-bytes" => Some(LimitOptions {
                 most_bytes: parse_len(value)?,
                 ..self
             }),
-            "--most-work" => Some(Bounds {
+            "--most-work" => Some(LimitOptions {
                 most_work: parse_len(value)? as u64,
                 ..self
             }),
-            "--least-key-len" => Some(Bounds {
+            "--least-key-len" => Some(LimitOptions {
                 least_key_len: Some(parse_len(value)?),
                 ..self
             }),
@@ -55,17 +55,17 @@ impl Bounds {
     /// Returns the limits on a hash: a key has at least 16 bytes, unless another length is named. If a new
     /// hash is wanted in its place, they are at least what that needs, and a short key, which is weaker
     /// than wanted, is allowed unless a length is named.
-    pub fn limits(self, wanted: &Option<Making>) -> Limits
-        ensures value { result ≡ limits_of self (option_map (λ making. making.params) wanted.now) }
+    pub fn limits(self, wanted: Option<Params>) -> Limits
+        ensures value { result ≡ limits_of self wanted }
     {
-        let Some(Making { params, .. }) = wanted else {
+        let Some(params) = wanted else {
             return Limits {
                 most_bytes: self.most_bytes,
                 most_work: self.most_work,
                 least_key_len: self.least_key_len.unwrap_or(Limits::USUAL.least_key_len),
             };
         };
-        let bytes = BufferLens::of(params).bytes();
+        let bytes = BufferLens::of(&params).bytes();
         let work = params.work();
         Limits {
             most_bytes: self
