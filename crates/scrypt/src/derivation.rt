@@ -14,7 +14,7 @@ pub(crate) mod mixing;
 use crate::buffers::{Buffers, InUse, at_once};
 use crate::derivation::mixing::mix_all;
 use crate::{CoreCount, DeriveError, InvalidOutputLen, Params};
-use scrypt_kernel::memory::{Buffer, Memory};
+use scrypt_kernel::memory::{Buffer, TableMemory};
 use scrypt_kernel::pbkdf2::pbkdf2_one;
 use std::alloc::Global;
 
@@ -215,7 +215,7 @@ pub fn scrypt_thin(
 
 /// Steps 1 to 3, in any memory, and a table that keeps one row in `2^s`.
 #[tactic(auto, unfolding(crate::specs::Key::derived_key))]
-pub(crate) fn derive_in<M: Memory>(
+pub(crate) fn derive_in<M: TableMemory>(
     password: &[u8],
     salt: &[u8],
     params: &Params,

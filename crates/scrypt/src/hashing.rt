@@ -14,7 +14,7 @@ use crate::derivation::derive_in;
 use crate::{CoreCount, Params};
 use password_hash::phc::Output;
 use password_hash::{Error, Result, Version};
-use scrypt_kernel::memory::Memory;
+use scrypt_kernel::memory::TableMemory;
 use std::alloc::Global;
 
 /// Checks the algorithm and version arguments.
@@ -73,7 +73,7 @@ pub(crate) fn key_allocating(
 }
 
 /// Derives the same key in any memory. Afterwards the chunks and the scratch are zeros.
-pub(crate) fn stored_key<M: Memory>(
+pub(crate) fn stored_key<M: TableMemory>(
     password: &[u8],
     salt: &[u8],
     params: &Params,

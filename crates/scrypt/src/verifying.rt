@@ -17,7 +17,7 @@ use crate::derivation::mixing::mix_all;
 use crate::stored_parts::StoredParts;
 use crate::{BufferLens, CoreCount};
 use password_hash::{Error, Result};
-use scrypt_kernel::memory::{Buffer, Memory};
+use scrypt_kernel::memory::{Buffer, TableMemory};
 use std::alloc::Global;
 
 /// Returns the verdict, given whether the derived key is the stored one.
@@ -34,7 +34,7 @@ pub(crate) fn verdict(same: bool) -> Result<()>
 
 // Derives the key of the stored one's length, in any memory, and returns whether it is the stored
 // key. Afterwards the chunks and the scratch are zeros.
-fn is_key_of<M: Memory>(password: &[u8], parts: &StoredParts<'_>, used: &mut InUse<'_, M>) -> bool
+fn is_key_of<M: TableMemory>(password: &[u8], parts: &StoredParts<'_>, used: &mut InUse<'_, M>) -> bool
     requires ready { IsReady M.room parts.now.params.log_n 0 parts.now.params.r parts.now.params.p used.old }
     ensures exact { result ≡ is_right password.now (stored parts.now) }
     ensures spent { IsSpent M.room parts.now.params used.old used.new }

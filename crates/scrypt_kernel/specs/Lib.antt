@@ -14,7 +14,7 @@ pub mod Count
 pub mod BlockMix
 -- RFC 7914, section 5: scryptROMix
 pub mod RoMix
--- what one scryptROMix costs in cores and in memory
+-- what one scryptROMix costs in cores and in memory, and buffers of these lengths
 pub mod RoMixCost
 -- the order in which the SIMD core has the words of a block
 pub mod Diagonal

@@ -13,7 +13,7 @@ pub mod pivot;
 pub mod plain;
 
 use crate::CoreCount;
-use crate::order::Order;
+use crate::order::OrderedBlocks;
 use crate::parts::Parts;
 
 // The words that a block mix reads, block by block: a row of each chunk.
@@ -25,7 +25,7 @@ pub(crate) trait Input {
     ghost words: { Self → ℕ → List ℕ };
 
     // Block `i` of each row. A row has `len` words.
-    fn read<O: Order>(&self, i: usize, len: usize) -> O
+    fn read<O: OrderedBlocks>(&self, i: usize, len: usize) -> O
         requires rows { are_rows self.now O.count len }
         requires inside { 16 * i + 16 ≤ len }
         ensures value { (k : ℕ) → k < O.count → O.held result k ≡ block (words self.now k) i }
@@ -40,7 +40,7 @@ impl<'a> Input for Parts<'a> {
     ghost words = { λ parts k. part_of parts k };
 
     #[inline(always)]
-    fn read<O: Order>(&self, i: usize, _len: usize) -> O {
+    fn read<O: OrderedBlocks>(&self, i: usize, _len: usize) -> O {
         O::read(self, i)
     }
 }
@@ -61,7 +61,7 @@ impl<'a> Input for Xor<'a> {
     ghost words = { λ both k. xor_words (part_of both.x k) (part_of both.y k) };
 
     #[inline(always)]
-    fn read<O: Order>(&self, i: usize, _len: usize) -> O {
+    fn read<O: OrderedBlocks>(&self, i: usize, _len: usize) -> O {
         let x: O = O::read(&self.x, i);
         x.xor(O::read(&self.y, i))
     }
@@ -69,7 +69,7 @@ impl<'a> Input for Xor<'a> {
 
 // The block mix of each row, in the order `O`: B is `input`, and B' is `output`.
 #[inline(always)]
-pub(crate) fn mix<O: Order, I: Input>(
+pub(crate) fn mix<O: OrderedBlocks, I: Input>(
     input: &I,
     output: &mut [u32],
     len: usize,
@@ -97,7 +97,7 @@ pub(crate) fn mix<O: Order, I: Input>(
 
 // Step 2 for one `i`, except Y[i] = X: T = X xor B[i], X = Salsa (T).
 #[inline(always)]
-fn mix_block<O: Order, I: Input>(x: O, input: &I, i: usize, len: usize, cores: &mut CoreCount) -> O
+fn mix_block<O: OrderedBlocks, I: Input>(x: O, input: &I, i: usize, len: usize, cores: &mut CoreCount) -> O
     requires rows { I.are_rows input.now O.count len }
     requires inside { 16 * i + 16 ≤ len }
     ensures value { (k : ℕ) → k < O.count → O.held result k ≡ permuted O.pivot (salsa20_8

@@ -7,12 +7,12 @@ ghost use Rattle.scrypt_kernel.specs.KeptRows.{AddsRow, IsRowLen, mixed_in};
 
 use crate::CoreCount;
 use crate::block_mix::mix;
-use crate::order::Order;
+use crate::order::OrderedBlocks;
 use crate::parts::Parts;
 use crate::words::part;
 
-/// Memory for rows of words, and the rows that are in it.
-pub trait Memory {
+/// The memory of a table: room for rows of words, and the rows that are in it.
+pub trait TableMemory {
     // the words of the rows
     ghost words: { Self → List ℕ };
 
@@ -38,7 +38,7 @@ pub trait Memory {
     ///
     /// A row has `next.len()` words, which are `len` words for each chunk. What `next` holds after the call
     /// is unspecified.
-    fn append_mix<O: Order>(
+    fn append_mix<O: OrderedBlocks>(
         &mut self,
         i: usize,
         len: usize,
@@ -74,7 +74,7 @@ impl<'a> Buffer<'a> {
     }
 }
 
-impl<'a> Memory for Buffer<'a> {
+impl<'a> TableMemory for Buffer<'a> {
     ghost use Rattle.scrypt_kernel.specs.Memory.{buffer_room, buffer_words};
 
     ghost words = { buffer_words };
@@ -100,7 +100,7 @@ impl<'a> Memory for Buffer<'a> {
     }
 
     #[inline(always)]
-    fn append_mix<O: Order>(
+    fn append_mix<O: OrderedBlocks>(
         &mut self,
         i: usize,
         len: usize,
@@ -117,7 +117,7 @@ impl<'a> Memory for Buffer<'a> {
 }
 
 /// A vector that grows within its capacity, so that its memory is not filled with zeros first.
-impl Memory for Vec<u32> {
+impl TableMemory for Vec<u32> {
     ghost words = { λ rows. rows.items };
 
     ghost room = { λ rows. vec_capacity rows };
@@ -138,7 +138,7 @@ impl Memory for Vec<u32> {
     }
 
     #[inline(always)]
-    fn append_mix<O: Order>(
+    fn append_mix<O: OrderedBlocks>(
         &mut self,
         i: usize,
         len: usize,

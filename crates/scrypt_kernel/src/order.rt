@@ -16,7 +16,7 @@ use crate::parts::Parts;
 
 /// The block X of a block mix (RFC 7914, section 4), or one of each chunk of a group, which are mixed
 /// at once. Its type is the order of the words, and how many chunks there are.
-pub trait Order: Copy {
+pub trait OrderedBlocks: Copy {
     // pivot[i] is the standard index of the word stored at index i
     ghost pivot: { List ℕ };
 

@@ -11,8 +11,8 @@ ghost use Rattle.scrypt_kernel.specs.RoMixCost.{AreBytesOfB, AreRoMixLens, AreTh
 ghost use Rattle.scrypt_kernel.specs.RoMixCost.{scratch_words, table_words, thin_scratch_words};
 
 use crate::CoreCount;
-use crate::memory::{Buffer, Memory};
-use crate::order::Order;
+use crate::memory::{Buffer, TableMemory};
+use crate::order::OrderedBlocks;
 use crate::order::diagonal::Diagonal;
 pub use crate::order::diagonal::integerify_diagonal;
 use crate::order::standard::Standard;
@@ -30,7 +30,7 @@ use std::simd::u32x4;
 /// `32 * r * 2^(log_n - s)` words, and `scratch` has `64 * r` words. `log_n` is at most 56. Unless `s` is 0,
 /// there is one chunk, `s` is at most `log_n`, and `scratch` has `96 * r` words. It does not matter what `rows`
 /// and `scratch` hold before the call, and what they hold after it is unspecified.
-pub fn mix_chunks<O: Order, M: Memory>(
+pub fn mix_chunks<O: OrderedBlocks, M: TableMemory>(
     b: &mut [u8],
     r: usize,
     rows: &mut M,
@@ -67,7 +67,7 @@ pub fn mix_chunks<O: Order, M: Memory>(
 }
 
 // Steps 2 and 3, for X in `x` before and after. What `next` and `spare` hold after the call is unspecified.
-fn fill_and_walk<O: Order, M: Memory>(
+fn fill_and_walk<O: OrderedBlocks, M: TableMemory>(
     rows: &mut M,
     x: &mut [u32],
     next: &mut [u32],

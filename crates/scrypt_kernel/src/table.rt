@@ -10,15 +10,15 @@ ghost use Rattle.scrypt_kernel.specs.KeptRows.{AddsRow, IsFilled, IsRowLen, mixe
 
 use crate::CoreCount;
 use crate::block_mix::mix;
-use crate::memory::Memory;
-use crate::order::Order;
+use crate::memory::TableMemory;
+use crate::order::OrderedBlocks;
 use crate::parts::Parts;
 use crate::words::part;
 
 /// Step 2: for i = 0 to N - 1 do V[i] = X, X = scryptBlockMix (X).
 ///
 /// X is `x` in the order `O`. What `next` holds after the call is unspecified.
-pub(crate) fn fill<O: Order, M: Memory>(
+pub(crate) fn fill<O: OrderedBlocks, M: TableMemory>(
     rows: &mut M,
     x: &mut [u32],
     next: &mut [u32],
@@ -56,7 +56,7 @@ pub(crate) fn fill<O: Order, M: Memory>(
 // Appends the row that is `2^s` rows after the last one, which is the kept row `m`. What `x` and `next`
 // hold after the call is unspecified.
 #[inline(always)]
-fn append_next<O: Order, M: Memory>(
+fn append_next<O: OrderedBlocks, M: TableMemory>(
     rows: &mut M,
     m: usize,
     len: usize,
@@ -93,7 +93,7 @@ fn append_next<O: Order, M: Memory>(
 /// Computes the row that is `n` rows after the row `kept`: `x` becomes `kept` after `n` block mixes.
 ///
 /// `n` is at least 1. What `next` holds after the call is unspecified.
-pub(crate) fn recompute<O: Order>(
+pub(crate) fn recompute<O: OrderedBlocks>(
     kept: &[u32],
     len: usize,
     n: usize,
@@ -125,7 +125,7 @@ pub(crate) fn recompute<O: Order>(
 // The row after the row `x`.
 #[inline(always)]
 #[tactic(auto, using(crate::proofs::RoMixFacts::one_mix))]
-fn mix_row<O: Order>(x: &[u32], next: &mut [u32], len: usize, cores: &mut CoreCount)
+fn mix_row<O: OrderedBlocks>(x: &[u32], next: &mut [u32], len: usize, cores: &mut CoreCount)
     requires row { IsRowLen len }
     requires chunks { length x.now ≡ O.count * len }
     requires same { length next.old ≡ length x.now }

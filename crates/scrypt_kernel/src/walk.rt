@@ -10,7 +10,7 @@ ghost use Rattle.scrypt_kernel.specs.KeptRows.{AreWalkLens, IsRowLen, StartsWalk
 
 use crate::CoreCount;
 use crate::block_mix::{Xor, mix};
-use crate::order::Order;
+use crate::order::OrderedBlocks;
 use crate::parts::Parts;
 use crate::prefetch::prefetch_row;
 use crate::table::recompute;
@@ -21,7 +21,7 @@ use crate::words::part;
 /// X is in `x` before the call and after it. The steps write it to `next` and to `x` in turn, so that
 /// none copies it. `v` keeps each row whose number is a multiple of `2^s`; unless `s` is 0, there is
 /// one chunk, and `spare` is for a row that is recomputed.
-pub(crate) fn take_steps<O: Order>(
+pub(crate) fn take_steps<O: OrderedBlocks>(
     x: &mut [u32],
     v: &[u32],
     next: &mut [u32],
@@ -52,7 +52,7 @@ pub(crate) fn take_steps<O: Order>(
 //
 // It is not inlined: as two copies in one function, the steps of three chunks take 1.02 to 1.04 of the
 // time on x86-64-v2.
-fn step<O: Order>(
+fn step<O: OrderedBlocks>(
     x: &[u32],
     v: &[u32],
     next: &mut [u32],
@@ -84,7 +84,7 @@ fn step<O: Order>(
 }
 
 // T = X xor V[j], X = scryptBlockMix (T), where V[j] is recomputed: it is `missing` rows after `kept`.
-fn mix_recomputed<O: Order>(
+fn mix_recomputed<O: OrderedBlocks>(
     x: &[u32],
     kept: &[u32],
     missing: usize,
@@ -115,7 +115,7 @@ fn mix_recomputed<O: Order>(
 // Returns for each chunk j = Integerify (X) mod N, and where V[j] begins, or the kept row below it, and prefetches
 // that row. What `next` holds after the call is unspecified.
 #[inline(always)]
-fn take_rows<O: Order>(
+fn take_rows<O: OrderedBlocks>(
     x: &[u32],
     v: &[u32],
     next: &mut [u32],

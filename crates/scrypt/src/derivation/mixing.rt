@@ -10,8 +10,8 @@ ghost use Rattle.scrypt.specs.Mixing.{AreMixed, HasTables, IsKept, IsReady, next
 
 use crate::Params;
 use crate::buffers::InUse;
-use scrypt_kernel::memory::Memory;
-use scrypt_kernel::order::Order;
+use scrypt_kernel::memory::TableMemory;
+use scrypt_kernel::order::OrderedBlocks;
 use scrypt_kernel::order::diagonal::{Both, Diagonal};
 use scrypt_kernel::romix;
 use std::simd::{u32x4, u32x8};
@@ -19,7 +19,7 @@ use std::simd::{u32x4, u32x8};
 /// Each of `count` chunks becomes its scryptROMix, at most `used.width` of them at a time. They are those of one
 /// derivation or of several, all with the `N` and the `r` of `params`. The table keeps one row in `2^s`.
 #[tactic(auto, unfolding(crate::specs::Cost::extra_rows_of_chunks))]
-pub(crate) fn mix_all<M: Memory>(params: &Params, s: u8, count: usize, used: &mut InUse<'_, M>)
+pub(crate) fn mix_all<M: TableMemory>(params: &Params, s: u8, count: usize, used: &mut InUse<'_, M>)
     requires ready { IsReady M.room params.now.log_n s params.now.r count used.old }
     ensures kept { IsKept M.room used.old used.new }
     ensures value { used.new.chunks.now ≡ mixed_chunks used.old.chunks.now params.now.log_n params.now.r count }
@@ -55,7 +55,7 @@ fn next_group(width: usize, left: usize) -> usize
 }
 
 // Mixes the `n` chunks from `i` on at once.
-fn mix_at_once<M: Memory>(params: &Params, s: u8, n: usize, i: usize, used: &mut InUse<'_, M>)
+fn mix_at_once<M: TableMemory>(params: &Params, s: u8, n: usize, i: usize, used: &mut InUse<'_, M>)
     requires inside { i * (128 * params.now.r) + n * (128 * params.now.r) ≤ length used.old.chunks.now }
     requires memory { HasTables params.now.log_n s params.now.r n (M.room used.old.rows.now) (length used.old.scratch.now) }
     ensures mixed { (b : List ℕ) → AreMixed b params.now.log_n params.now.r i used.old.chunks.now
@@ -73,7 +73,7 @@ fn mix_at_once<M: Memory>(params: &Params, s: u8, n: usize, i: usize, used: &mut
 }
 
 // Mixes the `n` chunks from `i` on, as many as `O` holds blocks: B[i] = scryptROMix (r, B[i], N) for each.
-fn mix_group<O: Order, M: Memory>(
+fn mix_group<O: OrderedBlocks, M: TableMemory>(
     params: &Params,
     s: u8,
     n: usize,
@@ -106,7 +106,7 @@ fn mix_group<O: Order, M: Memory>(
 
 // Returns `s`. For several chunks it is a constant, so that the compiler leaves out what a smaller table needs.
 #[inline(always)]
-fn spacing<O: Order>(s: u8) -> u8
+fn spacing<O: OrderedBlocks>(s: u8) -> u8
     requires alone { 0 < s → O.count ≡ 1 }
     ensures { result ≡ s }
 {

@@ -24,7 +24,7 @@ pub fn core(x: &mut [u32; 16], cores: &mut CoreCount)
     ensures value { x.new ≡ diagonal_order (salsa20_8 (standard_order x.old)) }
     ensures counted { AreCounted 1 cores.old cores.new }
 {
-    *x = in_lanes(x).mixed(cores).block(0);
+    *x = in_lanes(x).counted_core(cores).block(0);
 }
 
 /// Returns these words as the lanes of four vectors.
@@ -57,7 +57,7 @@ impl<V: Lanes> Diagonal<V> {
 
     /// Returns the Salsa20/8 core of each block, and counts them as SIMD cores.
     #[inline(always)]
-    pub(crate) fn mixed(self, cores: &mut CoreCount) -> Diagonal<V>
+    pub(crate) fn counted_core(self, cores: &mut CoreCount) -> Diagonal<V>
         ensures value { (k : ℕ) → k < V.count → block_of V.lanes result k ≡ diagonal_core (block_of V.lanes self k) }
         ensures counted { AreCounted V.count cores.old cores.new }
     {

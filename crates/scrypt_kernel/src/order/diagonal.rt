@@ -15,7 +15,7 @@ pub use crate::cores::lanes::Diagonal;
 pub use crate::cores::lanes::both::Both;
 pub use crate::cores::lanes::scalars::Scalars;
 use crate::cores::lanes::{Lanes, in_lanes};
-use crate::order::{Order, low_bits};
+use crate::order::{OrderedBlocks, low_bits};
 use crate::parts::Parts;
 use crate::words::part;
 
@@ -42,7 +42,7 @@ pub fn pivots_are_inverse()
     ensures inverse_places { INVERSE_PIVOT_ABCD ≡ inverse_pivot }
 {}
 
-impl<V: Lanes> Order for Diagonal<V> {
+impl<V: Lanes> OrderedBlocks for Diagonal<V> {
     ghost use Rattle.scrypt_kernel.specs.Lanes.{block_of};
 
     ghost pivot = { pivot };
@@ -93,7 +93,7 @@ impl<V: Lanes> Order for Diagonal<V> {
 
     #[inline(always)]
     fn core(self, cores: &mut CoreCount) -> Diagonal<V> {
-        self.mixed(cores)
+        self.counted_core(cores)
     }
 
     #[inline(always)]

@@ -7,7 +7,7 @@ ghost use Rattle.scrypt_kernel.specs.RoMix.{integerify};
 use crate::CoreCount;
 use crate::cores::lanes::{Diagonal, in_lanes};
 use crate::cores::salsa;
-use crate::order::{Order, low_bits};
+use crate::order::{OrderedBlocks, low_bits};
 use crate::parts::Parts;
 use std::simd::u32x4;
 
@@ -18,7 +18,7 @@ pub struct Standard {
     rows: Diagonal<u32x4>,
 }
 
-impl Order for Standard {
+impl OrderedBlocks for Standard {
     ghost use Rattle.scrypt_kernel.specs.Lanes.{block_of};
     ghost use Rattle.scrypt_kernel.specs.Words.{part};
 

@@ -27,8 +27,8 @@ pub returns-clause-value : goal.returns-clause-value
 returns-clause-value g c k h =
     let len = c.args.len in
     let long = c.read-x.ensures.long k h in
-    let room = part_inside len k g.O.Order.count (length c.args.output.now) h (omega (arith, c.requires.output)) in
+    let room = part_inside len k g.O.OrderedBlocks.count (length c.args.output.now) h (omega (arith, c.requires.output)) in
     let full = length-part len k c.steps.output (omega (arith, room)) in
     let whole : length (g.I.Input.words c.args.input.now k) % 32 ≡ 0 = omega (arith, long, c.requires.row.whole) in
-    let mix = mixed_in _ _ g.met.O.Order.inverse (g.I.Input.words c.args.input.now k) (omega (arith, long, c.requires.row.some)) whole in
+    let mix = mixed_in _ _ g.met.O.OrderedBlocks.inverse (g.I.Input.words c.args.input.now k) (omega (arith, long, c.requires.row.some)) whole in
     all_turns mix _ (omega (arith, long)) whole _ _ _ (omega arith) (omega (arith, full, long)) (c.steps.invariant.mixed k h _ mix)

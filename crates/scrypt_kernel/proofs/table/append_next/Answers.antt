@@ -7,10 +7,10 @@ use Rattle.scrypt_kernel.proofs.table.append_next.Goals as goal
 
 pub returns-else-s-eq0-clause-words : goal.returns-else-s-eq0-clause-words
 returns-else-s-eq0-clause-words g c =
-    let p = g.O.Order.pivot in
-    let q = g.O.Order.inverse_pivot in
+    let p = g.O.OrderedBlocks.pivot in
+    let q = g.O.OrderedBlocks.inverse_pivot in
     let row_is = rw (c.requires.chunks, c.words.ensures.value) at c.part.ensures.value in
     let mixed = rw (one_shl c.args.s 64 (omega arith)) at c.recompute.ensures.value in
-    adds_row (mixed_in p q (2 ^ c.args.s)) g.O.Order.count c.args.len c.args.m _ _ c.recompute.new.x c.requires.last c.append.ensures.words
+    adds_row (mixed_in p q (2 ^ c.args.s)) g.O.OrderedBlocks.count c.args.len c.args.m _ _ c.recompute.new.x c.requires.last c.append.ensures.words
     (c.recompute.auto.x ∙ c.requires.chunks)
     (λ k h. mixed k h ∙ ap (λ z. mixed_in p q (2 ^ c.args.s) (part c.args.len z k)) row_is)

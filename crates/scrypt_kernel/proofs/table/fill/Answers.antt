@@ -10,7 +10,7 @@ use Rattle.scrypt_kernel.proofs.table.fill.Goals as goal
 pub rows-init : goal.rows-init
 rows-init g c = record {
   room = omega (arith, c.clear.ensures.room, c.append.ensures.room);
-  held = first_row g.O.Order.pivot g.O.Order.inverse_pivot g.met.O.Order.inverse g.O.Order.count c.args.len (2 ^ c.args.s) c.args.x.now _ _
+  held = first_row g.O.OrderedBlocks.pivot g.O.OrderedBlocks.inverse_pivot g.met.O.OrderedBlocks.inverse g.O.OrderedBlocks.count c.args.len (2 ^ c.args.s) c.args.x.now _ _
       c.requires.chunks c.requires.row.whole c.clear.ensures.words c.append.ensures.words;
   counted = counted_none _ _ _ (omega arith);
 }
@@ -20,7 +20,7 @@ append-requires g c =
     let one : 1 ≤ 2 ^ (c.args.log_n - c.args.s) = pow_pos (c.args.log_n - c.args.s) in
     rw c.clear.ensures.words (omega (
       arith,
-      mul-le-mul_right (g.O.Order.count * c.args.len) one,
+      mul-le-mul_right (g.O.OrderedBlocks.count * c.args.len) one,
       c.requires.room,
       c.clear.ensures.room,
       c.requires.chunks,
@@ -29,7 +29,7 @@ append-requires g c =
 pub rows-preserved : goal.rows-preserved
 rows-preserved g c = record {
   room = omega (arith, c.rows.invariant.room, c.append_next.ensures.room);
-  held = more_rows g.O.Order.pivot g.O.Order.inverse_pivot g.met.O.Order.inverse g.O.Order.count c.args.len (2 ^ c.args.s) c.rows.m _ _ _
+  held = more_rows g.O.OrderedBlocks.pivot g.O.OrderedBlocks.inverse_pivot g.met.O.OrderedBlocks.inverse g.O.OrderedBlocks.count c.args.len (2 ^ c.args.s) c.rows.m _ _ _
       c.requires.row.whole c.rows.invariant.held c.append_next.ensures.words;
   counted = counted_both _ c.rows.invariant.counted c.append_next.ensures.counted (omega arith);
 }
@@ -37,9 +37,9 @@ rows-preserved g c = record {
 pub returns-clause-filled : goal.returns-clause-filled
 returns-clause-filled g c =
     let last : 1 * 2 ^ (c.args.log_n - c.args.s) % 2 ^ 64 - 1 ≡ c.rows.m = omega arith in
-    let long : length c.rows.x ≡ g.O.Order.count * c.args.len = omega (arith, c.rows.auto.x, c.requires.chunks) in
-    filled g.O.Order.pivot g.O.Order.inverse_pivot g.met.O.Order.inverse g.O.Order.count c.args.len c.args.log_n c.args.s c.rows.m
-    c.args.x.now (g.M.Memory.words c.rows.rows) c.part.result.now _ c.requires.small c.requires.spacing (sym last) c.requires.row.whole
+    let long : length c.rows.x ≡ g.O.OrderedBlocks.count * c.args.len = omega (arith, c.rows.auto.x, c.requires.chunks) in
+    filled g.O.OrderedBlocks.pivot g.O.OrderedBlocks.inverse_pivot g.met.O.OrderedBlocks.inverse g.O.OrderedBlocks.count c.args.len c.args.log_n c.args.s c.rows.m
+    c.args.x.now (g.M.TableMemory.words c.rows.rows) c.part.result.now _ c.requires.small c.requires.spacing (sym last) c.requires.row.whole
     c.rows.invariant.held (rw (c.words.ensures.value, long, last) at c.part.ensures.value)
     (rw (one_shl c.args.s 64 (omega arith)) at c.recompute.ensures.value)
 

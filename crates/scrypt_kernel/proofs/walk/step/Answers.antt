@@ -17,15 +17,15 @@ mix-requires-clause-rows g c =
       record { len = c.of.ensures.len; all = rw c.count.ensures.value at c.of.ensures.all },
       record {
         len = c.new.ensures.len;
-        all = c.new.ensures.all g.O.Order.count few (λ k h. rw (c.take_rows.ensures.starts k h)
+        all = c.new.ensures.all g.O.OrderedBlocks.count few (λ k h. rw (c.take_rows.ensures.starts k h)
             (kept_place _ _ _ _ _ k _ lens.most (mod_below _ (2 ^ c.args.log_n) (pow_pos c.args.log_n)) h lens.rows));
       },
     )
 
 pub returns-then-missing-eq0-clause-value : goal.returns-then-missing-eq0-clause-value
 returns-then-missing-eq0-clause-value g c k h =
-    let p = g.O.Order.pivot in
-    let q = g.O.Order.inverse_pivot in
+    let p = g.O.OrderedBlocks.pivot in
+    let q = g.O.OrderedBlocks.inverse_pivot in
     let len = c.args.len in
     let s = c.args.s in
     let lens = c.requires.lens in
@@ -33,11 +33,11 @@ returns-then-missing-eq0-clause-value g c k h =
     let inside = mod_below _ (2 ^ c.args.log_n) (pow_pos c.args.log_n) in
     let j_is = c.take_rows.ensures.numbers 0 lens.some in
     let none = all_kept _ k s number lens.alone h (sym (missing_rows s _ _ (omega arith) j_is) ∙ c.if-missing-eq0.true) in
-    let at = place g.O.Order.count (number k / 2 ^ s) k in
+    let at = place g.O.OrderedBlocks.count (number k / 2 ^ s) k in
     let low = part len c.args.v.now at in
     let long = length-part len at c.args.v.now (kept_place _ _ _ _ (number k) k _ lens.most inside h lens.rows) in
     let taken = c.new.ensures.parts k ∙ ap (λ a. take len (drop a c.args.v.now)) (c.take_rows.ensures.starts k h) in
-    let row = row_zero_in p q g.met.O.Order.inverse low (omega (arith, long, lens.row.whole)) in
+    let row = row_zero_in p q g.met.O.OrderedBlocks.inverse low (omega (arith, long, lens.row.whole)) in
     c.mix.ensures.value k h ∙ ap₂ (mix_of p q) (c.of.ensures.parts k (omega (arith, h, c.count.ensures.value)))
     (taken ∙ row ∙ ap (λ i. mixed_in p q i low) (sym none))
 
@@ -51,7 +51,7 @@ pub part-kept-requires : goal.part-kept-requires
 part-kept-requires g c =
     let lens = c.requires.lens in
     let one = lens.alone (some_missing _ _ c.if-missing-eq0.false) in
-    let number = integerify (permuted g.O.Order.inverse_pivot (part c.args.len c.args.x.now 0)) in
+    let number = integerify (permuted g.O.OrderedBlocks.inverse_pivot (part c.args.len c.args.x.now 0)) in
     let below : get_or c.take_rows.result.0 0 0 < 2 ^ c.args.log_n =
     rw (c.take_rows.ensures.numbers 0 lens.some) (mod_below number (2 ^ c.args.log_n) (pow_pos c.args.log_n)) in
     let room = kept_place _ _ _ _ _ 0 _ lens.most below (omega (arith, one)) lens.rows in
@@ -71,9 +71,9 @@ returns-else-missing-eq0-clause-counted g c =
 
 pub returns-else-missing-eq0-clause-value : goal.returns-else-missing-eq0-clause-value
 returns-else-missing-eq0-clause-value g c k h =
-    let p = g.O.Order.pivot in
-    let q = g.O.Order.inverse_pivot in
-    let n = g.O.Order.count in
+    let p = g.O.OrderedBlocks.pivot in
+    let q = g.O.OrderedBlocks.inverse_pivot in
+    let n = g.O.OrderedBlocks.count in
     let len = c.args.len in
     let one = c.requires.lens.alone (some_missing _ _ c.if-missing-eq0.false) in
     let first : 0 ≡ k = omega (arith, h, one) in

@@ -34,7 +34,7 @@ part-requires-in-chunks g c =
 
 pub chunks-preserved : goal.chunks-preserved
 chunks-preserved g c =
-    let q = g.O.Order.inverse_pivot in
+    let q = g.O.OrderedBlocks.inverse_pivot in
     let k = c.chunks.k in
     let len = c.args.len in
     let starts = c.chunks.starts in

@@ -7,7 +7,7 @@ use Rattle.scrypt_kernel.proofs.walk.take_rows.Given as goal
 
 abbrev pub invariant-chunks : goal.invariant-chunks
 invariant-chunks g l =
-    let o = g.O.Order in
+    let o = g.O.OrderedBlocks in
     record {
       numbers_long : length l.rows ≡ 4;
       numbers : (i : ℕ) → i < l.k → get_or l.rows i 0 ≡ integerify (permuted o.inverse_pivot (part l.len l.x i)) % 2 ^ l.log_n;

@@ -8,7 +8,7 @@ use Rattle.scrypt_kernel.proofs.walk.take_steps.Given as goal
 
 abbrev pub invariant-pairs : goal.invariant-pairs
 invariant-pairs g l =
-    let o = g.O.Order in
+    let o = g.O.OrderedBlocks in
     record {
       walked : (k : ℕ) → k < o.count → (b : List ℕ) → StartsWalk o.pivot b o.count k l.len l.log_n l.s l.fn.v l.initial.x
           → part l.len l.x k ≡ permuted o.pivot (walk b l.log_n (2 * l._k));

@@ -8,7 +8,7 @@ abbrev pub invariant-groups : goal.invariant-groups
 invariant-groups g l =
     let before = l.fn.used in
     record {
-      kept : IsKept g.M.Memory.room before l.used;
+      kept : IsKept g.M.TableMemory.room before l.used;
       mixed : AreMixed before.chunks.now l.params.log_n l.params.r l.i l.used.chunks.now;
       some : l.i ≤ l.count;
       counted : AreCounted (thin_chunks_cost before.chunks.now l.params.log_n l.params.r l.i l.s) before.cores.now l.used.cores.now;

@@ -16,6 +16,6 @@ pub returns-clause-long : goal.returns-clause-long
 returns-clause-long g c k h =
     let a = c.args.self.now in
     let rows = c.requires.rows in
-    let one : length (part_of a.x k) ≡ c.args._len = length-part_of a.x g.O.Order.count k rows.0.all h ∙ rows.0.len in
-    let two : length (part_of a.y k) ≡ c.args._len = length-part_of a.y g.O.Order.count k rows.1.all h ∙ rows.1.len in
+    let one : length (part_of a.x k) ≡ c.args._len = length-part_of a.x g.O.OrderedBlocks.count k rows.0.all h ∙ rows.0.len in
+    let two : length (part_of a.y k) ≡ c.args._len = length-part_of a.y g.O.OrderedBlocks.count k rows.1.all h ∙ rows.1.len in
     length-zip2 bit_xor (part_of a.x k) (part_of a.y k) (one ∙ sym two) ∙ one

@@ -1,6 +1,6 @@
 use Rattle.std.proofs.Common.{bit_xor}
 use Rattle.scrypt_kernel.proofs.LaneFacts.{zip_joined}
-use Rattle.scrypt_kernel.proofs.order.diagonal.DiagonalOrder.xor.Goals as goal
+use Rattle.scrypt_kernel.proofs.order.diagonal.DiagonalOrderedBlocks.xor.Goals as goal
 
 pub returns : goal.returns
 returns g c = record {

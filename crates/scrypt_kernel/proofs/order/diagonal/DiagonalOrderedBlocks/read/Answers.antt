@@ -2,7 +2,7 @@ use Rattle.std.proofs.Common.{arith, zero-add}
 use Rattle.scrypt_kernel.specs.Parts.{part_of}
 use Rattle.scrypt_kernel.proofs.LaneFacts.{block_lanes}
 use Rattle.scrypt_kernel.proofs.PartFacts.{length-part_of}
-use Rattle.scrypt_kernel.proofs.order.diagonal.DiagonalOrder.read.Goals as goal
+use Rattle.scrypt_kernel.proofs.order.diagonal.DiagonalOrderedBlocks.read.Goals as goal
 
 pub returns : goal.returns
 returns g c = record {

@@ -2,7 +2,7 @@ use Rattle.std.proofs.Common.{◌+◌, ◌*◌, length, arith, sym, ◌∙◌}
 use Rattle.scrypt_kernel.specs.Words.{part}
 use Rattle.scrypt_kernel.proofs.LaneFacts.{block_lanes}
 use Rattle.scrypt_kernel.proofs.PartFacts.{block_same, length-part, part_inside}
-use Rattle.scrypt_kernel.proofs.order.diagonal.DiagonalOrder.write.Goals as goal
+use Rattle.scrypt_kernel.proofs.order.diagonal.DiagonalOrderedBlocks.write.Goals as goal
 
 pub returns-clause-written : goal.returns-clause-written
 returns-clause-written g c k h =
