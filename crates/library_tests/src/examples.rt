@@ -5,7 +5,7 @@ use scrypt::{CoreCount, Limits, Params};
 use scrypt_examples::derived_keys::{Deriver, key_in_a_thin_table, key_or_out_of_memory};
 use scrypt_examples::hash::stored_text;
 use scrypt_examples::key_file::{Header, age_wrap_key};
-use scrypt_examples::login::Logins;
+use scrypt_examples::login::LoginPolicy;
 use scrypt_examples::migration::rewrite;
 use scrypt_examples::verdicts::{two_verdicts_within, verdict};
 use std::test::Fail;
@@ -46,8 +46,8 @@ fn keys_of_files(rt: HostRuntime) -> Result<(), Fail> {
 fn stored_texts(rt: HostRuntime) -> Result<(), Fail> {
     stored_text(rt.alloc(), PASSWORD, SALT)?;
     // The text is weaker than wanted, so that a new one is made.
-    Logins::new(5, 1, 1)?.log_in(rt.alloc(), PHC, PASSWORD, SALT)?;
-    rewrite(rt.alloc(), &Logins::new(4, 1, 1)?, MCF, PASSWORD, SALT)?;
+    LoginPolicy::new(5, 1, 1)?.log_in(rt.alloc(), PHC, PASSWORD, SALT)?;
+    rewrite(rt.alloc(), &LoginPolicy::new(4, 1, 1)?, MCF, PASSWORD, SALT)?;
     Ok(())
 }
 

@@ -6,7 +6,7 @@ use Rattle.scrypt_kernel.specs.Words.{part, words_of}
 use Rattle.scrypt_kernel.specs.Table.{thin_ro_mix_cost}
 use Rattle.scrypt_kernel.proofs.WalkFacts.{extra_rows-whole, whole_cost}
 use Rattle.scrypt.specs.Cost.{cost, extra_rows_of_chunks, scratch_words, table_words, thin_chunks_cost}
-use Rattle.scrypt.specs.Workspace.{at_once}
+use Rattle.scrypt.specs.Workspace.{chunks_at_once}
 
 none_of_chunks : (b : List ℕ) (log_n r i : ℕ) → extra_rows_of_chunks b log_n 0 r i ≡ 0
 unfolding extra_rows_of_chunks
@@ -43,8 +43,8 @@ pub ruleset rooms = (room_for_one, some_table)
 
 -- w chunks are mixed at a time where w tables and exactly w scratches are
 pub width_is : (log_n r n w table scratch : ℕ) → 0 < r → w ≤ 4 → w ≤ n → w * table_words log_n r ≤ table → scratch ≡ w * scratch_words r
-    → w ≡ at_once log_n r n table scratch
-unfolding at_once
+    → w ≡ chunks_at_once log_n r n table scratch
+unfolding chunks_at_once
 width_is log_n r n w table scratch some few within fits is =
     let tables : w ≤ table / table_words log_n r = le-div w table (table_words log_n r) (some_table log_n r some) fits in
     let scratches : scratch / scratch_words r ≡ w = rw is (mul-div_left w (omega arith)) in
@@ -52,8 +52,8 @@ width_is log_n r n w table scratch some few within fits is =
 
 -- one is, where there is one table, and room for a scratch
 pub one_table : (log_n r n table scratch : ℕ) → 0 < r → 0 < n → table ≡ table_words log_n r → scratch_words r ≤ scratch
-    → 1 ≡ at_once log_n r n table scratch
-unfolding at_once
+    → 1 ≡ chunks_at_once log_n r n table scratch
+unfolding chunks_at_once
 one_table log_n r n table scratch some chunk is fits =
     let tables : table / table_words log_n r ≡ 1 = div-eq_of_eq-mul_left (some_table log_n r some) (omega (arith, is)) in
     let scratches : 1 ≤ scratch / scratch_words r = le-div 1 scratch (scratch_words r) (omega arith) (omega (arith, fits)) in
@@ -61,7 +61,7 @@ one_table log_n r n table scratch some chunk is fits =
 
 -- also if exactly so much of both is used
 pub width_of_part : (log_n r n table scratch : ℕ) → 0 < r
-    → let w = at_once log_n r n table scratch in w ≡ at_once log_n r n (w * table_words log_n r) (w * scratch_words r)
-unfolding at_once
+    → let w = chunks_at_once log_n r n table scratch in w ≡ chunks_at_once log_n r n (w * table_words log_n r) (w * scratch_words r)
+unfolding chunks_at_once
 width_of_part log_n r n table scratch some =
-    width_is log_n r n (at_once log_n r n table scratch) _ _ some (omega arith) (omega arith) (omega arith) refl
+    width_is log_n r n (chunks_at_once log_n r n table scratch) _ _ some (omega arith) (omega arith) (omega arith) refl

@@ -178,6 +178,6 @@ left_alone a rest before between after alone one others = chosen (shared (a ∷ 
     chosen None none = (between, one, others)
     chosen (Some c) none = rw (none c refl) (between, one, others)
 
-pub ruleset chunks_at_once = (long_all, mixed_is)
+pub ruleset chunks_together = (long_all, mixed_is)
 
 pub ruleset lens_of_chunks = (length-pbkdf2, length-mixed_chunks)

@@ -21,11 +21,11 @@ pub mod ChunkOrder
 pub mod Accepted
 -- what a derivation costs in cores and in memory
 pub mod Cost
--- the most that a derivation may need
+-- what a derivation may need
 pub mod Limits
 -- the texts of errors
 pub mod ErrorText
--- the key of parameters, as a `Kdf` gives it
+-- the key of parameters, as a `Kdf` gives it, and which lengths it refuses
 pub mod KeyOfParams
 -- the errors of making a hash, in every format
 pub mod Hashing
@@ -37,13 +37,13 @@ pub mod InBuffers
 pub mod Workspace
 -- parameters read from a PHC text
 pub mod PhcParams
--- PHC hashes that are made, and those that are whole
+-- PHC hashes: which are made, and how they are read
 pub mod PhcHash
 -- the results of the conversions between parameters and PHC values
 pub mod PhcConversions
 -- five-letter numbers, and the parameters of a `$7$` text
 pub mod McfParams
--- `$7$` hashes that are made, and those that are whole
+-- `$7$` hashes: how their texts are read, and which are made
 pub mod McfHash
 -- stored hashes of either format, by their texts
 pub mod StoredHash
@@ -51,9 +51,9 @@ pub mod StoredHash
 pub mod WithinLimits
 -- verifying several passwords in one memory
 pub mod Logins
--- private: the chunks of B, mixed one after another
+-- private: the chunks of B, mixed one after another, and the memory for it
 pub mod Mixing
--- private: the hash of a text, and the key of a hash
+-- private: the salt and the key of a hash
 pub mod StoredKey
 -- private: what a stored hash holds
 pub mod StoredParts

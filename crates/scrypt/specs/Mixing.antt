@@ -4,7 +4,7 @@ use Rattle.scrypt_kernel.specs.Count.{AreCounted}
 use Rattle.scrypt.specs.Accepted.{Parameters}
 use Rattle.scrypt.specs.Cost.{chunks_bytes, cost, scratch_words, table_words, thin_scratch_words}
 use Rattle.scrypt.specs.Key.{mixed_chunks}
-use Rattle.scrypt.specs.Workspace.{at_once}
+use Rattle.scrypt.specs.Workspace.{chunks_at_once}
 use Rattle.scrypt.specs.declared.buffers.InUse.{InUse}
 
 -- the first i chunks of x are those of b after scryptROMix, and the others are those of b
@@ -30,8 +30,8 @@ next_group w left = if nat_lt 2 w && nat_eq left (w + 1) then w - 1 else min w l
 
 -- of n chunks in these buffers, which are long enough for them, w are mixed at a time, also in the part of them that is used
 pub record IsWidth (log_n r n w : ℕ) (chunks table scratch : List ℕ) : Type 0 where
-  pub is : w ≡ at_once log_n r n (length table) (length scratch)
-  pub is_in_part : w ≡ at_once log_n r n (w * table_words log_n r) (w * scratch_words r)
+  pub is : w ≡ chunks_at_once log_n r n (length table) (length scratch)
+  pub is_in_part : w ≡ chunks_at_once log_n r n (w * table_words log_n r) (w * scratch_words r)
   pub chunks_fit : chunks_bytes r n ≤ length chunks
   pub memory : HasTables log_n 0 r w (length table) (length scratch)
 
@@ -40,7 +40,7 @@ pub record IsWidth (log_n r n w : ℕ) (chunks table scratch : List ℕ) : Type 
 pub record IsReady {M : Type 0} (room_of : M → ℕ) (log_n s r n : ℕ) (used : InUse M) : Type 0 where
   pub chunks_len : length used.chunks.now ≡ chunks_bytes r n
   pub memory : HasTables log_n s r used.width (room_of used.rows.now) (length used.scratch.now)
-  pub width : used.width ≡ at_once (log_n - s) r n (room_of used.rows.now) (length used.scratch.now)
+  pub width : used.width ≡ chunks_at_once (log_n - s) r n (room_of used.rows.now) (length used.scratch.now)
 
 -- the same memory, whatever is in it
 pub record IsKept {M : Type 0} (room_of : M → ℕ) (before after : InUse M) : Type 0 where

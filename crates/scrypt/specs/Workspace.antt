@@ -28,12 +28,12 @@ has_room c w = nat_le (chunks_bytes c.r c.p) (length w.chunks)
 
 -- how many of n chunks of this N and r are mixed at a time in a table and a scratch of so many words: at most four, and as
 -- many as have a table and a scratch there
-unfoldable pub at_once : ℕ → ℕ → ℕ → ℕ → ℕ → ℕ
-at_once log_n r n table scratch = min (min (min 4 n) (table / table_words log_n r)) (scratch / scratch_words r)
+unfoldable pub chunks_at_once : ℕ → ℕ → ℕ → ℕ → ℕ → ℕ
+chunks_at_once log_n r n table scratch = min (min (min 4 n) (table / table_words log_n r)) (scratch / scratch_words r)
 
 -- how many tables and scratches a derivation with these parameters uses of this table and this scratch
 abbrev pub tables_used : Parameters → List ℕ → List ℕ → ℕ
-tables_used c table scratch = at_once c.log_n c.r c.p (length table) (length scratch)
+tables_used c table scratch = chunks_at_once c.log_n c.r c.p (length table) (length scratch)
 
 -- `lens` is the part of each buffer that the derivation uses: one table and one scratch at least
 pub record AreUsed (c : Parameters) (lens : BufferLens) (chunks table scratch : List ℕ) : Type 0 where

@@ -6,7 +6,7 @@ ghost use Rattle.scrypt.specs.Cost.{chunks_bytes, scratch_words, table_words, th
 ghost use Rattle.scrypt.specs.InBuffers.{AreEnough};
 ghost use Rattle.scrypt.specs.Limits.{tables_within};
 ghost use Rattle.scrypt.specs.Mixing.{HasTables, IsWidth};
-ghost use Rattle.scrypt.specs.Workspace.{AreUsed, at_once};
+ghost use Rattle.scrypt.specs.Workspace.{AreUsed, chunks_at_once};
 
 use crate::{CoreCount, Params};
 use std::alloc::{AllocError, Global};
@@ -36,14 +36,14 @@ impl BufferLens {
     /// Returns the lengths for so many chunks at a time, at most four: the table and the scratch are so
     /// many times as long as those of [`BufferLens::of`]. With a `p` of 2 or more, more tables take less
     /// time: on x86-64-v3 two take 0.56 of it, and four 0.41.
-    pub fn times(params: &Params, tables: usize) -> BufferLens
+    pub fn for_tables(params: &Params, tables: usize) -> BufferLens
         requires few { tables ≤ 4 }
         ensures chunks { result.chunks ≡ chunks_bytes params.now.r params.now.p }
         ensures table { result.table ≡ tables * table_words params.now.log_n params.now.r }
         ensures scratch { result.scratch ≡ tables * scratch_words params.now.r }
     {
         let one = BufferLens::of(params);
-        params.known();
+        params.expose_invariant();
         BufferLens {
             chunks: one.chunks,
             table: tables * one.table,
@@ -53,7 +53,7 @@ impl BufferLens {
 
     /// Returns how many tables a derivation takes if its three buffers may have `most_bytes` bytes together:
     /// at most four and at most `p`, and one even if it has more bytes. The lengths are those of
-    /// [`BufferLens::times`].
+    /// [`BufferLens::for_tables`].
     #[tactic(auto, unfolding(crate::specs::Limits::tables_within))]
     pub fn tables_within(params: &Params, most_bytes: usize) -> usize
         ensures exact { result ≡ tables_within most_bytes params.now }
@@ -61,7 +61,7 @@ impl BufferLens {
         ensures few { result ≤ 4 }
     {
         let one = BufferLens::of(params);
-        params.known();
+        params.expose_invariant();
         let each = 4 * one.table as u128 + 4 * one.scratch as u128;
         let room = (most_bytes as u128).saturating_sub(one.chunks as u128);
         let most = u128::from(params.p().min(4));
@@ -110,15 +110,15 @@ impl BufferLens {
 
 /// Returns how many of `count` chunks are mixed at a time in a table and a scratch of so many words: at
 /// most four, and as many as have a table and a scratch there.
-#[tactic(auto, using(crate::proofs::CostFacts::rooms), unfolding(crate::specs::Workspace::at_once))]
-pub(crate) fn at_once(params: &Params, count: usize, table: usize, scratch: usize) -> usize
-    ensures exact { result ≡ at_once params.now.log_n params.now.r count table scratch }
+#[tactic(auto, using(crate::proofs::CostFacts::rooms), unfolding(crate::specs::Workspace::chunks_at_once))]
+pub(crate) fn chunks_at_once(params: &Params, count: usize, table: usize, scratch: usize) -> usize
+    ensures exact { result ≡ chunks_at_once params.now.log_n params.now.r count table scratch }
     ensures some { (0 < result) ↔ ((0 < count)
         × (table_words params.now.log_n params.now.r ≤ table) × (scratch_words params.now.r ≤ scratch)) }
     ensures memory { 0 < result → HasTables params.now.log_n 0 params.now.r result table scratch }
 {
     let one = BufferLens::of(params);
-    params.known();
+    params.expose_invariant();
     4usize
         .min(count)
         .min(table / one.table)
@@ -139,8 +139,8 @@ pub(crate) fn width_in(
     ensures enough { IsSome result ↔ AreEnough (record params.now { p = count }) chunks.now table.now scratch.now }
     ensures width { IfSome result (λ w. IsWidth params.now.log_n params.now.r count w chunks.now table.now scratch.now) }
 {
-    let width = at_once(params, count as usize, table.len(), scratch.len());
-    params.known();
+    let width = chunks_at_once(params, count as usize, table.len(), scratch.len());
+    params.expose_invariant();
     let chunk_len = 128 * u128::from(params.r());
     if width == 0 || u128::from(count) * chunk_len > chunks.len() as u128 {
         return None;
@@ -148,7 +148,7 @@ pub(crate) fn width_in(
     Some(width)
 }
 
-/// Returns how much of these buffers a derivation uses: the lengths of [`BufferLens::times`] for as many
+/// Returns how much of these buffers a derivation uses: the lengths of [`BufferLens::for_tables`] for as many
 /// tables as it uses, which are at most four and at most `p`. Returns `None` if a buffer is too short.
 pub fn used_lens(
     params: &Params,
@@ -160,7 +160,7 @@ pub fn used_lens(
     ensures used { IfSome result (λ lens. AreUsed params.now lens chunks.now table.now scratch.now) }
 {
     let width = width_in(params, params.p(), chunks, table, scratch)?;
-    Some(BufferLens::times(params, width))
+    Some(BufferLens::for_tables(params, width))
 }
 
 /// What derivations use: the chunks of all, memory for the rows of `width` tables and as many scratches, so that as
@@ -217,13 +217,13 @@ impl Buffers {
             (vec_capacity got.1.table) (length got.1.scratch.items)) }
         ensures width { IfOk result (λ got. (got.0 ≡ tables_within most_bytes params.now) ⊎ (got.0 ≡ 1)) }
         ensures scratch { IfOk result (λ got. length got.1.scratch.items ≡ got.0 * scratch_words params.now.r) }
-        ensures used { IfOk result (λ got. got.0 ≡ at_once params.now.log_n params.now.r params.now.p
+        ensures used { IfOk result (λ got. got.0 ≡ chunks_at_once params.now.log_n params.now.r params.now.p
             (vec_capacity got.1.table) (length got.1.scratch.items)) }
     {
-        params.known();
+        params.expose_invariant();
         let width = BufferLens::tables_within(params, most_bytes);
         if width > 1
-            && let Ok(own) = Buffers::allocate(alloc, &BufferLens::times(params, width))
+            && let Ok(own) = Buffers::allocate(alloc, &BufferLens::for_tables(params, width))
         {
             return Ok((width, own));
         }

@@ -11,7 +11,7 @@ ghost use Rattle.scrypt.specs.declared.errors.DeriveError.TheVariants.{InvalidOu
 
 pub(crate) mod mixing;
 
-use crate::buffers::{Buffers, InUse, at_once};
+use crate::buffers::{Buffers, InUse, chunks_at_once};
 use crate::derivation::mixing::mix_all;
 use crate::{CoreCount, DeriveError, InvalidOutputLen, Params};
 use scrypt_kernel::memory::{Buffer, TableMemory};
@@ -117,7 +117,7 @@ pub fn scrypt_in_groups(
 ///
 /// `chunks` has exactly the length of [`BufferLens::of`] in bytes, and `table` and `scratch` have at
 /// least its lengths in words. As many chunks are mixed at a time as have a table and a scratch
-/// there, at most four ([`BufferLens::times`]). It does not matter what the buffers hold before the
+/// there, at most four ([`BufferLens::for_tables`]). It does not matter what the buffers hold before the
 /// call, and what they hold after it is unspecified. `cores` counts the `4 * N * r * p` cores. Does
 /// not allocate.
 ///
@@ -147,7 +147,7 @@ pub fn scrypt_with_buffers(
     if !output_len_ok(output.len()) {
         return Err(InvalidOutputLen);
     }
-    let width = at_once(params, params.p() as usize, table.len(), scratch.len());
+    let width = chunks_at_once(params, params.p() as usize, table.len(), scratch.len());
     let mut rows = Buffer::new(table);
     let mut used = InUse {
         width,
@@ -200,7 +200,7 @@ pub fn scrypt_thin(
     if !output_len_ok(output.len()) {
         return Err(InvalidOutputLen);
     }
-    params.known();
+    params.expose_invariant();
     let mut rows = Buffer::new(table);
     let mut used = InUse {
         width: 1,
@@ -245,6 +245,6 @@ pub(crate) fn derive_chunks(password: &[u8], salt: &[u8], params: &Params, chunk
     requires chunks { length chunks.old ≡ chunks_bytes params.now.r params.now.p }
     ensures value { chunks.new ≡ pbkdf2 password.now salt.now (chunks_bytes params.now.r params.now.p) }
 {
-    params.known();
+    params.expose_invariant();
     pbkdf2_one(password, salt, chunks);
 }

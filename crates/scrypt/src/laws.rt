@@ -51,7 +51,7 @@ pub fn chunks_in_any_order()
 
 /// Parameters that are written to a PHC text are read back as the same `log_n`, `r` and `p`.
 #[tactic(auto, using(crate::proofs::PhcReadingFacts::written_read))]
-pub fn written_costs_read_back()
+pub fn written_parameters_are_read_back()
     ensures read { (c : Parameters) → AreAccepted c.log_n c.r c.p → params_of_pairs (written_pairs c) ≡ Ok (without_len c) }
 {}
 
@@ -176,7 +176,7 @@ pub fn five_letters_are_inverse()
 /// The eleven letters that encode accepted parameters in `$7$` texts are equal exactly if `log_n`, `r`
 /// and `p` are.
 #[tactic(auto, using(crate::proofs::McfTextFacts::params_letters_once))]
-pub fn costs_prefix_is_injective()
+pub fn letters_of_parameters_are_injective()
     ensures injective { (log_n r p other_log_n other_r other_p : ℕ) → AreAccepted log_n r p → AreAccepted other_log_n other_r other_p
         → (params_letters log_n r p ≡ params_letters other_log_n other_r other_p)
         ↔ ((log_n ≡ other_log_n) × (r ≡ other_r) × (p ≡ other_p)) }
@@ -224,5 +224,5 @@ pub fn hashers_are_accepted(hasher: &crate::Scrypt)
     ensures stored { IfSome hasher.now.output_len IsStoredLen }
 {
     let params = hasher.params();
-    params.known();
+    params.expose_invariant();
 }

@@ -90,7 +90,7 @@ impl<'p, 't> Login<'p, 't> {
 
     // Step 1: `chunks` becomes its chunks.
     #[tactic(auto, using(crate::proofs::LoginFacts::lens_of_chunks))]
-    fn derive(&self, chunks: &mut [u8])
+    fn derive_chunks(&self, chunks: &mut [u8])
         requires len { length chunks.old ≡ length (own chunks_of (attempt_of self.now)) }
         ensures value { chunks.new ≡ own chunks_of (attempt_of self.now) }
     {
@@ -190,8 +190,8 @@ fn verified_at_once(
     let Some((params, count, width)) = room_for(logins, chunks, table, scratch) else {
         return false;
     };
-    params.known();
-    let lens = BufferLens::times(&params, width);
+    params.expose_invariant();
+    let lens = BufferLens::for_tables(&params, width);
     let (chunks, _) = chunks.split_at_mut(count as usize * (128 * params.r() as usize));
     let (table, _) = table.split_at_mut(lens.table);
     let (scratch, _) = scratch.split_at_mut(lens.scratch);
@@ -242,7 +242,7 @@ fn count_of(params: &Params, logins: &[Login<'_, '_>]) -> Option<u32>
 }
 
 // Derives all keys at once and compares them. Afterwards the chunks and the scratch are zeros.
-#[tactic(auto, using(crate::proofs::LoginFacts::chunks_at_once))]
+#[tactic(auto, using(crate::proofs::LoginFacts::chunks_together))]
 fn verify_at_once(
     logins: &[Login<'_, '_>],
     verdicts: &mut [Result<(), LimitedError>],
@@ -256,8 +256,8 @@ fn verify_at_once(
     ensures verdicts { map with_limited_refusal verdicts.new ≡ map (λ a. verdict a.0 a.1) (attempts logins.now) }
     ensures spent { IsSpent buffer_room (record params.now { p = count }) used.old used.new }
 {
-    params.known();
-    derive(logins, used.chunks);
+    params.expose_invariant();
+    derive_all_chunks(logins, used.chunks);
     mix_all::<Buffer<'_>>(params, 0, count as usize, used);
     compare(logins, used.chunks, verdicts);
     used.chunks.fill(0);
@@ -265,7 +265,7 @@ fn verify_at_once(
 }
 
 // Step 1: `chunks` becomes the chunks of all.
-fn derive(logins: &[Login<'_, '_>], chunks: &mut [u8])
+fn derive_all_chunks(logins: &[Login<'_, '_>], chunks: &mut [u8])
     requires len { length chunks.old ≡ length (all_of chunks_of (attempts logins.now)) }
     ensures value { chunks.new ≡ all_of chunks_of (attempts logins.now) }
 {
@@ -273,7 +273,7 @@ fn derive(logins: &[Login<'_, '_>], chunks: &mut [u8])
     for i in 0..logins.len() {
         let login = &logins[i];
         let end = at + login.chunks_len();
-        login.derive(&mut chunks[at..end]);
+        login.derive_chunks(&mut chunks[at..end]);
         at = end;
     }
 }

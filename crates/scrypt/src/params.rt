@@ -141,7 +141,7 @@ impl Params {
     }
 
     /// Proof hint: exposes the invariant that the parameters are accepted, and their length if they have one.
-    pub(crate) fn known(&self)
+    pub(crate) fn expose_invariant(&self)
         ensures accepted { AreAccepted self.now.log_n self.now.r self.now.p }
         ensures stored { IfSome self.now.output_len IsStoredLen }
     {

@@ -96,7 +96,7 @@ pub(crate) fn verify_in_buffers(
     let Some(width) = width_in(&parts.params, parts.params.p(), chunks, table, scratch) else {
         return Err(Error::OutOfMemory);
     };
-    let lens = BufferLens::times(&parts.params, width);
+    let lens = BufferLens::for_tables(&parts.params, width);
     let (chunks, _) = chunks.split_at_mut(lens.chunks);
     let (table, _) = table.split_at_mut(lens.table);
     let (scratch, _) = scratch.split_at_mut(lens.scratch);

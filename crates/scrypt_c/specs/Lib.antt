@@ -8,7 +8,7 @@ pub mod Texts
 pub mod Statuses
 -- the statuses of what a call needs within limits
 pub mod Limits
--- the texts of new hashes, and how they are copied to the caller
+-- the parameters of new hashes, and how their texts are copied to the caller
 pub mod Made
 -- what is left in the caller's buffers
 pub mod InBuffers

@@ -127,4 +127,4 @@ pub ruleset endings = (refused_args, refused_input)
 pub ruleset ends = (end_outcome, answered_outcome, kept)
 
 -- what is printed whatever the input is
-pub ruleset at_once = (on_no_input, appends_nothing, kept)
+pub ruleset without_input = (on_no_input, appends_nothing, kept)

@@ -1,7 +1,7 @@
 -- In reading order: the options, why a run ends without an answer, what the arguments ask for, and what
 -- the program prints.
 
--- what a stored hash may need
+-- what a stored hash may need, and how short its key may be
 pub mod LimitOptions
 -- what the program prints about itself
 pub mod Information

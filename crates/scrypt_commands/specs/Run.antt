@@ -18,8 +18,8 @@ pub record Plan : Type 0 where
   pub is_unread : Bool
 
 -- the plan to print this whatever the input is
-abbrev pub at_once : Outcome → Plan
-at_once outcome = record { outcome_on = λ _. outcome; is_unread = true }
+abbrev pub unread_plan : Outcome → Plan
+unread_plan outcome = record { outcome_on = λ _. outcome; is_unread = true }
 
 -- the plan of a command by its options: words that are refused are refused before the input is read
 abbrev pub plan_by : CommandLine → Plan
@@ -28,7 +28,7 @@ plan_by line = record { outcome_on = λ input. outcome (reply_by line input); is
 -- the plan of what may be a command
 abbrev pub plan_of_command : Result CommandLine CliError → Plan
 plan_of_command (Ok line) = plan_by line
-plan_of_command (Err error) = at_once (failure error)
+plan_of_command (Err error) = unread_plan (failure error)
 
 -- the plan of words without options
 abbrev pub plan_of_words : List (List ℕ) → Plan
@@ -36,8 +36,8 @@ plan_of_words words = plan_of_command (command_by no_options words)
 
 -- the plan of what is asked for, with this salt if the options draw one
 abbrev pub plan_of : List ℕ → Option (List ℕ) → Invocation → Plan
-plan_of salt file (Tell text) = at_once (record { status = 0; line = text; error = [] })
-plan_of salt file (Refuse error) = at_once (failure error)
+plan_of salt file (Tell text) = unread_plan (record { status = 0; line = text; error = [] })
+plan_of salt file (Refuse error) = unread_plan (failure error)
 plan_of salt file (Command line) = plan_by (record line { salt = then_some line.options.draws_salt salt; file_text = file })
 
 -- what is left of the input, and what was written to the output and to that of errors, where these bytes are known
@@ -59,10 +59,10 @@ abbrev pub Tells : Ended → Streams → Streams → List ℕ → Type 0
 Tells ended before after line = IsTrue ended.fault_told → Appends before.faults after.faults line
 
 -- what is printed at once is never out of memory: a text is written or `output failed`, and an error has its status
-abbrev pub IsAtOnce : Invocation → Ended → Type 0
-IsAtOnce (Tell text) ended = ((ended.status ≡ 0) ⊎ (ended.status ≡ 4)) × ¬ IsTrue ended.input_failed
-IsAtOnce (Refuse error) ended = ended.status ≡ status_of error
-IsAtOnce (Command line) ended = ⊤
+abbrev pub EndsUnread : Invocation → Ended → Type 0
+EndsUnread (Tell text) ended = ((ended.status ≡ 0) ⊎ (ended.status ≡ 4)) × ¬ IsTrue ended.input_failed
+EndsUnread (Refuse error) ended = ended.status ≡ status_of error
+EndsUnread (Command line) ended = ⊤
 
 -- a run has this outcome
 abbrev pub HasOutcome : Ended → Streams → Streams → Outcome → Type 0

@@ -5,7 +5,7 @@ ghost use Rattle.std.specs.Io.KnownBytes.{Keeps};
 ghost use Rattle.std.specs.Option.{option_copied};
 ghost use Rattle.scrypt_commands.specs.Invocation.{draws_salt, hash_file_of, invocation_of, invocation_view, is_raw, wants_file};
 ghost use Rattle.scrypt_commands.specs.Options.{texts_of};
-ghost use Rattle.scrypt_commands.specs.Run.{IsAtOnce, IsRun, at_once, plan_of};
+ghost use Rattle.scrypt_commands.specs.Run.{EndsUnread, IsRun, unread_plan, plan_of};
 ghost use Rattle.scrypt_commands.specs.Steps.{IsDrawn};
 
 use crate::command_line::CommandLine;
@@ -97,7 +97,7 @@ impl<'a> Invocation<'a> {
             × IsRun (plan_of salt (option_copied file_text.entry) (invocation_view self.entry))
             (record { input = R.remaining reader.old; output = W.contents writer.old; faults = F.contents faults.old })
             (record { input = R.remaining reader.new; output = W.contents writer.new; faults = F.contents faults.new }) ended) }
-        ensures at_once { IfOk result (IsAtOnce (invocation_view self.entry)) }
+        ensures without_input { IfOk result (EndsUnread (invocation_view self.entry)) }
         ensures drawn { OnErr result (IsTrue (draws_salt (invocation_view self.entry))) }
         ensures unread { OnErr result (Keeps (R.remaining reader.old) (R.remaining reader.new)
             × Keeps (W.contents writer.old) (W.contents writer.new) × Keeps (F.contents faults.old) (F.contents faults.new)) }
@@ -139,9 +139,9 @@ fn wants_file(words: &[String]) -> bool
 }
 
 // Writes a text to the output.
-#[tactic(auto, using(crate::proofs::OutcomeFacts::at_once))]
+#[tactic(auto, using(crate::proofs::OutcomeFacts::without_input))]
 fn print<W: Write, F: Write>(text: &str, writer: &mut W, faults: &mut F) -> Ended
-    ensures run { (input : Option (List ℕ)) → IsRun (at_once (record { status = 0; line = text.now; error = [] }))
+    ensures run { (input : Option (List ℕ)) → IsRun (unread_plan (record { status = 0; line = text.now; error = [] }))
         (record { input = input; output = W.contents writer.old; faults = F.contents faults.old })
         (record { input = input; output = W.contents writer.new; faults = F.contents faults.new }) result }
     ensures status { (result.status ≡ 0) ⊎ (result.status ≡ 4) }

@@ -5,8 +5,8 @@ use Rattle.scrypt.specs.Accepted.{AreAccepted, Parameters}
 use Rattle.scrypt.specs.PhcHash.{IsMadeText}
 use Rattle.scrypt.specs.Reading.{verdict, weaker}
 use Rattle.scrypt.specs.StoredHash.{reading}
-use Rattle.scrypt_examples.specs.declared.login.Login.{Login}
-use Rattle.scrypt_examples.specs.declared.login.Login.TheVariants.{In, InWithNewText, Refused}
+use Rattle.scrypt_examples.specs.declared.login.LoginOutcome.{LoginOutcome}
+use Rattle.scrypt_examples.specs.declared.login.LoginOutcome.TheVariants.{In, InWithNewText, Refused}
 
 -- parameters that hashing takes, with no length: it makes a key of 32 bytes
 pub record AreWanted (c : Parameters) : Type 0 where
@@ -21,13 +21,13 @@ pub record IsEnrolled (wanted : Parameters) (password salt text : List ℕ) : Ty
   pub strong : weaker wanted (reading text) ≡ Ok false
 
 -- the password was let in
-abbrev pub lets_in : Login → Bool
+abbrev pub lets_in : LoginOutcome → Bool
 lets_in Refused = false
 lets_in In = true
 lets_in (InWithNewText text) = true
 
 -- the text that is to be stored in place of the old one
-abbrev pub new_text : Login → Option (List ℕ)
+abbrev pub new_text : LoginOutcome → Option (List ℕ)
 new_text Refused = None
 new_text In = None
 new_text (InWithNewText text) = Some (string_bytes text)

@@ -66,7 +66,7 @@ impl Deriver {
         ensures params { IfOk result (λ deriver. deriver ≡ params) }
     {
         let tables = BufferLens::tables_within(&params, most_bytes);
-        let own = Buffers::allocate(alloc, &BufferLens::times(&params, tables))?;
+        let own = Buffers::allocate(alloc, &BufferLens::for_tables(&params, tables))?;
         Ok(Deriver { params, own })
     }
 

@@ -16,7 +16,7 @@ use std::alloc::Global;
 
 /// The outcome of a login.
 #[derive(Drop)]
-pub enum Login {
+pub enum LoginOutcome {
     /// The stored text does not accept the password.
     Refused,
     /// The stored text accepts the password.
@@ -27,22 +27,22 @@ pub enum Login {
 
 /// Enrolls users and logs them in, with the parameters that are wanted now.
 #[derive(Clone, Copy)]
-pub struct Logins {
+pub struct LoginPolicy {
     wanted: Params,
     pub ghost are_wanted: { AreWanted wanted },
 }
 
-impl Logins {
-    /// Logins that want these parameters.
+impl LoginPolicy {
+    /// Wants these parameters.
     ///
     /// Returns `InvalidParams` if they are not accepted.
-    pub fn new(log_n: u8, r: u32, p: u32) -> std::result::Result<Logins, InvalidParams>
+    pub fn new(log_n: u8, r: u32, p: u32) -> std::result::Result<LoginPolicy, InvalidParams>
         ensures accepted { IsOk result ↔ AreAccepted log_n r p }
         ensures value { IfOk result (λ logins.
             logins.wanted ≡ record { log_n = log_n; r = r; p = p; output_len = None }) }
     {
         let wanted = Params::new(log_n, r, p)?;
-        Ok(Logins { wanted })
+        Ok(LoginPolicy { wanted })
     }
 
     /// The text to store for a new user. The salt is drawn at random.
@@ -68,7 +68,7 @@ impl Logins {
         stored: &str,
         password: &[u8],
         salt: [u8; 16],
-    ) -> Result<Login>
+    ) -> Result<LoginOutcome>
         ensures accepted { IfOk result (λ login.
             let_in (verdict password.now (reading stored.now)) ≡ Ok (lets_in login)) }
         ensures weaker { IfOk result (λ login. IsSome (new_text login)
@@ -84,13 +84,13 @@ impl Logins {
         };
         if let Err(error) = hash.verify(alloc, password) {
             return match error {
-                Error::PasswordInvalid => Ok(Login::Refused),
+                Error::PasswordInvalid => Ok(LoginOutcome::Refused),
                 _ => Err(error),
             };
         }
         if !hash.needs_rehash(&self.wanted)? {
-            return Ok(Login::In);
+            return Ok(LoginOutcome::In);
         }
-        Ok(Login::InWithNewText(self.enroll(alloc, password, salt)?))
+        Ok(LoginOutcome::InWithNewText(self.enroll(alloc, password, salt)?))
     }
 }

@@ -8,7 +8,7 @@ ghost use Rattle.scrypt.specs.StoredHash.{reading};
 ghost use Rattle.scrypt_examples.specs.Login.{IsEnrolled};
 
 use crate::hash::verify;
-use crate::login::Logins;
+use crate::login::LoginPolicy;
 use password_hash::Result;
 use std::alloc::Global;
 
@@ -18,7 +18,7 @@ use std::alloc::Global;
 /// Returns what verifying refuses.
 pub fn rewrite(
     alloc: Global,
-    wanted: &Logins,
+    wanted: &LoginPolicy,
     text: &str,
     password: &[u8],
     salt: [u8; 16],

@@ -1,6 +1,6 @@
 //! Verdicts in buffers of the lengths that the hashes need: always exactly those of the passwords.
 
-ghost use Rattle.std.specs.Prelude.{◌≡◌, IfOk, OnErr, OnOk};
+ghost use Rattle.std.specs.Prelude.{◌≡◌, ◌≤◌, IfOk, OnErr, OnOk};
 ghost use Rattle.scrypt_kernel.specs.Count.{AreCounted};
 ghost use Rattle.scrypt.specs.Cost.{cost};
 ghost use Rattle.scrypt.specs.Reading.{◌and_then◌, verdict, with_refusal};
@@ -61,12 +61,7 @@ pub fn two_verdicts_within<'a>(
         with_limited_refusal both.1 ≡ verdict other_password.now (within limits (reading other_text.now))) }
 {
     let (one, other) = (StoredHash::read(text), StoredHash::read(other_text));
-    let (first, second) = (lens_within(&one, &limits), lens_within(&other, &limits));
-    let lens = BufferLens {
-        chunks: first.chunks.saturating_add(second.chunks),
-        table: first.table.max(second.table),
-        scratch: first.scratch.max(second.scratch),
-    };
+    let lens = lens_for_both(lens_within(&one, &limits), lens_within(&other, &limits));
     let mut own = Buffers::allocate(alloc, &lens)?;
     let mut cores = CoreCount::new();
     let logins = [
@@ -92,6 +87,19 @@ pub fn two_verdicts_within<'a>(
     );
     let [first, second] = verdicts;
     Ok((first, second))
+}
+
+// Returns the lengths of buffers for both: room for the chunks of one after those of the other, and the longer table
+// and scratch.
+fn lens_for_both(one: BufferLens, other: BufferLens) -> BufferLens
+    ensures one { (one.chunks ≤ result.chunks) × (one.table ≤ result.table) × (one.scratch ≤ result.scratch) }
+    ensures other { (other.chunks ≤ result.chunks) × (other.table ≤ result.table) × (other.scratch ≤ result.scratch) }
+{
+    BufferLens {
+        chunks: one.chunks.saturating_add(other.chunks),
+        table: one.table.max(other.table),
+        scratch: one.scratch.max(other.scratch),
+    }
 }
 
 // Returns the lengths of the buffers for verifying within limits, which are 0 if the hash is refused.

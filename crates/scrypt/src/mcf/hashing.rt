@@ -118,7 +118,7 @@ pub fn hash_len(params: &Params, salt: &[u8]) -> usize
     ensures made { (password : List ℕ) → (text : List ℕ) × IsMadeHash params.now password salt.now text × (length text ≡ result) }
     ensures each { (password text : List ℕ) → IsMadeHash params.now password salt.now text → length text ≡ result }
 {
-    params.known();
+    params.expose_invariant();
     PARAMS_LEN
         + Base64::Crypt.encoded_len(salt.len())
         + (1 + Base64::Crypt.encoded_len(params.key_len_or_default()))
@@ -145,7 +145,7 @@ fn write_text(out: &mut [u8], params: &Params, salt: &[u8], key: &Output)
     ensures ascii { IsAscii out.new }
     ensures modular { IsMcf out.new }
 {
-    params.known();
+    params.expose_invariant();
     let (front, rest) = out.split_at_mut(PARAMS_LEN);
     front.copy_from_slice(&params_letters(params));
     let (letters, rest) = rest.split_at_mut(Base64::Crypt.encoded_len(salt.len()));
@@ -222,7 +222,7 @@ pub fn hash_with_buffers(
     let Some(width) = width_in(params, params.p(), chunks, table, scratch) else {
         return Err(Error::OutOfMemory);
     };
-    let lens = BufferLens::times(params, width);
+    let lens = BufferLens::for_tables(params, width);
     let (chunks, _) = chunks.split_at_mut(lens.chunks);
     let (table, _) = table.split_at_mut(lens.table);
     let (scratch, _) = scratch.split_at_mut(lens.scratch);

@@ -121,7 +121,7 @@ pub fn hash_with_buffers(
     let Some(width) = width_in(params, params.p(), chunks, table, scratch) else {
         return Err(Error::OutOfMemory);
     };
-    let lens = BufferLens::times(params, width);
+    let lens = BufferLens::for_tables(params, width);
     let (chunks, _) = chunks.split_at_mut(lens.chunks);
     let (table, _) = table.split_at_mut(lens.table);
     let (scratch, _) = scratch.split_at_mut(lens.scratch);

@@ -1,7 +1,7 @@
 use Rattle.std.proofs.Common.{◌≡◌, length, take}
 use Rattle.scrypt.specs.Logins.{all_of, attempts}
 use Rattle.scrypt.specs.Reading.{chunks_of}
-use Rattle.scrypt.proofs.logins.derive.Given as goal
+use Rattle.scrypt.proofs.logins.derive_all_chunks.Given as goal
 
 -- the chunks of the first i are written
 abbrev pub invariant-loop-i : goal.invariant-loop-i

@@ -2,7 +2,7 @@ use Rattle.std.proofs.Common.{rules}
 use Rattle.std.specs.Prelude.{IfSome}
 use Rattle.password_hash.specs.Phc.{IsSalt}
 use Rattle.scrypt.specs.Accepted.{IsStoredLen}
-use Rattle.scrypt_examples.proofs.login.Logins.enroll.Goals as goal
+use Rattle.scrypt_examples.proofs.login.LoginPolicy.enroll.Goals as goal
 
 pub returns-clause-enrolled : goal.returns-clause-enrolled
 returns-clause-enrolled c =

@@ -3,7 +3,7 @@ use Rattle.std.proofs.lemmas.Slice.{take-put_mid}
 use Rattle.scrypt.specs.Logins.{all_of, attempt_of, attempts, own}
 use Rattle.scrypt.specs.Reading.{chunks_of}
 use Rattle.scrypt.proofs.LoginFacts.{own_fits, own_more}
-use Rattle.scrypt.proofs.logins.derive.Goals as goal
+use Rattle.scrypt.proofs.logins.derive_all_chunks.Goals as goal
 
 pub overflow_add-end : goal.overflow_add-end
 overflow_add-end c =
@@ -12,8 +12,8 @@ overflow_add-end c =
     omega (arith, fits, c.loop-i.invariant.at, c.loop-i.invariant.long, c.chunks_len.ensures.value) in
     search (rules, inside)
 
-pub slice_bounds-derive-end : goal.slice_bounds-derive-end
-slice_bounds-derive-end c =
+pub slice_bounds-derive_chunks-end : goal.slice_bounds-derive_chunks-end
+slice_bounds-derive_chunks-end c =
     let fits = own_fits chunks_of c.args.logins.now c.loop-i.i c.index-logins-i.result c.loop-i-test.true c.index-logins-i.is in
     let inside : c.loop-i.at + c.chunks_len.result ≤ length c.loop-i.chunks =
     omega (arith, fits, c.loop-i.invariant.at, c.loop-i.invariant.long, c.chunks_len.ensures.value) in
@@ -29,7 +29,7 @@ loop-i-preserved c =
     record {
       at = omega (arith, len, before.at, c.chunks_len.ensures.value);
       long = search rules;
-      written = take-put_mid c.loop-i.at _ c.loop-i.chunks c.derive.new.chunks _ (omega (arith, c.chunks_len.ensures.value, ap length c.derive.ensures.value))
+      written = take-put_mid c.loop-i.at _ c.loop-i.chunks c.derive_chunks.new.chunks _ (omega (arith, c.chunks_len.ensures.value, ap length c.derive_chunks.ensures.value))
           (omega (arith, fits, before.at, before.long))
-          ∙ ap₂ (λ x y. x ++ y) before.written c.derive.ensures.value ∙ sym more;
+          ∙ ap₂ (λ x y. x ++ y) before.written c.derive_chunks.ensures.value ∙ sym more;
     }
