@@ -42,6 +42,7 @@ fn keys_in_used_buffers() -> Result<(), Fail> {
     holds(key == KEY && again == KEY, "both times")
 }
 
+#[tactic(auto, using(std::proofs::lemmas::Bool::Decides::nat_tests), unfolding(scrypt::specs::Accepted::is_output_len))]
 #[test]
 fn keys_by_thin_tables(rt: HostRuntime) -> Result<(), Fail> {
     let (alloc, mut cores) = (rt.alloc(), CoreCount::new());

@@ -21,6 +21,7 @@ const PHC: &str =
 // libxcrypt's, at (4, 1, 1).
 const MCF: &str = "$7$2/..../....saltsalt$jkmZo0SWQYHT33y104X81uA.YmckoO6LcD4HDzN9sJ2";
 
+#[tactic(auto, using(std::proofs::lemmas::Bool::Decides::nat_tests), unfolding(scrypt::specs::Accepted::are_accepted, scrypt::specs::Accepted::is_output_len))]
 #[test]
 fn derived_keys(rt: HostRuntime) -> Result<(), Fail> {
     let (alloc, mut key, mut cores) = (rt.alloc(), [0u8; 32], CoreCount::new());

@@ -1,8 +1,8 @@
-use Rattle.scrypt.specs.Accepted.{AreAccepted, IsOutputLen, IsStoredLen, Parameters, are_accepted, is_output_len, parameters_eq}
+use Rattle.scrypt.specs.Accepted.{are_accepted, is_output_len, is_stored_len, Parameters, parameters_eq}
 use Rattle.password_hash.specs.Refusal.{ParamsInvalid}
 use Rattle.scrypt.specs.Reading.{checked}
 use Rattle.scrypt_kernel.specs.Pbkdf2.{max_output_len}
-use Rattle.std.specs.Prelude.{Bool, IfSome, Option, Some, None, Result, Ok, Err, if◌then◌else◌, nat_eq, nat_le, unwrap_or}
+use Rattle.std.specs.Prelude.{Bool, Option, Some, None, Result, Ok, Err, if◌then◌else◌, nat_eq, nat_le, unwrap_or, IsTrue}
 use Rattle.std.specs.Bool.{Decides}
 use Rattle.std.specs.Option.{option_eq}
 use Rattle.std.proofs.lemmas.Bool.{false_from_ne_true}
@@ -28,40 +28,48 @@ pub ok_if : {A E : Type 0} (test : Bool) (made : Result A E) (e : E) {x : A} →
 ok_if true made e is = (refl, is)
 ok_if false made e is = absurd cc
 
--- the tests of accepted numbers and lengths
+-- what the tests of numbers and lengths say
 
-pub accepted_decided : (log_n r p : ℕ) → Decides (are_accepted log_n r p) (AreAccepted log_n r p)
+pub accepted_decided : (log_n r p : ℕ)
+    → Decides (are_accepted log_n r p) ((0 < r) × (0 < p) × (128 * r * 2 ^ log_n < 2 ^ 64) × (r * p < 2 ^ 30))
 unfolding are_accepted
 accepted_decided log_n r p =
     Decides-like _ (λ h. (h.0.0, h.0.1, h.1.0, h.1.1)) (λ h. ((h.0, h.1), (h.2, h.3)))
     (Decides-and _ _ (Decides-and _ _ (Decides-ltb 0 r) (Decides-ltb 0 p))
     (Decides-and _ _ (Decides-ltb (128 * r * 2 ^ log_n) (2 ^ 64)) (Decides-ltb (r * p) (2 ^ 30))))
 
+pub bounds : (log_n r p : ℕ) → IsTrue (are_accepted log_n r p)
+    → (0 < r) × (0 < p) × (128 * r * 2 ^ log_n < 2 ^ 64) × (r * p < 2 ^ 30)
+bounds log_n r p accepted = (accepted_decided log_n r p).0 accepted
+
 pub leb_decided : (m n : ℕ) → Decides (nat_le m n) (m ≤ n)
 leb_decided m n = grind (arith, nat_tests)
 
-pub output_len_decided : (n : ℕ) → Decides (is_output_len n) (IsOutputLen n)
+pub output_len_decided : (n : ℕ) → Decides (is_output_len n) ((1 ≤ n) × (n ≤ max_output_len))
 unfolding is_output_len
 output_len_decided n = Decides-and _ _ (leb_decided 1 n) (leb_decided n max_output_len)
+
+pub stored_len_decided : (n : ℕ) → Decides (is_stored_len (Some n)) ((10 ≤ n) × (n ≤ 64))
+unfolding is_stored_len
+stored_len_decided n = Decides-and _ _ (leb_decided 10 n) (leb_decided n 64)
 
 -- numbers that are accepted are parameters
 
 abbrev pub numbers : ℕ → ℕ → ℕ → Parameters
 numbers log_n r p = record { log_n = log_n; r = r; p = p; output_len = None }
 
-pub checked_is : (log_n r p : ℕ) → AreAccepted log_n r p → checked log_n r p ≡ Ok (numbers log_n r p)
+pub checked_is : (log_n r p : ℕ) → IsTrue (are_accepted log_n r p) → checked log_n r p ≡ Ok (numbers log_n r p)
 unfolding checked
-checked_is log_n r p fits = rw ((accepted_decided log_n r p).1 fits) refl
+checked_is log_n r p fits = rw fits refl
 
-pub not_checked : (log_n r p : ℕ) → ¬ AreAccepted log_n r p → checked log_n r p ≡ Err ParamsInvalid
+pub not_checked : (log_n r p : ℕ) → ¬ IsTrue (are_accepted log_n r p) → checked log_n r p ≡ Err ParamsInvalid
 unfolding checked
-not_checked log_n r p none = rw (refuted _ (accepted_decided log_n r p) none) refl
+not_checked log_n r p none = rw (false_from_ne_true _ none) refl
 
-pub checked_ok : (log_n r p : ℕ) (c : Parameters) → checked log_n r p ≡ Ok c → AreAccepted log_n r p × (numbers log_n r p ≡ c)
+pub checked_ok : (log_n r p : ℕ) (c : Parameters) → checked log_n r p ≡ Ok c → IsTrue (are_accepted log_n r p) × (numbers log_n r p ≡ c)
 unfolding checked
 checked_ok log_n r p c is =
-    let both = ok_if (are_accepted log_n r p) (Ok (numbers log_n r p)) ParamsInvalid is in
-    ((accepted_decided log_n r p).0 both.0, cc both.1)
+    let both = ok_if (are_accepted log_n r p) (Ok (numbers log_n r p)) ParamsInvalid is in (both.0, cc both.1)
 
 pub table_bytes : (log_n r : ℕ) → 128 * r * 2 ^ log_n ≡ 128 * (r * 2 ^ log_n)
 table_bytes log_n r = mul_assoc 128 r (2 ^ log_n)
@@ -72,8 +80,9 @@ small_chunks r p few = omega arith
 pub small_factor : (r p : ℕ) → 0 < p → r * p < 2 ^ 30 → r < 2 ^ 30
 small_factor r p some few = let least = mul-le r 1 r p (omega arith) some in omega arith
 
-pub small_params : (log_n r p : ℕ) → AreAccepted log_n r p → (log_n ≤ 56) × (r < 2 ^ 30) × (p < 2 ^ 30)
-small_params log_n r p fits =
+pub small_params : (log_n r p : ℕ) → IsTrue (are_accepted log_n r p) → (log_n ≤ 56) × (r < 2 ^ 30) × (p < 2 ^ 30)
+small_params log_n r p accepted =
+    let fits = (accepted_decided log_n r p).0 accepted in
     (small_log_n log_n r fits.0 fits.2, small_factor r p fits.1 fits.3, small_factor p r fits.0 (omega (arith, fits.3)))
 
 -- the cores of a derivation, as the code computes them
@@ -107,9 +116,12 @@ parameters_decided a b =
     (λ (e : a ≡ b). ((ap (λ c. c.output_len) e, ap (λ c. c.log_n) e), (ap (λ c. c.r) e, ap (λ c. c.p) e))) each
 
 -- the length of a key that hashing makes is one that is stored
-pub key_len_stored : (len : Option ℕ) → IfSome len IsStoredLen → IsStoredLen (unwrap_or len 32)
+pub key_len_stored : (len : Option ℕ) → IsTrue (is_stored_len len) → (10 ≤ unwrap_or len 32) × (unwrap_or len 32 ≤ 64)
 key_len_stored None fits = (lit≤ tt, lit≤ tt)
-key_len_stored (Some len) fits = fits
+key_len_stored (Some n) fits = (stored_len_decided n).0 fits
+
+pub most_output_len : (n : ℕ) → IsTrue (is_output_len n) → n ≤ max_output_len
+most_output_len n fits = ((output_len_decided n).0 fits).1
 
 pub ruleset small_lens = (small_log_n, small_chunks, small_rows)
 

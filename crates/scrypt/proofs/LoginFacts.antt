@@ -1,5 +1,5 @@
 use Rattle.std.proofs.Common.{◌≡◌, ◌∙◌, ◌<◌, ◌≤◌, ◌+◌, ◌*◌, ◌^◌, ◌++◌, ℕ, List, length, take, drop, get_or, zero, suc, true, false, refl, sym, ap, ap₂, add-one, arith, append-nil, length-append}
-use Rattle.std.specs.Prelude.{Option, None, Some, Ok, Err, [], ◌∷◌, map, MatchBool, MatchOption, option_and_then, slice_set}
+use Rattle.std.specs.Prelude.{Option, None, Some, Ok, Err, [], ◌∷◌, map, MatchBool, MatchOption, option_and_then, slice_set, IsTrue}
 use Rattle.std.proofs.Math.Nat.{mul-le-mul_right}
 use Rattle.std.proofs.Math.ListN.{get_or-map}
 use Rattle.std.proofs.Math.Seq.{drop-append_seam, take-append_seam, take-suc-set}
@@ -12,14 +12,14 @@ use Rattle.std.proofs.lemmas.Bool.Decides.{Decides-and, Decides-eqb, Decides-ltb
 use Rattle.scrypt_kernel.proofs.Pbkdf2Facts.{length-pbkdf2}
 use Rattle.scrypt.specs.Accepted.{Parameters}
 use Rattle.scrypt.specs.Cost.{chunks_bytes}
-use Rattle.scrypt.specs.InBuffers.{AreEnough}
+use Rattle.scrypt.specs.InBuffers.{are_enough}
 use Rattle.scrypt.specs.Key.{mixed_chunks}
 use Rattle.scrypt.specs.Logins.{Attempt, AreLeft, IsAlone, all_of, attempt_of, attempts, count_of, own, shared, verdict_on, with_more}
 use Rattle.scrypt.specs.Reading.{Stored, chunks_of, mixed_of, verdict}
-use Rattle.scrypt.specs.Workspace.{IsDone, IsLeft, Workspace, has_room}
+use Rattle.scrypt.specs.Workspace.{IsDone, IsLeft, Workspace}
 use Rattle.scrypt.specs.declared.logins.Login.{Login}
 use Rattle.scrypt.proofs.KeyFacts.{both_mixed, length-mixed_chunks}
-use Rattle.scrypt.proofs.ReadingFacts.{room_decided, room_enough, room_too_short, same_verdict}
+use Rattle.scrypt.proofs.ReadingFacts.{enough_decided, not_enough, same_verdict}
 
 -- n chunks, which are those of d and others
 pub record AreMore (c d : Parameters) (others : Option ℕ) (n : ℕ) : Type 0 where
@@ -44,12 +44,12 @@ none_of_more c (suc i) [] none = absurd cc
 none_of_more c (suc i) ((password, Ok s) ∷ rest) none = rw (none_of_more c i rest none) refl
 none_of_more c (suc i) ((password, Err why) ∷ rest) none = none_of_more c i rest none
 
-pub no_room_for : (s : Option Parameters) (c e : Parameters) (w : Workspace) → s ≡ Some c → s ≡ Some e → ¬ AreEnough c w.chunks w.table w.scratch
-    → has_room e w ≡ false
-no_room_for s c e w one other short = let same : e ≡ c = cc in rw same (room_too_short c w short)
+pub no_room_for : (s : Option Parameters) (c e : Parameters) (chunks table scratch : List ℕ) → s ≡ Some c → s ≡ Some e
+    → ¬ IsTrue (are_enough c chunks table scratch) → are_enough e chunks table scratch ≡ false
+no_room_for s c e chunks table scratch one other short = let same : e ≡ c = cc in rw same (not_enough c chunks table scratch short)
 
-pub left_at_once : (these : List Attempt) (c : Parameters) (before after : Workspace) → shared these ≡ Some c → has_room c before ≡ true
-    → IsDone c before after → AreLeft these before after
+pub left_at_once : (these : List Attempt) (c : Parameters) (before after : Workspace) → shared these ≡ Some c
+    → IsTrue (are_enough c before.chunks before.table before.scratch) → IsDone c before after → AreLeft these before after
 left_at_once [] c before after is room done = absurd cc
 left_at_once (a ∷ rest) c before after is room done = rw (is, room) done
 
@@ -78,19 +78,16 @@ mixed_is c ((password, Ok s) ∷ rest) n counted some =
 mixed_is c ((password, Err why) ∷ rest) n counted some = mixed_is c rest n counted some
 
 -- room for all is room for each
-fewer_fit : (c d : Parameters) (n : ℕ) (w : Workspace) → d.log_n ≡ c.log_n → d.r ≡ c.r → d.p ≤ n → has_room (record c { p = n }) w ≡ true
-    → has_room d w ≡ true
+fewer_fit : (c d : Parameters) (n : ℕ) (w : Workspace) → d.log_n ≡ c.log_n → d.r ≡ c.r → d.p ≤ n
+    → IsTrue (are_enough (record c { p = n }) w.chunks w.table w.scratch) → IsTrue (are_enough d w.chunks w.table w.scratch)
 fewer_fit c d n w log_n r fewer room =
-    let fits = (room_decided (record c { p = n }) w).0 room in
+    let fits = (enough_decided (record c { p = n }) w.chunks w.table w.scratch).0 room in
     let bytes = mul-le-mul_right (128 * c.r) fewer in
-    room_enough d w (rw (log_n, r) (record {
-      chunks_fit = omega (arith, fits.0, bytes);
-      table_fits = fits.1.0;
-      scratch_fits = fits.1.1;
-    }))
+    (enough_decided d w.chunks w.table w.scratch).1 (rw (log_n, r) (omega (arith, fits.0, bytes), fits.1))
 
 -- where there is room for all, each verdict is that of its password alone
-pub alone : (c : Parameters) (these : List Attempt) (n : ℕ) (w : Workspace) → count_of c these ≡ Some n → has_room (record c { p = n }) w ≡ true
+pub alone : (c : Parameters) (these : List Attempt) (n : ℕ) (w : Workspace) → count_of c these ≡ Some n
+    → IsTrue (are_enough (record c { p = n }) w.chunks w.table w.scratch)
     → map (λ (a : Attempt). verdict a.0 a.1) these ≡ map (verdict_on w) these
 alone c [] n w counted room = refl
 alone c ((password, Ok s) ∷ rest) n w counted room =
@@ -173,8 +170,8 @@ left_alone a rest before between after alone one others = chosen (shared (a ∷ 
     Alone : Type 0
     Alone = (between : Workspace) × IsLeft a.1 before between × AreLeft rest between after
 
-    chosen : (s : Option Parameters) → ((c : Parameters) → s ≡ Some c → has_room c before ≡ false)
-        → MatchOption s Alone (λ c. MatchBool (has_room c before) (IsDone c before after) Alone)
+    chosen : (s : Option Parameters) → ((c : Parameters) → s ≡ Some c → are_enough c before.chunks before.table before.scratch ≡ false)
+        → MatchOption s Alone (λ c. MatchBool (are_enough c before.chunks before.table before.scratch) (IsDone c before after) Alone)
     chosen None none = (between, one, others)
     chosen (Some c) none = rw (none c refl) (between, one, others)
 

@@ -1,5 +1,5 @@
-use Rattle.std.proofs.Common.{◌≡◌, ◌≢◌, ℕ, List, [], ◌∷◌, ◌++◌, length, drop, Some, None, Ok, Err, refl, rules, ap, ap₂, ◌∙◌, lit<}
-use Rattle.std.specs.Prelude.{IfErr, Option, if◌then◌else◌, ok_or}
+use Rattle.std.proofs.Common.{◌≡◌, ◌≢◌, false, ℕ, List, [], ◌∷◌, ◌++◌, length, drop, Some, None, Ok, Err, refl, rules, ap, ap₂, ◌∙◌, lit<}
+use Rattle.std.specs.Prelude.{IfErr, Option, if◌then◌else◌, ok_or, IsTrue}
 use Rattle.std.specs.Str.{bytes_eq}
 use Rattle.std.proofs.lemmas.Slice.Eq.{bytes_eq-Decides}
 use Rattle.password_hash.specs.Crypt64.{Crypt64, IsCrypt64, crypt64_of, decoded}
@@ -7,11 +7,11 @@ use Rattle.password_hash.specs.Mcf.{IsMcfText}
 use Rattle.password_hash.specs.Parts.{parts_of, parts_text}
 use Rattle.password_hash.specs.Refusal.{Algorithm, EncodingInvalid, OutputSize}
 use Rattle.password_hash.proofs.McfFacts.{IsMcfText-from_parts, parts_of-IsMcfText}
-use Rattle.scrypt.specs.Accepted.{IsOutputLen, is_output_len}
+use Rattle.scrypt.specs.Accepted.{is_output_len}
 use Rattle.scrypt.specs.McfParams.{params_letters, field_params}
 use Rattle.scrypt.specs.McfHash.{mcf_id, read_fields, read_key, read_mcf, read_parts}
 use Rattle.scrypt.specs.Reading.{◌and_then◌, NamesNoPassword, Stored}
-use Rattle.scrypt.proofs.AcceptedFacts.{ok_if, output_len_decided, refuted}
+use Rattle.scrypt.proofs.AcceptedFacts.{ok_if, refuted}
 use Rattle.scrypt.proofs.McfParamsFacts.{field_fault, field_is}
 use Rattle.scrypt.proofs.ReadingFacts.{IsFault, both_read, faults, no_password}
 use Rattle.password_hash.proofs.DecodedFacts.{decoded_is, encoded_is, not_decoded}
@@ -31,11 +31,11 @@ read_other {text} {id} {fields} is other =
 
 -- a key, by its length
 
-pub key_read : {letters key : List ℕ} → Crypt64 key letters → IsOutputLen (length key) → read_key (letters ∷ []) ≡ Ok key
-key_read {letters} {key} is fits = rw (decoded_is key letters is, (output_len_decided (length key)).1 fits) refl
+pub key_read : {letters key : List ℕ} → Crypt64 key letters → IsTrue (is_output_len (length key)) → read_key (letters ∷ []) ≡ Ok key
+key_read {letters} {key} is fits = rw (decoded_is key letters is, fits) refl
 
-pub key_refused : {letters key : List ℕ} → Crypt64 key letters → ¬ IsOutputLen (length key) → read_key (letters ∷ []) ≡ Err OutputSize
-key_refused {letters} {key} is long = rw (decoded_is key letters is, refuted _ (output_len_decided (length key)) long) refl
+pub key_refused : {letters key : List ℕ} → Crypt64 key letters → is_output_len (length key) ≡ false → read_key (letters ∷ []) ≡ Err OutputSize
+key_refused {letters} {key} is long = rw (decoded_is key letters is, long) refl
 
 pub no_key : {letters : List ℕ} (after : List (List ℕ)) → ¬ IsCrypt64 letters → read_key (letters ∷ after) ≡ Err EncodingInvalid
 no_key {letters} [] none = rw (not_decoded letters none) refl

@@ -3,14 +3,14 @@ use Rattle.std.proofs.Common.{refl, rules, sym, ap, ◌∙◌, arith, inl, inr, 
 use Rattle.std.specs.List.{slice_get}
 use Rattle.std.proofs.Math.Seq.{take-append_seam}
 use Rattle.std.proofs.lemmas.Bool.{le-ltb, cases_lt, lt-ltb}
-use Rattle.std.specs.Prelude.{All, Err, IfErr, IsSome, Ok, Option, Result, nat_lt, ok_or, slice_index}
+use Rattle.std.specs.Prelude.{All, Err, IfErr, IsSome, Ok, Option, Result, nat_lt, ok_or, slice_index, IsTrue}
 use Rattle.std.proofs.lemmas.List.{append-nil, take_all, take-append-drop, length-take-le, drop-drop}
 use Rattle.std.proofs.lemmas.List.Elements.{All-head, All-tail}
 use Rattle.password_hash.specs.Crypt64.{letter, letter_value, letters_of, number_of, with_digit}
 use Rattle.password_hash.proofs.Crypt64Facts.{length-letters_of, letters_of-number_of, number_of-letters_of}
 use Rattle.password_hash.proofs.AlphabetFacts.{letter-of_value}
 use Rattle.password_hash.specs.Refusal.{Refusal, EncodingInvalid}
-use Rattle.scrypt.specs.Accepted.{AreAccepted, Parameters}
+use Rattle.scrypt.specs.Accepted.{are_accepted, Parameters}
 use Rattle.scrypt.specs.McfParams.{params_letters, field_params, five_letter_number}
 use Rattle.scrypt.specs.Reading.{◌and_then◌, checked}
 use Rattle.scrypt.proofs.AcceptedFacts.{checked_ok, ok_if, small_params}
@@ -120,7 +120,7 @@ letter_said (Some value) number says small = ap Some says
 
 -- the numbers that parameters were made of
 pub made_of : (log_n : ℕ) (r p : Option ℕ) (c : Parameters) → of_numbers log_n r p ≡ Ok c
-    → AreAccepted c.log_n c.r c.p × (log_n ≡ c.log_n) × (r ≡ Some c.r) × (p ≡ Some c.p)
+    → IsTrue (are_accepted c.log_n c.r c.p) × (log_n ≡ c.log_n) × (r ≡ Some c.r) × (p ≡ Some c.p)
 made_of log_n None p c is = absurd cc
 made_of log_n (Some r) None c is = absurd cc
 made_of log_n (Some r) (Some p) c is =

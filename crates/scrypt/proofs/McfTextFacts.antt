@@ -1,6 +1,6 @@
 use Rattle.std.proofs.Common.{◌≡◌, ◌≢◌, ℕ, ◌^◌, ◌%◌, ◌<◌, ◌≤◌, List, [], ◌∷◌, ◌++◌, length, drop}
 use Rattle.std.proofs.Common.{Some, Ok, true, ◌∙◌, refl, sym, ap, ap₂, arith, lit<, append_assoc, length-append}
-use Rattle.std.specs.Prelude.{All, IfSome, Result, codes, nat_lt}
+use Rattle.std.specs.Prelude.{All, Result, codes, nat_lt, IsTrue}
 use Rattle.std.proofs.lemmas.Bool.{lt-ltb}
 use Rattle.std.specs.Str.{IsAscii}
 use Rattle.std.proofs.lemmas.Str.{IsUtf8-from_ascii}
@@ -15,12 +15,12 @@ use Rattle.password_hash.proofs.AlphabetFacts.{letter-ascii, letter_value-letter
 use Rattle.password_hash.proofs.Crypt64Facts.{IsPlain, crypt64_of-plain, length-letters_of, letters_of-plain}
 use Rattle.password_hash.proofs.GroupFacts.{length-crypt64_of}
 use Rattle.password_hash.proofs.McfFacts.{IsField-crypt64_of}
-use Rattle.scrypt.specs.Accepted.{AreAccepted, IsOutputLen, IsStoredLen, Parameters, without_len}
+use Rattle.scrypt.specs.Accepted.{Parameters, are_accepted, is_stored_len, without_len}
 use Rattle.scrypt.proofs.KeyFacts.{key_by-are_bytes, length-key_by}
 use Rattle.scrypt.specs.McfParams.{five_letter_number, params_letters, params_text, field_params}
 use Rattle.scrypt.specs.McfHash.{IsMadeHash, made_key, made_text_len, mcf_id, mcf_text}
 use Rattle.scrypt.specs.Hashing.{key_len_or_default}
-use Rattle.scrypt.proofs.AcceptedFacts.{checked_is, key_len_stored, numbers, small_params, small_log_n}
+use Rattle.scrypt.proofs.AcceptedFacts.{checked_is, key_len_stored, numbers, output_len_decided, small_params}
 use Rattle.scrypt.proofs.McfParamsFacts.{five_letter_number_letters_of, of_numbers}
 use Rattle.scrypt.proofs.McfHashFacts.{key_read, read_seven, text_of}
 
@@ -35,7 +35,7 @@ count_letters : (log_n r p : ℕ) → length (params_letters log_n r p) ≡ 11
 count_letters log_n r p = omega (arith, length-append (letters_of 5 r) (letters_of 5 p), length-letters_of 5 r, length-letters_of 5 p)
 
 -- the field that they begin is read as the parameters
-pub field_read : (c : Parameters) (salt : List ℕ) → AreAccepted c.log_n c.r c.p
+pub field_read : (c : Parameters) (salt : List ℕ) → IsTrue (are_accepted c.log_n c.r c.p)
     → field_params (params_letters c.log_n c.r c.p ++ salt) ≡ Ok (without_len c)
 unfolding field_params
 field_read c salt good =
@@ -54,7 +54,7 @@ field_read c salt good =
     rw (first, log_n) (ap₂ (of_numbers c.log_n) says_r says_p ∙ checked_is c.log_n c.r c.p good)
 
 -- so the letters of accepted parameters are those of one log_n, one r and one p
-pub params_letters_once : (log_n r p other_log_n other_r other_p : ℕ) → AreAccepted log_n r p → AreAccepted other_log_n other_r other_p
+pub params_letters_once : (log_n r p other_log_n other_r other_p : ℕ) → IsTrue (are_accepted log_n r p) → IsTrue (are_accepted other_log_n other_r other_p)
     → params_letters log_n r p ≡ params_letters other_log_n other_r other_p → (log_n ≡ other_log_n) × (r ≡ other_r) × (p ≡ other_p)
 params_letters_once log_n r p other_log_n other_r other_p fits other_fits same =
     let c = numbers log_n r p in
@@ -65,13 +65,13 @@ params_letters_once log_n r p other_log_n other_r other_p fits other_fits same =
     (ap (λ (c : Parameters). c.log_n) one, ap (λ (c : Parameters). c.r) one, ap (λ (c : Parameters). c.p) one)
 
 -- the text of some parameters, a salt without a dollar, and a key
-text_parts : (c : Parameters) (salt key : List ℕ) → AreAccepted c.log_n c.r c.p → IsField salt
+text_parts : (c : Parameters) (salt key : List ℕ) → IsTrue (are_accepted c.log_n c.r c.p) → IsField salt
     → IsMcfText (params_text c ++ (salt ++ dollar ∷ crypt64_of key)) mcf_id
     ((params_letters c.log_n c.r c.p ++ salt) ∷ crypt64_of key ∷ [])
 text_parts c salt key good no_dollar =
     let letters = params_letters c.log_n c.r c.p in
     let field = letters ++ salt in
-    let small : c.log_n ≤ 56 = small_log_n c.log_n c.r good.0 good.2 in
+    let small : c.log_n ≤ 56 = (small_params c.log_n c.r c.p good).0 in
     let field_is : IsField field =
     All-append (λ byte. byte ≢ dollar) letters salt
     (All-weaker IsPlain (λ byte. byte ≢ dollar) (λ byte plain. plain.1) letters (plain_letters c.log_n c.r c.p (omega arith))) no_dollar in
@@ -84,7 +84,7 @@ text_parts c salt key good no_dollar =
     }
 
 -- the text that hashing makes
-pub made_text : (c : Parameters) (password salt : List ℕ) → AreAccepted c.log_n c.r c.p → IfSome c.output_len IsStoredLen
+pub made_text : (c : Parameters) (password salt : List ℕ) → IsTrue (are_accepted c.log_n c.r c.p) → IsTrue (is_stored_len c.output_len)
     → IsMadeHash c password salt (mcf_text c salt (made_key c password salt))
 made_text c password salt good fits =
     let stored = key_len_stored c.output_len fits in
@@ -93,7 +93,7 @@ made_text c password salt good fits =
     let key = made_key c password salt in
     let long = length-key_by c password letters (key_len_or_default c) in
     let bytes = All-from_get_or (λ byte. byte < 256) key 0 (λ i below. key_by-are_bytes c password letters (key_len_or_default c) i) in
-    let allowed : IsOutputLen (length key) = (omega (arith, long, stored.0), omega (arith, long, stored.1)) in
+    let allowed = (output_len_decided (length key)).1 (omega (arith, long, stored.0), omega (arith, long, stored.1)) in
     let rest : drop 11 (front ++ letters) ≡ letters = drop_at front letters 11 (count_letters c.log_n c.r c.p) in
     read_seven (text_parts c letters key good (IsField-crypt64_of salt)) refl
     ∙ rw (field_read c letters good, key_read (record { are_bytes = bytes; encoding = refl }) allowed, rest) refl
@@ -113,7 +113,7 @@ length-made_text c password salt =
     )
 
 -- made texts with these parameters, this salt and any password are alike in length
-pub made_length : (c : Parameters) (password salt text : List ℕ) → AreAccepted c.log_n c.r c.p → IfSome c.output_len IsStoredLen
+pub made_length : (c : Parameters) (password salt text : List ℕ) → IsTrue (are_accepted c.log_n c.r c.p) → IsTrue (is_stored_len c.output_len)
     → IsMadeHash c password salt text → length text ≡ made_text_len c (length salt)
 made_length c password salt text good fits made =
     ap length (text_of made ∙ sym (text_of (made_text c password salt good fits))) ∙ length-made_text c password salt
@@ -123,14 +123,14 @@ pub ruleset made_lengths = (made_length)
 -- a text that was written whole
 
 pub whole_is_made : (c : Parameters) (password salt key text : List ℕ) → text ≡ mcf_text c salt key → key ≡ made_key c password salt
-    → AreAccepted c.log_n c.r c.p → IfSome c.output_len IsStoredLen → IsMadeHash c password salt text
+    → IsTrue (are_accepted c.log_n c.r c.p) → IsTrue (is_stored_len c.output_len) → IsMadeHash c password salt text
 whole_is_made c password salt key text is derived good fits = rw (is, derived) (made_text c password salt good fits)
 
-pub whole_is_ascii : (c : Parameters) (salt key text : List ℕ) → text ≡ mcf_text c salt key → AreAccepted c.log_n c.r c.p → IsAscii text
+pub whole_is_ascii : (c : Parameters) (salt key text : List ℕ) → text ≡ mcf_text c salt key → IsTrue (are_accepted c.log_n c.r c.p) → IsAscii text
 whole_is_ascii c salt key text is good =
     let ascii : ℕ → Type 0 = λ byte. byte < 128 in
     let plain = λ (letters : List ℕ) (each : All IsPlain letters). All-weaker IsPlain ascii (λ byte is. is.0) letters each in
-    let small : c.log_n ≤ 56 = small_log_n c.log_n c.r good.0 good.2 in
+    let small : c.log_n ≤ 56 = (small_params c.log_n c.r c.p good).0 in
     let front : All ascii (codes "$7$") = All-from_recursion ascii (codes "$7$") (lit< tt, (lit< tt, (lit< tt, tt))) in
     let letters = params_letters c.log_n c.r c.p in
     let last = dollar ∷ crypt64_of key in
@@ -140,7 +140,7 @@ whole_is_ascii c salt key text is good =
     (All-append ascii (crypt64_of salt) last (plain (crypt64_of salt) (crypt64_of-plain salt))
     (All-cons ascii dollar (crypt64_of key) (lit< tt) (plain (crypt64_of key) (crypt64_of-plain key)))))))
 
-pub whole_is_mcf : (c : Parameters) (salt key text : List ℕ) → text ≡ mcf_text c salt key → AreAccepted c.log_n c.r c.p → IsMcf text
+pub whole_is_mcf : (c : Parameters) (salt key text : List ℕ) → text ≡ mcf_text c salt key → IsTrue (are_accepted c.log_n c.r c.p) → IsMcf text
 whole_is_mcf c salt key text is good = rw is (_, _, text_parts c (crypt64_of salt) key good (IsField-crypt64_of salt))
 
 pub ruleset whole_texts = (whole_is_ascii, whole_is_made)

@@ -1,8 +1,8 @@
 use Rattle.std.proofs.Common.{◌≡◌, ℕ, List, refl, rules, arith, lit≤, Ok}
-use Rattle.std.specs.Prelude.{IfErr, IfSome}
+use Rattle.std.specs.Prelude.{IfErr, IsTrue}
 use Rattle.password_hash.specs.Phc.{IsHashText, IsSalt, hash_text}
 use Rattle.password_hash.specs.declared.phc.hash.PasswordHash.{PasswordHash}
-use Rattle.scrypt.specs.Accepted.{AreAccepted, IsStoredLen, Parameters}
+use Rattle.scrypt.specs.Accepted.{are_accepted, is_stored_len, Parameters}
 use Rattle.scrypt.specs.PhcHash.{IsMadeHash, phc_params, read_phc}
 use Rattle.scrypt.specs.Hashing.{key_len_or_default}
 use Rattle.scrypt.specs.Reading.{NamesNoPassword}
@@ -20,7 +20,7 @@ pub params_none : (hash : PasswordHash) → NamesNoPassword (phc_params hash)
 params_none hash = no_password (phc_params hash) (params_fault hash)
 
 -- a made hash is read as it was made
-pub made_read : (c : Parameters) (password salt : List ℕ) (hash : PasswordHash) → AreAccepted c.log_n c.r c.p
+pub made_read : (c : Parameters) (password salt : List ℕ) (hash : PasswordHash) → IsTrue (are_accepted c.log_n c.r c.p)
     → IsMadeHash c password salt hash
     → read_phc hash ≡ Ok (made_stored c password salt)
 unfolding phc_params
@@ -28,8 +28,8 @@ made_read c password salt hash fits made =
     rw (made.algorithm, made.version, made.params, written_read c fits, made.salt_is, made.key_is) refl
 
 -- a made hash has a text
-pub made_is_text : (c : Parameters) (password salt : List ℕ) (hash : PasswordHash) → AreAccepted c.log_n c.r c.p
-    → IfSome c.output_len IsStoredLen → IsSalt salt → IsMadeHash c password salt hash → IsHashText (hash_text hash) hash
+pub made_is_text : (c : Parameters) (password salt : List ℕ) (hash : PasswordHash) → IsTrue (are_accepted c.log_n c.r c.p)
+    → IsTrue (is_stored_len c.output_len) → IsSalt salt → IsMadeHash c password salt hash → IsHashText (hash_text hash) hash
 made_is_text c password salt hash fits len salted made =
     let small = small_params c.log_n c.r c.p fits in
     let stored = key_len_stored c.output_len len in

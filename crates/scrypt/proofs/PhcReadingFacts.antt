@@ -1,9 +1,9 @@
 use Rattle.std.proofs.Common.{◌≡◌, ℕ, ◌^◌, ◌<◌, ◌≤◌, List, [], ◌∷◌, refl, rules, arith, Ok, Some, None}
-use Rattle.std.specs.Prelude.{IfErr, Option, decimal, ok_or}
+use Rattle.std.specs.Prelude.{IfErr, Option, decimal, ok_or, IsTrue}
 use Rattle.std.proofs.lemmas.Bool.Decides.{nat_tests}
 use Rattle.password_hash.specs.Decimal.{decimal_below}
 use Rattle.password_hash.proofs.DecimalFacts.{decimal_exact}
-use Rattle.scrypt.specs.Accepted.{AreAccepted, Parameters, without_len}
+use Rattle.scrypt.specs.Accepted.{are_accepted, Parameters, without_len}
 use Rattle.scrypt.proofs.AcceptedFacts.{checked_is, small_params}
 use Rattle.scrypt.proofs.ReadingFacts.{IsFault, checked_fault, faults}
 use Rattle.scrypt.specs.PhcParams.{params_of_pairs, read_pairs, written_pairs}
@@ -29,7 +29,7 @@ number_is (Some m) why n is = cc
 pub ruleset numbers = (smaller, larger, neither)
 
 -- parameters that were written are read
-pub written_read : (c : Parameters) → AreAccepted c.log_n c.r c.p → params_of_pairs (written_pairs c) ≡ Ok (without_len c)
+pub written_read : (c : Parameters) → IsTrue (are_accepted c.log_n c.r c.p) → params_of_pairs (written_pairs c) ≡ Ok (without_len c)
 unfolding read_pairs
 written_read c fits =
     let small = small_params c.log_n c.r c.p fits in

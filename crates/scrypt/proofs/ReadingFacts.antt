@@ -1,5 +1,5 @@
 use Rattle.std.proofs.Common.{◌≡◌, ◌↔◌, ◌≢◌, ◌⊎◌, ◌∙◌, ℕ, ◌≤◌, List, length, Ok, Err, inl, inr, true, false, refl, sym, ap, arith}
-use Rattle.std.specs.Prelude.{Bool, IfErr, None, Option, Result, Some, if◌then◌else◌, ok_or, ⊤}
+use Rattle.std.specs.Prelude.{Bool, IfErr, None, Option, Result, Some, if◌then◌else◌, ok_or, ⊤, IsTrue}
 use Rattle.std.specs.Bool.{Decides}
 use Rattle.std.proofs.lemmas.Bool.Decides.{Decides-and, same_from_decides}
 use Rattle.std.proofs.lemmas.Slice.Eq.{bytes_eq-Decides}
@@ -8,12 +8,12 @@ use Rattle.scrypt.specs.Accepted.{Parameters, are_accepted, without_len}
 use Rattle.scrypt.specs.Cost.{chunks_bytes, scratch_words, table_words}
 use Rattle.scrypt.specs.Hashing.{key_len_or_default}
 use Rattle.scrypt.specs.KeyOfParams.{key_by}
-use Rattle.scrypt.proofs.AcceptedFacts.{leb_decided, ok_if, refuted}
+use Rattle.scrypt.proofs.AcceptedFacts.{leb_decided, ok_if}
 use Rattle.scrypt.proofs.KeyFacts.{length-key_by}
-use Rattle.std.proofs.lemmas.Bool.{le-ltb}
+use Rattle.std.proofs.lemmas.Bool.{false_from_ne_true, le-ltb}
 use Rattle.scrypt.specs.Reading.{◌and_then◌, NamesNoPassword, Stored, checked, is_below, is_right, mapped, verdict, weaker}
-use Rattle.scrypt.specs.InBuffers.{AreEnough}
-use Rattle.scrypt.specs.Workspace.{Workspace, has_room, verdict_in}
+use Rattle.scrypt.specs.InBuffers.{are_enough}
+use Rattle.scrypt.specs.Workspace.{Workspace, verdict_in}
 
 -- what is read in two steps
 
@@ -118,24 +118,19 @@ made_strong c password salt reading is =
     let same = λ (n : ℕ). le-ltb n n (omega arith) in
     rw (is, long, same c.log_n, same c.r, same c.p, same (key_len_or_default c)) refl
 
-pub room_decided : (c : Parameters) (w : Workspace) → Decides (has_room c w)
-    ((chunks_bytes c.r c.p ≤ length w.chunks) × ((table_words c.log_n c.r ≤ length w.table) × (scratch_words c.r ≤ length w.scratch)))
-unfolding has_room
-room_decided c w =
+pub enough_decided : (c : Parameters) (chunks table scratch : List ℕ) → Decides (are_enough c chunks table scratch)
+    ((chunks_bytes c.r c.p ≤ length chunks) × ((table_words c.log_n c.r ≤ length table) × (scratch_words c.r ≤ length scratch)))
+unfolding are_enough
+enough_decided c chunks table scratch =
     Decides-and _ _ (leb_decided _ _) (Decides-and _ _ (leb_decided _ _) (leb_decided _ _))
 
-pub room_enough : (c : Parameters) (w : Workspace) → AreEnough c w.chunks w.table w.scratch → has_room c w ≡ true
-room_enough c w enough = (room_decided c w).1 (enough.chunks_fit, (enough.table_fits, enough.scratch_fits))
-
-pub room_too_short : (c : Parameters) (w : Workspace) → ¬ AreEnough c w.chunks w.table w.scratch → has_room c w ≡ false
-room_too_short c w short = refuted _ (room_decided c w) (λ fits.
-    short (record { chunks_fit = fits.0; table_fits = fits.1.0; scratch_fits = fits.1.1 }))
-
-pub ruleset known_room = (room_enough, room_too_short)
+pub not_enough : (c : Parameters) (chunks table scratch : List ℕ) → ¬ IsTrue (are_enough c chunks table scratch)
+    → are_enough c chunks table scratch ≡ false
+not_enough c chunks table scratch short = false_from_ne_true _ short
 
 pub same_verdict : (w w' : Workspace) → length w.chunks ≡ length w'.chunks → length w.table ≡ length w'.table
     → length w.scratch ≡ length w'.scratch
     → (password : List ℕ) (reading : Result Stored Refusal) → verdict_in w password reading ≡ verdict_in w' password reading
-unfolding has_room
+unfolding are_enough
 same_verdict w w' chunks table scratch password (Ok s) = rw (chunks, table, scratch) refl
 same_verdict w w' chunks table scratch password (Err why) = refl

@@ -1,5 +1,5 @@
 use Rattle.std.proofs.Common.{◌≡◌, List, ℕ, [], ◌∷◌, Bool, true, false, Ok, Err, refl, sym, ap, arith, lit<}
-use Rattle.std.specs.Prelude.{◌||◌, IfErr, IfSome, Option, Some, None, Result, codes, is_some, length, ok_or}
+use Rattle.std.specs.Prelude.{◌||◌, IfErr, Option, Some, None, Result, codes, is_some, length, ok_or, IsTrue}
 use Rattle.std.proofs.lemmas.Bool.{false≢true}
 use Rattle.std.proofs.lemmas.Bool.Decides.{nat_tests}
 use Rattle.password_hash.proofs.McfFacts.{IsMcfText-from_parts}
@@ -11,7 +11,7 @@ use Rattle.password_hash.specs.Refusal.{Refusal, EncodingInvalid, PasswordInvali
 use Rattle.password_hash.specs.declared.phc.hash.PasswordHash.{PasswordHash}
 use Rattle.scrypt.specs.McfHash.{mcf_id, read_fields, read_mcf}
 use Rattle.scrypt.specs.PhcHash.{IsMadeHash, phc_params}
-use Rattle.scrypt.specs.Accepted.{AreAccepted, IsStoredLen, Parameters}
+use Rattle.scrypt.specs.Accepted.{are_accepted, is_stored_len, Parameters}
 use Rattle.scrypt.specs.Reading.{◌and_then◌, IsOfText, NamesNoPassword, Stored, mapped}
 use Rattle.scrypt.specs.StoredHash.{Formatted, McfText, PhcHash, formatted, is_mcf_text, is_stored_text, key_len_or_zero, params_and_len, params_reading, reading, whole}
 use Rattle.scrypt.proofs.McfHashFacts.{is_mcf, mcf_fault, mcf_none, read_seven}
@@ -132,8 +132,8 @@ pub made_mcf : (text : List ℕ) {s : Stored} → read_mcf text ≡ Ok s → rea
 unfolding reading formatted
 made_mcf text is = rw (mcf_is_seven (is_mcf is).1) is
 
-pub made_phc : (c : Parameters) (password salt : List ℕ) (hash : PasswordHash) → AreAccepted c.log_n c.r c.p
-    → IfSome c.output_len IsStoredLen → IsSalt salt → IsMadeHash c password salt hash
+pub made_phc : (c : Parameters) (password salt : List ℕ) (hash : PasswordHash) → IsTrue (are_accepted c.log_n c.r c.p)
+    → IsTrue (is_stored_len c.output_len) → IsSalt salt → IsMadeHash c password salt hash
     → reading (hash_text hash) ≡ Ok (made_stored c password salt)
 unfolding reading formatted
 made_phc c password salt hash fits len salted made =

@@ -1,13 +1,12 @@
--- Hashing in the caller's buffers, in every format.
-use Rattle.std.specs.Prelude.{◌≡◌, ℕ, ◌≤◌, List, ◌++◌, drop, length, replicate}
+-- The caller's buffers: long enough, wiped, and written to.
+use Rattle.std.specs.Prelude.{◌≡◌, ℕ, ◌&&◌, Bool, nat_le, List, ◌++◌, drop, length, replicate}
 use Rattle.scrypt.specs.Accepted.{Parameters}
 use Rattle.scrypt.specs.Cost.{chunks_bytes, scratch_words, table_words}
 
--- the buffers are at least as long as a derivation with these parameters needs
-pub record AreEnough (c : Parameters) (chunks table scratch : List ℕ) : Type 0 where
-  pub chunks_fit : chunks_bytes c.r c.p ≤ length chunks
-  pub table_fits : table_words c.log_n c.r ≤ length table
-  pub scratch_fits : scratch_words c.r ≤ length scratch
+-- whether the buffers are at least as long as a derivation with these parameters needs
+unfoldable pub are_enough : Parameters → List ℕ → List ℕ → List ℕ → Bool
+are_enough c chunks table scratch = nat_le (chunks_bytes c.r c.p) (length chunks)
+    && (nat_le (table_words c.log_n c.r) (length table) && nat_le (scratch_words c.r) (length scratch))
 
 -- the first n elements are zeros now, and the others are unchanged
 abbrev pub IsWiped : ℕ → List ℕ → List ℕ → Type 0

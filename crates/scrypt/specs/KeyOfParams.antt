@@ -1,8 +1,8 @@
 -- The key of scrypt as a `Kdf`, and which lengths are refused.
-use Rattle.std.specs.Prelude.{ℕ, List}
+use Rattle.std.specs.Prelude.{ℕ, List, IsTrue}
 use Rattle.password_hash.specs.declared.kdf.Error.{Error}
 use Rattle.password_hash.specs.declared.kdf.Error.TheVariants.{OutOfMemory, Refused}
-use Rattle.scrypt.specs.Accepted.{IsOutputLen, Parameters}
+use Rattle.scrypt.specs.Accepted.{is_output_len, Parameters}
 use Rattle.scrypt.specs.Key.{derived_key}
 
 -- the key of these parameters; their length of a stored key is ignored
@@ -11,5 +11,5 @@ key_by c password salt n = derived_key password salt c.log_n c.r c.p n
 
 -- the errors of deriving a key of n bytes: the length is refused exactly if no output can have it
 abbrev pub KeyIsRefused : ℕ → Error → Type 0
-KeyIsRefused n Refused = ¬ IsOutputLen n
-KeyIsRefused n OutOfMemory = IsOutputLen n
+KeyIsRefused n Refused = ¬ IsTrue (is_output_len n)
+KeyIsRefused n OutOfMemory = IsTrue (is_output_len n)

@@ -6,7 +6,8 @@ use Rattle.scrypt.specs.Accepted.{Parameters}
 use Rattle.scrypt.specs.Reading.{◌and_then◌, Stored, with_refusal}
 use Rattle.scrypt.specs.StoredHash.{reading}
 use Rattle.scrypt.specs.WithinLimits.{within}
-use Rattle.scrypt.specs.Workspace.{Workspace, IsDone, IsLeft, has_room, verdict_in}
+use Rattle.scrypt.specs.InBuffers.{are_enough}
+use Rattle.scrypt.specs.Workspace.{Workspace, IsDone, IsLeft, verdict_in}
 use Rattle.scrypt.specs.declared.limits.Limits.{Limits}
 use Rattle.scrypt.specs.declared.logins.Login.{Login}
 
@@ -67,7 +68,7 @@ all_of f = flat_map (own f)
 
 -- the keys of these are not all derived at once in this memory
 abbrev pub IsAlone : List Attempt → Workspace → Type 0
-IsAlone these w = (c : Parameters) → shared these ≡ Some c → has_room c w ≡ false
+IsAlone these w = (c : Parameters) → shared these ≡ Some c → are_enough c w.chunks w.table w.scratch ≡ false
 
 -- What verifying these leaves: what one derivation with the chunks of all leaves, if there is room for it, and otherwise what
 -- the first leaves alone, and then the others.
@@ -75,4 +76,4 @@ abbrev pub AreLeft : List Attempt → Workspace → Workspace → Type 0
 AreLeft [] before after = after ≡ before
 AreLeft (a ∷ rest) before after =
     let Alone : Type 0 = (between : Workspace) × IsLeft a.1 before between × AreLeft rest between after in
-    MatchOption (shared (a ∷ rest)) Alone (λ c. MatchBool (has_room c before) (IsDone c before after) Alone)
+    MatchOption (shared (a ∷ rest)) Alone (λ c. MatchBool (are_enough c before.chunks before.table before.scratch) (IsDone c before after) Alone)

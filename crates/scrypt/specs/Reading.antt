@@ -10,7 +10,7 @@ use Rattle.scrypt.specs.Hashing.{key_len_or_default}
 use Rattle.scrypt.specs.Key.{derived_key, mixed_chunks}
 use Rattle.scrypt_kernel.specs.Pbkdf2.{pbkdf2}
 
--- f of the value, or the same error, as `Result::and_then`
+-- the second step, if the first gave a value, as `Result::and_then`
 infixl 10 ◌and_then◌
 abbrev pub ◌and_then◌ : {A B E : Type 0} → Result A E → (A → Result B E) → Result B E
 Ok x and_then f = f x

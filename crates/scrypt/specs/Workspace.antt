@@ -1,11 +1,11 @@
 -- The workspace of one derivation, which is the caller's: the verdict in it, and what is left in it.
-use Rattle.std.specs.Prelude.{◌≡◌, ℕ, ◌≤◌, ◌*◌, ◌/◌, min, ◌&&◌, Bool, nat_le, if◌then◌else◌, List, length, drop, MatchBool, Result, Ok, Err, ⊤}
+use Rattle.std.specs.Prelude.{◌≡◌, ℕ, ◌≤◌, ◌*◌, ◌/◌, min, if◌then◌else◌, List, length, drop, MatchBool, Result, Ok, Err, ⊤}
 use Rattle.password_hash.specs.Refusal.{Refusal, OutOfMemory}
 use Rattle.scrypt_kernel.specs.Count.{AreCounted}
 use Rattle.scrypt_kernel.specs.declared.cores.count.CoreCount.{CoreCount}
 use Rattle.scrypt.specs.Accepted.{Parameters}
 use Rattle.scrypt.specs.Cost.{chunks_bytes, cost, scratch_words, table_words}
-use Rattle.scrypt.specs.InBuffers.{IsWiped}
+use Rattle.scrypt.specs.InBuffers.{IsWiped, are_enough}
 use Rattle.scrypt.specs.Reading.{◌and_then◌, Stored, verdict}
 use Rattle.scrypt.specs.declared.buffers.BufferLens.{BufferLens}
 
@@ -20,11 +20,6 @@ pub record Workspace : Type 0 where
 abbrev pub workspace_of : List ℕ → List ℕ → List ℕ → CoreCount → Workspace
 workspace_of chunks table scratch cores =
     record { chunks = chunks; table = table; scratch = scratch; cores = cores }
-
--- whether the buffers are at least as long as a derivation with these parameters needs
-unfoldable pub has_room : Parameters → Workspace → Bool
-has_room c w = nat_le (chunks_bytes c.r c.p) (length w.chunks)
-    && (nat_le (table_words c.log_n c.r) (length w.table) && nat_le (scratch_words c.r) (length w.scratch))
 
 -- how many of n chunks of this N and r are mixed at a time in a table and a scratch of so many words: at most four, and as
 -- many as have a table and a scratch there
@@ -57,9 +52,9 @@ pub record IsDone (c : Parameters) (before after : Workspace) : Type 0 where
 
 -- the verdict of verifying in this memory: `OutOfMemory` if keys would be compared, and a buffer is too short
 abbrev pub verdict_in : Workspace → List ℕ → Result Stored Refusal → Result ⊤ Refusal
-verdict_in w password reading = reading and_then λ s. if has_room s.params w then verdict password reading else Err OutOfMemory
+verdict_in w password reading = reading and_then λ s. if are_enough s.params w.chunks w.table w.scratch then verdict password reading else Err OutOfMemory
 
 -- what verifying leaves: a derivation was done if keys were compared, and nothing changed if not
 abbrev pub IsLeft : Result Stored Refusal → Workspace → Workspace → Type 0
-IsLeft (Ok s) before after = MatchBool (has_room s.params before) (IsDone s.params before after) (after ≡ before)
+IsLeft (Ok s) before after = MatchBool (are_enough s.params before.chunks before.table before.scratch) (IsDone s.params before after) (after ≡ before)
 IsLeft (Err why) before after = after ≡ before

@@ -1,7 +1,7 @@
 // scrypt as a value with parameters: it derives keys, makes hashes and verifies passwords.
 
-ghost use Rattle.std.specs.Prelude.{◌≡◌, length};
-ghost use Rattle.scrypt.specs.Accepted.{IsOutputLen, Parameters, recommended_parameters};
+ghost use Rattle.std.specs.Prelude.{◌≡◌, length, IsTrue};
+ghost use Rattle.scrypt.specs.Accepted.{is_output_len, Parameters, recommended_parameters};
 ghost use Rattle.scrypt.specs.KeyOfParams.{KeyIsRefused, key_by};
 
 use crate::{DeriveError, Params, scrypt};
@@ -60,7 +60,7 @@ impl From<Params> for Scrypt {
 }
 
 impl Kdf for Scrypt {
-    ghost derives = { λ scrypt password salt out. IsOutputLen (length out) × (out ≡ key_by scrypt password salt (length out)) };
+    ghost derives = { λ scrypt password salt out. IsTrue (is_output_len (length out)) × (out ≡ key_by scrypt password salt (length out)) };
 
     ghost refuses = { λ scrypt password salt len e. KeyIsRefused len e };
 

@@ -1,9 +1,9 @@
 // The workspace of a derivation: the lengths of its buffers, the caller's, allocated ones, and what is used of either.
 
-ghost use Rattle.std.specs.Prelude.{◌≡◌, ◌⊎◌, ◌↔◌, ◌+◌, ◌-◌, ◌*◌, ◌<◌, ◌≤◌, length, IfOk, IfSome, IsSome};
+ghost use Rattle.std.specs.Prelude.{◌≡◌, ◌⊎◌, ◌↔◌, ◌+◌, ◌-◌, ◌*◌, ◌<◌, ◌≤◌, length, IfOk, IfSome, IsSome, IsTrue};
 ghost use Rattle.std.specs.Vec.{vec_capacity};
 ghost use Rattle.scrypt.specs.Cost.{chunks_bytes, scratch_words, table_words, thin_scratch_words};
-ghost use Rattle.scrypt.specs.InBuffers.{AreEnough};
+ghost use Rattle.scrypt.specs.InBuffers.{are_enough};
 ghost use Rattle.scrypt.specs.Limits.{tables_within};
 ghost use Rattle.scrypt.specs.Mixing.{HasTables, IsWidth};
 ghost use Rattle.scrypt.specs.Workspace.{AreUsed, chunks_at_once};
@@ -127,7 +127,7 @@ pub(crate) fn chunks_at_once(params: &Params, count: usize, table: usize, scratc
 
 /// Returns how many of `count` chunks are mixed at a time in these buffers, or `None` if a buffer is too
 /// short for them.
-#[tactic(auto, using(crate::proofs::CostFacts::width_of_part))]
+#[tactic(auto, using(crate::proofs::CostFacts::width_of_part, std::proofs::lemmas::Bool::Decides::nat_tests), unfolding(crate::specs::InBuffers::are_enough))]
 pub(crate) fn width_in(
     params: &Params,
     count: u32,
@@ -136,7 +136,7 @@ pub(crate) fn width_in(
     scratch: &[u32],
 ) -> Option<usize>
     requires some { 0 < count }
-    ensures enough { IsSome result ↔ AreEnough (record params.now { p = count }) chunks.now table.now scratch.now }
+    ensures enough { IsSome result ↔ IsTrue (are_enough (record params.now { p = count }) chunks.now table.now scratch.now) }
     ensures width { IfSome result (λ w. IsWidth params.now.log_n params.now.r count w chunks.now table.now scratch.now) }
 {
     let width = chunks_at_once(params, count as usize, table.len(), scratch.len());
@@ -156,7 +156,7 @@ pub fn used_lens(
     table: &[u32],
     scratch: &[u32],
 ) -> Option<BufferLens>
-    ensures enough { IsSome result ↔ AreEnough params.now chunks.now table.now scratch.now }
+    ensures enough { IsSome result ↔ IsTrue (are_enough params.now chunks.now table.now scratch.now) }
     ensures used { IfSome result (λ lens. AreUsed params.now lens chunks.now table.now scratch.now) }
 {
     let width = width_in(params, params.p(), chunks, table, scratch)?;

@@ -16,6 +16,7 @@ pub(crate) fn is_derived_key(password: &[u8], mixed: &[u8], parts: &StoredParts<
     ensures exact { mixed.now ≡ mixed_of password.now (stored parts.now) → result ≡ is_right password.now (stored parts.now) }
 {
     let len = parts.key_len;
+    parts.expose_key_len();
     let blocks = Blocks::new(password, mixed);
     let mut same = true;
     for i in 0..len.div_ceil(PIECE_LEN) {

@@ -3,7 +3,7 @@
 ghost use Rattle.std.specs.Prelude.{◌≡◌, ◌↔◌, ◌+◌, ◌-◌, ◌*◌, ◌^◌, ◌<◌, ◌≤◌, length, IfSome, IsOk, IsSome, IsTrue, IsErrOf, OnOk, OnErr};
 ghost use Rattle.scrypt_kernel.specs.Count.{AreCounted};
 ghost use Rattle.scrypt_kernel.specs.Pbkdf2.{max_output_len, pbkdf2};
-ghost use Rattle.scrypt.specs.Accepted.{IsOutputLen};
+ghost use Rattle.scrypt.specs.Accepted.{is_output_len};
 ghost use Rattle.scrypt.specs.Cost.{chunks_bytes, cost, scratch_words, table_words, thin_cost, thin_scratch_words};
 ghost use Rattle.scrypt.specs.Key.{derived_key};
 ghost use Rattle.scrypt.specs.Mixing.{HasTables, IsKept, IsReady};
@@ -23,8 +23,9 @@ const MAX_OUTPUT_LEN: usize = ((1 << 32) - 1) * 32;
 
 /// Returns whether an output of `len` bytes can be derived: `len` is from 1 to `(2^32 - 1) * 32`,
 /// which is 137438953440 (RFC 7914, section 6).
+#[tactic(auto, using(std::proofs::lemmas::Bool::Decides::nat_tests), unfolding(crate::specs::Accepted::is_output_len))]
 pub fn output_len_ok(len: usize) -> bool
-    ensures exact { IsTrue result ↔ IsOutputLen len }
+    ensures exact { result ≡ is_output_len len }
 {
     (1..=MAX_OUTPUT_LEN).contains(&len)
 }
@@ -45,7 +46,7 @@ pub fn scrypt(
     params: &Params,
     output: &mut [u8],
 ) -> Result<(), DeriveError>
-    ensures length { IsErrOf result BadLength ↔ ¬ IsOutputLen (length output.old) }
+    ensures length { IsErrOf result BadLength ↔ ¬ IsTrue (is_output_len (length output.old)) }
     ensures value { OnOk result (output.new ≡ derived_key password.now salt.now
         params.now.log_n params.now.r params.now.p (length output.old)) }
     ensures refused { OnErr result (output.new ≡ output.old) }
@@ -65,7 +66,7 @@ pub fn scrypt_counted(
     output: &mut [u8],
     cores: &mut CoreCount,
 ) -> Result<(), DeriveError>
-    ensures length { IsErrOf result BadLength ↔ ¬ IsOutputLen (length output.old) }
+    ensures length { IsErrOf result BadLength ↔ ¬ IsTrue (is_output_len (length output.old)) }
     ensures value { OnOk result (output.new ≡ derived_key password.now salt.now
         params.now.log_n params.now.r params.now.p (length output.old)) }
     ensures counted { OnOk result (AreCounted (cost params.now.log_n params.now.r params.now.p) cores.old cores.new) }
@@ -81,6 +82,7 @@ pub fn scrypt_counted(
 /// the system refuses them, it takes one table.
 ///
 /// Returns `OutOfMemory` if an allocation for one table fails.
+#[tactic(auto, using(crate::proofs::AcceptedFacts::most_output_len))]
 pub fn scrypt_in_groups(
     alloc: Global,
     password: &[u8],
@@ -90,7 +92,7 @@ pub fn scrypt_in_groups(
     output: &mut [u8],
     cores: &mut CoreCount,
 ) -> Result<(), DeriveError>
-    ensures length { IsErrOf result BadLength ↔ ¬ IsOutputLen (length output.old) }
+    ensures length { IsErrOf result BadLength ↔ ¬ IsTrue (is_output_len (length output.old)) }
     ensures value { OnOk result (output.new ≡ derived_key password.now salt.now
         params.now.log_n params.now.r params.now.p (length output.old)) }
     ensures counted { OnOk result (AreCounted (cost params.now.log_n params.now.r params.now.p) cores.old cores.new) }
@@ -123,6 +125,7 @@ pub fn scrypt_in_groups(
 ///
 /// Returns `InvalidOutputLen`, and changes nothing, exactly if the length of `output` is
 /// not allowed ([`output_len_ok`](crate::output_len_ok)).
+#[tactic(auto, using(crate::proofs::AcceptedFacts::most_output_len))]
 pub fn scrypt_with_buffers(
     password: &[u8],
     salt: &[u8],
@@ -136,7 +139,7 @@ pub fn scrypt_with_buffers(
     requires chunks { length chunks.old ≡ chunks_bytes params.now.r params.now.p }
     requires table { table_words params.now.log_n params.now.r ≤ length table.old }
     requires scratch { scratch_words params.now.r ≤ length scratch.old }
-    ensures allowed { IsOk result ↔ IsOutputLen (length output.old) }
+    ensures allowed { IsOk result ↔ IsTrue (is_output_len (length output.old)) }
     ensures value { OnOk result (output.new ≡ derived_key password.now salt.now
         params.now.log_n params.now.r params.now.p (length output.old)) }
     ensures counted { OnOk result (AreCounted (cost params.now.log_n params.now.r params.now.p) cores.old cores.new) }
@@ -173,6 +176,7 @@ pub fn scrypt_with_buffers(
 ///
 /// Returns `InvalidOutputLen`, and changes nothing, exactly if the length of `output` is
 /// not allowed ([`output_len_ok`](crate::output_len_ok)).
+#[tactic(auto, using(crate::proofs::AcceptedFacts::most_output_len))]
 pub fn scrypt_thin(
     password: &[u8],
     salt: &[u8],
@@ -188,7 +192,7 @@ pub fn scrypt_thin(
     requires chunks { length chunks.old ≡ chunks_bytes params.now.r params.now.p }
     requires table { length table.old ≡ table_words (params.now.log_n - s) params.now.r }
     requires scratch { length scratch.old ≡ thin_scratch_words params.now.r }
-    ensures allowed { IsOk result ↔ IsOutputLen (length output.old) }
+    ensures allowed { IsOk result ↔ IsTrue (is_output_len (length output.old)) }
     ensures value { OnOk result (output.new ≡ derived_key password.now salt.now
         params.now.log_n params.now.r params.now.p (length output.old)) }
     ensures counted { OnOk result (AreCounted (thin_cost password.now salt.now params.now.log_n params.now.r params.now.p s)

@@ -1,14 +1,14 @@
 //! Laws of the definitions. Each function does nothing at run time: its contract is the law.
 
-ghost use Rattle.std.specs.Prelude.{◌≡◌, ◌≢◌, ◌⊎◌, ◌↔◌, true, false, ℕ, ◌-◌, ◌*◌, ◌%◌, ◌^◌, ◌<◌, ◌≤◌, List, [], ◌∷◌, ◌++◌};
-ghost use Rattle.std.specs.Prelude.{length, take, Option, Result, Ok, Err, IfSome, IsSome, Some, All};
+ghost use Rattle.std.specs.Prelude.{◌≡◌, ◌≢◌, ◌⊎◌, ◌↔◌, true, false, ℕ, ◌-◌, ◌*◌, ◌%◌, ◌^◌, ◌<◌, ◌≤◌, List, [], ◌∷◌, ◌++◌, IsTrue};
+ghost use Rattle.std.specs.Prelude.{length, take, Option, Result, Ok, Err, IsSome, Some, All};
 ghost use Rattle.sha2.specs.Sha256.{sha256};
 ghost use Rattle.password_hash.specs.Crypt64.{Crypt64, letter_value, letters_of};
 ghost use Rattle.password_hash.specs.Mcf.{IsMcfText, fields_of};
 ghost use Rattle.password_hash.specs.Phc.{IsHashText, IsSalt, hash_text};
 ghost use Rattle.password_hash.specs.Refusal.{Refusal, EncodingInvalid, PasswordInvalid};
 ghost use Rattle.password_hash.specs.declared.phc.hash.PasswordHash.{PasswordHash};
-ghost use Rattle.scrypt.specs.Accepted.{AreAccepted, IsStoredLen, Parameters, without_len};
+ghost use Rattle.scrypt.specs.Accepted.{are_accepted, is_stored_len, Parameters, without_len};
 ghost use Rattle.scrypt_kernel.specs.BlockMix.{block_mix};
 ghost use Rattle.scrypt_kernel.specs.Salsa.{salsa20_8};
 ghost use Rattle.scrypt.specs.ChunkOrder.{NamesEachOnce, mixed_in_order};
@@ -52,7 +52,7 @@ pub fn chunks_in_any_order()
 /// Parameters that are written to a PHC text are read back as the same `log_n`, `r` and `p`.
 #[tactic(auto, using(crate::proofs::PhcReadingFacts::written_read))]
 pub fn written_parameters_are_read_back()
-    ensures read { (c : Parameters) → AreAccepted c.log_n c.r c.p → params_of_pairs (written_pairs c) ≡ Ok (without_len c) }
+    ensures read { (c : Parameters) → IsTrue (are_accepted c.log_n c.r c.p) → params_of_pairs (written_pairs c) ≡ Ok (without_len c) }
 {}
 
 /// A PHC text, an MCF text, a `$7$` text and a text of crypt Base64 each have at most one reading,
@@ -77,18 +77,18 @@ pub fn texts_have_one_reading()
 /// parameters, of the salt and of the key.
 #[tactic(auto, using(crate::proofs::PhcHashFacts::made_hashes, crate::proofs::McfTextFacts::made_text, password_hash::proofs::PhcReadingFacts::one_reading))]
 pub fn made_hashes_are_accepted()
-    ensures phc { (c : Parameters) (password salt : List ℕ) (hash : PasswordHash) → AreAccepted c.log_n c.r c.p
+    ensures phc { (c : Parameters) (password salt : List ℕ) (hash : PasswordHash) → IsTrue (are_accepted c.log_n c.r c.p)
         → IsMadeHash c password salt hash → verdict password (read_phc hash) ≡ Ok tt }
-    ensures phc_printed { (c : Parameters) (password salt : List ℕ) (hash : PasswordHash) → AreAccepted c.log_n c.r c.p
-        → IfSome c.output_len IsStoredLen → IsSalt salt → IsMadeHash c password salt hash
+    ensures phc_printed { (c : Parameters) (password salt : List ℕ) (hash : PasswordHash) → IsTrue (are_accepted c.log_n c.r c.p)
+        → IsTrue (is_stored_len c.output_len) → IsSalt salt → IsMadeHash c password salt hash
         → IsHashText (hash_text hash) hash }
-    ensures phc_read_back { (c : Parameters) (password salt : List ℕ) (hash again : PasswordHash) → AreAccepted c.log_n c.r c.p
-        → IfSome c.output_len IsStoredLen → IsSalt salt → IsMadeHash c password salt hash
+    ensures phc_read_back { (c : Parameters) (password salt : List ℕ) (hash again : PasswordHash) → IsTrue (are_accepted c.log_n c.r c.p)
+        → IsTrue (is_stored_len c.output_len) → IsSalt salt → IsMadeHash c password salt hash
         → IsHashText (hash_text hash) again → verdict password (read_phc again) ≡ Ok tt }
     ensures mcf { (c : Parameters) (password salt text : List ℕ) → IsMadeMcf c password salt text
         → verdict password (read_mcf text) ≡ Ok tt }
-    ensures mcf_written { (c : Parameters) (password salt : List ℕ) → AreAccepted c.log_n c.r c.p
-        → IfSome c.output_len IsStoredLen → IsMadeMcf c password salt (mcf_text c salt (made_key c password salt)) }
+    ensures mcf_written { (c : Parameters) (password salt : List ℕ) → IsTrue (are_accepted c.log_n c.r c.p)
+        → IsTrue (is_stored_len c.output_len) → IsMadeMcf c password salt (mcf_text c salt (made_key c password salt)) }
 {}
 
 /// A text that is `$7` or begins with `$7$` is read by its fields, the text of a PHC hash as this hash, and the reading of
@@ -115,8 +115,8 @@ pub fn parameters_are_those_of_the_reading()
 /// and is not weaker than these parameters ask for.
 #[tactic(auto, using(crate::proofs::PhcHashFacts::made_hashes, crate::proofs::StoredHashFacts::made_texts))]
 pub fn made_texts_are_accepted()
-    ensures phc { (c : Parameters) (password salt : List ℕ) (hash : PasswordHash) → AreAccepted c.log_n c.r c.p
-        → IfSome c.output_len IsStoredLen → IsSalt salt → IsMadeHash c password salt hash
+    ensures phc { (c : Parameters) (password salt : List ℕ) (hash : PasswordHash) → IsTrue (are_accepted c.log_n c.r c.p)
+        → IsTrue (is_stored_len c.output_len) → IsSalt salt → IsMadeHash c password salt hash
         → (verdict password (reading (hash_text hash)) ≡ Ok tt) × (weaker c (reading (hash_text hash)) ≡ Ok false) }
     ensures mcf { (c : Parameters) (password salt text : List ℕ) → IsMadeMcf c password salt text
         → (verdict password (reading text) ≡ Ok tt) × (weaker c (reading text) ≡ Ok false) }
@@ -155,7 +155,7 @@ pub fn reading_names_no_password()
 /// A hash that was made with the wanted parameters is not weaker than wanted.
 #[tactic(auto, using(crate::proofs::PhcHashFacts::made_hashes))]
 pub fn rehashing_converges()
-    ensures phc { (c : Parameters) (password salt : List ℕ) (hash : PasswordHash) → AreAccepted c.log_n c.r c.p
+    ensures phc { (c : Parameters) (password salt : List ℕ) (hash : PasswordHash) → IsTrue (are_accepted c.log_n c.r c.p)
         → IsMadeHash c password salt hash → weaker c (read_phc hash) ≡ Ok false }
     ensures mcf { (c : Parameters) (password salt text : List ℕ) → IsMadeMcf c password salt text
         → weaker c (read_mcf text) ≡ Ok false }
@@ -170,14 +170,14 @@ pub fn five_letters_are_inverse()
         → (letters_of 5 number ≡ letters) × (number < 2 ^ 30) }
     ensures said { (letters : List ℕ) → length letters ≡ 5 → All (λ byte. IsSome (letter_value byte)) letters
         → IsSome (five_letter_number letters) }
-    ensures accepted { (log_n r p : ℕ) → AreAccepted log_n r p → (r < 2 ^ 30) × (p < 2 ^ 30) }
+    ensures accepted { (log_n r p : ℕ) → IsTrue (are_accepted log_n r p) → (r < 2 ^ 30) × (p < 2 ^ 30) }
 {}
 
 /// The eleven letters that encode accepted parameters in `$7$` texts are equal exactly if `log_n`, `r`
 /// and `p` are.
 #[tactic(auto, using(crate::proofs::McfTextFacts::params_letters_once))]
 pub fn letters_of_parameters_are_injective()
-    ensures injective { (log_n r p other_log_n other_r other_p : ℕ) → AreAccepted log_n r p → AreAccepted other_log_n other_r other_p
+    ensures injective { (log_n r p other_log_n other_r other_p : ℕ) → IsTrue (are_accepted log_n r p) → IsTrue (are_accepted other_log_n other_r other_p)
         → (params_letters log_n r p ≡ params_letters other_log_n other_r other_p)
         ↔ ((log_n ≡ other_log_n) × (r ≡ other_r) × (p ≡ other_p)) }
 {}
@@ -220,8 +220,8 @@ pub fn block_mix_in_diagonal_order()
 
 /// The parameters of a hasher are accepted, and so is their length of a stored key.
 pub fn hashers_are_accepted(hasher: &crate::Scrypt)
-    ensures accepted { AreAccepted hasher.now.log_n hasher.now.r hasher.now.p }
-    ensures stored { IfSome hasher.now.output_len IsStoredLen }
+    ensures accepted { IsTrue (are_accepted hasher.now.log_n hasher.now.r hasher.now.p) }
+    ensures stored { IsTrue (is_stored_len hasher.now.output_len) }
 {
     let params = hasher.params();
     params.expose_invariant();

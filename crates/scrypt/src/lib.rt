@@ -36,8 +36,7 @@ mod wiping;
 pub use algorithm::Scrypt;
 pub use buffers::{BufferLens, used_lens};
 pub use derivation::{
-    output_len_ok, scrypt, scrypt_counted, scrypt_in_groups, scrypt_thin,
-    scrypt_with_buffers,
+    output_len_ok, scrypt, scrypt_counted, scrypt_in_groups, scrypt_thin, scrypt_with_buffers,
 };
 pub use errors::{DeriveError, InvalidOutputLen, InvalidParams, LimitedError};
 pub use limits::Limits;

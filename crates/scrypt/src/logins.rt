@@ -2,13 +2,13 @@
 
 ghost use Rattle.std.specs.Prelude.{◌≡◌, ℕ, ◌∷◌, List, ◌+◌, ◌*◌, ◌<◌, length, map, IfSome, IsTrue, None, Some, true, false};
 ghost use Rattle.scrypt.specs.Accepted.{Parameters};
-ghost use Rattle.scrypt.specs.InBuffers.{AreEnough};
+ghost use Rattle.scrypt.specs.InBuffers.{are_enough};
 ghost use Rattle.scrypt.specs.Logins.{AreLeft, Attempt, IsAlone, all_of, attempt_of, attempts, count_of, own, params_of, reading_of, shared, verdict_on};
 ghost use Rattle.scrypt.specs.Mixing.{IsReady, IsSpent, IsWidth};
 ghost use Rattle.scrypt.specs.Reading.{chunks_of, mapped, mixed_of, verdict};
 ghost use Rattle.scrypt.specs.StoredParts.{stored};
 ghost use Rattle.scrypt.specs.WithinLimits.{with_limited_refusal};
-ghost use Rattle.scrypt.specs.Workspace.{IsLeft, has_room, verdict_in, workspace_of};
+ghost use Rattle.scrypt.specs.Workspace.{IsLeft, verdict_in, workspace_of};
 ghost use Rattle.scrypt_kernel.specs.Memory.{buffer_room};
 
 use crate::buffers::{InUse, width_in};
@@ -16,8 +16,8 @@ use crate::comparing::is_derived_key;
 use crate::derivation::derive_chunks;
 use crate::derivation::mixing::mix_all;
 use crate::errors::LimitedError;
-use crate::stored_parts::StoredParts;
 use crate::stored_hash::within::limited;
+use crate::stored_parts::StoredParts;
 use crate::verifying::{verdict, verify_in_buffers};
 use crate::{BufferLens, CoreCount, Limits, Params, StoredHash};
 use scrypt_kernel::memory::Buffer;
@@ -83,7 +83,10 @@ impl<'p, 't> Login<'p, 't> {
         ensures mixed { result ≡ length (own mixed_of (attempt_of self.now)) }
     {
         match self.params() {
-            Some(params) => BufferLens::of(&params).chunks,
+            Some(params) => {
+                params.expose_invariant();
+                BufferLens::of(&params).chunks
+            }
             None => 0,
         }
     }
@@ -219,9 +222,9 @@ fn room_for(
     ensures count { IfSome result (λ got. count_of got.0 (attempts logins.now) ≡ Some got.1) }
     ensures shared { IfSome result (λ got. shared (attempts logins.now) ≡ Some (record got.0 { p = got.1 })) }
     ensures width { IfSome result (λ got. IsWidth got.0.log_n got.0.r got.1 got.2 chunks.now table.now scratch.now) }
-    ensures room { IfSome result (λ got. AreEnough (record got.0 { p = got.1 }) chunks.now table.now scratch.now) }
-    ensures none { result ≡ None → (c : Parameters) (cores : CoreCount) → shared (attempts logins.now) ≡ Some c
-        → has_room c (workspace_of chunks.now table.now scratch.now cores) ≡ false }
+    ensures room { IfSome result (λ got. IsTrue (are_enough (record got.0 { p = got.1 }) chunks.now table.now scratch.now)) }
+    ensures none { result ≡ None → (c : Parameters) → shared (attempts logins.now) ≡ Some c
+        → are_enough c chunks.now table.now scratch.now ≡ false }
 {
     let (first, rest) = logins.split_first()?;
     let params = first.params()?;

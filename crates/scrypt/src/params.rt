@@ -1,7 +1,8 @@
 // The parameters of a derivation.
+#![tactic(auto, unfolding(crate::specs::Accepted::are_accepted, crate::specs::Accepted::is_stored_len))]
 
-ghost use Rattle.std.specs.Prelude.{◌≡◌, ◌↔◌, ◌+◌, ◌*◌, ◌^◌, ◌<◌, ◌≤◌, IsOk, IfOk, IfSome, IsTrue, None, Some};
-ghost use Rattle.scrypt.specs.Accepted.{AreAccepted, IsStoredLen, Parameters, parameters_eq, recommended_parameters};
+ghost use Rattle.std.specs.Prelude.{◌≡◌, ◌↔◌, ◌+◌, ◌*◌, ◌^◌, ◌<◌, ◌≤◌, IsOk, IfOk, IsTrue, None, Some};
+ghost use Rattle.scrypt.specs.Accepted.{Parameters, are_accepted, is_stored_len, parameters_eq, recommended_parameters};
 ghost use Rattle.scrypt.specs.Limits.{work};
 ghost use Rattle.scrypt.specs.Hashing.{key_len_or_default};
 ghost use Rattle.scrypt.specs.Reading.{checked, is_below, with_refusal};
@@ -28,14 +29,14 @@ pub struct Params {
 }
 
 impl Model for Params {
-    ghost use Rattle.std.specs.Prelude.{◌<◌, ◌≤◌, ◌*◌, ◌^◌, IfSome};
-    ghost use Rattle.scrypt.specs.Accepted.{AreAccepted, Parameters, IsStoredLen};
+    ghost use Rattle.std.specs.Prelude.{IsTrue};
+    ghost use Rattle.scrypt.specs.Accepted.{Parameters, are_accepted, is_stored_len};
 
     ghost Value = { Parameters };
 
     ghost view = { λ a. record { log_n = a.log_n; r = a.r; p = a.p; output_len = a.output_len } };
 
-    ghost invariant = { λ a. AreAccepted a.log_n a.r a.p × IfSome a.output_len IsStoredLen };
+    ghost invariant = { λ a. IsTrue (are_accepted a.log_n a.r a.p) × IsTrue (is_stored_len a.output_len) };
 
     ghost inverse = { λ c. record { log_n = c.log_n; r = c.r; p = c.p; output_len = c.output_len } };
 }
@@ -75,8 +76,9 @@ impl Params {
     /// `r * p < 2^30`, computed in unbounded integers, and returns `InvalidParams` for all others.
     /// So `log_n` is at most 56. As in the Rust crate and unlike RFC 7914, section 2, `log_n` may be
     /// 0, and may be `16 * r` or more.
+    #[tactic(auto, unfolding(crate::specs::Accepted::is_stored_len))]
     pub fn new(log_n: u8, r: u32, p: u32) -> Result<Params, InvalidParams>
-        ensures accepted { IsOk result ↔ AreAccepted log_n r p }
+        ensures accepted { IsOk result ↔ IsTrue (are_accepted log_n r p) }
         ensures value { IfOk result (λ made. made ≡ record { log_n = log_n; r = r; p = p; output_len = None }) }
     {
         if !are_accepted(log_n, r, p) {
@@ -93,13 +95,14 @@ impl Params {
     /// Creates parameters with `len`, the length of a stored key in bytes.
     ///
     /// Returns `InvalidParams` exactly if [`Params::new`] does or `len` is not from 10 to 64.
+    #[tactic(auto, using(std::proofs::lemmas::Bool::Decides::nat_tests), unfolding(crate::specs::Accepted::is_stored_len))]
     pub fn new_with_output_len(
         log_n: u8,
         r: u32,
         p: u32,
         len: usize,
     ) -> Result<Params, InvalidParams>
-        ensures accepted { IsOk result ↔ AreAccepted log_n r p × IsStoredLen len }
+        ensures accepted { IsOk result ↔ IsTrue (are_accepted log_n r p) × IsTrue (is_stored_len (Some len)) }
         ensures value { IfOk result (λ made. made ≡ record { log_n = log_n; r = r; p = p; output_len = Some len }) }
     {
         if !(Output::MIN_LENGTH..=Output::MAX_LENGTH).contains(&len) {
@@ -129,7 +132,7 @@ impl Params {
 
     /// Returns the same parameters with `len` as the length of a stored key.
     pub(crate) fn with_output_len(self, len: usize) -> Params
-        requires { IsStoredLen len }
+        requires { IsTrue (is_stored_len (Some len)) }
         ensures { result ≡ record self { output_len = Some len } }
     {
         Params {
@@ -141,9 +144,13 @@ impl Params {
     }
 
     /// Proof hint: exposes the invariant that the parameters are accepted, and their length if they have one.
+    #[tactic(auto, using(crate::proofs::AcceptedFacts::bounds))]
     pub(crate) fn expose_invariant(&self)
-        ensures accepted { AreAccepted self.now.log_n self.now.r self.now.p }
-        ensures stored { IfSome self.now.output_len IsStoredLen }
+        ensures accepted { IsTrue (are_accepted self.now.log_n self.now.r self.now.p) }
+        ensures stored { IsTrue (is_stored_len self.now.output_len) }
+        ensures some { (0 < self.now.r) × (0 < self.now.p) }
+        ensures table { 128 * self.now.r * 2 ^ self.now.log_n < 2 ^ 64 }
+        ensures product { self.now.r * self.now.p < 2 ^ 30 }
     {
         let _ = &self.log_n;
     }
@@ -151,15 +158,16 @@ impl Params {
     /// Returns the length of a stored key, 10 to 64 bytes, if one was given.
     pub(crate) fn output_len(&self) -> Option<usize>
         ensures value { result ≡ self.now.output_len }
-        ensures stored { IfSome result IsStoredLen }
+        ensures stored { IsTrue (is_stored_len result) }
     {
         self.output_len
     }
 
     /// Returns the length in bytes of the key that hashing with these parameters makes.
+    #[tactic(auto, using(std::proofs::lemmas::Bool::Decides::nat_tests), unfolding(crate::specs::Accepted::is_stored_len))]
     pub(crate) fn key_len_or_default(&self) -> usize
         ensures value { result ≡ key_len_or_default self.now }
-        ensures stored { IsStoredLen result }
+        ensures stored { (10 ≤ result) × (result ≤ 64) }
     {
         match self.output_len() {
             Some(len) => len,
@@ -179,7 +187,7 @@ impl Params {
     }
 
     /// Returns the logarithm of the work factor `N` to base 2, at most 56.
-    #[tactic(auto, using(crate::proofs::AcceptedFacts::small_log_n))]
+    #[tactic(auto, using(crate::proofs::AcceptedFacts::bounds, crate::proofs::AcceptedFacts::small_log_n))]
     pub fn log_n(&self) -> u8
         ensures value { result ≡ self.now.log_n }
         ensures small { result ≤ 56 }
@@ -188,7 +196,7 @@ impl Params {
     }
 
     /// Returns the work factor `N = 2^log_n`.
-    #[tactic(auto, using(crate::proofs::AcceptedFacts::small_log_n))]
+    #[tactic(auto, using(crate::proofs::AcceptedFacts::bounds, crate::proofs::AcceptedFacts::small_log_n))]
     pub fn n(&self) -> u64
         ensures value { result ≡ 2 ^ self.now.log_n }
     {
@@ -197,6 +205,7 @@ impl Params {
 
     /// Returns the block size `r`, at least 1: a chunk and a row of the table have `128 * r` bytes
     /// each.
+    #[tactic(auto, using(crate::proofs::AcceptedFacts::bounds))]
     pub fn r(&self) -> u32
         ensures value { result ≡ self.now.r }
         ensures some { 0 < result }
@@ -206,6 +215,7 @@ impl Params {
     }
 
     /// Returns the parallelization `p`, at least 1: the number of chunks that are mixed.
+    #[tactic(auto, using(crate::proofs::AcceptedFacts::bounds))]
     pub fn p(&self) -> u32
         ensures value { result ≡ self.now.p }
         ensures some { 0 < result }
@@ -265,9 +275,9 @@ impl Default for Params {
     }
 }
 
-#[tactic(auto, using(crate::proofs::AcceptedFacts::small_log_n, crate::proofs::AcceptedFacts::table_bytes))]
+#[tactic(auto, using(crate::proofs::AcceptedFacts::small_log_n, crate::proofs::AcceptedFacts::table_bytes, std::proofs::lemmas::Bool::Decides::nat_tests), unfolding(crate::specs::Accepted::are_accepted))]
 fn are_accepted(log_n: u8, r: u32, p: u32) -> bool
-    ensures { IsTrue result ↔ AreAccepted log_n r p }
+    ensures { result ≡ are_accepted log_n r p }
 {
     if r == 0 || p == 0 || log_n > 56 {
         return false;

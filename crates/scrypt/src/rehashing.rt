@@ -6,9 +6,9 @@ ghost use Rattle.scrypt.specs.McfHash.{read_mcf};
 ghost use Rattle.scrypt.specs.PhcHash.{read_phc};
 ghost use Rattle.scrypt.specs.Reading.{weaker as weaker_than};
 
+use crate::Scrypt;
 use crate::mcf::reading::parts_of_mcf;
 use crate::phc::reading::{parts_of_phc, read_params};
-use crate::Scrypt;
 use password_hash::{RehashCheck, Result, mcf, phc};
 
 impl RehashCheck<phc::PasswordHash> for Scrypt {

@@ -1,9 +1,10 @@
 // What a stored hash of either format holds.
 
-ghost use Rattle.std.specs.Prelude.{◌≡◌, ◌↔◌, length, take, drop, IsTrue, Some};
+ghost use Rattle.std.specs.Prelude.{◌≡◌, ◌↔◌, ◌≤◌, length, take, drop, IsTrue, Some};
 ghost use Rattle.password_hash.specs.Crypt64.{IsPiece};
-ghost use Rattle.scrypt.specs.Accepted.{IsOutputLen};
+ghost use Rattle.scrypt.specs.Accepted.{is_output_len};
 ghost use Rattle.scrypt.specs.StoredKey.{decoded_key, key_bytes, salt_bytes};
+ghost use Rattle.scrypt_kernel.specs.Pbkdf2.{max_output_len};
 
 use crate::Params;
 use password_hash::mcf::Field;
@@ -61,5 +62,15 @@ pub(crate) struct StoredParts<'a> {
     pub(crate) key_len: usize,
     ghost encoding: { decoded_key key ≡ Some (key_bytes key) },
     ghost len: { length (key_bytes key) ≡ key_len },
-    ghost allowed: { IsOutputLen key_len },
+    ghost allowed: { IsTrue (is_output_len key_len) },
+}
+
+impl<'a> StoredParts<'a> {
+    /// Proof hint: exposes that PBKDF2 can derive as many bytes as the key has.
+    #[tactic(auto, using(crate::proofs::AcceptedFacts::most_output_len))]
+    pub(crate) fn expose_key_len(&self)
+        ensures { self.now.key_len ≤ max_output_len }
+    {
+        let _ = &self.key_len;
+    }
 }

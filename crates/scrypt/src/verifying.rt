@@ -34,7 +34,11 @@ pub(crate) fn verdict(same: bool) -> Result<()>
 
 // Derives the key of the stored one's length, in any memory, and returns whether it is the stored
 // key. Afterwards the chunks and the scratch are zeros.
-fn is_key_of<M: TableMemory>(password: &[u8], parts: &StoredParts<'_>, used: &mut InUse<'_, M>) -> bool
+fn is_key_of<M: TableMemory>(
+    password: &[u8],
+    parts: &StoredParts<'_>,
+    used: &mut InUse<'_, M>,
+) -> bool
     requires ready { IsReady M.room parts.now.params.log_n 0 parts.now.params.r parts.now.params.p used.old }
     ensures exact { result ≡ is_right password.now (stored parts.now) }
     ensures spent { IsSpent M.room parts.now.params used.old used.new }
@@ -79,7 +83,7 @@ pub(crate) fn verify_allocating(
 ///
 /// Returns `OutOfMemory` exactly if a buffer is too short for its parameters, and changes nothing
 /// then, and otherwise `PasswordInvalid` if the keys differ.
-#[tactic(auto, using(crate::proofs::ReadingFacts::known_room))]
+#[tactic(auto, using(crate::proofs::ReadingFacts::not_enough))]
 pub(crate) fn verify_in_buffers(
     password: &[u8],
     parts: &StoredParts<'_>,

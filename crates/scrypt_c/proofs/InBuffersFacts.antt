@@ -1,12 +1,18 @@
 -- What verifying leaves in the caller's buffers.
-use Rattle.std.proofs.Common.{◌≡◌, ◌∙◌, ℕ, List, ap, ap₂, w32, SFits, of_z, to_z}
+use Rattle.std.proofs.Common.{◌≡◌, ◌∙◌, ◌-◌, ◌≤◌, ℕ, List, ap, ap₂, arith, length, w32, SFits, of_z, to_z}
 use Rattle.std.proofs.lemmas.Int.{to_z-of_z}
-use Rattle.std.specs.Prelude.{Result, ℤ, ⊤}
+use Rattle.std.proofs.lemmas.Bool.Decides.{Decides-and, nat_tests}
+use Rattle.std.specs.Bool.{Decides}
+use Rattle.std.specs.Prelude.{IsTrue, Result, ℤ, nat_le, ⊤}
 use Rattle.password_hash.specs.Refusal.{Refusal}
+use Rattle.scrypt.specs.Cost.{chunks_bytes, scratch_words, table_words}
+use Rattle.scrypt.specs.InBuffers.{are_enough}
 use Rattle.scrypt.specs.Reading.{Stored}
 use Rattle.scrypt.specs.Workspace.{Workspace, verdict_in}
+use Rattle.scrypt_c.specs.Buffers.{AreBuffers}
 use Rattle.scrypt_c.specs.InBuffers.{buffers}
-use Rattle.scrypt_c.specs.Statuses.{buffers_status}
+use Rattle.scrypt_c.specs.Limits.{params_of}
+use Rattle.scrypt_c.specs.Statuses.{IsKeyStatus, buffers_status}
 
 -- a call counts from 0
 pub from_zero : (w : Workspace) → (w.cores.all ≡ 0) × (w.cores.lanes ≡ 0) → w ≡ buffers w.chunks w.table w.scratch
@@ -18,3 +24,32 @@ pub kept_status : {out : Result ⊤ Refusal} (status : ℤ) (w w' : Workspace) (
     → out ≡ verdict_in w password reading → to_z w32 (of_z w32 status) ≡ buffers_status (verdict_in w' password' reading')
 kept_status {out} status w w' password password' reading reading' work same read fits is verdict =
     to_z-of_z w32 status fits ∙ is ∙ ap buffers_status (rw (← work, ← same, ← read) verdict)
+
+fits : (m n : ℕ) → Decides (nat_le m n) (m ≤ n)
+fits m n = grind (arith, nat_tests)
+
+enough_decided : (log_n r p : ℕ) (chunks table scratch : List ℕ) → Decides (are_enough (params_of log_n r p) chunks table scratch)
+    ((chunks_bytes r p ≤ length chunks) × ((table_words log_n r ≤ length table) × (scratch_words r ≤ length scratch)))
+unfolding are_enough
+enough_decided log_n r p chunks table scratch =
+    Decides-and _ _ (fits _ _) (Decides-and _ _ (fits _ _) (fits _ _))
+
+-- buffers of the lengths for a whole table are long enough
+pub enough_at_zero : (log_n r p s : ℕ) (chunks table scratch : List ℕ) → AreBuffers log_n r p s (length chunks) (length table) (length scratch)
+    → s ≡ 0 → IsTrue (are_enough (params_of log_n r p) chunks table scratch)
+enough_at_zero log_n r p s chunks table scratch are none =
+    let same : log_n - s ≡ log_n = omega (arith, none) in
+    let table_is : length table ≡ table_words log_n r = rw same at are.table_is in
+    let scratch_is : length scratch ≡ scratch_words r = rw none at are.scratch_is in
+    (enough_decided log_n r p chunks table scratch).1
+    (omega (arith, are.chunks_are), (omega (arith, table_is), omega (arith, scratch_is)))
+
+-- the status of a call in such buffers, as another call returns it
+pub kept_key_status : {Accepted Other Enough Fits : Type 0} (n : ℕ) (status : ℤ) → SFits w32 status → Accepted × Other → Enough → Fits
+    → IsKeyStatus Accepted Enough n status → IsKeyStatus (Accepted × Other) Fits n (to_z w32 (of_z w32 status))
+kept_key_status n status small both enough fits known = rw (to_z-of_z w32 status small) (record {
+  params = (λ is. absurd (known.params.0 is both.0), λ refused. absurd (refused both));
+  length = (λ is. (both, (known.length.0 is).1), λ refused. known.length.1 (both.0, refused.1));
+  buffers = (λ is. absurd ((known.buffers.0 is).2 enough), λ refused. absurd (refused.2 fits));
+  one = known.one;
+})

@@ -1,6 +1,6 @@
 -- The status of what parameters need within limits.
 use Rattle.std.specs.Prelude.{◌≡◌, ◌⊎◌, ◌↔◌, ℕ, ℤ, ◌-◌, ◌^◌, min, pos, length, IsTrue, None}
-use Rattle.scrypt.specs.Accepted.{AreAccepted, Parameters}
+use Rattle.scrypt.specs.Accepted.{are_accepted, Parameters}
 use Rattle.scrypt.specs.Limits.{are_within, buffers_bytes, work}
 use Rattle.scrypt.specs.Reading.{Stored}
 use Rattle.scrypt.specs.declared.limits.Limits.{Limits}
@@ -24,9 +24,9 @@ work_needed c = min (work c.log_n c.r c.p) (2 ^ 64 - 1)
 
 -- the status of what parameters need: 0, or that they aren't accepted, or not within limits
 pub record IsNeedStatus (most_bytes most_work log_n r p : ℕ) (status : ℤ) : Type 0 where
-  pub params : (status ≡ pos 2) ↔ (¬ AreAccepted log_n r p)
+  pub params : (status ≡ pos 2) ↔ (¬ IsTrue (are_accepted log_n r p))
   pub costly : (status ≡ pos 13)
-      ↔ (AreAccepted log_n r p × (¬ IsTrue (are_within (limits_of most_bytes most_work 0) (params_of log_n r p))))
+      ↔ (IsTrue (are_accepted log_n r p) × (¬ IsTrue (are_within (limits_of most_bytes most_work 0) (params_of log_n r p))))
   pub one : (status ≡ pos 0) ⊎ (status ≡ pos 2) ⊎ (status ≡ pos 13)
 
 -- these are the parameters of what was read, and the length of its key

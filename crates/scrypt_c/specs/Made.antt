@@ -1,7 +1,7 @@
 -- The parameters of new hashes, and their texts, which are written to the caller's buffer or too long for it.
-use Rattle.std.specs.Prelude.{◌≡◌, ℕ, ◌<◌, ◌≤◌, List, length, Some}
+use Rattle.std.specs.Prelude.{◌≡◌, ℕ, ◌<◌, ◌≤◌, List, length, Some, IsTrue}
 use Rattle.std.specs.Str.{IsUtf8}
-use Rattle.scrypt.specs.Accepted.{AreAccepted, IsStoredLen, Parameters}
+use Rattle.scrypt.specs.Accepted.{are_accepted, is_stored_len, Parameters}
 use Rattle.scrypt.specs.InBuffers.{IsCopiedTo}
 
 -- parameters with the length of a key
@@ -10,7 +10,7 @@ wanted log_n r p key_len = record { log_n = log_n; r = r; p = p; output_len = So
 
 -- a new hash can have them
 abbrev pub AreHashParams : ℕ → ℕ → ℕ → ℕ → Type 0
-AreHashParams log_n r p key_len = AreAccepted log_n r p × IsStoredLen key_len
+AreHashParams log_n r p key_len = IsTrue (are_accepted log_n r p) × IsTrue (is_stored_len (Some key_len))
 
 -- such a text, in UTF-8, is at the front of the caller's buffer, the rest of which is unchanged, and this is its length
 abbrev pub IsWrittenTo : (List ℕ → Type 0) → List ℕ → List ℕ → ℕ → Type 0

@@ -1,8 +1,8 @@
 -- The statuses of what was read, of verdicts and of errors.
-use Rattle.std.specs.Prelude.{◌≡◌, ◌⊎◌, ◌↔◌, ℕ, ℤ, pos, Bool, true, false, List, Result, Ok, Err, IfOk, IsOk}
+use Rattle.std.specs.Prelude.{◌≡◌, ◌⊎◌, ◌↔◌, ℕ, ℤ, pos, Bool, true, false, List, Result, Ok, Err, IfOk, IsOk, IsTrue}
 use Rattle.password_hash.specs.Refusal.{Refusal, Algorithm, EncodingInvalid, OutputSize, ParamInvalid, ParamsInvalid}
 use Rattle.password_hash.specs.Refusal.{KeyTooShort, SaltInvalid, TooCostly, Version, OutOfMemory, PasswordInvalid}
-use Rattle.scrypt.specs.Accepted.{IsOutputLen}
+use Rattle.scrypt.specs.Accepted.{is_output_len}
 use Rattle.scrypt.specs.Reading.{Stored, verdict}
 use Rattle.scrypt_c.specs.Texts.{bytes_params}
 
@@ -56,6 +56,6 @@ buffers_status (Err why) = short_status why
 -- and the buffers that isn't accepted
 pub record IsKeyStatus (Accepted Enough : Type 0) (output_len : ℕ) (status : ℤ) : Type 0 where
   pub params : (status ≡ pos 2) ↔ (¬ Accepted)
-  pub length : (status ≡ pos 3) ↔ (Accepted × ¬ IsOutputLen output_len)
-  pub buffers : (status ≡ pos 12) ↔ (Accepted × IsOutputLen output_len × ¬ Enough)
+  pub length : (status ≡ pos 3) ↔ (Accepted × ¬ IsTrue (is_output_len output_len))
+  pub buffers : (status ≡ pos 12) ↔ (Accepted × IsTrue (is_output_len output_len) × ¬ Enough)
   pub one : (status ≡ pos 0) ⊎ (status ≡ pos 2) ⊎ (status ≡ pos 3) ⊎ (status ≡ pos 12)

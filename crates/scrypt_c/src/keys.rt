@@ -1,8 +1,8 @@
 //! Keys, in memory that is allocated, and in the caller's buffers.
 
-ghost use Rattle.std.specs.Prelude.{◌≡◌, ◌≢◌, ◌⊎◌, ◌↔◌, length, None, IsSome, IfSome};
-ghost use Rattle.scrypt.specs.Accepted.{AreAccepted, IsOutputLen};
-ghost use Rattle.scrypt.specs.InBuffers.{AreEnough};
+ghost use Rattle.std.specs.Prelude.{◌≡◌, ◌≢◌, ◌⊎◌, ◌↔◌, length, None, IsSome, IfSome, IsTrue};
+ghost use Rattle.scrypt.specs.Accepted.{are_accepted, is_output_len};
+ghost use Rattle.scrypt.specs.InBuffers.{are_enough};
 ghost use Rattle.scrypt.specs.Key.{derived_key};
 ghost use Rattle.scrypt.specs.Workspace.{AreUsed};
 ghost use Rattle.scrypt_c.specs.Buffers.{AreBuffers, IsSpacing};
@@ -34,9 +34,9 @@ pub extern "C" fn scrypt_kdf(
 ) -> i32
     ensures value { result ≡ OK → output.new
         ≡ derived_key password.now salt.now log_n r p (length output.old) }
-    ensures params { (result ≡ INVALID_PARAMS) ↔ (¬ AreAccepted log_n r p) }
+    ensures params { (result ≡ INVALID_PARAMS) ↔ (¬ IsTrue (are_accepted log_n r p)) }
     ensures length { (result ≡ INVALID_OUTPUT_LEN)
-        ↔ (AreAccepted log_n r p × ¬ IsOutputLen (length output.old)) }
+        ↔ (IsTrue (are_accepted log_n r p) × ¬ IsTrue (is_output_len (length output.old))) }
     ensures status { (result ≡ OK) ⊎ (result ≡ INVALID_PARAMS) ⊎ (result ≡ INVALID_OUTPUT_LEN)
         ⊎ (result ≡ OUT_OF_MEMORY) }
     ensures refused { result ≢ OK → output.new ≡ output.old }
@@ -67,7 +67,7 @@ pub extern "C" fn scrypt_buffer_lens(
     table: &mut usize,
     scratch: &mut usize,
 ) -> i32
-    ensures exact { (result ≡ OK) ↔ (AreAccepted log_n r p × IsSpacing log_n s) }
+    ensures exact { (result ≡ OK) ↔ (IsTrue (are_accepted log_n r p) × IsSpacing log_n s) }
     ensures lens { result ≡ OK → AreBuffers log_n r p s chunks.new table.new scratch.new }
     ensures status { (result ≡ OK) ⊎ (result ≡ INVALID_PARAMS) }
     ensures refused { result ≢ OK →
@@ -102,8 +102,8 @@ pub extern "C" fn scrypt_kdf_with_buffers(
     table: &mut [u32],
     scratch: &mut [u32],
 ) -> i32
-    ensures status { IsKeyStatus (AreAccepted log_n r p)
-        (AreEnough (params_of log_n r p) chunks.old table.old scratch.old) (length output.old) result }
+    ensures status { IsKeyStatus (IsTrue (are_accepted log_n r p))
+        (IsTrue (are_enough (params_of log_n r p) chunks.old table.old scratch.old)) (length output.old) result }
     ensures value { result ≡ OK → output.new ≡ derived_key password.now salt.now log_n r p (length output.old) }
     ensures rest { result ≡ OK → IsRestKept (params_of log_n r p)
         (buffers chunks.old table.old scratch.old) (buffers chunks.new table.new scratch.new) }
@@ -136,7 +136,7 @@ fn derive_at_front(
     table: &mut [u32],
     scratch: &mut [u32],
 )
-    requires length { IsOutputLen (length output.old) }
+    requires length { IsTrue (is_output_len (length output.old)) }
     requires used { AreUsed params.now used.now chunks.old table.old scratch.old }
     ensures value { output.new ≡ derived_key password.now salt.now params.now.log_n params.now.r params.now.p (length output.old) }
     ensures rest { IsRestKept params.now (buffers chunks.old table.old scratch.old) (buffers chunks.new table.new scratch.new) }
@@ -171,7 +171,7 @@ pub extern "C" fn scrypt_kdf_thin(
     table: &mut [u32],
     scratch: &mut [u32],
 ) -> i32
-    ensures status { IsKeyStatus (AreAccepted log_n r p × IsSpacing log_n s)
+    ensures status { IsKeyStatus (IsTrue (are_accepted log_n r p) × IsSpacing log_n s)
         (AreBuffers log_n r p s (length chunks.old) (length table.old) (length scratch.old)) (length output.old) result }
     ensures value { result ≡ OK → output.new ≡ derived_key password.now salt.now log_n r p (length output.old) }
     ensures refused { result ≢ OK → output.new ≡ output.old }
@@ -200,7 +200,7 @@ pub extern "C" fn scrypt_kdf_thin(
 
 // The parameters, and the lengths of their buffers, if `log_n`, `r`, `p` and `s` are accepted.
 fn params_and_lens(log_n: u8, r: u32, p: u32, s: u8) -> Option<(Params, BufferLens)>
-    ensures exact { IsSome result ↔ (AreAccepted log_n r p × IsSpacing log_n s) }
+    ensures exact { IsSome result ↔ (IsTrue (are_accepted log_n r p) × IsSpacing log_n s) }
     ensures params { IfSome result (λ both. both.0
         ≡ record { log_n = log_n; r = r; p = p; output_len = None }) }
     ensures lens { IfSome result (λ both. AreBuffers log_n r p s both.1.chunks both.1.table both.1.scratch) }

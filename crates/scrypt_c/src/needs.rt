@@ -1,7 +1,7 @@
 //! What a call needs, within limits, before it allocates.
 
-ghost use Rattle.std.specs.Prelude.{◌≡◌, ◌≢◌, ◌↔◌, ◌⊎◌, IfOk, OnErr};
-ghost use Rattle.scrypt.specs.Accepted.{AreAccepted};
+ghost use Rattle.std.specs.Prelude.{◌≡◌, ◌≢◌, ◌↔◌, ◌⊎◌, IfOk, OnErr, IsTrue};
+ghost use Rattle.scrypt.specs.Accepted.{are_accepted};
 ghost use Rattle.scrypt.specs.Limits.{limits_for_new, tables_within};
 ghost use Rattle.scrypt.specs.WithinLimits.{within};
 ghost use Rattle.scrypt_c.specs.Buffers.{AreBuffers};
@@ -183,7 +183,7 @@ pub extern "C" fn scrypt_limits_for_new(
     most_work: &mut u64,
     least_key_len: &mut usize,
 ) -> i32
-    ensures status { (result ≡ INVALID_PARAMS) ↔ (¬ AreAccepted log_n r p) }
+    ensures status { (result ≡ INVALID_PARAMS) ↔ (¬ IsTrue (are_accepted log_n r p)) }
     ensures one { (result ≡ OK) ⊎ (result ≡ INVALID_PARAMS) }
     ensures limits { result ≡ OK → limits_of most_bytes.new most_work.new least_key_len.new
         ≡ limits_for_new Limits.USUAL (params_of log_n r p) key_len }

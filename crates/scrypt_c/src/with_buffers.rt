@@ -1,8 +1,8 @@
 //! Hashes in the caller's buffers.
 
-ghost use Rattle.std.specs.Prelude.{◌≡◌, ◌≢◌, ◌↔◌, ◌⊎◌, ◌<◌, ◌≤◌, [], ◌∷◌, length, replicate};
+ghost use Rattle.std.specs.Prelude.{◌≡◌, ◌≢◌, ◌↔◌, ◌⊎◌, ◌<◌, ◌≤◌, [], ◌∷◌, length, replicate, IsTrue};
 ghost use Rattle.password_hash.specs.Refusal.{refusal};
-ghost use Rattle.scrypt.specs.InBuffers.{AreEnough};
+ghost use Rattle.scrypt.specs.InBuffers.{are_enough};
 ghost use Rattle.scrypt.specs.McfHash.{IsMadeHash as IsMadeMcf, made_text_len};
 ghost use Rattle.scrypt.specs.PhcHash.{IsMadeText, IsSaltLen};
 ghost use Rattle.scrypt.specs.Logins.{AreLeft, reading_of};
@@ -48,16 +48,16 @@ pub extern "C" fn scrypt_hash_phc_with_buffers(
         text.old text.new text_len.new }
     ensures params { (result ≡ INVALID_PARAMS) ↔ (¬ AreHashParams log_n r p key_len) }
     ensures salt { (result ≡ SALT_INVALID) ↔ (AreHashParams log_n r p key_len × ¬ IsSaltLen (length salt.now)) }
-    ensures buffers { result ≡ OK → AreEnough (wanted log_n r p key_len) chunks.old table.old scratch.old }
-    ensures size { result ≡ BUFFER_SIZE → AreEnough (wanted log_n r p key_len) chunks.old table.old scratch.old
+    ensures buffers { result ≡ OK → IsTrue (are_enough (wanted log_n r p key_len) chunks.old table.old scratch.old) }
+    ensures size { result ≡ BUFFER_SIZE → IsTrue (are_enough (wanted log_n r p key_len) chunks.old table.old scratch.old)
         → IsTooLong (IsMadeText (wanted log_n r p key_len) password.now salt.now) text.old text_len.new }
     ensures status { (result ≡ OK) ⊎ (result ≡ INVALID_PARAMS) ⊎ (result ≡ SALT_INVALID) ⊎ (result ≡ BUFFER_SIZE) }
     ensures used { (result ≡ OK) ⊎ (result ≡ BUFFER_SIZE)
-        → AreEnough (wanted log_n r p key_len) chunks.old table.old scratch.old → LeftIn (IsDone (wanted log_n r p key_len)
+        → IsTrue (are_enough (wanted log_n r p key_len) chunks.old table.old scratch.old) → LeftIn (IsDone (wanted log_n r p key_len)
         (buffers chunks.old table.old scratch.old)) chunks.new table.new scratch.new }
     ensures refused { result ≢ OK → text.new ≡ text.old }
     ensures unchanged { (result ≡ INVALID_PARAMS) ⊎ (result ≡ SALT_INVALID)
-        ⊎ (¬ AreEnough (wanted log_n r p key_len) chunks.old table.old scratch.old)
+        ⊎ (¬ IsTrue (are_enough (wanted log_n r p key_len) chunks.old table.old scratch.old))
         → (text_len.new ≡ text_len.old) × (chunks.new ≡ chunks.old) × (table.new ≡ table.old)
         × (scratch.new ≡ scratch.old) }
 {
@@ -97,10 +97,10 @@ pub extern "C" fn scrypt_hash_mcf_with_buffers(
     ensures made { result ≡ OK → IsWrittenTo (IsMadeMcf (wanted log_n r p key_len) password.now salt.now)
         text.old text.new text_len.new }
     ensures params { (result ≡ INVALID_PARAMS) ↔ (¬ AreHashParams log_n r p key_len) }
-    ensures buffers { result ≡ OK → AreEnough (wanted log_n r p key_len) chunks.old table.old scratch.old }
+    ensures buffers { result ≡ OK → IsTrue (are_enough (wanted log_n r p key_len) chunks.old table.old scratch.old) }
     ensures size { result ≡ BUFFER_SIZE → IsTooShort (IsMadeMcf (wanted log_n r p key_len) password.now salt.now)
         (made_text_len (wanted log_n r p key_len) (length salt.now))
-        (AreEnough (wanted log_n r p key_len) chunks.old table.old scratch.old) text.old text_len.old text_len.new }
+        (IsTrue (are_enough (wanted log_n r p key_len) chunks.old table.old scratch.old)) text.old text_len.old text_len.new }
     ensures status { (result ≡ OK) ⊎ (result ≡ INVALID_PARAMS) ⊎ (result ≡ BUFFER_SIZE) }
     ensures used { result ≡ OK → LeftIn (IsDone (wanted log_n r p key_len)
         (buffers chunks.old table.old scratch.old)) chunks.new table.new scratch.new }

@@ -1,15 +1,13 @@
 -- The words of a command, and the tests of parameters and lengths.
-use Rattle.std.proofs.Common.{◌≡◌, ◌≢◌, ℕ, List, [], ◌∷◌, bytes_eq, length, map, nat_eq, String, string_bytes, false}
-use Rattle.std.proofs.Common.{Option, Some, None, refl, arith}
+use Rattle.std.proofs.Common.{◌≡◌, ◌≢◌, ◌∙◌, ◌↔◌, ℕ, List, [], ◌∷◌, bytes_eq, length, map, nat_eq, String, string_bytes, sym, true, false}
+use Rattle.std.proofs.Common.{Ok, Err, refl}
 use Rattle.std.specs.Global.{Global}
-use Rattle.std.specs.Prelude.{IfSome}
-use Rattle.std.specs.Bool.{Decides}
-use Rattle.std.proofs.lemmas.Bool.{false_from_ne_true}
-use Rattle.std.proofs.lemmas.Bool.Decides.{nat_tests}
+use Rattle.std.specs.Prelude.{IsTrue, Result}
+use Rattle.std.proofs.lemmas.Bool.{false≢true, false_from_ne_true, true_from_ne_false}
 use Rattle.std.proofs.lemmas.Slice.Eq.{bytes_eq-Decides}
-use Rattle.scrypt.specs.Accepted.{AreAccepted, IsOutputLen, IsStoredLen, are_accepted, is_output_len}
+use Rattle.scrypt.specs.Accepted.{is_output_len}
 use Rattle.scrypt_commands.specs.CliError.{refuse}
-use Rattle.scrypt_commands.specs.Command.{end_of, is_stored_len}
+use Rattle.scrypt_commands.specs.Command.{end_of}
 use Rattle.scrypt_commands.specs.declared.error.CliError.TheVariants.{Usage}
 
 -- a text that is not this one
@@ -21,15 +19,8 @@ pub left_over : (words : List (String Global)) → nat_eq (length words) 0 ≡ f
 left_over [] none = absurd cc
 left_over (word ∷ words) none = refl
 
-pub output_len_decided : (n : ℕ) → Decides (is_output_len n) (IsOutputLen n)
-unfolding is_output_len
-output_len_decided n = grind (arith, nat_tests)
-
-pub stored_len_decided : (len : Option ℕ) → Decides (is_stored_len len) (IfSome len IsStoredLen)
-unfolding is_stored_len
-stored_len_decided None = (λ _. tt, λ _. refl)
-stored_len_decided (Some len) = grind (arith, nat_tests)
-
-pub accepted_decided : (log_n r p : ℕ) → Decides (are_accepted log_n r p) (AreAccepted log_n r p)
-unfolding are_accepted
-accepted_decided log_n r p = grind (arith, nat_tests)
+-- a key that was derived can have its length
+pub derived_len : {T E : Type 0} (n len : ℕ) (out : Result T E) (x : T) (refused : E) → len ≡ n → out ≡ Ok x
+    → (out ≡ Err refused) ↔ (¬ IsTrue (is_output_len len)) → is_output_len n ≡ true
+derived_len n len out x refused same ok exact = true_from_ne_false _ (λ off.
+    let failed = exact.1 (λ is. false≢true (sym off ∙ (rw same at is))) in absurd cc)

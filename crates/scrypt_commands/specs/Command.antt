@@ -1,11 +1,12 @@
 -- What a command asks for, or the error of the first thing that is wrong with it. After the words and their decimals, these are read in
 -- this order: the salt, the parameters, the length of the key, the text of a hash.
-use Rattle.std.specs.Prelude.{ℕ, ◌^◌, ◌&&◌, Bool, false, true, bytes_eq, nat_le, if◌then◌else◌, codes, ⊤}
+use Rattle.std.specs.Prelude.{ℕ, ◌^◌, ◌&&◌, Bool, false, true, bytes_eq, if◌then◌else◌, codes, ⊤}
 use Rattle.std.specs.Prelude.{List, [], ◌∷◌, Option, None, Some, is_some, ok_or, Result, Ok, Err}
 use Rattle.hex.specs.Hex.{decode_of}
 use Rattle.password_hash.specs.declared.error.Error.TheVariants.{EncodingInvalid}
 use Rattle.password_hash.specs.Decimal.{decimal_below}
-use Rattle.scrypt.specs.Accepted.{Parameters, are_accepted, is_output_len}
+use Rattle.scrypt.specs.Accepted.{Parameters, are_accepted, is_output_len, is_stored_len}
+use Rattle.scrypt.specs.Reading.{◌and_then◌ as ◌>>=◌}
 use Rattle.scrypt.specs.StoredHash.{is_stored_text}
 use Rattle.scrypt_commands.specs.CliError.{ErrorLine, error_line, hash_error, refuse}
 use Rattle.scrypt_commands.specs.Invocation.{CommandLine}
@@ -29,21 +30,10 @@ pub data Request : Type 0 where
   ToMake : (making : Making) → Request
   ToVerify : (text : List ℕ) (wanted : Option Making) → Request
 
--- the second step, if the first gave a value
-infixl 10 ◌>>=◌
-abbrev pub ◌>>=◌ : {A B : Type 0} → Result A ErrorLine → (A → Result B ErrorLine) → Result B ErrorLine
-Ok x >>= f = f x
-Err line >>= f = Err line
-
 -- the salt of hexadecimal digits, if they are
 abbrev pub decoded_salt : {E : Type 0} → Result (List ℕ) E → Result (List ℕ) ErrorLine
 decoded_salt (Ok salt) = Ok salt
 decoded_salt (Err why) = refuse SaltNotHex
-
--- whether a stored key can have this length: 10 to 64 bytes
-unfoldable pub is_stored_len : Option ℕ → Bool
-is_stored_len None = true
-is_stored_len (Some len) = nat_le 10 len && nat_le len 64
 
 -- the parameters, with the length that is named for the key of a hash, if they are accepted
 unfoldable pub checked_params : UncheckedParams → Option ℕ → Option Parameters

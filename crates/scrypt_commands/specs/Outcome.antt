@@ -1,19 +1,18 @@
 -- The outcome of a command line: what the program prints for its arguments and its input.
 use Rattle.std.specs.Prelude.{ℕ, ◌&&◌, Bool, false, true, nat_le, if◌then◌else◌, List, [], ◌∷◌, ◌++◌, length, codes}
 use Rattle.std.specs.Prelude.{Option, None, Some, option_map, unwrap_or, Result, Ok, Err, ⊤}
+use Rattle.std.specs.Option.{option_map_or}
 use Rattle.std.specs.Result.{result_unwrap_or}
 use Rattle.hex.specs.Hex.{encode_lower}
-use Rattle.password_hash.specs.Crypt64.{crypt64_of}
-use Rattle.password_hash.specs.Parts.{dollar}
 use Rattle.password_hash.specs.Phc.{hash_text}
 use Rattle.password_hash.specs.Refusal.{PasswordInvalid, Refusal}
 use Rattle.password_hash.specs.declared.error.Error.TheVariants.{SaltInvalid}
 use Rattle.scrypt.specs.Accepted.{Parameters}
 use Rattle.scrypt.specs.Hashing.{key_len_or_default}
 use Rattle.scrypt.specs.KeyOfParams.{key_by}
-use Rattle.scrypt.specs.McfParams.{params_text}
+use Rattle.scrypt.specs.McfHash.{made_key, mcf_text}
 use Rattle.scrypt.specs.PhcParams.{written_pairs}
-use Rattle.scrypt.specs.Reading.{Stored, verdict, weaker}
+use Rattle.scrypt.specs.Reading.{◌and_then◌ as ◌>>=◌, Stored, verdict, weaker}
 use Rattle.scrypt.specs.declared.limits.Limits.{Limits}
 use Rattle.scrypt.specs.declared.limits.TheConstants.Limits.{USUAL}
 use Rattle.scrypt.specs.StoredHash.{reading}
@@ -21,7 +20,7 @@ use Rattle.scrypt.specs.WithinLimits.{within}
 use Rattle.scrypt_commands.specs.LimitOptions.{limits_of}
 use Rattle.scrypt_commands.specs.Invocation.{CommandLine}
 use Rattle.scrypt_commands.specs.Options.{password_of}
-use Rattle.scrypt_commands.specs.Command.{◌>>=◌, Making, Request, ToMake, ToVerify, request_of}
+use Rattle.scrypt_commands.specs.Command.{Making, Request, ToMake, ToVerify, request_of}
 use Rattle.scrypt_commands.specs.CliError.{ErrorLine, error_line, hash_error, limited_line, refuse, status_of}
 use Rattle.scrypt_commands.specs.declared.limit_options.LimitOptions.{LimitOptions}
 use Rattle.scrypt_commands.specs.declared.command.Format.{Format}
@@ -60,11 +59,6 @@ phc_text c password salt = hash_text (record {
   hash = Some (key_by c password salt (key_len_or_default c));
 })
 
--- the text of the `$7$` hash: the salt of the derivation is the letters of the salt
-abbrev pub mcf_text : Parameters → List ℕ → List ℕ → List ℕ
-mcf_text c password salt = params_text c ++ (crypt64_of salt
-    ++ dollar ∷ crypt64_of (key_by c password (crypt64_of salt) (key_len_or_default c)))
-
 -- whether a PHC hash can have a salt of this length: 1 to 64 bytes
 unfoldable pub is_salt_len : ℕ → Bool
 is_salt_len n = nat_le 1 n && nat_le n 64
@@ -73,7 +67,7 @@ is_salt_len n = nat_le 1 n && nat_le n 64
 abbrev pub new_hash : Format → Parameters → List ℕ → List ℕ → Result (List ℕ) ErrorLine
 new_hash Phc c password salt =
     if is_salt_len (length salt) then Ok (phc_text c password salt) else refuse (hash_error SaltInvalid)
-new_hash Mcf c password salt = Ok (mcf_text c password salt)
+new_hash Mcf c password salt = Ok (mcf_text c salt (made_key c password salt))
 
 -- the line of a key: its hexadecimal digits, or its bytes and no newline
 abbrev pub key_line : Bool → List ℕ → List ℕ

@@ -11,9 +11,9 @@ ghost use Rattle.scrypt_commands.specs.Steps.{AreOfHash, AreOfRequest, Gives, ma
 ghost use Rattle.scrypt_commands.specs.declared.command.Target.TheVariants.{Key};
 ghost use Rattle.scrypt_commands.specs.declared.error.CliError.TheVariants.{OutOfMemory};
 
-use crate::limit_options::LimitOptions;
 use crate::command::{Command, Format, Making, Target};
 use crate::error::CliError;
+use crate::limit_options::LimitOptions;
 use password_hash::{Error, PasswordHasher, mcf, phc};
 use scrypt::laws::{hashers_are_accepted, made_hashes_are_accepted, texts_have_one_reading};
 use scrypt::{CoreCount, LimitedError, Limits, Params, Scrypt, StoredHash, scrypt};
@@ -54,16 +54,16 @@ impl<'a> Command<'a> {
         &self,
         alloc: Global,
         password: &[u8],
-        limit_options: Option<LimitOptions>,
+        options: Option<LimitOptions>,
         cores: &mut CoreCount,
     ) -> Result<Answer, CliError>
-        ensures reply { Gives reply_view (reply_to limit_options (request_view self.now) password.now) result }
-        ensures cores { AreOfRequest limit_options (request_view self.now) (IsErrOf result OutOfMemory) cores.old cores.new }
+        ensures reply { Gives reply_view (reply_to options (request_view self.now) password.now) result }
+        ensures cores { AreOfRequest options (request_view self.now) (IsErrOf result OutOfMemory) cores.old cores.new }
     {
         match self {
             Command::Make(making) => make(alloc, password, making),
             Command::Verify { hash, wanted } => {
-                if !verify(alloc, hash, password, limits_by(limit_options, wanted), cores)? {
+                if !verify(alloc, hash, password, limits_by(options, wanted), cores)? {
                     return Ok(Answer::Wrong);
                 }
                 replace(alloc, hash, password, wanted)
@@ -73,13 +73,13 @@ impl<'a> Command<'a> {
 }
 
 // Returns the limits on a hash, if options name any.
-fn limits_by(limit_options: Option<LimitOptions>, wanted: &Option<Making>) -> Option<Limits>
-    ensures { result ≡ limits_by limit_options (option_map making_view wanted.now) }
+fn limits_by(options: Option<LimitOptions>, wanted: &Option<Making>) -> Option<Limits>
+    ensures { result ≡ limits_by options (option_map making_view wanted.now) }
 {
-    let limit_options = limit_options?;
+    let options = options?;
     match wanted {
-        Some(making) => Some(limit_options.limits(Some(making.params))),
-        None => Some(limit_options.limits(None)),
+        Some(making) => Some(options.limits(Some(making.params))),
+        None => Some(options.limits(None)),
     }
 }
 

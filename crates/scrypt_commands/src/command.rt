@@ -2,6 +2,7 @@
 
 ghost use Rattle.std.specs.Prelude.{◌≡◌};
 ghost use Rattle.std.specs.Option.{option_copied};
+ghost use Rattle.password_hash.specs.Decimal.{decimal_below};
 ghost use Rattle.scrypt_commands.specs.Command.{checked_params, end_of, first_word, format_word, hash_of, hash_word, hash_words};
 ghost use Rattle.scrypt_commands.specs.Command.{key_words, len_word, making_of, optional_len, params_words, rehash_words, request_of, salt_word};
 ghost use Rattle.scrypt_commands.specs.Command.{verify_words};
@@ -312,7 +313,7 @@ fn making_of(
 }
 
 // Returns the parameters, with the length that is named for the key of a hash, if they are accepted.
-#[tactic(auto, using(crate::proofs::CommandFacts::accepted_decided, crate::proofs::CommandFacts::stored_len_decided), unfolding(crate::specs::Command::checked_params))]
+#[tactic(auto, using(std::proofs::lemmas::Bool::Decides::nat_tests), unfolding(crate::specs::Command::checked_params, scrypt::specs::Accepted::is_stored_len))]
 fn checked_params(unchecked: UncheckedParams, key_len: Option<usize>) -> Option<Params>
     ensures { result ≡ checked_params unchecked key_len }
 {

@@ -3,13 +3,13 @@
 #![tactic(auto)]
 
 mod answer;
-mod limit_options;
 mod command;
 mod command_line;
 mod command_name;
 mod decimals;
 mod error;
 pub mod invocation;
+mod limit_options;
 mod options;
 pub mod run;
 mod usage;

@@ -5,9 +5,9 @@ ghost use Rattle.scrypt_commands.specs.CliError.{status_of};
 ghost use Rattle.scrypt_commands.specs.Invocation.{is_about_hash, misfit, options_view};
 ghost use Rattle.scrypt_commands.specs.Options.{options_of, password_of, texts_of, with_option, with_value, without_newline};
 
-use crate::limit_options::LimitOptions;
 use crate::command_name::Name;
 use crate::error::CliError;
+use crate::limit_options::LimitOptions;
 use crate::usage::{help, version};
 
 /// The options before a command.

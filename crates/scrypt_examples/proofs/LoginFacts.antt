@@ -8,7 +8,8 @@ use Rattle.scrypt.specs.Cost.{cost}
 use Rattle.scrypt.specs.Limits.{are_within, buffers_bytes, work}
 use Rattle.scrypt.specs.Reading.{Stored}
 use Rattle.scrypt.specs.WithinLimits.{within}
-use Rattle.scrypt.specs.Workspace.{IsDone, IsLeft, Workspace, has_room}
+use Rattle.scrypt.specs.InBuffers.{are_enough}
+use Rattle.scrypt.specs.Workspace.{IsDone, IsLeft, Workspace}
 use Rattle.scrypt.specs.declared.limits.Limits.{Limits}
 
 -- parameters within limits run no more cores than these allow
@@ -44,5 +45,5 @@ bounded limits reading before after left = at (within limits reading) refl left
 
     at : (bound : Result Stored Refusal) → within limits reading ≡ bound → IsLeft bound before after
         → after.cores.all ≤ before.cores.all + limits.most_work
-    at (Ok s) is left = in_room s (has_room s.params before) (within_fits limits reading s is) left
+    at (Ok s) is left = in_room s (are_enough s.params before.chunks before.table before.scratch) (within_fits limits reading s is) left
     at (Err why) is left = rw left (omega arith)

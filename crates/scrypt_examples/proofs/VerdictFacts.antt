@@ -8,13 +8,14 @@ use Rattle.scrypt_kernel.specs.Count.{AreCounted}
 use Rattle.scrypt.specs.Accepted.{Parameters}
 use Rattle.scrypt.specs.Cost.{chunks_bytes, cost, scratch_words, table_words}
 use Rattle.scrypt.specs.Reading.{Stored, mapped, verdict}
-use Rattle.scrypt.specs.Workspace.{IsLeft, Workspace, has_room, verdict_in}
+use Rattle.scrypt.specs.InBuffers.{are_enough}
+use Rattle.scrypt.specs.Workspace.{IsLeft, Workspace, verdict_in}
 use Rattle.scrypt.specs.declared.buffers.BufferLens.{BufferLens}
 use Rattle.scrypt_examples.specs.Buffers.{AreEnoughFor}
 
 has_room_for : (c : Parameters) (w : Workspace) → chunks_bytes c.r c.p ≤ length w.chunks → table_words c.log_n c.r ≤ length w.table
-    → scratch_words c.r ≤ length w.scratch → has_room c w ≡ true
-unfolding has_room
+    → scratch_words c.r ≤ length w.scratch → are_enough c w.chunks w.table w.scratch ≡ true
+unfolding are_enough
 has_room_for c w chunks table scratch = grind (arith, nat_tests)
 
 -- the verdict in buffers that are as long as these, which are long enough, is that of the password

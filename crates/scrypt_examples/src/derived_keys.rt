@@ -1,7 +1,7 @@
 //! Derived keys: by numbers, in buffers that are kept, and in less memory.
 
-ghost use Rattle.std.specs.Prelude.{◌≡◌, ◌↔◌, ◌-◌, ◌*◌, ◌^◌, ◌≤◌, length, IfErr, IfOk, IsOk, OnErr, OnOk};
-ghost use Rattle.scrypt.specs.Accepted.{AreAccepted, IsOutputLen};
+ghost use Rattle.std.specs.Prelude.{◌≡◌, ◌↔◌, ◌-◌, ◌*◌, ◌^◌, ◌≤◌, length, IfErr, IfOk, IsOk, OnErr, OnOk, IsTrue};
+ghost use Rattle.scrypt.specs.Accepted.{are_accepted, is_output_len};
 ghost use Rattle.scrypt.specs.Cost.{chunks_bytes, cost, table_words, thin_cost, thin_scratch_words};
 ghost use Rattle.scrypt_kernel.specs.Count.{AreCounted};
 ghost use Rattle.scrypt.specs.Key.{derived_key};
@@ -29,8 +29,8 @@ pub fn key_or_out_of_memory(
     output: &mut [u8],
     cores: &mut CoreCount,
 ) -> Result<(), DeriveError>
-    requires accepted { AreAccepted log_n r p }
-    requires output_len { IsOutputLen (length output.old) }
+    requires accepted { IsTrue (are_accepted log_n r p) }
+    requires output_len { IsTrue (is_output_len (length output.old)) }
     ensures key { OnOk result (output.new ≡ derived_key password.now salt.now log_n r p (length output.old)) }
     ensures counted { OnOk result (AreCounted (4 * 2 ^ log_n * r * p) cores.old cores.new) }
     ensures memory { IfErr result (λ e. e ≡ OutOfMemory) }
@@ -82,7 +82,7 @@ impl Deriver {
         cores: &mut CoreCount,
     ) -> Result<(), InvalidOutputLen>
         ensures params { self.new ≡ self.old }
-        ensures allowed { IsOk result ↔ IsOutputLen (length output.old) }
+        ensures allowed { IsOk result ↔ IsTrue (is_output_len (length output.old)) }
         ensures key { OnOk result (output.new ≡ key_by self.old password.now salt.now (length output.old)) }
         ensures counted { OnOk result (AreCounted (cost self.old.log_n self.old.r self.old.p) cores.old cores.new) }
         ensures no_core { OnErr result (cores.new ≡ cores.old) }
@@ -122,8 +122,8 @@ pub fn thin_key_or_nothing(
     requires chunks { length chunks.old ≡ chunks_bytes params.now.r params.now.p }
     requires table { length table.old ≡ table_words (params.now.log_n - s) params.now.r }
     requires scratch { length scratch.old ≡ thin_scratch_words params.now.r }
-    ensures key { IsOutputLen (length output.old) → output.new ≡ key_by params.now password.now salt.now (length output.old) }
-    ensures nothing { (¬ IsOutputLen (length output.old)) → (output.new ≡ output.old) × (cores.new ≡ cores.old)
+    ensures key { IsTrue (is_output_len (length output.old)) → output.new ≡ key_by params.now password.now salt.now (length output.old) }
+    ensures nothing { (¬ IsTrue (is_output_len (length output.old))) → (output.new ≡ output.old) × (cores.new ≡ cores.old)
         × (chunks.new ≡ chunks.old) × (table.new ≡ table.old) × (scratch.new ≡ scratch.old) }
 {
     let _ = scrypt_thin(
@@ -142,7 +142,7 @@ pub fn key_in_a_thin_table(
     cores: &mut CoreCount,
 ) -> Result<(), AllocError>
     requires spacing { s ≤ params.now.log_n }
-    requires output_len { IsOutputLen (length output.old) }
+    requires output_len { IsTrue (is_output_len (length output.old)) }
     ensures key { OnOk result (output.new ≡ key_by params.now password.now salt.now (length output.old)) }
     ensures counted { OnOk result (AreCounted (thin_cost password.now salt.now params.now.log_n params.now.r params.now.p s)
         cores.old cores.new) }

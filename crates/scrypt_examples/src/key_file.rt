@@ -1,7 +1,7 @@
 //! The keys of an encrypted file, from one password.
 
-ghost use Rattle.std.specs.Prelude.{◌≡◌, ◌↔◌, ◌⊎◌, ◌++◌, take, drop, IfErr, IfOk, IsErrOf};
-ghost use Rattle.scrypt.specs.Accepted.{AreAccepted};
+ghost use Rattle.std.specs.Prelude.{◌≡◌, ◌↔◌, ◌⊎◌, ◌++◌, take, drop, IfErr, IfOk, IsErrOf, IsTrue};
+ghost use Rattle.scrypt.specs.Accepted.{are_accepted};
 ghost use Rattle.scrypt.specs.Key.{derived_key};
 ghost use Rattle.scrypt.specs.KeyOfParams.{key_by};
 ghost use Rattle.scrypt.specs.declared.errors.DeriveError.TheVariants.{OutOfMemory};
@@ -36,6 +36,7 @@ impl Header {
     /// files of Tarsnap's `scrypt enc`. The first is also the derived key of 32 bytes.
     ///
     /// Returns `OutOfMemory` if an allocation fails.
+    #[tactic(auto, using(std::proofs::lemmas::Bool::Decides::nat_tests), unfolding(scrypt::specs::Accepted::is_output_len))]
     pub fn subkeys(&self, alloc: Global, password: &[u8]) -> Result<Subkeys, DeriveError>
         ensures encryption { IfOk result (λ keys.
             keys.encryption ≡ take 32 (key_by self.now.params password.now self.now.salt 64)) }
@@ -74,7 +75,7 @@ pub fn age_wrap_key(
     salt: [u8; 16],
 ) -> password_hash::Result<[u8; 32]>
     ensures value { IfOk result (λ key. key ≡ derived_key password.now (age_label ++ salt) log_n 8 1 32) }
-    ensures params { IsErrOf result ParamsInvalid ↔ ¬ AreAccepted log_n 8 1 }
+    ensures params { IsErrOf result ParamsInvalid ↔ ¬ IsTrue (are_accepted log_n 8 1) }
     ensures err { IfErr result (λ e. (e ≡ ParamsInvalid) ⊎ (e ≡ NoMemory)) }
 {
     let Ok(params) = Params::new(log_n, 8, 1) else {

@@ -1,9 +1,9 @@
 //! Logins: users are enrolled, let in by their passwords, and their hashes replaced when they have become weak.
 
-ghost use Rattle.std.specs.Prelude.{◌≡◌, ◌⊎◌, ◌↔◌, None, Ok, Err, IsOk, IsSome, true, IfErr, IfOk, IfSome, string_bytes};
+ghost use Rattle.std.specs.Prelude.{◌≡◌, ◌⊎◌, ◌↔◌, None, Ok, Err, IsOk, IsSome, true, IfErr, IfOk, IfSome, string_bytes, IsTrue};
 ghost use Rattle.password_hash.specs.Refusal.{refusal};
 ghost use Rattle.password_hash.specs.declared.error.Error.TheVariants.{OutOfMemory};
-ghost use Rattle.scrypt.specs.Accepted.{AreAccepted};
+ghost use Rattle.scrypt.specs.Accepted.{are_accepted};
 ghost use Rattle.scrypt.specs.Reading.{verdict, weaker};
 ghost use Rattle.scrypt.specs.StoredHash.{reading};
 ghost use Rattle.scrypt_examples.specs.Login.{AreWanted, IsEnrolled, let_in, lets_in, new_text};
@@ -37,7 +37,7 @@ impl LoginPolicy {
     ///
     /// Returns `InvalidParams` if they are not accepted.
     pub fn new(log_n: u8, r: u32, p: u32) -> std::result::Result<LoginPolicy, InvalidParams>
-        ensures accepted { IsOk result ↔ AreAccepted log_n r p }
+        ensures accepted { IsOk result ↔ IsTrue (are_accepted log_n r p) }
         ensures value { IfOk result (λ logins.
             logins.wanted ≡ record { log_n = log_n; r = r; p = p; output_len = None }) }
     {

@@ -97,7 +97,13 @@ pub(crate) fn mix<O: OrderedBlocks, I: Input>(
 
 // Step 2 for one `i`, except Y[i] = X: T = X xor B[i], X = Salsa (T).
 #[inline(always)]
-fn mix_block<O: OrderedBlocks, I: Input>(x: O, input: &I, i: usize, len: usize, cores: &mut CoreCount) -> O
+fn mix_block<O: OrderedBlocks, I: Input>(
+    x: O,
+    input: &I,
+    i: usize,
+    len: usize,
+    cores: &mut CoreCount,
+) -> O
     requires rows { I.are_rows input.now O.count len }
     requires inside { 16 * i + 16 ≤ len }
     ensures value { (k : ℕ) → k < O.count → O.held result k ≡ permuted O.pivot (salsa20_8

@@ -1,6 +1,6 @@
 // Making `$7$` hashes.
 
-ghost use Rattle.std.specs.Prelude.{◌≡◌, ◌↔◌, ◌+◌, ◌<◌, ◌≤◌, ℕ, List, None, length, IfOk, IfErr, take, IsErrOf, IsOk, OnErr, OnOk};
+ghost use Rattle.std.specs.Prelude.{◌≡◌, ◌↔◌, ◌+◌, ◌<◌, ◌≤◌, ℕ, List, None, length, IfOk, IfErr, take, IsErrOf, IsOk, OnErr, OnOk, IsTrue};
 ghost use Rattle.std.specs.Str.{IsAscii};
 ghost use Rattle.password_hash.specs.Crypt64.{crypt64_of, encoded_len};
 ghost use Rattle.password_hash.specs.Mcf.{IsMcf};
@@ -9,7 +9,7 @@ ghost use Rattle.scrypt.specs.McfParams.{params_text};
 ghost use Rattle.scrypt.specs.Hashing.{key_len_or_default};
 ghost use Rattle.scrypt.specs.McfHash.{HashIsRefused, IsMadeHash, IsMcfOrNone, made_key, made_text_len};
 ghost use Rattle.password_hash.specs.Refusal.{refusal};
-ghost use Rattle.scrypt.specs.InBuffers.{AreEnough, IsCopiedTo};
+ghost use Rattle.scrypt.specs.InBuffers.{are_enough, IsCopiedTo};
 ghost use Rattle.scrypt.specs.Mixing.{IsReady, IsSpent};
 ghost use Rattle.scrypt.specs.Workspace.{IsDone, workspace_of};
 ghost use Rattle.scrypt_kernel.specs.Memory.{buffer_room};
@@ -205,9 +205,9 @@ pub fn hash_with_buffers(
     ensures made { IfOk result (IsCopiedTo (IsMadeHash params.now password.now salt.now) text.old text.new) }
     ensures ascii { IfOk result (λ len. IsAscii (take len text.new)) }
     ensures err { IfErr result (λ e. HashIsRefused None None (refusal e)) }
-    ensures short { IsErrOf result OutOfMemory ↔ (¬ (AreEnough params.now chunks.old table.old scratch.old
+    ensures short { IsErrOf result OutOfMemory ↔ (¬ (IsTrue (are_enough params.now chunks.old table.old scratch.old)
         × (made_text_len params.now (length salt.now) ≤ length text.old))) }
-    ensures exact { IsOk result ↔ (AreEnough params.now chunks.old table.old scratch.old
+    ensures exact { IsOk result ↔ (IsTrue (are_enough params.now chunks.old table.old scratch.old)
         × (made_text_len params.now (length salt.now) ≤ length text.old)) }
     ensures unwritten { OnErr result (text.new ≡ text.old) }
     ensures done { OnOk result (IsDone params.now

@@ -1,12 +1,12 @@
 // Making PHC hashes.
 
-ghost use Rattle.std.specs.Prelude.{◌≡◌, ◌↔◌, ℕ, List, length, None, Some, IfErr, IfOk, IsErrOf, IsOk, OnErr, OnOk};
+ghost use Rattle.std.specs.Prelude.{◌≡◌, ◌↔◌, ℕ, List, length, None, Some, IfErr, IfOk, IsErrOf, IsOk, OnErr, OnOk, IsTrue};
 ghost use Rattle.scrypt.specs.Hashing.{key_len_or_default};
 ghost use Rattle.scrypt.specs.KeyOfParams.{key_by};
 ghost use Rattle.scrypt.specs.PhcHash.{HashIsRefused, IsMadeHash, IsScryptOrNone, IsSaltLen};
 ghost use Rattle.password_hash.specs.Refusal.{refusal};
 ghost use Rattle.password_hash.specs.declared.error.Error.TheVariants.{OutOfMemory, SaltInvalid};
-ghost use Rattle.scrypt.specs.InBuffers.{AreEnough};
+ghost use Rattle.scrypt.specs.InBuffers.{are_enough};
 ghost use Rattle.scrypt.specs.Workspace.{IsDone, workspace_of};
 
 use crate::buffers::{InUse, width_in};
@@ -107,9 +107,9 @@ pub fn hash_with_buffers(
     ensures err { IfErr result (λ e. HashIsRefused salt.now None None (refusal e)) }
     ensures salt { IsErrOf result SaltInvalid ↔ (¬ IsSaltLen (length salt.now)) }
     ensures short { IsErrOf result OutOfMemory
-        ↔ (IsSaltLen (length salt.now) × ¬ AreEnough params.now chunks.old table.old scratch.old) }
+        ↔ (IsSaltLen (length salt.now) × ¬ IsTrue (are_enough params.now chunks.old table.old scratch.old)) }
     ensures exact { IsOk result
-        ↔ (IsSaltLen (length salt.now) × AreEnough params.now chunks.old table.old scratch.old) }
+        ↔ (IsSaltLen (length salt.now) × IsTrue (are_enough params.now chunks.old table.old scratch.old)) }
     ensures done { OnOk result (IsDone params.now
         (workspace_of chunks.old table.old scratch.old cores.old) (workspace_of chunks.new table.new scratch.new cores.new)) }
     ensures unchanged { OnErr result (workspace_of chunks.new table.new scratch.new cores.new

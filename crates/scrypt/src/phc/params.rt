@@ -1,10 +1,10 @@
 // Conversions between parameters and the PHC format.
 
-ghost use Rattle.std.specs.Prelude.{◌≡◌, ◌^◌, codes, ok_or, Ok};
+ghost use Rattle.std.specs.Prelude.{◌≡◌, ◌^◌, codes, ok_or, Ok, IsTrue};
 ghost use Rattle.password_hash.specs.Decimal.{decimal_below};
 ghost use Rattle.password_hash.specs.Refusal.{ParamInvalid};
 ghost use Rattle.password_hash.specs.Value.{value_text};
-ghost use Rattle.scrypt.specs.Accepted.{IsStoredLen};
+ghost use Rattle.scrypt.specs.Accepted.{is_stored_len};
 ghost use Rattle.scrypt.specs.PhcConversions.{output_len_of, params_with_len};
 ghost use Rattle.scrypt.specs.PhcParams.{params_of_pairs, written_pairs};
 ghost use Rattle.scrypt.specs.Reading.{with_refusal};
@@ -90,9 +90,10 @@ impl TryFrom<&PasswordHash> for Params {
 }
 
 // Returns the length of a hash's key in bytes, or 32 if it has no key.
+#[tactic(auto, using(std::proofs::lemmas::Bool::Decides::nat_tests), unfolding(crate::specs::Accepted::is_stored_len))]
 fn output_len_of(hash: &PasswordHash) -> usize
     ensures value { result ≡ output_len_of hash.now.hash }
-    ensures stored { IsStoredLen result }
+    ensures stored { IsTrue (is_stored_len (Some result)) }
 {
     match &hash.hash {
         Some(key) => key.len(),

@@ -15,6 +15,7 @@ use password_hash::{Error, Result};
 ///
 /// Returns the error of reading the parameters, or `PasswordInvalid` if the salt or the key is
 /// missing.
+#[tactic(auto, using(std::proofs::lemmas::Bool::Decides::nat_tests), unfolding(crate::specs::Accepted::is_output_len))]
 pub(crate) fn parts_of_phc<'a>(
     hash: &PasswordHash,
     params: &Result<Params>,

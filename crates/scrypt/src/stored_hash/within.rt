@@ -11,8 +11,8 @@ ghost use Rattle.scrypt.specs.WithinLimits.{limited_refusal, with_limited_refusa
 ghost use Rattle.scrypt.specs.Workspace.{IsLeft, verdict_in, workspace_of};
 
 use super::StoredHash;
-use crate::stored_parts::StoredParts;
 use crate::errors::LimitedError;
+use crate::stored_parts::StoredParts;
 use crate::verifying::verify_in_buffers;
 use crate::{BufferLens, CoreCount, Limits, Params};
 

@@ -40,7 +40,7 @@ loop-i-preserved c =
     let known = c.loop-i.invariant in
     let kept = c.if-verified_at_once.ensures.unchanged (search rules) in
     let here = from logins i login c.loop-i-test.true c.index-logins-i.is in
-    let verdict = rw (kept.0, kept.1, kept.2, kept.3) at c.verify.ensures.verdict in
+    let verdict = rw (kept.0, kept.1, kept.2) at c.verify.ensures.verdict in
     let left = rw (kept.0, kept.1, kept.2, kept.3) at c.verify.ensures.left in
     record {
       chunks = search rules;

@@ -1,4 +1,6 @@
-use Rattle.std.proofs.Common.{rules}
+use Rattle.std.proofs.Common.{length, refl, rules}
+use Rattle.scrypt_c.specs.Buffers.{AreBuffers}
+use Rattle.scrypt_c.proofs.InBuffersFacts.{enough_at_zero, kept_key_status}
 use Rattle.scrypt_c.proofs.keys.scrypt_kdf_thin.Goals as goal
 
 pub returns-then-chunks-lens-clause-status : goal.returns-then-chunks-lens-clause-status
@@ -11,3 +13,15 @@ returns-then-chunks-lens-clause-status c = record {
 
 pub scrypt_thin-derived-requires-clause-scratch : goal.scrypt_thin-derived-requires-clause-scratch
 scrypt_thin-derived-requires-clause-scratch c = search rules
+
+-- the buffers of a whole table are long enough for the call with buffers
+pub returns-then-s-eq0-clause-status : goal.returns-then-s-eq0-clause-status
+returns-then-s-eq0-clause-status c =
+    let are : AreBuffers c.args.log_n c.args.r c.args.p c.args.s (length c.args.chunks.now) (length c.args.table.now) (length c.args.scratch.now) = record {
+      chunks_are = search rules;
+      table_is = search rules;
+      scratch_is = search rules;
+    } in
+    kept_key_status (length c.args.output.now) c.scrypt_kdf_with_buffers.result (search rules) (c.in-Some.ensures'.exact.0 refl)
+    (enough_at_zero c.args.log_n c.args.r c.args.p c.args.s c.args.chunks.now c.args.table.now c.args.scratch.now are c.if-s-eq0.true)
+    are c.scrypt_kdf_with_buffers.ensures.status

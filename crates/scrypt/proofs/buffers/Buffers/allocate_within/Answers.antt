@@ -5,5 +5,5 @@ use Rattle.scrypt.proofs.buffers.Buffers.allocate_within.Goals as goal
 pub returns-2-clause-used : goal.returns-2-clause-used
 returns-2-clause-used c =
     let own = c.in_ok-allocate.ensures in
-    width_is c.args.params.now.log_n c.args.params.now.r c.args.params.now.p 1 _ _ c.expose_invariant.ensures.accepted.0 (omega arith)
-    (omega (arith, c.expose_invariant.ensures.accepted.1)) (omega (arith, own.table, c.of.ensures.table)) (omega (arith, own.scratch, c.of.ensures.scratch))
+    width_is c.args.params.now.log_n c.args.params.now.r c.args.params.now.p 1 _ _ c.expose_invariant.ensures.some.0 (omega arith)
+    (omega (arith, c.expose_invariant.ensures.some.1)) (omega (arith, own.table, c.of.ensures.table)) (omega (arith, own.scratch, c.of.ensures.scratch))
