@@ -209,9 +209,7 @@ static void statuses_in_mid_call(void) {
   IS(verify_group(text, &of), SCRYPT_OK);
   setitimer(ITIMER_REAL, &never, NULL);
   for (int i = 0; i < 4; i++) IS(statuses_of_group[i], SCRYPT_OK);
-#ifndef __SANITIZE_THREAD__ /* which calls handlers later */
   expect(looks > 0, "nobody looked");
-#endif
   tables_free(&tables);
 }
 
@@ -373,7 +371,9 @@ int main(void) {
   RUN(refused_for_a_while);
   RUN(generations);
   RUN(interrupted_in_child);
+#ifndef __SANITIZE_THREAD__ /* which calls handlers later, also when the statuses are written */
   RUN(statuses_in_mid_call);
+#endif
   RUN(tables_of_keys);
   RUN(moments);
   RUN(many_waits);
