@@ -13,6 +13,7 @@ SOURCE, OTHER = "one\ntwo\ntwo three\n", "four\n"
 ROWS = [
     ("file: src/a\nold: one\nnew: 1", ("1\ntwo\ntwo three\n", OTHER), "one text"),
     ("file: src/a\nold: one\nnew: 1\nold: three\nnew: 3", ("1\ntwo\ntwo 3\n", OTHER), "two texts of a file"),
+    ("file: src/a\nold: one\nnew: 1\nnew:\nnew: 0", ("1\n\n0\ntwo\ntwo three\n", OTHER), "a new text of several lines"),
     ("file: src/a\nold: one\nnew:\nfile: src/b\nold: four\nnew: 4", ("\ntwo\ntwo three\n", "4\n"), "two files"),
     ("file: src/a\nafter: one\nold: two\nnew: 2", ("one\n2\ntwo three\n", OTHER), "the first text after another"),
     ("file: src/a\nafter: two\nold: three\nnew: 3", None, "a text to begin from that occurs twice"),

@@ -3,12 +3,13 @@
 A crate's edits are in its file `wrong-bodies.txt`, in the parts that `PARTS` names, each under a heading in brackets. An edit
 is a paragraph: a line with its name, which says what is wrong; a line `file: PATH`, from the crate's folder; and then pairs
 of lines `old: TEXT` and `new: TEXT`. Each old text occurs once in that file, or, after a line `after: TEXT`, whose text occurs
-once, is the first one after that. A wrong body may also answer goals of its function that it makes false, by lines
-`answer: ANSWER`, perhaps after `unfolding: NAME`, and `use: NAMES`.
+once, is the first one after that. A new text of several lines has a line `new: TEXT` for each. A wrong body may also answer
+goals of its function that it makes false, by lines `answer: ANSWER`, perhaps after `unfolding: NAME`, and `use: NAMES`.
 """
 
 import contextlib
 import glob
+import itertools
 import os
 import shutil
 import tempfile
@@ -39,15 +40,16 @@ class Edit:
     def pairs(self):
         """What it replaces in which file, after what, and by what."""
         path, after, old = None, "", None
-        for word, rest in self.lines:
+        for word, lines in itertools.groupby(self.lines, key=lambda it: it[0]):
+            texts = [rest for _, rest in lines]
             if word == "file":
-                path = rest
+                path = texts[-1]
             elif word == "after":
-                after = rest
+                after = texts[-1]
             elif word == "old":
-                old = rest
+                old = texts[-1]
             elif word == "new":
-                yield path, after, old, rest
+                yield path, after, old, "\n".join(texts)
                 after = ""
 
     def place(self, text, after, old):
