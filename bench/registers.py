@@ -22,14 +22,14 @@ BUILT = Path(__file__).parent.parent / "build" / "lib"
 # The limits of a loop by the number of its chunks: the vector instructions, and those with an operand on the stack. They are a
 # little above what was measured: for x86-64-v3 up to 404 and 0, 440 and 0, 852 and 12, 890 and 22; for x86-64-v2, whose
 # instructions overwrite an operand and whose vectors have four words, up to 528 and 0, 1082 and 24, 1688 and 78, 2410 and 355; for
-# arm64, which has 32 registers of four words, up to 751 and 0, 1126 and 0, 1557 and 38. Blocks of three or four chunks that go
-# through memory take 32 more, or those of x86-64-v2 48 and 64. One chunk is in words on arm64, and its rows are in vectors. The 16
-# words of a block and those that its core makes of them don't fit into 31 registers: what is on the stack counts as a vector
-# instruction too, and these are up to 80 and 46.
+# three and four on arm64, which has 32 registers of four words, up to 1126 and 0, 1557 and 38. Blocks of three or four chunks that
+# go through memory take 32 more, or those of x86-64-v2 48 and 64. On arm64 no two are in one loop: one chunk is in words, and its
+# rows are in vectors. The 16 words of a block and those that its core makes of them don't fit into 31 registers: what is on the
+# stack counts as a vector instruction too, and these are up to 80 and 46.
 LIMITS = {
     "x86-64-v3": {1: (430, 0), 2: (470, 0), 3: (900, 28), 4: (940, 32)},
     "x86-64-v2": {1: (560, 0), 2: (1140, 40), 3: (1780, 100), 4: (2550, 400)},
-    "arm64": {2: (780, 0), 3: (1170, 0), 4: (1620, 44)},
+    "arm64": {3: (1170, 0), 4: (1620, 44)},
     "arm64, in words": {1: (90, 56)},
 }
 

@@ -1,6 +1,7 @@
 #!/usr/bin/env python3
-"""Proves and compiles for arm64: a copy of the crate scrypt that mixes one chunk in words (one_in_words.edit), and over it the
-crate scrypt_c, the commands and the program scrypt_tool. What it makes is in crates/NAME/out/arm64.
+"""Proves and compiles for arm64: a copy of the crate scrypt that mixes one chunk in words, and two one after the other
+(one_in_words.edit), and over it the crate scrypt_c, the commands and the program scrypt_tool. What it makes is in
+crates/NAME/out/arm64.
 
 usage: python3 -m bindings.arm64 NAME[=KEPT] ..   scrypt, scrypt_c, scrypt_commands and scrypt_tool, in this order; KEPT is a
                                                   folder of proofs of the crate that are kept

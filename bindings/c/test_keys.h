@@ -86,6 +86,13 @@ static void keys_in_buffers(size_t i, uint8_t s) {
   free(scratch);
 }
 
+/* How many of two tables are used: on arm64 two chunks are mixed one after the other, in the first. */
+#ifdef __aarch64__
+#define USED_OF_TWO 1
+#else
+#define USED_OF_TWO 2
+#endif
+
 /* The key of vector 1, which has 16 chunks, in buffers that are longer than needed: how many tables are used of them, and
  * nothing after those is written. */
 static const struct {
@@ -94,8 +101,8 @@ static const struct {
   const char *reason;
 } LONGER[] = {
     {1, 1, 1, "a word more than one table and one scratch"},
-    {262144, 512, 2, "two tables and two scratches: two chunks at a time"},
-    {262145, 513, 2, "a word more than these"},
+    {262144, 512, USED_OF_TWO, "two tables and two scratches"},
+    {262145, 513, USED_OF_TWO, "a word more than these"},
     {262144, 511, 1, "two tables, and a word too few for two scratches"},
     {262143, 512, 1, "two scratches, and a word too few for two tables"},
 };

@@ -88,8 +88,9 @@ pub extern "C" fn scrypt_buffer_lens(
 /// unless each buffer is at least as long as `scrypt_buffer_lens` returns with `s` of 0. Only so many
 /// elements at the front of each buffer are used, or as many times as many of the table and the
 /// scratch as chunks are mixed at a time: at most four, at most `p`, and as many as both have room
-/// for. What the buffers hold before the call does not matter. After `OK`, what was used is unspecified, and nothing after it has
-/// changed. On an error the buffers and the output are unchanged.
+/// for. On arm64 two use the place of one. What the buffers hold before the call does not matter.
+/// After `OK`, what was used is unspecified, and nothing after it has changed. On an error the
+/// buffers and the output are unchanged.
 #[unsafe(no_mangle)]
 pub extern "C" fn scrypt_kdf_with_buffers(
     password: &[u8],
