@@ -186,7 +186,9 @@ def build(tasks, made, kept):
         if not is_well:
             return False, text
         lines += [line for line in text.splitlines() if line.startswith("logic=proved ") and f" cpu={NEWER} " in line]
+    # The wrong bodies of the crate write what they keep to the folder itself, while these are copied from.
     shutil.copytree(kept, f"{kept}-arm64")
+    shutil.copytree(kept, f"{kept}-module")
     return len(lines) == 1, "\n".join([f"== scrypt_c-{NEWER}", *lines, ""])
 
 
@@ -259,7 +261,7 @@ def add_for_arm64(tasks, kept):
 def build_module(tasks, kept, is_for_arm64):
     """Builds the module for JavaScript over what the build of the libraries kept, and that of the crate scrypt for arm64."""
     below = ["crates/scrypt/out/arm64/kept"] if is_for_arm64 else []
-    return tasks.run(sys.executable, "-m", "bindings.js.build", kept, *below)
+    return tasks.run(sys.executable, "-m", "bindings.js.build", f"{kept}-module", *below)
 
 
 def add_all(tasks, made, kept, is_built):
