@@ -4,12 +4,15 @@ when it is done, and a proof may take minutes.
 usage: python3 -m ci.telling COMMAND..
 """
 
+import signal
 import subprocess
 import sys
 import time
 from pathlib import Path
 
 EVERY = 25  # seconds
+GRACE = 5  # seconds that an interrupted command has to end by itself
+INTERRUPTED = 128 + signal.SIGINT  # the status that a shell gives it
 
 
 def processes():
@@ -34,16 +37,30 @@ def in_work(top):
     return sorted(names)
 
 
-def run(words, every=EVERY):
-    """The status of a command, whose children share the job server of make."""
+def watched(running, every):
+    """The status of a process, when it has ended."""
     begun = time.monotonic()
+    while True:
+        try:
+            return running.wait(every)
+        except subprocess.TimeoutExpired:
+            minutes, seconds = divmod(int(time.monotonic() - begun), 60)
+            print(f"{minutes}:{seconds:02}, in work: {' '.join(in_work(running.pid))}", flush=True)
+
+
+def run(words, every=EVERY, grace=GRACE):
+    """The status of a command, whose children share the job server of make."""
     with subprocess.Popen(words, close_fds=False) as running:
-        while True:
+        try:
+            return watched(running, every)
+        except KeyboardInterrupt:
+            # The terminal interrupts the command too, which may have files to remove.
+            signal.signal(signal.SIGINT, signal.SIG_IGN)
             try:
-                return running.wait(every)
+                running.wait(grace)
             except subprocess.TimeoutExpired:
-                minutes, seconds = divmod(int(time.monotonic() - begun), 60)
-                print(f"{minutes}:{seconds:02}, in work: {' '.join(in_work(running.pid))}", flush=True)
+                running.terminate()
+            return INTERRUPTED
 
 
 if __name__ == "__main__":

@@ -2,6 +2,8 @@
 
 import contextlib
 import io
+import os
+import signal
 import sys
 import unittest
 
@@ -21,6 +23,13 @@ class Telling(unittest.TestCase):
         with contextlib.redirect_stdout(io.StringIO()) as said:
             self.assertEqual(telling.run(["true"]), 0)
         self.assertEqual(said.getvalue(), "")
+
+    def test_an_interrupt(self):
+        """The command ends too, even if the interrupt does not reach it."""
+        own = signal.signal(signal.SIGINT, signal.default_int_handler)
+        self.addCleanup(signal.signal, signal.SIGINT, own)
+        self.assertEqual(telling.run(["sh", "-c", "kill -INT $PPID; exec sleep 30"], grace=0.5), 130)
+        self.assertNotIn((os.getpid(), ["sleep", "30", ""]), telling.processes().values())
 
 
 if __name__ == "__main__":
