@@ -16,7 +16,7 @@ pub fn parse_len(word: &str) -> Option<usize>
 
 /// Parses R or P.
 pub fn parse_word(word: &str) -> Option<u32>
-    ensures { result ≡ decimal_below (2 ^ 32) word.now }
+    ensures value { result ≡ decimal_below (2 ^ 32) word.now }
 {
     decimals_are_read();
     read_decimal(word)
@@ -24,7 +24,7 @@ pub fn parse_word(word: &str) -> Option<u32>
 
 /// Parses LOG_N.
 pub fn parse_byte(word: &str) -> Option<u8>
-    ensures { result ≡ decimal_below (2 ^ 8) word.now }
+    ensures value { result ≡ decimal_below (2 ^ 8) word.now }
 {
     decimals_are_read();
     read_decimal(word)
