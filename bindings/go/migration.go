@@ -14,9 +14,18 @@ import (
 
 // StoredText returns a text that Verify reads, of the salt and the key of another program: a PHC text if the lengths allow
 // it, otherwise a $7$ text. Of a PHC text's key only the first 64 bytes are kept, which are the key of that length. N is a
-// power of two. To errors.Is the errors are ErrInvalidParams, ErrInvalidOutputLen without a key, and ErrSaltInvalid if
-// neither format can store the salt.
+// power of two, at least 64: a smaller one may be its logarithm, and then no password would match. To errors.Is the errors
+// are ErrInvalidParams, ErrInvalidOutputLen without a key, and ErrSaltInvalid if neither format can store the salt.
 func StoredText(salt, key []byte, N, r, p int) (string, error) {
+	if N >= 1 && N < 64 {
+		return "", fmt.Errorf("%w: N is at least 64, and %d may be its logarithm, LogN: %d is N = 2^%d", ErrInvalidParams, N,
+			uint64(1)<<N, N)
+	}
+	return storedText(salt, key, N, r, p)
+}
+
+// storedText returns what StoredText does, with any N.
+func storedText(salt, key []byte, N, r, p int) (string, error) {
 	if N < 1 || N&(N-1) != 0 {
 		return "", fmt.Errorf("%w: N is %d, and has to be a power of two", ErrInvalidParams, N)
 	}
@@ -60,7 +69,8 @@ func mcfDigits(number, count int) string {
 }
 
 // FromSimpleScrypt converts a hash of github.com/elithrar/simple-scrypt, N$r$p$salt$key with the last two in hexadecimal,
-// to one that Verify reads. Its errors are those of StoredText, and ErrEncodingInvalid for another text.
+// to one that Verify reads, also if N is below 64. Its errors are those of StoredText, and ErrEncodingInvalid for another
+// text.
 func FromSimpleScrypt(stored string) (string, error) {
 	fault := fmt.Errorf("%w: this is not a hash of simple-scrypt", ErrEncodingInvalid)
 	parts := strings.Split(stored, "$")
@@ -83,5 +93,5 @@ func FromSimpleScrypt(stored string) (string, error) {
 	if err != nil {
 		return "", fault
 	}
-	return StoredText(salt, key, numbers[0], numbers[1], numbers[2])
+	return storedText(salt, key, numbers[0], numbers[1], numbers[2])
 }

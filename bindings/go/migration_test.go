@@ -3,6 +3,7 @@ package scrypt
 import (
 	"context"
 	"errors"
+	"fmt"
 	"strings"
 	"testing"
 )
@@ -20,11 +21,11 @@ func TestStoredText(t *testing.T) {
 		{"one byte more than whole groups", strings.Repeat("a", 65), 34},
 		{"two bytes more", strings.Repeat("ö", 40), 35},
 	} {
-		key, err := Key([]byte("pw"), []byte(it.salt), 16, 8, 1, it.keyLen)
+		key, err := Key([]byte("pw"), []byte(it.salt), 64, 8, 1, it.keyLen)
 		if err != nil {
 			t.Fatal(err)
 		}
-		text, err := StoredText([]byte(it.salt), key, 16, 8, 1)
+		text, err := StoredText([]byte(it.salt), key, 64, 8, 1)
 		if err == nil {
 			err = hasher.Verify(context.Background(), text, []byte("pw"))
 		}
@@ -41,15 +42,38 @@ func TestStoredText(t *testing.T) {
 	}{
 		{"N is not a power of two", key, key, 1000, 8, 1, ErrInvalidParams},
 		{"N is 0", key, key, 0, 8, 1, ErrInvalidParams},
-		{"r is 0", key, key, 16, 0, 1, ErrInvalidParams},
-		{"p has more than 32 bits", key, key, 16, 8, 1 + 1<<32, ErrInvalidParams},
-		{"no key", key, nil, 16, 8, 1, ErrInvalidOutputLen},
-		{"a $ in the salt of a $7$ text", []byte(strings.Repeat("$", 65)), key, 16, 8, 1, ErrSaltInvalid},
-		{"a salt of a $7$ text is UTF-8", []byte(strings.Repeat("\xff", 65)), key, 16, 8, 1, ErrSaltInvalid},
+		{"r is 0", key, key, 64, 0, 1, ErrInvalidParams},
+		{"p has more than 32 bits", key, key, 64, 8, 1 + 1<<32, ErrInvalidParams},
+		{"no key", key, nil, 64, 8, 1, ErrInvalidOutputLen},
+		{"a $ in the salt of a $7$ text", []byte(strings.Repeat("$", 65)), key, 64, 8, 1, ErrSaltInvalid},
+		{"a salt of a $7$ text is UTF-8", []byte(strings.Repeat("\xff", 65)), key, 64, 8, 1, ErrSaltInvalid},
 	} {
 		if text, err := StoredText(it.salt, it.key, it.n, it.r, it.p); text != "" || !errors.Is(err, it.want) {
 			t.Errorf("%s: %q, %v", it.why, text, err)
 		}
+	}
+}
+
+// In place of N a log_n is refused by name. A hash that names its N may have a small one.
+func TestLogNInPlaceOfN(t *testing.T) {
+	salt := []byte("seasalt")
+	key, err := Key([]byte("pw"), salt, 16, 8, 1, 32)
+	if err != nil {
+		t.Fatal(err)
+	}
+	for n, power := range map[int]string{1: "2", 14: "16384", 16: "65536", 32: "4294967296", 63: "9223372036854775808"} {
+		text, err := StoredText(salt, key, n, 8, 1)
+		want := fmt.Sprintf("N is at least 64, and %d may be its logarithm, LogN: %s is N = 2^%d", n, power, n)
+		if text != "" || !errors.Is(err, ErrInvalidParams) || !strings.HasSuffix(err.Error(), want) {
+			t.Errorf("%d: %q, %v", n, text, err)
+		}
+	}
+	text, err := FromSimpleScrypt(fmt.Sprintf("16$8$1$%x$%x", salt, key))
+	if err == nil {
+		err = newHasher(t, Options{Params: small()}).Verify(context.Background(), text, []byte("pw"))
+	}
+	if err != nil {
+		t.Errorf("%q: %v", text, err)
 	}
 }
 

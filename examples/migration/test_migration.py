@@ -278,7 +278,8 @@ def node(trial):
 
 def go(trial):
     """Texts of Go's keys, also with log_n from 16 * r, and its refusal of N = 1."""
-    cases = [*key_cases(trial), ("password", "00", 1 << 16, 1, 1, 32), ("password", "00", 1, 8, 1, 32)]
+    cases = [(password, salt, max(n, 64), *rest) for password, salt, n, *rest in key_cases(trial)]  # as for hashlib
+    cases += [("password", "00", 1 << 16, 1, 1, 32), ("password", "00", 1, 8, 1, 32)]
     made = go_keys(os.path.join(TOP, "bindings", "go"), cases)
     for case, text in zip(cases[:-1], made):
         trial.verifies(text, case[0].encode())
