@@ -174,6 +174,32 @@ pub(crate) struct InUse<'a, M> {
     pub(crate) cores: &'a mut CoreCount,
 }
 
+impl<'a, M> InUse<'a, M> {
+    pub(crate) fn new(
+        width: usize,
+        chunks: &'a mut [u8],
+        rows: &'a mut M,
+        scratch: &'a mut [u32],
+        cores: &'a mut CoreCount,
+    ) -> InUse<'a, M>
+        ensures value { result ≡ record {
+          width = width;
+          chunks = chunks.entry;
+          rows = rows.entry;
+          scratch = scratch.entry;
+          cores = cores.entry;
+        } }
+    {
+        InUse {
+            width,
+            chunks,
+            rows,
+            scratch,
+            cores,
+        }
+    }
+}
+
 /// Buffers for one derivation.
 #[derive(Drop)]
 pub(crate) struct Buffers {

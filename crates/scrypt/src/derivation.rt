@@ -103,13 +103,13 @@ pub fn scrypt_in_groups(
         return Err(DeriveError::InvalidOutputLen);
     }
     let (width, mut own) = Buffers::allocate_within(alloc, params, most_bytes)?;
-    let mut used = InUse {
+    let mut used = InUse::new(
         width,
-        chunks: &mut own.chunks,
-        rows: &mut own.table,
-        scratch: &mut own.scratch,
+        &mut own.chunks,
+        &mut own.table,
+        &mut own.scratch,
         cores,
-    };
+    );
     derive_in::<Vec<u32>>(password, salt, params, 0, &mut used, output);
     Ok(())
 }
@@ -152,13 +152,7 @@ pub fn scrypt_with_buffers(
     }
     let width = chunks_at_once(params, params.p() as usize, table.len(), scratch.len());
     let mut rows = Buffer::new(table);
-    let mut used = InUse {
-        width,
-        chunks,
-        rows: &mut rows,
-        scratch,
-        cores,
-    };
+    let mut used = InUse::new(width, chunks, &mut rows, scratch, cores);
     derive_in::<Buffer<'_>>(password, salt, params, 0, &mut used, output);
     Ok(())
 }
@@ -206,13 +200,7 @@ pub fn scrypt_thin(
     }
     params.expose_invariant();
     let mut rows = Buffer::new(table);
-    let mut used = InUse {
-        width: 1,
-        chunks,
-        rows: &mut rows,
-        scratch,
-        cores,
-    };
+    let mut used = InUse::new(1, chunks, &mut rows, scratch, cores);
     derive_in::<Buffer<'_>>(password, salt, params, s, &mut used, output);
     Ok(())
 }

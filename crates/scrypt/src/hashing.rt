@@ -62,13 +62,13 @@ pub(crate) fn key_allocating(
     // In no bytes a derivation takes one table.
     let (width, mut own) = Buffers::allocate_within(alloc, params, 0)?;
     let mut cores = CoreCount::new();
-    let mut used = InUse {
+    let mut used = InUse::new(
         width,
-        chunks: &mut own.chunks,
-        rows: &mut own.table,
-        scratch: &mut own.scratch,
-        cores: &mut cores,
-    };
+        &mut own.chunks,
+        &mut own.table,
+        &mut own.scratch,
+        &mut cores,
+    );
     Ok(stored_key::<Vec<u32>>(password, salt, params, &mut used))
 }
 

@@ -199,13 +199,7 @@ fn verified_at_once(
     let (table, _) = table.split_at_mut(lens.table);
     let (scratch, _) = scratch.split_at_mut(lens.scratch);
     let mut rows = Buffer::new(table);
-    let mut used = InUse {
-        width,
-        chunks,
-        rows: &mut rows,
-        scratch,
-        cores,
-    };
+    let mut used = InUse::new(width, chunks, &mut rows, scratch, cores);
     verify_at_once(logins, verdicts, &params, count, &mut used);
     true
 }

@@ -69,13 +69,13 @@ pub(crate) fn verify_allocating(
 {
     // In no bytes a derivation takes one table.
     let (width, mut own) = Buffers::allocate_within(alloc, &parts.params, 0)?;
-    let mut used = InUse {
+    let mut used = InUse::new(
         width,
-        chunks: &mut own.chunks,
-        rows: &mut own.table,
-        scratch: &mut own.scratch,
+        &mut own.chunks,
+        &mut own.table,
+        &mut own.scratch,
         cores,
-    };
+    );
     verdict(is_key_of::<Vec<u32>>(password, parts, &mut used))
 }
 
@@ -105,12 +105,6 @@ pub(crate) fn verify_in_buffers(
     let (table, _) = table.split_at_mut(lens.table);
     let (scratch, _) = scratch.split_at_mut(lens.scratch);
     let mut rows = Buffer::new(table);
-    let mut used = InUse {
-        width,
-        chunks,
-        rows: &mut rows,
-        scratch,
-        cores,
-    };
+    let mut used = InUse::new(width, chunks, &mut rows, scratch, cores);
     verdict(is_key_of::<Buffer<'_>>(password, parts, &mut used))
 }

@@ -227,13 +227,7 @@ pub fn hash_with_buffers(
     let (table, _) = table.split_at_mut(lens.table);
     let (scratch, _) = scratch.split_at_mut(lens.scratch);
     let mut rows = Buffer::new(table);
-    let mut used = InUse {
-        width,
-        chunks,
-        rows: &mut rows,
-        scratch,
-        cores,
-    };
+    let mut used = InUse::new(width, chunks, &mut rows, scratch, cores);
     fill_with_hash(password, salt, params, &mut text[..len], &mut used);
     Ok(len)
 }

@@ -126,13 +126,7 @@ pub fn hash_with_buffers(
     let (table, _) = table.split_at_mut(lens.table);
     let (scratch, _) = scratch.split_at_mut(lens.scratch);
     let mut rows = Buffer::new(table);
-    let mut used = InUse {
-        width,
-        chunks,
-        rows: &mut rows,
-        scratch,
-        cores,
-    };
+    let mut used = InUse::new(width, chunks, &mut rows, scratch, cores);
     let key = stored_key::<Buffer<'_>>(password, salt.as_bytes(), params, &mut used);
     Ok(hash_of(params, salt, key))
 }
