@@ -246,7 +246,7 @@ const ENDS: [Row<'static>; 8] = [
 
 // The call after the last byte of an answer is the flush, which ends the run: there is none after it.
 #[test]
-fn runs_over_streams(rt: HostRuntime) -> std::result::Result<(), Fail> {
+fn failing_outputs(rt: HostRuntime) -> std::result::Result<(), Fail> {
     for &(line, status, answer, reason) in &ANSWERS {
         for end in 0..answer.len() {
             // A flush that fails is marked too.
@@ -268,6 +268,11 @@ fn runs_over_streams(rt: HostRuntime) -> std::result::Result<(), Fail> {
             (line, [INPUT, ALL, ALL], ended, 4, [answer, ""], reason),
         )?;
     }
+    Ok(())
+}
+
+#[test]
+fn failing_inputs(rt: HostRuntime) -> std::result::Result<(), Fail> {
     for &(line, input, reason) in &INPUTS {
         let reads = input.0.saturating_add(1);
         let told = ["", INPUT_FAILED];
@@ -283,6 +288,11 @@ fn runs_over_streams(rt: HostRuntime) -> std::result::Result<(), Fail> {
             ),
         )?;
     }
+    Ok(())
+}
+
+#[test]
+fn other_ends(rt: HostRuntime) -> std::result::Result<(), Fail> {
     for &row in &ENDS {
         check(rt.alloc(), row)?;
     }
