@@ -180,11 +180,11 @@ const INPUTS: [(&str, Kind, &str); 9] = [
 const ENDS: [Row<'static>; 8] = [
     (
         "key 4 1 1 16 ",
-        [(99_999, None), ALL, ALL],
+        [(1_999_999, None), ALL, ALL],
         (0, false, true),
-        100_000,
-        ["d9d598b48803bb1bbed2d5892c9870b3\n^", ""],
-        "the key of many pieces, by hashlib",
+        2_000_000,
+        ["6d2a4ebafb0d1dbdd84a749eb3eceaf2\n^", ""],
+        "the key of 2,000,000 reads, by hashlib",
     ),
     (
         KEY,
