@@ -1,8 +1,8 @@
-"""Refuses each allocation of a run of the program in turn, and compares their number.
+"""Refuses each allocation of a run of the program in turn, and compares their number, and the sizes of a derivation's.
 
 The program runs with failing_calls.c preloaded, which fails the allocation of one number, from the first to the last.
 Each refusal has to end with status 3, nothing in the output and its fault line. How many a run makes is compared too,
-so that a hidden one is seen.
+so that a hidden one is seen, and in which order it allocates the chunks, the table and the scratch.
 
 usage: python3 -m compare.allocations PROGRAM        needs a C compiler
 """
@@ -48,6 +48,20 @@ RUNS = [
     ("hash phc 4 1 1 " + "4e" * 65, b"password", 2, 2),
 ]
 
+# the words of runs that derive a key with four chunks, and the sizes of the chunks, the table and the scratch
+BUFFERS = [
+    ("key 4 1 4 32 4e61436c", [512, 2048, 256]),
+    ("hash phc 5 1 4 4e61436c", [512, 4096, 256]),
+    ("hash mcf 4 2 4 4e61436c", [1024, 4096, 512]),
+    (f"verify {PHC.replace('p=1', 'p=4')}", [512, 2048, 256]),
+    (f"verify {MCF.replace('/..../....', '/....2....')}", [512, 2048, 256]),
+]
+
+
+def sizes(run):
+    """The sizes of the allocations of a run, in turn."""
+    return [int(line.split(" ")[1]) for line in run(SIZES="1")[2].splitlines() if "alloc " in line]
+
 
 def refused(run, wanted):
     """How many allocations a run makes whose refusal ends it, or how the runs end if one ends otherwise.
@@ -55,7 +69,7 @@ def refused(run, wanted):
     Collecting the arguments asks for room that it can do without, as std has it: one refusal, between
     those of the arguments and those of the run, changes nothing.
     """
-    total = run(SIZES="1")[2].count("alloc ")
+    total = len(sizes(run))
     ends = [run(FAIL_AT=str(it + 1)) for it in range(total)]
     of_arguments = ends.count(ARGUMENTS)
     of_run = total - of_arguments - 1
@@ -72,6 +86,10 @@ def cases(program):
             run = functools.partial(run_with, library, [program, *words.split(" ")], password)
             wanted = run()
             yield words, (wanted[0], refused(run, wanted)), (status, allocations)
+        for words, wanted in BUFFERS:
+            made = sizes(functools.partial(run_with, library, [program, *words.split(" ")], b"password"))
+            found = [made[at : at + 3] for at in range(len(made)) if made[at : at + 3] == wanted]
+            yield f"{words}, of which these are the sizes", found or made, [wanted]
 
 
 def main():
