@@ -48,11 +48,12 @@ RUNS = [
     ("hash phc 4 1 1 " + "4e" * 65, b"password", 2, 2),
 ]
 
-# the words of runs that derive a key with four chunks, and the sizes of the chunks, the table and the scratch
+# the words of runs that derive a key with four chunks, and the sizes of the chunks, the table and the scratch, or of these
+# after the text of a `$7$` hash
 BUFFERS = [
     ("key 4 1 4 32 4e61436c", [512, 2048, 256]),
     ("hash phc 5 1 4 4e61436c", [512, 4096, 256]),
-    ("hash mcf 4 2 4 4e61436c", [1024, 4096, 512]),
+    ("hash mcf 4 2 4 4e61436c", [64, 1024, 4096, 512]),
     (f"verify {PHC.replace('p=1', 'p=4')}", [512, 2048, 256]),
     (f"verify {MCF.replace('/..../....', '/....2....')}", [512, 2048, 256]),
 ]
@@ -88,7 +89,7 @@ def cases(program):
             yield words, (wanted[0], refused(run, wanted)), (status, allocations)
         for words, wanted in BUFFERS:
             made = sizes(functools.partial(run_with, library, [program, *words.split(" ")], b"password"))
-            found = [made[at : at + 3] for at in range(len(made)) if made[at : at + 3] == wanted]
+            found = [it for it in (made[at : at + len(wanted)] for at in range(len(made))) if it == wanted]
             yield f"{words}, of which these are the sizes", found or made, [wanted]
 
 
