@@ -213,7 +213,7 @@ impl Buffers {
     /// within its capacity.
     pub(crate) fn allocate(alloc: Global, lens: &BufferLens) -> Result<Buffers, AllocError>
         ensures chunks { IfOk result (λ own. length own.chunks.items ≡ lens.now.chunks) }
-        ensures table { IfOk result (λ own. lens.now.table ≤ vec_capacity own.table) }
+        ensures table { IfOk result (λ own. vec_capacity own.table ≡ lens.now.table) }
         ensures scratch { IfOk result (λ own. length own.scratch.items ≡ lens.now.scratch) }
     {
         let mut chunks = Vec::with_capacity(alloc, lens.chunks)?;
@@ -242,6 +242,7 @@ impl Buffers {
         ensures memory { IfOk result (λ got. HasTables params.now.log_n 0 params.now.r got.0
             (vec_capacity got.1.table) (length got.1.scratch.items)) }
         ensures width { IfOk result (λ got. (got.0 ≡ tables_within most_bytes params.now) ⊎ (got.0 ≡ 1)) }
+        ensures table { IfOk result (λ got. vec_capacity got.1.table ≡ got.0 * table_words params.now.log_n params.now.r) }
         ensures scratch { IfOk result (λ got. length got.1.scratch.items ≡ got.0 * scratch_words params.now.r) }
         ensures used { IfOk result (λ got. got.0 ≡ chunks_at_once params.now.log_n params.now.r params.now.p
             (vec_capacity got.1.table) (length got.1.scratch.items)) }
