@@ -20,7 +20,7 @@ enum Call {
 // A call, p, the sizes of its allocations at (4, 1, p), how many of them it needs, and the reason for the row. They are
 // the chunks, the table and the scratch. A call for several tables that gets no scratch for them ends with one table: this
 // and its scratch fit where the several tables were. How many tables a call takes is in `memory.rt`.
-const CALLS: [(Call, u32, [usize; 3], usize, &str); 10] = [
+static CALLS: [(Call, u32, [usize; 3], usize, &str); 10] = [
     (Call::Scrypt, 1, [128, 2048, 256], 3, "the three buffers"),
     (
         Call::ScryptCounted,

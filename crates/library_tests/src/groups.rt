@@ -7,7 +7,7 @@ use std::test::Fail;
 
 // p, the key of 16 bytes by (4, 2, p) of the password `pw` and the salt `NaCl`, by Python's hashlib, and how many chunks are
 // mixed at a time.
-const KEYS: [(u32, u128, &str); 5] = [
+static KEYS: [(u32, u128, &str); 5] = [
     (1, 0x9acfeb5ab60a631cf80523789174c12d, "one chunk"),
     (2, 0xed83cb4dd2f9d3b27f51ac358ac58092, "two at once"),
     (3, 0x681203aa00d52909a06faabccfacfa55, "three at once"),
@@ -50,7 +50,7 @@ const MANY: usize = 100_000;
 
 // The texts of the first and of the other logins, and whether the first and the last are verified. A text that cannot be
 // read takes no time.
-const LOGINS: [(&str, &str, bool, bool, &str); 3] = [
+static LOGINS: [(&str, &str, bool, bool, &str); 3] = [
     ("", "", false, false, "each is refused alone"),
     (
         HASH,

@@ -1,7 +1,7 @@
 // Each allocation of a call fails in turn, and the exact number of them is asserted.
 
 use crate::failing_allocations::{CallEnd, failing_allocations};
-use crate::holds;
+use crate::{holds, is};
 use password_hash::mcf::{self, Base64};
 use password_hash::{Error, PasswordHasher, PasswordVerifier, phc};
 use scrypt::{Params, Scrypt};
@@ -28,7 +28,7 @@ enum Deriving {
 
 // A call that derives a key, p, the key's length, the sizes of its allocations at (4, 1, p), and the reason for the row. The
 // last three are the chunks, the table and the scratch.
-const DERIVING: [(Deriving, u32, usize, &[usize], &str); 9] = [
+static DERIVING: [(Deriving, u32, usize, &[usize], &str); 9] = [
     (
         Deriving::HashPhc,
         1,
@@ -158,7 +158,7 @@ enum Making {
 
 // A call, the sizes of its allocations, and the reason for the row. What is pushed to is made in the
 // call, by the first allocation, and is as it was if the push fails.
-const MAKING: [(Making, &[usize], &str); 7] = [
+static MAKING: [(Making, &[usize], &str); 7] = [
     (Making::New, &[LETTERS], "a copy of the text"),
     (Making::FromId, &[LETTERS], "a dollar and the id"),
     (
@@ -202,7 +202,7 @@ fn end_of_making(
                     Making::PushStr => hash.push_str(field.as_str()),
                     _ => hash.push_base64(bytes, Base64::Crypt),
                 };
-                if pushed.is_err() && hash.as_str() != text {
+                if pushed.is_err() && !is(hash.as_str(), text) {
                     return CallEnd::Otherwise;
                 }
                 ended(&pushed, memory)

@@ -1,8 +1,8 @@
 // The calls that can run out of memory, once each, and the texts of errors, which no clause gives. Which texts are made,
 // verified and refused is in `ci/hashes.py` and `ci/program.py`, which ask the built programs.
 
-use crate::holds;
 use crate::refused::MCF;
+use crate::{holds, is};
 use password_hash::mcf::Base64;
 use password_hash::{
     CustomizedPasswordHasher, Error, PasswordHasher, PasswordVerifier, kdf, mcf, phc,
@@ -29,9 +29,7 @@ fn phc_hashes(rt: HostRuntime) -> Result<(), Fail> {
     holds(verified.is_ok(), "with a drawn salt")
 }
 
-#[test]
-fn mcf_hashes(rt: HostRuntime) -> Result<(), Fail> {
-    let (alloc, params) = (rt.alloc(), Params::new(4, 1, 1)?);
+fn hash_customized(alloc: Global, params: Params) -> Result<(), Fail> {
     let _made: mcf::PasswordHash = Scrypt::new().hash_password_customized(
         alloc,
         &LONG_PASSWORD,
@@ -40,6 +38,13 @@ fn mcf_hashes(rt: HostRuntime) -> Result<(), Fail> {
         None,
         params,
     )?;
+    Ok(())
+}
+
+#[test]
+fn mcf_hashes(rt: HostRuntime) -> Result<(), Fail> {
+    let (alloc, params) = (rt.alloc(), Params::new(4, 1, 1)?);
+    hash_customized(alloc, params)?;
     let hasher = Scrypt::from(params);
     let drawn: mcf::PasswordHash = hasher.hash_password(alloc, &LONG_PASSWORD, [0xff; 16])?;
     let owned = hasher.verify_password(alloc, &LONG_PASSWORD, &drawn);
@@ -107,10 +112,10 @@ fn a_known_mcf_hash(rt: HostRuntime) -> Result<(), Fail> {
         &salt,
         params,
     )?;
-    holds(made.as_str() == MCF, "the whole text")
+    holds(is(made.as_str(), MCF), "the whole text")
 }
 
-const TEXTS: [(Error, &str); 9] = [
+static TEXTS: [(Error, &str); 9] = [
     (Error::Algorithm, "unsupported algorithm"),
     (Error::EncodingInvalid, "invalid encoding"),
     (Error::OutputSize, "invalid key length"),
@@ -122,13 +127,21 @@ const TEXTS: [(Error, &str); 9] = [
     (Error::OutOfMemory, "out of memory"),
 ];
 
+fn are_printed(alloc: Global, rows: &[(Error, &'static str)]) -> Result<(), Fail> {
+    for &(error, text) in rows {
+        holds(is(error.to_string(alloc)?.as_str(), text), text)?;
+        let within = LimitedError::Hash(error).to_string(alloc)?;
+        holds(is(within.as_str(), text), "also of a call with limits")?;
+    }
+    Ok(())
+}
+
 #[test]
 fn texts_of_errors(rt: HostRuntime) -> Result<(), Fail> {
-    for &(error, text) in &TEXTS {
-        holds(error.to_string(rt.alloc())?.as_str() == text, text)?;
-        let within = LimitedError::Hash(error).to_string(rt.alloc())?;
-        holds(within.as_str() == text, "also of a call with limits")?;
-    }
+    are_printed(rt.alloc(), &TEXTS)?;
     let refused = kdf::Error::Refused.to_string(rt.alloc())?;
-    holds(refused.as_str() == "refused key length", "of a derivation")
+    holds(
+        is(refused.as_str(), "refused key length"),
+        "of a derivation",
+    )
 }

@@ -3,10 +3,11 @@
 use crate::hash_allocations::followed;
 use crate::holds;
 use crate::laws::HASH;
-use crate::verdicts::mcf_verdict;
+use crate::verdicts::is_mcf_verdict;
 use password_hash::mcf::alphabet::value;
 use password_hash::{Error, mcf};
 use scrypt::laws::texts_have_one_reading;
+use std::alloc::Global;
 use std::str;
 use std::test::Fail;
 
@@ -16,28 +17,49 @@ const KEY_AT: usize = 15;
 // The lengths of the beginnings that are hashes of shorter keys.
 const SHORTER_KEYS: [usize; 14] = [19, 23, 25, 27, 31, 34, 35, 39, 43, 46, 47, 51, 55, 58];
 
+// The verdict by a beginning of this length.
+fn wanted_of_beginning(len: usize) -> Result<(), Error> {
+    if len == KEY_AT {
+        Err(Error::OutputSize)
+    } else if SHORTER_KEYS.contains(&len) {
+        Ok(())
+    } else {
+        Err(Error::EncodingInvalid)
+    }
+}
+
 #[test]
 fn beginnings(rt: HostRuntime) -> Result<(), Fail> {
     texts_have_one_reading();
     for len in 0..=58 {
         let beginning = HASH.get(..len).unwrap_or("");
-        let wanted = if len == KEY_AT {
-            Err(Error::OutputSize)
-        } else if SHORTER_KEYS.contains(&len) {
-            Ok(())
-        } else {
-            Err(Error::EncodingInvalid)
-        };
         holds(
             mcf::PasswordHashRef::new(beginning).is_ok() == (len > 1),
             "whether it is an MCF text",
         )?;
+        let wanted = wanted_of_beginning(len);
         holds(
-            mcf_verdict(rt.alloc(), beginning, b"")? == wanted,
+            is_mcf_verdict(rt.alloc(), beginning, b"", wanted),
             "its verdict",
         )?;
     }
     Ok(())
+}
+
+// The verdict by the hash with this byte in this place.
+fn wanted_of_replaced(at: usize, by: u8) -> Result<(), Error> {
+    match value(by) {
+        Some(value) if at < 57 || value < 16 => Err(Error::PasswordInvalid),
+        _ => Err(Error::EncodingInvalid),
+    }
+}
+
+// Whether these bytes are a text with this verdict.
+fn is_verdict_of(alloc: Global, bytes: &[u8], wanted: Result<(), Error>) -> bool {
+    match str::from_utf8(bytes) {
+        Ok(text) => is_mcf_verdict(alloc, text, b"", wanted),
+        Err(_) => false,
+    }
 }
 
 #[test]
@@ -53,14 +75,8 @@ fn each_character_of_a_key_replaced(rt: HostRuntime) -> Result<(), Fail> {
                 continue;
             }
             letters[at] = by;
-            let wanted = match value(by) {
-                Some(value) if at < 57 || value < 16 => Err(Error::PasswordInvalid),
-                _ => Err(Error::EncodingInvalid),
-            };
-            holds(
-                mcf_verdict(rt.alloc(), str::from_utf8(&letters)?, b"")? == wanted,
-                "its verdict",
-            )?;
+            let wanted = wanted_of_replaced(at, by);
+            holds(is_verdict_of(rt.alloc(), &letters, wanted), "its verdict")?;
             texts = texts.saturating_add(1);
         }
         letters[at] = letter;
@@ -70,7 +86,7 @@ fn each_character_of_a_key_replaced(rt: HostRuntime) -> Result<(), Fail> {
 
 // A `$7$` text without what comes a million times after it, how many fields it has, how long they are together, the verdict,
 // and the reason for the row.
-const MILLIONS: [(&str, &str, usize, usize, Error, &str); 2] = [
+static MILLIONS: [(&str, &str, usize, usize, Error, &str); 2] = [
     (
         "$7$2/..../....$",
         ".",
@@ -89,20 +105,26 @@ const MILLIONS: [(&str, &str, usize, usize, Error, &str); 2] = [
     ),
 ];
 
+// Whether a text has so many fields that are together so long.
+fn has_fields(text: &str, wanted: usize, wanted_len: usize) -> bool {
+    let Ok(hash) = mcf::PasswordHashRef::new(text) else {
+        return false;
+    };
+    let (mut fields, mut len) = (0usize, 0usize);
+    for field in hash.fields() {
+        fields = fields.saturating_add(1);
+        len = len.saturating_add(field.as_str().len());
+    }
+    fields == wanted && len == wanted_len
+}
+
 #[test]
 fn a_million_letters(rt: HostRuntime) -> Result<(), Fail> {
-    for &(first, letter, wanted, wanted_len, error, reason) in &MILLIONS {
+    for &(first, letter, fields, len, error, reason) in &MILLIONS {
         let text = followed(rt.alloc(), first, letter, 1_000_000)?;
-        let (mut fields, mut len) = (0usize, 0usize);
-        for field in mcf::PasswordHashRef::new(text.as_str())?.fields() {
-            fields = fields.saturating_add(1);
-            len = len.saturating_add(field.as_str().len());
-        }
-        holds(fields == wanted && len == wanted_len, reason)?;
-        holds(
-            mcf_verdict(rt.alloc(), text.as_str(), b"")? == Err(error),
-            reason,
-        )?;
+        holds(has_fields(text.as_str(), fields, len), reason)?;
+        let is_refused = is_mcf_verdict(rt.alloc(), text.as_str(), b"", Err(error));
+        holds(is_refused, reason)?;
     }
     Ok(())
 }

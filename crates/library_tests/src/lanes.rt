@@ -51,19 +51,28 @@ fn cores() -> Result<(), Fail> {
     Ok(())
 }
 
-// The plain block mix of the first 2 * r blocks, with r from 1 to 5. The SIMD block mix of these words in diagonal order has to
-// give the same, and to leave its input unchanged.
-fn mixed(words: &[u32; 160], r: usize) -> Result<[u32; 160], Fail> {
-    let (len, mut cores) = (32 * r.clamp(1, 5), CoreCount::new());
-    let (mut input, mut wanted, mut output, mut again) = (*words, [0; 160], [0; 160], [0; 160]);
-    plain::scrypt_block_mix(&input[..len], &mut wanted[..len], &mut cores);
+// The plain block mix of the first 2 * r blocks, with r from 1 to 5.
+fn mixed_by_words(words: &[u32; 160], r: usize) -> [u32; 160] {
+    let (len, mut output) = (32 * r.clamp(1, 5), [0; 160]);
+    plain::scrypt_block_mix(&words[..len], &mut output[..len], &mut CoreCount::new());
+    output
+}
+
+// The SIMD block mix of these words in diagonal order, and its input afterwards, both in the standard's order again.
+fn mixed_by_lanes(words: &[u32; 160], r: usize) -> ([u32; 160], [u32; 160]) {
+    let (len, mut input, mut output) = (32 * r.clamp(1, 5), *words, [0; 160]);
     shuffle_in(&mut input);
-    lanes::scrypt_block_mix(&input[..len], &mut output[..len], &mut cores);
+    lanes::scrypt_block_mix(&input[..len], &mut output[..len], &mut CoreCount::new());
     shuffle_out(&mut input);
     shuffle_out(&mut output);
-    plain::scrypt_block_mix(&input[..len], &mut again[..len], &mut cores);
+    (output, input)
+}
+
+// The plain block mix. The SIMD block mix has to give the same, and to leave its input unchanged.
+fn mixed(words: &[u32; 160], r: usize) -> Result<[u32; 160], Fail> {
+    let (wanted, (output, input)) = (mixed_by_words(words, r), mixed_by_lanes(words, r));
     holds(output == wanted, "the SIMD block mix")?;
-    holds(again == wanted, "its input afterwards")?;
+    holds(mixed_by_words(&input, r) == wanted, "its input afterwards")?;
     Ok(wanted)
 }
 
@@ -107,7 +116,7 @@ fn ten_block_mixes_of_sums() -> Result<(), Fail> {
 }
 
 // log_n, the low log_n bits of a last block that begins with 5 and 3, and the reason for the row.
-const INDICES: [(u8, usize, &str); 4] = [
+static INDICES: [(u8, usize, &str); 4] = [
     (0, 0, "no bit"),
     (4, 5, "bits of the first word"),
     (33, 4_294_967_301, "a bit of the second word"),

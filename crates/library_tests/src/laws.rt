@@ -1,11 +1,12 @@
 // The laws on keys and hashes whose values are known: what a law states is computed too.
 
-use crate::holds;
+use crate::{holds, is};
 use password_hash::{PasswordHasher, PasswordVerifier, mcf};
 use scrypt::laws::{
     made_hashes_are_accepted, shorter_key_is_prefix, zero_byte_and_digest_passwords_collide,
 };
 use scrypt::{Kdf, Params, Scrypt, scrypt};
+use std::alloc::Global;
 use std::test::Fail;
 
 // RFC 7914, section 12, the first key.
@@ -35,7 +36,7 @@ const DIGEST: [u8; 32] = [
 ];
 
 // Two passwords, and the first 16 bytes of their key by Python's hashlib.
-const SAME_KEYS: [(&[u8], &[u8], u128, &str); 2] = [
+static SAME_KEYS: [(&[u8], &[u8], u128, &str); 2] = [
     (
         b"aaaaaaaaaaaaaaaaaaaaaaaaaaaaaaaaaaaaaaaaaaaaaaaaaaaaaaaaaaaaaaa",
         b"aaaaaaaaaaaaaaaaaaaaaaaaaaaaaaaaaaaaaaaaaaaaaaaaaaaaaaaaaaaaaaa\0",
@@ -50,14 +51,18 @@ const SAME_KEYS: [(&[u8], &[u8], u128, &str); 2] = [
     ),
 ];
 
+// A key at (4, 1, 1), without a salt.
+fn key_of(alloc: Global, password: &[u8]) -> Result<[u8; 64], Fail> {
+    let (params, mut key) = (Params::new(4, 1, 1)?, [0; 64]);
+    scrypt(alloc, password, b"", &params, &mut key)?;
+    Ok(key)
+}
+
 #[test]
 fn passwords_with_one_key(rt: HostRuntime) -> Result<(), Fail> {
     zero_byte_and_digest_passwords_collide();
-    let params = Params::new(4, 1, 1)?;
     for &(one, other, wanted, reason) in &SAME_KEYS {
-        let (mut key, mut same) = ([0; 64], [0; 64]);
-        scrypt(rt.alloc(), one, b"", &params, &mut key)?;
-        scrypt(rt.alloc(), other, b"", &params, &mut same)?;
+        let (key, same) = (key_of(rt.alloc(), one)?, key_of(rt.alloc(), other)?);
         let mut first = [0; 16];
         first.copy_from_slice(&key[..16]);
         holds(key == same && u128::from_be_bytes(first) == wanted, reason)?;
@@ -73,7 +78,7 @@ fn a_made_hash_is_accepted(rt: HostRuntime) -> Result<(), Fail> {
     made_hashes_are_accepted();
     let hasher = Scrypt::from(Params::new(4, 1, 1)?);
     let made: mcf::PasswordHash = hasher.hash_password_with_salt(rt.alloc(), b"", b"")?;
-    holds(made.as_str() == HASH, "the known hash")?;
+    holds(is(made.as_str(), HASH), "the known hash")?;
     holds(
         hasher.verify_password(rt.alloc(), b"", &made).is_ok(),
         "of its password",

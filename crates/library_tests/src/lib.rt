@@ -51,3 +51,9 @@ use std::test::Fail;
 fn holds(is_so: bool, text: &'static str) -> Result<(), Fail> {
     if is_so { Ok(()) } else { Err(text.into()) }
 }
+
+// Whether two texts are equal. `==` on texts is proved again in each function that has it.
+#[cfg(test)]
+fn is(made: &str, wanted: &str) -> bool {
+    made == wanted
+}

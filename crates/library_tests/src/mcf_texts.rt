@@ -1,6 +1,6 @@
 // Five-letter numbers, the parameters of `$7$` texts, crypt Base64, and MCF texts.
 
-use crate::holds;
+use crate::{holds, is};
 use password_hash::Error::{self, EncodingInvalid, ParamsInvalid};
 use password_hash::mcf::{self, Base64, PasswordHash, PasswordHashRef};
 use scrypt::mcf::{decode_params_and_salt, decode64_uint32, encode64_uint32};
@@ -9,7 +9,7 @@ use std::str;
 use std::test::Fail;
 
 // Numbers, their letters in the first five of six places, and the reason for the row.
-const NUMBERS: [(u32, [u8; 6], &str); 4] = [
+static NUMBERS: [(u32, [u8; 6], &str); 4] = [
     (32, *b"U....!", "libxcrypt's r"),
     (1, *b"/....!", "the lowest digit comes first"),
     (1_073_741_823, *b"zzzzz!", "the greatest number"),
@@ -17,7 +17,7 @@ const NUMBERS: [(u32, [u8; 6], &str); 4] = [
 ];
 
 // Letters, the number that is read, and the reason for the row.
-const READ: [(&[u8], Result<u32, Error>, &str); 4] = [
+static READ: [(&[u8], Result<u32, Error>, &str); 4] = [
     (b"U...E", Ok(268_435_488), "the fifth letter counts"),
     (b"zzzzz", Ok(1_073_741_823), "the greatest number"),
     (b"U....*", Ok(32), "what follows is not read"),
@@ -38,7 +38,7 @@ fn numbers_of_five_letters() -> Result<(), Fail> {
 }
 
 // Texts, the log_n, r, p and salt that are read, or the error, and the reason for the row.
-const PARAMS: [(&str, Result<(u8, u32, u32, &[u8]), Error>, &str); 11] = [
+static PARAMS: [(&str, Result<(u8, u32, u32, &[u8]), Error>, &str); 11] = [
     (
         "CU..../....Mq4YHD2syxYT.MsH1Ek0n1",
         Ok((14, 32, 1, b"Mq4YHD2syxYT.MsH1Ek0n1")),
@@ -99,7 +99,7 @@ fn no_letters_of_numbers() -> Result<(), Fail> {
 }
 
 // Texts, and their ids and fields.
-const TEXTS: [(&str, &str, &[&str]); 5] = [
+static TEXTS: [(&str, &str, &[&str]); 5] = [
     ("$7", "7", &[]),
     ("$7$", "7", &[""]),
     ("$7$a$$b", "7", &["a", "", "b"]),
@@ -114,7 +114,7 @@ fn ids_and_fields() -> Result<(), Fail> {
         for field in hash.fields() {
             holds(left.next() == Some(&field.as_str()), text)?;
         }
-        holds(hash.id() == id && left.next().is_none(), text)?;
+        holds(is(hash.id(), id) && left.next().is_none(), text)?;
     }
     for &text in &["", "$", "7", "$A$a", "$$a"] {
         let refused = PasswordHashRef::new(text).err();
@@ -123,18 +123,20 @@ fn ids_and_fields() -> Result<(), Fail> {
     Ok(())
 }
 
+// Whether a field with a dollar is refused.
+fn refuses_a_dollar(hash: &mut PasswordHash) -> bool {
+    hash.push_str("a$b") == Err(mcf::Error::EncodingInvalid)
+}
+
 #[test]
 fn pushes(rt: HostRuntime) -> Result<(), Fail> {
     let mut hash = PasswordHash::from_id(rt.alloc(), "7")?;
-    holds(hash.as_str() == "$7", "an id")?;
+    holds(is(hash.as_str(), "$7"), "an id")?;
     hash.push_str("")?;
-    holds(
-        hash.push_str("a$b") == Err(mcf::Error::EncodingInvalid),
-        "a dollar",
-    )?;
-    holds(hash.as_str() == "$7$", "an empty field")?;
+    holds(refuses_a_dollar(&mut hash), "a dollar")?;
+    holds(is(hash.as_str(), "$7$"), "an empty field")?;
     hash.push_base64(&[0xff, 0xff], Base64::Crypt)?;
-    holds(hash.as_str() == "$7$$zzD", "two bytes")
+    holds(is(hash.as_str(), "$7$$zzD"), "two bytes")
 }
 
 // The bytes of these letters, which a text and a field of a hash give alike.
@@ -149,7 +151,7 @@ fn decoded(alloc: Global, letters: &str) -> Result<mcf::Result<Vec<u8>>, Fail> {
 }
 
 // Bytes and their letters.
-const LETTERS: [(&[u8], &str); 8] = [
+static LETTERS: [(&[u8], &str); 8] = [
     (&[], ""),
     (&[0xff], "z1"),
     (&[0xff, 0xff], "zzD"),
@@ -164,7 +166,7 @@ const LETTERS: [(&[u8], &str); 8] = [
 ];
 
 // What are no letters of any bytes, and why.
-const NO_LETTERS: [(&str, &str); 4] = [
+static NO_LETTERS: [(&str, &str); 4] = [
     ("z", "a letter alone"),
     ("z2", "spare bits of one byte are set"),
     ("zzE", "spare bits of two bytes are set"),
@@ -175,7 +177,7 @@ const NO_LETTERS: [(&str, &str); 4] = [
 fn letters_of_bytes(rt: HostRuntime) -> Result<(), Fail> {
     for &(bytes, letters) in &LETTERS {
         let encoded = Base64::Crypt.encode_string(rt.alloc(), bytes)?;
-        holds(encoded.as_str() == letters, letters)?;
+        holds(is(encoded.as_str(), letters), letters)?;
         let decoded = decoded(rt.alloc(), letters)??;
         holds(decoded.as_slice() == bytes, letters)?;
     }

@@ -1,6 +1,6 @@
 // How many tables the calls allocate, and that they succeed at large sizes.
 
-use crate::holds;
+use crate::{holds, is};
 use password_hash::{PasswordHasher, PasswordVerifier, mcf};
 use scrypt::{CoreCount, Kdf, Params, Scrypt, scrypt, scrypt_in_groups};
 use std::fs;
@@ -15,7 +15,7 @@ const SCRATCH: usize = 2048;
 const CHUNKS: usize = 4096;
 
 // How many bytes the buffers may have, how many tables are then allocated, and the reason for the row.
-const TABLES: [(usize, usize, &str); 6] = [
+static TABLES: [(usize, usize, &str); 6] = [
     (0, 1, "one table for four chunks, in each call so far"),
     (
         2 * (TABLE + SCRATCH) + CHUNKS - 1,
@@ -36,7 +36,7 @@ fn most_memory(rt: &HostRuntime) -> Result<usize, Fail> {
         if is_next {
             return Ok(word.parse()?);
         }
-        is_next = word == "VmPeak:";
+        is_next = is(word, "VmPeak:");
     }
     Err("the system does not say".into())
 }
@@ -64,7 +64,7 @@ fn tables(rt: HostRuntime) -> Result<(), Fail> {
 }
 
 // Parameters, the length of a password, and the reason for the row.
-const LARGE: [((u8, u32, u32), usize, &str); 3] = [
+static LARGE: [((u8, u32, u32), usize, &str); 3] = [
     ((16, 8, 1), 0, "a table of 64 MiB"),
     ((1, 1, 1 << 20), 0, "2^20 chunks"),
     ((4, 1, 1), 10 << 20, "a password of 10 MiB"),

@@ -12,7 +12,7 @@ fn the_greatest() -> Result<(), Fail> {
 }
 
 // A length of a key, whether one of this length can be derived, and the reason for the row.
-const LENS: [(usize, bool, &str); 5] = [
+static LENS: [(usize, bool, &str); 5] = [
     (0, false, "no byte"),
     (1, true, "the least"),
     (137_438_953_440, true, "the greatest"),
@@ -21,7 +21,7 @@ const LENS: [(usize, bool, &str); 5] = [
 ];
 
 // The same of a key that is stored.
-const STORED_LENS: [(usize, bool, &str); 5] = [
+static STORED_LENS: [(usize, bool, &str); 5] = [
     (9, false, "too short"),
     (10, true, "the least"),
     (32, true, "the recommended one"),
@@ -44,7 +44,7 @@ fn lengths_of_keys() -> Result<(), Fail> {
 }
 
 // log_n, r and p, the lengths of the chunks, the table and the scratch, and the cores of a derivation.
-const NEEDS: [((u8, u32, u32), [usize; 3], u128); 6] = [
+static NEEDS: [((u8, u32, u32), [usize; 3], u128); 6] = [
     ((0, 1, 1), [128, 32, 64], 4),
     ((4, 1, 1), [128, 512, 64], 64),
     ((10, 8, 16), [16_384, 262_144, 512], 524_288),

@@ -1,13 +1,13 @@
 // PHC texts, their decimals and their parameters.
 
-use crate::holds;
+use crate::{holds, is};
 use password_hash::Error::{self, EncodingInvalid, ParamsInvalid};
 use password_hash::phc::{ParamsString, PasswordHash};
 use scrypt::Params;
 use std::test::Fail;
 
 // Parameters, the number that is read from `a`, and the reason for the row.
-const DECIMALS: [(&str, Result<u32, Error>, &str); 5] = [
+static DECIMALS: [(&str, Result<u32, Error>, &str); 5] = [
     ("a=0", Ok(0), "zero"),
     ("b=1,a=4294967295", Ok(4_294_967_295), "the greatest number"),
     ("a=00,b=1", Err(EncodingInvalid), "a leading zero"),
@@ -26,7 +26,7 @@ fn decimals() -> Result<(), Fail> {
 }
 
 // Parameters, the name that is added with the number 1, what they are then, the answer, and the reason for the row.
-const ADDED: [(&str, &str, &str, Result<(), Error>, &str); 6] = [
+static ADDED: [(&str, &str, &str, Result<(), Error>, &str); 6] = [
     ("x=0", "ln", "x=0,ln=1", Ok(()), "another name"),
     ("ln=1", "ln", "ln=1", Err(ParamsInvalid), "the same name"),
     (
@@ -58,7 +58,7 @@ fn added_parameters() -> Result<(), Fail> {
     for &(old, name, new, wanted, reason) in &ADDED {
         let mut params = ParamsString::parse(old)?;
         let added = params.add_decimal(name, 1);
-        holds(added == wanted && params.as_str() == new, reason)?;
+        holds(added == wanted && is(params.as_str(), new), reason)?;
     }
     Ok(())
 }
@@ -68,7 +68,7 @@ pub const HASH: &str =
     "$scrypt$ln=16,r=8,p=1$aM15713r3Xsvxbi31lqr1Q$nFNh2CVHVjNldFVKDHDlm4CbdRSCdEBsjjJxD+iCs5E";
 
 // Texts that print as they were read, and the reason for the row. `ci/hashes.py` has texts that are refused.
-const PRINTED: [(&str, &str); 6] = [
+static PRINTED: [(&str, &str); 6] = [
     (HASH, "a whole one"),
     ("$scrypt", "the algorithm alone"),
     ("$scrypt$v=0", "the least version"),
@@ -90,7 +90,7 @@ const PRINTED: [(&str, &str); 6] = [
 fn printed_texts(rt: HostRuntime) -> Result<(), Fail> {
     for &(text, reason) in &PRINTED {
         let printed = PasswordHash::new(text)?.to_string(rt.alloc())?;
-        holds(printed.as_str() == text, reason)?;
+        holds(is(printed.as_str(), text), reason)?;
     }
     Ok(())
 }
@@ -102,5 +102,5 @@ fn parameters_of_a_hash() -> Result<(), Fail> {
     holds(Params::try_from(&hash) == Ok(params), "with its length")?;
     holds(params != Params::new(16, 8, 1)?, "which is compared")?;
     let written = ParamsString::try_from(&params)?;
-    holds(written.as_str() == "ln=16,r=8,p=1", "without it")
+    holds(is(written.as_str(), "ln=16,r=8,p=1"), "without it")
 }

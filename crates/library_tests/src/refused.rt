@@ -14,7 +14,7 @@ pub const MCF: &str =
     "$7$CU..../....Mq4YHD2syxYT.MsH1Ek0n1$JyHIxez0DOwm0r6.kAIohc8UFBOLU4xX8a1wGBpLrw7";
 
 // Texts and the error of verifying them, with every allocation refused, and the reason for the row.
-const REFUSED: [(&str, Error, &str); 10] = [
+static REFUSED: [(&str, Error, &str); 10] = [
     (
         "$8$CU..../....Mq4YHD2syxYT.MsH1Ek0n1$JyHIxez0DOwm0r6.kAIohc8UFBOLU4xX8a1wGBpLrw7",
         Error::Algorithm,
@@ -73,7 +73,7 @@ fn errors_without_memory(rt: HostRuntime) -> Result<(), Fail> {
 }
 
 // A text, the wanted log_n, r, p and length, or 0 for none, whether it is weaker, and the reason for the row.
-const WEAKER: [(&str, (u8, u32, u32), usize, Result<bool, Error>, &str); 14] = [
+static WEAKER: [(&str, (u8, u32, u32), usize, Result<bool, Error>, &str); 14] = [
     (PHC, (17, 8, 1), 0, Ok(true), "the recommended parameters"),
     (PHC, (16, 8, 1), 0, Ok(false), "its own"),
     (PHC, (15, 8, 1), 0, Ok(false), "lower ones"),

@@ -6,9 +6,9 @@ use scrypt::romix::{plain_ro_mix, scrypt_ro_mix, thin_ro_mix};
 use std::alloc::Global;
 use std::test::Fail;
 
-// The bytes with the first 128 * r of them mixed in the standard's order of words, with r from 1 to 4 and log_n up to 6. The
-// diagonal order has to give the same. All buffers hold `word`.
-fn mixed(
+// The bytes with the first 128 * r of them mixed in the diagonal order of words, with r from 1 to 4 and log_n up to 6. All
+// buffers hold `word`.
+fn mixed_by_diagonals(
     alloc: Global,
     bytes: &[u8; 512],
     log_n: u8,
@@ -16,8 +16,7 @@ fn mixed(
     word: u32,
 ) -> Result<[u8; 512], Fail> {
     let (log_n, r, mut cores) = (log_n.min(6), r.clamp(1, 4), CoreCount::new());
-    let (len, words) = (128 * r, 64 * r);
-    let (mut plain, mut output, mut scratch) = (*bytes, *bytes, [word; 256]);
+    let (len, words, mut output, mut scratch) = (128 * r, 64 * r, *bytes, [word; 256]);
     let mut table = vec![in alloc; word; (1usize << log_n) * (32 * r)]?;
     scrypt_ro_mix(
         &mut output[..len],
@@ -26,8 +25,21 @@ fn mixed(
         log_n,
         &mut cores,
     );
-    table.fill(word);
-    scratch.fill(word);
+    Ok(output)
+}
+
+// The same in the standard's order of words, which has to give the same.
+fn mixed(
+    alloc: Global,
+    bytes: &[u8; 512],
+    log_n: u8,
+    r: usize,
+    word: u32,
+) -> Result<[u8; 512], Fail> {
+    let by_diagonals = mixed_by_diagonals(alloc, bytes, log_n, r, word)?;
+    let (log_n, r, mut cores) = (log_n.min(6), r.clamp(1, 4), CoreCount::new());
+    let (len, words, mut plain, mut scratch) = (128 * r, 64 * r, *bytes, [word; 256]);
+    let mut table = vec![in alloc; word; (1usize << log_n) * (32 * r)]?;
     plain_ro_mix(
         &mut plain[..len],
         &mut table,
@@ -35,7 +47,7 @@ fn mixed(
         log_n,
         &mut cores,
     );
-    holds(plain == output, "in both orders")?;
+    holds(plain == by_diagonals, "in both orders")?;
     Ok(plain)
 }
 

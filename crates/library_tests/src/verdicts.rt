@@ -16,20 +16,32 @@ fn phc_verdict(alloc: Global, text: &str, password: &[u8]) -> Result<(), Error> 
     Scrypt::new().verify_password(alloc, password, &hash)
 }
 
-// The verdict by a `$7$` text, borrowed and owned alike.
-pub fn mcf_verdict(alloc: Global, text: &str, password: &[u8]) -> Result<Result<(), Error>, Fail> {
-    let scrypt = Scrypt::new();
-    let borrowed = match mcf::PasswordHashRef::new(text) {
-        Ok(hash) => scrypt.verify_password(alloc, password, &hash),
+// The verdict by a borrowed `$7$` text.
+fn borrowed_verdict(alloc: Global, text: &str, password: &[u8]) -> Result<(), Error> {
+    match mcf::PasswordHashRef::new(text) {
+        Ok(hash) => Scrypt::new().verify_password(alloc, password, &hash),
         Err(_) => Err(EncodingInvalid),
-    };
-    let owned = match mcf::PasswordHash::new(alloc, text) {
-        Ok(hash) => scrypt.verify_password(alloc, password, &hash),
+    }
+}
+
+// The verdict by an owned copy of a `$7$` text.
+fn owned_verdict(alloc: Global, text: &str, password: &[u8]) -> Result<(), Error> {
+    match mcf::PasswordHash::new(alloc, text) {
+        Ok(hash) => Scrypt::new().verify_password(alloc, password, &hash),
         Err(mcf::Error::EncodingInvalid) => Err(EncodingInvalid),
         Err(mcf::Error::OutOfMemory) => Err(OutOfMemory),
-    };
-    holds(owned == borrowed, "the owned hash has another verdict")?;
-    Ok(borrowed)
+    }
+}
+
+// Whether the verdict by a `$7$` text, borrowed and owned alike, is this.
+pub fn is_mcf_verdict(
+    alloc: Global,
+    text: &str,
+    password: &[u8],
+    wanted: Result<(), Error>,
+) -> bool {
+    borrowed_verdict(alloc, text, password) == wanted
+        && owned_verdict(alloc, text, password) == wanted
 }
 
 // passlib's parameters, salt and key, of `password`.
@@ -46,7 +58,7 @@ const LN: Error = ParamInvalid { name: "ln" };
 const R: Error = ParamInvalid { name: "r" };
 
 // Other parameters, the verdict on `password`, and the reason for the row.
-const CHANGED: [(&str, Result<(), Error>, &str); 11] = [
+static CHANGED: [(&str, Result<(), Error>, &str); 11] = [
     ("scrypt$ln=16", Ok(()), "the others are recommended"),
     ("scrypt$p=1,r=8,ln=16", Ok(()), "another order"),
     ("scrypt$v=1$ln=16,r=8,p=1", Err(Version), "a version"),
@@ -61,33 +73,38 @@ const CHANGED: [(&str, Result<(), Error>, &str); 11] = [
 ];
 
 // What follows the salt, a password, the verdict, and the reason for the row.
-const KEYS: [(&str, &str, Result<(), Error>, &str); 4] = [
+static KEYS: [(&str, &str, Result<(), Error>, &str); 4] = [
     (KEY, "password", Ok(()), "the password"),
     (KEY, "invalid", Err(PasswordInvalid), "another one"),
     (LAST_LETTER, "password", Err(EncodingInvalid), "spare bits"),
     ("", "password", Err(PasswordInvalid), "no key"),
 ];
 
-// The verdict by a text of these parameters, this salt and this key.
-fn verdict_by(
+// Whether the verdict by a text of these parameters, this salt and this key is the wanted one.
+fn is_verdict_by(
     alloc: Global,
     params: &str,
     key: &str,
-    password: &[u8],
-) -> Result<Result<(), Error>, Fail> {
+    password: &str,
+    wanted: Result<(), Error>,
+) -> Result<bool, Fail> {
     let text = format!(in alloc; "${params}${SALT}{key}")?;
-    Ok(phc_verdict(alloc, text.as_str(), password))
+    Ok(phc_verdict(alloc, text.as_str(), password.as_bytes()) == wanted)
 }
 
 #[test]
 fn by_phc_hashes(rt: HostRuntime) -> Result<(), Fail> {
     for &(params, wanted, reason) in &CHANGED {
-        let verdict = verdict_by(rt.alloc(), params, KEY, b"password")?;
-        holds(verdict == wanted, reason)?;
+        holds(
+            is_verdict_by(rt.alloc(), params, KEY, "password", wanted)?,
+            reason,
+        )?;
     }
     for &(key, password, wanted, reason) in &KEYS {
-        let verdict = verdict_by(rt.alloc(), PARAMS, key, password.as_bytes())?;
-        holds(verdict == wanted, reason)?;
+        holds(
+            is_verdict_by(rt.alloc(), PARAMS, key, password, wanted)?,
+            reason,
+        )?;
     }
     Ok(())
 }
@@ -111,7 +128,7 @@ const LONGER: &str = "rNxJWVHNv/mCNcgE/f6/L4zO6Fos5c2uTzhyzoisI62z";
 const LETMEIN: &str = "pleaseletmein";
 
 // The first field of a `$7$` text and the second, a password, the verdict, and the reason for the row.
-const FIELDS: [(&str, &str, &str, Result<(), Error>, &str); 14] = [
+static FIELDS: [(&str, &str, &str, Result<(), Error>, &str); 14] = [
     (MADE, MADE_KEY, LETMEIN, Ok(()), "the password"),
     (MADE, MADE_KEY, "bogus", Err(PasswordInvalid), "another one"),
     (MADE, OTHER_KEY, LETMEIN, Err(PasswordInvalid), "its key"),
@@ -128,22 +145,12 @@ const FIELDS: [(&str, &str, &str, Result<(), Error>, &str); 14] = [
     ("t/..../....", "r/", "", Err(ParamsInvalid), "log_n is 57"),
 ];
 
-// The verdict by a text of these fields.
-fn verdict_of(
-    alloc: Global,
-    first: &str,
-    second: &str,
-    password: &[u8],
-) -> Result<Result<(), Error>, Fail> {
-    let text = format!(in alloc; "$7${first}${second}")?;
-    mcf_verdict(alloc, text.as_str(), password)
-}
-
 #[test]
 fn by_mcf_hashes(rt: HostRuntime) -> Result<(), Fail> {
     for &(first, second, password, wanted, reason) in &FIELDS {
-        let verdict = verdict_of(rt.alloc(), first, second, password.as_bytes())?;
-        holds(verdict == wanted, reason)?;
+        let text = format!(in rt.alloc(); "$7${first}${second}")?;
+        let is_wanted = is_mcf_verdict(rt.alloc(), text.as_str(), password.as_bytes(), wanted);
+        holds(is_wanted, reason)?;
     }
     Ok(())
 }
