@@ -131,9 +131,9 @@ FAULTS = [
     *((place.format(greatest + 1), "", 2, USAGE, "a number above its range") for place, greatest in GREATEST),
     *((place.format(greatest), "", 2, "invalid scrypt parameters", "the greatest number")
       for place, greatest in GREATEST if place != "key 4 1 1 {} "),
-    *((f"key {params} 32 ", "", 2, "invalid scrypt parameters", reason) for params, reason in NOT_ACCEPTED.items()),
-    *((f"hash {form} 4 1 1 00 {it}", "", 2, "invalid scrypt parameters", "a stored key has 10 to 64 bytes")
-      for form in ("phc", "mcf") for it in (0, 9, 65)),
+    *((f"key {params} 64 ", "", 2, "invalid scrypt parameters", reason) for params, reason in NOT_ACCEPTED.items()),
+    *((f"hash {form} {it}", "", 2, "invalid scrypt parameters", "a stored key has 10 to 64 bytes")
+      for form in ("phc 4 1 1 00", "mcf 4 1 1 ") for it in (0, 9, 65)),
     *((f"rehash mcf 4 1 1 {it}  {EMPTY}", "", 2, "invalid scrypt parameters", "the same") for it in (0, 9, 65)),
     *((f"key 4 1 1 {it} ", "", 2, "invalid output buffer length", "a key has 1 to 137438953440 bytes")
       for it in (0, 137438953441, 137438953471, 18446744073709551615)),
