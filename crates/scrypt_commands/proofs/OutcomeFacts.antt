@@ -90,6 +90,12 @@ status_cases InputFailed = inr (inl refl)
 status_cases OutputFailed = inr (inl refl)
 status_cases refused = inr (inr refl)
 
+-- an error of status 4 other than `InputFailed` is `OutputFailed`
+pub output_failed : (error : CliError) → status_of error ≡ 4 → ¬ (error ≡ InputFailed) → error ≡ OutputFailed
+output_failed InputFailed is other = absurd (other refl)
+output_failed OutputFailed is other = refl
+output_failed others is other = absurd cc
+
 -- the outcome of a run that ends without a line
 pub end_outcome : (reply_on : List ℕ → Result Reply ErrorLine) (known old new faults faults' : Option (List ℕ)) (ended : Ended) (error : CliError)
     → ended.status ≡ status_of error → (error ≡ OutputFailed) ⊎ Keeps old new

@@ -1,5 +1,5 @@
 -- How a run goes: what it prints, and what it reads and writes.
-use Rattle.std.specs.Prelude.{◌≡◌, ◌⊎◌, ℕ, Bool, false, true, if◌then◌else◌, List, [], Option, Result, Ok, Err, IfSome, IsTrue, ⊤}
+use Rattle.std.specs.Prelude.{◌≡◌, ◌⊎◌, ℕ, Bool, false, true, if◌then◌else◌, List, [], take, Option, Result, Ok, Err, IfSome, IsTrue, ⊤}
 use Rattle.std.specs.Bool.{then_some}
 use Rattle.std.specs.Result.{is_err}
 use Rattle.std.specs.Io.KnownBytes.{Appends, IsAtEnd, Keeps}
@@ -58,6 +58,10 @@ IsAnswer status = (status ≡ 0) ⊎ (status ≡ 1)
 abbrev pub Tells : Ended → Streams → Streams → List ℕ → Type 0
 Tells ended before after line = IsTrue ended.fault_told → Appends before.faults after.faults line
 
+-- the first bytes of this line were appended, perhaps none or all of them
+abbrev pub AppendsBeginning : Option (List ℕ) → Option (List ℕ) → List ℕ → Type 0
+AppendsBeginning old new line = (n : ℕ) × Appends old new (take n line)
+
 -- what is printed at once is never out of memory: a text is written or `output failed`, and an error has its status
 abbrev pub EndsUnread : Invocation → Ended → Type 0
 EndsUnread (Tell text) ended = ((ended.status ≡ 0) ⊎ (ended.status ≡ 4)) × ¬ IsTrue ended.input_failed
@@ -76,6 +80,8 @@ pub record IsRun (plan : Plan) (before after : Streams) (ended : Ended) : Type 0
   pub failed : ended.status ≡ 4 → Tells ended before after (error_line (if ended.input_failed then InputFailed else OutputFailed))
   pub input_failed : IsTrue ended.input_failed → ended.status ≡ 4
   pub nothing : (ended.status ≡ 2) ⊎ (ended.status ≡ 3) ⊎ IsTrue ended.input_failed → Keeps before.output after.output
+  pub begun : ended.status ≡ 4 → ended.input_failed ≡ false
+      → OnInput before.input (λ input. AppendsBeginning before.output after.output (plan.outcome_on input).line)
   pub unread : plan.is_unread ≡ true → Keeps before.input after.input
   pub read : plan.is_unread ≡ false → IsAnswer ended.status ⊎ (ended.status ≡ 2) ⊎ ((ended.status ≡ 4) × (ended.input_failed ≡ false))
       → IsAtEnd after.input

@@ -6,8 +6,8 @@ ghost use Rattle.scrypt_commands.specs.CliError.{error_line, status_of};
 ghost use Rattle.scrypt_commands.specs.Command.{request_of};
 ghost use Rattle.scrypt_commands.specs.Invocation.{line_view};
 ghost use Rattle.scrypt_commands.specs.Options.{texts_of};
-ghost use Rattle.scrypt_commands.specs.Outcome.{reply_by};
-ghost use Rattle.scrypt_commands.specs.Run.{IsAnswer, IsRun, OnInput, plan_by, plan_of_words};
+ghost use Rattle.scrypt_commands.specs.Outcome.{outcome, reply_by};
+ghost use Rattle.scrypt_commands.specs.Run.{AppendsBeginning, IsAnswer, IsRun, OnInput, plan_by, plan_of_words};
 ghost use Rattle.scrypt_commands.specs.Steps.{AppendsReply};
 ghost use Rattle.scrypt_commands.specs.declared.error.CliError.TheVariants.{InputFailed, OutOfMemory, OutputFailed};
 
@@ -17,7 +17,7 @@ use crate::error::CliError;
 use crate::options::NONE;
 use scrypt::CoreCount;
 use std::alloc::Global;
-use std::io::{Read, Write};
+use std::io::{ErrorKind, Read, Write};
 
 /// How a run ended.
 #[derive(Clone, Copy, Debug, PartialEq, Eq)]
@@ -34,11 +34,12 @@ pub struct Ended {
 /// limits.
 ///
 /// Parses the words, reads the whole input, which is the password, computes the line of the outcome, and
-/// writes this line by one `write_all` and one flush. The status is 0 after the line was written, or 1 if
-/// the line is `no`. It is 2 if the words are refused, and then the input is not read, or if hashing
-/// or verifying refuses. It is 3 if an allocation failed, and 4 if the input or the output failed.
-/// Only on `output failed` may a part of the line have been written. The error line is written to
-/// `faults` by one `write_all`; if that fails, the status stays the same.
+/// writes this line, by one write if the output takes all of it, and flushes once. The status is 0 after the
+/// line was written, or 1 if the line is `no`. It is 2 if the words are refused, and then the input is not
+/// read, or if hashing or verifying refuses. It is 3 if an allocation failed, and 4 if the input or the
+/// output failed. On `output failed` the first bytes of the line were written, perhaps none or all of them,
+/// and nothing else. The error line is written to `faults` by one `write_all`; if that fails, the status
+/// stays the same.
 pub fn run<R: Read, W: Write, F: Write>(
     alloc: Global,
     words: &[String],
@@ -95,6 +96,8 @@ fn execute<R: Read, W: Write>(
         ⊎ IsErr (request_of (line_view line.entry)) ⊎ IsAtEnd (R.remaining reader.new)) }
     ensures nothing { IfErr result (λ error. (error ≡ OutputFailed)
         ⊎ Keeps (W.contents writer.old) (W.contents writer.new)) }
+    ensures begun { IfErr result (λ error. error ≡ OutputFailed → OnInput (R.remaining reader.old) (λ input.
+        AppendsBeginning (W.contents writer.old) (W.contents writer.new) (outcome (reply_by (line_view line.entry) input)).line)) }
     ensures refused { IsErr (request_of (line_view line.entry))
         → IfErr result (λ error. (error ≡ OutOfMemory) ⊎ (status_of error ≡ 2))
         × IsErr result × Keeps (R.remaining reader.old) (R.remaining reader.new) }
@@ -132,15 +135,30 @@ fn read_all<R: Read>(alloc: Global, reader: &mut R) -> Result<Vec<u8>, CliError>
     Err(CliError::InputFailed)
 }
 
-/// Writes the whole line at once, and flushes it.
+/// Writes the line, by one write if the writer takes all of it, and flushes it. An interrupted write is repeated.
+///
+/// `write_all` of std would do, but promises nothing about what it wrote before an error.
 pub(crate) fn write_line<W: Write>(writer: &mut W, line: &[u8]) -> Result<(), CliError>
     ensures ok { OnOk result (Appends (W.contents writer.old) (W.contents writer.new) line.now) }
+    ensures begun { AppendsBeginning (W.contents writer.old) (W.contents writer.new) line.now }
     ensures err { IfErr result (λ error. error ≡ OutputFailed) }
 {
-    if writer.write_all(line).is_err() || writer.flush().is_err() {
-        return Err(CliError::OutputFailed);
+    let mut rest = line;
+    'writes: for _ in 0..u64::MAX {
+        if rest.is_empty() {
+            return writer.flush().map_err(|_| CliError::OutputFailed);
+        }
+        match writer.write(rest) {
+            Ok(0) => return Err(CliError::OutputFailed),
+            Ok(n) => rest = &rest[n..],
+            Err(error) => {
+                if error.kind() != ErrorKind::Interrupted {
+                    return Err(CliError::OutputFailed);
+                }
+            }
+        }
     }
-    Ok(())
+    Err(CliError::OutputFailed)
 }
 
 /// Ends the run with this status, after its line was written.
