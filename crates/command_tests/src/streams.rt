@@ -177,7 +177,7 @@ const INPUTS: [(&str, Kind, &str); 9] = [
     (REHASH, (1, INTERRUPTED), "and one error"),
 ];
 
-const ENDS: [Row<'static>; 8] = [
+const ENDS: [Row<'static>; 9] = [
     (
         "key 4 1 1 16 ",
         [(1_999_999, None), ALL, ALL],
@@ -201,6 +201,14 @@ const ENDS: [Row<'static>; 8] = [
         4,
         ["", OUTPUT_FAILED],
         "a new hash that is not taken",
+    ),
+    (
+        VERIFY,
+        [INPUT, (1, INTERRUPTED), ALL],
+        (0, false, true),
+        4,
+        ["ok\n^", ""],
+        "an interrupted write is repeated",
     ),
     (
         "verify $scrypt$",
