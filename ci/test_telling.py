@@ -28,7 +28,7 @@ class Telling(unittest.TestCase):
         """The command ends too, even if the interrupt does not reach it."""
         own = signal.signal(signal.SIGINT, signal.default_int_handler)
         self.addCleanup(signal.signal, signal.SIGINT, own)
-        self.assertEqual(telling.run(["sh", "-c", "kill -INT $PPID; exec sleep 30"], grace=0.5), 130)
+        self.assertEqual(telling.run(["sh", "-c", "sleep 1; kill -INT $PPID; exec sleep 30"], grace=0.5), 130)
         self.assertNotIn((os.getpid(), ["sleep", "30", ""]), telling.processes().values())
 
 

@@ -177,7 +177,7 @@ const INPUTS: [(&str, Kind, &str); 9] = [
     (REHASH, (1, INTERRUPTED), "and one error"),
 ];
 
-const ENDS: [Row<'static>; 9] = [
+const ENDS: [Row<'static>; 10] = [
     (
         "key 4 1 1 16 ",
         [(1_999_999, None), ALL, ALL],
@@ -185,6 +185,17 @@ const ENDS: [Row<'static>; 9] = [
         2_000_000,
         ["6d2a4ebafb0d1dbdd84a749eb3eceaf2\n^", ""],
         "the key of 2,000,000 reads, by hashlib",
+    ),
+    (
+        KEY,
+        [(0, None), ALL, ALL],
+        (0, false, true),
+        1,
+        [
+            "77d6576238657b203b19ca42c18a0497f16b4844e3074ae8dfdffa3fede21442fcd0069ded0948f8326a753a0fc81f17e8d3e0fb2e0d3628cf35e20c38d18906\n^",
+            "",
+        ],
+        "the first key of RFC 7914, a byte a write",
     ),
     (
         KEY,

@@ -48,6 +48,7 @@ fn keys_by_thin_tables(rt: HostRuntime) -> Result<(), Fail> {
     let (alloc, mut cores) = (rt.alloc(), CoreCount::new());
     let (params, mut key) = (Params::new(4, 1, 1)?, [0; 64]);
     for s in 0..5 {
+        key = [0; 64];
         key_in_a_thin_table(alloc, b"", b"", &params, s, &mut key, &mut cores)?;
         holds(key == KEY, "the first key")?;
     }

@@ -1,7 +1,7 @@
 // The calls that can run out of memory, once each, and the texts of errors, which no clause gives. Which texts are made,
 // verified and refused is in `ci/hashes.py` and `ci/program.py`, which ask the built programs.
 
-use crate::refused::MCF;
+use crate::refused::{MCF, params_of};
 use crate::{holds, is};
 use password_hash::mcf::Base64;
 use password_hash::{
@@ -101,18 +101,117 @@ fn hashes_by_default(rt: HostRuntime) -> Result<(), Fail> {
     Ok(())
 }
 
-// libxcrypt's hash, from the bytes that the letters of its salt decode to.
+// The letters of a salt, a password, log_n, r and p, the length of the key or 0 for none, the hash, and the reason for the row.
+static MCF_HASHES: [(&str, &str, (u8, u32, u32), usize, &str, &str); 5] = [
+    (
+        "Mq4YHD2syxYT.MsH1Ek0n1",
+        "pleaseletmein",
+        (14, 32, 1),
+        0,
+        MCF,
+        "libxcrypt's",
+    ),
+    (
+        "Mq4YHD2syxYT.MsH1Ek0n1",
+        "pleaseletmein",
+        (14, 32, 1),
+        10,
+        "$7$CU..../....Mq4YHD2syxYT.MsH1Ek0n1$JyHIxez0DOwm01",
+        "the shortest key",
+    ),
+    (
+        "",
+        "",
+        (4, 1, 1),
+        0,
+        "$7$2/..../....$rNxJWVHNv/mCNcgE/f6/L4zO6Fos5c2uTzhyzoisI62",
+        "no password and no salt",
+    ),
+    (
+        "",
+        "",
+        (4, 1, 1),
+        10,
+        "$7$2/..../....$rNxJWVHNv/mCN.",
+        "the same, of 10 bytes",
+    ),
+    (
+        "",
+        "",
+        (4, 1, 1),
+        64,
+        "$7$2/..../....$rNxJWVHNv/mCNcgE/f6/L4zO6Fos5c2uTzhyzoisI62zEPEbhb.Gs9XOpdn16zl3cDBsvvG1qUmnp6C1s2RW4.",
+        "the same, of 64 bytes",
+    ),
+];
+
+// Hashes a password with the bytes that these letters of a salt decode to.
+fn mcf_hash(
+    alloc: Global,
+    letters: &str,
+    password: &str,
+    params: Params,
+) -> Result<mcf::PasswordHash, Fail> {
+    let salt = Base64::Crypt.decode_vec(alloc, letters)?;
+    Ok(Scrypt::new().hash_password_with_params(alloc, password.as_bytes(), &salt, params)?)
+}
+
 #[test]
-fn a_known_mcf_hash(rt: HostRuntime) -> Result<(), Fail> {
-    let (alloc, params) = (rt.alloc(), Params::new(14, 32, 1)?);
-    let salt = Base64::Crypt.decode_vec(alloc, "Mq4YHD2syxYT.MsH1Ek0n1")?;
-    let made: mcf::PasswordHash = Scrypt::new().hash_password_with_params(
-        alloc,
-        b"pleaseletmein",
-        &salt,
-        params,
-    )?;
-    holds(is(made.as_str(), MCF), "the whole text")
+fn known_mcf_hashes(rt: HostRuntime) -> Result<(), Fail> {
+    for &(letters, password, costs, len, wanted, reason) in &MCF_HASHES {
+        let made = mcf_hash(rt.alloc(), letters, password, params_of(costs, len)?)?;
+        holds(is(made.as_str(), wanted), reason)?;
+        let verdict = Scrypt::new().verify_password(rt.alloc(), password.as_bytes(), &made);
+        holds(verdict.is_ok(), reason)?;
+    }
+    Ok(())
+}
+
+// A salt, the length of the key or 0 for none, and the hash of `pleaseletmein` by (14, 8, 1), or its error, and the reason for
+// the row.
+static PHC_HASHES: [(&str, usize, Result<&str, Error>, &str); 4] = [
+    (
+        "SodiumChloride",
+        0,
+        Ok("$scrypt$ln=14,r=8,p=1$U29kaXVtQ2hsb3JpZGU$cCO9yzr9c0hGHAbNgf046/2o+7qQT44+qbVD9lRdofI"),
+        "the third key of RFC 7914",
+    ),
+    (
+        "SodiumChloride",
+        10,
+        Ok("$scrypt$ln=14,r=8,p=1$U29kaXVtQ2hsb3JpZGU$cCO9yzr9c0hGHA"),
+        "its beginning",
+    ),
+    ("", 0, Err(Error::SaltInvalid), "no salt"),
+    (
+        "aaaaaaaaaaaaaaaaaaaaaaaaaaaaaaaaaaaaaaaaaaaaaaaaaaaaaaaaaaaaaaaaa",
+        0,
+        Err(Error::SaltInvalid),
+        "a salt of 65 bytes",
+    ),
+];
+
+fn is_made(made: &Result<phc::PasswordHash, Error>, wanted: &Result<&str, Error>) -> bool {
+    match (made, wanted) {
+        (Ok(hash), Ok(text)) => is(hash.to_array_string().as_str(), text),
+        (Err(error), Err(refused)) => error == refused,
+        _ => false,
+    }
+}
+
+#[test]
+fn known_phc_hashes(rt: HostRuntime) -> Result<(), Fail> {
+    for (salt, len, wanted, reason) in &PHC_HASHES {
+        let params = params_of((14, 8, 1), *len)?;
+        let made: Result<phc::PasswordHash, Error> = Scrypt::new().hash_password_with_params(
+            rt.alloc(),
+            b"pleaseletmein",
+            salt.as_bytes(),
+            params,
+        );
+        holds(is_made(&made, wanted), reason)?;
+    }
+    Ok(())
 }
 
 static TEXTS: [(Error, &str); 9] = [
